@@ -1,0 +1,40 @@
+-- What a source has left and what a sink holds, where they tell it, and how often they have failed. What is told after a
+-- call was told before it too. The rules of the calls are those of Rust's `Read` and `Write`.
+use Rattle.std.specs.Prelude.{◌≡◌, ℕ, ◌<◌, Option, None, Some, List, [], ◌++◌, length, take, Result, MatchResult}
+
+-- a source at one moment: the bytes that are left, where they are known, and its count of faults
+pub record SourceState : Type 0 where
+  pub left : Option (List ℕ)
+  pub faults : ℕ
+
+-- a sink at one moment: the bytes that it holds, where they are known, and its count of faults
+pub record SinkState : Type 0 where
+  pub held : Option (List ℕ)
+  pub faults : ℕ
+
+-- the bytes left were these bytes and those left now
+abbrev pub Takes : Option (List ℕ) → Option (List ℕ) → List ℕ → Type 0
+Takes before None bytes = Unit {0}
+Takes None (Some now) bytes = ⊥
+Takes (Some before) (Some now) bytes = before ≡ bytes ++ now
+
+-- the bytes held are those held before and these bytes
+abbrev pub Adds : Option (List ℕ) → Option (List ℕ) → List ℕ → Type 0
+Adds before None bytes = Unit {0}
+Adds None (Some now) bytes = ⊥
+Adds (Some before) (Some now) bytes = now ≡ before ++ bytes
+
+-- no byte is left
+abbrev pub NoneLeft : Option (List ℕ) → Type 0
+NoneLeft None = Unit {0}
+NoneLeft (Some left) = left ≡ []
+
+-- a read took the next bytes and put them at the front of the piece; it took none only at the end, or where it failed
+abbrev pub Reads : {E : Type 0} → SourceState → SourceState → Result ℕ E → List ℕ → Type 0
+Reads before now result piece = MatchResult result
+    (λ n. Takes before.left now.left (take n piece) × (n ≡ 0 → 0 < length piece → NoneLeft now.left))
+    (λ _. Takes before.left now.left [])
+
+-- a write added the first bytes of the piece, or none where it failed
+abbrev pub Writes : {E : Type 0} → SinkState → SinkState → Result ℕ E → List ℕ → Type 0
+Writes before now result piece = MatchResult result (λ n. Adds before.held now.held (take n piece)) (λ _. Adds before.held now.held [])

@@ -1,0 +1,66 @@
+ghost use Rattle.std.specs.Prelude.{◌≡◌, ℕ, ◌<◌, ◌≤◌, Some, None, length, IfOk, MatchResult};
+ghost use Rattle.feed_link.specs.Faults.{HasCause};
+ghost use Rattle.feed_link.specs.Told.{SourceState, SinkState, Reads, Writes};
+ghost use Rattle.feed_link.specs.Openings.{OutsideState, Grows, IsNext, IsOut, GivesBack};
+
+/// A call of the outside failed. The count of faults of the object that was called has risen.
+#[derive(Clone, Copy, Debug, PartialEq, Eq)]
+pub struct Failed;
+
+/// An IPv4 address and a port.
+#[derive(Clone, Copy, Debug, PartialEq, Eq)]
+pub struct Address {
+    pub ip: u32,
+    pub port: u16,
+}
+
+/// Bytes that come in, as a log does.
+pub trait Source: Send {
+    /// What it tells: the bytes that are left, and how often it has failed.
+    ghost state: { Self → SourceState };
+
+    /// The number of its opening at its outside.
+    ghost opening: { Self → ℕ };
+
+    /// Takes the next bytes and answers how many. 0 is the end.
+    fn read(&mut self, piece: &mut [u8]) -> Result<usize, Failed>
+        ensures within { IfOk result (λ n. n ≤ length piece.new) }
+        ensures bytes { Reads (state self.old) (state self.new) result piece.new }
+        ensures cause { HasCause (state self.old).faults (state self.new).faults result }
+        ensures number { opening self.new ≡ opening self.old };
+}
+
+/// Where bytes are written to.
+pub trait Sink {
+    /// What it tells: the bytes that it holds, and how often it has failed.
+    ghost state: { Self → SinkState };
+
+    /// Appends the first bytes of the piece and answers how many, at least one where there is one.
+    fn write(&mut self, piece: &[u8]) -> Result<usize, Failed>
+        ensures within { IfOk result (λ n. n ≤ length piece.now) }
+        ensures some { IfOk result (λ n. 0 < length piece.now → 0 < n) }
+        ensures bytes { Writes (state self.old) (state self.new) result piece.now }
+        ensures cause { HasCause (state self.old).faults (state self.new).faults result };
+}
+
+/// What a station opens, and gives back.
+pub trait Outside {
+    type Log: Source;
+
+    /// What it tells: its openings in order, and how often it has failed.
+    ghost state: { Self → OutsideState };
+
+    /// Opens the log of this name.
+    fn open_log(&mut self, name: &str) -> Result<Self::Log, Failed>
+        ensures opened { MatchResult result
+            (λ log. Grows (state self.old).openings (state self.new).openings (record { name = name.now; opened = Some (Self.Log.state log); back = None }))
+            (λ _. Grows (state self.old).openings (state self.new).openings (record { name = name.now; opened = None; back = None })) }
+        ensures number { IfOk result (λ log. IsNext (state self.old).openings (Self.Log.opening log)) }
+        ensures cause { HasCause (state self.old).faults (state self.new).faults result };
+
+    /// Takes back a log that it opened.
+    fn give_back_log(&mut self, log: Self::Log)
+        requires { IsOut (state self.old).openings (Self.Log.opening log) }
+        ensures back { GivesBack (state self.old).openings (state self.new).openings (Self.Log.opening log) (Self.Log.state log) }
+        ensures faults { (state self.new).faults ≡ (state self.old).faults };
+}
