@@ -25,13 +25,19 @@ pub struct Row {
     pub back: Option<MemorySource>,
 }
 
+// How many openings are told, and how many bytes of their names.
+#[derive(Clone, Copy)]
+pub struct Room {
+    pub openings: usize,
+    pub names: usize,
+}
+
 // Contracts see it as its list of openings, or None once its room was used up.
 #[derive(Drop)]
 pub struct Ledger {
     names: Vec<u8>,
     rows: Vec<Row>,
-    names_room: usize,
-    rows_room: usize,
+    room: Room,
     tells: bool,
 }
 
@@ -51,15 +57,14 @@ impl Ledger {
     ghost use Rattle.feed_link.specs.Ledger.{told_state};
     ghost use Rattle.feed_link.specs.Memory.{source_state};
 
-    /// An empty list, with room for so many openings and bytes of their names.
-    pub fn new(alloc: Global, rows_room: usize, names_room: usize) -> Result<Ledger, AllocError>
+    /// An empty list with this room, which is taken here.
+    pub fn new(alloc: Global, room: Room) -> Result<Ledger, AllocError>
         ensures { IfOk result (λ ledger. ledger ≡ Some []) }
     {
         Ok(Ledger {
-            names: Vec::with_capacity(alloc, names_room)?,
-            rows: Vec::with_capacity(alloc, rows_room)?,
-            names_room,
-            rows_room,
+            names: Vec::with_capacity(alloc, room.names)?,
+            rows: Vec::with_capacity(alloc, room.openings)?,
+            room,
             tells: true,
         })
     }
@@ -75,8 +80,8 @@ impl Ledger {
     pub fn note(&mut self, name: &str, opened: Option<Told>)
         ensures { Grows self.old self.new (record { name = name.now; opened = option_map told_state opened; back = None }) }
     {
-        let rooms = (self.names_room, self.rows_room);
-        if !note_row(&mut self.names, &mut self.rows, rooms, name, opened) {
+        let room = self.room;
+        if !note_row(&mut self.names, &mut self.rows, room, name, opened) {
             self.tells = false;
         }
     }
@@ -97,7 +102,7 @@ impl Ledger {
 fn note_row(
     names: &mut Vec<u8>,
     rows: &mut Vec<Row>,
-    rooms: (usize, usize),
+    room: Room,
     name: &str,
     opened: Option<Told>,
 ) -> bool
@@ -106,7 +111,7 @@ fn note_row(
     ensures names_kept { OnFalse result (length names.old.items ≤ length names.new.items) }
     ensures rows_kept { OnFalse result (rows.new.items ≡ rows.old.items) }
 {
-    if rooms.0.saturating_sub(names.len()) < name.len() || rooms.1 <= rows.len() {
+    if room.names.saturating_sub(names.len()) < name.len() || room.openings <= rows.len() {
         return false;
     }
     let row = Row {

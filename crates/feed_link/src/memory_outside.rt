@@ -1,6 +1,6 @@
 ghost use Rattle.std.specs.Prelude.{◌≡◌, Some, None, [], drop, IfOk};
 
-use crate::ledger::{Ledger, Told};
+use crate::ledger::{Ledger, Room, Told};
 use crate::{Failed, MemorySource, Outside};
 use std::alloc::{AllocError, AllocFailed, Global};
 
@@ -103,7 +103,7 @@ impl MemoryOutside {
             fails,
             calls: 0,
             faults: 0,
-            ledger: Ledger::new(alloc, openings, names)?,
+            ledger: Ledger::new(alloc, Room { openings, names })?,
         })
     }
 }

@@ -1,0 +1,155 @@
+ghost use Rattle.std.specs.Prelude.{◌≡◌, IfOk};
+
+use super::*;
+use std::alloc::Global;
+use std::io::{self, ErrorKind, Read, Write};
+use std::test::Fail;
+
+// What a read gives, and the piece after it.
+fn read_three<S: Source>(source: &mut S) -> (Result<usize, Failed>, [u8; 3])
+    ensures { S.opening source.new ≡ S.opening source.old }
+{
+    let mut piece = [0u8; 3];
+    let outcome = source.read(&mut piece);
+    (outcome, piece)
+}
+
+#[test]
+fn a_source_in_memory_fails_at_its_calls_and_loses_nothing(rt: HostRuntime) -> Result<(), Fail> {
+    let text = Vec::from_slice(rt.alloc(), b"abcde")?;
+    let mut source = MemorySource::new(text, vec![in rt.alloc(); 2u64, 4]?);
+    let table = [
+        (Ok(3), *b"abc"),
+        (Err(Failed), [0; 3]),
+        (Ok(2), *b"de\0"),
+        (Err(Failed), [0; 3]),
+        (Ok(0), [0; 3]),
+    ];
+    for want in table {
+        assert_eq!(rt; read_three(&mut source), want);
+    }
+    Ok(())
+}
+
+#[test]
+fn a_sure_source_never_fails(rt: HostRuntime) -> Result<(), Fail> {
+    let mut source = SureSource::new(Vec::from_slice(rt.alloc(), b"abcd")?);
+    for want in [(Ok(3), *b"abc"), (Ok(1), *b"d\0\0"), (Ok(0), [0; 3])] {
+        assert_eq!(rt; read_three(&mut source), want);
+    }
+    Ok(())
+}
+
+#[test]
+fn a_sink_in_memory_fails_at_its_calls_and_adds_nothing(rt: HostRuntime) -> Result<(), Fail> {
+    let mut sink = MemorySink::new(rt.alloc(), vec![in rt.alloc(); 2u64]?);
+    assert_eq!(rt; sink.write(b"ab"), Ok(2));
+    assert_eq!(rt; sink.write(b"cd"), Err(Failed));
+    assert_eq!(rt; sink.write(b"ef"), Ok(2));
+    assert_eq!(rt; sink.bytes(), b"abef".as_slice());
+    assert_eq!(rt; sink.into_bytes().as_slice(), b"abef".as_slice());
+    Ok(())
+}
+
+// Two logs in memory, of which the opening of this number fails.
+fn two_logs(alloc: Global, failing: u64) -> Result<MemoryOutside, Fail> {
+    let mut logs = Vec::new(alloc);
+    for (name, text) in [("a", "1"), ("b", "2")] {
+        let log = MemorySource::new(Vec::from_slice(alloc, text.as_bytes())?, Vec::new(alloc));
+        logs.push(NamedLog::new(String::from_str(alloc, name)?, log))?;
+    }
+    Ok(MemoryOutside::new(alloc, logs, vec![in alloc; failing]?, 4, 8)?)
+}
+
+// Opens a log, reads from it and gives it back.
+fn first_byte(outside: &mut MemoryOutside, name: &str) -> Result<u8, Failed> {
+    let mut log = outside.open_log(name)?;
+    let (count, piece) = read_three(&mut log);
+    outside.give_back_log(log);
+    count?;
+    Ok(piece[0])
+}
+
+#[test]
+fn an_outside_in_memory_hands_each_log_out_once(rt: HostRuntime) -> Result<(), Fail> {
+    let mut outside = two_logs(rt.alloc(), 9)?;
+    let table = [
+        ("b", Ok(b'2')),
+        ("b", Err(Failed)),
+        ("c", Err(Failed)),
+        ("a", Ok(b'1')),
+    ];
+    for (name, want) in table {
+        assert_eq!(rt; first_byte(&mut outside, name), want);
+    }
+    Ok(())
+}
+
+#[test]
+fn an_opening_fails_at_its_number(rt: HostRuntime) -> Result<(), Fail> {
+    let mut outside = two_logs(rt.alloc(), 1)?;
+    assert_eq!(rt; first_byte(&mut outside, "a"), Err(Failed));
+    assert_eq!(rt; first_byte(&mut outside, "a"), Ok(b'1'));
+    Ok(())
+}
+
+// A stream that is interrupted at its first call, goes on at its second, and fails from the third on.
+#[derive(Drop)]
+struct Shaky {
+    calls: u8,
+}
+
+impl Shaky {
+    fn answer(&mut self) -> io::Result<usize>
+        ensures { IfOk result (λ n. n ≡ 0) }
+    {
+        self.calls = self.calls.saturating_add(1);
+        match self.calls {
+            1 => Err(io::Error::from(ErrorKind::Interrupted)),
+            2 => Ok(0),
+            _ => Err(io::Error::from(ErrorKind::Other)),
+        }
+    }
+}
+
+impl Read for Shaky {
+    fn read(&mut self, _: &mut [u8]) -> io::Result<usize> {
+        self.answer()
+    }
+}
+
+impl Write for Shaky {
+    fn write(&mut self, _: &[u8]) -> io::Result<usize> {
+        self.answer()
+    }
+
+    fn flush(&mut self) -> io::Result<()> {
+        Ok(())
+    }
+}
+
+#[test]
+fn a_file_is_read_on_after_an_interruption(rt: HostRuntime) {
+    let mut source = FileSource::new(Shaky { calls: 0 });
+    assert_eq!(rt; read_three(&mut source).0, Ok(0));
+    assert_eq!(rt; read_three(&mut source).0, Err(Failed));
+}
+
+#[test]
+fn a_write_of_nothing_is_a_fault(rt: HostRuntime) {
+    let mut sink = StreamSink::new(Shaky { calls: 0 });
+    assert_eq!(rt; sink.write(b"a"), Err(Failed));
+    let mut sink = StreamSink::new(Shaky { calls: 0 });
+    assert_eq!(rt; sink.write(b""), Ok(0));
+    assert_eq!(rt; sink.write(b"a"), Err(Failed));
+}
+
+#[test]
+fn the_host_opens_files(rt: HostRuntime) -> Result<(), Fail> {
+    let mut outside = HostOutside::new(&rt);
+    let mut log = outside.open_log("/dev/zero")?;
+    assert_eq!(rt; read_three(&mut log), (Ok(3), [0; 3]));
+    outside.give_back_log(log);
+    assert!(rt; outside.open_log("/dev/null/none").is_err());
+    Ok(())
+}

@@ -1,0 +1,4 @@
+pub mod Pieces
+pub mod Flags
+pub mod HeardLaws
+pub mod Growth
