@@ -1,5 +1,5 @@
 -- What the fakes in memory tell.
-use Rattle.std.specs.Prelude.{ℕ, Some, List, drop}
+use Rattle.std.specs.Prelude.{Some, drop}
 use Rattle.feed_link.specs.Told.{SourceState, SinkState}
 use Rattle.feed_link.specs.declared.memory_source.MemorySource.{MemorySource}
 use Rattle.feed_link.specs.declared.sure_source.SureSource.{SureSource}

@@ -1,4 +1,4 @@
-use Rattle.std.proofs.Common.{◌≡◌, ◌≤◌, ap, sym, refl, ◌∙◌, arith, length, take}
+use Rattle.std.proofs.Common.{◌≡◌, ◌≤◌, ap, sym, refl, ◌∙◌, arith, length}
 use Rattle.std.proofs.lemmas.List.{length-take-le}
 use Rattle.minute_pair.proofs.mark_list.MarkList.is_full.Goals as goal
 

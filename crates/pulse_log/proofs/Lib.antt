@@ -1,0 +1,4 @@
+pub mod LineLaws
+pub mod FrontLaws
+pub mod LogLaws
+pub mod ReaderLaws

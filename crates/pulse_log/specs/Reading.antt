@@ -1,0 +1,32 @@
+-- What the reader of a log stands for: the bytes that it has taken. The format of a log is this project's own.
+use Rattle.std.specs.Prelude.{◌≡◌, ℕ, ◌+◌, Option, None, Some, List, [], ◌∷◌, ◌++◌, length, Result, MatchResult}
+use Rattle.std.specs.Option.{option_to_list}
+use Rattle.tick_units.specs.Log.{lines_of, pulses, bad_line}
+use Rattle.tick_units.specs.declared.marks.Reduction.{Reduction}
+use Rattle.pulse_log.specs.Lines.{IsLine}
+use Rattle.pulse_log.specs.declared.reader.LineReader.{LineReader}
+use Rattle.pulse_log.specs.declared.reader.BadLine.{BadLine}
+
+-- the least start that may come after these reductions: above that of the last of them
+abbrev pub least_after : List Reduction → ℕ
+least_after [] = 0
+least_after (r ∷ []) = r.at + 1
+least_after (r ∷ next ∷ more) = least_after (next ∷ more)
+
+abbrev pub number_of_bad : Option BadLine → Option ℕ
+number_of_bad None = None
+number_of_bad (Some bad) = Some bad.line
+
+-- the reader has taken these bytes: it keeps their bad line, and what it needs of them while they have none
+pub record HasRead (reader : LineReader) (bytes : List ℕ) : Type 0 where
+  pub bad : number_of_bad reader.bad ≡ bad_line bytes
+  pub line : bad_line bytes ≡ None → IsLine reader.line (lines_of bytes).unfinished
+  pub lines : bad_line bytes ≡ None → reader.lines ≡ length (lines_of bytes).complete
+  pub least : bad_line bytes ≡ None → reader.least ≡ least_after (pulses bytes)
+
+-- the next byte is taken, and the answer tells what it adds: a reduction, or the bad line that the log has from then on
+pub record TakesByte (new : LineReader) (bytes : List ℕ) (byte : ℕ) (result : Result (Option Reduction) BadLine) : Type 0 where
+  pub read : HasRead new (bytes ++ byte ∷ [])
+  pub found : MatchResult result
+      (λ found. (bad_line (bytes ++ byte ∷ []) ≡ None) × (pulses (bytes ++ byte ∷ []) ≡ pulses bytes ++ option_to_list found))
+      (λ bad. (bad_line (bytes ++ byte ∷ []) ≡ Some bad.line) × (pulses (bytes ++ byte ∷ []) ≡ pulses bytes))

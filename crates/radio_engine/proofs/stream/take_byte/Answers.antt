@@ -1,0 +1,21 @@
+use Rattle.std.proofs.Common.{[], ◌∷◌, ◌++◌}
+use Rattle.radio_engine.specs.Text.{log_text, answer_line}
+use Rattle.radio_engine.proofs.EndingLaws.{takes_line, all_same}
+use Rattle.radio_engine.proofs.stream.take_byte.Goals as goal
+
+pub returns-in-Ok-None : goal.returns-in-Ok-None
+returns-in-Ok-None g c = λ bytes start h written.
+    let taken = rw c.in-Ok-None.field-0-is at (c.in-Ok-None.ensures bytes h) in
+    (taken.0, all_same start (g.K.Sink.state c.args.out.now) (log_text bytes) (log_text (bytes ++ c.args.byte ∷ [])) taken.1 written)
+
+pub returns-in-Ok-Some : goal.returns-in-Ok-Some
+returns-in-Ok-Some g c = λ bytes start h written.
+    let closed = c.in-Ok-Some.closed in
+    let taken = rw c.in-Ok-Some.field-0-is at (c.in-Ok-Some.ensures bytes h) in
+    takes_line c.write_segment.result c.take.new.self start (g.K.Sink.state c.args.out.now) (g.K.Sink.state c.write_segment.new.out)
+    bytes (bytes ++ c.args.byte ∷ []) (answer_line closed.close closed.judged) taken.0 taken.1 written c.write_segment.ensures
+
+pub returns-in-Err : goal.returns-in-Err
+returns-in-Err g c = λ bytes start h written.
+    let bad = c.in-Err.ensures bytes h in
+    (bad.0, all_same start (g.K.Sink.state c.args.out.now) (log_text bytes) (log_text (bytes ++ c.args.byte ∷ [])) bad.1 written)

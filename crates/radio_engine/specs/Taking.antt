@@ -1,0 +1,72 @@
+-- What the decoder stands for: the bytes that it has taken.
+use Rattle.std.specs.Prelude.{◌≡◌, ℕ, None, Some, List, [], ◌∷◌, ◌++◌, Result, Option, MatchResult, MatchOption}
+use Rattle.feed_link.specs.Told.{SourceState, SinkState}
+use Rattle.tick_units.specs.Log.{pulses, bad_line, bad_at_end}
+use Rattle.tick_units.specs.Marks.{dcf_marks}
+use Rattle.pulse_log.specs.Reading.{HasRead}
+use Rattle.pulse_log.specs.declared.reader.BadLine.{BadLine}
+use Rattle.second_marks.specs.Marker.{HasHeard}
+use Rattle.minute_pair.specs.Keeping.{Heard}
+use Rattle.minute_pair.specs.declared.keeper.Closed.{Closed}
+use Rattle.radio_engine.specs.Text.{log_text, answer_line}
+use Rattle.radio_engine.specs.Decoding.{WritesAll, WritesFront, HasReadOf, Cause, EndsByWriting}
+use Rattle.radio_engine.specs.declared.decoder.Decoder.{Decoder}
+use Rattle.radio_engine.specs.declared.ending.Ending.{Ending}
+use Rattle.radio_engine.specs.declared.ending.Ending.TheVariants.{Whole, WrongWords, NotOpened, NotRead, WrongLine, Long}
+use Rattle.radio_engine.specs.declared.status.Status.TheVariants.{WriteFault}
+use Rattle.radio_engine.specs.declared.stream.Taken.{Taken}
+use Rattle.radio_engine.specs.declared.stream.Taken.TheVariants.{All, Bad, Stopped}
+
+-- the decoder has taken these bytes, and none of their lines is bad
+pub record HasTaken (d : Decoder) (bytes : List ℕ) : Type 0 where
+  pub good : bad_line bytes ≡ None
+  pub read : HasRead d.reader bytes
+  pub marked : HasHeard d.marker (pulses bytes)
+  pub heard : Heard d.keeper (dcf_marks (pulses bytes))
+
+-- the text has grown by the line of a segment that closed, if one did
+abbrev pub GrowsBy : List ℕ → List ℕ → Option Closed → Type 0
+GrowsBy bytes more closed = MatchOption closed
+    (log_text more ≡ log_text bytes)
+    (λ one. log_text more ≡ log_text bytes ++ answer_line one.close one.judged)
+
+-- one more byte was taken, or it makes a line bad
+abbrev pub TakesOne : Decoder → List ℕ → ℕ → Result (Option Closed) BadLine → Type 0
+TakesOne d bytes byte result = MatchResult result
+    (λ closed. HasTaken d (bytes ++ byte ∷ []) × GrowsBy bytes (bytes ++ byte ∷ []) closed)
+    (λ bad. (bad_line (bytes ++ byte ∷ []) ≡ Some bad.line) × (log_text (bytes ++ byte ∷ []) ≡ log_text bytes))
+
+-- a line was written, or a write of it failed
+abbrev pub WritesLine : Taken → SinkState → SinkState → List ℕ → Type 0
+WritesLine All out out_now line = WritesAll out out_now line
+WritesLine Stopped out out_now line = WritesFront out out_now line
+WritesLine (Bad bad) out out_now line = ⊥
+
+-- the decoder has taken these bytes and the lines of their segments are written since the start; or one of their lines is
+-- bad, and those of the segments before it are written; or a write failed
+abbrev pub TakesBytes : Taken → Decoder → SinkState → SinkState → List ℕ → Type 0
+TakesBytes All d start out bytes = HasTaken d bytes × WritesAll start out (log_text bytes)
+TakesBytes (Bad bad) d start out bytes = (bad_line bytes ≡ Some bad.line) × WritesAll start out (log_text bytes)
+TakesBytes Stopped d start out bytes = WritesFront start out (log_text bytes)
+
+-- what a log comes to at its end
+abbrev pub EndsAt : Ending → List ℕ → Type 0
+EndsAt Whole bytes = bad_at_end bytes ≡ None
+EndsAt (WrongLine line) bytes = bad_at_end bytes ≡ Some line
+EndsAt NotRead bytes = ⊥
+EndsAt Long bytes = ⊥
+EndsAt WrongWords bytes = ⊥
+EndsAt NotOpened bytes = ⊥
+
+-- the reading of a log ended: by itself, with the lines of its segments written, or by a write that failed
+pub record EndsItself (log log_now : SourceState) (out out_now : SinkState) (ending : Ending) : Type 0 where
+  pub bytes : List ℕ
+  pub extra : List ℕ
+  pub read : HasReadOf log log_now bytes extra
+  pub cause : Cause ending log log_now bytes extra
+  pub written : WritesAll out out_now (log_text bytes)
+
+abbrev pub EndsReading : {E : Type 0} → SourceState → SourceState → SinkState → SinkState → Result Ending E → Type 0
+EndsReading log log_now out out_now result = MatchResult result
+    (λ ending. EndsItself log log_now out out_now ending)
+    (λ _. EndsByWriting log log_now out out_now WriteFault)

@@ -1,0 +1,111 @@
+ghost use Rattle.std.specs.Prelude.{◌≡◌, ◌+◌, ◌≤◌, ◌++◌, length, codes, decimal, ◌∷◌, []};
+ghost use Rattle.arrayvec.specs.ArrayVec.{array_vec_len};
+ghost use Rattle.radio_engine.specs.Endings.{status_line};
+ghost use Rattle.radio_engine.specs.Text.{entry_line, frame_line, refused_line, answer_line};
+
+use crate::ending::Ending;
+use arrayvec::ArrayVec;
+use itoa::Buffer;
+use plan_dcf::DcfFields;
+use tick_units::{Broken, Local};
+
+// A line of the output, with its line feed.
+pub type Line = ArrayVec<u8, 256>;
+
+// Adds a text to a line.
+fn add(line: &mut Line, text: &[u8])
+    requires { array_vec_len line.old + length text.now ≤ 256 }
+    ensures { line.new.items ≡ line.old.items ++ text.now }
+{
+    let _ = line.try_extend_from_slice(text);
+}
+
+// Adds a number in decimal to a line.
+fn add_number(line: &mut Line, number: u64)
+    requires { array_vec_len line.old + 20 ≤ 256 }
+    ensures text { line.new.items ≡ line.old.items ++ decimal number }
+    ensures short { array_vec_len line.new ≤ array_vec_len line.old + 20 }
+{
+    let mut buffer = Buffer::new();
+    add(line, buffer.format(number).as_bytes());
+}
+
+// A line of feed 0: its moment, a word and numbers.
+fn line_of(at: Local, word: &[u8], numbers: &[u8]) -> Line
+    requires word { length word.now ≤ 16 }
+    requires numbers { length numbers.now ≤ 8 }
+    ensures { result.items ≡ entry_line at word.now numbers.now }
+{
+    let mut line = Line::new();
+    add(&mut line, b"0 ");
+    add_number(&mut line, at.get());
+    add(&mut line, b" ");
+    add(&mut line, word);
+    for number in numbers {
+        add(&mut line, b" ");
+        add_number(&mut line, u64::from(*number));
+    }
+    add(&mut line, b"\n");
+    line
+}
+
+// The line of a frame.
+fn frame(close: Local, fields: &DcfFields) -> Line
+    ensures { result.items ≡ frame_line close fields.now }
+{
+    let numbers = [
+        fields.year,
+        fields.month,
+        fields.day,
+        fields.weekday,
+        fields.hour,
+        fields.minute,
+        u8::from(fields.summer),
+    ];
+    line_of(close, b"frame", &numbers)
+}
+
+// The line of a segment that closed.
+pub fn segment_text(close: Local, judged: &Result<DcfFields, Broken>) -> Line
+    ensures { result.items ≡ answer_line close judged.now }
+{
+    match judged {
+        Ok(fields) => frame(close, fields),
+        Err(Broken { rule }) => line_of(close, b"refused", &[*rule]),
+    }
+}
+
+// The status line of a log with a line that isn't lawful.
+fn wrong_line_text(line: u64) -> Line
+    ensures { result.items ≡ codes "status 5 line 0 " ++ decimal line ++ codes "\n" }
+{
+    let mut text = Line::new();
+    add(&mut text, b"status 5 line 0 ");
+    add_number(&mut text, line);
+    add(&mut text, b"\n");
+    text
+}
+
+// A line of this text.
+fn line_from(text: &[u8]) -> Line
+    requires { length text.now ≤ 256 }
+    ensures { result.items ≡ text.now }
+{
+    let mut line = Line::new();
+    add(&mut line, text);
+    line
+}
+
+// The last line of a command.
+pub fn status_text(ending: Ending) -> Line
+    ensures { result.items ≡ status_line ending }
+{
+    match ending {
+        Ending::Whole => line_from(b"status 0\n"),
+        Ending::WrongWords => line_from(b"status 1 usage\n"),
+        Ending::NotOpened => line_from(b"status 2 open feed 0\n"),
+        Ending::NotRead => line_from(b"status 4 read feed 0\n"),
+        Ending::WrongLine { line } => wrong_line_text(line),
+        Ending::Long => line_from(b"status 10 long feed 0\n"),
+    }
+}
