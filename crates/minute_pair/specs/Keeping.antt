@@ -1,12 +1,11 @@
 -- What the keeper of segments stands for: the marks that it has heard.
-use Rattle.std.specs.Prelude.{◌≡◌, ◌+◌, ◌==◌, nat_lt, ◌||◌, not, Bool, false, Option, None, Some, List, [], ◌∷◌, ◌++◌, length, take, Result, MatchResult, if◌then◌else◌}
+use Rattle.std.specs.Prelude.{◌≡◌, ℕ, ◌+◌, ◌<◌, ◌==◌, nat_lt, ◌||◌, not, Bool, false, Option, None, Some, List, [], ◌∷◌, ◌++◌, length, take, if◌then◌else◌}
 use Rattle.tick_units.specs.Marks.{is_between}
-use Rattle.tick_units.specs.Segments.{cut, dcf_segments}
+use Rattle.tick_units.specs.Segments.{Segment, cut, dcf_segments}
 use Rattle.tick_units.specs.declared.marks.Mark.{Mark}
-use Rattle.tick_units.specs.declared.verdicts.Broken.{Broken}
-use Rattle.plan_dcf.specs.Fields.{fields_of}
-use Rattle.plan_dcf.specs.Rules.{first, breaks_spacing, breaks_width, is_odd}
-use Rattle.plan_dcf.specs.declared.values.DcfFields.{DcfFields}
+use Rattle.tick_units.specs.Rules.{is_odd}
+use Rattle.plan_dcf.specs.Rules.{breaks_spacing, breaks_width}
+use Rattle.minute_pair.specs.Answers.{judged}
 use Rattle.minute_pair.specs.declared.keeper.SegmentKeeper.{SegmentKeeper}
 use Rattle.minute_pair.specs.declared.keeper.Closed.{Closed}
 
@@ -39,17 +38,13 @@ HeardBy (Some last) k marks = KeepsLast k last marks
 abbrev pub Heard : SegmentKeeper → List Mark → Type 0
 Heard k marks = HeardBy k.last k marks
 
--- the fields of the marks, or the least rule that they break
-abbrev pub Judges : Result DcfFields Broken → List Mark → Type 0
-Judges result marks = MatchResult result
-    (λ found. (first marks ≡ None) × (found ≡ fields_of marks))
-    (λ e. first marks ≡ Some e.rule)
-
--- a mark closes a segment, which is judged
-abbrev pub Closes : List Mark → Mark → Closed → Type 0
-Closes marks mark closed = (current : List Mark)
-    × (dcf_segments (marks ++ mark ∷ []) ≡ dcf_segments marks ++ record { marks = current; close = closed.close } ∷ [])
-    × Judges closed.judged current
+-- a mark closes a segment
+pub record Closes (marks : List Mark) (mark : Mark) (closed : Closed) : Type 0 where
+  pub segment : Segment
+  pub grows : dcf_segments (marks ++ mark ∷ []) ≡ dcf_segments marks ++ segment ∷ []
+  pub close : closed.close ≡ segment.close
+  pub says : closed.judged ≡ judged segment
+  pub has_leap : closed.has_leap ≡ (length segment.marks == 60)
 
 -- the keeper after a mark that begins a piece
 abbrev pub begun : Mark → Bool → SegmentKeeper
@@ -58,7 +53,7 @@ begun mark is_open = record { kept = mark ∷ []; last = Some mark; is_open = is
 -- the keeper after a mark that goes on with the piece
 abbrev pub added : SegmentKeeper → Mark → Mark → SegmentKeeper
 added k last mark = record {
-  kept = if length k.kept == 61 then k.kept else k.kept ++ mark ∷ [];
+  kept = if nat_lt (length k.kept) 61 then k.kept ++ mark ∷ [] else k.kept;
   last = Some mark;
   is_open = k.is_open;
   spacing_broken = k.spacing_broken || not (is_between (last.at + 900000) (last.at + 1100000) mark.at);

@@ -2,21 +2,24 @@ ghost use Rattle.std.specs.Prelude.{◌≡◌, ◌+◌, ◌<◌, ◌^◌, ◌++�
 ghost use Rattle.tick_units.specs.Marks.{is_between};
 ghost use Rattle.tick_units.specs.Segments.{dcf_segments};
 ghost use Rattle.tick_units.specs.declared.marks.Mark.{Mark};
-ghost use Rattle.minute_pair.specs.Keeping.{Keeps, Heard, Judges, Closes, begun, added};
+ghost use Rattle.minute_pair.specs.Keeping.{Keeps, Heard, Closes, begun, added};
+ghost use Rattle.minute_pair.specs.Answers.{judged};
 
 use crate::mark_list::MarkList;
-use plan_dcf::{DcfFields, fields};
-use tick_units::{Broken, Local, Mark, Symbol};
+use plan_dcf::read;
+use tick_units::{Broken, Coded, Local, Mark, Symbol};
 
-/// A segment that a mark closed: that mark's start, and the segment's fields or the least rule that it breaks.
+// A segment that a mark closed: that mark's start, what the segment says or the least rule that it breaks, and whether it
+// has the 60th mark of a minute with a leap second.
 #[derive(Clone, Copy, Debug)]
 pub struct Closed {
     pub close: Local,
-    pub judged: Result<DcfFields, Broken>,
+    pub judged: Result<Coded, Broken>,
+    pub has_leap: bool,
 }
 
-/// Cuts marks into segments. It keeps the first 61 marks of the piece that it is in, which are more than a minute has,
-/// its last mark, and whether its spacing or a width is broken so far.
+// Cuts marks into segments. It keeps the first 61 marks of the piece that it is in, which are more than a minute has,
+// its last mark, and whether its spacing or a width is broken so far.
 #[derive(Drop)]
 pub struct SegmentKeeper {
     kept: MarkList,
@@ -26,6 +29,9 @@ pub struct SegmentKeeper {
     spacing_broken: bool,
     width_broken: bool,
 }
+
+// A minute has 59 marks, or 60 where it ends with a leap second: a piece with more is too long, whatever they are.
+const MOST: usize = 61;
 
 // Whether a mark starts from `least` to `most` microseconds after another.
 fn follows(before: &Mark, mark: &Mark, least: u64, most: u64) -> bool
@@ -39,7 +45,7 @@ fn follows(before: &Mark, mark: &Mark, least: u64, most: u64) -> bool
 }
 
 impl SegmentKeeper {
-    /// A keeper that has heard no mark.
+    // A keeper that has heard no mark.
     pub fn new() -> SegmentKeeper
         ensures { Heard result [] }
     {
@@ -52,16 +58,16 @@ impl SegmentKeeper {
         }
     }
 
-    // The fields of the piece, or its least broken rule.
-    fn judge(&self) -> Result<DcfFields, Broken>
-        ensures { (current : List Mark) → Keeps self.now current → Judges result current }
+    // What the piece says, or its least broken rule.
+    fn judge(&self, close: Local) -> Result<Coded, Broken>
+        ensures { (current : List Mark) → Keeps self.now current → result ≡ judged (record { marks = current; close = close }) }
     {
         if self.spacing_broken {
             Err(Broken { rule: 1 })
         } else if self.width_broken {
             Err(Broken { rule: 2 })
         } else {
-            fields(self.kept.as_slice())
+            read(self.kept.as_slice(), close)
         }
     }
 
@@ -84,12 +90,12 @@ impl SegmentKeeper {
         let apart = follows(last, mark, 900_000, 1_100_000);
         self.spacing_broken = self.spacing_broken || !apart;
         self.width_broken = self.width_broken || mark.symbol == Symbol::Odd;
-        if !self.kept.is_full() {
+        if self.kept.len() < MOST {
             self.kept.push(*mark);
         }
     }
 
-    /// Hears the next mark: the segment that it closes, if it closes one.
+    // Hears the next mark: the segment that it closes, if it closes one.
     pub fn hear(&mut self, mark: Mark) -> Option<Closed>
         ensures heard { (marks : List Mark) → Heard self.old marks → Heard self.new (marks ++ mark ∷ []) }
         ensures closed { (marks : List Mark) → Heard self.old marks → MatchOption result
@@ -108,9 +114,13 @@ impl SegmentKeeper {
             self.begin(&mark, true);
             return None;
         }
-        let judged = self.judge();
         let close = mark.at;
+        let closed = Closed {
+            close,
+            judged: self.judge(close),
+            has_leap: self.kept.len() == 60,
+        };
         self.begin(&mark, true);
-        Some(Closed { close, judged })
+        Some(closed)
     }
 }

@@ -1,7 +1,13 @@
-//! Minutes of a DCF77 log: its marks are cut into segments, and each closed segment is judged.
+//! Minutes of a DCF77 log: its marks are cut into segments, each closed segment is judged by its code plan, and a minute
+//! is believed where two valid frames in a row agree by their code and by the host's counter.
 #![tactic(auto)]
 
+mod answers;
 mod keeper;
 mod mark_list;
+mod pairing;
 
-pub use keeper::{Closed, SegmentKeeper};
+pub use pairing::Pairing;
+
+#[cfg(test)]
+mod tests;

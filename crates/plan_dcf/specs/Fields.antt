@@ -1,43 +1,77 @@
--- The fields of a DCF77 segment, by the places and weights of the code that PTB publishes: sums of the weights of the
--- places whose bit is 1.
-use Rattle.std.specs.Prelude.{ℕ, ◌+◌, ◌*◌, Bool, true, false, Option, None, Some, List, [], ◌∷◌, slice_get, if◌then◌else◌}
+-- What a DCF77 segment says, by the places and weights of PTB's description of the code. It is German civil time of the
+-- minute that begins at the mark after the segment.
+use Rattle.std.specs.Prelude.{ℕ, ◌+◌, ◌-◌, ◌*◌, Bool, ◌&&◌, List, [], ◌∷◌, if◌then◌else◌}
+use Rattle.tick_units.specs.Fields.{is_one, is_set, value}
 use Rattle.tick_units.specs.declared.marks.Mark.{Mark}
-use Rattle.tick_units.specs.declared.marks.Symbol.{Symbol}
-use Rattle.tick_units.specs.declared.marks.Symbol.TheVariants.{Zero, One, OnlyB, Both, Long, Odd}
-use Rattle.plan_dcf.specs.declared.values.DcfFields.{DcfFields}
+use Rattle.tick_units.specs.declared.verdicts.Coded.{Coded}
+use Rattle.civil_minute.specs.Dates.{second_of, midnight_from}
+use Rattle.civil_minute.specs.Months.{begins_month}
 
-abbrev pub is_one : Symbol → Bool
-is_one One = true
-is_one Zero = false
-is_one OnlyB = false
-is_one Both = false
-is_one Long = false
-is_one Odd = false
+-- Z1: summer time, which is two hours ahead of UTC where standard time is one
+abbrev pub is_summer : List Mark → Bool
+is_summer marks = is_set is_one marks 17
 
-abbrev pub is_one_at : Option Mark → Bool
-is_one_at None = false
-is_one_at (Some mark) = is_one mark.symbol
+-- Z2: standard time
+abbrev pub is_standard : List Mark → Bool
+is_standard marks = is_set is_one marks 18
 
--- whether the bit of a place is 1; one that the segment doesn't have counts as Zero
-abbrev pub is_set : List Mark → ℕ → Bool
-is_set marks place = is_one_at (slice_get marks place)
+-- A2: a leap second is announced
+abbrev pub announces_leap : List Mark → Bool
+announces_leap marks = is_set is_one marks 19
 
-abbrev pub bit : List Mark → ℕ → ℕ
-bit marks place = if is_set marks place then 1 else 0
+abbrev pub minute_ones : List Mark → ℕ
+minute_ones marks = value is_one marks 21 (1 ∷ 2 ∷ 4 ∷ 8 ∷ [])
 
--- the sum of these weights, from this place on, whose bit is 1
-abbrev pub value : List Mark → ℕ → List ℕ → ℕ
-value marks place [] = 0
-value marks place (weight ∷ weights) = weight * bit marks place + value marks (place + 1) weights
+abbrev pub minute_of : List Mark → ℕ
+minute_of marks = value is_one marks 21 (1 ∷ 2 ∷ 4 ∷ 8 ∷ 10 ∷ 20 ∷ 40 ∷ [])
 
-abbrev pub fields_of : List Mark → DcfFields
-fields_of marks = record {
-  year = value marks 50 (1 ∷ 2 ∷ 4 ∷ 8 ∷ 10 ∷ 20 ∷ 40 ∷ 80 ∷ []);
-  month = value marks 45 (1 ∷ 2 ∷ 4 ∷ 8 ∷ 10 ∷ []);
-  day = value marks 36 (1 ∷ 2 ∷ 4 ∷ 8 ∷ 10 ∷ 20 ∷ []);
-  weekday = value marks 42 (1 ∷ 2 ∷ 4 ∷ []);
-  hour = value marks 29 (1 ∷ 2 ∷ 4 ∷ 8 ∷ 10 ∷ 20 ∷ []);
-  minute = value marks 21 (1 ∷ 2 ∷ 4 ∷ 8 ∷ 10 ∷ 20 ∷ 40 ∷ []);
-  summer = is_set marks 17;
-  leap = is_set marks 19;
-}
+abbrev pub hour_ones : List Mark → ℕ
+hour_ones marks = value is_one marks 29 (1 ∷ 2 ∷ 4 ∷ 8 ∷ [])
+
+abbrev pub hour_of : List Mark → ℕ
+hour_of marks = value is_one marks 29 (1 ∷ 2 ∷ 4 ∷ 8 ∷ 10 ∷ 20 ∷ [])
+
+abbrev pub day_ones : List Mark → ℕ
+day_ones marks = value is_one marks 36 (1 ∷ 2 ∷ 4 ∷ 8 ∷ [])
+
+abbrev pub day_of : List Mark → ℕ
+day_of marks = value is_one marks 36 (1 ∷ 2 ∷ 4 ∷ 8 ∷ 10 ∷ 20 ∷ [])
+
+-- Monday 1 to Sunday 7
+abbrev pub weekday_of : List Mark → ℕ
+weekday_of marks = value is_one marks 42 (1 ∷ 2 ∷ 4 ∷ [])
+
+abbrev pub month_ones : List Mark → ℕ
+month_ones marks = value is_one marks 45 (1 ∷ 2 ∷ 4 ∷ 8 ∷ [])
+
+abbrev pub month_of : List Mark → ℕ
+month_of marks = value is_one marks 45 (1 ∷ 2 ∷ 4 ∷ 8 ∷ 10 ∷ [])
+
+abbrev pub year_ones : List Mark → ℕ
+year_ones marks = value is_one marks 50 (1 ∷ 2 ∷ 4 ∷ 8 ∷ [])
+
+abbrev pub year_tens : List Mark → ℕ
+year_tens marks = value is_one marks 54 (1 ∷ 2 ∷ 4 ∷ 8 ∷ [])
+
+-- the year of the century that begins in 2000
+abbrev pub year_of : List Mark → ℕ
+year_of marks = value is_one marks 50 (1 ∷ 2 ∷ 4 ∷ 8 ∷ 10 ∷ 20 ∷ 40 ∷ 80 ∷ [])
+
+-- how far the clock is ahead of UTC, in hours
+abbrev pub hours_ahead : Bool → ℕ
+hours_ahead summer = if summer then 2 else 1
+
+-- the second at which a clock that shows UTC shows what the segment says
+unfoldable pub local_start : List Mark → ℕ
+local_start marks = second_of (2000 + year_of marks) (month_of marks) (day_of marks) (hour_of marks) (minute_of marks)
+
+-- the absolute second at which the minute begins that the segment says
+unfoldable pub minute_start : List Mark → ℕ
+minute_start marks = local_start marks - 3600 * hours_ahead (is_summer marks)
+
+-- an announced leap second ends at the next UTC midnight, if that begins a month; 0 stands for none
+abbrev pub leap_end : List Mark → ℕ
+leap_end marks = if announces_leap marks && begins_month (midnight_from (minute_start marks)) then midnight_from (minute_start marks) else 0
+
+unfoldable pub coded : List Mark → Coded
+coded marks = record { minute = minute_start marks; leap_at = leap_end marks; summer = is_summer marks }

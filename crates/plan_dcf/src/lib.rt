@@ -1,11 +1,12 @@
-//! Frames of DCF77, by the amplitude code that PTB publishes.
+//! Frames of DCF77, by PTB's description of the code.
 #![tactic(auto)]
 
+mod dates;
+mod fields;
+mod reading;
 mod rules;
-mod values;
 
-pub use rules::fields;
-pub use values::DcfFields;
+pub use reading::read;
 
 #[cfg(test)]
 mod tests;

@@ -1,73 +1,137 @@
-ghost use Rattle.std.specs.Prelude.{◌≡◌, IfOk, IfErr, None, Some};
-ghost use Rattle.plan_dcf.specs.Fields.{fields_of};
-ghost use Rattle.plan_dcf.specs.Rules.{first, breaks_spacing, breaks_width, breaks_length};
+//! The rules of DCF77, each a test of a whole segment that is true where the rule is broken.
+ghost use Rattle.std.specs.Prelude.{◌≡◌};
+ghost use Rattle.plan_dcf.specs.Rules.{breaks_spacing, breaks_width, breaks_length, breaks_start_bit, breaks_zone_bits, breaks_time_bit, breaks_minute_parity, breaks_hour_parity, breaks_date_parity, breaks_minute_range, breaks_hour_range, breaks_day_range, breaks_weekday_range, breaks_month_range, breaks_year_range, first};
 
-use crate::values::{DcfFields, all_fields, has_bit};
-use tick_units::{Broken, Mark, Symbol};
+use crate::dates::{breaks_date, breaks_leap_minute, breaks_weekday};
+use crate::fields::{
+    day_of, day_ones, hour_of, hour_ones, is_standard, is_summer, minute_of, minute_ones, month_of,
+    month_ones, weekday_of, year_ones, year_tens,
+};
+use frame_rules::{
+    Bit, Rule, are_spaced, first_broken, has_odd_symbol, is_odd_over, is_out_of, is_set,
+};
+use tick_units::Mark;
 
-// The marks of a minute: the last of its 60 seconds has none.
-const MARKS: usize = 59;
-
-// Whether two neighbouring marks don't start 900000 to 1100000 microseconds apart.
-fn breaks_spacing_rule(segment: &[Mark]) -> bool
+// Two neighbouring marks don't start 900000 to 1100000 microseconds apart.
+fn breaks_spacing(segment: &[Mark]) -> bool
     ensures { result ≡ breaks_spacing segment.now }
 {
-    let mut rest = segment;
-    'marks: while let [mark, more @ ..] = rest {
-        if let [next, ..] = more {
-            let start = mark.at.get();
-            let later = next.at.get();
-            if later < start + 900_000 || start + 1_100_000 < later {
-                return true;
-            }
-        }
-        rest = more;
-    }
-    false
+    !are_spaced(segment)
 }
 
-// Whether a symbol is Odd.
-fn breaks_width_rule(segment: &[Mark]) -> bool
+// A width is in no class.
+fn breaks_width(segment: &[Mark]) -> bool
     ensures { result ≡ breaks_width segment.now }
 {
-    segment.iter().any(|mark| mark.symbol == Symbol::Odd)
+    has_odd_symbol(segment)
 }
 
-// Whether there aren't 59 marks.
-fn breaks_length_rule(segment: &[Mark]) -> bool
+// There are neither 59 nor 60 marks.
+fn breaks_length(segment: &[Mark]) -> bool
     ensures { result ≡ breaks_length segment.now }
 {
-    segment.len() != MARKS
+    segment.len() != 59 && segment.len() != 60
 }
 
-// The least rule that a segment breaks.
-fn first_broken_rule(segment: &[Mark]) -> Option<u8>
+// The start bit is 1.
+fn breaks_start_bit(segment: &[Mark]) -> bool
+    ensures { result ≡ breaks_start_bit segment.now }
+{
+    is_set(Bit::Only, segment, 0)
+}
+
+// The two bits of the time zone are equal.
+fn breaks_zone_bits(segment: &[Mark]) -> bool
+    ensures { result ≡ breaks_zone_bits segment.now }
+{
+    is_summer(segment) == is_standard(segment)
+}
+
+// The time bit is 0.
+fn breaks_time_bit(segment: &[Mark]) -> bool
+    ensures { result ≡ breaks_time_bit segment.now }
+{
+    !is_set(Bit::Only, segment, 20)
+}
+
+fn breaks_minute_parity(segment: &[Mark]) -> bool
+    ensures { result ≡ breaks_minute_parity segment.now }
+{
+    is_odd_over(Bit::Only, segment, 21, 28)
+}
+
+fn breaks_hour_parity(segment: &[Mark]) -> bool
+    ensures { result ≡ breaks_hour_parity segment.now }
+{
+    is_odd_over(Bit::Only, segment, 29, 35)
+}
+
+fn breaks_date_parity(segment: &[Mark]) -> bool
+    ensures { result ≡ breaks_date_parity segment.now }
+{
+    is_odd_over(Bit::Only, segment, 36, 58)
+}
+
+pub(crate) fn breaks_minute_range(segment: &[Mark]) -> bool
+    ensures { result ≡ breaks_minute_range segment.now }
+{
+    is_out_of(0, 59, minute_ones(segment), minute_of(segment))
+}
+
+pub(crate) fn breaks_hour_range(segment: &[Mark]) -> bool
+    ensures { result ≡ breaks_hour_range segment.now }
+{
+    is_out_of(0, 23, hour_ones(segment), hour_of(segment))
+}
+
+pub(crate) fn breaks_day_range(segment: &[Mark]) -> bool
+    ensures { result ≡ breaks_day_range segment.now }
+{
+    is_out_of(1, 31, day_ones(segment), day_of(segment))
+}
+
+pub(crate) fn breaks_weekday_range(segment: &[Mark]) -> bool
+    ensures { result ≡ breaks_weekday_range segment.now }
+{
+    weekday_of(segment) == 0
+}
+
+pub(crate) fn breaks_month_range(segment: &[Mark]) -> bool
+    ensures { result ≡ breaks_month_range segment.now }
+{
+    is_out_of(1, 12, month_ones(segment), month_of(segment))
+}
+
+// A digit is above 9.
+pub(crate) fn breaks_year_range(segment: &[Mark]) -> bool
+    ensures { result ≡ breaks_year_range segment.now }
+{
+    year_ones(segment) > 9 || year_tens(segment) > 9
+}
+
+// The least number of a rule that the segment breaks.
+#[tactic(auto, unfolding(crate::specs::Rules::first))]
+pub(crate) fn first_broken_rule(segment: &[Mark]) -> Option<u8>
     ensures { result ≡ first segment.now }
 {
-    if breaks_spacing_rule(segment) {
-        Some(1)
-    } else if breaks_width_rule(segment) {
-        Some(2)
-    } else if breaks_length_rule(segment) {
-        Some(3)
-    } else if has_bit(segment, 0) {
-        Some(10)
-    } else {
-        None
-    }
-}
-
-/// The fields of a segment, as PTB's code plan of DCF77 gives them.
-///
-/// # Errors
-///
-/// `Broken` has the least number of a rule that the segment breaks: 1 spacing, 2 width, 3 length, 10 start bit.
-pub fn fields(segment: &[Mark]) -> Result<DcfFields, Broken>
-    ensures ok { IfOk result (λ found. (first segment.now ≡ None) × (found ≡ fields_of segment.now)) }
-    ensures err { IfErr result (λ e. first segment.now ≡ Some e.rule) }
-{
-    match first_broken_rule(segment) {
-        Some(rule) => Err(Broken { rule }),
-        None => Ok(all_fields(segment)),
-    }
+    first_broken(&[
+        Rule::new(1, breaks_spacing(segment)),
+        Rule::new(2, breaks_width(segment)),
+        Rule::new(3, breaks_length(segment)),
+        Rule::new(10, breaks_start_bit(segment)),
+        Rule::new(11, breaks_zone_bits(segment)),
+        Rule::new(12, breaks_time_bit(segment)),
+        Rule::new(13, breaks_minute_parity(segment)),
+        Rule::new(14, breaks_hour_parity(segment)),
+        Rule::new(15, breaks_date_parity(segment)),
+        Rule::new(16, breaks_minute_range(segment)),
+        Rule::new(17, breaks_hour_range(segment)),
+        Rule::new(18, breaks_day_range(segment)),
+        Rule::new(19, breaks_weekday_range(segment)),
+        Rule::new(20, breaks_month_range(segment)),
+        Rule::new(21, breaks_year_range(segment)),
+        Rule::new(22, breaks_date(segment)),
+        Rule::new(23, breaks_weekday(segment)),
+        Rule::new(24, breaks_leap_minute(segment)),
+    ])
 }

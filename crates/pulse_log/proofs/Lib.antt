@@ -1,4 +1,5 @@
 pub mod LineLaws
 pub mod FrontLaws
+pub mod LawfulLaws
 pub mod LogLaws
 pub mod ReaderLaws

@@ -7,7 +7,8 @@ use Rattle.pulse_log.specs.Lines.{IsLine}
 use Rattle.pulse_log.specs.Reading.{HasRead, TakesByte, least_after, number_of_bad}
 use Rattle.pulse_log.specs.declared.reader.LineReader.{LineReader}
 use Rattle.pulse_log.specs.declared.reader.BadLine.{BadLine}
-use Rattle.pulse_log.proofs.LogLaws.{at_least, lines_more, lines_end, complete_end, pulses_more, least_push, bad_reach, bad_end, bad_stays_one, good_of, good_more, good_end}
+use Rattle.pulse_log.proofs.LawfulLaws.{at_least, least_push}
+use Rattle.pulse_log.proofs.LogLaws.{lines_more, lines_end, complete_end, pulses_more, bad_reach, bad_end, bad_stays_one, good_of, good_more, good_end}
 
 fine : (reader : LineReader) (bytes : List ℕ) → HasRead reader bytes → reader.bad ≡ None → bad_line bytes ≡ None
 fine reader bytes h none = sym h.bad ∙ ap number_of_bad none

@@ -3,5 +3,10 @@
 
 mod line;
 mod reader;
+mod writer;
 
 pub use reader::{BadLine, LineReader};
+pub use writer::write_line;
+
+#[cfg(test)]
+mod tests;

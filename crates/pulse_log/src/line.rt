@@ -5,7 +5,9 @@ use tick_units::{Local, Reduction};
 // A start is below this.
 const STARTS: u64 = 1 << 50;
 
-// A width is at most this.
+// A width is from this to this.
+const NARROWEST: u32 = 1;
+
 const WIDEST: u32 = 2_000_000;
 
 /// The part of a line that its last byte is in.
@@ -56,7 +58,7 @@ impl Line {
         self.length
     }
 
-    /// Takes the next byte of the line, which is no line feed.
+    /// Takes the next byte of the line.
     pub fn add(&mut self, byte: u8)
         requires { self.old.length < 31 }
         ensures { (text : List ℕ) → IsLine self.old text → IsLine self.new (text ++ byte ∷ []) }
@@ -89,7 +91,7 @@ impl Line {
             }
             Part::Width => {
                 let width = self.width * 10 + u32::from(digit);
-                if 0 < width && width <= WIDEST {
+                if NARROWEST <= width && width <= WIDEST {
                     self.width = width;
                 } else {
                     self.part = Part::Unlawful;
@@ -118,7 +120,7 @@ impl Line {
         ensures { (text : List ℕ) → IsLine self.now text → result ≡ reduction_of text }
     {
         match self.part {
-            Part::Width if 0 < self.width => {
+            Part::Width if NARROWEST <= self.width => {
                 let at = Local::new(self.start)?;
                 Some(Reduction {
                     at,

@@ -3,6 +3,9 @@ ghost use Rattle.std.specs.Prelude.{◌≡◌, ℕ, ◌+◌, ◌≤◌, ◌^◌}
 use crate::line::Line;
 use tick_units::Reduction;
 
+// A line has at most this number of bytes before its line feed.
+const LONGEST: u32 = 31;
+
 /// The number, from 1, of the first line of a log that isn't lawful.
 #[derive(Clone, Copy, Debug, PartialEq, Eq)]
 pub struct BadLine {
@@ -55,7 +58,7 @@ impl LineReader {
         if byte == b'\n' {
             return self.end_line();
         }
-        if self.line.len() == 31 {
+        if self.line.len() == LONGEST {
             return Err(self.stop());
         }
         self.line.add(byte);
@@ -80,16 +83,23 @@ impl LineReader {
         Ok(Some(found))
     }
 
-    // The line is bad.
+    // The line that isn't finished is bad.
     fn stop(&mut self) -> BadLine
         ensures line { result.line ≡ self.old.lines + 1 }
         ensures bad { self.new.bad ≡ Some result }
     {
-        let bad = BadLine {
-            line: self.lines + 1,
-        };
+        let bad = self.unfinished();
         self.bad = Some(bad);
         bad
+    }
+
+    // The number of the line that isn't finished.
+    fn unfinished(&self) -> BadLine
+        ensures { result.line ≡ self.now.lines + 1 }
+    {
+        BadLine {
+            line: self.lines + 1,
+        }
     }
 
     /// The log has ended.
@@ -108,8 +118,6 @@ impl LineReader {
         if self.line.len() == 0 {
             return Ok(());
         }
-        Err(BadLine {
-            line: self.lines + 1,
-        })
+        Err(self.unfinished())
     }
 }

@@ -1,5 +1,5 @@
 -- What the decoder stands for, with one more byte.
-use Rattle.std.proofs.Common.{◌≡◌, ℕ, Option, None, List, ◌++◌, ap, sym, ◌∙◌, subst}
+use Rattle.std.proofs.Common.{◌≡◌, ℕ, Option, None, List, [], ◌∷◌, ◌++◌, ap, sym, ◌∙◌, subst}
 use Rattle.std.specs.Option.{option_to_list}
 use Rattle.std.proofs.lemmas.List.{append-nil}
 use Rattle.tick_units.specs.Log.{pulses, bad_line}
@@ -8,7 +8,7 @@ use Rattle.tick_units.specs.declared.marks.Reduction.{Reduction}
 use Rattle.pulse_log.specs.Reading.{HasRead}
 use Rattle.pulse_log.specs.declared.reader.LineReader.{LineReader}
 use Rattle.second_marks.specs.Marker.{HasHeard}
-use Rattle.minute_pair.specs.Keeping.{Heard}
+use Rattle.minute_pair.specs.Pairing.{HasPaired}
 use Rattle.radio_engine.specs.declared.decoder.Decoder.{Decoder}
 use Rattle.radio_engine.specs.Taking.{HasTaken}
 
@@ -21,5 +21,5 @@ taken_same d reader bytes longer h good read same = record {
   good = good;
   read = read;
   marked = subst (λ (rs : List Reduction). HasHeard d.marker rs) (sym same) h.marked;
-  heard = subst (λ (rs : List Reduction). Heard d.keeper (dcf_marks rs)) (sym same) h.heard;
+  paired = subst (λ (rs : List Reduction). HasPaired d.pairing (dcf_marks rs)) (sym same) h.paired;
 }

@@ -6,9 +6,9 @@ use Rattle.tick_units.specs.Marks.{dcf_marks}
 use Rattle.pulse_log.specs.Reading.{HasRead}
 use Rattle.pulse_log.specs.declared.reader.BadLine.{BadLine}
 use Rattle.second_marks.specs.Marker.{HasHeard}
-use Rattle.minute_pair.specs.Keeping.{Heard}
-use Rattle.minute_pair.specs.declared.keeper.Closed.{Closed}
-use Rattle.radio_engine.specs.Text.{log_text, answer_line}
+use Rattle.tick_units.specs.declared.verdicts.Heard.{Heard}
+use Rattle.minute_pair.specs.Pairing.{HasPaired}
+use Rattle.radio_engine.specs.Text.{log_text, heard_line}
 use Rattle.radio_engine.specs.Decoding.{WritesAll, WritesFront, HasReadOf, Cause, EndsByWriting}
 use Rattle.radio_engine.specs.declared.decoder.Decoder.{Decoder}
 use Rattle.radio_engine.specs.declared.ending.Ending.{Ending}
@@ -22,18 +22,18 @@ pub record HasTaken (d : Decoder) (bytes : List ℕ) : Type 0 where
   pub good : bad_line bytes ≡ None
   pub read : HasRead d.reader bytes
   pub marked : HasHeard d.marker (pulses bytes)
-  pub heard : Heard d.keeper (dcf_marks (pulses bytes))
+  pub paired : HasPaired d.pairing (dcf_marks (pulses bytes))
 
--- the text has grown by the line of a segment that closed, if one did
-abbrev pub GrowsBy : List ℕ → List ℕ → Option Closed → Type 0
-GrowsBy bytes more closed = MatchOption closed
+-- the text has grown by the line of an answer, if there is one
+abbrev pub GrowsBy : List ℕ → List ℕ → Option Heard → Type 0
+GrowsBy bytes more heard = MatchOption heard
     (log_text more ≡ log_text bytes)
-    (λ one. log_text more ≡ log_text bytes ++ answer_line one.close one.judged)
+    (λ one. log_text more ≡ log_text bytes ++ heard_line one)
 
 -- one more byte was taken, or it makes a line bad
-abbrev pub TakesOne : Decoder → List ℕ → ℕ → Result (Option Closed) BadLine → Type 0
+abbrev pub TakesOne : Decoder → List ℕ → ℕ → Result (Option Heard) BadLine → Type 0
 TakesOne d bytes byte result = MatchResult result
-    (λ closed. HasTaken d (bytes ++ byte ∷ []) × GrowsBy bytes (bytes ++ byte ∷ []) closed)
+    (λ heard. HasTaken d (bytes ++ byte ∷ []) × GrowsBy bytes (bytes ++ byte ∷ []) heard)
     (λ bad. (bad_line (bytes ++ byte ∷ []) ≡ Some bad.line) × (log_text (bytes ++ byte ∷ []) ≡ log_text bytes))
 
 -- a line was written, or a write of it failed
@@ -42,8 +42,8 @@ WritesLine All out out_now line = WritesAll out out_now line
 WritesLine Stopped out out_now line = WritesFront out out_now line
 WritesLine (Bad bad) out out_now line = ⊥
 
--- the decoder has taken these bytes and the lines of their segments are written since the start; or one of their lines is
--- bad, and those of the segments before it are written; or a write failed
+-- the decoder has taken these bytes and the lines of their answers are written since the start; or one of their lines is
+-- bad, and those of the answers before it are written; or a write failed
 abbrev pub TakesBytes : Taken → Decoder → SinkState → SinkState → List ℕ → Type 0
 TakesBytes All d start out bytes = HasTaken d bytes × WritesAll start out (log_text bytes)
 TakesBytes (Bad bad) d start out bytes = (bad_line bytes ≡ Some bad.line) × WritesAll start out (log_text bytes)
@@ -58,7 +58,7 @@ EndsAt Long bytes = ⊥
 EndsAt WrongWords bytes = ⊥
 EndsAt NotOpened bytes = ⊥
 
--- the reading of a log ended: by itself, with the lines of its segments written, or by a write that failed
+-- the reading of a log ended: by itself, with the lines of its answers written, or by a write that failed
 pub record EndsItself (log log_now : SourceState) (out out_now : SinkState) (ending : Ending) : Type 0 where
   pub bytes : List ℕ
   pub extra : List ℕ

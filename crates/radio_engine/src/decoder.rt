@@ -1,17 +1,17 @@
 ghost use Rattle.std.specs.Prelude.{◌≡◌, ℕ, List, []};
 ghost use Rattle.radio_engine.specs.Taking.{HasTaken, TakesOne};
 
-use minute_pair::{Closed, SegmentKeeper};
+use minute_pair::Pairing;
 use pulse_log::{BadLine, LineReader};
 use second_marks::Marker;
-use tick_units::Plan;
+use tick_units::{Heard, Plan};
 
-// Turns the bytes of a DCF77 log into its closed segments.
+// Turns the bytes of a DCF77 log into the answers to its segments.
 #[derive(Drop)]
 pub struct Decoder {
     pub reader: LineReader,
     pub marker: Marker,
-    pub keeper: SegmentKeeper,
+    pub pairing: Pairing,
 }
 
 impl Decoder {
@@ -21,12 +21,12 @@ impl Decoder {
         Decoder {
             reader: LineReader::new(),
             marker: Marker::new(Plan::Dcf),
-            keeper: SegmentKeeper::new(),
+            pairing: Pairing::new(Plan::Dcf),
         }
     }
 
-    // Takes the next byte: the segment that it closes, if it closes one.
-    pub fn take(&mut self, byte: u8) -> Result<Option<Closed>, BadLine>
+    // Takes the next byte: the answer to the segment that it closes, if it closes one.
+    pub fn take(&mut self, byte: u8) -> Result<Option<Heard>, BadLine>
         ensures { (bytes : List ℕ) → HasTaken self.old bytes → TakesOne self.new bytes byte result }
     {
         let found = match self.reader.take(byte) {
@@ -37,7 +37,7 @@ impl Decoder {
             return Ok(None);
         };
         match self.marker.hear(reduction) {
-            Some(mark) => Ok(self.keeper.hear(mark)),
+            Some(mark) => Ok(self.pairing.hear(mark)),
             None => Ok(None),
         }
     }

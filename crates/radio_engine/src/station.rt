@@ -22,7 +22,7 @@ fn log_of<'a>(words: &[&'a str]) -> Option<&'a str>
 }
 
 /// Runs the command that the words spell, `decode --plan dcf --log FILE`: opens the log once, writes a line for each
-/// segment of it as it closes and then the status line, and gives the log back.
+/// answer as it comes and then the status line, and gives the log back.
 pub fn run_station<O: Outside, K: Sink>(words: &[&str], outside: &mut O, out: &mut K) -> Status
     // Other words are refused, and nothing is opened.
     ensures refused { ((name : List ℕ) → IsDecode (map (λ w. w.now) words.now) name → ⊥) →

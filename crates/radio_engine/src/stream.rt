@@ -3,17 +3,17 @@ ghost use Rattle.feed_link.specs.Faults.{HasCause};
 ghost use Rattle.feed_link.specs.Told.{SinkState, Reads};
 ghost use Rattle.tick_units.specs.Log.{bad_at_end};
 ghost use Rattle.radio_engine.specs.Endings.{status_line};
-ghost use Rattle.radio_engine.specs.Text.{log_text, answer_line};
+ghost use Rattle.radio_engine.specs.Text.{log_text, heard_line};
 ghost use Rattle.radio_engine.specs.Decoding.{WritesAll, WritesFront, Answers, Decodes};
 ghost use Rattle.radio_engine.specs.Taking.{HasTaken, TakesBytes, WritesLine, EndsAt, EndsReading};
 
 use crate::decoder::Decoder;
 use crate::ending::{Ending, status_by};
 use crate::status::Status;
-use crate::text::{segment_text, status_text};
+use crate::text::{answer_text, status_text};
 use feed_link::{Failed, Sink, Source};
-use minute_pair::Closed;
 use pulse_log::BadLine;
+use tick_units::Heard;
 
 // The most bytes of a log, and of one read.
 const LIMIT: usize = 1 << 30;
@@ -40,7 +40,7 @@ pub enum Taken {
     Stopped,
 }
 
-// Takes a byte of the log and writes the line of the segment that it closes, if it closes one.
+// Takes a byte of the log and writes the line of the answer that it completes, if it completes one.
 #[inline]
 fn take_byte<K: Sink>(decoder: &mut Decoder, byte: u8, out: &mut K) -> Taken
     ensures { (bytes : List ℕ) (start : SinkState) → HasTaken decoder.old bytes → WritesAll start (K.state out.old) (log_text bytes) →
@@ -48,16 +48,16 @@ fn take_byte<K: Sink>(decoder: &mut Decoder, byte: u8, out: &mut K) -> Taken
 {
     match decoder.take(byte) {
         Ok(None) => Taken::All,
-        Ok(Some(closed)) => write_segment(&closed, out),
+        Ok(Some(heard)) => write_answer(&heard, out),
         Err(bad) => Taken::Bad(bad),
     }
 }
 
-// Writes the line of a segment that closed.
-fn write_segment<K: Sink>(closed: &Closed, out: &mut K) -> Taken
-    ensures { WritesLine result (K.state out.old) (K.state out.new) (answer_line closed.now.close closed.now.judged) }
+// Writes the line of an answer.
+fn write_answer<K: Sink>(heard: &Heard, out: &mut K) -> Taken
+    ensures { WritesLine result (K.state out.old) (K.state out.new) (heard_line heard.now) }
 {
-    let line = segment_text(closed.close, &closed.judged);
+    let line = answer_text(heard);
     match write_all(out, line.as_slice()) {
         Ok(()) => Taken::All,
         Err(Failed) => Taken::Stopped,
@@ -91,7 +91,7 @@ fn read_piece<S: Source>(log: &mut S, piece: &mut [u8], room: usize) -> Result<u
     log.read(&mut piece[..room])
 }
 
-// Reads a log to its end and writes the lines of its segments, as long as no write fails.
+// Reads a log to its end and writes the lines of its answers, as long as no write fails.
 fn read_log<S: Source, K: Sink>(log: &mut S, out: &mut K) -> Result<Ending, Failed>
     ensures number { S.opening log.new ≡ S.opening log.old }
     ensures ends { EndsReading (S.state log.old) (S.state log.new) (K.state out.old) (K.state out.new) result }
@@ -141,7 +141,7 @@ pub fn finish<K: Sink>(ending: Ending, out: &mut K) -> Status
     }
 }
 
-// Decodes a log: the lines of its segments and the status line are written.
+// Decodes a log: the lines of its answers and the status line are written.
 pub fn decode<S: Source, K: Sink>(log: &mut S, out: &mut K) -> Status
     ensures number { S.opening log.new ≡ S.opening log.old }
     ensures decodes { Decodes (S.state log.old) (S.state log.new) (K.state out.old) (K.state out.new) result }

@@ -5,48 +5,109 @@ use std::test::Fail;
 
 const WORDS: [&str; 5] = ["decode", "--plan", "dcf", "--log", "log"];
 
-// The places that are One for Thursday 1 January 2026, 13:00 in winter, and for a minute later, by PTB's table.
-const FIRST: [usize; 13] = [18, 20, 29, 30, 33, 35, 36, 44, 45, 51, 52, 55, 58];
+// The places that are One in frames of DCF77, computed from the calendar by PTB's table: 1 January 2026, 13:00 to 13:03;
+// 29 March 2026, 01:59 in winter and 03:00 and 03:01 in summer; 1 January 2017, 00:59 and 01:00 with a leap second
+// announced.
+const NOON: [usize; 12] = [18, 20, 29, 30, 33, 35, 36, 44, 45, 51, 52, 55];
 
-const SECOND: [usize; 15] = [18, 20, 21, 28, 29, 30, 33, 35, 36, 44, 45, 51, 52, 55, 58];
+const NOON_1: [usize; 14] = [18, 20, 21, 28, 29, 30, 33, 35, 36, 44, 45, 51, 52, 55];
 
-const TWO_FRAMES: &str =
-    "0 62000000 frame 26 1 1 4 13 0 0\n0 122000000 frame 26 1 1 4 13 1 0\nstatus 0\n";
+const NOON_2: [usize; 14] = [18, 20, 22, 28, 29, 30, 33, 35, 36, 44, 45, 51, 52, 55];
 
-// Adds the lines of a frame of 59 marks from this start on.
-fn add_frame(text: &mut String, ones: &[usize], start: u64) -> Result<(), AllocError> {
-    for place in 0..59usize {
-        let at = start.saturating_add(1_000_000 * place as u64);
-        let width = if ones.contains(&place) {
-            200_000u64
-        } else {
-            100_000
-        };
-        writeln!(text, "{at} {width}")?;
-    }
-    Ok(())
+const NOON_3: [usize; 14] = [18, 20, 21, 22, 29, 30, 33, 35, 36, 44, 45, 51, 52, 55];
+
+const WINTER: [usize; 20] = [
+    18, 20, 21, 24, 25, 27, 29, 35, 36, 39, 41, 42, 43, 44, 45, 46, 51, 52, 55, 58,
+];
+
+const SUMMER: [usize; 16] = [
+    17, 20, 29, 30, 36, 39, 41, 42, 43, 44, 45, 46, 51, 52, 55, 58,
+];
+
+const SUMMER_1: [usize; 18] = [
+    17, 20, 21, 28, 29, 30, 36, 39, 41, 42, 43, 44, 45, 46, 51, 52, 55, 58,
+];
+
+const BEFORE_LEAP: [usize; 17] = [
+    18, 19, 20, 21, 24, 25, 27, 36, 42, 43, 44, 45, 50, 51, 52, 54, 58,
+];
+
+const LEAP: [usize; 15] = [18, 19, 20, 29, 35, 36, 42, 43, 44, 45, 50, 51, 52, 54, 58];
+
+const TWO_FRAMES: &str = "0 62000000 lone 3976257600\n0 122000000 verdict 3976257660 0\nstatus 0\n";
+
+// A frame in a log: its places that are One, the start of its first mark, how far its marks are apart, and how many it has.
+#[derive(Clone, Copy)]
+struct Frame<'a> {
+    ones: &'a [usize],
+    start: u64,
+    spacing: u64,
+    marks: usize,
 }
 
-// A log of one frame whose first mark has this width.
-fn frame_with_width(alloc: Global, width: u64) -> Result<String, AllocError> {
-    let mut text = String::from_str(alloc, "0 100000\n")?;
-    writeln!(text, "2000000 {width}")?;
-    let mut frame = String::new(alloc);
-    add_frame(&mut frame, &FIRST, 2_000_000)?;
-    if let Some((_, rest)) = frame.as_str().split_once('\n') {
-        text.push_str(rest)?;
+fn frame(ones: &[usize], start: u64) -> Frame<'_> {
+    Frame {
+        ones,
+        start,
+        spacing: 1_000_000,
+        marks: 59,
     }
-    text.push_str("62000000 100000\n")?;
+}
+
+// Another width for the mark at a start; with the width 0 the mark is left out.
+#[derive(Clone, Copy)]
+struct Change {
+    at: u64,
+    width: u64,
+}
+
+// The lines of a log: a first mark at 0, the frames, and a closing mark.
+fn log_of(
+    alloc: Global,
+    frames: &[Frame<'_>],
+    changes: &[Change],
+    close: u64,
+) -> Result<String, AllocError> {
+    let mut text = String::from_str(alloc, "0 100000\n")?;
+    for frame in frames {
+        for place in 0..frame.marks {
+            let at = frame
+                .start
+                .saturating_add(frame.spacing.saturating_mul(place as u64));
+            let width = width_at(
+                at,
+                if frame.ones.contains(&place) {
+                    200_000
+                } else {
+                    100_000
+                },
+                changes,
+            );
+            if width != 0 {
+                writeln!(text, "{at} {width}")?;
+            }
+        }
+    }
+    writeln!(text, "{close} 100000")?;
     Ok(text)
 }
 
-// A log of two frames.
+fn width_at(at: u64, width: u64, changes: &[Change]) -> u64 {
+    for change in changes {
+        if change.at == at {
+            return change.width;
+        }
+    }
+    width
+}
+
 fn two_frames(alloc: Global) -> Result<String, AllocError> {
-    let mut text = String::from_str(alloc, "0 100000\n")?;
-    add_frame(&mut text, &FIRST, 2_000_000)?;
-    add_frame(&mut text, &SECOND, 62_000_000)?;
-    text.push_str("122000000 100000\n")?;
-    Ok(text)
+    log_of(
+        alloc,
+        &[frame(&NOON, 2_000_000), frame(&NOON_1, 62_000_000)],
+        &[],
+        122_000_000,
+    )
 }
 
 // The calls that fail: readings of the log, writings, and openings, each counted from 1, or 0 for none.
@@ -82,29 +143,143 @@ fn run(
     Ok((out.into_bytes(), status))
 }
 
-#[test]
-fn two_frames_are_read(rt: HostRuntime) -> Result<(), Fail> {
-    let text = two_frames(rt.alloc())?;
+// What a log of these frames writes is this text.
+fn decodes(
+    rt: &HostRuntime,
+    frames: &[Frame<'_>],
+    changes: &[Change],
+    close: u64,
+    want: &str,
+) -> Result<(), Fail> {
+    let text = log_of(rt.alloc(), frames, changes, close)?;
     let (written, status) = run(rt.alloc(), &WORDS, text.as_str(), NONE)?;
-    assert_eq!(rt; written.as_slice(), TWO_FRAMES.as_bytes());
+    assert_eq!(rt; written.as_slice(), want.as_bytes());
     assert_eq!(rt; status, Status::Done);
     Ok(())
 }
 
 #[test]
+fn two_frames_in_a_row_are_a_verdict(rt: HostRuntime) -> Result<(), Fail> {
+    let frames = [frame(&NOON, 2_000_000), frame(&NOON_1, 62_000_000)];
+    decodes(&rt, &frames, &[], 122_000_000, TWO_FRAMES)
+}
+
+#[test]
+fn the_least_broken_rule_is_named(rt: HostRuntime) -> Result<(), Fail> {
+    let frames = [frame(&NOON, 2_000_000)];
+    let weekday = Change {
+        at: 46_000_000,
+        width: 100_000,
+    };
+    let parity = Change {
+        at: 60_000_000,
+        width: 200_000,
+    };
+    decodes(
+        &rt,
+        &frames,
+        &[weekday],
+        62_000_000,
+        "0 62000000 refused 15\nstatus 0\n",
+    )?;
+    decodes(
+        &rt,
+        &frames,
+        &[weekday, parity],
+        62_000_000,
+        "0 62000000 refused 19\nstatus 0\n",
+    )
+}
+
+#[test]
+fn the_change_to_summer_time_is_a_minute(rt: HostRuntime) -> Result<(), Fail> {
+    let frames = [
+        frame(&WINTER, 2_000_000),
+        frame(&SUMMER, 62_000_000),
+        frame(&SUMMER_1, 122_000_000),
+    ];
+    let want =
+        "0 62000000 lone 3983734740\n0 122000000 verdict 3983734800 0\n0 182000000 verdict 3983734860 0\nstatus 0\n";
+    decodes(&rt, &frames, &[], 182_000_000, want)
+}
+
+#[test]
+fn a_minute_may_end_with_a_leap_second(rt: HostRuntime) -> Result<(), Fail> {
+    let leap = Frame {
+        marks: 60,
+        ..frame(&LEAP, 62_000_000)
+    };
+    let want = "0 62000000 lone 3692217540\n0 123000000 verdict 3692217600 3692217600\nstatus 0\n";
+    decodes(
+        &rt,
+        &[frame(&BEFORE_LEAP, 2_000_000), leap],
+        &[],
+        123_000_000,
+        want,
+    )?;
+    let without = [frame(&BEFORE_LEAP, 2_000_000), frame(&LEAP, 62_000_000)];
+    let want = "0 62000000 lone 3692217540\n0 122000000 refused 24\nstatus 0\n";
+    decodes(&rt, &without, &[], 122_000_000, want)
+}
+
+#[test]
 fn the_width_of_the_start_bit_decides(rt: HostRuntime) -> Result<(), Fail> {
     let table = [
-        (149_999, "0 62000000 frame 26 1 1 4 13 0 0\nstatus 0\n"),
+        (149_999, "0 62000000 lone 3976257600\nstatus 0\n"),
         (150_000, "0 62000000 refused 10\nstatus 0\n"),
         (39_999, "0 62000000 refused 2\nstatus 0\n"),
     ];
     for (width, want) in table {
-        let text = frame_with_width(rt.alloc(), width)?;
-        let (written, status) = run(rt.alloc(), &WORDS, text.as_str(), NONE)?;
-        assert_eq!(rt; written.as_slice(), want.as_bytes(), "at {width}");
-        assert_eq!(rt; status, Status::Done);
+        let change = Change {
+            at: 2_000_000,
+            width,
+        };
+        decodes(&rt, &[frame(&NOON, 2_000_000)], &[change], 62_000_000, want)?;
     }
     Ok(())
+}
+
+#[test]
+fn a_lost_mark_costs_its_minute(rt: HostRuntime) -> Result<(), Fail> {
+    let frames = [
+        frame(&NOON, 2_000_000),
+        frame(&NOON_1, 62_000_000),
+        frame(&NOON_2, 122_000_000),
+        frame(&NOON_3, 182_000_000),
+    ];
+    let lost = Change {
+        at: 92_000_000,
+        width: 0,
+    };
+    let want =
+        "0 62000000 lone 3976257600\n0 93000000 refused 3\n0 122000000 refused 3\n0 182000000 lone 3976257720\n0 242000000 verdict 3976257780 0\nstatus 0\n";
+    decodes(&rt, &frames, &[lost], 242_000_000, want)
+}
+
+#[test]
+fn two_valid_frames_may_differ(rt: HostRuntime) -> Result<(), Fail> {
+    let frames = [frame(&NOON, 2_000_000), frame(&NOON_2, 62_000_000)];
+    let want =
+        "0 62000000 lone 3976257600\n0 122000000 differs 3976257600 3976257720 60000000\nstatus 0\n";
+    decodes(&rt, &frames, &[], 122_000_000, want)
+}
+
+// The second frame lasts 116 ms too long by the host's counter.
+#[test]
+fn closings_that_are_no_minute_apart_differ(rt: HostRuntime) -> Result<(), Fail> {
+    let slow = Frame {
+        spacing: 1_002_000,
+        ..frame(&NOON_1, 62_000_000)
+    };
+    let want =
+        "0 62000000 lone 3976257600\n0 122116000 differs 3976257600 3976257660 60116000\nstatus 0\n";
+    decodes(
+        &rt,
+        &[frame(&NOON, 2_000_000), slow],
+        &[],
+        122_116_000,
+        want,
+    )
 }
 
 #[test]
@@ -148,7 +323,7 @@ fn entries_before_a_bad_line_stand(rt: HostRuntime) -> Result<(), Fail> {
     text.push_str("122000000 100000\n")?;
     let (written, status) = run(rt.alloc(), &WORDS, text.as_str(), NONE)?;
     let want =
-        "0 62000000 frame 26 1 1 4 13 0 0\n0 122000000 frame 26 1 1 4 13 1 0\nstatus 5 line 0 121\n";
+        "0 62000000 lone 3976257600\n0 122000000 verdict 3976257660 0\nstatus 5 line 0 121\n";
     assert_eq!(rt; written.as_slice(), want.as_bytes());
     assert_eq!(rt; status, Status::BadLine);
     Ok(())
@@ -158,9 +333,9 @@ fn entries_before_a_bad_line_stand(rt: HostRuntime) -> Result<(), Fail> {
 #[test]
 fn a_read_that_fails_ends_the_log(rt: HostRuntime) -> Result<(), Fail> {
     let text = two_frames(rt.alloc())?;
-    let first = "0 62000000 frame 26 1 1 4 13 0 0\nstatus 4 read feed 0\n";
+    let first = "0 62000000 lone 3976257600\nstatus 4 read feed 0\n";
     let both =
-        "0 62000000 frame 26 1 1 4 13 0 0\n0 122000000 frame 26 1 1 4 13 1 0\nstatus 4 read feed 0\n";
+        "0 62000000 lone 3976257600\n0 122000000 verdict 3976257660 0\nstatus 4 read feed 0\n";
     let table = [
         (1, "status 4 read feed 0\n"),
         (2, "status 4 read feed 0\n"),
@@ -180,7 +355,7 @@ fn a_read_that_fails_ends_the_log(rt: HostRuntime) -> Result<(), Fail> {
 #[test]
 fn a_write_that_fails_leaves_what_was_written(rt: HostRuntime) -> Result<(), Fail> {
     let text = two_frames(rt.alloc())?;
-    for (write, kept) in [(1, 0), (2, 33), (3, 67)] {
+    for (write, kept) in [(1, 0), (2, 27), (3, 60)] {
         let failing = Failing { write, ..NONE };
         let (written, status) = run(rt.alloc(), &WORDS, text.as_str(), failing)?;
         assert_eq!(rt;

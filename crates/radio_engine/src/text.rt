@@ -1,13 +1,12 @@
 ghost use Rattle.std.specs.Prelude.{◌≡◌, ◌+◌, ◌≤◌, ◌++◌, length, codes, decimal, ◌∷◌, []};
 ghost use Rattle.arrayvec.specs.ArrayVec.{array_vec_len};
 ghost use Rattle.radio_engine.specs.Endings.{status_line};
-ghost use Rattle.radio_engine.specs.Text.{entry_line, frame_line, refused_line, answer_line};
+ghost use Rattle.radio_engine.specs.Text.{entry_line, heard_line};
 
 use crate::ending::Ending;
 use arrayvec::ArrayVec;
 use itoa::Buffer;
-use plan_dcf::DcfFields;
-use tick_units::{Broken, Local};
+use tick_units::{Heard, Kind, Local};
 
 // A line of the output, with its line feed.
 pub type Line = ArrayVec<u8, 256>;
@@ -31,7 +30,7 @@ fn add_number(line: &mut Line, number: u64)
 }
 
 // A line of feed 0: its moment, a word and numbers.
-fn line_of(at: Local, word: &[u8], numbers: &[u8]) -> Line
+fn line_of(at: Local, word: &[u8], numbers: &[u64]) -> Line
     requires word { length word.now ≤ 16 }
     requires numbers { length numbers.now ≤ 8 }
     ensures { result.items ≡ entry_line at word.now numbers.now }
@@ -43,35 +42,22 @@ fn line_of(at: Local, word: &[u8], numbers: &[u8]) -> Line
     add(&mut line, word);
     for number in numbers {
         add(&mut line, b" ");
-        add_number(&mut line, u64::from(*number));
+        add_number(&mut line, *number);
     }
     add(&mut line, b"\n");
     line
 }
 
-// The line of a frame.
-fn frame(close: Local, fields: &DcfFields) -> Line
-    ensures { result.items ≡ frame_line close fields.now }
+// The line of an answer.
+pub fn answer_text(heard: &Heard) -> Line
+    ensures { result.items ≡ heard_line heard.now }
 {
-    let numbers = [
-        fields.year,
-        fields.month,
-        fields.day,
-        fields.weekday,
-        fields.hour,
-        fields.minute,
-        u8::from(fields.summer),
-    ];
-    line_of(close, b"frame", &numbers)
-}
-
-// The line of a segment that closed.
-pub fn segment_text(close: Local, judged: &Result<DcfFields, Broken>) -> Line
-    ensures { result.items ≡ answer_line close judged.now }
-{
-    match judged {
-        Ok(fields) => frame(close, fields),
-        Err(Broken { rule }) => line_of(close, b"refused", &[*rule]),
+    let at = heard.at;
+    match heard.kind {
+        Kind::Verdict { second, leap_at } => line_of(at, b"verdict", &[second, leap_at]),
+        Kind::Lone { second } => line_of(at, b"lone", &[second]),
+        Kind::Differs { before, now, apart } => line_of(at, b"differs", &[before, now, apart]),
+        Kind::Refused { rule } => line_of(at, b"refused", &[u64::from(rule)]),
     }
 }
 

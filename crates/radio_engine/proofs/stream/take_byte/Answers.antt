@@ -1,5 +1,5 @@
-use Rattle.std.proofs.Common.{[], ◌∷◌, ◌++◌}
-use Rattle.radio_engine.specs.Text.{log_text, answer_line}
+use Rattle.std.proofs.Common.{ℕ, List, [], ◌∷◌, ◌++◌, sym}
+use Rattle.radio_engine.specs.Text.{log_text, heard_line}
 use Rattle.radio_engine.proofs.EndingLaws.{takes_line, all_same}
 use Rattle.radio_engine.proofs.stream.take_byte.Goals as goal
 
@@ -10,10 +10,10 @@ returns-in-Ok-None g c = λ bytes start h written.
 
 pub returns-in-Ok-Some : goal.returns-in-Ok-Some
 returns-in-Ok-Some g c = λ bytes start h written.
-    let closed = c.in-Ok-Some.closed in
+    let heard = c.in-Ok-Some.heard in
     let taken = rw c.in-Ok-Some.field-0-is at (c.in-Ok-Some.ensures bytes h) in
-    takes_line c.write_segment.result c.take.new.self start (g.K.Sink.state c.args.out.now) (g.K.Sink.state c.write_segment.new.out)
-    bytes (bytes ++ c.args.byte ∷ []) (answer_line closed.close closed.judged) taken.0 taken.1 written c.write_segment.ensures
+    takes_line c.write_answer.result c.take.new.self start (g.K.Sink.state c.args.out.now) (g.K.Sink.state c.write_answer.new.out)
+    bytes (bytes ++ c.args.byte ∷ []) (heard_line heard) taken.0 taken.1 written c.write_answer.ensures
 
 pub returns-in-Err : goal.returns-in-Err
 returns-in-Err g c = λ bytes start h written.

@@ -1,4 +1,5 @@
-use Rattle.std.proofs.Common.{sym}
+use Rattle.std.proofs.Common.{ℕ, eqb, refl, ap, sym, ◌∙◌}
+use Rattle.minute_pair.proofs.Flags.{leap_kept}
 use Rattle.minute_pair.proofs.HeardLaws.{heard_first, heard_added, heard_begun, same_first, same_added, same_opened, segments_closed}
 use Rattle.minute_pair.proofs.keeper.SegmentKeeper.hear.Goals as goal
 
@@ -26,4 +27,10 @@ returns-clause-heard c = λ marks h. rw c.begin-2.ensures (heard_begun c.args.se
 pub returns-clause-closed : goal.returns-clause-closed
 returns-clause-closed c = λ marks h.
     let closed = segments_closed c.args.self.now c.in-Some.last c.args.mark marks c.in-Some.is (sym c.if-not-follows.ensures) c.if-not-self.false h in
-    (closed.0, closed.1, c.judge-judged.ensures closed.0 closed.2)
+    record {
+      segment = record { marks = closed.0; close = c.args.mark.at };
+      grows = closed.1;
+      close = refl;
+      says = c.judge.ensures closed.0 closed.2;
+      has_leap = ap (λ (n : ℕ). eqb n 60) c.len.ensures.value ∙ leap_kept c.args.self.now closed.0 closed.2;
+    }

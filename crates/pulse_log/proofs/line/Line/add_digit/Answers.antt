@@ -2,7 +2,7 @@ use Rattle.std.proofs.Common.{◌<◌, ◌≤◌, ◌+◌, ◌*◌, ◌^◌, ℕ
 use Rattle.pulse_log.specs.Lines.{IsDead}
 use Rattle.pulse_log.proofs.FrontLaws.{start_push, zero_push, width_push, start_dead, zero_dead, width_dead}
 use Rattle.pulse_log.proofs.line.Line.add_digit.Goals as goal
-use Rattle.pulse_log.proofs.line.Line.add_digit.Goals.{else-start-gt0-via-then-start-gt0+else-start-lt-STARTS, else-start-gt0-via-else-start-gt0, else-width-gt0-via-then-width-gt0+else-width-le-WIDEST, else-width-gt0-via-else-width-gt0}
+use Rattle.pulse_log.proofs.line.Line.add_digit.Goals.{else-start-gt0-via-then-start-gt0+else-start-lt-STARTS, else-start-gt0-via-else-start-gt0, else-width-ge-NARROWEST-via-then-width-ge-NARROWEST+else-width-le-WIDEST, else-width-ge-NARROWEST-via-else-width-ge-NARROWEST}
 
 pub returns-then-start-lt-STARTS-clause-part : goal.returns-then-start-lt-STARTS-clause-part
 returns-then-start-lt-STARTS-clause-part c = λ text h.
@@ -37,16 +37,16 @@ returns-then-width-le-WIDEST-clause-part c = λ text h.
     let ends = rw c.in-Width.is at h in
     let taken = c.from-in-Width.ensures in
     let narrow = line.width_bounded in
-    rw c.in-Width.is (width_push line.start line.width c.args.digit (line.width * 10 + c.from-in-Width.result) text (omega arith) c.requires (omega arith) c.if-width-gt0.true ends)
+    rw c.in-Width.is (width_push line.start line.width c.args.digit (line.width * 10 + c.from-in-Width.result) text (omega arith) c.requires (omega arith) c.if-width-ge-NARROWEST.true ends)
 
-pub returns-else-width-gt0-clause-part : goal.returns-else-width-gt0-clause-part
-returns-else-width-gt0-clause-part c = λ text h.
+pub returns-else-width-ge-NARROWEST-clause-part : goal.returns-else-width-ge-NARROWEST-clause-part
+returns-else-width-ge-NARROWEST-clause-part c = λ text h.
     let line = c.args.self.now in
     let ends = rw c.in-Width.is at h in
     let taken = c.from-in-Width.ensures in
-    let out : 0 < line.width * 10 + c.args.digit → line.width * 10 + c.args.digit ≤ 2000000 → ⊥ = λ some most. elim c.else-width-gt0.branch [
-      | else-width-gt0-via-then-width-gt0+else-width-le-WIDEST w ↦ omega arith
-      | else-width-gt0-via-else-width-gt0 w ↦ omega arith
+    let out : 0 < line.width * 10 + c.args.digit → line.width * 10 + c.args.digit ≤ 2000000 → ⊥ = λ some most. elim c.else-width-ge-NARROWEST.branch [
+      | else-width-ge-NARROWEST-via-then-width-ge-NARROWEST+else-width-le-WIDEST w ↦ omega arith
+      | else-width-ge-NARROWEST-via-else-width-ge-NARROWEST w ↦ omega arith
     ] in
     let dead = width_dead line.start line.width (48 + c.args.digit) line.start_bounded line.width_bounded (λ _ some most. out (omega arith) (omega arith)) in
     subst IsDead (ap (λ (t : List ℕ). t ++ (48 + c.args.digit) ∷ []) (sym ends)) dead

@@ -1,11 +1,11 @@
-use Rattle.std.proofs.Common.{Option, List, [], ◌∷◌, ◌++◌, ap, sym, ◌∙◌, subst}
+use Rattle.std.proofs.Common.{◌≡◌, ℕ, Option, List, [], ◌∷◌, ◌++◌, ap, sym, ◌∙◌, subst}
 use Rattle.std.specs.Option.{option_to_list}
 use Rattle.tick_units.specs.Log.{pulses}
 use Rattle.tick_units.specs.Marks.{dcf_marks}
 use Rattle.tick_units.specs.declared.marks.Mark.{Mark}
 use Rattle.tick_units.specs.declared.marks.Reduction.{Reduction}
 use Rattle.second_marks.specs.Marker.{HasHeard}
-use Rattle.minute_pair.specs.Keeping.{Heard}
+use Rattle.minute_pair.specs.Pairing.{HasPaired}
 use Rattle.radio_engine.proofs.Growth.{text_same, text_grows_by}
 use Rattle.radio_engine.proofs.DecoderLaws.{taken_same, pulses_none}
 use Rattle.radio_engine.proofs.decoder.Decoder.take.Goals as goal
@@ -33,7 +33,7 @@ returns-in-Some-hear c = λ bytes h.
         good = taken.found.0;
         read = taken.read;
         marked = subst (λ (rs : List Reduction). HasHeard c.hear.new.self rs) (sym more) (c.hear.ensures.heard (pulses bytes) h.marked);
-        heard = subst (λ (ms : List Mark). Heard c.hear-in-Some-hear.new.self ms) (sym marks) (c.hear-in-Some-hear.ensures.heard old h.heard);
+        paired = subst (λ (ms : List Mark). HasPaired c.hear-in-Some-hear.new.self ms) (sym marks) (c.hear-in-Some-hear.ensures.heard old h.paired);
       },
-      text_grows_by bytes longer c.in-Some-hear.mark c.hear-in-Some-hear.result marks (c.hear-in-Some-hear.ensures.closed old h.heard),
+      text_grows_by bytes longer c.in-Some-hear.mark c.hear-in-Some-hear.result marks (c.hear-in-Some-hear.ensures.answered old h.paired),
     )

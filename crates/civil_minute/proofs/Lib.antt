@@ -1,0 +1,4 @@
+pub mod DayLemmas
+pub mod MonthLemmas
+pub mod CivilLemmas
+pub mod Casts

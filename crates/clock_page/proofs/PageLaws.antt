@@ -1,0 +1,113 @@
+-- A page and its words: which page it is follows from the words.
+use Rattle.std.proofs.Common.{◌≡◌, ℕ, ◌+◌, ◌*◌, ◌/◌, ◌%◌, ◌^◌, ◌<◌, ◌≤◌, Bool, true, false, List, slice_index, ℤ, pos, negsuc, ◌≤ℤ◌, ◌<ℤ◌, refl, sym, ap, ◌∙◌, arith, unsigned_abs}
+use Rattle.std.specs.Int.{from_bool}
+use Rattle.std.proofs.lemmas.Int.{ints}
+use Rattle.tick_units.specs.Units.{floor_div, stamp_of}
+use Rattle.clock_page.specs.Page.{AreWords, PageFields, unsynchronised, words}
+
+-- the high word of a span that isn't negative
+pub high_word : (z : ℤ) → pos 0 ≤ℤ z → unsigned_abs z / 2 ^ 64 ≡ unsigned_abs (floor_div z (2 ^ 64))
+high_word (pos n) least = refl
+high_word (negsuc n) least = absurd (omega (arith, ints))
+
+-- such a span from its two words
+two_words : (z : ℤ) → pos 0 ≤ℤ z → z ≡ pos (unsigned_abs (floor_div z (2 ^ 64)) * 2 ^ 64 + stamp_of z)
+two_words (pos n) least = ap pos (omega arith)
+two_words (negsuc n) least = absurd (omega (arith, ints))
+
+high_word-below : (z : ℤ) → pos 0 ≤ℤ z → z <ℤ pos (2 ^ 70) → unsigned_abs (floor_div z (2 ^ 64)) < 64
+high_word-below (pos n) least most = let small : n < 2 ^ 70 = omega (arith, ints) in omega arith
+high_word-below (negsuc n) least most = absurd (omega (arith, ints))
+
+-- each word by its place
+record EachWord (w : List ℕ) (p : PageFields) : Type 0 where
+  length : p.length ≡ slice_index w 0
+  state : from_bool p.sync * 2 ^ 40 + p.stratum * 2 ^ 32 + p.refid ≡ slice_index w 1
+  low : stamp_of p.offset ≡ slice_index w 2
+  anchor : p.anchor ≡ slice_index w 3
+  until : p.until ≡ slice_index w 4
+  root : p.root_delay.0 * 2 ^ 32 + p.root_disp.0 ≡ slice_index w 5
+  reftime : p.reftime.0 ≡ slice_index w 6
+  leap_at : p.leap_at ≡ slice_index w 7
+  high : unsigned_abs (floor_div p.offset (2 ^ 64)) ≡ slice_index w 8
+
+each_word : (w : List ℕ) (p : PageFields) → AreWords w p → EachWord w p
+unfolding words
+each_word w p h =
+    let at = λ (i : ℕ). ap (λ (l : List ℕ). slice_index l i) (sym h.words) in
+    record { length = at 0; state = at 1; low = at 2; anchor = at 3; until = at 4; root = at 5; reftime = at 6; leap_at = at 7; high = at 8 }
+
+-- the moment and the high word are in range
+pub anchor-below : (w : List ℕ) (p : PageFields) → AreWords w p → slice_index w 3 < 2 ^ 50
+anchor-below w p h = let e = each_word w p h in let below = h.page.anchor in omega arith
+
+pub high-below : (w : List ℕ) (p : PageFields) → AreWords w p → slice_index w 8 < 64
+high-below w p h = let e = each_word w p h in let below = high_word-below p.offset h.page.sound.offset h.page.offset in omega arith
+
+-- the words of a page that isn't synchronised
+state-unsynced : (w : List ℕ) (p : PageFields) → AreWords w p → p.sync ≡ false → slice_index w 1 / 2 ^ 32 < 256
+state-unsynced w p h off =
+    let e = each_word w p h in
+    let bit = ap from_bool off in
+    let stratum = h.page.stratum in
+    let refid = h.page.refid in
+    omega arith
+
+state-synced : (w : List ℕ) (p : PageFields) → AreWords w p → p.sync ≡ true → (slice_index w 1 / 2 ^ 32 ≡ 256 + p.stratum) × (slice_index w 1 % 2 ^ 32 ≡ p.refid)
+state-synced w p h on =
+    let e = each_word w p h in
+    let bit = ap from_bool on in
+    let stratum = h.page.stratum in
+    let refid = h.page.refid in
+    (omega arith, omega arith)
+
+-- the synchronised page that ten words can be those of
+abbrev pub spelled : List ℕ → PageFields
+spelled w = record {
+  length = slice_index w 0;
+  sync = true;
+  stratum = slice_index w 1 / 2 ^ 32 % 256;
+  refid = slice_index w 1 % 2 ^ 32;
+  offset = pos (slice_index w 8 * 2 ^ 64 + slice_index w 2);
+  anchor = slice_index w 3;
+  until = slice_index w 4;
+  root_delay = record { 0 = slice_index w 5 / 2 ^ 32 };
+  root_disp = record { 0 = slice_index w 5 % 2 ^ 32 };
+  reftime = record { 0 = slice_index w 6 };
+  leap_at = slice_index w 7;
+}
+
+pub unsynced-page : (w : List ℕ) (p : PageFields) → AreWords w p → slice_index w 1 / 2 ^ 32 < 256 → p ≡ unsynchronised (slice_index w 0) (slice_index w 3)
+unsynced-page w p h few = by_bit p.sync refl
+  where
+    by_bit : (b : Bool) → p.sync ≡ b → p ≡ unsynchronised (slice_index w 0) (slice_index w 3)
+    by_bit true on = absurd (omega (arith, (state-synced w p h on).0))
+    by_bit false off = let e = each_word w p h in h.page.sound.unsynchronised off ∙ (λ i. unsynchronised (e.length i) (e.anchor i))
+
+pub synced-page : (w : List ℕ) (p : PageFields) → AreWords w p → 256 ≤ slice_index w 1 / 2 ^ 32 → p ≡ spelled w
+synced-page w p h many = by_bit p.sync refl
+  where
+    by_bit : (b : Bool) → p.sync ≡ b → p ≡ spelled w
+    by_bit false off = absurd (omega (arith, state-unsynced w p h off))
+    by_bit true on =
+        let e = each_word w p h in
+        let state = state-synced w p h on in
+        let few = h.page.stratum in
+        let disp = h.page.root_disp in
+        let stratum : p.stratum ≡ slice_index w 1 / 2 ^ 32 % 256 = omega arith in
+        let delay : p.root_delay.0 ≡ slice_index w 5 / 2 ^ 32 = omega arith in
+        let dispersion : p.root_disp.0 ≡ slice_index w 5 % 2 ^ 32 = omega arith in
+        let offset = two_words p.offset h.page.sound.offset ∙ (λ i. pos (e.high i * 2 ^ 64 + e.low i)) in
+        λ i. record {
+          length = e.length i;
+          sync = on i;
+          stratum = stratum i;
+          refid = sym state.1 i;
+          offset = offset i;
+          anchor = e.anchor i;
+          until = e.until i;
+          root_delay = record { 0 = delay i };
+          root_disp = record { 0 = dispersion i };
+          reftime = record { 0 = e.reftime i };
+          leap_at = e.leap_at i;
+        }

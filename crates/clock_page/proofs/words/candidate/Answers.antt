@@ -1,0 +1,32 @@
+use Rattle.std.proofs.Common.{◌/◌, ◌%◌, ◌^◌, ◌≤◌, true, slice_index, Some, sym, ap, ◌∙◌, arith}
+use Rattle.clock_page.specs.Page.{unsynchronised}
+use Rattle.clock_page.proofs.PageLaws.{anchor-below, high-below, synced-page, unsynced-page}
+use Rattle.clock_page.proofs.words.candidate.Goals as goal
+
+pub returns-in_err-anchor : goal.returns-in_err-anchor
+returns-in_err-anchor c = λ p h. absurd (omega (arith, anchor-below c.args.w.now p h, c.in_err-anchor.ensures.none))
+
+pub returns-in_err-offset : goal.returns-in_err-offset
+returns-in_err-offset c = λ p h. absurd (omega (arith, high-below c.args.w.now p h, c.in_err-offset.ensures.none))
+
+pub returns-then-state-lt256 : goal.returns-then-state-lt256
+returns-then-state-lt256 c = λ p h. ap Some (c.unsynchronised.ensures ∙ ap (unsynchronised (slice_index c.args.w.now 0)) c.in_ok-anchor.ensures.some.0 ∙ sym (unsynced-page c.args.w.now p h (omega arith)))
+
+pub returns : goal.returns
+returns c =
+    let w = c.args.w.now in
+    let state = c.high-state.ensures in
+    let many : 256 ≤ slice_index w 1 / 2 ^ 32 = omega arith in
+    λ p h. ap Some ((λ i. record {
+      length = slice_index w 0;
+      sync = true;
+      stratum = state i % 256;
+      refid = c.low.ensures i;
+      offset = c.in_ok-offset.ensures.some i;
+      anchor = c.in_ok-anchor.ensures.some.0 i;
+      until = slice_index w 4;
+      root_delay = record { 0 = c.high.ensures i };
+      root_disp = record { 0 = c.low-2.ensures i };
+      reftime = record { 0 = slice_index w 6 };
+      leap_at = slice_index w 7;
+    }) ∙ sym (synced-page w p h many))

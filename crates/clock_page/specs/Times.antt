@@ -1,0 +1,29 @@
+-- What a page says of a moment of the host's counter: the time, whether it is to be trusted, and whether a leap second is
+-- near (the leap indicator of RFC 5905, section 7.3).
+use Rattle.std.specs.Prelude.{ℕ, ◌^◌, Bool, ◌&&◌, nat_lt, ℤ, pos, ◌+ℤ◌, int_lt, int_le, if◌then◌else◌}
+use Rattle.tick_units.specs.Units.{floor_div, local_span, stamp_of}
+use Rattle.clock_page.specs.Page.{PageFields}
+
+-- the span since 1900
+abbrev pub span_at : PageFields → ℕ → ℤ
+span_at p u = p.offset +ℤ pos (local_span u)
+
+-- the time as it stands on the wire
+abbrev pub time_at : PageFields → ℕ → ℕ
+time_at p u = stamp_of (span_at p u)
+
+-- the second, rounded down
+abbrev pub second_at : PageFields → ℕ → ℤ
+second_at p u = floor_div (span_at p u) (2 ^ 32)
+
+-- a page is good until a moment of its own
+abbrev pub synced_at : PageFields → ℕ → Bool
+synced_at p u = p.sync && nat_lt u p.until
+
+-- the announced leap second ends 1 to 86400 seconds later; where none is announced, `leap_at` is 0 and no second is below it
+abbrev pub leap_is_near : PageFields → ℕ → Bool
+leap_is_near p u = int_lt (second_at p u) (pos p.leap_at) && int_le (pos p.leap_at) (second_at p u +ℤ pos 86400)
+
+-- the leap indicator: 3 where the page isn't synchronised, 1 where the day's last minute has 61 seconds
+abbrev pub leap_indicator : PageFields → ℕ → ℕ
+leap_indicator p u = if synced_at p u then (if leap_is_near p u then 1 else 0) else 3

@@ -1,0 +1,10 @@
+//! The page, which tells how the server reckons the time; its ten words; and what it says of a moment.
+#![tactic(auto)]
+
+mod page;
+#[cfg(test)]
+mod tests;
+mod times;
+mod words;
+
+pub use page::{INIT, Page, UNKNOWN_DISPERSION};

@@ -1,0 +1,73 @@
+ghost use Rattle.std.specs.Prelude.{◌≡◌};
+ghost use Rattle.clock_page.specs.Page.{unsynchronised};
+
+use std::marker::Model;
+use tick_units::{Local, Short, Span, Stamp};
+
+/// The reference ID of a server that isn't synchronised: `INIT` (RFC 5905, section 7.4).
+pub const INIT: u32 = 0x494e_4954;
+
+/// The root dispersion where nothing is known: 16 s, which is MAXDISP of RFC 5905.
+pub const UNKNOWN_DISPERSION: u32 = 0x0010_0000;
+
+/// How the server reckons the time, from so many entries of its journal.
+#[derive(Clone, Copy, Debug, PartialEq, Eq)]
+pub struct Page {
+    /// The number of entries.
+    pub length: u64,
+    /// Whether the page tells the time.
+    pub sync: bool,
+    /// The server's stratum.
+    pub stratum: u8,
+    /// What the server takes its time from: four letters, or an IPv4 address.
+    pub refid: u32,
+    /// What is to be added to the host's counter to give the time since 1900; never negative.
+    pub offset: Span,
+    /// The moment for which the page was reckoned.
+    pub anchor: Local,
+    /// The moment from which on the page isn't synchronised, in microseconds.
+    pub until: u64,
+    /// The way to the reference clock and back.
+    pub root_delay: Short,
+    /// The dispersion on the way to the reference clock, at the anchor.
+    pub root_disp: Short,
+    /// When the reference clock was last heard.
+    pub reftime: Stamp,
+    /// The second at which the announced leap second ends, and 0 where none is announced.
+    pub leap_at: u64,
+}
+
+impl Model for Page {
+    ghost use Rattle.clock_page.specs.Page.{PageFields, IsSound};
+
+    ghost Value = { PageFields };
+
+    ghost use Rattle.clock_page.specs.Inside.{said_by, inside_of};
+
+    ghost view = { said_by };
+
+    ghost invariant = { λ p. IsSound (said_by p) };
+
+    ghost inverse = { inside_of };
+}
+
+impl Page {
+    /// The page of so many entries at a moment, where nothing tells the time.
+    pub fn unsynchronised(length: u64, anchor: Local) -> Page
+        ensures { result ≡ unsynchronised length anchor }
+    {
+        Page {
+            length,
+            sync: false,
+            stratum: 0,
+            refid: INIT,
+            offset: Span::from(0),
+            anchor,
+            until: 0,
+            root_delay: Short(0),
+            root_disp: Short(UNKNOWN_DISPERSION),
+            reftime: Stamp(0),
+            leap_at: 0,
+        }
+    }
+}

@@ -1,0 +1,117 @@
+ghost use Rattle.std.specs.Prelude.{◌≡◌, ◌+◌, ◌*◌, ◌/◌, ◌%◌, ◌^◌, ◌<◌, ◌≤◌, pos, Some, IfSome, IfNone};
+ghost use Rattle.std.specs.Int.{from_bool};
+ghost use Rattle.clock_page.specs.Page.{AreWords, IsPage, PageFields, words};
+
+use crate::Page;
+use tick_units::{Local, Short, Span, Stamp, stamp_of};
+
+// A number in a word of its own.
+fn whole(n: u64) -> u64
+    ensures value { result ≡ n }
+    ensures fits { n < 2 ^ 64 }
+{
+    n
+}
+
+// Two numbers in one word.
+#[tactic(auto, using(std::proofs::lemmas::Nat::or_shifted))]
+fn pair(high: u32, low: u32) -> u64
+    ensures value { result ≡ high * 2 ^ 32 + low }
+    ensures high { high < 2 ^ 32 }
+    ensures low { low < 2 ^ 32 }
+{
+    u64::from(high) << 32 | u64::from(low)
+}
+
+// Whether a page is synchronised, and its stratum, in one number.
+#[tactic(auto, using(std::proofs::lemmas::Nat::or_shifted))]
+fn state(sync: bool, stratum: u8) -> u32
+    ensures value { result ≡ from_bool sync * 2 ^ 8 + stratum }
+    ensures stratum { stratum < 2 ^ 8 }
+{
+    u32::from(sync) << 8 | u32::from(stratum)
+}
+
+// The high and the low half of a word.
+fn high(word: u64) -> u32
+    ensures { result ≡ word / 2 ^ 32 }
+{
+    (word >> 32) as u32
+}
+
+fn low(word: u64) -> u32
+    ensures { result ≡ word % 2 ^ 32 }
+{
+    (word % (1 << 32)) as u32
+}
+
+// The offset in two words, where it is small enough.
+fn offset_of(high: u64, low: u64) -> Option<Span>
+    ensures some { IfSome result (λ s. s ≡ pos (high * 2 ^ 64 + low)) }
+    ensures none { IfNone result (64 ≤ high) }
+{
+    if high >= 64 {
+        return None;
+    }
+    Span::new((i128::from(high) << 64) + i128::from(low))
+}
+
+// The one page whose words these can be.
+fn candidate(w: &[u64; 10]) -> Option<Page>
+    ensures { (p : PageFields) → AreWords w.now p → result ≡ Some p }
+{
+    let anchor = Local::new(w[3])?;
+    let state = high(w[1]);
+    if state < 256 {
+        return Some(Page::unsynchronised(w[0], anchor));
+    }
+    let offset = offset_of(w[8], w[2])?;
+    Some(Page {
+        length: w[0],
+        sync: true,
+        stratum: (state % 256) as u8,
+        refid: low(w[1]),
+        offset,
+        anchor,
+        until: w[4],
+        root_delay: Short(high(w[5])),
+        root_disp: Short(low(w[5])),
+        reftime: Stamp(w[6]),
+        leap_at: w[7],
+    })
+}
+
+impl Page {
+    /// The ten words of the page.
+    #[tactic(auto, unfolding(crate::specs::Page::words))]
+    pub fn to_words(&self) -> [u64; 10]
+        ensures words { result ≡ words self.now }
+        ensures page { IsPage self.now }
+    {
+        [
+            whole(self.length),
+            pair(state(self.sync, self.stratum), self.refid),
+            stamp_of(self.offset).0,
+            self.anchor.get(),
+            whole(self.until),
+            pair(self.root_delay.0, self.root_disp.0),
+            whole(self.reftime.0),
+            whole(self.leap_at),
+            (self.offset.unsigned_abs() >> 64) as u64,
+            0,
+        ]
+    }
+
+    /// The page whose words these are, and `None` where they are no page's.
+    pub fn of_words(w: [u64; 10]) -> Option<Page>
+        ensures page { IfSome result (AreWords w) }
+        ensures every { (p : PageFields) → AreWords w p → result ≡ Some p }
+    {
+        let page = candidate(&w)?;
+        if page.to_words() == w {
+            Some(page)
+        } else {
+            None
+        }
+    }
+}

@@ -1,0 +1,16 @@
+use Rattle.std.proofs.Common.{◌≤◌, sym, arith}
+use Rattle.tick_units.specs.Fields.{is_set}
+use Rattle.frame_rules.specs.Bits.{has_bit}
+use Rattle.frame_rules.proofs.Sums.{ones_set, ones_unset}
+use Rattle.frame_rules.proofs.bits.is_odd_over.Goals as goal
+use Rattle.frame_rules.proofs.bits.is_odd_over.Goals.{then-is_set, else-is_set}
+
+pub loop-place-preserved : goal.loop-place-preserved
+loop-place-preserved c =
+    let p = is_set (has_bit c.args.bit) c.args.segment.now in
+    let place = c.loop-place.place in
+    let within : place ≤ c.args.last = omega arith in
+    elim c.if-is_set.branch [
+      | then-is_set w ↦ let rest = ones_set p place c.args.last within (sym w.if-is_set.ensures) in record { few = omega arith; so_far = omega arith }
+      | else-is_set w ↦ let rest = ones_unset p place c.args.last within (sym w.if-is_set.ensures) in record { few = omega arith; so_far = omega arith }
+    ]

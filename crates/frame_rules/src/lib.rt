@@ -1,0 +1,12 @@
+//! What the frames of the three code plans share: the bits of a segment's places, the values that they spell, and the
+//! rules on marks that every plan has.
+#![tactic(auto)]
+
+mod bits;
+mod rules;
+
+pub use bits::{Bit, is_odd_over, is_set, value};
+pub use rules::{Rule, are_spaced, first_broken, has_odd_symbol, is_out_of};
+
+#[cfg(test)]
+mod tests;

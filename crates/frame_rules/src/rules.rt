@@ -1,0 +1,63 @@
+//! Rules that every plan has, and which broken rule is named.
+ghost use Rattle.std.specs.Prelude.{◌≡◌};
+ghost use Rattle.tick_units.specs.Rules.{starts_of, are_spaced, has_odd_symbol, is_out_of};
+ghost use Rattle.frame_rules.specs.First.{first_broken};
+
+use tick_units::{Mark, Symbol};
+
+/// A numbered rule, and whether a segment breaks it.
+#[derive(Clone, Copy, Debug, PartialEq, Eq)]
+pub struct Rule {
+    pub number: u8,
+    pub broken: bool,
+}
+
+impl Rule {
+    pub fn new(number: u8, broken: bool) -> Rule
+        ensures { result ≡ record { number = number; broken = broken } }
+    {
+        Rule { number, broken }
+    }
+}
+
+/// The number of the first rule of these that is broken.
+pub fn first_broken(rules: &[Rule]) -> Option<u8>
+    ensures { result ≡ first_broken rules.now }
+{
+    rules
+        .iter()
+        .find(|rule| rule.broken)
+        .map(|rule| rule.number)
+}
+
+/// Whether each mark starts 900000 to 1100000 microseconds after the one before it.
+pub fn are_spaced(marks: &[Mark]) -> bool
+    ensures { result ≡ are_spaced (starts_of marks.now) }
+{
+    let mut rest = marks;
+    'marks: while let [mark, more @ ..] = rest {
+        if let [next, ..] = more {
+            let start = mark.at.get();
+            let later = next.at.get();
+            if later < start + 900_000 || start + 1_100_000 < later {
+                return false;
+            }
+        }
+        rest = more;
+    }
+    true
+}
+
+/// Whether a mark's width is in no class.
+pub fn has_odd_symbol(marks: &[Mark]) -> bool
+    ensures { result ≡ has_odd_symbol marks.now }
+{
+    marks.iter().any(|mark| mark.symbol == Symbol::Odd)
+}
+
+/// Whether a number of two digits is none: its ones digit is above 9, or it isn't from `least` to `most`.
+pub fn is_out_of(least: u32, most: u32, ones: u32, number: u32) -> bool
+    ensures { result ≡ is_out_of least most ones number }
+{
+    ones > 9 || number < least || number > most
+}

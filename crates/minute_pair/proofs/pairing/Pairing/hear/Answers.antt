@@ -1,0 +1,24 @@
+use Rattle.std.proofs.Common.{ℕ, Option, Some, None, sym, ap, ◌∙◌}
+use Rattle.std.specs.List.{last_or}
+use Rattle.tick_units.specs.Segments.{Segment, dcf_segments}
+use Rattle.minute_pair.specs.Pairing.{before_of, answer_by}
+use Rattle.minute_pair.specs.declared.answers.Before.{Before}
+use Rattle.minute_pair.proofs.PairingLaws.{answers_closed, before_closed}
+use Rattle.minute_pair.proofs.pairing.Pairing.hear.Goals as goal
+
+pub returns-clause-heard : goal.returns-clause-heard
+returns-clause-heard c = λ marks h.
+    let closed = c.in-Some.closed in
+    let closes = c.in-Some.ensures.closed marks h.heard in
+    record {
+      plan = h.plan;
+      heard = c.hear.ensures.heard marks h.heard;
+      before = c.before_by-self.ensures ∙ before_closed (dcf_segments marks) _ closes.segment closed closes.grows closes.close closes.says;
+    }
+
+pub returns-clause-answered : goal.returns-clause-answered
+returns-clause-answered c = λ marks h.
+    let closed = c.in-Some.closed in
+    let closes = c.in-Some.ensures.closed marks h.heard in
+    answers_closed (dcf_segments marks) _ closes.segment closed c.answer-kind.result closes.grows closes.close closes.says closes.has_leap
+    (c.answer-kind.ensures ∙ ap (λ (before : Before). answer_by before closed) h.before)

@@ -1,0 +1,51 @@
+-- What a pairing stands for: the marks that it has heard.
+use Rattle.std.specs.Prelude.{◌≡◌, ℕ, ◌+◌, ◌-◌, ◌&&◌, ◌||◌, ◌==◌, nat_le, Option, None, Some, Result, Ok, Err, List, length, if◌then◌else◌}
+use Rattle.std.specs.List.{last_or}
+use Rattle.tick_units.specs.Segments.{Segment, dcf_segments}
+use Rattle.tick_units.specs.declared.marks.Mark.{Mark}
+use Rattle.tick_units.specs.declared.marks.Plan.TheVariants.{Dcf}
+use Rattle.tick_units.specs.declared.verdicts.Broken.{Broken}
+use Rattle.tick_units.specs.declared.verdicts.Coded.{Coded}
+use Rattle.tick_units.specs.declared.verdicts.Kind.{Kind}
+use Rattle.tick_units.specs.declared.verdicts.Kind.TheVariants.{Verdict, Lone, Differs, Refused}
+use Rattle.minute_pair.specs.Answers.{judged, is_apart, agreed_leap}
+use Rattle.minute_pair.specs.Keeping.{Heard}
+use Rattle.minute_pair.specs.declared.answers.Before.{Before}
+use Rattle.minute_pair.specs.declared.answers.Before.TheVariants.{Nothing, Valid}
+use Rattle.minute_pair.specs.declared.keeper.Closed.{Closed}
+use Rattle.minute_pair.specs.declared.pairing.Pairing.{Pairing}
+
+-- what is kept of a segment for the answer to the next
+abbrev pub before_by_judged : ℕ → Result Coded Broken → Before
+before_by_judged close (Ok coded) = Valid close coded
+before_by_judged close (Err broken) = Nothing
+
+abbrev pub before_of_closed : Closed → Before
+before_of_closed closed = before_by_judged closed.close closed.judged
+
+abbrev pub before_of : Option Segment → Before
+before_of None = Nothing
+before_of (Some segment) = before_by_judged segment.close (judged segment)
+
+-- the answer by what is kept
+abbrev pub both_by : ℕ → Coded → Closed → Coded → Kind
+both_by before was closed is = if (nat_le 60 is.minute && (is.minute - 60 == was.minute)) && (is_apart 60 (closed.close - before) || (closed.has_leap && is_apart 61 (closed.close - before)))
+    then Verdict is.minute (agreed_leap was.leap_at is.leap_at)
+    else Differs was.minute is.minute (closed.close - before)
+
+abbrev pub valid_by : Before → Closed → Coded → Kind
+valid_by Nothing closed is = Lone is.minute
+valid_by (Valid close was) closed is = both_by close was closed is
+
+abbrev pub judged_kind : Before → Closed → Result Coded Broken → Kind
+judged_kind before closed (Err broken) = Refused broken.rule
+judged_kind before closed (Ok is) = valid_by before closed is
+
+abbrev pub answer_by : Before → Closed → Kind
+answer_by before closed = judged_kind before closed closed.judged
+
+-- the pairing of DCF77 has heard these marks: it keeps their last segment as far as it needs it
+pub record HasPaired (p : Pairing) (marks : List Mark) : Type 0 where
+  pub plan : p.plan ≡ Dcf
+  pub heard : Heard p.keeper marks
+  pub before : p.before ≡ before_of (last_or None (dcf_segments marks))

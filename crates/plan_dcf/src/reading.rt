@@ -1,0 +1,20 @@
+//! What a segment comes to.
+ghost use Rattle.std.specs.Prelude.{◌≡◌, None, Some, IfOk, IfErr};
+ghost use Rattle.plan_dcf.specs.Fields.{coded};
+ghost use Rattle.plan_dcf.specs.Rules.{first};
+
+use crate::dates::coded;
+use crate::rules::first_broken_rule;
+use tick_units::{Broken, Coded, Local, Mark};
+
+/// The minute that a segment says, which begins at the mark that closes it; or the least number of a rule that the
+/// segment breaks. In DCF77 no rule speaks of the closing mark.
+pub fn read(segment: &[Mark], _close: Local) -> Result<Coded, Broken>
+    ensures ok { IfOk result (λ c. (first segment.now ≡ None) × (c ≡ coded segment.now)) }
+    ensures err { IfErr result (λ broken. first segment.now ≡ Some broken.rule) }
+{
+    match first_broken_rule(segment) {
+        Some(rule) => Err(Broken { rule }),
+        None => Ok(coded(segment)),
+    }
+}

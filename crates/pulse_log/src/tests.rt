@@ -1,0 +1,123 @@
+use super::*;
+use std::alloc::{AllocError, Global};
+use std::test::Fail;
+use tick_units::{Local, Reduction};
+
+// What a reader answers over a log, byte by byte and at its end: starts and widths, and the bad line.
+fn read(alloc: Global, log: &[u8]) -> Result<(Vec<(u64, u32)>, Option<u64>), AllocError> {
+    let mut reader = LineReader::new();
+    let mut found = Vec::new(alloc);
+    for byte in log {
+        if let Ok(Some(r)) = reader.take(*byte) {
+            found.push((r.at.get(), r.width))?;
+        }
+    }
+    let bad = reader.finish().err().map(|bad| bad.line);
+    Ok((found, bad))
+}
+
+#[test]
+fn lawful_lines_are_read(rt: HostRuntime) -> Result<(), Fail> {
+    let table: [(&str, &[(u64, u32)]); 4] = [
+        ("", &[]),
+        ("0 1\n", &[(0, 1)]),
+        (
+            "62000000 100000\n63000000 200000\n",
+            &[(62_000_000, 100_000), (63_000_000, 200_000)],
+        ),
+        (
+            "1125899906842623 2000000\n",
+            &[(1_125_899_906_842_623, 2_000_000)],
+        ),
+    ];
+    for (log, want) in table {
+        let (found, bad) = read(rt.alloc(), log.as_bytes())?;
+        assert_eq!(rt; found.as_slice(), want);
+        assert_eq!(rt; bad, None);
+    }
+    Ok(())
+}
+
+#[test]
+fn the_first_line_that_is_not_lawful_is_told(rt: HostRuntime) -> Result<(), Fail> {
+    let table = [
+        ("\n", 0, 1),
+        (" 100\n", 0, 1),
+        ("100\n", 0, 1),
+        ("100 \n", 0, 1),
+        ("007 100\n", 0, 1),
+        ("00 100\n", 0, 1),
+        ("7 0100\n", 0, 1),
+        ("7 0\n", 0, 1),
+        ("7 2000001\n", 0, 1),
+        ("1125899906842624 1\n", 0, 1),
+        ("7  1\n", 0, 1),
+        ("7 1 \n", 0, 1),
+        ("7\t1\n", 0, 1),
+        ("7 1\r\n", 0, 1),
+        ("seven 1\n", 0, 1),
+        ("-7 1\n", 0, 1),
+        ("7 1x\n", 0, 1),
+        ("7 1\n6 1\n", 1, 2),
+        ("7 1\n7 1\n", 1, 2),
+        ("7 1\n\n8 1\n", 1, 2),
+        ("7 1\n8 1\n9 1", 2, 3),
+        ("1111111111111111111111111111111", 0, 1),
+        ("7 1\n11111111111111111111111111111111", 1, 2),
+    ];
+    for (log, lawful, line) in table {
+        let (found, bad) = read(rt.alloc(), log.as_bytes())?;
+        assert_eq!(rt; found.len(), lawful, "in {log}");
+        assert_eq!(rt; bad, Some(line), "in {log}");
+    }
+    Ok(())
+}
+
+#[test]
+fn a_line_is_bad_at_its_32nd_byte(rt: HostRuntime) -> Result<(), Fail> {
+    let mut reader = LineReader::new();
+    for _ in 0..31u8 {
+        assert_eq!(rt; reader.take(b'1'), Ok(None));
+    }
+    assert_eq!(rt; reader.take(b'1'), Err(BadLine { line: 1 }));
+    Ok(())
+}
+
+#[test]
+fn a_bad_line_is_told_on(rt: HostRuntime) -> Result<(), Fail> {
+    let mut reader = LineReader::new();
+    for byte in b"7 1\n8 x" {
+        let _ = reader.take(*byte);
+    }
+    assert_eq!(rt; reader.take(b'\n'), Err(BadLine { line: 2 }));
+    for byte in b"9 1\n10 1\n" {
+        assert_eq!(rt; reader.take(*byte), Err(BadLine { line: 2 }));
+    }
+    assert_eq!(rt; reader.finish(), Err(BadLine { line: 2 }));
+    Ok(())
+}
+
+#[test]
+fn lines_are_written(rt: HostRuntime) -> Result<(), Fail> {
+    let table = [
+        (0, 1, "0 1\n####################################"),
+        (
+            62_000_000,
+            100_000,
+            "62000000 100000\n########################",
+        ),
+        (
+            1_125_899_906_842_623,
+            2_000_000,
+            "1125899906842623 2000000\n###############",
+        ),
+    ];
+    for (at, width, want) in table {
+        let at = Local::new(at).ok_or("a start")?;
+        let mut out = [b'#'; 40];
+        let length = write_line(Reduction { at, width }, &mut out);
+        assert_eq!(rt; out.as_slice(), want.as_bytes());
+        assert_eq!(rt; Some(length), want.find('#'));
+    }
+    Ok(())
+}

@@ -1,0 +1,191 @@
+ghost use Rattle.std.specs.Prelude.{◌≡◌, ◌≤◌, IfOk};
+
+use crate::{Dropped, reply};
+use clock_page::Page;
+use std::test::Fail;
+use tick_units::{Local, Short, Span, Stamp};
+
+fn moment(microseconds: u64) -> Result<Local, Fail>
+    ensures { IfOk result (λ l. l ≡ microseconds) }
+{
+    match Local::new(microseconds) {
+        Some(moment) => Ok(moment),
+        None => Err("no moment")?,
+    }
+}
+
+// A request of version 4 with a poll of 64 s, sent at 0x1122334455667788 by the client's clock.
+const REQUEST: [u8; 48] = [
+    0x23, 0x00, 0x06, 0xec, 0x00, 0x00, 0x00, 0x00, 0x00, 0x00, 0x00, 0x00, 0x00, 0x00, 0x00, 0x00, // to the refid
+    0x00, 0x00, 0x00, 0x00, 0x00, 0x00, 0x00, 0x00, 0x00, 0x00, 0x00, 0x00, 0x00, 0x00, 0x00, 0x00, // to the origin
+    0x00, 0x00, 0x00, 0x00, 0x00, 0x00, 0x00, 0x00, 0x11, 0x22, 0x33, 0x44, 0x55, 0x66, 0x77, 0x88,
+];
+
+// What is answered, of which a drop leaves nothing.
+fn answered(
+    page: &Page,
+    datagram: &[u8],
+    arrived: u64,
+    sent: u64,
+) -> Result<Result<[u8; 48], Dropped>, Fail>
+    requires { arrived ≤ sent }
+{
+    let mut out = [0xaa; 48];
+    Ok(
+        match reply(page, datagram, moment(arrived)?, moment(sent)?, &mut out) {
+            Ok(()) => Ok(out),
+            Err(dropped) => Err(dropped),
+        },
+    )
+}
+
+// A server with one DCF77 radio, whose counter began 62 s before noon of 2026-01-01, after its fifth minute.
+fn of_a_radio() -> Result<Page, Fail> {
+    Ok(Page {
+        length: 5,
+        sync: true,
+        stratum: 1,
+        refid: 0x4443_4600,
+        offset: Span::from(17_077_896_086_183_477_248),
+        anchor: moment(302_000_000)?,
+        until: 902_000_000,
+        root_delay: Short(0),
+        root_disp: Short(61_542),
+        reftime: Stamp(0xed00_e130_0000_0000),
+        leap_at: 0,
+    })
+}
+
+#[test]
+fn an_answer_of_a_server_that_is_not_synchronised(rt: HostRuntime) -> Result<(), Fail> {
+    let page = Page::unsynchronised(4, moment(242_000_000)?);
+    let answer = [
+        0xe4, 0x00, 0x06, 0xec, 0x00, 0x00, 0x00, 0x00, 0x00, 0x10, 0x00, 0x00, 0x49, 0x4e, 0x49,
+        0x54, // `INIT`
+        0x00, 0x00, 0x00, 0x00, 0x00, 0x00, 0x00, 0x00, 0x11, 0x22, 0x33, 0x44, 0x55, 0x66, 0x77,
+        0x88, // the origin
+        0x00, 0x00, 0x00, 0xf3, 0x00, 0x00, 0x00, 0x00, 0x00, 0x00, 0x00, 0xf3, 0x00, 0x20, 0xc4,
+        0x9b,
+    ];
+    assert_eq!(rt;
+        answered(&page, &REQUEST, 243_000_000, 243_000_500)?,
+        Ok(answer)
+    );
+    Ok(())
+}
+
+#[test]
+fn an_answer_of_a_synchronised_server(rt: HostRuntime) -> Result<(), Fail> {
+    let page = of_a_radio()?;
+    let answer = [
+        0x24, 0x01, 0x06, 0xec, 0x00, 0x00, 0x00, 0x00, 0x00, 0x00, 0xf0, 0x67, 0x44, 0x43, 0x46,
+        0x00, // `DCF`
+        0xed, 0x00, 0xe1, 0x30, 0x00, 0x00, 0x00, 0x00, 0x11, 0x22, 0x33, 0x44, 0x55, 0x66, 0x77,
+        0x88, // the origin
+        0xed, 0x00, 0xe1, 0x31, 0x00, 0x00, 0x00, 0x00, 0xed, 0x00, 0xe1, 0x31, 0x00, 0x20, 0xc4,
+        0x9b,
+    ];
+    assert_eq!(rt;
+        answered(&page, &REQUEST, 303_000_000, 303_000_500)?,
+        Ok(answer)
+    );
+    Ok(())
+}
+
+// The first four bytes, and the reference ID.
+fn begins(answer: Result<[u8; 48], Dropped>, head: [u8; 4], refid: [u8; 4]) -> bool {
+    match answer {
+        Ok(bytes) => bytes.starts_with(&head) && bytes[12..].starts_with(&refid),
+        Err(_) => false,
+    }
+}
+
+#[test]
+fn a_page_ends_at_the_moment_of_sending(rt: HostRuntime) -> Result<(), Fail> {
+    let page = of_a_radio()?;
+    let last = answered(&page, &REQUEST, 901_999_999, 901_999_999)?;
+    let first_after = answered(&page, &REQUEST, 902_000_000, 902_000_000)?;
+    let sent_after = answered(&page, &REQUEST, 901_999_999, 902_000_000)?;
+    assert!(rt; begins(last, [0x24, 0x01, 0x06, 0xec], *b"DCF\0"));
+    assert!(rt; begins(first_after, [0xe4, 0x00, 0x06, 0xec], *b"INIT"));
+    assert!(rt; begins(sent_after, [0xe4, 0x00, 0x06, 0xec], *b"INIT"));
+    Ok(())
+}
+
+// The leap second at the end of 2016: the last second before it, and the page's end where it begins.
+#[test]
+fn a_leap_second_is_announced(rt: HostRuntime) -> Result<(), Fail> {
+    let page = Page {
+        length: 5,
+        sync: true,
+        stratum: 1,
+        refid: 0x4443_4600,
+        offset: Span::from_seconds(3_692_217_600 - 362),
+        anchor: moment(302_000_000)?,
+        until: 362_000_000,
+        root_delay: Short(0),
+        root_disp: Short(61_542),
+        reftime: Stamp((3_692_217_600 - 60) << 32),
+        leap_at: 3_692_217_600,
+    };
+    let last = answered(&page, &REQUEST, 361_999_999, 361_999_999)?;
+    let after = answered(&page, &REQUEST, 362_000_000, 362_000_000)?;
+    assert!(rt; begins(last, [0x64, 0x01, 0x06, 0xec], *b"DCF\0"));
+    assert!(rt; begins(after, [0xe4, 0x00, 0x06, 0xec], *b"INIT"));
+    Ok(())
+}
+
+#[test]
+fn what_is_no_request_is_dropped(rt: HostRuntime) -> Result<(), Fail> {
+    let page = of_a_radio()?;
+    assert_eq!(rt; answered(&page, &[], 0, 0)?, Err(Dropped::Short));
+    assert_eq!(rt; answered(&page, &REQUEST[..47], 0, 0)?, Err(Dropped::Short));
+    for (first, dropped) in [
+        (0x2b, Dropped::Version),
+        (0x03, Dropped::Version),
+        (0x29, Dropped::Version),
+        (0x21, Dropped::Mode),
+        (0x24, Dropped::Mode),
+    ] {
+        let mut datagram = REQUEST;
+        datagram[0] = first;
+        assert_eq!(rt; answered(&page, &datagram, 0, 0)?, Err(dropped), "{first}");
+    }
+    Ok(())
+}
+
+#[test]
+fn a_drop_writes_nothing(rt: HostRuntime) -> Result<(), Fail> {
+    let mut out = [0xaa; 48];
+    let dropped = reply(
+        &of_a_radio()?,
+        &[0x23; 47],
+        moment(0)?,
+        moment(0)?,
+        &mut out,
+    );
+    assert_eq!(rt; dropped, Err(Dropped::Short));
+    assert_eq!(rt; out, [0xaa; 48]);
+    Ok(())
+}
+
+// Versions 1 to 4 are answered with their own, and what follows the 48th byte is passed over.
+#[test]
+fn each_version_is_answered(rt: HostRuntime) -> Result<(), Fail> {
+    let page = of_a_radio()?;
+    for (first, head) in [(0x0b, 0x0c), (0x13, 0x14), (0x1b, 0x1c), (0xe3, 0x24)] {
+        let mut datagram = [0x55; 68];
+        datagram[..48].copy_from_slice(&REQUEST);
+        datagram[0] = first;
+        let answer = answered(&page, &datagram, 303_000_000, 303_000_500)?;
+        assert!(rt;
+            begins(answer, [head, 0x01, 0x06, 0xec], *b"DCF\0"),
+            "{first}"
+        );
+        assert_eq!(rt;
+            answer,
+            answered(&page, &datagram[..48], 303_000_000, 303_000_500)?
+        );
+    }
+    Ok(())
+}

@@ -1,0 +1,93 @@
+use crate::{Local, Short, Span, Stamp, isqrt, local_span, phi, stamp_of, to_short};
+use std::test::Fail;
+
+// A second has 2^32 units, so 500 microseconds have 0x20c49b and a part of one.
+#[test]
+fn microseconds_are_rounded_down(rt: HostRuntime) -> Result<(), Fail> {
+    for (us, units) in [
+        (0, 0),
+        (500, 0x0020_c49b),
+        (250_000, 1 << 30),
+        (1_000_000, 1 << 32),
+        (303_000_500, 303 * (1 << 32) + 0x0020_c49b),
+    ] {
+        let moment = Local::new(us).ok_or("no moment")?;
+        assert_eq!(rt; local_span(moment).get(), units, "at {us}");
+    }
+    assert!(rt; Local::new(1 << 50).is_none());
+    Ok(())
+}
+
+// 15 microseconds in a second, and 15 seconds in a million of them.
+#[test]
+fn drift_is_rounded_up(rt: HostRuntime) {
+    assert_eq!(rt; phi(0).get(), 0);
+    assert_eq!(rt; phi(1).get(), 1);
+    assert_eq!(rt; phi(1_000_000).get(), 64_425);
+    assert_eq!(rt; phi(1_000_000_000_000).get(), 15 << 32);
+}
+
+#[test]
+fn roots_are_rounded_down(rt: HostRuntime) {
+    for (v, root) in [
+        (0, 0),
+        (1, 1),
+        (3, 1),
+        (15, 3),
+        (16, 4),
+        (1 << 80, 1 << 40),
+        (u128::MAX, u64::MAX),
+    ] {
+        assert_eq!(rt; isqrt(v), root, "of {v}");
+    }
+}
+
+#[test]
+fn shorts_are_rounded_up_and_capped(rt: HostRuntime) {
+    assert_eq!(rt; to_short(Span::from(0)), Short(0));
+    assert_eq!(rt; to_short(Span::from(65_536)), Short(1));
+    assert_eq!(rt; to_short(Span::from(65_537)), Short(2));
+    assert_eq!(rt; to_short(Span::from_seconds(1)), Short(0x0001_0000));
+    assert_eq!(rt; to_short(Span::from_seconds(65_536)), Short(u32::MAX));
+}
+
+// The dates of RFC 5905, figure 4: seconds since 1900, and seconds of the era that they lie in.
+#[test]
+fn stamps_wrap_after_an_era(rt: HostRuntime) {
+    let last_day_of_1899 = -Span::from_seconds(86_400);
+    let first_day_of_unix = Span::from_seconds(2_208_988_800);
+    let in_february_2036 = Span::from_seconds((1 << 32) + 63_104);
+    assert_eq!(rt; stamp_of(last_day_of_1899), Stamp(4_294_880_896 << 32));
+    assert_eq!(rt; stamp_of(first_day_of_unix), Stamp(2_208_988_800 << 32));
+    assert_eq!(rt; stamp_of(in_february_2036), Stamp(63_104 << 32));
+}
+
+#[test]
+fn spans_are_below_their_bound(rt: HostRuntime) -> Result<(), Fail> {
+    let greatest = (1 << 70) - 1;
+    assert_eq!(rt; Span::new(greatest).ok_or("none")?.get(), greatest);
+    assert_eq!(rt;
+        Span::new(-greatest).ok_or("none")?.unsigned_abs(),
+        greatest as u128
+    );
+    assert!(rt; Span::new(1 << 70).is_none());
+    assert!(rt; Span::new(-(1 << 70)).is_none());
+    Ok(())
+}
+
+#[test]
+fn spans_are_reckoned_with(rt: HostRuntime) {
+    let five = Span::from(5);
+    let seven = Span::from(7);
+    assert_eq!(rt; (five + seven).get(), 12);
+    assert_eq!(rt; (five - seven).get(), -2);
+    assert_eq!(rt; five.abs_diff(-seven), 12);
+    assert_eq!(rt; five.min(-seven), -seven);
+    assert_eq!(rt; five.max(-seven), five);
+    assert!(rt; -seven < five);
+    assert_eq!(rt; five.halved_down(1).get(), 2);
+    assert_eq!(rt; five.halved_up(1).get(), 3);
+    assert_eq!(rt; (-five).halved_down(1).get(), -3);
+    assert_eq!(rt; (-five).halved_up(1).get(), -2);
+    assert_eq!(rt; Span::from(Short(3)).get(), 3 * 65_536);
+}
