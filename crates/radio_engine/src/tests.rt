@@ -1,6 +1,7 @@
 use super::*;
 use feed_link::{MemoryOutside, MemorySink, MemorySource, NamedLog};
 use std::alloc::{AllocError, Global};
+use std::process::Abort;
 use std::test::Fail;
 
 const WORDS: [&str; 5] = ["decode", "--plan", "dcf", "--log", "log"];
@@ -45,7 +46,7 @@ struct Frame<'a> {
     marks: usize,
 }
 
-fn frame(ones: &[usize], start: u64) -> Frame<'_> {
+fn frame_at(ones: &[usize], start: u64) -> Frame<'_> {
     Frame {
         ones,
         start,
@@ -104,7 +105,7 @@ fn width_at(at: u64, width: u64, changes: &[Change]) -> u64 {
 fn two_frames(alloc: Global) -> Result<String, AllocError> {
     log_of(
         alloc,
-        &[frame(&NOON, 2_000_000), frame(&NOON_1, 62_000_000)],
+        &[frame_at(&NOON, 2_000_000), frame_at(&NOON_1, 62_000_000)],
         &[],
         122_000_000,
     )
@@ -145,14 +146,15 @@ fn run(
 
 // What a log of these frames writes is this text.
 fn decodes(
-    rt: &HostRuntime,
+    rt: &impl Abort,
+    alloc: Global,
     frames: &[Frame<'_>],
     changes: &[Change],
     close: u64,
     want: &str,
 ) -> Result<(), Fail> {
-    let text = log_of(rt.alloc(), frames, changes, close)?;
-    let (written, status) = run(rt.alloc(), &WORDS, text.as_str(), NONE)?;
+    let text = log_of(alloc, frames, changes, close)?;
+    let (written, status) = run(alloc, &WORDS, text.as_str(), NONE)?;
     assert_eq!(rt; written.as_slice(), want.as_bytes());
     assert_eq!(rt; status, Status::Done);
     Ok(())
@@ -160,13 +162,13 @@ fn decodes(
 
 #[test]
 fn two_frames_in_a_row_are_a_verdict(rt: HostRuntime) -> Result<(), Fail> {
-    let frames = [frame(&NOON, 2_000_000), frame(&NOON_1, 62_000_000)];
-    decodes(&rt, &frames, &[], 122_000_000, TWO_FRAMES)
+    let frames = [frame_at(&NOON, 2_000_000), frame_at(&NOON_1, 62_000_000)];
+    decodes(&rt, rt.alloc(), &frames, &[], 122_000_000, TWO_FRAMES)
 }
 
 #[test]
 fn the_least_broken_rule_is_named(rt: HostRuntime) -> Result<(), Fail> {
-    let frames = [frame(&NOON, 2_000_000)];
+    let frames = [frame_at(&NOON, 2_000_000)];
     let weekday = Change {
         at: 46_000_000,
         width: 100_000,
@@ -177,6 +179,7 @@ fn the_least_broken_rule_is_named(rt: HostRuntime) -> Result<(), Fail> {
     };
     decodes(
         &rt,
+        rt.alloc(),
         &frames,
         &[weekday],
         62_000_000,
@@ -184,6 +187,7 @@ fn the_least_broken_rule_is_named(rt: HostRuntime) -> Result<(), Fail> {
     )?;
     decodes(
         &rt,
+        rt.alloc(),
         &frames,
         &[weekday, parity],
         62_000_000,
@@ -194,32 +198,36 @@ fn the_least_broken_rule_is_named(rt: HostRuntime) -> Result<(), Fail> {
 #[test]
 fn the_change_to_summer_time_is_a_minute(rt: HostRuntime) -> Result<(), Fail> {
     let frames = [
-        frame(&WINTER, 2_000_000),
-        frame(&SUMMER, 62_000_000),
-        frame(&SUMMER_1, 122_000_000),
+        frame_at(&WINTER, 2_000_000),
+        frame_at(&SUMMER, 62_000_000),
+        frame_at(&SUMMER_1, 122_000_000),
     ];
     let want =
         "0 62000000 lone 3983734740\n0 122000000 verdict 3983734800 0\n0 182000000 verdict 3983734860 0\nstatus 0\n";
-    decodes(&rt, &frames, &[], 182_000_000, want)
+    decodes(&rt, rt.alloc(), &frames, &[], 182_000_000, want)
 }
 
 #[test]
 fn a_minute_may_end_with_a_leap_second(rt: HostRuntime) -> Result<(), Fail> {
     let leap = Frame {
         marks: 60,
-        ..frame(&LEAP, 62_000_000)
+        ..frame_at(&LEAP, 62_000_000)
     };
     let want = "0 62000000 lone 3692217540\n0 123000000 verdict 3692217600 3692217600\nstatus 0\n";
     decodes(
         &rt,
-        &[frame(&BEFORE_LEAP, 2_000_000), leap],
+        rt.alloc(),
+        &[frame_at(&BEFORE_LEAP, 2_000_000), leap],
         &[],
         123_000_000,
         want,
     )?;
-    let without = [frame(&BEFORE_LEAP, 2_000_000), frame(&LEAP, 62_000_000)];
+    let without = [
+        frame_at(&BEFORE_LEAP, 2_000_000),
+        frame_at(&LEAP, 62_000_000),
+    ];
     let want = "0 62000000 lone 3692217540\n0 122000000 refused 24\nstatus 0\n";
-    decodes(&rt, &without, &[], 122_000_000, want)
+    decodes(&rt, rt.alloc(), &without, &[], 122_000_000, want)
 }
 
 #[test]
@@ -234,7 +242,14 @@ fn the_width_of_the_start_bit_decides(rt: HostRuntime) -> Result<(), Fail> {
             at: 2_000_000,
             width,
         };
-        decodes(&rt, &[frame(&NOON, 2_000_000)], &[change], 62_000_000, want)?;
+        decodes(
+            &rt,
+            rt.alloc(),
+            &[frame_at(&NOON, 2_000_000)],
+            &[change],
+            62_000_000,
+            want,
+        )?;
     }
     Ok(())
 }
@@ -242,10 +257,10 @@ fn the_width_of_the_start_bit_decides(rt: HostRuntime) -> Result<(), Fail> {
 #[test]
 fn a_lost_mark_costs_its_minute(rt: HostRuntime) -> Result<(), Fail> {
     let frames = [
-        frame(&NOON, 2_000_000),
-        frame(&NOON_1, 62_000_000),
-        frame(&NOON_2, 122_000_000),
-        frame(&NOON_3, 182_000_000),
+        frame_at(&NOON, 2_000_000),
+        frame_at(&NOON_1, 62_000_000),
+        frame_at(&NOON_2, 122_000_000),
+        frame_at(&NOON_3, 182_000_000),
     ];
     let lost = Change {
         at: 92_000_000,
@@ -253,15 +268,15 @@ fn a_lost_mark_costs_its_minute(rt: HostRuntime) -> Result<(), Fail> {
     };
     let want =
         "0 62000000 lone 3976257600\n0 93000000 refused 3\n0 122000000 refused 3\n0 182000000 lone 3976257720\n0 242000000 verdict 3976257780 0\nstatus 0\n";
-    decodes(&rt, &frames, &[lost], 242_000_000, want)
+    decodes(&rt, rt.alloc(), &frames, &[lost], 242_000_000, want)
 }
 
 #[test]
 fn two_valid_frames_may_differ(rt: HostRuntime) -> Result<(), Fail> {
-    let frames = [frame(&NOON, 2_000_000), frame(&NOON_2, 62_000_000)];
+    let frames = [frame_at(&NOON, 2_000_000), frame_at(&NOON_2, 62_000_000)];
     let want =
         "0 62000000 lone 3976257600\n0 122000000 differs 3976257600 3976257720 60000000\nstatus 0\n";
-    decodes(&rt, &frames, &[], 122_000_000, want)
+    decodes(&rt, rt.alloc(), &frames, &[], 122_000_000, want)
 }
 
 // The second frame lasts 116 ms too long by the host's counter.
@@ -269,13 +284,14 @@ fn two_valid_frames_may_differ(rt: HostRuntime) -> Result<(), Fail> {
 fn closings_that_are_no_minute_apart_differ(rt: HostRuntime) -> Result<(), Fail> {
     let slow = Frame {
         spacing: 1_002_000,
-        ..frame(&NOON_1, 62_000_000)
+        ..frame_at(&NOON_1, 62_000_000)
     };
     let want =
         "0 62000000 lone 3976257600\n0 122116000 differs 3976257600 3976257660 60116000\nstatus 0\n";
     decodes(
         &rt,
-        &[frame(&NOON, 2_000_000), slow],
+        rt.alloc(),
+        &[frame_at(&NOON, 2_000_000), slow],
         &[],
         122_116_000,
         want,
