@@ -12,8 +12,8 @@ fn assert_spells(rt: &impl Abort, bytes: [u8; 48], header: Header) {
     }
 }
 
-// What `ntpdate` asks: not synchronised, version 4, a poll of 16 s, a precision of 1/64 s, a second of root delay and one
-// of root dispersion.
+// A request as `ntpdate` lays it out: not synchronised, version 4, a poll of 16 s, a precision of 1/64 s, a root delay and a
+// root dispersion of a second.
 #[test]
 fn a_request_of_ntpdate(rt: HostRuntime) {
     let bytes = [
@@ -42,31 +42,26 @@ fn a_request_of_ntpdate(rt: HostRuntime) {
     assert_spells(&rt, bytes, header);
 }
 
-// What `chrony` asks, which tells nothing of the client: its precision stands as 32, its transmit timestamp is by chance.
+// A request that `systemd-timesyncd` 252 sent: the version and the mode, and a transmit timestamp by chance.
 #[test]
-fn a_request_of_chrony(rt: HostRuntime) {
-    let bytes = [
-        0x23, 0x00, 0x06, 0x20, 0x00, 0x00, 0x00, 0x00, 0x00, 0x00, 0x00, 0x00, 0x00, 0x00, 0x00,
-        0x00, // to the refid
-        0x00, 0x00, 0x00, 0x00, 0x00, 0x00, 0x00, 0x00, 0x00, 0x00, 0x00, 0x00, 0x00, 0x00, 0x00,
-        0x00, // to the origin
-        0x00, 0x00, 0x00, 0x00, 0x00, 0x00, 0x00, 0x00, 0x5c, 0x9a, 0x01, 0xe7, 0x4b, 0x33, 0xd0,
-        0x12,
-    ];
+fn a_request_of_timesyncd(rt: HostRuntime) {
+    let mut bytes = [0; 48];
+    bytes[0] = 0x23;
+    bytes[40..].copy_from_slice(&[0x66, 0xf8, 0x57, 0x26, 0xa4, 0x4f, 0x4b, 0x0e]);
     let header = Header {
         leap: 0,
         version: 4,
         mode: 3,
         stratum: 0,
-        poll: 6,
-        precision: 32,
+        poll: 0,
+        precision: 0,
         root_delay: Short(0),
         root_disp: Short(0),
         refid: 0,
         reference: Stamp(0),
         origin: Stamp(0),
         receive: Stamp(0),
-        transmit: Stamp(0x5c9a_01e7_4b33_d012),
+        transmit: Stamp(0x66f8_5726_a44f_4b0e),
     };
     assert_spells(&rt, bytes, header);
 }

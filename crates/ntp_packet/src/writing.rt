@@ -1,4 +1,4 @@
-ghost use Rattle.std.specs.Prelude.{◌≡◌, ◌≤◌, ◌<◌, ◌+◌, ◌^◌, ◌++◌, take, length};
+ghost use Rattle.std.specs.Prelude.{◌≡◌, ◌≤◌, ◌<◌, ◌+◌, ◌^◌, ◌++◌, take};
 ghost use Rattle.byteorder.specs.Endian.{big_bytes};
 ghost use Rattle.ntp_packet.specs.Layout.{fields, layout};
 
@@ -24,22 +24,22 @@ fn put_u64(out: &mut [u8; 48], front: usize, n: u64)
 }
 
 /// Writes the 48 bytes of a header.
-pub fn write(h: &Header, out: &mut [u8; 48])
-    requires leap { h.now.leap < 4 }
-    requires version { h.now.version < 8 }
-    requires mode { h.now.mode < 8 }
-    ensures bytes { out.new ≡ layout h.now }
-    ensures reads_back { fields out.new ≡ h.now }
+pub fn write(header: &Header, out: &mut [u8; 48])
+    requires leap { header.now.leap < 4 }
+    requires version { header.now.version < 8 }
+    requires mode { header.now.mode < 8 }
+    ensures bytes { out.new ≡ layout header.now }
+    ensures reads_back { fields out.new ≡ header.now }
 {
-    out[0] = h.leap << 6 | h.version << 3 | h.mode;
-    out[1] = h.stratum;
-    out[2] = h.poll.cast_unsigned();
-    out[3] = h.precision.cast_unsigned();
-    put_u32(out, 4, h.root_delay.0);
-    put_u32(out, 8, h.root_disp.0);
-    put_u32(out, 12, h.refid);
-    put_u64(out, 16, h.reference.0);
-    put_u64(out, 24, h.origin.0);
-    put_u64(out, 32, h.receive.0);
-    put_u64(out, 40, h.transmit.0);
+    out[0] = header.leap << 6 | header.version << 3 | header.mode;
+    out[1] = header.stratum;
+    out[2] = header.poll.cast_unsigned();
+    out[3] = header.precision.cast_unsigned();
+    put_u32(out, 4, header.root_delay.0);
+    put_u32(out, 8, header.root_disp.0);
+    put_u32(out, 12, header.refid);
+    put_u64(out, 16, header.reference.0);
+    put_u64(out, 24, header.origin.0);
+    put_u64(out, 32, header.receive.0);
+    put_u64(out, 40, header.transmit.0);
 }

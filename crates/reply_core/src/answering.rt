@@ -1,5 +1,4 @@
-ghost use Rattle.std.specs.Prelude.{◌≡◌, ◌<◌, ◌≤◌, Ok, Err, IfOk, IfErr, OnOk, OnErr, length};
-ghost use Rattle.ntp_packet.specs.Layout.{Fits};
+ghost use Rattle.std.specs.Prelude.{◌≡◌, ◌<◌, ◌≤◌, IfErr, OnOk, OnErr, length};
 ghost use Rattle.reply_core.specs.Reply.{answer, header_of, request_of, root_disp_at};
 
 use crate::Dropped;
@@ -7,9 +6,10 @@ use clock_page::{INIT, Page, UNKNOWN_DISPERSION};
 use ntp_packet::{Header, read, write};
 use tick_units::{Local, Short, Span, Stamp, phi, to_short};
 
-// The latest version of the protocol, and the modes of a client and a server (RFC 5905, section 7.3).
+// The latest version of the protocol (RFC 5905, section 7.3).
 const VERSION: u8 = 4;
 
+// The mode of a client, and that of a server.
 const CLIENT: u8 = 3;
 
 const SERVER: u8 = 4;
@@ -34,20 +34,20 @@ fn request_in(datagram: &[u8]) -> Result<Header, Dropped>
 }
 
 // The root dispersion of a page at the moment of sending.
-fn root_disp(p: &Page, sent: Local) -> Short
-    ensures { result.0 ≡ root_disp_at p.now sent }
+fn root_disp(page: &Page, sent: Local) -> Short
+    ensures { result.0 ≡ root_disp_at page.now sent }
 {
-    let waited = sent.get().saturating_sub(p.anchor.get());
-    to_short(Span::from(p.root_disp) + phi(waited))
+    let waited = sent.get().saturating_sub(page.anchor.get());
+    to_short(Span::from(page.root_disp) + phi(waited))
 }
 
 // The header of the answer to a request.
-fn header(p: &Page, request: &Header, arrived: Local, sent: Local) -> Header
-    ensures header { result ≡ header_of p.now request.now arrived sent }
+fn header(page: &Page, request: &Header, arrived: Local, sent: Local) -> Header
+    ensures header { result ≡ header_of page.now request.now arrived sent }
     ensures leap { result.leap < 4 }
 {
     let mut header = Header {
-        leap: p.leap_at_time(sent),
+        leap: page.leap_at_time(sent),
         version: request.version,
         mode: SERVER,
         stratum: 0,
@@ -58,15 +58,15 @@ fn header(p: &Page, request: &Header, arrived: Local, sent: Local) -> Header
         refid: INIT,
         reference: Stamp(0),
         origin: request.transmit,
-        receive: p.time_at(arrived),
-        transmit: p.time_at(sent),
+        receive: page.time_at(arrived),
+        transmit: page.time_at(sent),
     };
-    if p.synced_at(sent) {
-        header.stratum = p.stratum;
-        header.root_delay = p.root_delay;
-        header.root_disp = root_disp(p, sent);
-        header.refid = p.refid;
-        header.reference = p.reftime;
+    if page.synced_at(sent) {
+        header.stratum = page.stratum;
+        header.root_delay = page.root_delay;
+        header.root_disp = root_disp(page, sent);
+        header.refid = page.refid;
+        header.reference = page.reftime;
     }
     header
 }
@@ -80,19 +80,19 @@ fn header(p: &Page, request: &Header, arrived: Local, sent: Local) -> Header
 /// # Errors
 /// A datagram that is no request of a client is dropped, and `out` stays as it was.
 pub fn reply(
-    p: &Page,
+    page: &Page,
     datagram: &[u8],
     arrived: Local,
     sent: Local,
     out: &mut [u8; 48],
 ) -> Result<(), Dropped>
     requires { arrived ≤ sent }
-    ensures answered { OnOk result (answer p.now datagram.now arrived sent ≡ Ok out.new) }
-    ensures dropped { IfErr result (λ why. answer p.now datagram.now arrived sent ≡ Err why) }
+    ensures answered { OnOk result (answer page.now datagram.now arrived sent ≡ Ok out.new) }
+    ensures dropped { IfErr result (λ why. answer page.now datagram.now arrived sent ≡ Err why) }
     ensures unchanged { OnErr result (out.new ≡ out.old) }
     ensures no_longer { OnOk result (48 ≤ length datagram.now) }
 {
     let request = request_in(datagram)?;
-    write(&header(p, &request, arrived, sent), out);
+    write(&header(page, &request, arrived, sent), out);
     Ok(())
 }

@@ -1,15 +1,15 @@
-ghost use Rattle.std.specs.Prelude.{◌≡◌, ◌<◌, ◌≤◌, ◌+◌, ◌*◌, ◌^◌, pos, ◌≤ℤ◌, ℤ};
+ghost use Rattle.std.specs.Prelude.{◌≡◌, ◌<◌, ◌^◌, pos, ◌≤ℤ◌};
 ghost use Rattle.tick_units.specs.Units as units;
 ghost use Rattle.tick_units.specs.Units.{IsRoot};
 
 use crate::{Local, Short, Span, Stamp};
 
 /// The span of a moment of the host's counter, rounded down.
-pub fn local_span(u: Local) -> Span
-    ensures { result ≡ pos (units.local_span u) }
+pub fn local_span(moment: Local) -> Span
+    ensures { result ≡ pos (units.local_span moment) }
 {
-    let seconds = u.get() / 1_000_000;
-    let rest = u.get() % 1_000_000;
+    let seconds = moment.get() / 1_000_000;
+    let rest = moment.get() % 1_000_000;
     Span::from((seconds << 32) + (rest << 32) / 1_000_000)
 }
 
@@ -19,35 +19,36 @@ const DRIFT_UNITS: u64 = 3 << 20;
 const DRIFT_MICROSECONDS: u64 = 48_828_125;
 
 /// How far the host's counter may drift in so many microseconds, 15 parts per million of them, rounded up.
-pub fn phi(us: u64) -> Span
-    requires { us < 2 ^ 52 }
-    ensures { result ≡ pos (units.phi us) }
+pub fn phi(microseconds: u64) -> Span
+    requires { microseconds < 2 ^ 52 }
+    ensures { result ≡ pos (units.phi microseconds) }
 {
-    let whole = us / DRIFT_MICROSECONDS * DRIFT_UNITS;
-    let rest = (us % DRIFT_MICROSECONDS * DRIFT_UNITS).div_ceil(DRIFT_MICROSECONDS);
+    let whole = microseconds / DRIFT_MICROSECONDS * DRIFT_UNITS;
+    let rest = (microseconds % DRIFT_MICROSECONDS * DRIFT_UNITS).div_ceil(DRIFT_MICROSECONDS);
     Span::from(whole + rest)
 }
 
 /// The square root, rounded down.
 #[tactic(auto, using(crate::proofs::RootLaws::root_from))]
-pub fn isqrt(v: u128) -> u64
-    ensures value { result ≡ units.root v }
-    ensures root { IsRoot v result }
+pub fn isqrt(value: u128) -> u64
+    ensures value { result ≡ units.root value }
+    ensures root { IsRoot value result }
 {
-    v.isqrt() as u64
+    value.isqrt() as u64
 }
 
 /// The least short that isn't below a span, or the greatest short where there is none.
-pub fn to_short(s: Span) -> Short
-    requires { pos 0 ≤ℤ s }
-    ensures { result.0 ≡ units.to_short s }
+pub fn to_short(span: Span) -> Short
+    requires { pos 0 ≤ℤ span }
+    ensures { result.0 ≡ units.to_short span }
 {
-    Short(s.unsigned_abs().div_ceil(1 << 16).min(u128::from(u32::MAX)) as u32)
+    let least = span.unsigned_abs().div_ceil(1 << 16);
+    Short(least.min(u128::from(u32::MAX)) as u32)
 }
 
 /// A span since 1900 as it stands on the wire, modulo 2^64.
-pub fn stamp_of(s: Span) -> Stamp
-    ensures { result.0 ≡ units.stamp_of s }
+pub fn stamp_of(span: Span) -> Stamp
+    ensures { result.0 ≡ units.stamp_of span }
 {
-    Stamp(s.get().rem_euclid(1 << 64) as u64)
+    Stamp(span.get().rem_euclid(1 << 64) as u64)
 }

@@ -12,10 +12,10 @@ use Rattle.ntp_packet.proofs.writing.write.Goals as goal
 more : {front now : List ℕ} (piece known : List ℕ) → now ≡ front ++ piece → front ≡ known → now ≡ known ++ piece
 more piece known is stands = is ∙ ap (λ (xs : List ℕ). xs ++ piece) stands
 
-spelled : (c : goal.After-put_u64-4) → c.put_u64-4.new.out ≡ layout c.args.h.now
+spelled : (c : goal.After-put_u64-4) → c.put_u64-4.new.out ≡ layout c.args.header.now
 unfolding layout
 spelled c =
-    let h = c.args.h.now in
+    let h = c.args.header.now in
     let byte = packed h.leap h.version h.mode c.requires.leap c.requires.version c.requires.mode in
     let poll = c.cast_unsigned.ensures ∙ ap (cast_unsigned w8) (to_z-of_z w8 h.poll (search rules)) in
     let precision = c.cast_unsigned-2.ensures ∙ ap (cast_unsigned w8) (to_z-of_z w8 h.precision (search rules)) in
@@ -35,7 +35,7 @@ returns-clause-bytes c = spelled c
 
 pub returns-clause-reads_back : goal.returns-clause-reads_back
 returns-clause-reads_back c =
-    ap fields (spelled c) ∙ fields-layout c.args.h.now (record {
+    ap fields (spelled c) ∙ fields-layout c.args.header.now (record {
       first = record { leap = c.requires.leap; version = c.requires.version; mode = c.requires.mode };
       poll = search rules;
       precision = search rules;
