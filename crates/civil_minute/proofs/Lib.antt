@@ -1,4 +1,5 @@
+pub mod Bounds
+pub mod Casts
+pub mod CivilLemmas
 pub mod DayLemmas
 pub mod MonthLemmas
-pub mod CivilLemmas
-pub mod Casts

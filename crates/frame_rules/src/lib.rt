@@ -4,9 +4,11 @@
 
 mod bits;
 mod rules;
+mod spelling;
 
 pub use bits::{Bit, is_odd_over, is_set, value};
 pub use rules::{Rule, are_spaced, first_broken, has_odd_symbol, is_out_of};
+pub use spelling::Spelling;
 
 #[cfg(test)]
 mod tests;

@@ -1,5 +1,5 @@
 -- The rules over a piece of which the first 61 marks and two flags are kept.
-use Rattle.std.proofs.Common.{◌≡◌, ℕ, suc, zero, ◌+◌, ◌<◌, ◌≤◌, ◌⊎◌, Bool, true, false, cond, not, ◌&&◌, ◌||◌, eqb, ltb, Option, Some, None, Ok, Err, Result, List, [], ◌∷◌, ◌++◌, length, take, drop, refl, ap, sym, ◌∙◌, subst, inl, inr, arith}
+use Rattle.std.proofs.Common.{◌≡◌, ℕ, suc, zero, ◌+◌, ◌<◌, ◌≤◌, Bool, true, false, cond, not, ◌&&◌, ◌||◌, eqb, ltb, Option, Some, None, Ok, Err, Result, List, [], ◌∷◌, ◌++◌, length, take, refl, ap, sym, ◌∙◌, inl, inr, arith}
 use Rattle.std.specs.Prelude.{IfOk, IfErr}
 use Rattle.std.proofs.lemmas.Bool.{ltb-true, ltb-false, cases_Bool, cases_lt, ne_eqb, and_parts}
 use Rattle.std.proofs.lemmas.Bool.Decides.{nat_tests}
@@ -8,7 +8,6 @@ use Rattle.tick_units.specs.Marks.{is_between}
 use Rattle.tick_units.specs.declared.marks.Mark.{Mark}
 use Rattle.tick_units.specs.declared.verdicts.Broken.{Broken}
 use Rattle.tick_units.specs.declared.verdicts.Coded.{Coded}
-use Rattle.tick_units.specs.Fields.{symbols_of}
 use Rattle.tick_units.specs.Rules.{starts_of, are_spaced, is_odd}
 use Rattle.plan_dcf.proofs.FirstLaws.{first_spacing, first_width, first_length}
 use Rattle.plan_dcf.specs.Fields.{coded}

@@ -1,8 +1,8 @@
 -- What the keeper stands for, with one more mark.
-use Rattle.std.proofs.Common.{◌≡◌, ℕ, ◌+◌, ◌<◌, Bool, true, false, cond, ltb, eqb, Option, Some, None, List, [], ◌∷◌, ◌++◌, length, refl, ap, sym, ◌∙◌, subst, inl, inr, arith}
-use Rattle.std.proofs.lemmas.Bool.{cases_Bool, lt-ltb, ltb-false}
+use Rattle.std.proofs.Common.{◌≡◌, true, false, ltb, Option, Some, None, List, [], ◌∷◌, ◌++◌, length, refl, ap, sym, ◌∙◌, subst, arith}
+use Rattle.std.proofs.lemmas.Bool.{lt-ltb, ltb-false}
 use Rattle.std.proofs.lemmas.List.{length-append}
-use Rattle.tick_units.specs.Segments.{Segment, dcf_boundary, cut, dcf_segments}
+use Rattle.tick_units.specs.Segments.{dcf_boundary, cut, dcf_segments}
 use Rattle.tick_units.specs.declared.marks.Mark.{Mark}
 use Rattle.minute_pair.specs.declared.keeper.SegmentKeeper.{SegmentKeeper}
 use Rattle.minute_pair.specs.Keeping.{last_of, Keeps, KeepsLast, Heard, HeardBy, added, begun}

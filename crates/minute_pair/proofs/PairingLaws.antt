@@ -1,7 +1,6 @@
 -- The answers to segments, with one more segment, and by what a pairing keeps.
-use Rattle.std.proofs.Common.{◌≡◌, ℕ, ◌+◌, ◌-◌, Bool, ◌&&◌, ◌||◌, eqb, leb, cond, Option, Some, None, Ok, Err, Result, List, [], ◌∷◌, ◌++◌, length, refl, ap, sym, ◌∙◌, subst, arith}
+use Rattle.std.proofs.Common.{◌≡◌, ℕ, ◌+◌, ◌-◌, Bool, ◌&&◌, ◌||◌, eqb, leb, cond, Option, Some, None, Ok, Err, Result, List, [], ◌∷◌, ◌++◌, length, refl, ap, sym, ◌∙◌, arith}
 use Rattle.std.specs.List.{last_or}
-use Rattle.std.specs.Option.{option_to_list}
 use Rattle.std.proofs.lemmas.Bool.Decides.{nat_tests}
 use Rattle.std.proofs.lemmas.List.{append-nil}
 use Rattle.tick_units.specs.Segments.{Segment}
@@ -10,7 +9,7 @@ use Rattle.tick_units.specs.declared.verdicts.Coded.{Coded}
 use Rattle.tick_units.specs.declared.verdicts.Heard.{Heard}
 use Rattle.tick_units.specs.declared.verdicts.Kind.{Kind}
 use Rattle.tick_units.specs.declared.verdicts.Kind.TheVariants.{Verdict, Differs}
-use Rattle.minute_pair.specs.Answers.{judged, is_apart, apart_of, are_timely, agreed_leap, kind_of_both, kind_of_valid, kind_behind, kind_alone, kind_after, answer_after, answers_after, answers}
+use Rattle.minute_pair.specs.Answers.{judged, is_apart, apart_of, agreed_leap, kind_of_both, kind_of_valid, kind_behind, kind_alone, kind_after, answer_after, answers_after, answers}
 use Rattle.minute_pair.specs.Pairing.{before_by_judged, before_of, before_of_closed, both_by, valid_by, judged_kind, answer_by}
 use Rattle.minute_pair.specs.declared.answers.Before.TheVariants.{Nothing}
 use Rattle.minute_pair.specs.declared.keeper.Closed.{Closed}

@@ -1,7 +1,7 @@
 -- The pieces and segments of marks, with one more mark.
-use Rattle.std.proofs.Common.{◌≡◌, ℕ, ◌+◌, Bool, true, false, cond, Option, Some, None, List, [], ◌∷◌, ◌++◌, drop, refl, ap, sym, ◌∙◌, append_assoc}
+use Rattle.std.proofs.Common.{◌≡◌, ℕ, true, false, cond, Some, List, [], ◌∷◌, ◌++◌, drop, refl, ap, ◌∙◌, append_assoc}
 use Rattle.std.specs.List.{onto_first}
-use Rattle.tick_units.specs.Segments.{Segment, dcf_boundary, cut, closed, start_of, dcf_segments}
+use Rattle.tick_units.specs.Segments.{dcf_boundary, cut, closed, start_of, dcf_segments}
 use Rattle.tick_units.specs.declared.marks.Mark.{Mark}
 use Rattle.minute_pair.specs.Keeping.{last_of}
 

@@ -1,5 +1,5 @@
 -- What the keeper of segments stands for: the marks that it has heard.
-use Rattle.std.specs.Prelude.{◌≡◌, ℕ, ◌+◌, ◌<◌, ◌==◌, nat_lt, ◌||◌, not, Bool, false, Option, None, Some, List, [], ◌∷◌, ◌++◌, length, take, if◌then◌else◌}
+use Rattle.std.specs.Prelude.{◌≡◌, ◌+◌, ◌==◌, nat_lt, ◌||◌, not, Bool, false, Option, None, Some, List, [], ◌∷◌, ◌++◌, length, take, if◌then◌else◌}
 use Rattle.tick_units.specs.Marks.{is_between}
 use Rattle.tick_units.specs.Segments.{Segment, cut, dcf_segments}
 use Rattle.tick_units.specs.declared.marks.Mark.{Mark}

@@ -1,5 +1,5 @@
 -- What a pairing stands for: the marks that it has heard.
-use Rattle.std.specs.Prelude.{◌≡◌, ℕ, ◌+◌, ◌-◌, ◌&&◌, ◌||◌, ◌==◌, nat_le, Option, None, Some, Result, Ok, Err, List, length, if◌then◌else◌}
+use Rattle.std.specs.Prelude.{◌≡◌, ℕ, ◌-◌, ◌&&◌, ◌||◌, ◌==◌, nat_le, Option, None, Some, Result, Ok, Err, List, if◌then◌else◌}
 use Rattle.std.specs.List.{last_or}
 use Rattle.tick_units.specs.Segments.{Segment, dcf_segments}
 use Rattle.tick_units.specs.declared.marks.Mark.{Mark}

@@ -1,5 +1,5 @@
 -- What the tests on a segment's numbers mean, and what it says that its minute was found or wasn't.
-use Rattle.std.proofs.Common.{◌≡◌, ℕ, ◌/◌, ◌<◌, ◌≤◌, Bool, true, false, not, ◌&&◌, ◌||◌, ◌==◌, Some, None, List, length, refl, arith}
+use Rattle.std.proofs.Common.{◌≡◌, ℕ, ◌<◌, ◌≤◌, Bool, true, false, not, ◌&&◌, ◌||◌, ◌==◌, Some, None, List, length, refl, arith}
 use Rattle.std.proofs.lemmas.Bool.Decides.{nat_tests}
 use Rattle.std.specs.Prelude.{if◌then◌else◌}
 use Rattle.tick_units.specs.Rules.{is_out_of}
@@ -7,7 +7,6 @@ use Rattle.tick_units.specs.declared.marks.Mark.{Mark}
 use Rattle.std.specs.Bool.{beq}
 use Rattle.tick_units.specs.Fields.{is_one, is_set}
 use Rattle.civil_minute.specs.Months.{begins_month}
-use Rattle.civil_minute.specs.Dates.{day_number, second_of}
 use Rattle.plan_dcf.specs.Fields.{announces_leap, hour_ones, hour_of, minute_ones, minute_of, minute_start}
 use Rattle.plan_dcf.specs.Rules.{breaks_minute_range, breaks_hour_range, breaks_day_range, breaks_weekday_range, breaks_month_range, breaks_year_range, breaks_leap_minute, is_in_range, has_date, names_minute}
 
@@ -18,10 +17,6 @@ found_is false wanted found e = absurd (cc)
 pub none_is : (test : Bool) (wanted : ℕ) → None ≡ (if test then Some wanted else None) → test ≡ false
 none_is true wanted e = absurd (cc)
 none_is false wanted e = refl
-
--- the day of a second, where the hour and minute are a time of day
-pub second_of-day : (year month day hour minute : ℕ) → hour < 24 → minute < 60 → second_of year month day hour minute / 86400 ≡ day_number year month day
-second_of-day year month day hour minute h m = omega arith
 
 both_true : (a b : Bool) → (a && b) ≡ true → (a ≡ true) × (b ≡ true)
 both_true true b e = (refl, e)

@@ -1,10 +1,10 @@
 -- How the reading of a log ends.
-use Rattle.std.proofs.Common.{◌≡◌, ℕ, ◌+◌, ◌<◌, ◌≤◌, ◌^◌, ◌⊎◌, Option, Some, None, List, [], ◌∷◌, ◌++◌, length, refl, ap, sym, ◌∙◌, subst, inl, inr, arith, append_assoc}
+use Rattle.std.proofs.Common.{◌≡◌, ℕ, ◌+◌, ◌≤◌, ◌^◌, Some, List, [], ◌++◌, length, refl, ap, sym, ◌∙◌, subst, inl, inr, arith, append_assoc}
 use Rattle.std.proofs.lemmas.List.{append-nil, length-append}
 use Rattle.feed_link.specs.Faults.{Rose}
-use Rattle.feed_link.specs.Told.{SourceState, SinkState, Takes, Adds, NoneLeft}
+use Rattle.feed_link.specs.Told.{SourceState, SinkState, Takes, NoneLeft}
 use Rattle.feed_link.proofs.ToldLaws.{Takes-more, Adds-more}
-use Rattle.tick_units.specs.Log.{bad_line, bad_at_end}
+use Rattle.tick_units.specs.Log.{bad_line}
 use Rattle.radio_engine.specs.declared.decoder.Decoder.{Decoder}
 use Rattle.radio_engine.specs.declared.ending.Ending.{Ending}
 use Rattle.radio_engine.specs.declared.ending.Ending.TheVariants.{Whole, WrongWords, NotOpened, NotRead, WrongLine, Long}
@@ -12,7 +12,7 @@ use Rattle.radio_engine.specs.declared.status.Status.{Status}
 use Rattle.radio_engine.specs.declared.status.Status.TheVariants.{WriteFault}
 use Rattle.radio_engine.specs.declared.stream.Taken.{Taken}
 use Rattle.radio_engine.specs.declared.stream.Taken.TheVariants.{All, Bad, Stopped}
-use Rattle.radio_engine.specs.Endings.{status_of, status_line}
+use Rattle.radio_engine.specs.Endings.{status_line}
 use Rattle.radio_engine.specs.Text.{log_text}
 use Rattle.radio_engine.specs.Decoding.{IsFrontOf, WritesAll, WritesFront, Answers, HasReadOf, Cause, EndsByWriting, Decodes}
 use Rattle.radio_engine.specs.Taking.{HasTaken, WritesLine, TakesBytes, EndsAt, EndsItself}

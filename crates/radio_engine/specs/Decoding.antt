@@ -1,5 +1,5 @@
 -- What it is to decode a log: the bytes read, why the reading ended, and what is written.
-use Rattle.std.specs.Prelude.{◌≡◌, ℕ, ◌^◌, ◌≤◌, ◌⊎◌, Option, None, Some, List, [], ◌∷◌, ◌++◌, length}
+use Rattle.std.specs.Prelude.{◌≡◌, ℕ, ◌^◌, ◌≤◌, ◌⊎◌, None, Some, List, [], ◌++◌, length}
 use Rattle.feed_link.specs.Faults.{Rose}
 use Rattle.feed_link.specs.Told.{SourceState, SinkState, Takes, Adds, NoneLeft}
 use Rattle.tick_units.specs.Log.{bad_line, bad_at_end}
@@ -8,7 +8,7 @@ use Rattle.radio_engine.specs.Text.{log_text}
 use Rattle.radio_engine.specs.declared.ending.Ending.{Ending}
 use Rattle.radio_engine.specs.declared.ending.Ending.TheVariants.{Whole, WrongWords, NotOpened, NotRead, WrongLine, Long}
 use Rattle.radio_engine.specs.declared.status.Status.{Status}
-use Rattle.radio_engine.specs.declared.status.Status.TheVariants.{Done, Usage, OpenFault, Station, ReadFault, BadLine, JournalFull, LinkFault, WriteFault, Memory, TooLong}
+use Rattle.radio_engine.specs.declared.status.Status.TheVariants.{WriteFault}
 
 -- a text is a front of another
 abbrev pub IsFrontOf : List ℕ → List ℕ → Type 0

@@ -1,12 +1,12 @@
 -- What a command is and what it opens.
-use Rattle.std.specs.Prelude.{◌≡◌, ◌≢◌, ℕ, ◌<◌, ◌≤◌, ◌^◌, Option, None, Some, IsSome, List, [], ◌∷◌, length, codes, slice_index}
+use Rattle.std.specs.Prelude.{◌≡◌, ◌≢◌, ℕ, ◌<◌, ◌≤◌, ◌^◌, None, Some, IsSome, List, [], ◌∷◌, length, codes, slice_index}
 use Rattle.feed_link.specs.Faults.{Rose}
 use Rattle.feed_link.specs.Told.{SourceState, SinkState}
 use Rattle.feed_link.specs.Openings.{OutsideState, Grows}
 use Rattle.tick_units.specs.Log.{bad_at_end}
 use Rattle.radio_engine.specs.Endings.{status_line}
 use Rattle.radio_engine.specs.Decoding.{Answers, Decodes}
-use Rattle.radio_engine.specs.declared.ending.Ending.TheVariants.{Whole, WrongWords, NotOpened, NotRead, WrongLine, Long}
+use Rattle.radio_engine.specs.declared.ending.Ending.TheVariants.{WrongWords, NotOpened}
 use Rattle.radio_engine.specs.declared.status.Status.{Status}
 
 -- the words that ask for the log of this name to be decoded

@@ -1,4 +1,4 @@
-use Rattle.std.proofs.Common.{◌≡◌, ◌+◌, ◌≤◌, ◌^◌, length, take, refl, ◌∙◌, arith}
+use Rattle.std.proofs.Common.{◌≡◌, length, take, refl, ◌∙◌, arith}
 use Rattle.std.proofs.lemmas.List.{length-take}
 use Rattle.radio_engine.proofs.EndingLaws.{ends_at_end, ends_too_long, ends_bad, ends_stopped, progress_on}
 use Rattle.radio_engine.proofs.stream.read_log.Goals as goal

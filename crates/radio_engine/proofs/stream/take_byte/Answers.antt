@@ -1,4 +1,4 @@
-use Rattle.std.proofs.Common.{ℕ, List, [], ◌∷◌, ◌++◌, sym}
+use Rattle.std.proofs.Common.{[], ◌∷◌, ◌++◌}
 use Rattle.radio_engine.specs.Text.{log_text, heard_line}
 use Rattle.radio_engine.proofs.EndingLaws.{takes_line, all_same}
 use Rattle.radio_engine.proofs.stream.take_byte.Goals as goal

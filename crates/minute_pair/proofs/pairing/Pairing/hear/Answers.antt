@@ -1,7 +1,6 @@
-use Rattle.std.proofs.Common.{ℕ, Option, Some, None, sym, ap, ◌∙◌}
-use Rattle.std.specs.List.{last_or}
-use Rattle.tick_units.specs.Segments.{Segment, dcf_segments}
-use Rattle.minute_pair.specs.Pairing.{before_of, answer_by}
+use Rattle.std.proofs.Common.{ap, ◌∙◌}
+use Rattle.tick_units.specs.Segments.{dcf_segments}
+use Rattle.minute_pair.specs.Pairing.{answer_by}
 use Rattle.minute_pair.specs.declared.answers.Before.{Before}
 use Rattle.minute_pair.proofs.PairingLaws.{answers_closed, before_closed}
 use Rattle.minute_pair.proofs.pairing.Pairing.hear.Goals as goal

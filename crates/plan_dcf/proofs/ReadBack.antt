@@ -1,0 +1,107 @@
+-- The values of a segment whose symbols are those of a spelling.
+use Rattle.std.proofs.Common.{◌≡◌, ℕ, ◌+◌, ◌/◌, ◌%◌, ◌<◌, ◌==◌, Bool, true, false, not, List, [], ◌∷◌, length, get_or, count_by, refl, ap, arith}
+use Rattle.std.specs.Prelude.{if◌then◌else◌}
+use Rattle.std.specs.List.{list_any}
+use Rattle.std.proofs.lemmas.List.{length-map}
+use Rattle.tick_units.specs.Fields.{is_one, is_set, is_odd_over, symbols_of}
+use Rattle.tick_units.specs.Rules.{is_odd, has_odd_symbol}
+use Rattle.tick_units.specs.declared.marks.Mark.{Mark}
+use Rattle.tick_units.specs.declared.marks.Symbol.TheVariants.{Zero}
+use Rattle.tick_units.specs.declared.verdicts.Coded.{Coded}
+use Rattle.civil_minute.specs.declared.seconds.CivilMinute.{CivilMinute}
+use Rattle.plan_dcf.specs.Fields.{is_summer, is_standard, announces_leap, minute_ones, minute_of, hour_ones, hour_of, day_ones, day_of, weekday_of, month_ones, month_of, year_ones, year_tens, year_of}
+use Rattle.plan_dcf.specs.Spelling.{symbol_of, digits_of, date_of, frame_of}
+use Rattle.plan_dcf.proofs.SpeltBits.{digit_worth, three_worth, number_worth_1, number_worth_2, number_worth_3, number_worth_4, even_with_parity, is_odd-symbol_of}
+
+is_one-symbol_of : (bit : Bool) → is_one (symbol_of bit) ≡ bit
+is_one-symbol_of true = refl
+is_one-symbol_of false = refl
+
+-- the parts of a frame that are single bits
+pub record HasBits (c : Coded) (marks : List Mark) : Type 0 where
+  pub start : is_set is_one marks 0 ≡ false
+  pub summer : is_summer marks ≡ c.summer
+  pub standard : is_standard marks ≡ not c.summer
+  pub leap : announces_leap marks ≡ not (c.leap_at == 0)
+  pub time : is_set is_one marks 20 ≡ true
+  pub minute_parity : is_odd_over is_one marks 21 28 ≡ false
+  pub hour_parity : is_odd_over is_one marks 29 35 ≡ false
+  pub date_parity : is_odd_over is_one marks 36 58 ≡ false
+
+pub HasBits-spelt : (c : Coded) (civil : CivilMinute) (weekday : ℕ) (marks : List Mark) → symbols_of marks ≡ frame_of c civil weekday → HasBits c marks
+unfolding frame_of
+HasBits-spelt c civil weekday marks e = record {
+  start = rw e refl;
+  summer = rw e (is_one-symbol_of c.summer);
+  standard = rw e (is_one-symbol_of (not c.summer));
+  leap = rw e (is_one-symbol_of (not (c.leap_at == 0)));
+  time = rw e refl;
+  minute_parity = rw e (even_with_parity (count_by is_one (digits_of 3 civil.minute)));
+  hour_parity = rw e (even_with_parity (count_by is_one (digits_of 2 civil.hour)));
+  date_parity = rw e (even_with_parity (count_by is_one (date_of civil weekday)));
+}
+
+last_zero : (long : Bool) → get_or (if long then Zero ∷ [] else []) 0 Zero ≡ Zero
+last_zero true = refl
+last_zero false = refl
+
+-- the last mark of a leap minute is Zero, as a place that isn't there counts
+pub last_place : (c : Coded) (civil : CivilMinute) (weekday : ℕ) (marks : List Mark) → symbols_of marks ≡ frame_of c civil weekday → is_set is_one marks 59 ≡ false
+unfolding frame_of
+last_place c civil weekday marks e = rw (e, last_zero (c.leap_at == c.minute)) refl
+
+length_last : (long : Bool) → length (if long then Zero ∷ [] else []) ≡ (if long then 1 else 0)
+length_last true = refl
+length_last false = refl
+
+pub length_is : (c : Coded) (civil : CivilMinute) (weekday : ℕ) (marks : List Mark) → symbols_of marks ≡ frame_of c civil weekday → length marks ≡ 59 + (if c.leap_at == c.minute then 1 else 0)
+unfolding frame_of
+length_is c civil weekday marks e =
+    let last = length_last (c.leap_at == c.minute) in
+    let all = ap length e in
+    omega (arith, length-map marks (λ mark. mark.symbol), all)
+
+list_any-symbols_of : (marks : List Mark) → has_odd_symbol marks ≡ list_any is_odd (symbols_of marks)
+list_any-symbols_of [] = refl
+list_any-symbols_of (mark ∷ marks) = rw (list_any-symbols_of marks) refl
+
+odd_last : (long : Bool) → list_any is_odd (if long then Zero ∷ [] else []) ≡ false
+odd_last true = refl
+odd_last false = refl
+
+pub has_odd_symbol-spelt : (c : Coded) (civil : CivilMinute) (weekday : ℕ) (marks : List Mark) → symbols_of marks ≡ frame_of c civil weekday → has_odd_symbol marks ≡ false
+unfolding frame_of
+has_odd_symbol-spelt c civil weekday marks e = rw (list_any-symbols_of marks, e) (simp is_odd-symbol_of (odd_last (c.leap_at == c.minute)))
+
+-- the numbers of a frame
+pub record HasNumbers (civil : CivilMinute) (weekday : ℕ) (marks : List Mark) : Type 0 where
+  pub minute_digit : minute_ones marks ≡ civil.minute % 10
+  pub minute : minute_of marks ≡ civil.minute
+  pub hour_digit : hour_ones marks ≡ civil.hour % 10
+  pub hour : hour_of marks ≡ civil.hour
+  pub day_digit : day_ones marks ≡ civil.day % 10
+  pub day : day_of marks ≡ civil.day
+  pub days : weekday_of marks ≡ weekday
+  pub month_digit : month_ones marks ≡ civil.month % 10
+  pub month : month_of marks ≡ civil.month
+  pub year_digit : year_ones marks ≡ civil.year % 100 % 10
+  pub year_decade : year_tens marks ≡ civil.year % 100 / 10
+  pub year : year_of marks ≡ civil.year % 100
+
+pub HasNumbers-spelt : (c : Coded) (civil : CivilMinute) (weekday : ℕ) (marks : List Mark) → symbols_of marks ≡ frame_of c civil weekday →
+    civil.minute < 60 → civil.hour < 24 → civil.day < 32 → weekday < 8 → civil.month < 13 → HasNumbers civil weekday marks
+unfolding frame_of
+HasNumbers-spelt c civil weekday marks e minute hour day week month = record {
+  minute_digit = rw e (digit_worth (civil.minute % 10) (omega arith));
+  minute = rw e (number_worth_3 civil.minute (omega arith));
+  hour_digit = rw e (digit_worth (civil.hour % 10) (omega arith));
+  hour = rw e (number_worth_2 civil.hour (omega arith));
+  day_digit = rw e (digit_worth (civil.day % 10) (omega arith));
+  day = rw e (number_worth_2 civil.day (omega arith));
+  days = rw e (three_worth weekday week);
+  month_digit = rw e (digit_worth (civil.month % 10) (omega arith));
+  month = rw e (number_worth_1 civil.month (omega arith));
+  year_digit = rw e (digit_worth (civil.year % 100 % 10) (omega arith));
+  year_decade = rw e (digit_worth (civil.year % 100 / 10) (omega arith));
+  year = rw e (number_worth_4 (civil.year % 100) (omega arith));
+}

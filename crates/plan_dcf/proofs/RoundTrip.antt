@@ -1,0 +1,191 @@
+-- A segment that has the symbols of a spelling, and lawful spacing, is valid and says what was spelt.
+use Rattle.std.proofs.Common.{◌≡◌, ℕ, ◌+◌, ◌/◌, ◌%◌, ◌<◌, ◌≤◌, inl, inr, Bool, true, false, not, ◌&&◌, ◌||◌, ◌==◌, nat_lt, None, List, length, refl, sym, ap, ◌∙◌, arith}
+use Rattle.std.specs.Prelude.{if◌then◌else◌}
+use Rattle.std.specs.Bool.{beq}
+use Rattle.std.proofs.lemmas.Bool.{cases_eq}
+use Rattle.std.proofs.lemmas.Bool.Decides.{nat_tests}
+use Rattle.tick_units.specs.Fields.{symbols_of}
+use Rattle.tick_units.specs.Rules.{starts_of, are_spaced, is_out_of}
+use Rattle.tick_units.specs.declared.marks.Mark.{Mark}
+use Rattle.tick_units.specs.declared.verdicts.Coded.{Coded}
+use Rattle.civil_minute.specs.Dates.{is_date, day_number, second_of, weekday_of as civil_weekday, weekday_of_day, midnight_from}
+use Rattle.civil_minute.specs.Months.{begins_month}
+use Rattle.civil_minute.specs.Seconds.{Shows}
+use Rattle.civil_minute.specs.declared.seconds.CivilMinute.{CivilMinute}
+use Rattle.civil_minute.proofs.Bounds.{date_bounds, weekday_bounds, second_of-day}
+use Rattle.civil_minute.proofs.MonthLemmas.{begins_month-midnight}
+use Rattle.plan_dcf.specs.Fields.{minute_ones, minute_of, hour_ones, hour_of, day_ones, day_of, weekday_of, month_ones, month_of, year_ones, year_tens, year_of, hours_ahead, local_start, minute_start, leap_end, coded}
+use Rattle.plan_dcf.specs.Rules.{is_in_range, has_date, names_minute, is_leap_minute, first}
+use Rattle.plan_dcf.specs.Spelling.{IsSpellable, local_second, frame_of}
+use Rattle.plan_dcf.proofs.ReadBack.{HasBits-spelt, HasNumbers, HasNumbers-spelt, last_place, length_is, has_odd_symbol-spelt}
+use Rattle.plan_dcf.proofs.Validity.{IsValid, first-valid}
+
+-- what is known of a spelling's parts
+pub record IsFrameOf (c : Coded) (civil : CivilMinute) (weekday : ℕ) (marks : List Mark) : Type 0 where
+  pub spellable : IsSpellable c
+  pub shows : Shows civil (local_second c)
+  pub from : 2000 ≤ civil.year
+  pub below : civil.year < 2100
+  pub weekday_is : weekday ≡ civil_weekday (local_second c)
+  pub symbols : symbols_of marks ≡ frame_of c civil weekday
+  pub spaced : are_spaced (starts_of marks) ≡ true
+
+-- ---- tests that hold or fail
+
+in_range : (least most ones number : ℕ) → ones ≤ 9 → least ≤ number → number ≤ most → is_out_of least most ones number ≡ false
+in_range least most ones number one low high = grind (arith, nat_tests)
+
+digits_in_range : (ones tens : ℕ) → ones ≤ 9 → tens ≤ 9 → (nat_lt 9 ones || nat_lt 9 tens) ≡ false
+digits_in_range ones tens h k = grind (arith, nat_tests)
+
+and_false : (b : Bool) → (b && false) ≡ false
+and_false true = refl
+and_false false = refl
+
+same_equal : (b : Bool) → not (beq b b) ≡ false
+same_equal true = refl
+same_equal false = refl
+
+apart : (b : Bool) → beq b (not b) ≡ false
+apart true = refl
+apart false = refl
+
+test_true : (a b : ℕ) → a ≡ b → (a == b) ≡ true
+test_true a b e = grind (arith, nat_tests)
+
+test_false : (a b : ℕ) → ¬ (a ≡ b) → (a == b) ≡ false
+test_false a b h = grind (arith, nat_tests)
+
+-- a frame has 59 marks, or 60 where it is long
+length_tests : (long : Bool) (n : ℕ) → n ≡ 59 + (if long then 1 else 0) → ((n == 60) ≡ long) × ((not (n == 59) && not (n == 60)) ≡ false)
+length_tests true n e = rw e (refl, refl)
+length_tests false n e = rw e (refl, refl)
+
+-- ---- the date
+
+is_date_same : (y m d year month day : ℕ) → y ≡ year → m ≡ month → d ≡ day → is_date y m d ≡ is_date year month day
+is_date_same y m d year month day e f g = rw (e, f, g) refl
+
+second_same : (y m d h n year month day hour minute : ℕ) → y ≡ year → m ≡ month → d ≡ day → h ≡ hour → n ≡ minute → second_of y m d h n ≡ second_of year month day hour minute
+second_same y m d h n year month day hour minute e f g p q = rw (e, f, g, p, q) refl
+
+-- ---- the leap second
+
+hours_ahead_most : (summer : Bool) → hours_ahead summer ≤ 2
+hours_ahead_most true = omega arith
+hours_ahead_most false = omega arith
+
+-- no minute that can be spelt is 0
+minute_above : (c : Coded) → IsSpellable c → 0 < c.minute
+minute_above c s = let ahead = hours_ahead_most c.summer in omega (arith, s.from)
+
+-- a leap second ends at the minute exactly where one is announced and the minute begins a month
+leap_agrees : (c : Coded) → IsSpellable c → (not (c.leap_at == 0) && begins_month c.minute) ≡ (c.leap_at == c.minute)
+leap_agrees c s =
+    let above = minute_above c s in
+    elim s.leap [
+      | inl none ↦ rw (test_true c.leap_at 0 none, test_false c.leap_at c.minute (λ e. absurd (omega arith))) refl
+      | inr at ↦ elim (cases_eq (c.minute % 86400) 0) [
+        | inl midnight ↦
+            let same : c.leap_at ≡ c.minute = omega (arith, at.0) in
+            let begins : begins_month c.minute ≡ true = ap begins_month (sym same) ∙ at.1 in
+            rw (test_false c.leap_at 0 (λ e. absurd (omega arith)), test_true c.leap_at c.minute same, begins) refl
+        | inr between ↦
+            let off = begins_month-midnight c.minute (test_false (c.minute % 86400) 0 between) in
+            rw (test_false c.leap_at 0 (λ e. absurd (omega (arith, at.0))), test_false c.leap_at c.minute (λ e. absurd (omega (arith, at.0))), off) refl
+      ]
+    ]
+
+leap_end_is : (c : Coded) → IsSpellable c → (if not (c.leap_at == 0) && begins_month (midnight_from c.minute) then midnight_from c.minute else 0) ≡ c.leap_at
+leap_end_is c s =
+    let above = minute_above c s in
+    elim s.leap [
+      | inl none ↦ rw (test_true c.leap_at 0 none) (sym none)
+      | inr at ↦
+          let begins : begins_month (midnight_from c.minute) ≡ true = ap begins_month (sym at.0) ∙ at.1 in
+          rw (test_false c.leap_at 0 (λ e. absurd (omega (arith, at.0))), begins) (sym at.0)
+    ]
+
+-- ---- the frame as a whole
+
+numbers_of : (c : Coded) (civil : CivilMinute) (weekday : ℕ) (marks : List Mark) → IsFrameOf c civil weekday marks → HasNumbers civil weekday marks
+numbers_of c civil weekday marks h =
+    let date = date_bounds civil.year civil.month civil.day h.shows.date in
+    let week = weekday_bounds (local_second c / 86400) in
+    HasNumbers-spelt c civil weekday marks h.symbols h.shows.minute h.shows.hour (omega arith) (omega (arith, h.weekday_is)) (omega arith)
+
+-- the clock's second is that of the civil minute
+second_is : (c : Coded) (civil : CivilMinute) (weekday : ℕ) (marks : List Mark) → IsFrameOf c civil weekday marks → second_of civil.year civil.month civil.day civil.hour civil.minute ≡ local_second c
+second_is c civil weekday marks h = omega (arith, h.shows.starts, h.shows.ends, h.spellable.whole)
+
+year_is : (c : Coded) (civil : CivilMinute) (weekday : ℕ) (marks : List Mark) → IsFrameOf c civil weekday marks → 2000 + year_of marks ≡ civil.year
+year_is c civil weekday marks h =
+    let numbers = numbers_of c civil weekday marks h in
+    omega (arith, numbers.year, h.from, h.below)
+
+local_start_is : (c : Coded) (civil : CivilMinute) (weekday : ℕ) (marks : List Mark) → IsFrameOf c civil weekday marks → local_start marks ≡ local_second c
+unfolding local_start
+local_start_is c civil weekday marks h =
+    let numbers = numbers_of c civil weekday marks h in
+    second_same (2000 + year_of marks) (month_of marks) (day_of marks) (hour_of marks) (minute_of marks) civil.year civil.month civil.day civil.hour civil.minute (year_is c civil weekday marks h) numbers.month numbers.day numbers.hour numbers.minute ∙ second_is c civil weekday marks h
+
+minute_start_is : (c : Coded) (civil : CivilMinute) (weekday : ℕ) (marks : List Mark) → IsFrameOf c civil weekday marks → minute_start marks ≡ c.minute
+unfolding minute_start
+minute_start_is c civil weekday marks h =
+    let bits = HasBits-spelt c civil weekday marks h.symbols in
+    rw (local_start_is c civil weekday marks h, bits.summer) (omega arith)
+
+pub coded-spelt : (c : Coded) (civil : CivilMinute) (weekday : ℕ) (marks : List Mark) → IsFrameOf c civil weekday marks → coded marks ≡ c
+unfolding coded
+coded-spelt c civil weekday marks h =
+    let bits = HasBits-spelt c civil weekday marks h.symbols in
+    let minute = minute_start_is c civil weekday marks h in
+    let leap : leap_end marks ≡ c.leap_at = rw (bits.leap, minute) (leap_end_is c h.spellable) in
+    rw (leap, minute, bits.summer) refl
+
+weekday_kept : (c : Coded) (civil : CivilMinute) (weekday : ℕ) (marks : List Mark) → IsFrameOf c civil weekday marks → (weekday_of marks == weekday_of_day (day_number (2000 + year_of marks) (month_of marks) (day_of marks))) ≡ true
+weekday_kept c civil weekday marks h =
+    let numbers = numbers_of c civil weekday marks h in
+    let day = second_of-day civil.year civil.month civil.day civil.hour civil.minute h.shows.hour h.shows.minute in
+    let second = ap (λ s. s / 86400) (second_is c civil weekday marks h) in
+    let same : day_number (2000 + year_of marks) (month_of marks) (day_of marks) ≡ local_second c / 86400 = rw (year_is c civil weekday marks h, numbers.month, numbers.day) (sym day ∙ second) in
+    test_true (weekday_of marks) (weekday_of_day (day_number (2000 + year_of marks) (month_of marks) (day_of marks))) (numbers.days ∙ h.weekday_is ∙ ap weekday_of_day (sym same))
+
+has_date_is : (c : Coded) (civil : CivilMinute) (weekday : ℕ) (marks : List Mark) → IsFrameOf c civil weekday marks → has_date marks ≡ true
+has_date_is c civil weekday marks h =
+    let numbers = numbers_of c civil weekday marks h in
+    is_date_same (2000 + year_of marks) (month_of marks) (day_of marks) civil.year civil.month civil.day (year_is c civil weekday marks h) numbers.month numbers.day ∙ h.shows.date
+
+pub IsValid-spelt : (c : Coded) (civil : CivilMinute) (weekday : ℕ) (marks : List Mark) → IsFrameOf c civil weekday marks → IsValid marks
+IsValid-spelt c civil weekday marks h =
+    let bits = HasBits-spelt c civil weekday marks h.symbols in
+    let numbers = numbers_of c civil weekday marks h in
+    let date = date_bounds civil.year civil.month civil.day h.shows.date in
+    let week = weekday_bounds (local_second c / 86400) in
+    let tests = length_tests (c.leap_at == c.minute) (length marks) (length_is c civil weekday marks h.symbols) in
+    let leap : is_leap_minute marks ≡ (c.leap_at == c.minute) = rw (bits.leap, minute_start_is c civil weekday marks h) (leap_agrees c h.spellable) in
+    record {
+      spacing = rw h.spaced refl;
+      width = has_odd_symbol-spelt c civil weekday marks h.symbols;
+      length = tests.1;
+      start_bit = bits.start;
+      zone_bits = rw (bits.summer, bits.standard) (apart c.summer);
+      time_bit = rw bits.time refl;
+      minute_parity = bits.minute_parity;
+      hour_parity = bits.hour_parity;
+      date_parity = bits.date_parity;
+      minute_range = in_range 0 59 (minute_ones marks) (minute_of marks) (omega (arith, numbers.minute_digit)) (omega arith) (omega (arith, numbers.minute, h.shows.minute));
+      hour_range = in_range 0 23 (hour_ones marks) (hour_of marks) (omega (arith, numbers.hour_digit)) (omega arith) (omega (arith, numbers.hour, h.shows.hour));
+      day_range = in_range 1 31 (day_ones marks) (day_of marks) (omega (arith, numbers.day_digit)) (omega (arith, numbers.day)) (omega (arith, numbers.day));
+      weekday_range = test_false (weekday_of marks) 0 (λ e. absurd (omega (arith, numbers.days, h.weekday_is)));
+      month_range = in_range 1 12 (month_ones marks) (month_of marks) (omega (arith, numbers.month_digit)) (omega (arith, numbers.month)) (omega (arith, numbers.month));
+      year_range = digits_in_range (year_ones marks) (year_tens marks) (omega (arith, numbers.year_digit)) (omega (arith, numbers.year_decade));
+      date = rw (has_date_is c civil weekday marks h) (and_false (is_in_range marks));
+      weekday = rw (weekday_kept c civil weekday marks h) (and_false (names_minute marks));
+      leap_minute = rw (tests.0, leap, same_equal (c.leap_at == c.minute), last_place c civil weekday marks h.symbols) (and_false (names_minute marks));
+    }
+
+-- the round trip
+pub round_trip : (c : Coded) (civil : CivilMinute) (weekday : ℕ) (marks : List Mark) → IsFrameOf c civil weekday marks → (first marks ≡ None) × (coded marks ≡ c)
+round_trip c civil weekday marks h =
+    (first-valid marks (IsValid-spelt c civil weekday marks h), coded-spelt c civil weekday marks h)

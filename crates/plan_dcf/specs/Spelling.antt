@@ -1,0 +1,62 @@
+-- How DCF77 spells a minute (PTB): the civil time of the minute that begins after the frame, the lowest bits first, with
+-- even parities. What the code carries besides is left 0.
+use Rattle.std.specs.Prelude.{◌≡◌, ◌⊎◌, ℕ, zero, suc, ◌+◌, ◌*◌, ◌/◌, ◌%◌, ◌<◌, ◌≤◌, Bool, false, true, not, ◌==◌, IsTrue, List, [], ◌∷◌, ◌++◌, replicate, count_by, if◌then◌else◌}
+use Rattle.tick_units.specs.Fields.{is_one}
+use Rattle.tick_units.specs.declared.marks.Symbol.{Symbol}
+use Rattle.tick_units.specs.declared.marks.Symbol.TheVariants.{Zero, One}
+use Rattle.tick_units.specs.declared.verdicts.Coded.{Coded}
+use Rattle.civil_minute.specs.Dates.{weekday_of, midnight_from}
+use Rattle.civil_minute.specs.Months.{begins_month}
+use Rattle.civil_minute.specs.Seconds.{civil_of}
+use Rattle.civil_minute.specs.declared.seconds.CivilMinute.{CivilMinute}
+use Rattle.plan_dcf.specs.Fields.{hours_ahead}
+
+-- the second at which a clock that shows UTC shows what a German clock shows at the minute
+abbrev pub local_second : Coded → ℕ
+local_second c = c.minute + 3600 * hours_ahead c.summer
+
+-- a whole minute of the years 2000 to 2099 there, and no leap second or one at the next UTC midnight, which begins a month
+pub record IsSpellable (c : Coded) : Type 0 where
+  pub whole : c.minute % 60 ≡ 0
+  pub from : 3155673600 ≤ local_second c
+  pub below : local_second c < 6311433600
+  pub leap : (c.leap_at ≡ 0) ⊎ ((c.leap_at ≡ midnight_from c.minute) × IsTrue (begins_month c.leap_at))
+
+abbrev pub symbol_of : Bool → Symbol
+symbol_of false = Zero
+symbol_of true = One
+
+-- so many low bits of a number
+abbrev pub bits_of : ℕ → ℕ → List Symbol
+bits_of zero number = []
+bits_of (suc count) number = symbol_of (number % 2 == 1) ∷ bits_of count (number / 2)
+
+-- a number of two digits: four bits of its ones, and so many of its tens
+abbrev pub digits_of : ℕ → ℕ → List Symbol
+digits_of tens number = bits_of 4 (number % 10) ++ bits_of tens (number / 10)
+
+-- the bit that makes the count of ones even
+abbrev pub parity_of : List Symbol → Symbol
+parity_of symbols = symbol_of (count_by is_one symbols % 2 == 1)
+
+abbrev pub with_parity : List Symbol → List Symbol
+with_parity symbols = symbols ++ parity_of symbols ∷ []
+
+-- places 0 to 20: the start bit and what is passed over, the zone, whether a leap second is announced, the time bit
+abbrev pub head_of : Coded → List Symbol
+head_of c = replicate 17 Zero ++ symbol_of c.summer ∷ symbol_of (not c.summer) ∷ symbol_of (not (c.leap_at == 0)) ∷ One ∷ []
+
+-- day, weekday, month and year
+abbrev pub date_of : CivilMinute → ℕ → List Symbol
+date_of civil weekday = digits_of 2 civil.day ++ bits_of 3 weekday ++ digits_of 1 civil.month ++ digits_of 4 (civil.year % 100)
+
+-- place 59, which only a minute that ends with a leap second has
+abbrev pub last_of : Coded → List Symbol
+last_of c = if c.leap_at == c.minute then Zero ∷ [] else []
+
+unfoldable pub frame_of : Coded → CivilMinute → ℕ → List Symbol
+frame_of c civil weekday = head_of c ++ with_parity (digits_of 3 civil.minute) ++ with_parity (digits_of 2 civil.hour) ++ with_parity (date_of civil weekday) ++ last_of c
+
+-- the symbols of a spellable minute
+unfoldable pub spelt : Coded → List Symbol
+spelt c = frame_of c (civil_of (local_second c)) (weekday_of (local_second c))
