@@ -13,6 +13,7 @@ pub struct Rule {
 }
 
 impl Rule {
+    /// The rule of this number, and whether it is broken.
     pub fn new(number: u8, broken: bool) -> Rule
         ensures { result ≡ record { number = number; broken = broken } }
     {
