@@ -32,7 +32,7 @@ pub text_grows_by : (plan : Plan) (bytes more : List ℕ) (mark : Mark) (heard :
     answers plan (segments_of plan (marks_of plan (pulses bytes) ++ mark ∷ [])) ≡ answers plan (segments_of plan (marks_of plan (pulses bytes))) ++ option_to_list heard → GrowsBy plan bytes more heard
 text_grows_by plan bytes more mark heard marks answered =
     grows_from plan bytes more heard (
-      ap (text_of plan) marks ∙ ap (flat_map heard_line) answered ∙ flat_map-append heard_line (answers plan (segments_of plan (marks_of plan (pulses bytes)))) (option_to_list heard))
+    ap (text_of plan) marks ∙ ap (flat_map heard_line) answered ∙ flat_map-append heard_line (answers plan (segments_of plan (marks_of plan (pulses bytes)))) (option_to_list heard))
 
 -- with no more marks, and with no more reductions
 pub text_same_marks : (plan : Plan) (bytes more : List ℕ) → marks_of plan (pulses more) ≡ marks_of plan (pulses bytes) → log_text plan more ≡ log_text plan bytes

@@ -23,7 +23,7 @@ msf_push (x ∷ []) r = one_more (are_parts x r) x r
 msf_push (x ∷ y ∷ []) r =
     let more = msf_push (y ∷ []) r in
     elim (are_parts x y) as (λ b. cond b (joined_mark x ∷ msf_marks (r ∷ [])) (mark_of Msf x ∷ msf_marks (y ∷ r ∷ []))
-        ≡ cond b [] (mark_of Msf x ∷ []) ++ option_to_list (mark_before (cond b (Joined x.at) (Alone y)) r)) [
+    ≡ cond b [] (mark_of Msf x ∷ []) ++ option_to_list (mark_before (cond b (Joined x.at) (Alone y)) r)) [
       | true ↦ refl
       | false ↦ ap (λ marks. mark_of Msf x ∷ marks) more
     ]
@@ -31,7 +31,7 @@ msf_push (x ∷ y ∷ z ∷ more) r =
     let joined = msf_push (z ∷ more) r in
     let alone = msf_push (y ∷ z ∷ more) r in
     elim (are_parts x y) as (λ b. cond b (joined_mark x ∷ msf_marks (z ∷ (more ++ r ∷ []))) (mark_of Msf x ∷ msf_marks (y ∷ z ∷ (more ++ r ∷ [])))
-        ≡ cond b (joined_mark x ∷ msf_marks (z ∷ more)) (mark_of Msf x ∷ msf_marks (y ∷ z ∷ more)) ++ option_to_list (mark_before (cond b (held_of (z ∷ more)) (held_of (y ∷ z ∷ more))) r)) [
+    ≡ cond b (joined_mark x ∷ msf_marks (z ∷ more)) (mark_of Msf x ∷ msf_marks (y ∷ z ∷ more)) ++ option_to_list (mark_before (cond b (held_of (z ∷ more)) (held_of (y ∷ z ∷ more))) r)) [
       | true ↦ ap (λ marks. joined_mark x ∷ marks) joined
       | false ↦ ap (λ marks. mark_of Msf x ∷ marks) alone
     ]
