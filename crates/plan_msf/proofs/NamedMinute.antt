@@ -1,14 +1,9 @@
--- The time of day of a segment that says a minute, and the day of its second.
-use Rattle.std.proofs.Common.{◌≡◌, ℕ, ◌/◌, ◌<◌, Bool, true, false, not, ◌||◌, List, refl, arith}
+-- The time of day of a segment that says a minute.
+use Rattle.std.proofs.Common.{◌≡◌, ◌<◌, Bool, true, false, not, ◌||◌, List, refl, arith}
 use Rattle.tick_units.specs.declared.marks.Mark.{Mark}
-use Rattle.civil_minute.specs.Dates.{day_number, second_of}
 use Rattle.frame_rules.proofs.Meanings.{both_true, is_out_of-false}
 use Rattle.plan_msf.specs.Fields.{hour_ones, hour_of, minute_ones, minute_of}
 use Rattle.plan_msf.specs.Rules.{breaks_minute_range, breaks_hour_range, breaks_day_range, breaks_weekday_range, breaks_month_range, breaks_year_range, is_in_range, has_date, names_minute}
-
--- the day of a second, where the hour and minute are a time of day
-pub second_of-day : (year month day hour minute : ℕ) → hour < 24 → minute < 60 → second_of year month day hour minute / 86400 ≡ day_number year month day
-second_of-day year month day hour minute h m = omega arith
 
 none_of_six : (a b c d e f : Bool) → not (a || b || c || d || e || f) ≡ true → (a ≡ false) × (b ≡ false)
 none_of_six false false c d e f h = (refl, refl)

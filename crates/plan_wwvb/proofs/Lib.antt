@@ -1,2 +1,6 @@
+<<<<<<< ours
 pub mod FirstLaws
+=======
+pub mod Seconds
+>>>>>>> theirs
 pub mod Validity

@@ -50,7 +50,8 @@ pub(crate) fn breaks_leap_minute(segment: &[Mark]) -> bool
 #[tactic(auto, unfolding(crate::specs::Fields::coded))]
 pub(crate) fn coded(segment: &[Mark]) -> Coded
     requires { IsTrue (names_minute segment.now) }
-    ensures { result ≡ coded segment.now }
+    ensures value { result ≡ coded segment.now }
+    ensures century { (3155673660 ≤ result.minute) × (result.minute ≤ 6311433600) }
 {
     match sent_start(segment) {
         Some(second) => Coded {
