@@ -1,6 +1,3 @@
-<<<<<<< ours
 pub mod FirstLaws
-=======
 pub mod Seconds
->>>>>>> theirs
 pub mod Validity
