@@ -1,13 +1,13 @@
 -- What the keeper stands for, with one more mark.
-use Rattle.std.proofs.Common.{◌≡◌, ℕ, ◌+◌, ◌<◌, Bool, true, false, ltb, Option, Some, None, List, [], ◌∷◌, ◌++◌, length, refl, ap, sym, ◌∙◌, arith}
+use Rattle.std.proofs.Common.{◌≡◌, Bool, true, false, ltb, Option, Some, None, List, [], ◌∷◌, ◌++◌, length, refl, ap, sym, ◌∙◌, arith}
 use Rattle.std.specs.List.{last_or}
 use Rattle.std.proofs.lemmas.Bool.{lt-ltb, ltb-false}
 use Rattle.std.proofs.lemmas.List.{length-append}
-use Rattle.tick_units.specs.Segments.{Segment, is_boundary, cut, segments_of}
+use Rattle.tick_units.specs.Segments.{is_boundary, cut, segments_of}
 use Rattle.tick_units.specs.declared.marks.Mark.{Mark}
 use Rattle.tick_units.specs.declared.marks.Plan.{Plan}
 use Rattle.minute_pair.specs.declared.keeper.SegmentKeeper.{SegmentKeeper}
-use Rattle.minute_pair.specs.Keeping.{Keeps, Heard, added, begun}
+use Rattle.minute_pair.specs.Keeping.{Heard, added, begun}
 use Rattle.minute_pair.proofs.Pieces.{cut_boundary, cut_goes_on, segments_close, segments_open, segments_same}
 use Rattle.minute_pair.proofs.Flags.{keeps_added, keeps_begun}
 

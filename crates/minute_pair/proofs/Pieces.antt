@@ -1,9 +1,7 @@
 -- The pieces and segments of marks, with one more mark.
-use Rattle.std.proofs.Common.{◌≡◌, ℕ, ◌+◌, Bool, true, false, cond, Option, Some, None, List, [], ◌∷◌, ◌++◌, drop, refl, ap, sym, ◌∙◌, subst, inl, inr, append_assoc}
+use Rattle.std.proofs.Common.{◌≡◌, ℕ, true, false, cond, Option, Some, None, List, [], ◌∷◌, ◌++◌, drop, refl, ap, sym, ◌∙◌, append_assoc}
 use Rattle.std.specs.List.{onto_first, last_or}
-use Rattle.std.proofs.lemmas.Bool.{cases_Bool}
-use Rattle.std.proofs.lemmas.List.{append-nil}
-use Rattle.tick_units.specs.Segments.{Segment, is_boundary, cut, closed, start_of, segments_of}
+use Rattle.tick_units.specs.Segments.{is_boundary, cut, closed, start_of, segments_of}
 use Rattle.tick_units.specs.declared.marks.Mark.{Mark}
 use Rattle.tick_units.specs.declared.marks.Plan.{Plan}
 
@@ -45,7 +43,7 @@ cut_boundary plan before (x ∷ xs) mark b =
     let old = cut plan (Some x) xs in
     let onto = ap (onto_first x) more ∙ onto_some x old ((mark ∷ []) ∷ []) some.0 some.1 some.2 in
     elim (is_boundary plan before x) as (λ t. cond t ([] ∷ onto_first x (cut plan (Some x) (xs ++ mark ∷ []))) (onto_first x (cut plan (Some x) (xs ++ mark ∷ [])))
-        ≡ cond t ([] ∷ onto_first x old) (onto_first x old) ++ (mark ∷ []) ∷ []) [
+    ≡ cond t ([] ∷ onto_first x old) (onto_first x old) ++ (mark ∷ []) ∷ []) [
       | true ↦ ap (λ pieces. [] ∷ pieces) onto
       | false ↦ onto
     ]
@@ -60,7 +58,7 @@ cut_more plan before (x ∷ xs) mark b =
     let old = cut plan (Some x) xs in
     let onto = ap (onto_first x) more ∙ rw some.2 (onto_add x mark some.0 some.1) in
     elim (is_boundary plan before x) as (λ t. cond t ([] ∷ onto_first x (cut plan (Some x) (xs ++ mark ∷ []))) (onto_first x (cut plan (Some x) (xs ++ mark ∷ [])))
-        ≡ add_last mark (cond t ([] ∷ onto_first x old) (onto_first x old))) [
+    ≡ add_last mark (cond t ([] ∷ onto_first x old) (onto_first x old))) [
       | true ↦ ap (λ pieces. [] ∷ pieces) onto ∙ sym (cons_add mark [] (onto_first x old) (x ∷ some.0) some.1 (ap (onto_first x) some.2))
       | false ↦ onto
     ]

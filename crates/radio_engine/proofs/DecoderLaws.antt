@@ -10,7 +10,6 @@ use Rattle.tick_units.specs.declared.marks.Reduction.{Reduction}
 use Rattle.pulse_log.specs.Reading.{HasRead}
 use Rattle.pulse_log.specs.declared.reader.LineReader.{LineReader}
 use Rattle.second_marks.specs.Marker.{HasHeard}
-use Rattle.second_marks.specs.declared.marker.Marker.{Marker}
 use Rattle.minute_pair.specs.Pairing.{HasPaired}
 use Rattle.radio_engine.specs.declared.decoder.Decoder.{Decoder}
 use Rattle.radio_engine.specs.Taking.{HasTaken}

@@ -1,5 +1,5 @@
 -- The marks of reductions, with one more reduction.
-use Rattle.std.proofs.Common.{◌≡◌, ℕ, Bool, true, false, cond, Option, Some, None, List, [], ◌∷◌, ◌++◌, map, refl, ap, sym, ◌∙◌, append_assoc}
+use Rattle.std.proofs.Common.{◌≡◌, Bool, true, false, cond, Option, Some, None, List, [], ◌∷◌, ◌++◌, refl, ap, sym, ◌∙◌, append_assoc}
 use Rattle.std.specs.Option.{option_to_list}
 use Rattle.std.proofs.lemmas.List.{map_push, append-nil}
 use Rattle.tick_units.specs.Marks.{are_parts, mark_of, joined_mark, msf_marks, marks_of}
@@ -10,7 +10,7 @@ use Rattle.tick_units.specs.declared.marks.Reduction.{Reduction}
 use Rattle.second_marks.specs.Held.{held_of, held_after, mark_before}
 use Rattle.second_marks.specs.Marker.{HoldsBack}
 use Rattle.second_marks.specs.declared.held.Held.{Held}
-use Rattle.second_marks.specs.declared.held.Held.TheVariants.{Nothing, Alone, Joined}
+use Rattle.second_marks.specs.declared.held.Held.TheVariants.{Alone, Joined}
 
 -- two reductions, by whether they are parts
 one_more : (parts : Bool) (x r : Reduction) → cond parts [] (mark_of Msf x ∷ []) ≡ [] ++ option_to_list (cond parts None (Some (mark_of Msf x)))

@@ -1,4 +1,4 @@
-use Rattle.std.proofs.Common.{◌≡◌, ℕ, List, [], ◌∷◌, ◌++◌, sym, subst}
+use Rattle.std.proofs.Common.{List, [], ◌∷◌, ◌++◌, sym, subst}
 use Rattle.tick_units.specs.Log.{pulses}
 use Rattle.tick_units.specs.Marks.{marks_of}
 use Rattle.tick_units.specs.declared.marks.Mark.{Mark}
