@@ -1,2 +1,4 @@
 pub mod Sums
 pub mod FirstLaws
+pub mod Meanings
+pub mod Most

@@ -1,6 +1,6 @@
 //! Bits of places, and what they add up to. Places count from 0.
 ghost use Rattle.std.specs.Prelude.{◌≡◌, ◌+◌, ◌^◌, ◌<◌, ◌≤◌, length};
-ghost use Rattle.tick_units.specs.Fields.{is_set, value, is_odd_over};
+ghost use Rattle.tick_units.specs.Fields.{is_set, value, is_odd_over, has_pattern};
 ghost use Rattle.frame_rules.specs.Bits.{has_bit};
 
 use tick_units::{Mark, Symbol};
@@ -67,4 +67,17 @@ pub fn is_odd_over(bit: Bit, segment: &[Mark], first: usize, last: usize) -> boo
         }
     }
     ones % 2 == 1
+}
+
+/// Whether the bits of the places from `first` on are these.
+pub fn has_pattern(bit: Bit, segment: &[Mark], first: usize, pattern: &[bool]) -> bool
+    requires places { first + length pattern.now < 2 ^ 16 }
+    ensures { result ≡ has_pattern (has_bit bit) segment.now first pattern.now }
+{
+    for (i, wanted) in pattern.iter().enumerate() {
+        if is_set(bit, segment, first + i) != *wanted {
+            return false;
+        }
+    }
+    true
 }

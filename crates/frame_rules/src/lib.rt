@@ -6,8 +6,8 @@ mod bits;
 mod rules;
 mod spelling;
 
-pub use bits::{Bit, is_odd_over, is_set, value};
-pub use rules::{Rule, are_spaced, first_broken, has_odd_symbol, is_out_of};
+pub use bits::{Bit, has_pattern, is_odd_over, is_set, value};
+pub use rules::{Rule, are_spaced, are_spaced_to, first_broken, has_odd_symbol, is_out_of};
 pub use spelling::Spelling;
 
 #[cfg(test)]

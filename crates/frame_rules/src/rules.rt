@@ -1,9 +1,10 @@
 //! Rules that every plan has, and which broken rule is named.
-ghost use Rattle.std.specs.Prelude.{◌≡◌};
-ghost use Rattle.tick_units.specs.Rules.{starts_of, are_spaced, has_odd_symbol, is_out_of};
+ghost use Rattle.std.specs.Prelude.{◌≡◌, ◌+◌};
+ghost use Rattle.tick_units.specs.Marks.{is_between};
+ghost use Rattle.tick_units.specs.Rules.{starts_of, are_spaced, are_spaced_to, has_odd_symbol, is_out_of};
 ghost use Rattle.frame_rules.specs.First.{first_broken};
 
-use tick_units::{Mark, Symbol};
+use tick_units::{Local, Mark, Symbol};
 
 /// A numbered rule, and whether a segment breaks it.
 #[derive(Clone, Copy, Debug, PartialEq, Eq)]
@@ -13,6 +14,7 @@ pub struct Rule {
 }
 
 impl Rule {
+    /// The rule of this number, and whether it is broken.
     pub fn new(number: u8, broken: bool) -> Rule
         ensures { result ≡ record { number = number; broken = broken } }
     {
@@ -30,6 +32,15 @@ pub fn first_broken(rules: &[Rule]) -> Option<u8>
         .map(|rule| rule.number)
 }
 
+// Whether one moment comes 900000 to 1100000 microseconds after another.
+fn is_a_second_on(before: Local, moment: Local) -> bool
+    ensures { result ≡ is_between (before + 900000) (before + 1100000) moment }
+{
+    let start = before.get();
+    let later = moment.get();
+    start + 900_000 <= later && later <= start + 1_100_000
+}
+
 /// Whether each mark starts 900000 to 1100000 microseconds after the one before it.
 pub fn are_spaced(marks: &[Mark]) -> bool
     ensures { result ≡ are_spaced (starts_of marks.now) }
@@ -37,11 +48,28 @@ pub fn are_spaced(marks: &[Mark]) -> bool
     let mut rest = marks;
     'marks: while let [mark, more @ ..] = rest {
         if let [next, ..] = more {
-            let start = mark.at.get();
-            let later = next.at.get();
-            if later < start + 900_000 || start + 1_100_000 < later {
+            if !is_a_second_on(mark.at, next.at) {
                 return false;
             }
+        }
+        rest = more;
+    }
+    true
+}
+
+/// Whether each mark starts 900000 to 1100000 microseconds after the one before it, and so does the mark that closes them
+/// after the last.
+pub fn are_spaced_to(marks: &[Mark], close: Local) -> bool
+    ensures { result ≡ are_spaced_to marks.now close }
+{
+    let mut rest = marks;
+    'marks: while let [mark, more @ ..] = rest {
+        let next = match more {
+            [next, ..] => next.at,
+            [] => close,
+        };
+        if !is_a_second_on(mark.at, next) {
+            return false;
         }
         rest = more;
     }

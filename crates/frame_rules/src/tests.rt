@@ -44,6 +44,12 @@ fn each_plan_has_its_bits(rt: HostRuntime) -> Result<(), Fail> {
     assert_eq!(rt; is_odd_over(Bit::A, &marks, 0, 2), true);
     assert_eq!(rt; is_odd_over(Bit::A, &marks, 0, 3), false);
     assert_eq!(rt; is_odd_over(Bit::A, &marks, 3, 60), true);
+    assert_eq!(rt; has_pattern(Bit::A, &marks, 1, &[true, false, true]), true);
+    assert_eq!(rt; has_pattern(Bit::B, &marks, 1, &[true, false, true]), false);
+    assert_eq!(rt; has_pattern(Bit::A, &marks, 2, &[false, true, false]), true);
+    assert_eq!(rt; has_pattern(Bit::A, &marks, 2, &[false, true, true]), false);
+    assert_eq!(rt; has_pattern(Bit::B, &marks, 5, &[false, false]), true);
+    assert_eq!(rt; has_pattern(Bit::Only, &marks, 0, &[]), true);
     Ok(())
 }
 
@@ -61,8 +67,14 @@ fn marks_are_spaced(rt: HostRuntime) -> Result<(), Fail> {
         marks[5].at = Local::new(4_000_000 + apart).ok_or("start")?;
         assert_eq!(rt; are_spaced(&marks), wanted);
         assert_eq!(rt; are_spaced(&marks[..5]), true);
+        assert_eq!(rt; are_spaced_to(&marks[..5], marks[5].at), wanted);
+        assert_eq!(rt;
+            are_spaced_to(&marks, Local::new(5_000_000 + apart).ok_or("close")?),
+            wanted
+        );
     }
     assert_eq!(rt; are_spaced(&[]), true);
+    assert_eq!(rt; are_spaced_to(&[], Local::new(0).ok_or("close")?), true);
     assert_eq!(rt; has_odd_symbol(&segment([Symbol::Both; 6])?), false);
     let mut marks = segment([Symbol::Long; 6])?;
     marks[3].symbol = Symbol::Odd;

@@ -1,79 +1,71 @@
 -- What the keeper stands for, with one more mark.
-use Rattle.std.proofs.Common.{◌≡◌, true, false, ltb, Option, Some, None, List, [], ◌∷◌, ◌++◌, length, refl, ap, sym, ◌∙◌, subst, arith}
+use Rattle.std.proofs.Common.{◌≡◌, Bool, true, false, ltb, Option, Some, None, List, [], ◌∷◌, ◌++◌, length, refl, ap, sym, ◌∙◌, arith}
+use Rattle.std.specs.List.{last_or}
 use Rattle.std.proofs.lemmas.Bool.{lt-ltb, ltb-false}
 use Rattle.std.proofs.lemmas.List.{length-append}
-use Rattle.tick_units.specs.Segments.{dcf_boundary, cut, dcf_segments}
+use Rattle.tick_units.specs.Segments.{is_boundary, cut, segments_of}
 use Rattle.tick_units.specs.declared.marks.Mark.{Mark}
+use Rattle.tick_units.specs.declared.marks.Plan.{Plan}
 use Rattle.minute_pair.specs.declared.keeper.SegmentKeeper.{SegmentKeeper}
-use Rattle.minute_pair.specs.Keeping.{last_of, Keeps, KeepsLast, Heard, HeardBy, added, begun}
-use Rattle.minute_pair.proofs.Pieces.{cut_boundary, cut_goes_on, last_of-push, segments_close, segments_open, segments_same}
+use Rattle.minute_pair.specs.Keeping.{Heard, added, begun}
+use Rattle.minute_pair.proofs.Pieces.{cut_boundary, cut_goes_on, segments_close, segments_open, segments_same}
 use Rattle.minute_pair.proofs.Flags.{keeps_added, keeps_begun}
 
-heard_from : (k : SegmentKeeper) (last : Mark) (marks : List Mark) → k.last ≡ Some last → KeepsLast k last marks → Heard k marks
-heard_from k last marks e h = subst (λ (o : Option Mark). HeardBy o k marks) (sym e) h
+pub last_push : {A : Type 0} (before : Option A) (items : List A) (item : A) → last_or before (items ++ item ∷ []) ≡ Some item
+last_push before [] item = refl
+last_push before (x ∷ xs) item = last_push (Some x) xs item
 
-pub keeps_from : (k : SegmentKeeper) (last : Mark) (marks : List Mark) → k.last ≡ Some last → Heard k marks → KeepsLast k last marks
-keeps_from k last marks e h = subst (λ (o : Option Mark). HeardBy o k marks) e h
+-- the last mark that is kept is that of the piece
+pub last_is : (k : SegmentKeeper) (plan : Plan) (marks : List Mark) → (h : Heard k plan marks) → k.last ≡ last_or None h.current
+last_is k plan marks h = h.last ∙ sym h.ends
 
-pub heard_first : (k : SegmentKeeper) (mark : Mark) (marks : List Mark) → k.last ≡ None → Heard k marks → Heard (begun mark false) (marks ++ mark ∷ [])
-heard_first k mark marks e h =
-    let none = subst (λ (o : Option Mark). HeardBy o k marks) e h in
-    rw none.0 (record { done = []; current = mark ∷ []; pieces = refl; ends = refl; current_ends = refl; opened = refl; keeps = keeps_begun mark false })
+abbrev boundary_of : SegmentKeeper → Mark → Bool
+boundary_of k mark = is_boundary k.plan k.last mark
 
-nil_segments : (marks : List Mark) (mark : Mark) → marks ≡ [] → dcf_segments (marks ++ mark ∷ []) ≡ dcf_segments marks
-nil_segments marks mark e = ap (λ (ms : List Mark). dcf_segments (ms ++ mark ∷ [])) e ∙ ap dcf_segments (sym e)
+boundary_is : (k : SegmentKeeper) (plan : Plan) (marks : List Mark) (mark : Mark) → Heard k plan marks → boundary_of k mark ≡ is_boundary plan (last_or None marks) mark
+boundary_is k plan marks mark h = ap (λ (p : Plan). is_boundary p k.last mark) h.plan_is ∙ ap (λ (o : Option Mark). is_boundary plan o mark) h.last
 
-pub same_first : (k : SegmentKeeper) (mark : Mark) (marks : List Mark) → k.last ≡ None → Heard k marks → dcf_segments (marks ++ mark ∷ []) ≡ dcf_segments marks
-same_first k mark marks e h = let none = subst (λ (o : Option Mark). HeardBy o k marks) e h in nil_segments marks mark none.0
+pub heard_added : (k : SegmentKeeper) (plan : Plan) (mark : Mark) (marks : List Mark) → boundary_of k mark ≡ false → Heard k plan marks → Heard (added k mark) plan (marks ++ mark ∷ [])
+heard_added k plan mark marks b h = record {
+  plan_is = h.plan_is;
+  last = sym (last_push None marks mark);
+  done = h.done;
+  current = h.current ++ mark ∷ [];
+  pieces = cut_goes_on plan marks mark h.done h.current (sym (boundary_is k plan marks mark h) ∙ b) h.pieces;
+  ends = last_push None h.current mark ∙ sym (last_push None marks mark);
+  opened = h.opened;
+  keeps = keeps_added k mark h.current h.keeps (last_is k plan marks h);
+}
 
-pub heard_added : (k : SegmentKeeper) (last mark : Mark) (marks : List Mark) → k.last ≡ Some last → dcf_boundary last mark ≡ false → Heard k marks → Heard (added k last mark) (marks ++ mark ∷ [])
-heard_added k last mark marks e b h =
-    let old = keeps_from k last marks e h in
-    heard_from (added k last mark) mark (marks ++ mark ∷ []) refl (record {
-      done = old.done;
-      current = old.current ++ mark ∷ [];
-      pieces = cut_goes_on marks last mark old.done old.current old.ends b old.pieces;
-      ends = last_of-push marks mark;
-      current_ends = last_of-push old.current mark;
-      opened = old.opened;
-      keeps = keeps_added k last mark old.current old.keeps old.current_ends;
-    })
+pub heard_begun : (k : SegmentKeeper) (plan : Plan) (mark : Mark) (marks : List Mark) → boundary_of k mark ≡ true → Heard k plan marks → Heard (begun k mark) plan (marks ++ mark ∷ [])
+heard_begun k plan mark marks b h = record {
+  plan_is = h.plan_is;
+  last = sym (last_push None marks mark);
+  done = h.done ++ h.current ∷ [];
+  current = mark ∷ [];
+  pieces = cut_boundary plan None marks mark (sym (boundary_is k plan marks mark h) ∙ b) ∙ ap (λ ps. ps ++ (mark ∷ []) ∷ []) h.pieces;
+  ends = sym (last_push None marks mark);
+  opened = sym (lt-ltb 0 (length (h.done ++ h.current ∷ [])) (omega (arith, length-append h.done (h.current ∷ []))));
+  keeps = keeps_begun k mark;
+}
 
-pub heard_begun : (k : SegmentKeeper) (last mark : Mark) (marks : List Mark) → k.last ≡ Some last → dcf_boundary last mark ≡ true → Heard k marks → Heard (begun mark true) (marks ++ mark ∷ [])
-heard_begun k last mark marks e b h =
-    let old = keeps_from k last marks e h in
-    record {
-      done = old.done ++ old.current ∷ [];
-      current = mark ∷ [];
-      pieces = cut_boundary marks last mark old.ends b ∙ ap (λ ps. ps ++ (mark ∷ []) ∷ []) old.pieces;
-      ends = last_of-push marks mark;
-      current_ends = refl;
-      opened = sym (lt-ltb 0 (length (old.done ++ old.current ∷ [])) (omega (arith, length-append old.done (old.current ∷ []))));
-      keeps = keeps_begun mark true;
-    }
-
-pub same_added : (k : SegmentKeeper) (last mark : Mark) (marks : List Mark) → k.last ≡ Some last → dcf_boundary last mark ≡ false → Heard k marks → dcf_segments (marks ++ mark ∷ []) ≡ dcf_segments marks
-same_added k last mark marks e b h =
-    let old = keeps_from k last marks e h in
-    segments_same marks last mark old.done old.current old.ends old.current_ends b old.pieces
+pub same_added : (k : SegmentKeeper) (plan : Plan) (mark : Mark) (marks : List Mark) → boundary_of k mark ≡ false → Heard k plan marks → segments_of plan (marks ++ mark ∷ []) ≡ segments_of plan marks
+same_added k plan mark marks b h = segments_same plan marks mark h.done h.current (sym (boundary_is k plan marks mark h) ∙ b) h.pieces h.ends
 
 none_done : (done : List (List Mark)) → false ≡ ltb 0 (length done) → done ≡ []
 none_done [] e = refl
 none_done (d ∷ ds) e = let none = ltb-false 0 (length (d ∷ ds)) (sym e) in absurd (omega arith)
 
-pub same_opened : (k : SegmentKeeper) (last mark : Mark) (marks : List Mark) → k.last ≡ Some last → dcf_boundary last mark ≡ true → k.is_open ≡ false → Heard k marks → dcf_segments (marks ++ mark ∷ []) ≡ dcf_segments marks
-same_opened k last mark marks e b shut h =
-    let old = keeps_from k last marks e h in
-    let none = none_done old.done (sym shut ∙ old.opened) in
-    segments_open marks last mark old.current old.ends b (old.pieces ∙ ap (λ ps. ps ++ old.current ∷ []) none)
+pub same_opened : (k : SegmentKeeper) (plan : Plan) (mark : Mark) (marks : List Mark) → boundary_of k mark ≡ true → k.is_open ≡ false → Heard k plan marks → segments_of plan (marks ++ mark ∷ []) ≡ segments_of plan marks
+same_opened k plan mark marks b shut h =
+    let none = none_done h.done (sym shut ∙ h.opened) in
+    segments_open plan marks mark h.current (sym (boundary_is k plan marks mark h) ∙ b) (h.pieces ∙ ap (λ ps. ps ++ h.current ∷ []) none)
 
-closes_after : (marks : List Mark) (last mark : Mark) (done : List (List Mark)) (current : List Mark) → last_of marks ≡ Some last → dcf_boundary last mark ≡ true → cut marks ≡ done ++ current ∷ [] → true ≡ ltb 0 (length done) →
-    dcf_segments (marks ++ mark ∷ []) ≡ dcf_segments marks ++ record { marks = current; close = mark.at } ∷ []
-closes_after marks last mark [] current e b pieces some = cc
-closes_after marks last mark (piece ∷ done) current e b pieces some = segments_close marks last mark piece done current e b pieces
+closes_after : (plan : Plan) (marks : List Mark) (mark : Mark) (done : List (List Mark)) (current : List Mark) → is_boundary plan (last_or None marks) mark ≡ true → cut plan None marks ≡ done ++ current ∷ [] → true ≡ ltb 0 (length done) →
+    segments_of plan (marks ++ mark ∷ []) ≡ segments_of plan marks ++ record { marks = current; close = mark.at } ∷ []
+closes_after plan marks mark [] current b pieces some = cc
+closes_after plan marks mark (piece ∷ done) current b pieces some = segments_close plan marks mark piece done current b pieces
 
-pub segments_closed : (k : SegmentKeeper) (last mark : Mark) (marks : List Mark) → k.last ≡ Some last → dcf_boundary last mark ≡ true → k.is_open ≡ true → Heard k marks →
-    (current : List Mark) × (dcf_segments (marks ++ mark ∷ []) ≡ dcf_segments marks ++ record { marks = current; close = mark.at } ∷ []) × Keeps k current
-segments_closed k last mark marks e b is_open h =
-    let old = keeps_from k last marks e h in
-    (old.current, closes_after marks last mark old.done old.current old.ends b old.pieces (sym is_open ∙ old.opened), old.keeps)
+pub segments_closed : (k : SegmentKeeper) (plan : Plan) (mark : Mark) (marks : List Mark) → boundary_of k mark ≡ true → k.is_open ≡ true → (h : Heard k plan marks) →
+    segments_of plan (marks ++ mark ∷ []) ≡ segments_of plan marks ++ record { marks = h.current; close = mark.at } ∷ []
+segments_closed k plan mark marks b is_open h = closes_after plan marks mark h.done h.current (sym (boundary_is k plan marks mark h) ∙ b) h.pieces (sym is_open ∙ h.opened)

@@ -1,9 +1,9 @@
 -- The pieces and segments of marks, with one more mark.
-use Rattle.std.proofs.Common.{◌≡◌, ℕ, true, false, cond, Some, List, [], ◌∷◌, ◌++◌, drop, refl, ap, ◌∙◌, append_assoc}
-use Rattle.std.specs.List.{onto_first}
-use Rattle.tick_units.specs.Segments.{dcf_boundary, cut, closed, start_of, dcf_segments}
+use Rattle.std.proofs.Common.{◌≡◌, ℕ, true, false, cond, Option, Some, None, List, [], ◌∷◌, ◌++◌, drop, refl, ap, sym, ◌∙◌, append_assoc}
+use Rattle.std.specs.List.{onto_first, last_or}
+use Rattle.tick_units.specs.Segments.{is_boundary, cut, closed, start_of, segments_of}
 use Rattle.tick_units.specs.declared.marks.Mark.{Mark}
-use Rattle.minute_pair.specs.Keeping.{last_of}
+use Rattle.tick_units.specs.declared.marks.Plan.{Plan}
 
 -- the pieces with a mark at the end of the last
 add_last : Mark → List (List Mark) → List (List Mark)
@@ -11,43 +11,56 @@ add_last mark [] = (mark ∷ []) ∷ []
 add_last mark (piece ∷ []) = (piece ++ mark ∷ []) ∷ []
 add_last mark (piece ∷ next ∷ pieces) = piece ∷ add_last mark (next ∷ pieces)
 
-cut_first : (mark : Mark) (marks : List Mark) → (piece : List Mark) × (pieces : List (List Mark)) × (cut (mark ∷ marks) ≡ (mark ∷ piece) ∷ pieces)
-cut_first mark [] = ([], [], refl)
-cut_first mark (next ∷ marks) =
-    let rest = cut_first next marks in
-    elim (dcf_boundary mark next) as (λ b. (piece : List Mark) × (pieces : List (List Mark)) × (cond b ((mark ∷ []) ∷ cut (next ∷ marks)) (onto_first mark (cut (next ∷ marks))) ≡ (mark ∷ piece) ∷ pieces)) [
-      | true ↦ ([], cut (next ∷ marks), refl)
-      | false ↦ (next ∷ rest.0, rest.1, ap (onto_first mark) rest.2)
+-- there is always a piece
+some_piece : (plan : Plan) (before : Option Mark) (marks : List Mark) → (piece : List Mark) × (pieces : List (List Mark)) × (cut plan before marks ≡ piece ∷ pieces)
+some_piece plan before [] = ([], [], refl)
+some_piece plan before (mark ∷ marks) =
+    let rest = some_piece plan (Some mark) marks in
+    let more = cut plan (Some mark) marks in
+    elim (is_boundary plan before mark) as (λ b. (piece : List Mark) × (pieces : List (List Mark)) × (cond b ([] ∷ onto_first mark more) (onto_first mark more) ≡ piece ∷ pieces)) [
+      | true ↦ ([], onto_first mark more, refl)
+      | false ↦ (mark ∷ rest.0, rest.1, ap (onto_first mark) rest.2)
     ]
 
--- a boundary begins a piece
-pub cut_boundary : (marks : List Mark) (last mark : Mark) → last_of marks ≡ Some last → dcf_boundary last mark ≡ true → cut (marks ++ mark ∷ []) ≡ cut marks ++ (mark ∷ []) ∷ []
-cut_boundary [] last mark e b = cc
-cut_boundary (x ∷ []) last mark e b = let same : x ≡ last = cc in rw (same, b) refl
-cut_boundary (x ∷ y ∷ zs) last mark e b =
-    let more = cut_boundary (y ∷ zs) last mark e b in
-    let first = cut_first y zs in
-    elim (dcf_boundary x y) as (λ t. cond t ((x ∷ []) ∷ cut (y ∷ (zs ++ mark ∷ []))) (onto_first x (cut (y ∷ (zs ++ mark ∷ [])))) ≡ cond t ((x ∷ []) ∷ cut (y ∷ zs)) (onto_first x (cut (y ∷ zs))) ++ (mark ∷ []) ∷ []) [
-      | true ↦ ap (λ pieces. (x ∷ []) ∷ pieces) more
-      | false ↦ ap (onto_first x) more ∙ rw first.2 refl
-    ]
+onto_some : (x : Mark) (pieces more : List (List Mark)) (piece : List Mark) (rest : List (List Mark)) → pieces ≡ piece ∷ rest → onto_first x (pieces ++ more) ≡ onto_first x pieces ++ more
+onto_some x pieces more piece rest e = rw e refl
 
-onto_add : (x mark : Mark) (piece : List Mark) (pieces : List (List Mark)) → onto_first x (add_last mark (piece ∷ pieces)) ≡ add_last mark (onto_first x (piece ∷ pieces))
+onto_add : (x mark : Mark) (piece : List Mark) (rest : List (List Mark)) → onto_first x (add_last mark (piece ∷ rest)) ≡ add_last mark (onto_first x (piece ∷ rest))
 unfolding add_last
 onto_add x mark piece [] = refl
-onto_add x mark piece (next ∷ pieces) = refl
+onto_add x mark piece (next ∷ rest) = refl
+
+cons_add : (mark : Mark) (first : List Mark) (pieces : List (List Mark)) (piece : List Mark) (rest : List (List Mark)) → pieces ≡ piece ∷ rest → add_last mark (first ∷ pieces) ≡ first ∷ add_last mark pieces
+unfolding add_last
+cons_add mark first pieces piece rest e = rw e refl
+
+-- a boundary begins a piece
+pub cut_boundary : (plan : Plan) (before : Option Mark) (marks : List Mark) (mark : Mark) → is_boundary plan (last_or before marks) mark ≡ true → cut plan before (marks ++ mark ∷ []) ≡ cut plan before marks ++ (mark ∷ []) ∷ []
+cut_boundary plan before [] mark b = rw b refl
+cut_boundary plan before (x ∷ xs) mark b =
+    let more = cut_boundary plan (Some x) xs mark b in
+    let some = some_piece plan (Some x) xs in
+    let old = cut plan (Some x) xs in
+    let onto = ap (onto_first x) more ∙ onto_some x old ((mark ∷ []) ∷ []) some.0 some.1 some.2 in
+    elim (is_boundary plan before x) as (λ t. cond t ([] ∷ onto_first x (cut plan (Some x) (xs ++ mark ∷ []))) (onto_first x (cut plan (Some x) (xs ++ mark ∷ [])))
+    ≡ cond t ([] ∷ onto_first x old) (onto_first x old) ++ (mark ∷ []) ∷ []) [
+      | true ↦ ap (λ pieces. [] ∷ pieces) onto
+      | false ↦ onto
+    ]
 
 -- any other mark goes on with the last piece
-cut_more : (marks : List Mark) (last mark : Mark) → last_of marks ≡ Some last → dcf_boundary last mark ≡ false → cut (marks ++ mark ∷ []) ≡ add_last mark (cut marks)
+cut_more : (plan : Plan) (before : Option Mark) (marks : List Mark) (mark : Mark) → is_boundary plan (last_or before marks) mark ≡ false → cut plan before (marks ++ mark ∷ []) ≡ add_last mark (cut plan before marks)
 unfolding add_last
-cut_more [] last mark e b = cc
-cut_more (x ∷ []) last mark e b = let same : x ≡ last = cc in rw (same, b) refl
-cut_more (x ∷ y ∷ zs) last mark e b =
-    let more = cut_more (y ∷ zs) last mark e b in
-    let first = cut_first y zs in
-    elim (dcf_boundary x y) as (λ t. cond t ((x ∷ []) ∷ cut (y ∷ (zs ++ mark ∷ []))) (onto_first x (cut (y ∷ (zs ++ mark ∷ [])))) ≡ add_last mark (cond t ((x ∷ []) ∷ cut (y ∷ zs)) (onto_first x (cut (y ∷ zs))))) [
-      | true ↦ ap (λ pieces. (x ∷ []) ∷ pieces) more ∙ rw first.2 refl
-      | false ↦ ap (onto_first x) more ∙ rw first.2 (onto_add x mark (y ∷ first.0) first.1)
+cut_more plan before [] mark b = rw b refl
+cut_more plan before (x ∷ xs) mark b =
+    let more = cut_more plan (Some x) xs mark b in
+    let some = some_piece plan (Some x) xs in
+    let old = cut plan (Some x) xs in
+    let onto = ap (onto_first x) more ∙ rw some.2 (onto_add x mark some.0 some.1) in
+    elim (is_boundary plan before x) as (λ t. cond t ([] ∷ onto_first x (cut plan (Some x) (xs ++ mark ∷ []))) (onto_first x (cut plan (Some x) (xs ++ mark ∷ [])))
+    ≡ add_last mark (cond t ([] ∷ onto_first x old) (onto_first x old))) [
+      | true ↦ ap (λ pieces. [] ∷ pieces) onto ∙ sym (cons_add mark [] (onto_first x old) (x ∷ some.0) some.1 (ap (onto_first x) some.2))
+      | false ↦ onto
     ]
 
 add_last_is : (done : List (List Mark)) (current : List Mark) (mark : Mark) → add_last mark (done ++ current ∷ []) ≡ done ++ (current ++ mark ∷ []) ∷ []
@@ -56,14 +69,9 @@ add_last_is [] current mark = refl
 add_last_is (piece ∷ []) current mark = refl
 add_last_is (piece ∷ next ∷ done) current mark = ap (λ pieces. piece ∷ pieces) (add_last_is (next ∷ done) current mark)
 
-pub cut_goes_on : (marks : List Mark) (last mark : Mark) (done : List (List Mark)) (current : List Mark) → last_of marks ≡ Some last → dcf_boundary last mark ≡ false → cut marks ≡ done ++ current ∷ [] →
-    cut (marks ++ mark ∷ []) ≡ done ++ (current ++ mark ∷ []) ∷ []
-cut_goes_on marks last mark done current e b pieces = cut_more marks last mark e b ∙ ap (add_last mark) pieces ∙ add_last_is done current mark
-
-pub last_of-push : (marks : List Mark) (mark : Mark) → last_of (marks ++ mark ∷ []) ≡ Some mark
-last_of-push [] mark = refl
-last_of-push (x ∷ []) mark = refl
-last_of-push (x ∷ y ∷ zs) mark = last_of-push (y ∷ zs) mark
+pub cut_goes_on : (plan : Plan) (marks : List Mark) (mark : Mark) (done : List (List Mark)) (current : List Mark) → is_boundary plan (last_or None marks) mark ≡ false → cut plan None marks ≡ done ++ current ∷ [] →
+    cut plan None (marks ++ mark ∷ []) ≡ done ++ (current ++ mark ∷ []) ∷ []
+cut_goes_on plan marks mark done current b pieces = cut_more plan None marks mark b ∙ ap (add_last mark) pieces ∙ add_last_is done current mark
 
 closed_push : (done : List (List Mark)) (current : List Mark) (mark : Mark) → closed (done ++ current ∷ (mark ∷ []) ∷ []) ≡ closed (done ++ current ∷ []) ++ record { marks = current; close = mark.at } ∷ []
 closed_push [] current mark = refl
@@ -71,28 +79,38 @@ closed_push (piece ∷ []) current mark = refl
 closed_push (piece ∷ next ∷ done) current mark = ap (λ segments. record { marks = piece; close = start_of next } ∷ segments) (closed_push (next ∷ done) current mark)
 
 -- a boundary closes the last piece, where that isn't the first
-pub segments_close : (marks : List Mark) (last mark : Mark) (piece : List Mark) (done : List (List Mark)) (current : List Mark) → last_of marks ≡ Some last → dcf_boundary last mark ≡ true → cut marks ≡ (piece ∷ done) ++ current ∷ [] →
-    dcf_segments (marks ++ mark ∷ []) ≡ dcf_segments marks ++ record { marks = current; close = mark.at } ∷ []
-segments_close marks last mark piece done current e b pieces =
-    ap (λ ps. closed (drop 1 ps)) (cut_boundary marks last mark e b)
+pub segments_close : (plan : Plan) (marks : List Mark) (mark : Mark) (piece : List Mark) (done : List (List Mark)) (current : List Mark) → is_boundary plan (last_or None marks) mark ≡ true → cut plan None marks ≡ (piece ∷ done) ++ current ∷ [] →
+    segments_of plan (marks ++ mark ∷ []) ≡ segments_of plan marks ++ record { marks = current; close = mark.at } ∷ []
+segments_close plan marks mark piece done current b pieces =
+    ap (λ ps. closed (drop 1 ps)) (cut_boundary plan None marks mark b)
     ∙ rw pieces (ap closed (append_assoc done (current ∷ []) ((mark ∷ []) ∷ [])) ∙ closed_push done current mark)
 
-pub segments_open : (marks : List Mark) (last mark : Mark) (current : List Mark) → last_of marks ≡ Some last → dcf_boundary last mark ≡ true → cut marks ≡ current ∷ [] →
-    dcf_segments (marks ++ mark ∷ []) ≡ dcf_segments marks
-segments_open marks last mark current e b pieces =
-    ap (λ ps. closed (drop 1 ps)) (cut_boundary marks last mark e b) ∙ rw pieces refl
+pub segments_open : (plan : Plan) (marks : List Mark) (mark : Mark) (current : List Mark) → is_boundary plan (last_or None marks) mark ≡ true → cut plan None marks ≡ current ∷ [] →
+    segments_of plan (marks ++ mark ∷ []) ≡ segments_of plan marks
+segments_open plan marks mark current b pieces = ap (λ ps. closed (drop 1 ps)) (cut_boundary plan None marks mark b) ∙ rw pieces refl
 
 closed_same : (done : List (List Mark)) (a b : List Mark) → start_of a ≡ start_of b → closed (done ++ a ∷ []) ≡ closed (done ++ b ∷ [])
 closed_same [] a b e = refl
 closed_same (piece ∷ []) a b e = ap (λ (at : ℕ). record { marks = piece; close = at } ∷ []) e
 closed_same (piece ∷ next ∷ done) a b e = ap (λ segments. record { marks = piece; close = start_of next } ∷ segments) (closed_same (next ∷ done) a b e)
 
-start_same : (current : List Mark) (last mark : Mark) → last_of current ≡ Some last → start_of (current ++ mark ∷ []) ≡ start_of current
-start_same [] last mark e = cc
-start_same (x ∷ xs) last mark e = refl
+start_same : (current : List Mark) (mark last : Mark) → last_or None current ≡ Some last → start_of (current ++ mark ∷ []) ≡ start_of current
+start_same [] mark last e = cc
+start_same (x ∷ xs) mark last e = refl
 
-pub segments_same : (marks : List Mark) (last mark : Mark) (done : List (List Mark)) (current : List Mark) → last_of marks ≡ Some last → last_of current ≡ Some last → dcf_boundary last mark ≡ false → cut marks ≡ done ++ current ∷ [] →
-    dcf_segments (marks ++ mark ∷ []) ≡ dcf_segments marks
-segments_same marks last mark [] current e e' b pieces = rw (cut_goes_on marks last mark [] current e b pieces, pieces) refl
-segments_same marks last mark (piece ∷ done) current e e' b pieces =
-    rw (cut_goes_on marks last mark (piece ∷ done) current e b pieces, pieces) (closed_same done (current ++ mark ∷ []) current (start_same current last mark e'))
+-- a mark that goes on leaves the segments; the last piece has a mark where it isn't the first one
+pub segments_same : (plan : Plan) (marks : List Mark) (mark : Mark) (done : List (List Mark)) (current : List Mark) → is_boundary plan (last_or None marks) mark ≡ false → cut plan None marks ≡ done ++ current ∷ [] → last_or None current ≡ last_or None marks →
+    segments_of plan (marks ++ mark ∷ []) ≡ segments_of plan marks
+segments_same plan marks mark [] current b pieces ends = rw (cut_goes_on plan marks mark [] current b pieces, pieces) refl
+segments_same plan [] mark (piece ∷ done) current b pieces ends = absurd (one_piece piece done current pieces)
+  where
+    one_piece : (piece : List Mark) (done : List (List Mark)) (current : List Mark) → ◌≡◌ {A = List (List Mark)} ([] ∷ []) ((piece ∷ done) ++ current ∷ []) → ⊥
+    one_piece piece [] current e = cc
+    one_piece piece (next ∷ done) current e = cc
+segments_same plan (x ∷ xs) mark (piece ∷ done) current b pieces ends =
+    let last = some_last x xs in
+    rw (cut_goes_on plan (x ∷ xs) mark (piece ∷ done) current b pieces, pieces) (closed_same done (current ++ mark ∷ []) current (start_same current mark last.0 (ends ∙ last.1)))
+  where
+    some_last : (x : Mark) (xs : List Mark) → (last : Mark) × (last_or (Some x) xs ≡ Some last)
+    some_last x [] = (x, refl)
+    some_last x (y ∷ ys) = some_last y ys

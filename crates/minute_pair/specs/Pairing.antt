@@ -1,9 +1,9 @@
 -- What a pairing stands for: the marks that it has heard.
 use Rattle.std.specs.Prelude.{◌≡◌, ℕ, ◌-◌, ◌&&◌, ◌||◌, ◌==◌, nat_le, Option, None, Some, Result, Ok, Err, List, if◌then◌else◌}
 use Rattle.std.specs.List.{last_or}
-use Rattle.tick_units.specs.Segments.{Segment, dcf_segments}
+use Rattle.tick_units.specs.Segments.{Segment, segments_of}
 use Rattle.tick_units.specs.declared.marks.Mark.{Mark}
-use Rattle.tick_units.specs.declared.marks.Plan.TheVariants.{Dcf}
+use Rattle.tick_units.specs.declared.marks.Plan.{Plan}
 use Rattle.tick_units.specs.declared.verdicts.Broken.{Broken}
 use Rattle.tick_units.specs.declared.verdicts.Coded.{Coded}
 use Rattle.tick_units.specs.declared.verdicts.Kind.{Kind}
@@ -23,9 +23,9 @@ before_by_judged close (Err broken) = Nothing
 abbrev pub before_of_closed : Closed → Before
 before_of_closed closed = before_by_judged closed.close closed.judged
 
-abbrev pub before_of : Option Segment → Before
-before_of None = Nothing
-before_of (Some segment) = before_by_judged segment.close (judged segment)
+abbrev pub before_of : Plan → Option Segment → Before
+before_of plan None = Nothing
+before_of plan (Some segment) = before_by_judged segment.close (judged plan segment)
 
 -- the answer by what is kept
 abbrev pub both_by : ℕ → Coded → Closed → Coded → Kind
@@ -44,8 +44,7 @@ judged_kind before closed (Ok is) = valid_by before closed is
 abbrev pub answer_by : Before → Closed → Kind
 answer_by before closed = judged_kind before closed closed.judged
 
--- the pairing of DCF77 has heard these marks: it keeps their last segment as far as it needs it
-pub record HasPaired (p : Pairing) (marks : List Mark) : Type 0 where
-  pub plan : p.plan ≡ Dcf
-  pub heard : Heard p.keeper marks
-  pub before : p.before ≡ before_of (last_or None (dcf_segments marks))
+-- the pairing has heard these marks of a plan: it keeps their last segment as far as it needs it
+pub record HasPaired (p : Pairing) (plan : Plan) (marks : List Mark) : Type 0 where
+  pub heard : Heard p.keeper plan marks
+  pub before : p.before ≡ before_of plan (last_or None (segments_of plan marks))

@@ -1,8 +1,8 @@
 ghost use Rattle.std.specs.Prelude.{◌≡◌, ◌++◌, ◌∷◌, [], List};
 ghost use Rattle.std.specs.Option.{option_to_list};
-ghost use Rattle.tick_units.specs.Segments.{dcf_segments};
+ghost use Rattle.tick_units.specs.Segments.{segments_of};
 ghost use Rattle.tick_units.specs.declared.marks.Mark.{Mark};
-ghost use Rattle.tick_units.specs.declared.marks.Plan.TheVariants.{Dcf};
+ghost use Rattle.tick_units.specs.declared.marks.Plan.{Plan};
 ghost use Rattle.minute_pair.specs.Answers.{answers};
 
 use crate::answers::{Before, answer, before_by};
@@ -12,7 +12,6 @@ use tick_units::{Heard, Mark, Plan};
 /// Pairs the segments of a plan's marks: what each comes to is told by it and by the one just before it.
 #[derive(Drop)]
 pub struct Pairing {
-    plan: Plan,
     keeper: SegmentKeeper,
     before: Before,
 }
@@ -22,21 +21,19 @@ impl Pairing {
 
     /// A pairing of a plan's marks that has heard none.
     pub fn new(plan: Plan) -> Pairing
-        requires { plan ≡ Dcf }
-        ensures { HasPaired result [] }
+        ensures { HasPaired result plan [] }
     {
         Pairing {
-            plan,
-            keeper: SegmentKeeper::new(),
+            keeper: SegmentKeeper::new(plan),
             before: Before::Nothing,
         }
     }
 
     /// Hears the next mark: the answer to the segment that it closes, if it closes one, at this mark's start.
     pub fn hear(&mut self, mark: Mark) -> Option<Heard>
-        ensures heard { (marks : List Mark) → HasPaired self.old marks → HasPaired self.new (marks ++ mark ∷ []) }
-        ensures answered { (marks : List Mark) → HasPaired self.old marks →
-            answers (dcf_segments (marks ++ mark ∷ [])) ≡ answers (dcf_segments marks) ++ option_to_list result }
+        ensures heard { (plan : Plan) (marks : List Mark) → HasPaired self.old plan marks → HasPaired self.new plan (marks ++ mark ∷ []) }
+        ensures answered { (plan : Plan) (marks : List Mark) → HasPaired self.old plan marks →
+            answers plan (segments_of plan (marks ++ mark ∷ [])) ≡ answers plan (segments_of plan marks) ++ option_to_list result }
     {
         let Some(closed) = self.keeper.hear(mark) else {
             return None;

@@ -1,21 +1,27 @@
 -- The values of a segment whose symbols are those of a spelling.
-use Rattle.std.proofs.Common.{◌≡◌, ℕ, ◌+◌, ◌/◌, ◌%◌, ◌<◌, ◌==◌, Bool, true, false, not, List, [], ◌∷◌, length, get_or, count_by, refl, ap, arith}
+use Rattle.std.proofs.Common.{◌≡◌, ℕ, zero, suc, ◌+◌, ◌-◌, ◌/◌, ◌%◌, ◌<◌, ◌≤◌, ◌==◌, Bool, true, false, not, List, [], ◌∷◌, length, get_or, count_by, refl, ap, sym, ◌∙◌, arith}
 use Rattle.std.specs.Prelude.{if◌then◌else◌}
-use Rattle.std.specs.List.{list_any}
-use Rattle.std.proofs.lemmas.List.{length-map}
-use Rattle.tick_units.specs.Fields.{is_one, is_set, is_odd_over, symbols_of}
+use Rattle.std.specs.List.{list_any, range_with_len}
+use Rattle.std.proofs.lemmas.List.Sums.{sum_by-cons}
+use Rattle.tick_units.specs.Fields.{is_one, is_set, bit_at, value, is_odd_over, symbols_of}
 use Rattle.tick_units.specs.Rules.{is_odd, has_odd_symbol}
 use Rattle.tick_units.specs.declared.marks.Mark.{Mark}
+use Rattle.tick_units.specs.declared.marks.Symbol.{Symbol}
 use Rattle.tick_units.specs.declared.marks.Symbol.TheVariants.{Zero}
 use Rattle.tick_units.specs.declared.verdicts.Coded.{Coded}
 use Rattle.civil_minute.specs.declared.seconds.CivilMinute.{CivilMinute}
 use Rattle.plan_dcf.specs.Fields.{is_summer, is_standard, announces_leap, minute_ones, minute_of, hour_ones, hour_of, day_ones, day_of, weekday_of, month_ones, month_of, year_ones, year_tens, year_of}
-use Rattle.plan_dcf.specs.Spelling.{symbol_of, digits_of, date_of, frame_of}
+use Rattle.plan_dcf.specs.Spelling.{symbol_of, digits_of, date_of, frame_of, IsPassedOver}
 use Rattle.plan_dcf.proofs.SpeltBits.{digit_worth, three_worth, number_worth_1, number_worth_2, number_worth_3, number_worth_4, even_with_parity, is_odd-symbol_of}
 
 is_one-symbol_of : (bit : Bool) → is_one (symbol_of bit) ≡ bit
 is_one-symbol_of true = refl
 is_one-symbol_of false = refl
+
+-- the last mark of a leap minute is Zero, as a place that isn't there counts
+last_zero : (long : Bool) → get_or (if long then Zero ∷ [] else []) 0 Zero ≡ Zero
+last_zero true = refl
+last_zero false = refl
 
 -- the parts of a frame that are single bits
 pub record HasBits (c : Coded) (marks : List Mark) : Type 0 where
@@ -27,6 +33,7 @@ pub record HasBits (c : Coded) (marks : List Mark) : Type 0 where
   pub minute_parity : is_odd_over is_one marks 21 28 ≡ false
   pub hour_parity : is_odd_over is_one marks 29 35 ≡ false
   pub date_parity : is_odd_over is_one marks 36 58 ≡ false
+  pub last : is_set is_one marks 59 ≡ false
 
 pub HasBits-spelt : (c : Coded) (civil : CivilMinute) (weekday : ℕ) (marks : List Mark) → symbols_of marks ≡ frame_of c civil weekday → HasBits c marks
 unfolding frame_of
@@ -39,27 +46,16 @@ HasBits-spelt c civil weekday marks e = record {
   minute_parity = rw e (even_with_parity (count_by is_one (digits_of 3 civil.minute)));
   hour_parity = rw e (even_with_parity (count_by is_one (digits_of 2 civil.hour)));
   date_parity = rw e (even_with_parity (count_by is_one (date_of civil weekday)));
+  last = rw (e, last_zero (c.leap_at == c.minute)) refl;
 }
-
-last_zero : (long : Bool) → get_or (if long then Zero ∷ [] else []) 0 Zero ≡ Zero
-last_zero true = refl
-last_zero false = refl
-
--- the last mark of a leap minute is Zero, as a place that isn't there counts
-pub last_place : (c : Coded) (civil : CivilMinute) (weekday : ℕ) (marks : List Mark) → symbols_of marks ≡ frame_of c civil weekday → is_set is_one marks 59 ≡ false
-unfolding frame_of
-last_place c civil weekday marks e = rw (e, last_zero (c.leap_at == c.minute)) refl
 
 length_last : (long : Bool) → length (if long then Zero ∷ [] else []) ≡ (if long then 1 else 0)
 length_last true = refl
 length_last false = refl
 
-pub length_is : (c : Coded) (civil : CivilMinute) (weekday : ℕ) (marks : List Mark) → symbols_of marks ≡ frame_of c civil weekday → length marks ≡ 59 + (if c.leap_at == c.minute then 1 else 0)
+pub length-frame_of : (c : Coded) (civil : CivilMinute) (weekday : ℕ) → length (frame_of c civil weekday) ≡ 59 + (if c.leap_at == c.minute then 1 else 0)
 unfolding frame_of
-length_is c civil weekday marks e =
-    let last = length_last (c.leap_at == c.minute) in
-    let all = ap length e in
-    omega (arith, length-map marks (λ mark. mark.symbol), all)
+length-frame_of c civil weekday = omega (arith, length_last (c.leap_at == c.minute))
 
 list_any-symbols_of : (marks : List Mark) → has_odd_symbol marks ≡ list_any is_odd (symbols_of marks)
 list_any-symbols_of [] = refl
@@ -105,3 +101,68 @@ HasNumbers-spelt c civil weekday marks e minute hour day week month = record {
   year_decade = rw e (digit_worth (civil.year % 100 / 10) (omega arith));
   year = rw e (number_worth_4 (civil.year % 100) (omega arith));
 }
+
+-- ---- marks that agree at the places that are read
+
+-- two segments have the same symbols at the places that aren't passed over
+abbrev pub IsReadAs : List Mark → List Mark → Type 0
+IsReadAs a b = (place : ℕ) → ¬ (IsPassedOver place) → get_or (symbols_of a) place Zero ≡ get_or (symbols_of b) place Zero
+
+value_same : (a b : List Mark) → IsReadAs a b → (place : ℕ) (weights : List ℕ) → 17 ≤ place → value is_one a place weights ≡ value is_one b place weights
+value_same a b h place [] from = refl
+value_same a b h place (weight ∷ weights) from =
+    let here : get_or (symbols_of a) place Zero ≡ get_or (symbols_of b) place Zero = h place (λ over. omega (arith, over)) in
+    rw (here, value_same a b h (place + 1) weights (omega arith)) refl
+
+ones_same : (a b : List Mark) → IsReadAs a b → (place count : ℕ) → 17 ≤ place → count_by (is_set is_one a) (range_with_len place count) ≡ count_by (is_set is_one b) (range_with_len place count)
+ones_same a b h place zero from = refl
+ones_same a b h place (suc count) from =
+    let here : get_or (symbols_of a) place Zero ≡ get_or (symbols_of b) place Zero = h place (λ over. omega (arith, over)) in
+    let one : bit_at is_one a place ≡ bit_at is_one b place = rw here refl in
+    let left = sum_by-cons (bit_at is_one a) place (range_with_len (place + 1) count) in
+    let right = sum_by-cons (bit_at is_one b) place (range_with_len (place + 1) count) in
+    left ∙ rw (one, ones_same a b h (place + 1) count (omega arith)) (sym right)
+
+bit_same : (a b : List Mark) → IsReadAs a b → (place : ℕ) → ¬ (IsPassedOver place) → is_set is_one a place ≡ is_set is_one b place
+bit_same a b h place read = ap is_one (h place read)
+
+odd_same : (a b : List Mark) → IsReadAs a b → (first last : ℕ) → 17 ≤ first → is_odd_over is_one a first last ≡ is_odd_over is_one b first last
+odd_same a b h first last from = ap (λ n. n % 2 == 1) (ones_same a b h first (last + 1 - first) from)
+
+pub HasBits-same : (c : Coded) (a b : List Mark) → IsReadAs a b → HasBits c b → HasBits c a
+HasBits-same c a b h bits = record {
+  start = bit_same a b h 0 (λ over. omega (arith, over)) ∙ bits.start;
+  summer = bit_same a b h 17 (λ over. omega (arith, over)) ∙ bits.summer;
+  standard = bit_same a b h 18 (λ over. omega (arith, over)) ∙ bits.standard;
+  leap = bit_same a b h 19 (λ over. omega (arith, over)) ∙ bits.leap;
+  time = bit_same a b h 20 (λ over. omega (arith, over)) ∙ bits.time;
+  minute_parity = odd_same a b h 21 28 (omega arith) ∙ bits.minute_parity;
+  hour_parity = odd_same a b h 29 35 (omega arith) ∙ bits.hour_parity;
+  date_parity = odd_same a b h 36 58 (omega arith) ∙ bits.date_parity;
+  last = bit_same a b h 59 (λ over. omega (arith, over)) ∙ bits.last;
+}
+
+pub HasNumbers-same : (civil : CivilMinute) (weekday : ℕ) (a b : List Mark) → IsReadAs a b → HasNumbers civil weekday b → HasNumbers civil weekday a
+HasNumbers-same civil weekday a b h numbers = record {
+  minute_digit = value_same a b h 21 (1 ∷ 2 ∷ 4 ∷ 8 ∷ []) (omega arith) ∙ numbers.minute_digit;
+  minute = value_same a b h 21 (1 ∷ 2 ∷ 4 ∷ 8 ∷ 10 ∷ 20 ∷ 40 ∷ []) (omega arith) ∙ numbers.minute;
+  hour_digit = value_same a b h 29 (1 ∷ 2 ∷ 4 ∷ 8 ∷ []) (omega arith) ∙ numbers.hour_digit;
+  hour = value_same a b h 29 (1 ∷ 2 ∷ 4 ∷ 8 ∷ 10 ∷ 20 ∷ []) (omega arith) ∙ numbers.hour;
+  day_digit = value_same a b h 36 (1 ∷ 2 ∷ 4 ∷ 8 ∷ []) (omega arith) ∙ numbers.day_digit;
+  day = value_same a b h 36 (1 ∷ 2 ∷ 4 ∷ 8 ∷ 10 ∷ 20 ∷ []) (omega arith) ∙ numbers.day;
+  days = value_same a b h 42 (1 ∷ 2 ∷ 4 ∷ []) (omega arith) ∙ numbers.days;
+  month_digit = value_same a b h 45 (1 ∷ 2 ∷ 4 ∷ 8 ∷ []) (omega arith) ∙ numbers.month_digit;
+  month = value_same a b h 45 (1 ∷ 2 ∷ 4 ∷ 8 ∷ 10 ∷ []) (omega arith) ∙ numbers.month;
+  year_digit = value_same a b h 50 (1 ∷ 2 ∷ 4 ∷ 8 ∷ []) (omega arith) ∙ numbers.year_digit;
+  year_decade = value_same a b h 54 (1 ∷ 2 ∷ 4 ∷ 8 ∷ []) (omega arith) ∙ numbers.year_decade;
+  year = value_same a b h 50 (1 ∷ 2 ∷ 4 ∷ 8 ∷ 10 ∷ 20 ∷ 40 ∷ 80 ∷ []) (omega arith) ∙ numbers.year;
+}
+
+-- marks that have these symbols
+abbrev pub template : List Symbol → List Mark
+template [] = []
+template (symbol ∷ symbols) = record { at = 0; symbol = symbol } ∷ template symbols
+
+pub symbols_of-template : (symbols : List Symbol) → symbols_of (template symbols) ≡ symbols
+symbols_of-template [] = refl
+symbols_of-template (symbol ∷ symbols) = rw (symbols_of-template symbols) refl

@@ -1,12 +1,14 @@
 -- A segment that has the symbols of a spelling, and lawful spacing, is valid and says what was spelt.
-use Rattle.std.proofs.Common.{◌≡◌, ℕ, ◌+◌, ◌/◌, ◌%◌, ◌<◌, ◌≤◌, inl, inr, Bool, true, false, not, ◌&&◌, ◌||◌, ◌==◌, nat_lt, None, List, length, refl, sym, ap, ◌∙◌, arith}
+use Rattle.std.proofs.Common.{◌≡◌, ℕ, ◌+◌, ◌/◌, ◌%◌, ◌<◌, ◌≤◌, inl, inr, Bool, true, false, not, ◌&&◌, ◌||◌, ◌==◌, nat_lt, None, List, length, get_or, refl, sym, ap, ◌∙◌, arith}
 use Rattle.std.specs.Prelude.{if◌then◌else◌}
 use Rattle.std.specs.Bool.{beq}
+use Rattle.std.proofs.lemmas.List.{length-map}
 use Rattle.std.proofs.lemmas.Bool.{cases_eq}
 use Rattle.std.proofs.lemmas.Bool.Decides.{nat_tests}
 use Rattle.tick_units.specs.Fields.{symbols_of}
 use Rattle.tick_units.specs.Rules.{starts_of, are_spaced, is_out_of}
 use Rattle.tick_units.specs.declared.marks.Mark.{Mark}
+use Rattle.tick_units.specs.declared.marks.Symbol.TheVariants.{Zero}
 use Rattle.tick_units.specs.declared.verdicts.Coded.{Coded}
 use Rattle.civil_minute.specs.Dates.{is_date, day_number, second_of, weekday_of as civil_weekday, weekday_of_day, midnight_from}
 use Rattle.civil_minute.specs.Months.{begins_month}
@@ -16,8 +18,8 @@ use Rattle.civil_minute.proofs.Bounds.{date_bounds, weekday_bounds, second_of-da
 use Rattle.civil_minute.proofs.MonthLemmas.{begins_month-midnight}
 use Rattle.plan_dcf.specs.Fields.{minute_ones, minute_of, hour_ones, hour_of, day_ones, day_of, weekday_of, month_ones, month_of, year_ones, year_tens, year_of, hours_ahead, local_start, minute_start, leap_end, coded}
 use Rattle.plan_dcf.specs.Rules.{is_in_range, has_date, names_minute, is_leap_minute, first}
-use Rattle.plan_dcf.specs.Spelling.{IsSpellable, local_second, frame_of}
-use Rattle.plan_dcf.proofs.ReadBack.{HasBits-spelt, HasNumbers, HasNumbers-spelt, last_place, length_is, has_odd_symbol-spelt}
+use Rattle.plan_dcf.specs.Spelling.{IsSpellable, local_second, frame_of, Agrees}
+use Rattle.plan_dcf.proofs.ReadBack.{HasBits, HasBits-spelt, HasBits-same, HasNumbers, HasNumbers-spelt, HasNumbers-same, IsReadAs, template, symbols_of-template, length-frame_of, has_odd_symbol-spelt}
 use Rattle.plan_dcf.proofs.Validity.{IsValid, first-valid}
 
 -- what is known of a spelling's parts
@@ -27,8 +29,7 @@ pub record IsFrameOf (c : Coded) (civil : CivilMinute) (weekday : ℕ) (marks : 
   pub from : 2000 ≤ civil.year
   pub below : civil.year < 2100
   pub weekday_is : weekday ≡ civil_weekday (local_second c)
-  pub symbols : symbols_of marks ≡ frame_of c civil weekday
-  pub spaced : are_spaced (starts_of marks) ≡ true
+  pub marks_agree : Agrees marks (frame_of c civil weekday)
 
 -- ---- tests that hold or fail
 
@@ -108,11 +109,22 @@ leap_end_is c s =
 
 -- ---- the frame as a whole
 
+-- the marks are read as those that have just the frame's symbols
+read_as : (c : Coded) (civil : CivilMinute) (weekday : ℕ) (marks : List Mark) → IsFrameOf c civil weekday marks → IsReadAs marks (template (frame_of c civil weekday))
+read_as c civil weekday marks h place read =
+    h.marks_agree.places place read ∙ ap (λ symbols. get_or symbols place Zero) (sym (symbols_of-template (frame_of c civil weekday)))
+
+bits_are : (c : Coded) (civil : CivilMinute) (weekday : ℕ) (marks : List Mark) → IsFrameOf c civil weekday marks → HasBits c marks
+bits_are c civil weekday marks h =
+    let frame = template (frame_of c civil weekday) in
+    HasBits-same c marks frame (read_as c civil weekday marks h) (HasBits-spelt c civil weekday frame (symbols_of-template (frame_of c civil weekday)))
+
 numbers_of : (c : Coded) (civil : CivilMinute) (weekday : ℕ) (marks : List Mark) → IsFrameOf c civil weekday marks → HasNumbers civil weekday marks
 numbers_of c civil weekday marks h =
     let date = date_bounds civil.year civil.month civil.day h.shows.date in
     let week = weekday_bounds (local_second c / 86400) in
-    HasNumbers-spelt c civil weekday marks h.symbols h.shows.minute h.shows.hour (omega arith) (omega (arith, h.weekday_is)) (omega arith)
+    let frame = template (frame_of c civil weekday) in
+    HasNumbers-same civil weekday marks frame (read_as c civil weekday marks h) (HasNumbers-spelt c civil weekday frame (symbols_of-template (frame_of c civil weekday)) h.shows.minute h.shows.hour (omega arith) (omega (arith, h.weekday_is)) (omega arith))
 
 -- the clock's second is that of the civil minute
 second_is : (c : Coded) (civil : CivilMinute) (weekday : ℕ) (marks : List Mark) → IsFrameOf c civil weekday marks → second_of civil.year civil.month civil.day civil.hour civil.minute ≡ local_second c
@@ -132,13 +144,13 @@ local_start_is c civil weekday marks h =
 minute_start_is : (c : Coded) (civil : CivilMinute) (weekday : ℕ) (marks : List Mark) → IsFrameOf c civil weekday marks → minute_start marks ≡ c.minute
 unfolding minute_start
 minute_start_is c civil weekday marks h =
-    let bits = HasBits-spelt c civil weekday marks h.symbols in
+    let bits = bits_are c civil weekday marks h in
     rw (local_start_is c civil weekday marks h, bits.summer) (omega arith)
 
 pub coded-spelt : (c : Coded) (civil : CivilMinute) (weekday : ℕ) (marks : List Mark) → IsFrameOf c civil weekday marks → coded marks ≡ c
 unfolding coded
 coded-spelt c civil weekday marks h =
-    let bits = HasBits-spelt c civil weekday marks h.symbols in
+    let bits = bits_are c civil weekday marks h in
     let minute = minute_start_is c civil weekday marks h in
     let leap : leap_end marks ≡ c.leap_at = rw (bits.leap, minute) (leap_end_is c h.spellable) in
     rw (leap, minute, bits.summer) refl
@@ -158,15 +170,15 @@ has_date_is c civil weekday marks h =
 
 pub IsValid-spelt : (c : Coded) (civil : CivilMinute) (weekday : ℕ) (marks : List Mark) → IsFrameOf c civil weekday marks → IsValid marks
 IsValid-spelt c civil weekday marks h =
-    let bits = HasBits-spelt c civil weekday marks h.symbols in
+    let bits = bits_are c civil weekday marks h in
     let numbers = numbers_of c civil weekday marks h in
     let date = date_bounds civil.year civil.month civil.day h.shows.date in
     let week = weekday_bounds (local_second c / 86400) in
-    let tests = length_tests (c.leap_at == c.minute) (length marks) (length_is c civil weekday marks h.symbols) in
+    let tests = length_tests (c.leap_at == c.minute) (length marks) (h.marks_agree.count ∙ length-frame_of c civil weekday) in
     let leap : is_leap_minute marks ≡ (c.leap_at == c.minute) = rw (bits.leap, minute_start_is c civil weekday marks h) (leap_agrees c h.spellable) in
     record {
-      spacing = rw h.spaced refl;
-      width = has_odd_symbol-spelt c civil weekday marks h.symbols;
+      spacing = rw h.marks_agree.spacing refl;
+      width = h.marks_agree.width;
       length = tests.1;
       start_bit = bits.start;
       zone_bits = rw (bits.summer, bits.standard) (apart c.summer);
@@ -182,10 +194,19 @@ IsValid-spelt c civil weekday marks h =
       year_range = digits_in_range (year_ones marks) (year_tens marks) (omega (arith, numbers.year_digit)) (omega (arith, numbers.year_decade));
       date = rw (has_date_is c civil weekday marks h) (and_false (is_in_range marks));
       weekday = rw (weekday_kept c civil weekday marks h) (and_false (names_minute marks));
-      leap_minute = rw (tests.0, leap, same_equal (c.leap_at == c.minute), last_place c civil weekday marks h.symbols) (and_false (names_minute marks));
+      leap_minute = rw (tests.0, leap, same_equal (c.leap_at == c.minute), bits.last) (and_false (names_minute marks));
     }
 
 -- the round trip
 pub round_trip : (c : Coded) (civil : CivilMinute) (weekday : ℕ) (marks : List Mark) → IsFrameOf c civil weekday marks → (first marks ≡ None) × (coded marks ≡ c)
 round_trip c civil weekday marks h =
     (first-valid marks (IsValid-spelt c civil weekday marks h), coded-spelt c civil weekday marks h)
+
+-- marks that have just the symbols of a frame
+pub Agrees-whole : (c : Coded) (civil : CivilMinute) (weekday : ℕ) (marks : List Mark) → symbols_of marks ≡ frame_of c civil weekday → are_spaced (starts_of marks) ≡ true → Agrees marks (frame_of c civil weekday)
+Agrees-whole c civil weekday marks e spaced = record {
+  spacing = spaced;
+  width = has_odd_symbol-spelt c civil weekday marks e;
+  count = sym (length-map marks (λ mark. mark.symbol)) ∙ ap length e;
+  places = λ place read. ap (λ symbols. get_or symbols place Zero) e;
+}

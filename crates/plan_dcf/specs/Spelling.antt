@@ -1,7 +1,9 @@
 -- How DCF77 spells a minute (PTB): the civil time of the minute that begins after the frame, the lowest bits first, with
 -- even parities. What the code carries besides is left 0.
-use Rattle.std.specs.Prelude.{◌≡◌, ◌⊎◌, ℕ, zero, suc, ◌+◌, ◌*◌, ◌/◌, ◌%◌, ◌<◌, ◌≤◌, Bool, false, true, not, ◌==◌, IsTrue, List, [], ◌∷◌, ◌++◌, replicate, count_by, if◌then◌else◌}
-use Rattle.tick_units.specs.Fields.{is_one}
+use Rattle.std.specs.Prelude.{◌≡◌, ◌⊎◌, ℕ, zero, suc, ◌+◌, ◌*◌, ◌/◌, ◌%◌, ◌<◌, ◌≤◌, Bool, false, true, not, ◌==◌, IsTrue, IsFalse, List, [], ◌∷◌, ◌++◌, length, slice_index_or, replicate, count_by, if◌then◌else◌}
+use Rattle.tick_units.specs.Fields.{is_one, symbols_of}
+use Rattle.tick_units.specs.Rules.{starts_of, are_spaced, has_odd_symbol}
+use Rattle.tick_units.specs.declared.marks.Mark.{Mark}
 use Rattle.tick_units.specs.declared.marks.Symbol.{Symbol}
 use Rattle.tick_units.specs.declared.marks.Symbol.TheVariants.{Zero, One}
 use Rattle.tick_units.specs.declared.verdicts.Coded.{Coded}
@@ -60,3 +62,14 @@ frame_of c civil weekday = head_of c ++ with_parity (digits_of 3 civil.minute) +
 -- the symbols of a spellable minute
 unfoldable pub spelt : Coded → List Symbol
 spelt c = frame_of c (civil_of (local_second c)) (weekday_of (local_second c))
+
+-- what places 1 to 16 carry is no matter of the minute
+abbrev pub IsPassedOver : ℕ → Type 0
+IsPassedOver place = (1 ≤ place) × (place ≤ 16)
+
+-- lawful marks that agree with these symbols in their number and at each place that isn't passed over
+pub record Agrees (marks : List Mark) (symbols : List Symbol) : Type 0 where
+  pub spacing : IsTrue (are_spaced (starts_of marks))
+  pub width : IsFalse (has_odd_symbol marks)
+  pub count : length marks ≡ length symbols
+  pub places : (place : ℕ) → ¬ (IsPassedOver place) → slice_index_or (symbols_of marks) place Zero ≡ slice_index_or symbols place Zero

@@ -1,5 +1,5 @@
 //! The civil minute that a DCF77 segment says, and the rules on its date.
-ghost use Rattle.std.specs.Prelude.{◌≡◌, ◌<◌, ◌≤◌, not, ◌&&◌, ◌==◌, length, IsTrue, IfSome, Some, None, if◌then◌else◌};
+ghost use Rattle.std.specs.Prelude.{◌≡◌, ◌≢◌, ◌<◌, ◌≤◌, not, ◌&&◌, ◌==◌, length, IsTrue, IfSome, Some, None, if◌then◌else◌};
 ghost use Rattle.std.specs.Bool.{beq};
 ghost use Rattle.civil_minute.specs.Months.{begins_month};
 ghost use Rattle.plan_dcf.specs.Fields.{announces_leap, local_start, minute_start, coded};
@@ -112,7 +112,10 @@ pub(crate) fn breaks_leap_minute(segment: &[Mark]) -> bool
 #[tactic(auto, unfolding(crate::specs::Fields::coded))]
 pub(crate) fn coded(segment: &[Mark]) -> Coded
     requires { IsTrue (names_minute segment.now) }
-    ensures { result ≡ coded segment.now }
+    ensures value { result ≡ coded segment.now }
+    ensures century { (3155666400 ≤ result.minute) × (result.minute < 6311433600) }
+    ensures leap { result.leap_at ≢ 0
+        → (result.minute ≤ result.leap_at) × (result.leap_at ≤ 6311433600) }
 {
     match minute_start(segment) {
         Some(minute) => {

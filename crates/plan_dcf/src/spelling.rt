@@ -5,7 +5,7 @@ ghost use Rattle.tick_units.specs.Rules.{starts_of, are_spaced};
 ghost use Rattle.tick_units.specs.declared.marks.Mark.{Mark};
 ghost use Rattle.plan_dcf.specs.Fields.{coded};
 ghost use Rattle.plan_dcf.specs.Rules.{first};
-ghost use Rattle.plan_dcf.specs.Spelling.{IsSpellable, symbol_of, bits_of, digits_of, parity_of, with_parity, head_of, date_of, last_of, frame_of, spelt};
+ghost use Rattle.plan_dcf.specs.Spelling.{IsSpellable, symbol_of, bits_of, digits_of, parity_of, with_parity, head_of, date_of, last_of, frame_of, spelt, Agrees};
 
 use crate::fields::hours_ahead;
 use civil_minute::{CivilMinute, civil_at, weekday};
@@ -118,9 +118,13 @@ pub fn spell(c: &Coded, out: &mut [Symbol; 61]) -> usize
     ensures count { result ≡ length (spelt c.now) }
     ensures written { out.new ≡ spelt c.now ++ drop (length (spelt c.now)) out.old }
 
-    // Marks with these symbols and lawful spacing are a valid frame, which says this minute.
-    ensures read_back { (marks : List Mark) → symbols_of marks ≡ spelt c.now
+    // Lawfully spaced marks with these symbols are a valid frame, which says this minute.
+    ensures valid { (marks : List Mark) → symbols_of marks ≡ spelt c.now
         → IsTrue (are_spaced (starts_of marks)) → (first marks ≡ None) × (coded marks ≡ c.now) }
+
+    // And so are marks that differ from them only in what places 1 to 16 carry.
+    ensures read_back { (marks : List Mark) → Agrees marks (spelt c.now)
+        → (first marks ≡ None) × (coded marks ≡ c.now) }
 {
     let local = c.minute + HOUR * u64::from(hours_ahead(c.summer));
     let civil = civil_at(local);

@@ -1,9 +1,11 @@
 -- What the decoder stands for, with one more byte.
-use Rattle.std.proofs.Common.{◌≡◌, ℕ, Option, None, List, ◌++◌, ap, sym, ◌∙◌, subst}
+use Rattle.std.proofs.Common.{◌≡◌, ℕ, Option, None, Some, List, [], ◌∷◌, ◌++◌, ap, sym, ◌∙◌, subst}
 use Rattle.std.specs.Option.{option_to_list}
 use Rattle.std.proofs.lemmas.List.{append-nil}
 use Rattle.tick_units.specs.Log.{pulses, bad_line}
-use Rattle.tick_units.specs.Marks.{dcf_marks}
+use Rattle.tick_units.specs.Marks.{marks_of}
+use Rattle.tick_units.specs.declared.marks.Mark.{Mark}
+use Rattle.tick_units.specs.declared.marks.Plan.{Plan}
 use Rattle.tick_units.specs.declared.marks.Reduction.{Reduction}
 use Rattle.pulse_log.specs.Reading.{HasRead}
 use Rattle.pulse_log.specs.declared.reader.LineReader.{LineReader}
@@ -12,14 +14,27 @@ use Rattle.minute_pair.specs.Pairing.{HasPaired}
 use Rattle.radio_engine.specs.declared.decoder.Decoder.{Decoder}
 use Rattle.radio_engine.specs.Taking.{HasTaken}
 
--- the byte ended no line
+-- the byte ended no line, or one with a reduction
 pub pulses_none : (bytes longer : List ℕ) (found : Option Reduction) → found ≡ None → pulses longer ≡ pulses bytes ++ option_to_list found → pulses longer ≡ pulses bytes
 pulses_none bytes longer found none e = e ∙ ap (λ (o : Option Reduction). pulses bytes ++ option_to_list o) none ∙ append-nil (pulses bytes)
 
-pub taken_same : (d : Decoder) (reader : LineReader) (bytes longer : List ℕ) → HasTaken d bytes → bad_line longer ≡ None → HasRead reader longer → pulses longer ≡ pulses bytes → HasTaken (record d { reader = reader }) longer
-taken_same d reader bytes longer h good read same = record {
+pub pulses_one : (bytes longer : List ℕ) (found : Option Reduction) (r : Reduction) → found ≡ Some r → pulses longer ≡ pulses bytes ++ option_to_list found → pulses longer ≡ pulses bytes ++ r ∷ []
+pulses_one bytes longer found r some e = e ∙ ap (λ (o : Option Reduction). pulses bytes ++ option_to_list o) some
+
+pub taken_same : (d : Decoder) (plan : Plan) (reader : LineReader) (bytes longer : List ℕ) → HasTaken plan d bytes → bad_line longer ≡ None → HasRead reader longer → pulses longer ≡ pulses bytes → HasTaken plan (record d { reader = reader }) longer
+taken_same d plan reader bytes longer h good read same = record {
   good = good;
   read = read;
-  marked = subst (λ (rs : List Reduction). HasHeard d.marker rs) (sym same) h.marked;
-  paired = subst (λ (rs : List Reduction). HasPaired d.pairing (dcf_marks rs)) (sym same) h.paired;
+  marked = subst (λ (rs : List Reduction). HasHeard d.marker plan rs) (sym same) h.marked;
+  paired = subst (λ (rs : List Reduction). HasPaired d.pairing plan (marks_of plan rs)) (sym same) h.paired;
 }
+
+-- the marks after one more reduction, which completes none or one
+pub marks_none : (plan : Plan) (bytes longer : List ℕ) (r : Reduction) (found : Option Mark) → pulses longer ≡ pulses bytes ++ r ∷ [] →
+    marks_of plan (pulses bytes ++ r ∷ []) ≡ marks_of plan (pulses bytes) ++ option_to_list found → found ≡ None → marks_of plan (pulses longer) ≡ marks_of plan (pulses bytes)
+marks_none plan bytes longer r found more heard none =
+    ap (marks_of plan) more ∙ heard ∙ ap (λ (o : Option Mark). marks_of plan (pulses bytes) ++ option_to_list o) none ∙ append-nil (marks_of plan (pulses bytes))
+
+pub marks_one : (plan : Plan) (bytes longer : List ℕ) (r : Reduction) (found : Option Mark) (mark : Mark) → pulses longer ≡ pulses bytes ++ r ∷ [] →
+    marks_of plan (pulses bytes ++ r ∷ []) ≡ marks_of plan (pulses bytes) ++ option_to_list found → found ≡ Some mark → marks_of plan (pulses longer) ≡ marks_of plan (pulses bytes) ++ mark ∷ []
+marks_one plan bytes longer r found mark more heard some = ap (marks_of plan) more ∙ heard ∙ ap (λ (o : Option Mark). marks_of plan (pulses bytes) ++ option_to_list o) some

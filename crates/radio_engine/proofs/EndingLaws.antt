@@ -5,6 +5,7 @@ use Rattle.feed_link.specs.Faults.{Rose}
 use Rattle.feed_link.specs.Told.{SourceState, SinkState, Takes, NoneLeft}
 use Rattle.feed_link.proofs.ToldLaws.{Takes-more, Adds-more}
 use Rattle.tick_units.specs.Log.{bad_line}
+use Rattle.tick_units.specs.declared.marks.Plan.{Plan}
 use Rattle.radio_engine.specs.declared.decoder.Decoder.{Decoder}
 use Rattle.radio_engine.specs.declared.ending.Ending.{Ending}
 use Rattle.radio_engine.specs.declared.ending.Ending.TheVariants.{Whole, WrongWords, NotOpened, NotRead, WrongLine, Long}
@@ -44,13 +45,13 @@ front_of_more a b x y more h = (
 )
 
 -- the line of a segment, behind the text before it
-pub takes_line : (taken : Taken) (d : Decoder) (start a b : SinkState) (bytes longer line : List ℕ) → HasTaken d longer → log_text longer ≡ log_text bytes ++ line →
-    WritesAll start a (log_text bytes) → WritesLine taken a b line → TakesBytes taken d start b longer
-takes_line All d start a b bytes longer line h e before written = (h, all_same start b (log_text bytes ++ line) (log_text longer) e (writes_more start a b (log_text bytes) line before written))
-takes_line Stopped d start a b bytes longer line h e before written = subst (λ (t : List ℕ). WritesFront start b t) (sym e) (writes_front start a b (log_text bytes) line before written)
-takes_line (Bad bad) d start a b bytes longer line h e before written = absurd written
+pub takes_line : (plan : Plan) (taken : Taken) (d : Decoder) (start a b : SinkState) (bytes longer line : List ℕ) → HasTaken plan d longer → log_text plan longer ≡ log_text plan bytes ++ line →
+    WritesAll start a (log_text plan bytes) → WritesLine taken a b line → TakesBytes plan taken d start b longer
+takes_line plan All d start a b bytes longer line h e before written = (h, all_same start b (log_text plan bytes ++ line) (log_text plan longer) e (writes_more start a b (log_text plan bytes) line before written))
+takes_line plan Stopped d start a b bytes longer line h e before written = subst (λ (t : List ℕ). WritesFront start b t) (sym e) (writes_front start a b (log_text plan bytes) line before written)
+takes_line plan (Bad bad) d start a b bytes longer line h e before written = absurd written
 
-module _ (d : Decoder) (read : ℕ) (log log_mid log_now : SourceState) (out out_mid : SinkState) (p : Progress d read log log_mid out out_mid) where
+module _ (plan : Plan) (d : Decoder) (read : ℕ) (log log_mid log_now : SourceState) (out out_mid : SinkState) (p : Progress plan d read log log_mid out out_mid) where
   reads_no_more : Takes log_mid.left log_now.left [] → HasReadOf log log_now p.bytes []
   reads_no_more none =
       let count = p.counted in
@@ -66,7 +67,7 @@ module _ (d : Decoder) (read : ℕ) (log log_mid log_now : SourceState) (out out
         most = omega arith;
       }
 
-  pub ends_by_fault : Takes log_mid.left log_now.left [] → Rose log_mid.faults log_now.faults → EndsItself log log_now out out_mid NotRead
+  pub ends_by_fault : Takes log_mid.left log_now.left [] → Rose log_mid.faults log_now.faults → EndsItself plan log log_now out out_mid NotRead
   ends_by_fault none rose = record {
     bytes = p.bytes;
     extra = [];
@@ -83,7 +84,7 @@ module _ (d : Decoder) (read : ℕ) (log log_mid log_now : SourceState) (out out
   cause_at_end WrongWords end at_end same = absurd end
   cause_at_end NotOpened end at_end same = absurd end
 
-  pub ends_at_end : (ending : Ending) → EndsAt ending p.bytes → Takes log_mid.left log_now.left [] → NoneLeft log_now.left → log_now.faults ≡ log_mid.faults → EndsItself log log_now out out_mid ending
+  pub ends_at_end : (ending : Ending) → EndsAt ending p.bytes → Takes log_mid.left log_now.left [] → NoneLeft log_now.left → log_now.faults ≡ log_mid.faults → EndsItself plan log log_now out out_mid ending
   ends_at_end ending end none at_end same = record {
     bytes = p.bytes;
     extra = [];
@@ -92,7 +93,7 @@ module _ (d : Decoder) (read : ℕ) (log log_mid log_now : SourceState) (out out
     written = p.written;
   }
 
-  pub ends_too_long : (extra : List ℕ) → Takes log_mid.left log_now.left extra → length extra ≡ 1 → 2 ^ 30 ≤ read → log_now.faults ≡ log_mid.faults → EndsItself log log_now out out_mid Long
+  pub ends_too_long : (extra : List ℕ) → Takes log_mid.left log_now.left extra → length extra ≡ 1 → 2 ^ 30 ≤ read → log_now.faults ≡ log_mid.faults → EndsItself plan log log_now out out_mid Long
   ends_too_long extra more one long same =
       let count = p.counted in
       let most = p.most in
@@ -105,7 +106,7 @@ module _ (d : Decoder) (read : ℕ) (log log_mid log_now : SourceState) (out out
       }
 
   pub ends_bad : (piece : List ℕ) (out_now : SinkState) (line : ℕ) → Takes log_mid.left log_now.left piece → read + length piece ≤ 2 ^ 30 → log_now.faults ≡ log_mid.faults →
-      bad_line (p.bytes ++ piece) ≡ Some line → WritesAll out out_now (log_text (p.bytes ++ piece)) → EndsItself log log_now out out_now (WrongLine line)
+      bad_line (p.bytes ++ piece) ≡ Some line → WritesAll out out_now (log_text plan (p.bytes ++ piece)) → EndsItself plan log log_now out out_now (WrongLine line)
   ends_bad piece out_now line more room same bad written = record {
     bytes = p.bytes ++ piece;
     extra = [];
@@ -115,7 +116,7 @@ module _ (d : Decoder) (read : ℕ) (log log_mid log_now : SourceState) (out out
   }
 
   pub ends_stopped : (piece : List ℕ) (out_now : SinkState) → Takes log_mid.left log_now.left piece → read + length piece ≤ 2 ^ 30 → log_now.faults ≡ log_mid.faults →
-      WritesFront out out_now (log_text (p.bytes ++ piece)) → EndsByWriting log log_now out out_now WriteFault
+      WritesFront out out_now (log_text plan (p.bytes ++ piece)) → EndsByWriting plan log log_now out out_now WriteFault
   ends_stopped piece out_now more room same written = record {
     bytes = p.bytes ++ piece;
     read = reads_piece piece more room;
@@ -126,8 +127,8 @@ module _ (d : Decoder) (read : ℕ) (log log_mid log_now : SourceState) (out out
 
   -- one more piece
   pub progress_on : (piece : List ℕ) (d_now : Decoder) (out_now : SinkState) (count : ℕ) → length piece ≡ count → read + count ≤ 2 ^ 30 →
-      Takes log_mid.left log_now.left piece → log_now.faults ≡ log_mid.faults → HasTaken d_now (p.bytes ++ piece) → WritesAll out out_now (log_text (p.bytes ++ piece)) →
-      Progress d_now (read + count) log log_now out out_now
+      Takes log_mid.left log_now.left piece → log_now.faults ≡ log_mid.faults → HasTaken plan d_now (p.bytes ++ piece) → WritesAll out out_now (log_text plan (p.bytes ++ piece)) →
+      Progress plan d_now (read + count) log log_now out out_now
   progress_on piece d_now out_now count size room more same taken written =
       let counted = p.counted in
       record {
@@ -141,16 +142,16 @@ module _ (d : Decoder) (read : ℕ) (log log_mid log_now : SourceState) (out out
       }
 
 -- the status line after the lines
-pub decodes_after : (log log_now : SourceState) (out out_mid out_now : SinkState) (ending : Ending) (result : Status) →
-    EndsItself log log_now out out_mid ending → Answers ending result out_mid out_now (status_line ending) → Decodes log log_now out out_now result
-decodes_after log log_now out out_mid out_now ending result h answers = inl (record {
+pub decodes_after : (plan : Plan) (log log_now : SourceState) (out out_mid out_now : SinkState) (ending : Ending) (result : Status) →
+    EndsItself plan log log_now out out_mid ending → Answers ending result out_mid out_now (status_line ending) → Decodes plan log log_now out out_now result
+decodes_after plan log log_now out out_mid out_now ending result h answers = inl (record {
   bytes = h.bytes;
   extra = h.extra;
   read = h.read;
   ending = ending;
   cause = h.cause;
   written = elim answers [
-    | inl all ↦ inl (all.0, writes_more out out_mid out_now (log_text h.bytes) (status_line ending) h.written all.1)
-    | inr failed ↦ inr (failed.0, writes_front out out_mid out_now (log_text h.bytes) (status_line ending) h.written failed.1)
+    | inl all ↦ inl (all.0, writes_more out out_mid out_now (log_text plan h.bytes) (status_line ending) h.written all.1)
+    | inr failed ↦ inr (failed.0, writes_front out out_mid out_now (log_text plan h.bytes) (status_line ending) h.written failed.1)
   ];
 })

@@ -7,13 +7,15 @@ use Rattle.feed_link.specs.Faults.{Rose}
 use Rattle.feed_link.specs.Told.{SourceState, SinkState, Takes, NoneLeft}
 use Rattle.feed_link.specs.Openings.{Opening, Grows}
 use Rattle.tick_units.specs.Log.{bad_line, bad_at_end, or_unfinished, lines_of}
+use Rattle.tick_units.specs.declared.marks.Plan.TheVariants.{Dcf, Msf, Wwvb}
+use Rattle.tick_units.specs.declared.marks.Plan.{Plan}
 use Rattle.radio_engine.specs.declared.ending.Ending.{Ending}
 use Rattle.radio_engine.specs.declared.ending.Ending.TheVariants.{Whole, WrongWords, NotOpened, NotRead, WrongLine, Long}
 use Rattle.radio_engine.specs.declared.status.Status.{Status}
 use Rattle.radio_engine.specs.declared.status.Status.TheVariants.{Done}
 use Rattle.radio_engine.specs.Endings.{status_of}
 use Rattle.radio_engine.specs.Decoding.{Cause, Decodes}
-use Rattle.radio_engine.specs.Station.{IsDecode, IsFaultless}
+use Rattle.radio_engine.specs.Station.{plan_word, IsDecode, IsFaultless}
 use Rattle.pulse_log.proofs.LogLaws.{bad_stays}
 
 -- the opening that was noted is the one that is told
@@ -69,9 +71,9 @@ faultless_ending (WrongLine line) log log_now bytes extra text rest cause told e
 faultless_ending WrongWords log log_now bytes extra text rest cause told e none good most = absurd cause
 faultless_ending NotOpened log log_now bytes extra text rest cause told e none good most = absurd cause
 
-faultless_done : (opened back : SourceState) (out out_now : SinkState) (result : Status) (text : List ℕ) →
-    Decodes opened back out out_now result → IsFaultless opened back text → (Rose out.faults out_now.faults → ⊥) → result ≡ Done
-faultless_done opened back out out_now result text d f no_write = elim d [
+faultless_done : (plan : Plan) (opened back : SourceState) (out out_now : SinkState) (result : Status) (text : List ℕ) →
+    Decodes plan opened back out out_now result → IsFaultless opened back text → (Rose out.faults out_now.faults → ⊥) → result ≡ Done
+faultless_done plan opened back out out_now result text d f no_write = elim d [
   | inr stopped ↦ absurd (no_write stopped.written.3)
   | inl h ↦ elim h.written [
     | inr failed ↦ absurd (no_write failed.1.3)
@@ -81,18 +83,36 @@ faultless_done opened back out out_now result text d f no_write = elim d [
   ]
 ]
 
-pub same_name : (words : List (List ℕ)) (a b : List ℕ) → IsDecode words a → IsDecode words b → a ≡ b
-same_name words a b h k = ap (λ (ws : List (List ℕ)). get_or ws 4 []) (sym h.spelt ∙ k.spelt)
+pub same_name : (words : List (List ℕ)) (plan other : Plan) (a b : List ℕ) → IsDecode words plan a → IsDecode words other b → a ≡ b
+same_name words plan other a b h k = ap (λ (ws : List (List ℕ)). get_or ws 4 []) (sym h.spelt ∙ k.spelt)
+
+-- the words of plans differ in their first letters
+abbrev first_of : List ℕ → ℕ
+first_of word = get_or word 0 0
+
+plan_of_word : (plan other : Plan) → plan_word plan ≡ plan_word other → plan ≡ other
+plan_of_word Dcf Dcf e = refl
+plan_of_word Msf Msf e = refl
+plan_of_word Wwvb Wwvb e = refl
+plan_of_word Dcf Msf e = let first : ◌≡◌ {A = ℕ} 100 109 = ap first_of e in absurd (omega arith)
+plan_of_word Dcf Wwvb e = let first : ◌≡◌ {A = ℕ} 100 119 = ap first_of e in absurd (omega arith)
+plan_of_word Msf Dcf e = let first : ◌≡◌ {A = ℕ} 109 100 = ap first_of e in absurd (omega arith)
+plan_of_word Msf Wwvb e = let first : ◌≡◌ {A = ℕ} 109 119 = ap first_of e in absurd (omega arith)
+plan_of_word Wwvb Dcf e = let first : ◌≡◌ {A = ℕ} 119 100 = ap first_of e in absurd (omega arith)
+plan_of_word Wwvb Msf e = let first : ◌≡◌ {A = ℕ} 119 109 = ap first_of e in absurd (omega arith)
+
+pub same_plan : (words : List (List ℕ)) (plan other : Plan) (a b : List ℕ) → IsDecode words plan a → IsDecode words other b → plan ≡ other
+same_plan words plan other a b h k = plan_of_word plan other (ap (λ (ws : List (List ℕ)). get_or ws 2 []) (sym h.spelt ∙ k.spelt))
 
 some_same : (a b : SourceState) → ◌≡◌ {A = Option SourceState} (Some a) (Some b) → a ≡ b
 some_same a b e = cc
 
-pub complete_by : (before now : Option (List Opening)) (list : List Opening) (name name' : List ℕ) (was is opened back : SourceState) (out out_now : SinkState) (result : Status) (text : List ℕ) →
+pub complete_by : (plan : Plan) (before now : Option (List Opening)) (list : List Opening) (name name' : List ℕ) (was is opened back : SourceState) (out out_now : SinkState) (result : Status) (text : List ℕ) →
     Grows before now (record { name = name; opened = Some was; back = Some is }) → now ≡ Some (list ++ record { name = name'; opened = Some opened; back = Some back } ∷ []) →
-    Decodes was is out out_now result → IsFaultless opened back text → (Rose out.faults out_now.faults → ⊥) → result ≡ Done
-complete_by before now list name name' was is opened back out out_now result text noted told decodes faultless no_write =
+    Decodes plan was is out out_now result → IsFaultless opened back text → (Rose out.faults out_now.faults → ⊥) → result ≡ Done
+complete_by plan before now list name name' was is opened back out out_now result text noted told decodes faultless no_write =
     let same = same_opening before now list (record { name = name; opened = Some was; back = Some is }) (record { name = name'; opened = Some opened; back = Some back }) noted told in
     let front = some_same was opened (ap (λ (o : Opening). o.opened) same) in
     let end = some_same is back (ap (λ (o : Opening). o.back) same) in
-    faultless_done was is out out_now result text decodes
+    faultless_done plan was is out out_now result text decodes
     (subst (λ (s : SourceState). IsFaultless s is text) (sym front) (subst (λ (s : SourceState). IsFaultless opened s text) (sym end) faultless)) no_write

@@ -2,6 +2,7 @@
 use Rattle.std.specs.Prelude.{◌≡◌, ℕ, ◌^◌, ◌≤◌, ◌⊎◌, None, Some, List, [], ◌++◌, length}
 use Rattle.feed_link.specs.Faults.{Rose}
 use Rattle.feed_link.specs.Told.{SourceState, SinkState, Takes, Adds, NoneLeft}
+use Rattle.tick_units.specs.declared.marks.Plan.{Plan}
 use Rattle.tick_units.specs.Log.{bad_line, bad_at_end}
 use Rattle.radio_engine.specs.Endings.{status_of, status_line}
 use Rattle.radio_engine.specs.Text.{log_text}
@@ -45,22 +46,22 @@ Cause WrongWords log log_now bytes extra = ⊥
 Cause NotOpened log log_now bytes extra = ⊥
 
 -- the reading ended by itself; the lines of the answers are written, then the status line
-pub record EndsByCause (log log_now : SourceState) (out out_now : SinkState) (result : Status) : Type 0 where
+pub record EndsByCause (plan : Plan) (log log_now : SourceState) (out out_now : SinkState) (result : Status) : Type 0 where
   pub bytes : List ℕ
   pub extra : List ℕ
   pub read : HasReadOf log log_now bytes extra
   pub ending : Ending
   pub cause : Cause ending log log_now bytes extra
-  pub written : Answers ending result out out_now (log_text bytes ++ status_line ending)
+  pub written : Answers ending result out out_now (log_text plan bytes ++ status_line ending)
 
 -- a write failed while the log was read, and nothing was read or written after it
-pub record EndsByWriting (log log_now : SourceState) (out out_now : SinkState) (result : Status) : Type 0 where
+pub record EndsByWriting (plan : Plan) (log log_now : SourceState) (out out_now : SinkState) (result : Status) : Type 0 where
   pub bytes : List ℕ
   pub read : HasReadOf log log_now bytes []
   pub no_fault : log_now.faults ≡ log.faults
   pub answer : result ≡ WriteFault
-  pub written : WritesFront out out_now (log_text bytes)
+  pub written : WritesFront out out_now (log_text plan bytes)
 
 -- a log was decoded: what it and the sink told before and now, and the answer
-abbrev pub Decodes : SourceState → SourceState → SinkState → SinkState → Status → Type 0
-Decodes log log_now out out_now result = EndsByCause log log_now out out_now result ⊎ EndsByWriting log log_now out out_now result
+abbrev pub Decodes : Plan → SourceState → SourceState → SinkState → SinkState → Status → Type 0
+Decodes plan log log_now out out_now result = EndsByCause plan log log_now out out_now result ⊎ EndsByWriting plan log log_now out out_now result

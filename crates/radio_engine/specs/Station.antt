@@ -4,14 +4,21 @@ use Rattle.feed_link.specs.Faults.{Rose}
 use Rattle.feed_link.specs.Told.{SourceState, SinkState}
 use Rattle.feed_link.specs.Openings.{OutsideState, Grows}
 use Rattle.tick_units.specs.Log.{bad_at_end}
+use Rattle.tick_units.specs.declared.marks.Plan.{Plan}
+use Rattle.tick_units.specs.declared.marks.Plan.TheVariants.{Dcf, Msf, Wwvb}
 use Rattle.radio_engine.specs.Endings.{status_line}
 use Rattle.radio_engine.specs.Decoding.{Answers, Decodes}
 use Rattle.radio_engine.specs.declared.ending.Ending.TheVariants.{WrongWords, NotOpened}
 use Rattle.radio_engine.specs.declared.status.Status.{Status}
 
--- the words that ask for the log of this name to be decoded
-pub record IsDecode (words : List (List ℕ)) (name : List ℕ) : Type 0 where
-  pub spelt : words ≡ codes "decode" ∷ codes "--plan" ∷ codes "dcf" ∷ codes "--log" ∷ name ∷ []
+abbrev pub plan_word : Plan → List ℕ
+plan_word Dcf = codes "dcf"
+plan_word Msf = codes "msf"
+plan_word Wwvb = codes "wwvb"
+
+-- the words that ask for the log of this name to be decoded by this plan
+pub record IsDecode (words : List (List ℕ)) (plan : Plan) (name : List ℕ) : Type 0 where
+  pub spelt : words ≡ codes "decode" ∷ codes "--plan" ∷ plan_word plan ∷ codes "--log" ∷ name ∷ []
   pub not_empty : 0 < length name
   pub no_dash : slice_index name 0 ≢ 45
 
@@ -28,12 +35,12 @@ pub record CannotOpen (name : List ℕ) (outside outside_now : OutsideState) (ou
   pub written : Answers NotOpened result out out_now (status_line NotOpened)
 
 -- the log was opened once, decoded and given back
-pub record OpensAndDecodes (name : List ℕ) (outside outside_now : OutsideState) (out out_now : SinkState) (result : Status) : Type 0 where
+pub record OpensAndDecodes (plan : Plan) (name : List ℕ) (outside outside_now : OutsideState) (out out_now : SinkState) (result : Status) : Type 0 where
   pub opened : SourceState
   pub back : SourceState
   pub noted : Grows outside.openings outside_now.openings (record { name = name; opened = Some opened; back = Some back })
   pub no_fault : outside_now.faults ≡ outside.faults
-  pub decodes : Decodes opened back out out_now result
+  pub decodes : Decodes plan opened back out out_now result
 
 -- a log that has no fault, and that told its bytes before and after
 pub record IsFaultless (opened back : SourceState) (text : List ℕ) : Type 0 where

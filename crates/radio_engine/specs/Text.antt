@@ -1,9 +1,10 @@
 -- The text of a decoded log. Its form is this project's own.
 use Rattle.std.specs.Prelude.{ℕ, List, [], ◌∷◌, ◌++◌, codes, decimal}
 use Rattle.std.specs.List.{flat_map}
+use Rattle.tick_units.specs.declared.marks.Plan.{Plan}
 use Rattle.tick_units.specs.Log.{pulses}
-use Rattle.tick_units.specs.Marks.{dcf_marks}
-use Rattle.tick_units.specs.Segments.{dcf_segments}
+use Rattle.tick_units.specs.Marks.{marks_of}
+use Rattle.tick_units.specs.Segments.{segments_of}
 use Rattle.tick_units.specs.declared.verdicts.Heard.{Heard}
 use Rattle.tick_units.specs.declared.verdicts.Kind.{Kind}
 use Rattle.tick_units.specs.declared.verdicts.Kind.TheVariants.{Verdict, Lone, Differs, Refused}
@@ -28,5 +29,5 @@ abbrev pub heard_line : Heard → List ℕ
 heard_line heard = kind_line heard.at heard.kind
 
 -- the lines of the answers of a log
-abbrev pub log_text : List ℕ → List ℕ
-log_text bytes = flat_map heard_line (answers (dcf_segments (dcf_marks (pulses bytes))))
+abbrev pub log_text : Plan → List ℕ → List ℕ
+log_text plan bytes = flat_map heard_line (answers plan (segments_of plan (marks_of plan (pulses bytes))))

@@ -1,4 +1,5 @@
-ghost use Rattle.std.specs.Prelude.{◌≡◌, ℕ, List, []};
+ghost use Rattle.std.specs.Prelude.{ℕ, List, []};
+ghost use Rattle.tick_units.specs.declared.marks.Plan.{Plan};
 ghost use Rattle.radio_engine.specs.Taking.{HasTaken, TakesOne};
 
 use minute_pair::Pairing;
@@ -6,7 +7,7 @@ use pulse_log::{BadLine, LineReader};
 use second_marks::Marker;
 use tick_units::{Heard, Plan};
 
-// Turns the bytes of a DCF77 log into the answers to its segments.
+// Turns the bytes of a log into the answers to its segments.
 #[derive(Drop)]
 pub struct Decoder {
     pub reader: LineReader,
@@ -15,19 +16,19 @@ pub struct Decoder {
 }
 
 impl Decoder {
-    pub fn new() -> Decoder
-        ensures { HasTaken result [] }
+    pub fn new(plan: Plan) -> Decoder
+        ensures { HasTaken plan result [] }
     {
         Decoder {
             reader: LineReader::new(),
-            marker: Marker::new(Plan::Dcf),
-            pairing: Pairing::new(Plan::Dcf),
+            marker: Marker::new(plan),
+            pairing: Pairing::new(plan),
         }
     }
 
     // Takes the next byte: the answer to the segment that it closes, if it closes one.
     pub fn take(&mut self, byte: u8) -> Result<Option<Heard>, BadLine>
-        ensures { (bytes : List ℕ) → HasTaken self.old bytes → TakesOne self.new bytes byte result }
+        ensures { (plan : Plan) (bytes : List ℕ) → HasTaken plan self.old bytes → TakesOne plan self.new bytes byte result }
     {
         let found = match self.reader.take(byte) {
             Ok(found) => found,

@@ -7,6 +7,7 @@ mod station;
 mod status;
 mod stream;
 mod text;
+mod words;
 
 pub use station::run_station;
 pub use status::Status;

@@ -1,7 +1,7 @@
 ghost use Rattle.std.specs.Prelude.{◌≡◌, ◌<◌, ◌≤◌, ℕ, length, IfOk, List, [], ◌∷◌, ◌++◌, OnOk, OnErr, Some, None};
 ghost use Rattle.feed_link.specs.Faults.{HasCause};
 ghost use Rattle.feed_link.specs.Told.{SinkState, Reads};
-ghost use Rattle.tick_units.specs.Log.{bad_at_end};
+ghost use Rattle.tick_units.specs.declared.marks.Plan.{Plan};
 ghost use Rattle.radio_engine.specs.Endings.{status_line};
 ghost use Rattle.radio_engine.specs.Text.{log_text, heard_line};
 ghost use Rattle.radio_engine.specs.Decoding.{WritesAll, WritesFront, Answers, Decodes};
@@ -13,7 +13,7 @@ use crate::status::Status;
 use crate::text::{answer_text, status_text};
 use feed_link::{Failed, Sink, Source};
 use pulse_log::BadLine;
-use tick_units::Heard;
+use tick_units::{Heard, Plan};
 
 // The most bytes of a log, and of one read.
 const LIMIT: usize = 1 << 30;
@@ -43,8 +43,8 @@ pub enum Taken {
 // Takes a byte of the log and writes the line of the answer that it completes, if it completes one.
 #[inline]
 fn take_byte<K: Sink>(decoder: &mut Decoder, byte: u8, out: &mut K) -> Taken
-    ensures { (bytes : List ℕ) (start : SinkState) → HasTaken decoder.old bytes → WritesAll start (K.state out.old) (log_text bytes) →
-        TakesBytes result decoder.new start (K.state out.new) (bytes ++ byte ∷ []) }
+    ensures { (plan : Plan) (bytes : List ℕ) (start : SinkState) → HasTaken plan decoder.old bytes → WritesAll start (K.state out.old) (log_text plan bytes) →
+        TakesBytes plan result decoder.new start (K.state out.new) (bytes ++ byte ∷ []) }
 {
     match decoder.take(byte) {
         Ok(None) => Taken::All,
@@ -66,8 +66,8 @@ fn write_answer<K: Sink>(heard: &Heard, out: &mut K) -> Taken
 
 // Takes a piece of the log, up to a bad line or a write that fails.
 fn take_piece<K: Sink>(decoder: &mut Decoder, piece: &[u8], out: &mut K) -> Taken
-    ensures { (bytes : List ℕ) (start : SinkState) → HasTaken decoder.old bytes → WritesAll start (K.state out.old) (log_text bytes) →
-        TakesBytes result decoder.new start (K.state out.new) (bytes ++ piece.now) }
+    ensures { (plan : Plan) (bytes : List ℕ) (start : SinkState) → HasTaken plan decoder.old bytes → WritesAll start (K.state out.old) (log_text plan bytes) →
+        TakesBytes plan result decoder.new start (K.state out.new) (bytes ++ piece.now) }
 {
     for byte in piece {
         match take_byte(decoder, *byte, out) {
@@ -92,11 +92,11 @@ fn read_piece<S: Source>(log: &mut S, piece: &mut [u8], room: usize) -> Result<u
 }
 
 // Reads a log to its end and writes the lines of its answers, as long as no write fails.
-fn read_log<S: Source, K: Sink>(log: &mut S, out: &mut K) -> Result<Ending, Failed>
+fn read_log<S: Source, K: Sink>(log: &mut S, plan: Plan, out: &mut K) -> Result<Ending, Failed>
     ensures number { S.opening log.new ≡ S.opening log.old }
-    ensures ends { EndsReading (S.state log.old) (S.state log.new) (K.state out.old) (K.state out.new) result }
+    ensures ends { EndsReading plan (S.state log.old) (S.state log.new) (K.state out.old) (K.state out.new) result }
 {
-    let mut decoder = Decoder::new();
+    let mut decoder = Decoder::new(plan);
     let mut piece = [0u8; PIECE];
     let mut read = 0;
     'pieces: while read < LIMIT {
@@ -123,7 +123,7 @@ fn read_log<S: Source, K: Sink>(log: &mut S, out: &mut K) -> Result<Ending, Fail
 
 // What a log comes to at its end.
 fn at_end(decoder: &Decoder) -> Ending
-    ensures { (bytes : List ℕ) → HasTaken decoder.now bytes → EndsAt result bytes }
+    ensures { (plan : Plan) (bytes : List ℕ) → HasTaken plan decoder.now bytes → EndsAt result bytes }
 {
     match decoder.reader.finish() {
         Ok(()) => Ending::Whole,
@@ -142,11 +142,11 @@ pub fn finish<K: Sink>(ending: Ending, out: &mut K) -> Status
 }
 
 // Decodes a log: the lines of its answers and the status line are written.
-pub fn decode<S: Source, K: Sink>(log: &mut S, out: &mut K) -> Status
+pub fn decode<S: Source, K: Sink>(log: &mut S, plan: Plan, out: &mut K) -> Status
     ensures number { S.opening log.new ≡ S.opening log.old }
-    ensures decodes { Decodes (S.state log.old) (S.state log.new) (K.state out.old) (K.state out.new) result }
+    ensures decodes { Decodes plan (S.state log.old) (S.state log.new) (K.state out.old) (K.state out.new) result }
 {
-    match read_log(log, out) {
+    match read_log(log, plan, out) {
         Ok(ending) => finish(ending, out),
         Err(Failed) => Status::WriteFault,
     }

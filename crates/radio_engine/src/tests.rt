@@ -6,6 +6,10 @@ use std::test::Fail;
 
 const WORDS: [&str; 5] = ["decode", "--plan", "dcf", "--log", "log"];
 
+const MSF: [&str; 5] = ["decode", "--plan", "msf", "--log", "log"];
+
+const WWVB: [&str; 5] = ["decode", "--plan", "wwvb", "--log", "log"];
+
 // The places that are One in frames of DCF77, computed from the calendar by PTB's table: 1 January 2026, 13:00 to 13:03;
 // 29 March 2026, 01:59 in winter and 03:00 and 03:01 in summer; 1 January 2017, 00:59 and 01:00 with a leap second
 // announced.
@@ -298,6 +302,118 @@ fn closings_that_are_no_minute_apart_differ(rt: HostRuntime) -> Result<(), Fail>
     )
 }
 
+// The lines of an MSF frame that starts at 2 s: the places at which bit A and bit B are 1, and how far apart the two parts
+// of a second start in which bit B alone is. A closing mark stands behind it, and a mark that gives that one.
+fn msf_log(
+    alloc: Global,
+    a: &[usize],
+    b: &[usize],
+    apart: u64,
+    last: bool,
+) -> Result<String, AllocError> {
+    let mut text = String::from_str(alloc, "2000000 500000\n")?;
+    for place in 1..60usize {
+        let at = 2_000_000u64.saturating_add(1_000_000u64.saturating_mul(place as u64));
+        match (a.contains(&place), b.contains(&place)) {
+            (false, false) => writeln!(text, "{at} 100000")?,
+            (true, false) => writeln!(text, "{at} 200000")?,
+            (true, true) => writeln!(text, "{at} 300000")?,
+            (false, true) => {
+                let second = at.saturating_add(apart);
+                writeln!(text, "{at} 100000")?;
+                writeln!(text, "{second} 100000")?;
+            }
+        }
+    }
+    text.push_str("62000000 500000\n")?;
+    if last {
+        text.push_str("63000000 100000\n")?;
+    }
+    Ok(text)
+}
+
+// What an MSF log writes is this text.
+fn decodes_msf(rt: &impl Abort, alloc: Global, text: &str, want: &str) -> Result<(), Fail> {
+    let (written, status) = run(alloc, &MSF, text, NONE)?;
+    assert_eq!(rt; written.as_slice(), want.as_bytes());
+    assert_eq!(rt; status, Status::Done);
+    Ok(())
+}
+
+// The places at which the bits of MSF are 1, computed from the calendar by NPL's table: 1 January 2026, 12:00, and
+// 2 January 2000, 00:00.
+const MSF_NOON_A: [usize; 14] = [19, 22, 23, 29, 35, 36, 40, 43, 53, 54, 55, 56, 57, 58];
+
+const MSF_2000_A: [usize; 8] = [29, 34, 53, 54, 55, 56, 57, 58];
+
+#[test]
+fn msf_minutes_are_read(rt: HostRuntime) -> Result<(), Fail> {
+    let alloc = rt.alloc();
+    let noon = "0 62000000 lone 3976257600\nstatus 0\n";
+    let text = msf_log(alloc, &MSF_NOON_A, &[1, 55, 57], 200_000, true)?;
+    decodes_msf(&rt, alloc, text.as_str(), noon)?;
+    let text = msf_log(alloc, &MSF_NOON_A, &[1, 55, 57], 251_000, true)?;
+    decodes_msf(
+        &rt,
+        alloc,
+        text.as_str(),
+        "0 62000000 refused 1\nstatus 0\n",
+    )?;
+    let text = msf_log(alloc, &MSF_NOON_A, &[1, 55, 57], 200_000, false)?;
+    decodes_msf(&rt, alloc, text.as_str(), "status 0\n")?;
+    let text = msf_log(alloc, &MSF_2000_A, &[54, 55, 56, 57], 200_000, true)?;
+    decodes_msf(
+        &rt,
+        alloc,
+        text.as_str(),
+        "0 62000000 lone 3155760000\nstatus 0\n",
+    )
+}
+
+// The places that are One in frames of WWVB, computed from the calendar by NIST's table: 31 December 2024, 00:00, and
+// 31 December 2016, 23:59.
+const WWVB_2024: [usize; 10] = [22, 23, 26, 27, 31, 32, 36, 38, 47, 51];
+
+const WWVB_2016: [usize; 18] = [
+    1, 3, 5, 8, 12, 17, 18, 22, 23, 26, 27, 31, 32, 36, 38, 48, 51, 52,
+];
+
+// A frame of WWVB that starts at 2 s, behind a marker and with one behind it. One more place is One.
+fn wwvb_log(alloc: Global, ones: &[usize], more: usize) -> Result<String, AllocError> {
+    let mut text = String::from_str(alloc, "1000000 800000\n")?;
+    for place in 0..60usize {
+        let at = 2_000_000u64.saturating_add(1_000_000u64.saturating_mul(place as u64));
+        if [0, 9, 19, 29, 39, 49, 59].contains(&place) {
+            writeln!(text, "{at} 800000")?;
+        } else if ones.contains(&place) || place == more {
+            writeln!(text, "{at} 500000")?;
+        } else {
+            writeln!(text, "{at} 200000")?;
+        }
+    }
+    text.push_str("62000000 800000\n")?;
+    Ok(text)
+}
+
+#[test]
+fn wwvb_minutes_are_read(rt: HostRuntime) -> Result<(), Fail> {
+    let lone = "0 62000000 lone 3944592060\nstatus 0\n";
+    let common_year = "0 62000000 refused 56\nstatus 0\n";
+    let leap_minute = "0 62000000 refused 58\nstatus 0\n";
+    let table: [(&[usize], usize, &str); 3] = [
+        (&WWVB_2024, 60, lone),
+        (&WWVB_2024, 53, common_year),
+        (&WWVB_2016, 56, leap_minute),
+    ];
+    for (ones, more, want) in table {
+        let text = wwvb_log(rt.alloc(), ones, more)?;
+        let (written, status) = run(rt.alloc(), &WWVB, text.as_str(), NONE)?;
+        assert_eq!(rt; written.as_slice(), want.as_bytes(), "with {more}");
+        assert_eq!(rt; status, Status::Done);
+    }
+    Ok(())
+}
+
 #[test]
 fn a_log_ends_at_its_first_bad_line(rt: HostRuntime) -> Result<(), Fail> {
     let table = [
@@ -402,7 +518,7 @@ fn other_words_are_usage(rt: HostRuntime) -> Result<(), Fail> {
         &[],
         &["decode"],
         &["decode", "--log", "log"],
-        &["decode", "--plan", "msf", "--log", "log"],
+        &["decode", "--plan", "jjy", "--log", "log"],
         &["decode", "--log", "log", "--plan", "dcf"],
         &["decode", "--plan", "dcf", "--log", ""],
         &["decode", "--plan", "dcf", "--log", "-"],

@@ -1,26 +1,19 @@
-ghost use Rattle.std.specs.Prelude.{◌≡◌, ℕ, ◌++◌, ◌∷◌, [], List};
+ghost use Rattle.std.specs.Prelude.{◌≡◌, ◌++◌, ◌∷◌, [], List};
 ghost use Rattle.std.specs.Option.{option_to_list};
-ghost use Rattle.tick_units.specs.Marks.{dcf_symbol, dcf_marks};
+ghost use Rattle.tick_units.specs.Marks.{marks_of};
+ghost use Rattle.tick_units.specs.declared.marks.Plan.{Plan};
 ghost use Rattle.tick_units.specs.declared.marks.Reduction.{Reduction};
-ghost use Rattle.tick_units.specs.declared.marks.Plan.TheVariants.{Dcf};
 
-use tick_units::{Mark, Plan, Reduction, Symbol};
+use crate::classes::mark_of;
+use crate::held::{Held, held_after, mark_before};
+use tick_units::{Mark, Plan, Reduction};
 
-/// Turns the reductions of a log into marks.
+/// Turns the reductions of a log into marks. In MSF a second may have two reductions, so a mark is given when the
+/// reduction after its last part is heard; the last mark of an MSF log is never given.
 #[derive(Drop)]
 pub struct Marker {
     plan: Plan,
-}
-
-// The class of a width, in microseconds, in DCF77: 100 ms say 0 and 200 ms say 1 (PTB).
-fn symbol_of(width: u32) -> Symbol
-    ensures { result ≡ dcf_symbol width }
-{
-    match width {
-        40_000..=149_999 => Symbol::Zero,
-        150_000..=260_000 => Symbol::One,
-        _ => Symbol::Odd,
-    }
+    held: Held,
 }
 
 impl Marker {
@@ -28,21 +21,28 @@ impl Marker {
 
     /// A marker of a plan that has heard nothing.
     pub fn new(plan: Plan) -> Marker
-        requires { plan ≡ Dcf }
-        ensures { HasHeard result [] }
+        ensures { HasHeard result plan [] }
     {
-        Marker { plan }
+        Marker {
+            plan,
+            held: Held::Nothing,
+        }
     }
 
     /// Hears the next reduction: the mark that it completes, if it completes one.
     pub fn hear(&mut self, reduction: Reduction) -> Option<Mark>
-        ensures heard { (reductions : List Reduction) → HasHeard self.old reductions → HasHeard self.new (reductions ++ reduction ∷ []) }
-        ensures marks { (reductions : List Reduction) → HasHeard self.old reductions →
-            dcf_marks (reductions ++ reduction ∷ []) ≡ dcf_marks reductions ++ option_to_list result }
+        ensures heard { (plan : Plan) (reductions : List Reduction) → HasHeard self.old plan reductions →
+            HasHeard self.new plan (reductions ++ reduction ∷ []) }
+        ensures marks { (plan : Plan) (reductions : List Reduction) → HasHeard self.old plan reductions →
+            marks_of plan (reductions ++ reduction ∷ []) ≡ marks_of plan reductions ++ option_to_list result }
     {
-        Some(Mark {
-            at: reduction.at,
-            symbol: symbol_of(reduction.width),
-        })
+        match self.plan {
+            Plan::Msf => {
+                let mark = mark_before(&self.held, &reduction);
+                self.held = held_after(&self.held, &reduction);
+                mark
+            }
+            plan => Some(mark_of(plan, &reduction)),
+        }
     }
 }

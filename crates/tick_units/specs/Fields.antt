@@ -1,6 +1,7 @@
 -- The fields of a frame: the bits of its places, the weights of those that are 1, and how many are. The tables of PTB
 -- (DCF77), NPL (MSF) and NIST (SP 432, WWVB) have this form. Places count from 0.
-use Rattle.std.specs.Prelude.{ℕ, ◌+◌, ◌-◌, ◌*◌, ◌%◌, Bool, true, false, ◌==◌, List, [], ◌∷◌, map, slice_index_or, count_by, if◌then◌else◌}
+use Rattle.std.specs.Prelude.{ℕ, ◌+◌, ◌-◌, ◌*◌, ◌%◌, Bool, true, false, ◌&&◌, ◌==◌, List, [], ◌∷◌, map, slice_index_or, count_by, if◌then◌else◌}
+use Rattle.std.specs.Bool.{beq}
 use Rattle.std.specs.List.{range_with_len}
 use Rattle.tick_units.specs.declared.marks.Mark.{Mark}
 use Rattle.tick_units.specs.declared.marks.Symbol.{Symbol}
@@ -56,3 +57,8 @@ ones bit marks first last = count_by (is_set bit marks) (range_with_len first (l
 -- that count is odd
 abbrev pub is_odd_over : (Symbol → Bool) → List Mark → ℕ → ℕ → Bool
 is_odd_over bit marks first last = ones bit marks first last % 2 == 1
+
+-- the bits of the places from the first on are these
+abbrev pub has_pattern : (Symbol → Bool) → List Mark → ℕ → List Bool → Bool
+has_pattern bit marks first [] = true
+has_pattern bit marks first (wanted ∷ pattern) = beq (is_set bit marks first) wanted && has_pattern bit marks (first + 1) pattern

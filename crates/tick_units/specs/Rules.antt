@@ -1,5 +1,5 @@
 -- What the rules of the three code plans share. The bounds in microseconds are this project's own.
-use Rattle.std.specs.Prelude.{ℕ, ◌+◌, Bool, true, false, not, ◌&&◌, ◌||◌, nat_lt, List, [], ◌∷◌, map}
+use Rattle.std.specs.Prelude.{ℕ, ◌+◌, Bool, true, false, not, ◌&&◌, ◌||◌, nat_lt, List, [], ◌∷◌, ◌++◌, map}
 use Rattle.std.specs.List.{list_any}
 use Rattle.tick_units.specs.Marks.{is_between}
 use Rattle.tick_units.specs.declared.marks.Mark.{Mark}
@@ -14,6 +14,10 @@ abbrev pub are_spaced : List ℕ → Bool
 are_spaced [] = true
 are_spaced (start ∷ []) = true
 are_spaced (start ∷ next ∷ starts) = is_between (start + 900000) (start + 1100000) next && are_spaced (next ∷ starts)
+
+-- that, and so does the mark that closes them after the last of them
+abbrev pub are_spaced_to : List Mark → ℕ → Bool
+are_spaced_to marks close = are_spaced (starts_of marks ++ close ∷ [])
 
 abbrev pub is_odd : Symbol → Bool
 is_odd Odd = true

@@ -1,8 +1,9 @@
-use Rattle.std.proofs.Common.{◌≡◌, ◌+◌, ◌*◌, length, refl, ap, sym, ◌∙◌}
+use Rattle.std.proofs.Common.{◌≡◌, ◌+◌, ◌*◌, length, List, subst, refl, ap, sym, ◌∙◌}
+use Rattle.tick_units.specs.declared.marks.Mark.{Mark}
 use Rattle.civil_minute.specs.Dates.{weekday_of}
 use Rattle.civil_minute.specs.Seconds.{civil_of}
-use Rattle.plan_dcf.specs.Spelling.{local_second, spelt}
-use Rattle.plan_dcf.proofs.RoundTrip.{round_trip}
+use Rattle.plan_dcf.specs.Spelling.{frame_of, local_second, spelt, Agrees}
+use Rattle.plan_dcf.proofs.RoundTrip.{IsFrameOf, Agrees-whole, round_trip}
 use Rattle.plan_dcf.proofs.spelling.spell.Goals as goal
 
 second_is : (c : goal.After-write_to) → c.args.c.now.minute + 3600 * c.from.result ≡ local_second c.args.c.now
@@ -24,16 +25,30 @@ returns-clause-count c = c.write_to.ensures.count ∙ ap length (spelt_is c)
 pub returns-clause-written : goal.returns-clause-written
 returns-clause-written c = rw (spelt_is c) at c.write_to.ensures.written
 
-pub returns-clause-read_back : goal.returns-clause-read_back
-returns-clause-read_back c marks symbols spaced =
+-- the parts of the law
+is_frame : (c : goal.After-write_to) (marks : List Mark) → Agrees marks (frame_of c.args.c.now c.civil_at-civil.result c.from-2.result) → IsFrameOf c.args.c.now c.civil_at-civil.result c.from-2.result marks
+is_frame c marks agree =
     let century = rw (second_is c) at c.civil_at-civil.ensures.century in
     let years = century c.requires.from c.requires.below in
-    round_trip c.args.c.now c.civil_at-civil.result c.from-2.result marks (record {
+    record {
       spellable = c.requires;
       shows = rw (second_is c) at c.civil_at-civil.ensures.shows;
       from = years.0;
       below = years.1;
       weekday_is = weekday_is c;
-      symbols = symbols ∙ sym (spelt_is c) ∙ c.frame_of.ensures;
-      spaced = spaced;
-    })
+      marks_agree = agree;
+    }
+
+-- the frame, by the calls of this function
+frame_is : (c : goal.After-write_to) → spelt c.args.c.now ≡ frame_of c.args.c.now c.civil_at-civil.result c.from-2.result
+frame_is c = sym (spelt_is c) ∙ c.frame_of.ensures
+
+pub returns-clause-valid : goal.returns-clause-valid
+returns-clause-valid c marks symbols spaced =
+    let civil = c.civil_at-civil.result in
+    round_trip c.args.c.now civil c.from-2.result marks (is_frame c marks (Agrees-whole c.args.c.now civil c.from-2.result marks (symbols ∙ frame_is c) spaced))
+
+pub returns-clause-read_back : goal.returns-clause-read_back
+returns-clause-read_back c marks agree =
+    let agrees = subst (λ symbols. Agrees marks symbols) (frame_is c) agree in
+    round_trip c.args.c.now c.civil_at-civil.result c.from-2.result marks (is_frame c marks agrees)

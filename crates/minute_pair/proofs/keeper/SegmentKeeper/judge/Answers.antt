@@ -1,12 +1,22 @@
-use Rattle.std.proofs.Common.{sym, ◌∙◌}
-use Rattle.minute_pair.proofs.Flags.{judged_spacing, judged_width, judged_kept, judged_read}
+use Rattle.std.proofs.Common.{List, ap, sym, ◌∙◌}
+use Rattle.tick_units.specs.declared.marks.Mark.{Mark}
+use Rattle.tick_units.specs.declared.marks.Plan.{Plan}
+use Rattle.minute_pair.specs.Answers.{judged}
+use Rattle.minute_pair.proofs.Flags.{judged_spacing, judged_width, judged_length, judged_whole}
 use Rattle.minute_pair.proofs.keeper.SegmentKeeper.judge.Goals as goal
 
+pub returns-then-breaks_spacing : goal.returns-then-breaks_spacing
+returns-then-breaks_spacing c = λ plan marks h. sym (judged_spacing c.args.self.now plan marks c.args.close h (sym c.if-breaks_spacing.ensures))
+
 pub returns-then-self : goal.returns-then-self
-returns-then-self c = λ current h. sym (judged_spacing current c.args.close (sym h.spacing ∙ c.if-self.true))
+returns-then-self c = λ plan marks h. sym (judged_width c.args.self.now plan marks c.args.close h (sym c.if-breaks_spacing.ensures) c.if-self.true)
 
-pub returns-then-self-2 : goal.returns-then-self-2
-returns-then-self-2 c = λ current h. sym (judged_width current c.args.close (sym h.spacing ∙ c.if-self.false) (sym h.width ∙ c.if-self-2.true))
+pub returns-then-len-eq-MOST : goal.returns-then-len-eq-MOST
+returns-then-len-eq-MOST c = λ plan marks h. sym (judged_length c.args.self.now plan marks c.args.close h (sym c.if-breaks_spacing.ensures) c.if-self.false (sym c.len.ensures.value ∙ c.if-len-eq-MOST.true))
 
-pub returns-else-self-2 : goal.returns-else-self-2
-returns-else-self-2 c = λ current h. judged_read c.read.result _ c.args.self.now.kept c.args.close c.as_slice.ensures c.read.ensures.ok c.read.ensures.err ∙ judged_kept c.args.self.now current c.args.close h c.if-self.false c.if-self-2.false
+pub returns-else-len-eq-MOST : goal.returns-else-len-eq-MOST
+returns-else-len-eq-MOST c = λ plan marks h.
+    c.read.ensures
+    ∙ ap (λ (piece : List Mark). judged c.args.self.now.plan (record { marks = piece; close = c.args.close })) c.as_slice.ensures
+    ∙ ap (λ (p : Plan). judged p (record { marks = c.args.self.now.kept; close = c.args.close })) h.plan_is
+    ∙ judged_whole c.args.self.now plan marks c.args.close h (λ full. c.if-len-eq-MOST.false (c.len.ensures.value ∙ full))

@@ -1,0 +1,15 @@
+ghost use Rattle.std.specs.Prelude.{◌≡◌};
+ghost use Rattle.minute_pair.specs.Answers.{judged};
+
+use tick_units::{Broken, Coded, Local, Mark, Plan};
+
+// What a segment says by its plan, or the least rule that it breaks.
+pub fn read(plan: Plan, segment: &[Mark], close: Local) -> Result<Coded, Broken>
+    ensures { result ≡ judged plan (record { marks = segment.now; close = close }) }
+{
+    match plan {
+        Plan::Dcf => plan_dcf::read(segment, close),
+        Plan::Msf => plan_msf::read(segment, close),
+        Plan::Wwvb => plan_wwvb::read(segment, close),
+    }
+}

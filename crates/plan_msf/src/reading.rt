@@ -1,0 +1,23 @@
+//! What a segment comes to.
+ghost use Rattle.std.specs.Prelude.{◌≡◌, ◌<◌, ◌≤◌, None, Some, IfOk, IfErr};
+ghost use Rattle.plan_msf.specs.Fields.{coded};
+ghost use Rattle.plan_msf.specs.Rules.{first};
+
+use crate::dates::coded;
+use crate::rules::first_broken_rule;
+use tick_units::{Broken, Coded, Local, Mark};
+
+/// The minute that a segment says, which begins at the mark that closes it; or the least number of a rule that the
+/// segment breaks. `close` is the start of the closing mark.
+pub fn read(segment: &[Mark], close: Local) -> Result<Coded, Broken>
+    ensures ok { IfOk result (λ c. (first segment.now close ≡ None) × (c ≡ coded segment.now)) }
+    ensures err { IfErr result (λ broken. first segment.now close ≡ Some broken.rule) }
+
+    // In UK time it is a minute of the years 2000 to 2099.
+    ensures century { IfOk result (λ c. (3155670000 ≤ c.minute) × (c.minute < 6311433600)) }
+{
+    match first_broken_rule(segment, close) {
+        Some(rule) => Err(Broken { rule }),
+        None => Ok(coded(segment)),
+    }
+}

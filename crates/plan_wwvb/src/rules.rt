@@ -1,0 +1,134 @@
+//! The rules of WWVB, each a test of a whole segment that is true where the rule is broken.
+ghost use Rattle.std.specs.Prelude.{◌≡◌};
+ghost use Rattle.plan_wwvb.specs.Fields.{is_marker_place};
+ghost use Rattle.plan_wwvb.specs.Rules.{breaks_spacing, breaks_width, breaks_length, lacks_marker, has_stray_marker, breaks_markers, breaks_reserved, breaks_dut_sign, breaks_minute_range, breaks_hour_range, breaks_year_range, breaks_day_of_year, first};
+
+use crate::dates::breaks_leap_minute;
+use crate::fields::{
+    day_of, day_ones, day_tens, hour_of, hour_ones, is_long, minute_of, minute_ones, year_of,
+    year_ones, year_tens,
+};
+use civil_minute::year_length;
+use frame_rules::{
+    Bit, Rule, are_spaced_to, first_broken, has_odd_symbol, has_pattern, is_out_of, is_set,
+};
+use tick_units::{Local, Mark};
+
+// The places that are markers.
+const MARKERS: [usize; 7] = [0, 9, 19, 29, 39, 49, 59];
+
+// The places that are always 0.
+const ZEROS: [usize; 11] = [4, 10, 11, 14, 20, 21, 24, 34, 35, 44, 54];
+
+// The bits of places 36 to 38 where DUT1 is above 0, and where it is below.
+const PLUS: [bool; 3] = [true, false, true];
+
+const MINUS: [bool; 3] = [false, true, false];
+
+// Two neighbouring marks, or the last mark and the closing mark, don't start 900000 to 1100000 microseconds apart.
+fn breaks_spacing(segment: &[Mark], close: Local) -> bool
+    ensures { result ≡ breaks_spacing segment.now close }
+{
+    !are_spaced_to(segment, close)
+}
+
+// A width is in no class.
+fn breaks_width(segment: &[Mark]) -> bool
+    ensures { result ≡ breaks_width segment.now }
+{
+    has_odd_symbol(segment)
+}
+
+// There are not 60 marks.
+fn breaks_length(segment: &[Mark]) -> bool
+    ensures { result ≡ breaks_length segment.now }
+{
+    segment.len() != 60
+}
+
+// A marker place isn't Long.
+fn lacks_marker(segment: &[Mark]) -> bool
+    ensures { result ≡ lacks_marker segment.now }
+{
+    MARKERS.iter().any(|place| !is_long(segment, *place))
+}
+
+fn is_marker_place(place: usize) -> bool
+    ensures { result ≡ is_marker_place place }
+{
+    MARKERS.iter().any(|marker| *marker == place)
+}
+
+// Another place is Long.
+fn has_stray_marker(segment: &[Mark]) -> bool
+    ensures { result ≡ has_stray_marker segment.now }
+{
+    (0..segment.len()).any(|place| is_long(segment, place) && !is_marker_place(place))
+}
+
+fn breaks_markers(segment: &[Mark]) -> bool
+    ensures { result ≡ breaks_markers segment.now }
+{
+    lacks_marker(segment) || has_stray_marker(segment)
+}
+
+// A place that is always 0 is 1.
+fn breaks_reserved(segment: &[Mark]) -> bool
+    ensures { result ≡ breaks_reserved segment.now }
+{
+    ZEROS.iter().any(|place| is_set(Bit::Only, segment, *place))
+}
+
+// The sign of DUT1 is neither plus nor minus.
+fn breaks_dut_sign(segment: &[Mark]) -> bool
+    ensures { result ≡ breaks_dut_sign segment.now }
+{
+    !has_pattern(Bit::Only, segment, 36, &PLUS) && !has_pattern(Bit::Only, segment, 36, &MINUS)
+}
+
+pub(crate) fn breaks_minute_range(segment: &[Mark]) -> bool
+    ensures { result ≡ breaks_minute_range segment.now }
+{
+    is_out_of(0, 59, minute_ones(segment), minute_of(segment))
+}
+
+pub(crate) fn breaks_hour_range(segment: &[Mark]) -> bool
+    ensures { result ≡ breaks_hour_range segment.now }
+{
+    is_out_of(0, 23, hour_ones(segment), hour_of(segment))
+}
+
+// A digit is above 9.
+pub(crate) fn breaks_year_range(segment: &[Mark]) -> bool
+    ensures { result ≡ breaks_year_range segment.now }
+{
+    year_ones(segment) > 9 || year_tens(segment) > 9
+}
+
+// The tens or the ones digit is above 9, or the year has no such day.
+pub(crate) fn breaks_day_of_year(segment: &[Mark]) -> bool
+    ensures { result ≡ breaks_day_of_year segment.now }
+{
+    let days = year_length(year_of(segment));
+    day_tens(segment) > 9 || is_out_of(1, days, day_ones(segment), day_of(segment))
+}
+
+// The least number of a rule that the segment breaks.
+#[tactic(auto, unfolding(crate::specs::Rules::first))]
+pub(crate) fn first_broken_rule(segment: &[Mark], close: Local) -> Option<u8>
+    ensures { result ≡ first segment.now close }
+{
+    first_broken(&[
+        Rule::new(1, breaks_spacing(segment, close)),
+        Rule::new(2, breaks_width(segment)),
+        Rule::new(3, breaks_length(segment)),
+        Rule::new(50, breaks_markers(segment)),
+        Rule::new(51, breaks_reserved(segment)),
+        Rule::new(52, breaks_dut_sign(segment)),
+        Rule::new(53, breaks_minute_range(segment)),
+        Rule::new(54, breaks_hour_range(segment)),
+        Rule::new(55, breaks_year_range(segment)),
+        Rule::new(56, breaks_day_of_year(segment)),
+        Rule::new(58, breaks_leap_minute(segment)),
+    ])
+}

@@ -1,0 +1,68 @@
+use super::*;
+use std::test::Fail;
+use tick_units::{Local, Mark, Plan, Reduction, Symbol};
+
+fn reduction(at: u64, width: u32) -> Option<Reduction> {
+    Some(Reduction {
+        at: Local::new(at)?,
+        width,
+    })
+}
+
+// Four short reductions, of which the second can't begin another pair, and the mark of the last is never given.
+#[test]
+fn two_parts_of_an_msf_second_are_one_mark(rt: HostRuntime) -> Result<(), Fail> {
+    let mut marker = Marker::new(Plan::Msf);
+    let table = [
+        (3_000_000, None),
+        (3_200_000, None),
+        (3_400_000, Some((3_000_000, Symbol::OnlyB))),
+        (4_400_000, Some((3_400_000, Symbol::Zero))),
+    ];
+    for (at, want) in table {
+        let heard = marker.hear(reduction(at, 100_000).ok_or("a start")?);
+        let found = heard.map(|mark: Mark| (mark.at.get(), mark.symbol));
+        assert_eq!(rt; found, want, "at {at}");
+    }
+    Ok(())
+}
+
+#[test]
+fn widths_have_their_classes(rt: HostRuntime) -> Result<(), Fail> {
+    let table = [
+        (Plan::Dcf, 39_999, Symbol::Odd),
+        (Plan::Dcf, 149_999, Symbol::Zero),
+        (Plan::Dcf, 150_000, Symbol::One),
+        (Plan::Dcf, 260_001, Symbol::Odd),
+        (Plan::Wwvb, 99_999, Symbol::Odd),
+        (Plan::Wwvb, 349_999, Symbol::Zero),
+        (Plan::Wwvb, 350_000, Symbol::One),
+        (Plan::Wwvb, 650_000, Symbol::Long),
+        (Plan::Wwvb, 900_001, Symbol::Odd),
+    ];
+    for (plan, width, want) in table {
+        let mark = Marker::new(plan).hear(reduction(0, width).ok_or("a start")?);
+        assert_eq!(rt; mark.ok_or("no mark")?.symbol, want, "of {width}");
+    }
+    Ok(())
+}
+
+#[test]
+fn msf_widths_have_their_classes(rt: HostRuntime) -> Result<(), Fail> {
+    let table = [
+        (39_999, Symbol::Odd),
+        (149_999, Symbol::Zero),
+        (150_000, Symbol::One),
+        (249_999, Symbol::One),
+        (250_000, Symbol::Both),
+        (400_000, Symbol::Long),
+        (600_001, Symbol::Odd),
+    ];
+    for (width, want) in table {
+        let mut marker = Marker::new(Plan::Msf);
+        assert_eq!(rt; marker.hear(reduction(0, width).ok_or("a start")?), None);
+        let mark = marker.hear(reduction(1_000_000, 500_000).ok_or("a start")?);
+        assert_eq!(rt; mark.ok_or("no mark")?.symbol, want, "of {width}");
+    }
+    Ok(())
+}
