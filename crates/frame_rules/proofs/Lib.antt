@@ -2,3 +2,5 @@ pub mod Sums
 pub mod FirstLaws
 pub mod Meanings
 pub mod Most
+pub mod HighBits
+pub mod Template

@@ -17,8 +17,8 @@ pub enum Bit {
 }
 
 impl Bit {
-    // Whether this bit of a symbol is 1.
-    fn is_in(self, symbol: Symbol) -> bool
+    /// Whether this bit of a symbol is 1.
+    pub fn is_in(self, symbol: Symbol) -> bool
         ensures { result ≡ has_bit self symbol }
     {
         match self {

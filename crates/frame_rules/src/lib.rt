@@ -8,7 +8,7 @@ mod spelling;
 
 pub use bits::{Bit, has_pattern, is_odd_over, is_set, value};
 pub use rules::{Rule, are_spaced, are_spaced_to, first_broken, has_odd_symbol, is_out_of};
-pub use spelling::Spelling;
+pub use spelling::{Spelling, bit_symbol};
 
 #[cfg(test)]
 mod tests;

@@ -1,3 +1,5 @@
 pub mod FirstLaws
 pub mod NamedMinute
+pub mod ReadBack
+pub mod RoundTrip
 pub mod Validity

@@ -22,8 +22,10 @@ mod dates;
 mod fields;
 mod reading;
 mod rules;
+mod spelling;
 
 pub use reading::read;
+pub use spelling::spell;
 
 #[cfg(test)]
 mod tests;

@@ -1,4 +1,8 @@
+ghost use Rattle.std.specs.Prelude.{◌≡◌};
+ghost use Rattle.plan_msf.specs.Spelling.{IsSpellable};
+
 use super::*;
+use std::process::Abort;
 use std::test::Fail;
 use tick_units::{Broken, Coded, Local, Mark, Symbol};
 
@@ -251,4 +255,41 @@ fn what_is_passed_over_changes_nothing(rt: HostRuntime) -> Result<(), Fail> {
     marks[4].symbol = Symbol::Long;
     assert_eq!(rt; read_closed(&marks[..60])?, minute(3976257600, false));
     Ok(())
+}
+
+// The symbols of a minute are the minute mark and these bits; the rest of the room stays.
+fn spells(rt: &impl Abort, c: &Coded, ones: Ones)
+    requires { IsSpellable c.now }
+{
+    let mut out = [Symbol::Odd; 61];
+    assert_eq!(rt; spell(c, &mut out), 60);
+    for (place, written) in out.iter().enumerate() {
+        let wanted = match place {
+            0 => Symbol::Long,
+            60 => Symbol::Odd,
+            _ => symbol(ones.a.contains(&place), ones.b.contains(&place)),
+        };
+        assert_eq!(rt; *written, wanted);
+    }
+}
+
+fn coded(minute: u64, summer: bool) -> Coded
+    ensures { result ≡ record { minute = minute; leap_at = 0; summer = summer } }
+{
+    Coded {
+        minute,
+        leap_at: 0,
+        summer,
+    }
+}
+
+#[test]
+fn minutes_are_spelt(rt: HostRuntime) {
+    spells(&rt, &coded(3976257600, false), NEW_YEAR);
+    spells(&rt, &coded(3155760000, false), SUNDAY);
+    spells(&rt, &coded(3983734740, false), STANDARD);
+    spells(&rt, &coded(3983734800, true), SUMMER);
+    spells(&rt, &coded(4001848680, true), SATURDAY);
+    spells(&rt, &coded(3155673600, false), FIRST);
+    spells(&rt, &coded(6311433540, false), LAST);
 }

@@ -1,3 +1,5 @@
 pub mod FirstLaws
+pub mod ReadBack
+pub mod RoundTrip
 pub mod Seconds
 pub mod Validity

@@ -1,4 +1,8 @@
+ghost use Rattle.std.specs.Prelude.{◌≡◌, false};
+ghost use Rattle.plan_wwvb.specs.Spelling.{IsSpellable};
+
 use super::*;
+use std::process::Abort;
 use std::test::Fail;
 use tick_units::{Broken, Coded, Local, Mark, Symbol};
 
@@ -211,4 +215,51 @@ fn what_is_passed_over_changes_nothing(rt: HostRuntime) -> Result<(), Fail> {
     let marks = frame(&NEW_YEAR, &[36, 37, 38, 40, 41, 42, 43, 55, 57, 58])?;
     assert_eq!(rt; read_closed(&marks[..60])?, minute(3976257660, 0));
     Ok(())
+}
+
+// The symbols of a minute are the markers and these places One; the rest of the room stays.
+fn spells(rt: &impl Abort, c: &Coded, ones: &[usize])
+    requires { IsSpellable c.now }
+{
+    let mut out = [Symbol::Odd; 61];
+    assert_eq!(rt; spell(c, &mut out), 60);
+    for (place, written) in out.iter().enumerate() {
+        let wanted = if place == 60 {
+            Symbol::Odd
+        } else if MARKERS.contains(&place) {
+            Symbol::Long
+        } else if ones.contains(&place) {
+            Symbol::One
+        } else {
+            Symbol::Zero
+        };
+        assert_eq!(rt; *written, wanted);
+    }
+}
+
+fn coded(minute: u64, leap_at: u64) -> Coded
+    ensures { result ≡ record { minute = minute; leap_at = leap_at; summer = false } }
+{
+    Coded {
+        minute,
+        leap_at,
+        summer: false,
+    }
+}
+
+#[test]
+fn minutes_are_spelt(rt: HostRuntime) {
+    spells(&rt, &coded(3976257660, 0), &NEW_YEAR);
+    spells(&rt, &coded(3155673660, 0), &FIRST);
+    spells(&rt, &coded(6311433600, 0), &LAST);
+    spells(&rt, &coded(4007734740, 0), &DAY_365);
+    spells(&rt, &coded(3160804080, 0), &LEAP_DAY);
+    spells(&rt, &coded(3944592060, 0), &DAY_366);
+    spells(&rt, &coded(3692217600, 0), &LAST_MINUTE);
+}
+
+#[test]
+fn a_leap_second_is_announced(rt: HostRuntime) {
+    assert!(rt; civil_minute::next_month_start(3692217480) == 3692217600);
+    spells(&rt, &coded(3692217540, 3692217600), &ANNOUNCED);
 }

@@ -1,0 +1,43 @@
+-- What the bits of a spelling are worth that has the highest first.
+use Rattle.std.proofs.Common.{◌≡◌, ℕ, zero, suc, ◌+◌, ◌*◌, ◌/◌, ◌%◌, ◌<◌, ◌==◌, Bool, true, false, refl, arith}
+use Rattle.std.specs.Prelude.{if◌then◌else◌}
+use Rattle.tick_units.specs.Digits.{bit_symbol}
+use Rattle.tick_units.specs.declared.marks.Symbol.{Symbol}
+use Rattle.tick_units.specs.declared.marks.Symbol.TheVariants.{Zero, One}
+
+-- a bit that tells One from Zero
+pub record Tells (bit : Symbol → Bool) : Type 0 where
+  pub of_one : bit One ≡ true
+  pub of_zero : bit Zero ≡ false
+
+abbrev pub worth : (Symbol → Bool) → ℕ → ℕ
+worth bit n = if bit (bit_symbol (n == 1)) then 1 else 0
+
+worth_small : (bit : Symbol → Bool) → Tells bit → (n : ℕ) → n < 2 → worth bit n ≡ n
+worth_small bit tells zero h = rw tells.of_zero refl
+worth_small bit tells (suc zero) h = rw tells.of_one refl
+worth_small bit tells (suc (suc n)) h = absurd (omega arith)
+
+pub bit_worth : (bit : Symbol → Bool) → Tells bit → (n : ℕ) → worth bit (n % 2) ≡ n % 2
+bit_worth bit tells n = worth_small bit tells (n % 2) (omega arith)
+
+-- three bits
+pub three_worth : (bit : Symbol → Bool) → Tells bit → (n : ℕ) → n < 8 → 4 * worth bit (n / 4 % 2) + (2 * worth bit (n / 2 % 2) + (1 * worth bit (n / 1 % 2) + 0)) ≡ n
+three_worth bit tells n h = omega (arith, bit_worth bit tells (n / 4), bit_worth bit tells (n / 2), bit_worth bit tells (n / 1))
+
+-- one digit
+pub digit_worth : (bit : Symbol → Bool) → Tells bit → (n : ℕ) → n < 16 → 8 * worth bit (n / 8 % 2) + (4 * worth bit (n / 4 % 2) + (2 * worth bit (n / 2 % 2) + (1 * worth bit (n / 1 % 2) + 0))) ≡ n
+digit_worth bit tells n h = omega (arith, bit_worth bit tells (n / 8), bit_worth bit tells (n / 4), bit_worth bit tells (n / 2), bit_worth bit tells (n / 1))
+
+-- two digits, with so many bits of the tens
+pub number_worth_1 : (bit : Symbol → Bool) → Tells bit → (number : ℕ) → number < 20 → 10 * worth bit (number / 10 / 1 % 2) + (8 * worth bit (number % 10 / 8 % 2) + (4 * worth bit (number % 10 / 4 % 2) + (2 * worth bit (number % 10 / 2 % 2) + (1 * worth bit (number % 10 / 1 % 2) + 0)))) ≡ number
+number_worth_1 bit tells number h = let ones = digit_worth bit tells (number % 10) (omega arith) in omega (arith, bit_worth bit tells (number / 10 / 1))
+
+pub number_worth_2 : (bit : Symbol → Bool) → Tells bit → (number : ℕ) → number < 40 → 20 * worth bit (number / 10 / 2 % 2) + (10 * worth bit (number / 10 / 1 % 2) + (8 * worth bit (number % 10 / 8 % 2) + (4 * worth bit (number % 10 / 4 % 2) + (2 * worth bit (number % 10 / 2 % 2) + (1 * worth bit (number % 10 / 1 % 2) + 0))))) ≡ number
+number_worth_2 bit tells number h = let ones = digit_worth bit tells (number % 10) (omega arith) in omega (arith, bit_worth bit tells (number / 10 / 2), bit_worth bit tells (number / 10 / 1))
+
+pub number_worth_3 : (bit : Symbol → Bool) → Tells bit → (number : ℕ) → number < 80 → 40 * worth bit (number / 10 / 4 % 2) + (20 * worth bit (number / 10 / 2 % 2) + (10 * worth bit (number / 10 / 1 % 2) + (8 * worth bit (number % 10 / 8 % 2) + (4 * worth bit (number % 10 / 4 % 2) + (2 * worth bit (number % 10 / 2 % 2) + (1 * worth bit (number % 10 / 1 % 2) + 0)))))) ≡ number
+number_worth_3 bit tells number h = let ones = digit_worth bit tells (number % 10) (omega arith) in omega (arith, bit_worth bit tells (number / 10 / 4), bit_worth bit tells (number / 10 / 2), bit_worth bit tells (number / 10 / 1))
+
+pub number_worth_4 : (bit : Symbol → Bool) → Tells bit → (number : ℕ) → number < 160 → 80 * worth bit (number / 10 / 8 % 2) + (40 * worth bit (number / 10 / 4 % 2) + (20 * worth bit (number / 10 / 2 % 2) + (10 * worth bit (number / 10 / 1 % 2) + (8 * worth bit (number % 10 / 8 % 2) + (4 * worth bit (number % 10 / 4 % 2) + (2 * worth bit (number % 10 / 2 % 2) + (1 * worth bit (number % 10 / 1 % 2) + 0))))))) ≡ number
+number_worth_4 bit tells number h = let ones = digit_worth bit tells (number % 10) (omega arith) in omega (arith, bit_worth bit tells (number / 10 / 8), bit_worth bit tells (number / 10 / 4), bit_worth bit tells (number / 10 / 2), bit_worth bit tells (number / 10 / 1))

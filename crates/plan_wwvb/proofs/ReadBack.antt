@@ -1,0 +1,170 @@
+-- The bits and values of a segment whose symbols are those of a spelling.
+use Rattle.std.proofs.Common.{◌≡◌, ℕ, zero, suc, ◌+◌, ◌*◌, ◌/◌, ◌%◌, ◌<◌, ◌≤◌, Bool, true, false, not, ◌&&◌, ◌||◌, List, [], ◌∷◌, length, get_or, inl, inr, refl, ap, ◌∙◌, arith}
+use Rattle.std.proofs.lemmas.Bool.{cases_eq}
+use Rattle.std.proofs.lemmas.Bool.Decides.{nat_tests}
+use Rattle.std.specs.List.{list_any, range_with_len}
+use Rattle.tick_units.specs.Digits.{bit_symbol}
+use Rattle.tick_units.specs.Fields.{is_one, is_set, value, has_pattern, symbols_of}
+use Rattle.tick_units.specs.Marks.{is_long}
+use Rattle.tick_units.specs.Rules.{is_odd, has_odd_symbol}
+use Rattle.tick_units.specs.declared.marks.Mark.{Mark}
+use Rattle.tick_units.specs.declared.marks.Symbol.{Symbol}
+use Rattle.tick_units.specs.declared.marks.Symbol.TheVariants.{Zero}
+use Rattle.civil_minute.specs.declared.seconds.CivilMinute.{CivilMinute}
+use Rattle.frame_rules.proofs.HighBits.{Tells, worth, bit_worth, digit_worth}
+use Rattle.frame_rules.proofs.Template.{has_odd_symbol-symbols_of}
+use Rattle.plan_wwvb.specs.Fields.{marker_places, is_marker_place, zero_places, minute_ones, minute_of, hour_ones, hour_of, day_ones, day_tens, day_of, year_ones, year_tens, year_of, announces_leap}
+use Rattle.plan_wwvb.specs.Rules.{lacks_marker, breaks_reserved}
+use Rattle.plan_wwvb.specs.Spelling.{frame_of, is_free}
+
+tells_one : Tells is_one
+tells_one = record { of_one = refl; of_zero = refl }
+
+tens_worth : (n : ℕ) → n < 16 → 80 * worth is_one (n / 8 % 2) + (40 * worth is_one (n / 4 % 2) + (20 * worth is_one (n / 2 % 2) + (10 * worth is_one (n / 1 % 2) + 0))) ≡ 10 * n
+tens_worth n h = omega (arith, bit_worth is_one tells_one (n / 8), bit_worth is_one tells_one (n / 4), bit_worth is_one tells_one (n / 2), bit_worth is_one tells_one (n / 1))
+
+is_one-bit_symbol : (bit : Bool) → is_one (bit_symbol bit) ≡ bit
+is_one-bit_symbol true = refl
+is_one-bit_symbol false = refl
+
+is_long-bit_symbol : (bit : Bool) → is_long (bit_symbol bit) ≡ false
+is_long-bit_symbol true = refl
+is_long-bit_symbol false = refl
+
+is_odd-bit_symbol : (bit : Bool) → is_odd (bit_symbol bit) ≡ false
+is_odd-bit_symbol true = refl
+is_odd-bit_symbol false = refl
+
+-- a place that is Long and shouldn't be
+abbrev pub strays : List Mark → ℕ → Bool
+strays marks place = is_set is_long marks place && not (is_marker_place place)
+
+-- the parts of a frame that are single bits
+pub record HasBits (leap : Bool) (marks : List Mark) : Type 0 where
+  pub markers : lacks_marker marks ≡ false
+  pub no_strays : list_any (strays marks) (range_with_len 0 60) ≡ false
+  pub zeros : breaks_reserved marks ≡ false
+  pub announced : announces_leap marks ≡ leap
+
+pub HasBits-spelt : (leap : Bool) (civil : CivilMinute) (day : ℕ) (marks : List Mark) → symbols_of marks ≡ frame_of leap civil day → HasBits leap marks
+unfolding frame_of
+HasBits-spelt leap civil day marks e = record {
+  markers = rw e refl;
+  no_strays = rw e (simp is_long-bit_symbol);
+  zeros = rw e refl;
+  announced = rw e (is_one-bit_symbol leap);
+}
+
+pub plus-spelt : (leap : Bool) (civil : CivilMinute) (day : ℕ) (marks : List Mark) → symbols_of marks ≡ frame_of leap civil day → has_pattern is_one marks 36 (true ∷ false ∷ true ∷ []) ≡ true
+unfolding frame_of
+plus-spelt leap civil day marks e = rw e refl
+
+pub length-frame_of : (leap : Bool) (civil : CivilMinute) (day : ℕ) → length (frame_of leap civil day) ≡ 60
+unfolding frame_of
+length-frame_of leap civil day = refl
+
+pub has_odd_symbol-spelt : (leap : Bool) (civil : CivilMinute) (day : ℕ) (marks : List Mark) → symbols_of marks ≡ frame_of leap civil day → has_odd_symbol marks ≡ false
+unfolding frame_of
+has_odd_symbol-spelt leap civil day marks e = rw (has_odd_symbol-symbols_of marks, e) (simp is_odd-bit_symbol)
+
+-- the numbers of a frame
+pub record HasNumbers (civil : CivilMinute) (day : ℕ) (marks : List Mark) : Type 0 where
+  pub minute_digit : minute_ones marks ≡ civil.minute % 10
+  pub minute : minute_of marks ≡ civil.minute
+  pub hour_digit : hour_ones marks ≡ civil.hour % 10
+  pub hour : hour_of marks ≡ civil.hour
+  pub day_digit : day_ones marks ≡ day % 10
+  pub day_decade : day_tens marks ≡ day / 10 % 10
+  pub day_number : day_of marks ≡ day
+  pub year_digit : year_ones marks ≡ civil.year % 100 % 10
+  pub year_decade : year_tens marks ≡ civil.year % 100 / 10
+  pub year : year_of marks ≡ civil.year % 100
+
+pub HasNumbers-spelt : (leap : Bool) (civil : CivilMinute) (day : ℕ) (marks : List Mark) → symbols_of marks ≡ frame_of leap civil day →
+    civil.minute < 60 → civil.hour < 24 → day < 400 → HasNumbers civil day marks
+unfolding frame_of
+HasNumbers-spelt leap civil day marks e minute hour days = record {
+  minute_digit = rw e (digit_worth is_one tells_one (civil.minute % 10) (omega arith));
+  minute = rw e (omega (arith, digit_worth is_one tells_one (civil.minute % 10) (omega arith), bit_worth is_one tells_one (civil.minute / 10 / 4), bit_worth is_one tells_one (civil.minute / 10 / 2), bit_worth is_one tells_one (civil.minute / 10 / 1)));
+  hour_digit = rw e (digit_worth is_one tells_one (civil.hour % 10) (omega arith));
+  hour = rw e (omega (arith, digit_worth is_one tells_one (civil.hour % 10) (omega arith), bit_worth is_one tells_one (civil.hour / 10 / 2), bit_worth is_one tells_one (civil.hour / 10 / 1)));
+  day_digit = rw e (digit_worth is_one tells_one (day % 10) (omega arith));
+  day_decade = rw e (digit_worth is_one tells_one (day / 10 % 10) (omega arith));
+  day_number = rw e (omega (arith, tens_worth (day / 10 % 10) (omega arith), digit_worth is_one tells_one (day % 10) (omega arith), bit_worth is_one tells_one (day / 100 / 2), bit_worth is_one tells_one (day / 100 / 1)));
+  year_digit = rw e (digit_worth is_one tells_one (civil.year % 100 % 10) (omega arith));
+  year_decade = rw e (digit_worth is_one tells_one (civil.year % 100 / 10) (omega arith));
+  year = rw e (omega (arith, tens_worth (civil.year % 100 / 10) (omega arith), digit_worth is_one tells_one (civil.year % 100 % 10) (omega arith)));
+}
+
+-- ---- tests over places
+
+any_parts : (a b : Bool) → (a || b) ≡ false → (a ≡ false) × (b ≡ false)
+any_parts false b e = (refl, e)
+any_parts true b e = absurd (cc)
+
+-- a test that fails at each place of a range fails at one of them
+pub none_at : (p : ℕ → Bool) (first count place : ℕ) → list_any p (range_with_len first count) ≡ false → first ≤ place → place < first + count → p place ≡ false
+none_at p first zero place e low high = absurd (omega arith)
+none_at p first (suc count) place e low high =
+    let parts = any_parts (p first) (list_any p (range_with_len (first + 1) count)) e in
+    elim (cases_eq place first) [
+      | inl same ↦ rw same parts.0
+      | inr other ↦ none_at p (first + 1) count place parts.1 (omega arith) (omega arith)
+    ]
+
+pub none_from : (p : ℕ → Bool) (first count : ℕ) → ((place : ℕ) → first ≤ place → place < first + count → p place ≡ false) → list_any p (range_with_len first count) ≡ false
+none_from p first zero h = refl
+none_from p first (suc count) h =
+    let here : p first ≡ false = h first (omega arith) (omega arith) in
+    rw (here, none_from p (first + 1) count (λ place low high. h place (omega arith) (omega arith))) refl
+
+-- ---- marks that agree at the places that aren't free
+
+abbrev pub IsReadAs : List Mark → List Mark → Type 0
+IsReadAs a b = (place : ℕ) → is_free place ≡ false → get_or (symbols_of a) place Zero ≡ get_or (symbols_of b) place Zero
+
+free_early : (place : ℕ) → place < 36 → is_free place ≡ false
+free_early place h = grind (arith, nat_tests)
+
+free_late : (place : ℕ) → 44 ≤ place → place < 55 → is_free place ≡ false
+free_late place low high = grind (arith, nat_tests)
+
+early_same : (a b : List Mark) → IsReadAs a b → (place : ℕ) (weights : List ℕ) → place + length weights ≤ 36 → value is_one a place weights ≡ value is_one b place weights
+early_same a b h place [] room = refl
+early_same a b h place (weight ∷ weights) room = rw (h place (free_early place (omega arith)), early_same a b h (place + 1) weights (omega arith)) refl
+
+late_same : (a b : List Mark) → IsReadAs a b → (place : ℕ) (weights : List ℕ) → 44 ≤ place → place + length weights ≤ 55 → value is_one a place weights ≡ value is_one b place weights
+late_same a b h place [] low room = refl
+late_same a b h place (weight ∷ weights) low room = rw (h place (free_late place low (omega arith)), late_same a b h (place + 1) weights (omega arith) (omega arith)) refl
+
+any_same : (a b : List Mark) → IsReadAs a b → (test : Symbol → Bool) (places : List ℕ) → list_any is_free places ≡ false → list_any (λ place. test (get_or (symbols_of a) place Zero)) places ≡ list_any (λ place. test (get_or (symbols_of b) place Zero)) places
+any_same a b h test [] e = refl
+any_same a b h test (place ∷ places) e =
+    let parts = any_parts (is_free place) (list_any is_free places) e in
+    rw (h place parts.0, any_same a b h test places parts.1) refl
+
+pub HasNumbers-same : (civil : CivilMinute) (day : ℕ) (a b : List Mark) → IsReadAs a b → HasNumbers civil day b → HasNumbers civil day a
+HasNumbers-same civil day a b h numbers = record {
+  minute_digit = early_same a b h 5 (8 ∷ 4 ∷ 2 ∷ 1 ∷ []) (omega arith) ∙ numbers.minute_digit;
+  minute = early_same a b h 1 (40 ∷ 20 ∷ 10 ∷ 0 ∷ 8 ∷ 4 ∷ 2 ∷ 1 ∷ []) (omega arith) ∙ numbers.minute;
+  hour_digit = early_same a b h 15 (8 ∷ 4 ∷ 2 ∷ 1 ∷ []) (omega arith) ∙ numbers.hour_digit;
+  hour = early_same a b h 12 (20 ∷ 10 ∷ 0 ∷ 8 ∷ 4 ∷ 2 ∷ 1 ∷ []) (omega arith) ∙ numbers.hour;
+  day_digit = early_same a b h 30 (8 ∷ 4 ∷ 2 ∷ 1 ∷ []) (omega arith) ∙ numbers.day_digit;
+  day_decade = early_same a b h 25 (8 ∷ 4 ∷ 2 ∷ 1 ∷ []) (omega arith) ∙ numbers.day_decade;
+  day_number = early_same a b h 22 (200 ∷ 100 ∷ 0 ∷ 80 ∷ 40 ∷ 20 ∷ 10 ∷ 0 ∷ 8 ∷ 4 ∷ 2 ∷ 1 ∷ []) (omega arith) ∙ numbers.day_number;
+  year_digit = late_same a b h 50 (8 ∷ 4 ∷ 2 ∷ 1 ∷ []) (omega arith) (omega arith) ∙ numbers.year_digit;
+  year_decade = late_same a b h 45 (8 ∷ 4 ∷ 2 ∷ 1 ∷ []) (omega arith) (omega arith) ∙ numbers.year_decade;
+  year = late_same a b h 45 (80 ∷ 40 ∷ 20 ∷ 10 ∷ 0 ∷ 8 ∷ 4 ∷ 2 ∷ 1 ∷ []) (omega arith) (omega arith) ∙ numbers.year;
+}
+
+stray_same : (a b : List Mark) → IsReadAs a b → ((place : ℕ) → is_free place ≡ true → is_set is_long a place ≡ false) → (place : ℕ) → strays b place ≡ false → (free : Bool) → is_free place ≡ free → strays a place ≡ false
+stray_same a b h long place e true free = rw (long place free) refl
+stray_same a b h long place e false free = rw (h place free) e
+
+pub HasBits-same : (leap : Bool) (a b : List Mark) → IsReadAs a b → ((place : ℕ) → is_free place ≡ true → is_set is_long a place ≡ false) → HasBits leap b → HasBits leap a
+HasBits-same leap a b h long bits = record {
+  markers = any_same a b h (λ symbol. not (is_long symbol)) marker_places refl ∙ bits.markers;
+  no_strays = none_from (strays a) 0 60 (λ place low high. stray_same a b h long place (none_at (strays b) 0 60 place bits.no_strays low high) (is_free place) refl);
+  zeros = any_same a b h is_one zero_places refl ∙ bits.zeros;
+  announced = ap is_one (h 56 refl) ∙ bits.announced;
+}
