@@ -1,34 +1,17 @@
--- What the tests on a segment's numbers mean, and what it says that its minute was found or wasn't.
-use Rattle.std.proofs.Common.{◌≡◌, ℕ, ◌<◌, ◌≤◌, Bool, true, false, not, ◌&&◌, ◌||◌, ◌==◌, Some, None, List, length, refl, arith}
-use Rattle.std.proofs.lemmas.Bool.Decides.{nat_tests}
-use Rattle.std.specs.Prelude.{if◌then◌else◌}
-use Rattle.tick_units.specs.Rules.{is_out_of}
+-- What it says that a segment says a minute.
+use Rattle.std.proofs.Common.{◌≡◌, ℕ, ◌<◌, Bool, true, false, not, ◌&&◌, ◌||◌, ◌==◌, List, length, refl, arith}
 use Rattle.tick_units.specs.declared.marks.Mark.{Mark}
 use Rattle.std.specs.Bool.{beq}
 use Rattle.tick_units.specs.Fields.{is_one, is_set}
 use Rattle.civil_minute.specs.Months.{begins_month}
+use Rattle.frame_rules.proofs.Meanings.{both_true, is_out_of-false}
 use Rattle.plan_dcf.specs.Fields.{announces_leap, hour_ones, hour_of, minute_ones, minute_of, minute_start}
 use Rattle.plan_dcf.specs.Rules.{breaks_minute_range, breaks_hour_range, breaks_day_range, breaks_weekday_range, breaks_month_range, breaks_year_range, breaks_leap_minute, is_in_range, has_date, names_minute}
-
-pub found_is : (test : Bool) (wanted found : ℕ) → Some found ≡ (if test then Some wanted else None) → (test ≡ true) × (found ≡ wanted)
-found_is true wanted found e = (refl, cc)
-found_is false wanted found e = absurd (cc)
-
-pub none_is : (test : Bool) (wanted : ℕ) → None ≡ (if test then Some wanted else None) → test ≡ false
-none_is true wanted e = absurd (cc)
-none_is false wanted e = refl
-
-both_true : (a b : Bool) → (a && b) ≡ true → (a ≡ true) × (b ≡ true)
-both_true true b e = (refl, e)
-both_true false b e = absurd (cc)
 
 none_of_six : (a b c d e f : Bool) → not (a || b || c || d || e || f) ≡ true → (a ≡ false) × (b ≡ false)
 none_of_six false false c d e f h = (refl, refl)
 none_of_six true b c d e f h = absurd (cc)
 none_of_six false true c d e f h = absurd (cc)
-
-is_out_of-false : (least most ones number : ℕ) → is_out_of least most ones number ≡ false → (least ≤ number) × (number ≤ most)
-is_out_of-false least most ones number e = (grind (arith, nat_tests), grind (arith, nat_tests))
 
 -- the time of day of a segment that says a minute
 pub time_of_day : (marks : List Mark) → names_minute marks ≡ true → (hour_of marks < 24) × (minute_of marks < 60)

@@ -3,20 +3,21 @@ use Rattle.std.proofs.Common.{◌≡◌, ℕ, zero, suc, ◌+◌, ◌-◌, ◌/�
 use Rattle.std.specs.Prelude.{if◌then◌else◌}
 use Rattle.std.specs.List.{list_any, range_with_len}
 use Rattle.std.proofs.lemmas.List.Sums.{sum_by-cons}
+use Rattle.tick_units.specs.Digits.{bit_symbol}
 use Rattle.tick_units.specs.Fields.{is_one, is_set, bit_at, value, is_odd_over, symbols_of}
 use Rattle.tick_units.specs.Rules.{is_odd, has_odd_symbol}
 use Rattle.tick_units.specs.declared.marks.Mark.{Mark}
-use Rattle.tick_units.specs.declared.marks.Symbol.{Symbol}
 use Rattle.tick_units.specs.declared.marks.Symbol.TheVariants.{Zero}
 use Rattle.tick_units.specs.declared.verdicts.Coded.{Coded}
 use Rattle.civil_minute.specs.declared.seconds.CivilMinute.{CivilMinute}
+use Rattle.frame_rules.proofs.Template.{has_odd_symbol-symbols_of}
 use Rattle.plan_dcf.specs.Fields.{is_summer, is_standard, announces_leap, minute_ones, minute_of, hour_ones, hour_of, day_ones, day_of, weekday_of, month_ones, month_of, year_ones, year_tens, year_of}
-use Rattle.plan_dcf.specs.Spelling.{symbol_of, digits_of, date_of, frame_of, IsPassedOver}
-use Rattle.plan_dcf.proofs.SpeltBits.{digit_worth, three_worth, number_worth_1, number_worth_2, number_worth_3, number_worth_4, even_with_parity, is_odd-symbol_of}
+use Rattle.plan_dcf.specs.Spelling.{digits_of, date_of, frame_of, IsPassedOver}
+use Rattle.plan_dcf.proofs.SpeltBits.{digit_worth, three_worth, number_worth_1, number_worth_2, number_worth_3, number_worth_4, even_with_parity, is_odd-bit_symbol}
 
-is_one-symbol_of : (bit : Bool) → is_one (symbol_of bit) ≡ bit
-is_one-symbol_of true = refl
-is_one-symbol_of false = refl
+is_one-bit_symbol : (bit : Bool) → is_one (bit_symbol bit) ≡ bit
+is_one-bit_symbol true = refl
+is_one-bit_symbol false = refl
 
 -- the last mark of a leap minute is Zero, as a place that isn't there counts
 last_zero : (long : Bool) → get_or (if long then Zero ∷ [] else []) 0 Zero ≡ Zero
@@ -39,9 +40,9 @@ pub HasBits-spelt : (c : Coded) (civil : CivilMinute) (weekday : ℕ) (marks : L
 unfolding frame_of
 HasBits-spelt c civil weekday marks e = record {
   start = rw e refl;
-  summer = rw e (is_one-symbol_of c.summer);
-  standard = rw e (is_one-symbol_of (not c.summer));
-  leap = rw e (is_one-symbol_of (not (c.leap_at == 0)));
+  summer = rw e (is_one-bit_symbol c.summer);
+  standard = rw e (is_one-bit_symbol (not c.summer));
+  leap = rw e (is_one-bit_symbol (not (c.leap_at == 0)));
   time = rw e refl;
   minute_parity = rw e (even_with_parity (count_by is_one (digits_of 3 civil.minute)));
   hour_parity = rw e (even_with_parity (count_by is_one (digits_of 2 civil.hour)));
@@ -57,17 +58,13 @@ pub length-frame_of : (c : Coded) (civil : CivilMinute) (weekday : ℕ) → leng
 unfolding frame_of
 length-frame_of c civil weekday = omega (arith, length_last (c.leap_at == c.minute))
 
-list_any-symbols_of : (marks : List Mark) → has_odd_symbol marks ≡ list_any is_odd (symbols_of marks)
-list_any-symbols_of [] = refl
-list_any-symbols_of (mark ∷ marks) = rw (list_any-symbols_of marks) refl
-
 odd_last : (long : Bool) → list_any is_odd (if long then Zero ∷ [] else []) ≡ false
 odd_last true = refl
 odd_last false = refl
 
 pub has_odd_symbol-spelt : (c : Coded) (civil : CivilMinute) (weekday : ℕ) (marks : List Mark) → symbols_of marks ≡ frame_of c civil weekday → has_odd_symbol marks ≡ false
 unfolding frame_of
-has_odd_symbol-spelt c civil weekday marks e = rw (list_any-symbols_of marks, e) (simp is_odd-symbol_of (odd_last (c.leap_at == c.minute)))
+has_odd_symbol-spelt c civil weekday marks e = rw (has_odd_symbol-symbols_of marks, e) (simp is_odd-bit_symbol (odd_last (c.leap_at == c.minute)))
 
 -- the numbers of a frame
 pub record HasNumbers (civil : CivilMinute) (weekday : ℕ) (marks : List Mark) : Type 0 where
@@ -157,12 +154,3 @@ HasNumbers-same civil weekday a b h numbers = record {
   year_decade = value_same a b h 54 (1 ∷ 2 ∷ 4 ∷ 8 ∷ []) (omega arith) ∙ numbers.year_decade;
   year = value_same a b h 50 (1 ∷ 2 ∷ 4 ∷ 8 ∷ 10 ∷ 20 ∷ 40 ∷ 80 ∷ []) (omega arith) ∙ numbers.year;
 }
-
--- marks that have these symbols
-abbrev pub template : List Symbol → List Mark
-template [] = []
-template (symbol ∷ symbols) = record { at = 0; symbol = symbol } ∷ template symbols
-
-pub symbols_of-template : (symbols : List Symbol) → symbols_of (template symbols) ≡ symbols
-symbols_of-template [] = refl
-symbols_of-template (symbol ∷ symbols) = rw (symbols_of-template symbols) refl

@@ -1,12 +1,11 @@
 -- A segment that has the symbols of a spelling, and lawful spacing, is valid and says what was spelt.
-use Rattle.std.proofs.Common.{◌≡◌, ℕ, ◌+◌, ◌/◌, ◌%◌, ◌<◌, ◌≤◌, inl, inr, Bool, true, false, not, ◌&&◌, ◌||◌, ◌==◌, nat_lt, None, List, length, get_or, refl, sym, ap, ◌∙◌, arith}
+use Rattle.std.proofs.Common.{◌≡◌, ℕ, ◌+◌, ◌/◌, ◌%◌, ◌<◌, ◌≤◌, inl, inr, Bool, true, false, not, ◌&&◌, ◌==◌, None, List, length, get_or, refl, sym, ap, ◌∙◌, arith}
 use Rattle.std.specs.Prelude.{if◌then◌else◌}
 use Rattle.std.specs.Bool.{beq}
 use Rattle.std.proofs.lemmas.List.{length-map}
 use Rattle.std.proofs.lemmas.Bool.{cases_eq}
-use Rattle.std.proofs.lemmas.Bool.Decides.{nat_tests}
 use Rattle.tick_units.specs.Fields.{symbols_of}
-use Rattle.tick_units.specs.Rules.{starts_of, are_spaced, is_out_of}
+use Rattle.tick_units.specs.Rules.{starts_of, are_spaced}
 use Rattle.tick_units.specs.declared.marks.Mark.{Mark}
 use Rattle.tick_units.specs.declared.marks.Symbol.TheVariants.{Zero}
 use Rattle.tick_units.specs.declared.verdicts.Coded.{Coded}
@@ -16,10 +15,12 @@ use Rattle.civil_minute.specs.Seconds.{Shows}
 use Rattle.civil_minute.specs.declared.seconds.CivilMinute.{CivilMinute}
 use Rattle.civil_minute.proofs.Bounds.{date_bounds, weekday_bounds, second_of-day}
 use Rattle.civil_minute.proofs.MonthLemmas.{begins_month-midnight}
+use Rattle.frame_rules.proofs.Meanings.{is_out_of-within, digits-within, and_false, test_true, test_false}
+use Rattle.frame_rules.proofs.Template.{template, symbols_of-template}
 use Rattle.plan_dcf.specs.Fields.{minute_ones, minute_of, hour_ones, hour_of, day_ones, day_of, weekday_of, month_ones, month_of, year_ones, year_tens, year_of, hours_ahead, local_start, minute_start, leap_end, coded}
 use Rattle.plan_dcf.specs.Rules.{is_in_range, has_date, names_minute, is_leap_minute, first}
 use Rattle.plan_dcf.specs.Spelling.{IsSpellable, local_second, frame_of, Agrees}
-use Rattle.plan_dcf.proofs.ReadBack.{HasBits, HasBits-spelt, HasBits-same, HasNumbers, HasNumbers-spelt, HasNumbers-same, IsReadAs, template, symbols_of-template, length-frame_of, has_odd_symbol-spelt}
+use Rattle.plan_dcf.proofs.ReadBack.{HasBits, HasBits-spelt, HasBits-same, HasNumbers, HasNumbers-spelt, HasNumbers-same, IsReadAs, length-frame_of, has_odd_symbol-spelt}
 use Rattle.plan_dcf.proofs.Validity.{IsValid, first-valid}
 
 -- what is known of a spelling's parts
@@ -33,16 +34,6 @@ pub record IsFrameOf (c : Coded) (civil : CivilMinute) (weekday : ℕ) (marks : 
 
 -- ---- tests that hold or fail
 
-in_range : (least most ones number : ℕ) → ones ≤ 9 → least ≤ number → number ≤ most → is_out_of least most ones number ≡ false
-in_range least most ones number one low high = grind (arith, nat_tests)
-
-digits_in_range : (ones tens : ℕ) → ones ≤ 9 → tens ≤ 9 → (nat_lt 9 ones || nat_lt 9 tens) ≡ false
-digits_in_range ones tens h k = grind (arith, nat_tests)
-
-and_false : (b : Bool) → (b && false) ≡ false
-and_false true = refl
-and_false false = refl
-
 same_equal : (b : Bool) → not (beq b b) ≡ false
 same_equal true = refl
 same_equal false = refl
@@ -50,12 +41,6 @@ same_equal false = refl
 apart : (b : Bool) → beq b (not b) ≡ false
 apart true = refl
 apart false = refl
-
-test_true : (a b : ℕ) → a ≡ b → (a == b) ≡ true
-test_true a b e = grind (arith, nat_tests)
-
-test_false : (a b : ℕ) → ¬ (a ≡ b) → (a == b) ≡ false
-test_false a b h = grind (arith, nat_tests)
 
 -- a frame has 59 marks, or 60 where it is long
 length_tests : (long : Bool) (n : ℕ) → n ≡ 59 + (if long then 1 else 0) → ((n == 60) ≡ long) × ((not (n == 59) && not (n == 60)) ≡ false)
@@ -186,12 +171,12 @@ IsValid-spelt c civil weekday marks h =
       minute_parity = bits.minute_parity;
       hour_parity = bits.hour_parity;
       date_parity = bits.date_parity;
-      minute_range = in_range 0 59 (minute_ones marks) (minute_of marks) (omega (arith, numbers.minute_digit)) (omega arith) (omega (arith, numbers.minute, h.shows.minute));
-      hour_range = in_range 0 23 (hour_ones marks) (hour_of marks) (omega (arith, numbers.hour_digit)) (omega arith) (omega (arith, numbers.hour, h.shows.hour));
-      day_range = in_range 1 31 (day_ones marks) (day_of marks) (omega (arith, numbers.day_digit)) (omega (arith, numbers.day)) (omega (arith, numbers.day));
+      minute_range = is_out_of-within 0 59 (minute_ones marks) (minute_of marks) (omega (arith, numbers.minute_digit)) (omega arith) (omega (arith, numbers.minute, h.shows.minute));
+      hour_range = is_out_of-within 0 23 (hour_ones marks) (hour_of marks) (omega (arith, numbers.hour_digit)) (omega arith) (omega (arith, numbers.hour, h.shows.hour));
+      day_range = is_out_of-within 1 31 (day_ones marks) (day_of marks) (omega (arith, numbers.day_digit)) (omega (arith, numbers.day)) (omega (arith, numbers.day));
       weekday_range = test_false (weekday_of marks) 0 (λ e. absurd (omega (arith, numbers.days, h.weekday_is)));
-      month_range = in_range 1 12 (month_ones marks) (month_of marks) (omega (arith, numbers.month_digit)) (omega (arith, numbers.month)) (omega (arith, numbers.month));
-      year_range = digits_in_range (year_ones marks) (year_tens marks) (omega (arith, numbers.year_digit)) (omega (arith, numbers.year_decade));
+      month_range = is_out_of-within 1 12 (month_ones marks) (month_of marks) (omega (arith, numbers.month_digit)) (omega (arith, numbers.month)) (omega (arith, numbers.month));
+      year_range = digits-within (year_ones marks) (year_tens marks) (omega (arith, numbers.year_digit)) (omega (arith, numbers.year_decade));
       date = rw (has_date_is c civil weekday marks h) (and_false (is_in_range marks));
       weekday = rw (weekday_kept c civil weekday marks h) (and_false (names_minute marks));
       leap_minute = rw (tests.0, leap, same_equal (c.leap_at == c.minute), bits.last) (and_false (names_minute marks));

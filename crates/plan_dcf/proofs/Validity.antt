@@ -1,7 +1,8 @@
 -- A segment whose first broken rule is none breaks none, and the other way round.
-use Rattle.std.proofs.Common.{◌≡◌, Bool, true, false, not, ◌&&◌, None, List, refl}
+use Rattle.std.proofs.Common.{◌≡◌, true, false, None, List, refl}
 use Rattle.tick_units.specs.declared.marks.Mark.{Mark}
 use Rattle.frame_rules.proofs.FirstLaws.{AreUnbroken-from_none, first_broken-none}
+use Rattle.frame_rules.proofs.Meanings.{true_from_not}
 use Rattle.plan_dcf.specs.Rules.{breaks_spacing, breaks_width, breaks_length, breaks_start_bit, breaks_zone_bits, breaks_time_bit, breaks_minute_parity, breaks_hour_parity, breaks_date_parity, breaks_minute_range, breaks_hour_range, breaks_day_range, breaks_weekday_range, breaks_month_range, breaks_year_range, breaks_date, breaks_weekday, breaks_leap_minute, is_in_range, has_date, names_minute, rules, first}
 
 pub record IsValid (marks : List Mark) : Type 0 where
@@ -52,10 +53,6 @@ IsValid-from_none marks e =
 pub first-valid : (marks : List Mark) → IsValid marks → first marks ≡ None
 unfolding first
 first-valid marks h = first_broken-none (rules marks) (h.spacing, (h.width, (h.length, (h.start_bit, (h.zone_bits, (h.time_bit, (h.minute_parity, (h.hour_parity, (h.date_parity, (h.minute_range, (h.hour_range, (h.day_range, (h.weekday_range, (h.month_range, (h.year_range, (h.date, (h.weekday, (h.leap_minute, tt))))))))))))))))))
-
-true_from_not : (b : Bool) → (true && not b) ≡ false → b ≡ true
-true_from_not true e = refl
-true_from_not false e = absurd (cc)
 
 -- such a segment says a minute of a civil date
 pub names_minute-valid : (marks : List Mark) → IsValid marks → names_minute marks ≡ true

@@ -1,6 +1,7 @@
 -- How DCF77 spells a minute (PTB): the civil time of the minute that begins after the frame, the lowest bits first, with
 -- even parities. What the code carries besides is left 0.
-use Rattle.std.specs.Prelude.{◌≡◌, ◌⊎◌, ℕ, zero, suc, ◌+◌, ◌*◌, ◌/◌, ◌%◌, ◌<◌, ◌≤◌, Bool, false, true, not, ◌==◌, IsTrue, IsFalse, List, [], ◌∷◌, ◌++◌, length, slice_index_or, replicate, count_by, if◌then◌else◌}
+use Rattle.std.specs.Prelude.{◌≡◌, ◌⊎◌, ℕ, zero, suc, ◌+◌, ◌*◌, ◌/◌, ◌%◌, ◌<◌, ◌≤◌, not, ◌==◌, IsTrue, IsFalse, List, [], ◌∷◌, ◌++◌, length, slice_index_or, replicate, count_by, if◌then◌else◌}
+use Rattle.tick_units.specs.Digits.{bit_symbol}
 use Rattle.tick_units.specs.Fields.{is_one, symbols_of}
 use Rattle.tick_units.specs.Rules.{starts_of, are_spaced, has_odd_symbol}
 use Rattle.tick_units.specs.declared.marks.Mark.{Mark}
@@ -24,14 +25,10 @@ pub record IsSpellable (c : Coded) : Type 0 where
   pub below : local_second c < 6311433600
   pub leap : (c.leap_at ≡ 0) ⊎ ((c.leap_at ≡ midnight_from c.minute) × IsTrue (begins_month c.leap_at))
 
-abbrev pub symbol_of : Bool → Symbol
-symbol_of false = Zero
-symbol_of true = One
-
 -- so many low bits of a number
 abbrev pub bits_of : ℕ → ℕ → List Symbol
 bits_of zero number = []
-bits_of (suc count) number = symbol_of (number % 2 == 1) ∷ bits_of count (number / 2)
+bits_of (suc count) number = bit_symbol (number % 2 == 1) ∷ bits_of count (number / 2)
 
 -- a number of two digits: four bits of its ones, and so many of its tens
 abbrev pub digits_of : ℕ → ℕ → List Symbol
@@ -39,14 +36,14 @@ digits_of tens number = bits_of 4 (number % 10) ++ bits_of tens (number / 10)
 
 -- the bit that makes the count of ones even
 abbrev pub parity_of : List Symbol → Symbol
-parity_of symbols = symbol_of (count_by is_one symbols % 2 == 1)
+parity_of symbols = bit_symbol (count_by is_one symbols % 2 == 1)
 
 abbrev pub with_parity : List Symbol → List Symbol
 with_parity symbols = symbols ++ parity_of symbols ∷ []
 
 -- places 0 to 20: the start bit and what is passed over, the zone, whether a leap second is announced, the time bit
 abbrev pub head_of : Coded → List Symbol
-head_of c = replicate 17 Zero ++ symbol_of c.summer ∷ symbol_of (not c.summer) ∷ symbol_of (not (c.leap_at == 0)) ∷ One ∷ []
+head_of c = replicate 17 Zero ++ bit_symbol c.summer ∷ bit_symbol (not c.summer) ∷ bit_symbol (not (c.leap_at == 0)) ∷ One ∷ []
 
 -- day, weekday, month and year
 abbrev pub date_of : CivilMinute → ℕ → List Symbol

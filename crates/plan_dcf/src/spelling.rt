@@ -5,20 +5,14 @@ ghost use Rattle.tick_units.specs.Rules.{starts_of, are_spaced};
 ghost use Rattle.tick_units.specs.declared.marks.Mark.{Mark};
 ghost use Rattle.plan_dcf.specs.Fields.{coded};
 ghost use Rattle.plan_dcf.specs.Rules.{first};
-ghost use Rattle.plan_dcf.specs.Spelling.{IsSpellable, symbol_of, bits_of, digits_of, parity_of, with_parity, head_of, date_of, last_of, frame_of, spelt, Agrees};
+ghost use Rattle.plan_dcf.specs.Spelling.{IsSpellable, bits_of, digits_of, parity_of, with_parity, head_of, date_of, last_of, frame_of, spelt, Agrees};
 
 use crate::fields::hours_ahead;
 use civil_minute::{CivilMinute, civil_at, weekday};
-use frame_rules::Spelling;
+use frame_rules::{Spelling, bit_symbol};
 use tick_units::{Coded, Symbol};
 
 const HOUR: u64 = 3_600;
-
-fn symbol_of(bit: bool) -> Symbol
-    ensures { result ≡ symbol_of bit }
-{
-    if bit { Symbol::One } else { Symbol::Zero }
-}
 
 // Puts so many low bits of a number at the end, the lowest first.
 fn push_bits(frame: &mut Spelling, count: usize, number: u32)
@@ -28,7 +22,7 @@ fn push_bits(frame: &mut Spelling, count: usize, number: u32)
 {
     let mut rest = number;
     for _i in 0..count {
-        frame.push(symbol_of(rest % 2 == 1));
+        frame.push(bit_symbol(rest % 2 == 1));
         rest /= 2;
     }
 }
@@ -54,7 +48,7 @@ fn push_parity(frame: &mut Spelling, place: usize)
         .iter()
         .filter(|symbol| **symbol == Symbol::One)
         .count();
-    frame.push(symbol_of(ones % 2 == 1));
+    frame.push(bit_symbol(ones % 2 == 1));
 }
 
 // Puts the digits of a number and their parity.
@@ -89,9 +83,9 @@ fn head_of(c: &Coded) -> Spelling
 {
     let mut frame = Spelling::new();
     push_bits(&mut frame, 17, 0);
-    frame.push(symbol_of(c.summer));
-    frame.push(symbol_of(!c.summer));
-    frame.push(symbol_of(c.leap_at != 0));
+    frame.push(bit_symbol(c.summer));
+    frame.push(bit_symbol(!c.summer));
+    frame.push(bit_symbol(c.leap_at != 0));
     frame.push(Symbol::One);
     frame
 }

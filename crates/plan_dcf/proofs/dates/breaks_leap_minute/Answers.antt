@@ -1,7 +1,8 @@
 use Rattle.std.proofs.Common.{refl}
+use Rattle.frame_rules.proofs.Meanings.{found_is, none_is}
 use Rattle.plan_dcf.specs.Fields.{minute_start}
 use Rattle.plan_dcf.specs.Rules.{names_minute}
-use Rattle.plan_dcf.proofs.NamedMinute.{found_is, none_is, breaks_leap_minute-named}
+use Rattle.plan_dcf.proofs.NamedMinute.{breaks_leap_minute-named}
 use Rattle.plan_dcf.proofs.dates.breaks_leap_minute.Goals as goal
 
 pub returns-then-has_wrong_length : goal.returns-then-has_wrong_length

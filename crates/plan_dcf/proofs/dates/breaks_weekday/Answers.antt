@@ -1,9 +1,10 @@
 use Rattle.std.proofs.Common.{◌≡◌, ◌+◌, refl, ap, ◌∙◌}
 use Rattle.civil_minute.specs.Dates.{day_number, weekday_of as civil_weekday, weekday_of_day}
 use Rattle.civil_minute.proofs.Bounds.{second_of-day}
+use Rattle.frame_rules.proofs.Meanings.{found_is, none_is}
 use Rattle.plan_dcf.specs.Fields.{local_start, year_of, month_of, day_of, hour_of, minute_of}
 use Rattle.plan_dcf.specs.Rules.{names_minute}
-use Rattle.plan_dcf.proofs.NamedMinute.{found_is, none_is, time_of_day}
+use Rattle.plan_dcf.proofs.NamedMinute.{time_of_day}
 use Rattle.plan_dcf.proofs.dates.breaks_weekday.Goals as goal
 
 pub returns-in-Some : goal.returns-in-Some

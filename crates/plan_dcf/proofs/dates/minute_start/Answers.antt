@@ -1,7 +1,7 @@
 use Rattle.std.proofs.Common.{refl}
+use Rattle.frame_rules.proofs.Meanings.{found_is, none_is}
 use Rattle.plan_dcf.specs.Fields.{local_start, minute_start}
 use Rattle.plan_dcf.specs.Rules.{names_minute}
-use Rattle.plan_dcf.proofs.NamedMinute.{found_is, none_is}
 use Rattle.plan_dcf.proofs.dates.minute_start.Goals as goal
 
 pub returns-in-Some-clause-value : goal.returns-in-Some-clause-value

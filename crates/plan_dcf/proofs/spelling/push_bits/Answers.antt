@@ -8,5 +8,5 @@ loop-i-preserved c =
     let before = rw next at c.loop-i.invariant.bits in
     record {
       count = omega arith;
-      bits = rw (c.push.ensures.list, c.symbol_of.ensures, append_assoc) before;
+      bits = rw (c.push.ensures.list, c.bit_symbol.ensures, append_assoc) before;
     }
