@@ -1,6 +1,6 @@
 -- Units: microseconds of the host's counter, spans of 2^-32 s, stamps and shorts (RFC 5905, sections 6 and 7; which way
 -- each quotient is rounded is this project's own choice).
-use Rattle.std.specs.Prelude.{◌-◌, ℕ, zero, suc, ◌+◌, ◌*◌, ◌/◌, ◌^◌, ◌≤◌, min, nat_le, ℤ, pos, negsuc, neg_ℤ, unsigned_abs, if◌then◌else◌}
+use Rattle.std.specs.Prelude.{◌-◌, ◌-ℤ◌, ℕ, zero, suc, ◌+◌, ◌*◌, ◌/◌, ◌^◌, ◌≤◌, min, nat_le, ℤ, pos, negsuc, neg_ℤ, unsigned_abs, if◌then◌else◌}
 use Rattle.std.specs.Int.{div_ceil, int_div_euclid, int_rem_euclid}
 
 -- the quotient by a number above 0, rounded down, and rounded up
@@ -31,6 +31,10 @@ root_within (suc steps) (suc v) = let half = root_within steps (suc v / 4) in if
 
 unfoldable pub root : ℕ → ℕ
 root v = root_within v v
+
+-- the square of the difference of two spans, which counts as at most 2^40 units (256 s)
+abbrev pub square : ℤ → ℤ → ℕ
+square x y = min (unsigned_abs (x -ℤ y)) (2 ^ 40) * min (unsigned_abs (x -ℤ y)) (2 ^ 40)
 
 -- the least short that isn't below a span of so many units, of which a short has 65536; at most the greatest short
 abbrev pub to_short : ℤ → ℕ

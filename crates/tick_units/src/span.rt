@@ -1,6 +1,6 @@
 ghost use Rattle.std.specs.Prelude.{◌≡◌, pos, ◌-ℤ◌, ◌*◌, ◌^◌, ◌<◌, ◌≤◌, unsigned_abs, IfSome, IfNone};
 ghost use Rattle.std.specs.Int.{int_min, int_max};
-ghost use Rattle.tick_units.specs.Units.{floor_div, ceil_div};
+ghost use Rattle.tick_units.specs.Units.{floor_div, ceil_div, square};
 
 use crate::Short;
 use std::marker::Model;
@@ -69,6 +69,15 @@ impl Span {
         ensures { result ≡ unsigned_abs (self -ℤ other) }
     {
         self.units.abs_diff(other.units)
+    }
+
+    /// The square of the number of units between the two, which counts as at most 2^40 (256 s).
+    pub fn squared_apart(self, other: Span) -> u128
+        ensures value { result ≡ square self other }
+        ensures small { result ≤ 2 ^ 80 }
+    {
+        let apart = self.abs_diff(other).min(1 << 40);
+        apart * apart
     }
 
     /// The lesser of the two.

@@ -82,6 +82,15 @@ fn spans_are_reckoned_with(rt: HostRuntime) {
     assert_eq!(rt; (five + seven).get(), 12);
     assert_eq!(rt; (five - seven).get(), -2);
     assert_eq!(rt; five.abs_diff(-seven), 12);
+    assert_eq!(rt; five.squared_apart(-seven), 144);
+    assert_eq!(rt;
+        Span::from_seconds(255).squared_apart(Span::from(0)),
+        (255 << 32) * (255 << 32)
+    );
+    assert_eq!(rt;
+        Span::from_seconds(257).squared_apart(Span::from(0)),
+        1 << 80
+    );
     assert_eq!(rt; five.min(-seven), -seven);
     assert_eq!(rt; five.max(-seven), five);
     assert!(rt; -seven < five);
