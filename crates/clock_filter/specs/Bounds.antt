@@ -1,0 +1,20 @@
+-- What holds of the figures of any samples, and of lawful ones (no part of them negative, or as long as 2^34 s).
+use Rattle.std.specs.Prelude.{ℕ, ◌^◌, ◌≤◌, List, All, ℤ, pos, ◌≤ℤ◌}
+use Rattle.tick_units.specs.Samples.{IsLawful, IsLength}
+use Rattle.clock_filter.specs.declared.figures.Figures.{Figures}
+use Rattle.clock_filter.specs.declared.taken.Taken.{Taken}
+
+-- the moments of the held samples, none of which is from before `cut`
+pub record IsTimely (cut : ℕ) (f : Figures) : Type 0 where
+  pub from_cut : cut ≤ f.taken_at
+  pub newest : f.taken_at ≤ f.newest
+
+abbrev pub AreLawful : List Taken → Type 0
+AreLawful samples = All (λ x. IsLawful x.sample) samples
+
+-- the figures of lawful samples
+pub record IsMeasured (f : Figures) : Type 0 where
+  pub offset : IsLength f.offset
+  pub delay : IsLength f.delay
+  pub least : pos 0 ≤ℤ f.dispersion
+  pub most : f.dispersion ≤ℤ pos (2 ^ 36)

@@ -1,0 +1,4 @@
+pub mod Bounds
+pub mod Distance
+pub mod Figures
+pub mod Held

@@ -1,0 +1,55 @@
+ghost use Rattle.std.specs.Prelude.{◌≡◌, ◌≤◌, ◌^◌, pos, ◌≤ℤ◌, unsigned_abs};
+ghost use Rattle.clock_filter.specs.Distance.{root_delay_of, root_dispersion_of, distance_of, is_fit_at};
+
+use crate::Figures;
+use tick_units::{Local, Span, isqrt, phi};
+
+// MINDISP of RFC 5905, 5 ms: what a way to the reference clock counts as at least.
+const MIN_DISPERSION: u64 = 21_474_837;
+
+// The first stratum that is too far from a reference clock.
+const TOO_FAR: u8 = 15;
+
+/// The way from the host to the source's reference clock and back.
+pub fn root_delay(f: &Figures) -> Span
+    requires { unsigned_abs f.now.delay ≤ 2 ^ 68 }
+    ensures { result ≡ root_delay_of f.now }
+{
+    Span::from(f.root_delay) + f.delay
+}
+
+/// How far the source's reference clock and the host may have drifted apart at a moment, the way between them left out: the
+/// root dispersion and the jitter.
+pub fn root_dispersion(f: &Figures, now: Local) -> Span
+    requires moment { f.now.newest ≤ now }
+    requires newest { f.now.taken_at ≤ f.now.newest }
+    requires dispersion { unsigned_abs f.now.dispersion ≤ 2 ^ 68 }
+    ensures { result ≡ root_dispersion_of now f.now }
+{
+    let drift = phi(now.get() - f.taken_at.get());
+    Span::from(f.root_disp) + f.dispersion + drift + Span::from(isqrt(f.jitter2))
+}
+
+/// How far the source may be from the truth at a moment: its root distance.
+pub fn distance(f: &Figures, now: Local) -> Span
+    requires moment { f.now.newest ≤ now }
+    requires newest { f.now.taken_at ≤ f.now.newest }
+    requires delay { unsigned_abs f.now.delay ≤ 2 ^ 68 }
+    requires dispersion { unsigned_abs f.now.dispersion ≤ 2 ^ 68 }
+    ensures value { result ≡ distance_of now f.now }
+    ensures least { pos 0 ≤ℤ f.now.dispersion → pos 1 ≤ℤ result }
+{
+    let way = root_delay(f).max(Span::from(MIN_DISPERSION));
+    way.halved_up(1) + root_dispersion(f, now)
+}
+
+/// Whether the source may be selected at a moment: its distance is at most 1 s and its stratum below 15.
+pub fn is_fit(f: &Figures, now: Local) -> bool
+    requires moment { f.now.newest ≤ now }
+    requires newest { f.now.taken_at ≤ f.now.newest }
+    requires delay { unsigned_abs f.now.delay ≤ 2 ^ 68 }
+    requires dispersion { unsigned_abs f.now.dispersion ≤ 2 ^ 68 }
+    ensures { result ≡ is_fit_at now f.now }
+{
+    distance(f, now) <= Span::from_seconds(1) && f.stratum < TOO_FAR
+}

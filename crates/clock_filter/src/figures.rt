@@ -1,0 +1,127 @@
+ghost use Rattle.std.specs.Prelude.{◌≡◌, ◌<◌, ◌≤◌, ◌^◌, ◌∷◌, max, length, pos, slice_get, IfSome};
+ghost use Rattle.clock_filter.specs.Figures as figures;
+
+use crate::Taken;
+use tick_units::{Local, Short, Span, phi};
+
+// How many stages the filter has (NSTAGE).
+const STAGES: usize = 8;
+
+/// What the samples of a source say of the time.
+#[derive(Clone, Copy, Debug, PartialEq, Eq)]
+pub struct Figures {
+    /// What is to be added to the host's counter to give the time since 1900, by the best sample: the one of least delay.
+    pub offset: Span,
+    /// The best sample's way to the server and back.
+    pub delay: Span,
+    /// How far the offset may be from the truth at `newest`, the delay and the server's own part left out; at most 16 s.
+    pub dispersion: Span,
+    /// The mean of the squares of the other samples' distances from the offset, in units of 2^-64 s^2; at most 2^80.
+    pub jitter2: u128,
+    /// When the best sample was taken.
+    pub taken_at: Local,
+    /// When the newest sample was taken.
+    pub newest: Local,
+    /// The server's stratum, and 0 of a radio.
+    pub stratum: u8,
+    /// The server's IPv4 address, and 0 of a radio.
+    pub address: u32,
+    /// The server's own way to its reference clock and back.
+    pub root_delay: Short,
+    /// The server's own dispersion.
+    pub root_disp: Short,
+}
+
+// MAXDISP of RFC 5905, 16 s: the most that a stage counts as, and what an empty one does.
+fn max_dispersion() -> Span
+    ensures { result ≡ pos (2 ^ 36) }
+{
+    Span::from_seconds(16)
+}
+
+// The later of two moments.
+fn later(one: Local, other: Local) -> Local
+    ensures { result ≡ max one other }
+{
+    if one < other { other } else { one }
+}
+
+// The greatest moment.
+fn newest_of(best: &Taken, others: &[Taken]) -> Local
+    ensures { result ≡ figures.newest_of (best.now ∷ others.now) }
+{
+    let mut newest = best.at;
+    for taken in others {
+        newest = later(newest, taken.at);
+    }
+    newest
+}
+
+// The dispersion of a sample at a moment.
+fn aged(now: Local, taken: &Taken) -> Span
+    ensures { result ≡ figures.aged now (Some taken.now) }
+{
+    let least = max_dispersion();
+    let dispersion = taken.sample.dispersion;
+    if dispersion < least {
+        least.min(dispersion + phi(now.get().saturating_sub(taken.at.get())))
+    } else {
+        least
+    }
+}
+
+// The dispersion of a stage at a moment.
+fn age_of(now: Local, held: &[Taken], stage: usize) -> Span
+    ensures { result ≡ figures.aged now (slice_get held.now stage) }
+{
+    match held.get(stage) {
+        Some(taken) => aged(now, taken),
+        None => max_dispersion(),
+    }
+}
+
+// The sum of the stages.
+fn dispersion_of(now: Local, held: &[Taken]) -> Span
+    ensures { result ≡ figures.staged 8 now held.now }
+{
+    let mut sum = Span::from(0);
+    for stage in 0..STAGES {
+        sum = sum + age_of(now, held, stage).halved_up(stage as u32 + 1);
+    }
+    sum
+}
+
+// The mean of the squares of the distances from the best sample's offset.
+fn jitter2_of(best: &Taken, others: &[Taken]) -> u128
+    requires { length others.now < 8 }
+    ensures value { result ≡ figures.jitter2_of best.now others.now }
+    ensures small { result ≤ 2 ^ 80 }
+{
+    let mut sum = 0;
+    for taken in others {
+        sum += taken.sample.offset.squared_apart(best.sample.offset);
+    }
+    sum / others.len().max(1) as u128
+}
+
+// The figures of samples in order.
+pub fn figures_of(held: &[Taken]) -> Option<Figures>
+    requires { length held.now ≤ 8 }
+    ensures value { result ≡ figures.figures_of held.now }
+    ensures spread { IfSome result (λ f. f.jitter2 ≤ 2 ^ 80) }
+{
+    let (best, others) = held.split_first()?;
+    let newest = newest_of(best, others);
+    Some(Figures {
+        offset: best.sample.offset,
+        delay: best.sample.delay,
+        dispersion: dispersion_of(newest, held),
+        jitter2: jitter2_of(best, others),
+        taken_at: best.at,
+        newest,
+        stratum: best.sample.stratum,
+        address: best.sample.address,
+        root_delay: best.sample.root_delay,
+        root_disp: best.sample.root_disp,
+    })
+}
