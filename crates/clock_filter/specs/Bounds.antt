@@ -1,5 +1,5 @@
 -- What holds of the figures of any samples, and of lawful ones (no part of them negative, or as long as 2^34 s).
-use Rattle.std.specs.Prelude.{ℕ, ◌^◌, ◌≤◌, List, All, ℤ, pos, ◌≤ℤ◌}
+use Rattle.std.specs.Prelude.{ℕ, ◌^◌, ◌≤◌, List, All, pos, ◌≤ℤ◌}
 use Rattle.tick_units.specs.Samples.{IsLawful, IsLength}
 use Rattle.clock_filter.specs.declared.figures.Figures.{Figures}
 use Rattle.clock_filter.specs.declared.taken.Taken.{Taken}

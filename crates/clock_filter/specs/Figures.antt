@@ -19,11 +19,11 @@ aged now None = pos (2 ^ 36)
 aged now (Some x) = int_min (pos (2 ^ 36)) (x.sample.dispersion +ℤ pos (phi (now - x.at)))
 
 -- what so many stages add up to: the first counts half, and each next one half as much as the one before it, rounded up
-abbrev pub staged : ℕ → ℕ → List Taken → ℤ
+unfoldable pub staged : ℕ → ℕ → List Taken → ℤ
 staged stages now taken = fold (λ sum i. sum +ℤ ceil_div (aged now (slice_get taken i)) (2 ^ (i + 1))) (pos 0) (range_with_len 0 stages)
 
 -- the dispersion of the filter when the newest sample was taken: that of all eight stages
-unfoldable pub dispersion_of : List Taken → ℤ
+abbrev pub dispersion_of : List Taken → ℤ
 dispersion_of taken = staged 8 (newest_of taken) taken
 
 -- the mean of the squares of the others' distances from the best sample's offset, rounded down; 0 where there are no others

@@ -1,4 +1,6 @@
 ghost use Rattle.std.specs.Prelude.{◌≡◌, ◌≤◌, ◌^◌, pos, ◌≤ℤ◌, unsigned_abs};
+ghost use Rattle.std.specs.Int.{int_max};
+ghost use Rattle.tick_units.specs.Units.{ceil_div};
 ghost use Rattle.clock_filter.specs.Distance.{root_delay_of, root_dispersion_of, distance_of, is_fit_at};
 
 use crate::Figures;
@@ -7,13 +9,24 @@ use tick_units::{Local, Span, isqrt, phi};
 // MINDISP of RFC 5905, 5 ms: what a way to the reference clock counts as at least.
 const MIN_DISPERSION: u64 = 21_474_837;
 
+// Half of the way, rounded up.
+fn half_of_way(f: &Figures) -> Span
+    requires { unsigned_abs f.now.delay ≤ 2 ^ 68 }
+    ensures value { result ≡ ceil_div (int_max (pos 21474837) (root_delay_of f.now)) 2 }
+    ensures small { unsigned_abs result ≤ 2 ^ 68 }
+    ensures least { pos 1 ≤ℤ result }
+{
+    Span::from(MIN_DISPERSION).max(root_delay(f)).halved_up(1)
+}
+
 // The first stratum that is too far from a reference clock.
 const TOO_FAR: u8 = 15;
 
 /// The way from the host to the source's reference clock and back.
 pub fn root_delay(f: &Figures) -> Span
     requires { unsigned_abs f.now.delay ≤ 2 ^ 68 }
-    ensures { result ≡ root_delay_of f.now }
+    ensures value { result ≡ root_delay_of f.now }
+    ensures small { unsigned_abs result ≤ 2 ^ 69 }
 {
     Span::from(f.root_delay) + f.delay
 }
@@ -24,7 +37,9 @@ pub fn root_dispersion(f: &Figures, now: Local) -> Span
     requires moment { f.now.newest ≤ now }
     requires newest { f.now.taken_at ≤ f.now.newest }
     requires dispersion { unsigned_abs f.now.dispersion ≤ 2 ^ 68 }
-    ensures { result ≡ root_dispersion_of now f.now }
+    ensures value { result ≡ root_dispersion_of now f.now }
+    ensures small { unsigned_abs result ≤ 2 ^ 69 }
+    ensures least { pos 0 ≤ℤ f.now.dispersion → pos 0 ≤ℤ result }
 {
     let drift = phi(now.get() - f.taken_at.get());
     Span::from(f.root_disp) + f.dispersion + drift + Span::from(isqrt(f.jitter2))
@@ -39,8 +54,7 @@ pub fn distance(f: &Figures, now: Local) -> Span
     ensures value { result ≡ distance_of now f.now }
     ensures least { pos 0 ≤ℤ f.now.dispersion → pos 1 ≤ℤ result }
 {
-    let way = root_delay(f).max(Span::from(MIN_DISPERSION));
-    way.halved_up(1) + root_dispersion(f, now)
+    half_of_way(f) + root_dispersion(f, now)
 }
 
 /// Whether the source may be selected at a moment: its distance is at most 1 s and its stratum below 15.

@@ -1,4 +1,6 @@
-ghost use Rattle.std.specs.Prelude.{◌≡◌, ◌<◌, ◌≤◌, ◌^◌, ◌∷◌, max, length, pos, slice_get, IfSome};
+ghost use Rattle.std.specs.Prelude.{◌≡◌, ◌<◌, ◌≤◌, ◌^◌, ◌∷◌, max, length, pos, ◌+ℤ◌, ◌≤ℤ◌, unsigned_abs, slice_get, IfSome};
+ghost use Rattle.std.specs.Int.{int_min};
+ghost use Rattle.tick_units.specs.Units as units;
 ghost use Rattle.clock_filter.specs.Figures as figures;
 
 use crate::Taken;
@@ -57,32 +59,41 @@ fn newest_of(best: &Taken, others: &[Taken]) -> Local
     newest
 }
 
-// The dispersion of a sample at a moment.
-fn aged(now: Local, taken: &Taken) -> Span
-    ensures { result ≡ figures.aged now (Some taken.now) }
+// A dispersion that has grown by the drift of so many microseconds, at most 16 s.
+fn grown(dispersion: Span, microseconds: u64) -> Span
+    requires { microseconds < 2 ^ 50 }
+    ensures value { result ≡ int_min (pos (2 ^ 36)) (dispersion +ℤ pos (units.phi microseconds)) }
+    ensures small { unsigned_abs result < 2 ^ 70 }
+    ensures most { result ≤ℤ pos (2 ^ 36) }
 {
-    let least = max_dispersion();
-    let dispersion = taken.sample.dispersion;
-    if dispersion < least {
-        least.min(dispersion + phi(now.get().saturating_sub(taken.at.get())))
+    let most = max_dispersion();
+    let _size = dispersion.unsigned_abs();
+    if dispersion < most {
+        most.min(dispersion + phi(microseconds))
     } else {
-        least
+        most
     }
 }
 
 // The dispersion of a stage at a moment.
 fn age_of(now: Local, held: &[Taken], stage: usize) -> Span
-    ensures { result ≡ figures.aged now (slice_get held.now stage) }
+    ensures value { result ≡ figures.aged now (slice_get held.now stage) }
+    ensures small { unsigned_abs result < 2 ^ 70 }
+    ensures most { result ≤ℤ pos (2 ^ 36) }
 {
     match held.get(stage) {
-        Some(taken) => aged(now, taken),
+        Some(taken) => grown(
+            taken.sample.dispersion,
+            now.get().saturating_sub(taken.at.get()),
+        ),
         None => max_dispersion(),
     }
 }
 
 // The sum of the stages.
 fn dispersion_of(now: Local, held: &[Taken]) -> Span
-    ensures { result ≡ figures.staged 8 now held.now }
+    ensures value { result ≡ figures.staged 8 now held.now }
+    ensures most { result ≤ℤ pos (2 ^ 36) }
 {
     let mut sum = Span::from(0);
     for stage in 0..STAGES {
@@ -97,11 +108,14 @@ fn jitter2_of(best: &Taken, others: &[Taken]) -> u128
     ensures value { result ≡ figures.jitter2_of best.now others.now }
     ensures small { result ≤ 2 ^ 80 }
 {
+    if others.is_empty() {
+        return 0;
+    }
     let mut sum = 0;
     for taken in others {
         sum += taken.sample.offset.squared_apart(best.sample.offset);
     }
-    sum / others.len().max(1) as u128
+    sum / others.len() as u128
 }
 
 // The figures of samples in order.

@@ -1,0 +1,4 @@
+pub mod FigureLaws
+pub mod HeldLaws
+pub mod OrderLaws
+pub mod StageLaws
