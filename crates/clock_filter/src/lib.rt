@@ -7,6 +7,8 @@ mod figures;
 mod filter;
 mod held;
 mod taken;
+#[cfg(test)]
+mod tests;
 
 pub use distances::{distance, is_fit, root_delay, root_dispersion};
 pub use figures::Figures;

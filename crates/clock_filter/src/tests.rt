@@ -1,0 +1,284 @@
+use crate::{Figures, Filter, distance, is_fit, root_delay, root_dispersion};
+use std::test::Fail;
+use tick_units::{Local, Sample, Short, Span, local_span};
+
+fn moment(microseconds: u64) -> Result<Local, Fail> {
+    Ok(Local::new(microseconds).ok_or("no moment")?)
+}
+
+fn span(units: i128) -> Result<Span, Fail> {
+    Ok(Span::new(units).ok_or("no span")?)
+}
+
+// A minute of a DCF77 radio, which is known to 1 ms.
+fn of_a_radio(at: Local, second: u32) -> Sample {
+    Sample {
+        offset: Span::from_seconds(u64::from(second)) - local_span(at),
+        delay: Span::from(0),
+        dispersion: Span::from(4_294_968),
+        stratum: 0,
+        address: 0,
+        root_delay: Short(0),
+        root_disp: Short(0),
+    }
+}
+
+// An exchange with a server on this host.
+fn of_a_server(offset: i128, delay: i128, dispersion: i128) -> Result<Sample, Fail> {
+    Ok(Sample {
+        offset: span(offset)?,
+        delay: span(delay)?,
+        dispersion: span(dispersion)?,
+        stratum: 2,
+        address: 0x7f00_0001,
+        root_delay: Short(256),
+        root_disp: Short(512),
+    })
+}
+
+// A filter of exchanges: for each its second, its offset, delay and dispersion.
+fn of_exchanges(exchanges: &[(u32, i128, i128, i128)]) -> Result<Filter, Fail> {
+    let mut filter = Filter::new();
+    for (second, offset, delay, dispersion) in exchanges {
+        let at = moment(u64::from(*second) * 1_000_000)?;
+        filter.add(at, of_a_server(*offset, *delay, *dispersion)?);
+    }
+    Ok(filter)
+}
+
+// Four minutes of a DCF77 radio, from 2026-01-01 12:01 UTC on.
+fn of_four_minutes() -> Result<Filter, Fail> {
+    let mut filter = Filter::new();
+    for minute in 0u32..4 {
+        let at = moment(122_000_000 + 60_000_000 * u64::from(minute))?;
+        filter.add(at, of_a_radio(at, 3_976_257_660 + 60 * minute));
+    }
+    Ok(filter)
+}
+
+fn figures_at(filter: &Filter, cut: u64) -> Result<Figures, Fail> {
+    Ok(filter.figures(cut).ok_or("no sample is held")?)
+}
+
+// How far the source is, its root delay and dispersion, and whether it is fit.
+#[derive(Clone, Copy)]
+struct Standing {
+    distance: Span,
+    root_delay: Span,
+    root_dispersion: Span,
+    fit: bool,
+}
+
+fn standing_at(f: &Figures, now: Local) -> Option<Standing> {
+    let longest = 1 << 68;
+    if now < f.newest {
+        return None;
+    }
+    if f.newest < f.taken_at {
+        return None;
+    }
+    if f.delay.unsigned_abs() > longest {
+        return None;
+    }
+    if f.dispersion.unsigned_abs() > longest {
+        return None;
+    }
+    Some(Standing {
+        distance: distance(f, now),
+        root_delay: root_delay(f),
+        root_dispersion: root_dispersion(f, now),
+        fit: is_fit(f, now),
+    })
+}
+
+#[test]
+fn minutes_of_a_radio(rt: HostRuntime) -> Result<(), Fail> {
+    let filter = of_four_minutes()?;
+    let figures = figures_at(&filter, 0)?;
+    assert_eq!(rt; figures.offset, Span::from(17_077_896_086_183_477_248));
+    assert_eq!(rt; figures.delay, Span::from(0));
+    assert_eq!(rt; figures.dispersion, Span::from(4_033_215_885));
+    assert_eq!(rt; figures.jitter2, 0);
+    assert_eq!(rt; figures.taken_at, moment(302_000_000)?);
+    assert_eq!(rt; figures.newest, moment(302_000_000)?);
+    assert_eq!(rt; (figures.stratum, figures.address), (0, 0));
+    let now = standing_at(&figures, moment(302_000_000)?).ok_or("none")?;
+    assert_eq!(rt; now.distance, Span::from(4_043_953_304));
+    assert!(rt; now.fit);
+    let later = standing_at(&figures, moment(902_000_000)?).ok_or("none")?;
+    assert_eq!(rt; later.distance, Span::from(4_082_608_010));
+    Ok(())
+}
+
+// A sample from the cut itself is held, one from a microsecond before it isn't; stages without a sample count as 16 s.
+#[test]
+fn a_cut_leaves_stages_empty(rt: HostRuntime) -> Result<(), Fail> {
+    let filter = of_four_minutes()?;
+    for (cut, dispersion) in [
+        (182_000_000, 8_327_189_969),
+        (182_000_001, 16_915_621_322),
+        (242_000_000, 16_915_621_322),
+        (302_000_000, 34_093_450_396),
+    ] {
+        let figures = figures_at(&filter, cut)?;
+        assert_eq!(rt; figures.dispersion, Span::from(dispersion), "from {cut}");
+    }
+    assert_eq!(rt; filter.figures(302_000_001), None);
+    assert_eq!(rt; Filter::new().figures(0), None);
+    Ok(())
+}
+
+#[test]
+fn one_sample_has_no_jitter(rt: HostRuntime) -> Result<(), Fail> {
+    let mut filter = Filter::new();
+    let at = moment(122_000_000)?;
+    filter.add(at, of_a_radio(at, 3_976_257_660));
+    let figures = figures_at(&filter, 0)?;
+    assert_eq!(rt; figures.jitter2, 0);
+    assert_eq!(rt; figures.dispersion, Span::from(34_093_450_396));
+    let now = standing_at(&figures, at).ok_or("none")?;
+    assert_eq!(rt; now.distance, Span::from(34_104_187_815));
+    assert!(rt; !now.fit);
+    Ok(())
+}
+
+// The best sample is the one of least delay, and of two such the later one. The others are 30, 20 and 10 units apart from
+// it: 1400 / 3.
+#[test]
+fn the_later_of_equal_delays_comes_first(rt: HostRuntime) -> Result<(), Fail> {
+    let filter = of_exchanges(&[
+        (1, 1000, 30, 100),
+        (2, 1010, 10, 200),
+        (3, 1020, 20, 300),
+        (4, 1030, 10, 400),
+    ])?;
+    let figures = figures_at(&filter, 0)?;
+    assert_eq!(rt; figures.offset, Span::from(1030));
+    assert_eq!(rt; figures.delay, Span::from(10));
+    assert_eq!(rt; figures.taken_at, moment(4_000_000)?);
+    assert_eq!(rt; figures.jitter2, 466);
+    assert_eq!(rt; figures.dispersion, Span::from(4_026_584_480));
+    assert_eq!(rt; (figures.stratum, figures.address), (2, 0x7f00_0001));
+    assert_eq!(rt;
+        (figures.root_delay, figures.root_disp),
+        (Short(256), Short(512))
+    );
+    let now = standing_at(&figures, moment(5_000_000)?).ok_or("none")?;
+    assert_eq!(rt; now.root_delay, Span::from(16_777_226));
+    assert_eq!(rt; now.root_dispersion, Span::from(4_060_203_358));
+    assert_eq!(rt; now.distance, Span::from(4_070_940_777));
+    Ok(())
+}
+
+// The first of nine samples is gone, though its delay is the least.
+#[test]
+fn the_last_eight_count(rt: HostRuntime) -> Result<(), Fail> {
+    let filter = of_exchanges(&[
+        (1, 1001, 5, 8),
+        (2, 1002, 98, 8),
+        (3, 1003, 97, 8),
+        (4, 1004, 96, 8),
+        (5, 1005, 95, 8),
+        (6, 1006, 94, 8),
+        (7, 1007, 93, 8),
+        (8, 1008, 92, 8),
+        (9, 1009, 91, 8),
+    ])?;
+    let figures = figures_at(&filter, 0)?;
+    assert_eq!(rt; figures.delay, Span::from(91));
+    assert_eq!(rt; figures.jitter2, 20);
+    assert_eq!(rt; figures.dispersion, Span::from(62_172));
+    Ok(())
+}
+
+// The eight are taken first: a ninth that isn't from before the cut doesn't come back.
+#[test]
+fn the_cut_comes_after_the_eight(rt: HostRuntime) -> Result<(), Fail> {
+    let filter = of_exchanges(&[
+        (9, 7, 1, 8),
+        (1, 1001, 99, 8),
+        (2, 1002, 98, 8),
+        (3, 1003, 97, 8),
+        (4, 1004, 96, 8),
+        (5, 1005, 95, 8),
+        (6, 1006, 94, 8),
+        (7, 1007, 93, 8),
+        (8, 1008, 92, 8),
+    ])?;
+    assert_eq!(rt; filter.figures(9_000_000), None);
+    let figures = figures_at(&filter, 8_000_000)?;
+    assert_eq!(rt; figures.offset, Span::from(1008));
+    assert_eq!(rt; figures.dispersion, Span::from(34_091_302_916));
+    Ok(())
+}
+
+// Spans at their bounds, and the longest time between two samples.
+#[test]
+fn odd_sizes_are_counted(rt: HostRuntime) -> Result<(), Fail> {
+    let most = (1 << 70) - 1;
+    let wide = of_exchanges(&[
+        (1, most, 0, most),
+        (2, -most, 0, -most),
+        (3, most, 0, most),
+        (4, -most, 0, -most),
+        (5, most, 0, most),
+        (6, -most, 0, -most),
+        (7, most, 0, most),
+        (8, -most, 0, -most),
+    ])?;
+    let figures = figures_at(&wide, 0)?;
+    assert_eq!(rt; figures.dispersion, span(-783_986_623_109_838_902_738)?);
+    assert_eq!(rt; figures.jitter2, 690_814_754_065_502_385_546_386);
+    let low = of_exchanges(&[
+        (1, 0, 0, -most),
+        (2, 0, 0, -most),
+        (3, 0, 0, -most),
+        (4, 0, 0, -most),
+        (5, 0, 0, -most),
+        (6, 0, 0, -most),
+        (7, 0, 0, -most),
+        (8, 0, 0, -most),
+    ])?;
+    let figures = figures_at(&low, 0)?;
+    assert_eq!(rt; figures.dispersion, span(-1_175_979_934_698_983_853_355)?);
+    let mut old = Filter::new();
+    let last = moment((1 << 50) - 1)?;
+    old.add(moment(0)?, of_a_server(0, 0, 0)?);
+    old.add(last, of_a_server(0, 1, 0)?);
+    let figures = figures_at(&old, 0)?;
+    assert_eq!(rt; figures.newest, last);
+    assert_eq!(rt; figures.taken_at, moment(0)?);
+    assert_eq!(rt; figures.dispersion, Span::from(51_271_172_096));
+    let now = standing_at(&figures, last).ok_or("none")?;
+    assert_eq!(rt; now.distance, Span::from(72_586_864_640_825));
+    Ok(())
+}
+
+// At 1 s a source is fit, and a unit farther it isn't; nor is one of stratum 15. Half of the least delay is 10737419 units.
+#[test]
+fn a_source_is_fit_to_a_second(rt: HostRuntime) -> Result<(), Fail> {
+    let at = moment(7_000_000)?;
+    let farthest = (1 << 32) - 10_737_419;
+    for (dispersion, stratum, fit) in [
+        (farthest, 14, true),
+        (farthest + 1, 14, false),
+        (0, 15, false),
+        (0, 0, true),
+    ] {
+        let figures = Figures {
+            offset: Span::from(0),
+            delay: Span::from(0),
+            dispersion: Span::from(dispersion),
+            jitter2: 0,
+            taken_at: at,
+            newest: at,
+            stratum,
+            address: 0,
+            root_delay: Short(0),
+            root_disp: Short(0),
+        };
+        let now = standing_at(&figures, at).ok_or("none")?;
+        assert_eq!(rt; now.fit, fit, "{dispersion} of stratum {stratum}");
+    }
+    Ok(())
+}
