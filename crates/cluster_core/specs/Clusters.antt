@@ -1,6 +1,6 @@
 -- The survivors that agree best with each other (RFC 5905, section 11.2.2). Jitters are squared here, and each difference in
 -- them counts as at most 256 s; the order of the survivors is this project's own.
-use Rattle.std.specs.Prelude.{◌≡◌, ℕ, zero, suc, ◌-◌, ◌/◌, ◌==◌, ◌<◌, ◌≤◌, Bool, true, false, ◌&&◌, ◌||◌, nat_le, nat_lt, int_le, int_lt, All, List, [], ◌∷◌, ◌++◌, length, map, sum_by, slice_index_or, if◌then◌else◌}
+use Rattle.std.specs.Prelude.{◌≡◌, ℕ, zero, suc, ◌-◌, ◌/◌, ◌==◌, ◌<◌, ◌≤◌, Bool, true, false, ◌&&◌, ◌||◌, nat_le, nat_lt, int_le, int_lt, All, List, [], ◌∷◌, ◌++◌, length, map, sum_by, if◌then◌else◌}
 use Rattle.std.specs.List.{list_all, IsLastBest}
 use Rattle.tick_units.specs.Orders.{greatest, in_order}
 use Rattle.tick_units.specs.Units.{square}

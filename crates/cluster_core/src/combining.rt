@@ -1,4 +1,4 @@
-ghost use Rattle.std.specs.Prelude.{◌≡◌, ◌+◌, ◌*◌, ◌<◌, ◌≤◌, ◌^◌, ℤ, pos, ◌+ℤ◌, ◌-ℤ◌, ◌*ℤ◌, ◌≤ℤ◌, unsigned_abs, All, length};
+ghost use Rattle.std.specs.Prelude.{◌≡◌, ◌+◌, ◌*◌, ◌<◌, ◌≤◌, ◌^◌, ℤ, pos, ◌+ℤ◌, ◌-ℤ◌, ◌*ℤ◌, ◌≤ℤ◌, unsigned_abs, All, length, sum_by};
 ghost use Rattle.tick_units.specs.Units.{floor_div};
 ghost use Rattle.cluster_core.specs.Bounds.{IsMeasured, AreNear};
 ghost use Rattle.cluster_core.specs.Mean as means;
@@ -38,8 +38,7 @@ impl WeightedSum {
         requires weight { weight ≤ 2 ^ 62 }
         requires span { unsigned_abs span ≤ 2 ^ 33 }
         requires room { unsigned_abs self ≤ 15 * 2 ^ 95 }
-        ensures value { result ≡ self +ℤ pos weight *ℤ span }
-        ensures small { unsigned_abs result ≤ unsigned_abs self + weight * 2 ^ 33 }
+        ensures { result ≡ self +ℤ pos weight *ℤ span }
     {
         WeightedSum {
             units: self.units + i128::from(weight) * span.get(),
@@ -86,6 +85,7 @@ fn mean_apart(base: Span, rest: &[Survivor]) -> Span
     requires near { All (λ x. unsigned_abs (x.offset -ℤ base) ≤ 2 ^ 33) rest.now }
     ensures value { base +ℤ result ≡ means.mean rest.now }
     ensures small { unsigned_abs result ≤ 2 ^ 33 }
+    ensures weighs { 0 < sum_by means.weight rest.now }
     ensures offsets { All (λ x. unsigned_abs x.offset < 2 ^ 70) rest.now }
 {
     let mut sum = WeightedSum::new();
