@@ -24,26 +24,23 @@ fn of_a_radio(at: Local, second: u32) -> Sample {
 }
 
 // An exchange with a server on this host.
-fn of_a_server(offset: i128, delay: i128, dispersion: i128) -> Result<Sample, Fail> {
-    Ok(Sample {
-        offset: span(offset)?,
-        delay: span(delay)?,
-        dispersion: span(dispersion)?,
+fn of_a_server(offset: Span, delay: Span, dispersion: Span) -> Sample {
+    Sample {
+        offset,
+        delay,
+        dispersion,
         stratum: 2,
         address: 0x7f00_0001,
         root_delay: Short(256),
         root_disp: Short(512),
-    })
+    }
 }
 
-// A filter of exchanges: for each its second, its offset, delay and dispersion.
-fn of_exchanges(exchanges: &[(u32, i128, i128, i128)]) -> Result<Filter, Fail> {
-    let mut filter = Filter::new();
-    for (second, offset, delay, dispersion) in exchanges {
-        let at = moment(u64::from(*second) * 1_000_000)?;
-        filter.add(at, of_a_server(*offset, *delay, *dispersion)?);
-    }
-    Ok(filter)
+// Adds an exchange at a second of the counter. Its dispersion is 8 units.
+fn add_exchange(filter: &mut Filter, second: u32, offset: u64, delay: u64) -> Result<(), Fail> {
+    let sample = of_a_server(Span::from(offset), Span::from(delay), Span::from(8));
+    filter.add(moment(u64::from(second) * 1_000_000)?, sample);
+    Ok(())
 }
 
 // Four minutes of a DCF77 radio, from 2026-01-01 12:01 UTC on.
@@ -146,44 +143,42 @@ fn one_sample_has_no_jitter(rt: HostRuntime) -> Result<(), Fail> {
 // it: 1400 / 3.
 #[test]
 fn the_later_of_equal_delays_comes_first(rt: HostRuntime) -> Result<(), Fail> {
-    let filter = of_exchanges(&[
-        (1, 1000, 30, 100),
-        (2, 1010, 10, 200),
-        (3, 1020, 20, 300),
-        (4, 1030, 10, 400),
-    ])?;
+    let mut filter = Filter::new();
+    for (second, offset, delay) in [(1, 1000, 30), (2, 1010, 10), (3, 1020, 20), (4, 1030, 10)] {
+        add_exchange(&mut filter, second, offset, delay)?;
+    }
     let figures = figures_at(&filter, 0)?;
     assert_eq!(rt; figures.offset, Span::from(1030));
     assert_eq!(rt; figures.delay, Span::from(10));
     assert_eq!(rt; figures.taken_at, moment(4_000_000)?);
     assert_eq!(rt; figures.jitter2, 466);
-    assert_eq!(rt; figures.dispersion, Span::from(4_026_584_480));
+    assert_eq!(rt; figures.dispersion, Span::from(4_026_584_195));
+    Ok(())
+}
+
+// A server's own delay and dispersion are part of the way to its reference clock.
+#[test]
+fn an_exchange_with_a_server(rt: HostRuntime) -> Result<(), Fail> {
+    let mut filter = Filter::new();
+    add_exchange(&mut filter, 4, 1030, 30_000_000)?;
+    let figures = figures_at(&filter, 0)?;
     assert_eq!(rt; (figures.stratum, figures.address), (2, 0x7f00_0001));
-    assert_eq!(rt;
-        (figures.root_delay, figures.root_disp),
-        (Short(256), Short(512))
-    );
     let now = standing_at(&figures, moment(5_000_000)?).ok_or("none")?;
-    assert_eq!(rt; now.root_delay, Span::from(16_777_226));
-    assert_eq!(rt; now.root_dispersion, Span::from(4_060_203_358));
-    assert_eq!(rt; now.distance, Span::from(4_070_940_777));
+    assert_eq!(rt; now.root_delay, Span::from(46_777_216));
+    assert_eq!(rt; now.root_dispersion, Span::from(34_124_921_773));
+    assert_eq!(rt; now.distance, Span::from(34_148_310_381));
     Ok(())
 }
 
 // The first of nine samples is gone, though its delay is the least.
 #[test]
 fn the_last_eight_count(rt: HostRuntime) -> Result<(), Fail> {
-    let filter = of_exchanges(&[
-        (1, 1001, 5, 8),
-        (2, 1002, 98, 8),
-        (3, 1003, 97, 8),
-        (4, 1004, 96, 8),
-        (5, 1005, 95, 8),
-        (6, 1006, 94, 8),
-        (7, 1007, 93, 8),
-        (8, 1008, 92, 8),
-        (9, 1009, 91, 8),
-    ])?;
+    let mut filter = Filter::new();
+    add_exchange(&mut filter, 1, 1001, 5)?;
+    for second in 2u32..10 {
+        let further = u64::from(second);
+        add_exchange(&mut filter, second, 1000 + further, 100 - further)?;
+    }
     let figures = figures_at(&filter, 0)?;
     assert_eq!(rt; figures.delay, Span::from(91));
     assert_eq!(rt; figures.jitter2, 20);
@@ -194,17 +189,12 @@ fn the_last_eight_count(rt: HostRuntime) -> Result<(), Fail> {
 // The eight are taken first: a ninth that isn't from before the cut doesn't come back.
 #[test]
 fn the_cut_comes_after_the_eight(rt: HostRuntime) -> Result<(), Fail> {
-    let filter = of_exchanges(&[
-        (9, 7, 1, 8),
-        (1, 1001, 99, 8),
-        (2, 1002, 98, 8),
-        (3, 1003, 97, 8),
-        (4, 1004, 96, 8),
-        (5, 1005, 95, 8),
-        (6, 1006, 94, 8),
-        (7, 1007, 93, 8),
-        (8, 1008, 92, 8),
-    ])?;
+    let mut filter = Filter::new();
+    add_exchange(&mut filter, 9, 7, 1)?;
+    for second in 1u32..9 {
+        let further = u64::from(second);
+        add_exchange(&mut filter, second, 1000 + further, 100 - further)?;
+    }
     assert_eq!(rt; filter.figures(9_000_000), None);
     let figures = figures_at(&filter, 8_000_000)?;
     assert_eq!(rt; figures.offset, Span::from(1008));
@@ -212,40 +202,45 @@ fn the_cut_comes_after_the_eight(rt: HostRuntime) -> Result<(), Fail> {
     Ok(())
 }
 
-// Spans at their bounds, and the longest time between two samples.
+// Offsets and dispersions at their bounds, once up and once down, four times.
 #[test]
-fn odd_sizes_are_counted(rt: HostRuntime) -> Result<(), Fail> {
-    let most = (1 << 70) - 1;
-    let wide = of_exchanges(&[
-        (1, most, 0, most),
-        (2, -most, 0, -most),
-        (3, most, 0, most),
-        (4, -most, 0, -most),
-        (5, most, 0, most),
-        (6, -most, 0, -most),
-        (7, most, 0, most),
-        (8, -most, 0, -most),
-    ])?;
-    let figures = figures_at(&wide, 0)?;
+fn the_widest_samples_are_counted(rt: HostRuntime) -> Result<(), Fail> {
+    let most = span((1 << 70) - 1)?;
+    let mut filter = Filter::new();
+    for second in 0u64..4 {
+        let at = moment(2_000_000 * second + 1_000_000)?;
+        filter.add(at, of_a_server(most, Span::from(0), most));
+        let next = moment(2_000_000 * second + 2_000_000)?;
+        filter.add(next, of_a_server(-most, Span::from(0), -most));
+    }
+    let figures = figures_at(&filter, 0)?;
     assert_eq!(rt; figures.dispersion, span(-783_986_623_109_838_902_738)?);
     assert_eq!(rt; figures.jitter2, 690_814_754_065_502_385_546_386);
-    let low = of_exchanges(&[
-        (1, 0, 0, -most),
-        (2, 0, 0, -most),
-        (3, 0, 0, -most),
-        (4, 0, 0, -most),
-        (5, 0, 0, -most),
-        (6, 0, 0, -most),
-        (7, 0, 0, -most),
-        (8, 0, 0, -most),
-    ])?;
-    let figures = figures_at(&low, 0)?;
+    Ok(())
+}
+
+#[test]
+fn the_lowest_dispersions_are_counted(rt: HostRuntime) -> Result<(), Fail> {
+    let least = span(-((1 << 70) - 1))?;
+    let mut filter = Filter::new();
+    for second in 1u64..9 {
+        let at = moment(1_000_000 * second)?;
+        filter.add(at, of_a_server(Span::from(0), Span::from(0), least));
+    }
+    let figures = figures_at(&filter, 0)?;
     assert_eq!(rt; figures.dispersion, span(-1_175_979_934_698_983_853_355)?);
-    let mut old = Filter::new();
+    Ok(())
+}
+
+// The best sample is as old as can be.
+#[test]
+fn the_longest_time_is_counted(rt: HostRuntime) -> Result<(), Fail> {
+    let none = Span::from(0);
     let last = moment((1 << 50) - 1)?;
-    old.add(moment(0)?, of_a_server(0, 0, 0)?);
-    old.add(last, of_a_server(0, 1, 0)?);
-    let figures = figures_at(&old, 0)?;
+    let mut filter = Filter::new();
+    filter.add(moment(0)?, of_a_server(none, none, none));
+    filter.add(last, of_a_server(none, Span::from(1), none));
+    let figures = figures_at(&filter, 0)?;
     assert_eq!(rt; figures.newest, last);
     assert_eq!(rt; figures.taken_at, moment(0)?);
     assert_eq!(rt; figures.dispersion, Span::from(51_271_172_096));

@@ -1,0 +1,5 @@
+pub mod ClusterLaws
+pub mod MeanLaws
+pub mod OrderLaws
+pub mod SettlingLaws
+pub mod WorstLaws

@@ -1,0 +1,11 @@
+use Rattle.std.proofs.Common.{List}
+use Rattle.arrayvec.specs.ArrayVec.{array_vec_len}
+use Rattle.cluster_core.specs.Clusters.{Settles}
+use Rattle.cluster_core.specs.declared.survivor.Survivor.{Survivor}
+use Rattle.cluster_core.proofs.clustering.settle.Given as goal
+
+abbrev pub invariant-loop-place : goal.invariant-loop-place
+invariant-loop-place l = (left : List Survivor) → Settles l.rest.items left → Settles l.initial.rest.items left
+
+abbrev pub decreases-loop-place : goal.decreases-loop-place
+decreases-loop-place l = array_vec_len l.rest

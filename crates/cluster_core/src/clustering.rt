@@ -1,0 +1,102 @@
+ghost use Rattle.std.specs.Prelude.{◌≡◌, ◌*◌, ◌<◌, ◌≤◌, ◌^◌, Bool, true, false, All, Contains, List, length, map, nat_lt, slice_index_or, IfSome, IfNone};
+ghost use Rattle.std.specs.List.{list_all};
+ghost use Rattle.tick_units.specs.Orders.{greatest};
+ghost use Rattle.cluster_core.specs.Bounds.{IsMeasured, AreNear};
+ghost use Rattle.cluster_core.specs.Clusters.{Clusters, IsWorst, Settles, greatest_jitter, is_at_rest, rest_of, selection_jitter};
+ghost use Rattle.cluster_core.specs.declared.survivor.Survivor.{Survivor};
+
+use crate::ordering::ordered;
+use crate::{Survivor, Survivors};
+use arrayvec::ArrayVec;
+
+// How many are left at least (NMIN).
+const LEAST: usize = 3;
+
+// The mean of the squared distances of the others from one.
+fn selection_jitter_of(all: &[Survivor], x: &Survivor) -> u128
+    requires some { 1 < length all.now }
+    requires few { length all.now ≤ 16 }
+    ensures { result ≡ selection_jitter all.now x.now }
+{
+    let mut sum = 0;
+    for y in all {
+        sum += y.offset.squared_apart(x.offset);
+    }
+    sum / (all.len() - 1) as u128
+}
+
+// The last of those with the greatest selection jitter: its place, and that jitter.
+#[derive(Clone, Copy)]
+struct Worst {
+    place: usize,
+    jitter: u128,
+}
+
+// The last of those with the greatest selection jitter.
+fn worst_of(all: &[Survivor]) -> Worst
+    requires some { 1 < length all.now }
+    requires few { length all.now ≤ 16 }
+    ensures place { IsWorst all.now result.place }
+    ensures jitter { result.jitter ≡ greatest_jitter all.now }
+{
+    let mut worst = Worst {
+        place: 0,
+        jitter: 0,
+    };
+    for (place, x) in all.iter().enumerate() {
+        let jitter = selection_jitter_of(all, x);
+        if worst.jitter <= jitter {
+            worst = Worst { place, jitter };
+        }
+    }
+    worst
+}
+
+// Whether each has a jitter above a number.
+fn are_above(jitter: u128, all: &[Survivor]) -> bool
+    ensures { result ≡ list_all (λ x. nat_lt jitter x.jitter2) all.now }
+{
+    all.iter().all(|x| jitter < x.jitter2)
+}
+
+// The place of the one that is to be discarded, and `None` where those that are left are at rest.
+fn to_discard(all: &[Survivor]) -> Option<usize>
+    requires { length all.now ≤ 16 }
+    ensures none { IfNone result (is_at_rest all.now ≡ true) }
+    ensures some { IfSome result (λ place. (is_at_rest all.now ≡ false) × IsWorst all.now place) }
+{
+    if all.len() <= LEAST {
+        return None;
+    }
+    let worst = worst_of(all);
+    if are_above(worst.jitter, all) {
+        None
+    } else {
+        Some(worst.place)
+    }
+}
+
+// Discards one after another, until those that are left are at rest.
+fn settle(rest: &mut ArrayVec<Survivor, 16>)
+    ensures { Settles rest.old.items rest.new.items }
+{
+    while let Some(place) = to_discard(rest.as_slice()) {
+        rest.remove(place);
+    }
+}
+
+/// Puts survivors in order, the one of the lowest stratum first, of these the nearest, and then the first feed; and discards
+/// those that agree least with the others, until three are left or the others agree as well as each does with itself.
+pub fn cluster(s: &mut Survivors)
+    ensures clusters { Clusters s.old s.new }
+    ensures only { (rest : List Survivor) → Clusters s.old rest → rest ≡ s.new }
+    ensures rest { s.new ≡ rest_of s.old }
+    ensures members { All (Contains s.old) s.new }
+    ensures some { 0 < length s.old → 0 < length s.new }
+    ensures measured { All IsMeasured s.old → All IsMeasured s.new }
+    ensures near { AreNear s.old → AreNear s.new }
+{
+    let mut rest = ordered(s.as_slice());
+    settle(&mut rest);
+    *s = Survivors::of(rest);
+}

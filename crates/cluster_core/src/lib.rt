@@ -1,0 +1,14 @@
+//! The cluster and combine algorithms of RFC 5905 (sections 11.2.2 and 11.2.3): of the sources that agree, those that agree
+//! best, and the mean of their offsets.
+#![tactic(auto)]
+
+mod clustering;
+mod combining;
+mod ordering;
+mod survivor;
+mod survivors;
+
+pub use clustering::cluster;
+pub use combining::combine;
+pub use survivor::Survivor;
+pub use survivors::Survivors;
