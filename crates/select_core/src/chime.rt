@@ -25,6 +25,17 @@ pub struct Chime {
     pub allowed: u32,
 }
 
+// What fills the places of a `Sweep` where no candidate stands.
+impl Default for Candidate {
+    fn default() -> Candidate {
+        Candidate {
+            feed: 0,
+            offset: Span::from(0),
+            distance: Span::from(0),
+        }
+    }
+}
+
 impl Candidate {
     // The ends of its interval, which contains both.
     pub(crate) fn lower(&self) -> Span
