@@ -1,2 +1,9 @@
+pub mod AlikeLaws
+pub mod ChimeLaws
+pub mod EdgeLaws
 pub mod NarrowLaws
+pub mod OrderLaws
 pub mod SelectionLaws
+pub mod SoonerLaws
+pub mod StandingLaws
+pub mod SweepLaws

@@ -63,6 +63,11 @@ measured-most c measured =
     let of_distance = and_parts (int_le (pos 1) c.distance && int_le c.distance (pos (2 ^ 32))) (nat_le (unsigned_abs c.offset) (2 ^ 68)) measured in
     (and_parts (int_le (pos 1) c.distance) (int_le c.distance (pos (2 ^ 32))) of_distance.0).1
 
+pub measured-least : (c : Candidate) → is_measured c ≡ true → int_le (pos 1) c.distance ≡ true
+measured-least c measured =
+    let of_distance = and_parts (int_le (pos 1) c.distance && int_le c.distance (pos (2 ^ 32))) (nat_le (unsigned_abs c.offset) (2 ^ 68)) measured in
+    (and_parts (int_le (pos 1) c.distance) (int_le c.distance (pos (2 ^ 32))) of_distance.0).0
+
 -- two points of one interval
 points-narrow : (c : Candidate) (low high : ℤ) → is_measured c ≡ true → contains low c ≡ true → contains high c ≡ true → (high -ℤ low) ≤ℤ pos (2 ^ 33)
 points-narrow c low high measured first second =

@@ -1,1 +1,4 @@
+pub mod Ends
+pub mod Inside
 pub mod Selection
+pub mod Standing

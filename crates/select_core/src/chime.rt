@@ -4,7 +4,7 @@ ghost use Rattle.select_core.specs.Selection.{contains, is_measured, is_within, 
 
 use tick_units::Span;
 
-/// A source that is fit to be selected: it says that the true offset is at most its distance from its own.
+/// A source that is fit to be selected. It says that the true offset is within its distance of its own offset.
 #[derive(Clone, Copy, Debug, PartialEq, Eq)]
 pub struct Candidate {
     /// The number of the source's feed.
@@ -21,8 +21,19 @@ pub struct Chime {
     /// The ends of the interval, which contains both.
     pub low: Span,
     pub high: Span,
-    /// How many sources might have had their offset outside.
+    /// How many offsets might have lain outside; no more do.
     pub allowed: u32,
+}
+
+// What fills the places of a `Sweep` where no candidate stands.
+impl Default for Candidate {
+    fn default() -> Candidate {
+        Candidate {
+            feed: 0,
+            offset: Span::from(0),
+            distance: Span::from(0),
+        }
+    }
 }
 
 impl Candidate {

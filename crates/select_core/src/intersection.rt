@@ -15,7 +15,7 @@ pub fn select(candidates: &[Candidate]) -> Option<Chime>
     ensures chime { result ≡ chime_of candidates.now }
     ensures narrow { IfSome result (λ chime. (chime.high -ℤ chime.low) ≤ℤ pos (2 ^ 33)) }
 {
-    for allowed in 0..candidates.len() as u32 {
+    for allowed in 0..(candidates.len() as u32).div_ceil(2) {
         if let Some(chime) = chime_allowing(candidates, allowed) {
             return Some(chime);
         }

@@ -2,9 +2,14 @@
 #![tactic(auto)]
 
 mod chime;
+mod ends;
 mod intersection;
+mod sweep;
+#[cfg(test)]
+mod sweep_tests;
 #[cfg(test)]
 mod tests;
 
 pub use chime::{Candidate, Chime};
 pub use intersection::select;
+pub use sweep::Sweep;

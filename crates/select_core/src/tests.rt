@@ -5,7 +5,7 @@ use crate::{Candidate, Chime, select};
 use std::test::Fail;
 use tick_units::Span;
 
-fn source(feed: u32, offset: i128, distance: u64) -> Result<Candidate, Fail>
+pub fn source(feed: u32, offset: i128, distance: u64) -> Result<Candidate, Fail>
     requires offset { unsigned_abs offset ≤ 2 ^ 68 }
     requires least { 1 ≤ distance }
     requires most { distance ≤ 2 ^ 32 }
@@ -19,7 +19,7 @@ fn source(feed: u32, offset: i128, distance: u64) -> Result<Candidate, Fail>
     })
 }
 
-fn between(low: i128, high: i128, allowed: u32) -> Result<Option<Chime>, Fail> {
+pub fn between(low: i128, high: i128, allowed: u32) -> Result<Option<Chime>, Fail> {
     Ok(Some(Chime {
         low: Span::new(low).ok_or("a low end that is no span")?,
         high: Span::new(high).ok_or("a high end that is no span")?,

@@ -1,0 +1,152 @@
+-- Lists with the same items, each as often: what is counted in them and the best of them are the same.
+use Rattle.std.proofs.Common.{◌≡◌, ℕ, ◌+◌, ◌≤◌, Bool, true, false, cond, List, [], ◌∷◌, ℤ, refl, sym, ap, ◌∙◌, arith, length}
+use Rattle.std.specs.Prelude.{Option, None, Some, ◌&&◌, map, filter, fold, count_by, int_le, reverse}
+use Rattle.std.specs.List.Sorted.{IsPermutation}
+use Rattle.std.proofs.lemmas.Int.{ints}
+use Rattle.std.proofs.lemmas.List.Sorted.{IsPermutation-reverse, sum_by-IsPermutation}
+use Rattle.std.proofs.lemmas.List.Sums.{count_by-le-length, sum_by-cons, sum_by-le-sum_by}
+use Rattle.tick_units.specs.Orders.{better, best}
+use Rattle.select_core.specs.Ends.{AreAlike, is_sooner}
+use Rattle.select_core.specs.declared.ends.Side.{Side}
+use Rattle.select_core.proofs.NarrowLaws.{count-yes, count-no}
+use Rattle.select_core.proofs.SoonerLaws.{sooner-chain, sooner-never, sooner-one_way, sooner-same}
+
+pub alike-permutation : {X : Type 0} (xs ys : List X) → IsPermutation xs ys → AreAlike xs ys
+alike-permutation xs ys moved = λ test. sym (sum_by-IsPermutation (λ x. cond (test x) 1 0) xs ys moved)
+
+pub alike-reverse : {X : Type 0} (xs : List X) → AreAlike (reverse xs) xs
+alike-reverse xs = λ test. sum_by-IsPermutation (λ x. cond (test x) 1 0) xs (reverse xs) (IsPermutation-reverse xs)
+
+-- what a test counts in a list that was made of another
+pub count-map : {X Y : Type 0} (test : Y → Bool) (f : X → Y) (xs : List X) → count_by test (map f xs) ≡ count_by (λ x. test (f x)) xs
+count-map test f [] = refl
+count-map {X} test f (x ∷ xs) = by_test (test (f x)) refl (count-map test f xs)
+  where
+    by_test : (b : Bool) → test (f x) ≡ b → count_by test (map f xs) ≡ count_by (λ y. test (f y)) xs → count_by test (map f (x ∷ xs)) ≡ count_by (λ y. test (f y)) (x ∷ xs)
+    by_test true passed behind = count-yes test (f x) (map f xs) passed ∙ ap (λ n. 1 + n) behind ∙ sym (count-yes (λ (y : X). test (f y)) x xs passed)
+    by_test false failed behind = count-no test (f x) (map f xs) failed ∙ behind ∙ sym (count-no (λ (y : X). test (f y)) x xs failed)
+
+pub count-filter : {X : Type 0} (test keeps : X → Bool) (xs : List X) → count_by test (filter keeps xs) ≡ count_by (λ x. keeps x && test x) xs
+count-filter test keeps [] = refl
+count-filter {X} test keeps (x ∷ xs) = by_tests (keeps x) (test x) refl refl (count-filter test keeps xs)
+  where
+    both : X → Bool
+    both y = keeps y && test y
+
+    by_tests : (b d : Bool) → keeps x ≡ b → test x ≡ d → count_by test (filter keeps xs) ≡ count_by (λ y. keeps y && test y) xs
+        → count_by test (cond b (x ∷ filter keeps xs) (filter keeps xs)) ≡ count_by (λ y. keeps y && test y) (x ∷ xs)
+    by_tests true true kept passed behind =
+        count-yes test x (filter keeps xs) passed ∙ ap (λ n. 1 + n) behind ∙ sym (count-yes (λ (y : X). keeps y && test y) x xs (λ i. kept i && passed i))
+    by_tests true false kept passed behind =
+        count-no test x (filter keeps xs) passed ∙ behind ∙ sym (count-no (λ (y : X). keeps y && test y) x xs (λ i. kept i && passed i))
+    by_tests false true kept passed behind = behind ∙ sym (count-no (λ (y : X). keeps y && test y) x xs (λ i. kept i && passed i))
+    by_tests false false kept passed behind = behind ∙ sym (count-no (λ (y : X). keeps y && test y) x xs (λ i. kept i && passed i))
+
+pub alike-map : {X Y : Type 0} (f : X → Y) (xs ys : List X) → AreAlike xs ys → AreAlike (map f xs) (map f ys)
+alike-map f xs ys same = λ test. count-map test f xs ∙ same (λ x. test (f x)) ∙ sym (count-map test f ys)
+
+pub alike-filter : {X : Type 0} (keeps : X → Bool) (xs ys : List X) → AreAlike xs ys → AreAlike (filter keeps xs) (filter keeps ys)
+alike-filter keeps xs ys same = λ test. count-filter test keeps xs ∙ same (λ x. keeps x && test x) ∙ sym (count-filter test keeps ys)
+
+pub length-alike : {X : Type 0} (xs ys : List X) → AreAlike xs ys → length xs ≡ length ys
+length-alike {X} xs ys same = sym (all-counted xs) ∙ same (λ _. true) ∙ all-counted ys
+  where
+    all-counted : (zs : List X) → count_by (λ _. true) zs ≡ length zs
+    all-counted [] = refl
+    all-counted (z ∷ zs) = omega (arith, count-yes (λ (_ : X). true) z zs refl, all-counted zs)
+
+-- a test that is passed where another is, is passed as often or more
+pub count-le : {X : Type 0} (p q : X → Bool) (xs : List X) → ((x : X) → p x ≡ true → q x ≡ true) → count_by p xs ≤ count_by q xs
+count-le {X} p q xs more = sum_by-le-sum_by (λ x. cond (p x) 1 0) (λ x. cond (q x) 1 0) xs (λ x. by_test x (p x) refl)
+  where
+    weight : (t b : Bool) → t ≡ b → cond {A = ℕ} t 1 0 ≡ cond b 1 0
+    weight t b is = λ i. cond (is i) 1 0
+
+    by_test : (x : X) (b : Bool) → p x ≡ b → cond (p x) 1 0 ≤ cond (q x) 1 0
+    by_test x true passed = omega (arith, weight (p x) true passed, weight (q x) true (more x passed))
+    by_test x false failed = omega (arith, weight (p x) false failed)
+
+count-more : {X : Type 0} (p : X → Bool) (x : X) (xs : List X) → count_by p xs ≤ count_by p (x ∷ xs)
+count-more p x xs = omega (arith, sum_by-cons (λ y. cond (p y) 1 0) x xs)
+
+count-skip : {X : Type 0} (p : X → Bool) (x y : X) (xs : List X) → count_by p (x ∷ xs) ≤ count_by p (x ∷ y ∷ xs)
+count-skip p x y xs = omega (arith, sum_by-cons (λ z. cond (p z) 1 0) x xs, sum_by-cons (λ z. cond (p z) 1 0) x (y ∷ xs), count-more p y xs)
+
+-- where none is counted, the first is not
+none-first : {X : Type 0} (p : X → Bool) (x : X) (xs : List X) → count_by p (x ∷ xs) ≡ 0 → p x ≡ false
+none-first {X} p x xs none = by_test (p x) refl
+  where
+    by_test : (b : Bool) → p x ≡ b → p x ≡ false
+    by_test false failed = failed
+    by_test true passed = absurd (omega (arith, count-yes p x xs passed))
+
+-- two points are the same
+abbrev is_at : ℤ → ℤ → Bool
+is_at x y = int_le x y && int_le y x
+
+is_at-itself : (x : ℤ) → is_at x x ≡ true
+is_at-itself x = grind (arith, ints)
+
+is_at-same : (x y : ℤ) → is_at x y ≡ true → x ≡ y
+is_at-same x y h = grind (arith, ints)
+
+module _ (from : Side) where
+  -- a point is the best of a list: it is there, and none is sooner
+  record IsBest (y : ℤ) (xs : List ℤ) : Type 0 where
+    there : 1 ≤ count_by (λ x. is_at x y) xs
+    none : count_by (λ x. is_sooner from x y) xs ≡ 0
+
+  abbrev Tells : Option ℤ → List ℤ → Type 0
+  Tells None xs = length xs ≡ 0
+  Tells (Some y) xs = IsBest y xs
+
+  best-of-more : (a : ℤ) (xs : List ℤ) → Tells (fold (better (is_sooner from)) (Some a) xs) (a ∷ xs)
+  best-of-more a [] = record {
+    there = omega (arith, count-yes (λ x. is_at x a) a [] (is_at-itself a));
+    none = count-no (λ x. is_sooner from x a) a [] (sooner-never from a);
+  }
+  best-of-more a (x ∷ xs) = by_test (is_sooner from x a) refl (λ best. best-of-more best xs)
+    where
+      past-later : (o : Option ℤ) → is_sooner from x a ≡ true → Tells o (x ∷ xs) → Tells o (a ∷ x ∷ xs)
+      past-later None is tells = absurd (omega arith)
+      past-later (Some y) is tells =
+          let behind = sooner-chain from a x y (sooner-one_way from x a is) (none-first (λ z. is_sooner from z y) x xs tells.none) in
+          record {
+            there = omega (arith, tells.there, count-more (λ z. is_at z y) a (x ∷ xs));
+            none = count-no (λ z. is_sooner from z y) a (x ∷ xs) behind ∙ tells.none;
+          }
+
+      past-same : (o : Option ℤ) → is_sooner from x a ≡ false → Tells o (a ∷ xs) → Tells o (a ∷ x ∷ xs)
+      past-same None is tells = absurd (omega arith)
+      past-same (Some y) is tells =
+          let first = none-first (λ z. is_sooner from z y) a xs tells.none in
+          let behind = sooner-chain from x a y is first in
+          record {
+            there = omega (arith, tells.there, count-skip (λ z. is_at z y) a x xs);
+            none = count-no (λ z. is_sooner from z y) a (x ∷ xs) first ∙ count-no (λ z. is_sooner from z y) x xs behind ∙ sym (count-no (λ z. is_sooner from z y) a xs first) ∙ tells.none;
+          }
+
+      by_test : (b : Bool) → is_sooner from x a ≡ b → ((best : ℤ) → Tells (fold (better (is_sooner from)) (Some best) xs) (best ∷ xs))
+          → Tells (fold (better (is_sooner from)) (cond b (Some x) (Some a)) xs) (a ∷ x ∷ xs)
+      by_test true is behind = past-later (fold (better (is_sooner from)) (Some x) xs) is (behind x)
+      by_test false is behind = past-same (fold (better (is_sooner from)) (Some a) xs) is (behind a)
+
+  best-tells : (xs : List ℤ) → Tells (best (is_sooner from) xs) xs
+  best-tells [] = refl
+  best-tells (x ∷ xs) = best-of-more x xs
+
+  same-best : (o p : Option ℤ) (xs ys : List ℤ) → AreAlike xs ys → Tells o xs → Tells p ys → o ≡ p
+  same-best None None xs ys same first second = refl
+  same-best None (Some y) xs ys same first second = absurd (omega (arith, second.there, same (λ x. is_at x y), count_by-le-length (λ x. is_at x y) xs))
+  same-best (Some y) None xs ys same first second = absurd (omega (arith, first.there, same (λ x. is_at x y), count_by-le-length (λ x. is_at x y) ys))
+  same-best (Some y) (Some z) xs ys same first second = ap Some (sooner-same from y z (by_order y z ys xs second.none first.there (sym (same (λ x. is_at x y)))) (by_order z y xs ys first.none second.there (same (λ x. is_at x z))))
+    where
+      by_order : (y z : ℤ) (xs ys : List ℤ) → count_by (λ x. is_sooner from x z) xs ≡ 0 → 1 ≤ count_by (λ x. is_at x y) ys → count_by (λ x. is_at x y) xs ≡ count_by (λ x. is_at x y) ys → is_sooner from y z ≡ false
+      by_order y z xs ys none there same = by_test (is_sooner from y z) refl
+        where
+          by_test : (b : Bool) → is_sooner from y z ≡ b → is_sooner from y z ≡ false
+          by_test false is = is
+          by_test true is = absurd (omega (arith, none, there, same, count-le (λ x. is_at x y) (λ x. is_sooner from x z) xs (λ x at. ap (λ (w : ℤ). is_sooner from w z) (is_at-same x y at) ∙ is)))
+
+  pub best-alike : (xs ys : List ℤ) → AreAlike xs ys → best (is_sooner from) xs ≡ best (is_sooner from) ys
+  best-alike xs ys same = same-best (best (is_sooner from) xs) (best (is_sooner from) ys) xs ys same (best-tells xs) (best-tells ys)

@@ -1,0 +1,5 @@
+use Rattle.std.proofs.Common.{◌≤◌, length}
+use Rattle.select_core.proofs.sweep_tests.swept.Given as goal
+
+abbrev pub invariant-loop-c : goal.invariant-loop-c
+invariant-loop-c l = length l.sweep ≤ l.c-index
