@@ -1,8 +1,8 @@
 -- Pieces that are added one behind the other.
-use Rattle.std.proofs.Common.{◌≡◌, ℕ, ◌+◌, ◌-◌, ◌≤◌, List, [], ◌∷◌, ◌++◌, length, take, drop, drop-drop, ap, sym, ◌∙◌, append_assoc, arith}
+use Rattle.std.proofs.Common.{◌≡◌, ℕ, ◌+◌, ◌-◌, ◌≤◌, List, [], ◌∷◌, ◌++◌, length, take, drop, drop-drop, ap, sym, subst, ◌∙◌, append_assoc, arith}
 use Rattle.std.proofs.lemmas.List.{length-append, append-nil}
 use Rattle.journal_entry.specs.Texts.{spaced}
-use Rattle.journal_entry.specs.Writing.{text_in, Adds}
+use Rattle.journal_entry.specs.Writing.{text_in, Adds, AddsFields}
 use Rattle.journal_entry.specs.declared.writer.Writer.{Writer}
 
 -- what a list is past a place, it is past a later one
@@ -18,3 +18,11 @@ adds_both a b c first second h k = record {
   text = k.text ∙ ap (λ (t : List ℕ). t ++ second) h.text ∙ append_assoc (text_in a) first second;
   rest = (let one = h.length in let two = k.length in k.rest ∙ drop_later b.out.now a.out.now b.length c.length (omega arith) h.rest);
 }
+
+-- a last field
+pub adds_last : {a b : Writer} {field : List ℕ} → Adds a b (32 ∷ field) → AddsFields a b (field ∷ [])
+adds_last {a} {b} {field} h = record { adds = subst (λ (t : List ℕ). Adds a b (32 ∷ t)) (sym (append-nil field)) h }
+
+-- a field that others follow
+pub adds_then : {a b c : Writer} {field : List ℕ} {fields : List (List ℕ)} → Adds a b (32 ∷ field) → AddsFields b c fields → AddsFields a c (field ∷ fields)
+adds_then {a} {b} {c} {field} {fields} h k = record { adds = adds_both a b c (32 ∷ field) (spaced fields) h k.adds }

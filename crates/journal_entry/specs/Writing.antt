@@ -1,5 +1,6 @@
 -- How a text grows in its room.
 use Rattle.std.specs.Prelude.{◌≡◌, ℕ, ◌+◌, ◌≤◌, List, ◌++◌, length, take, drop}
+use Rattle.journal_entry.specs.Texts.{spaced}
 use Rattle.journal_entry.specs.declared.writer.Writer.{Writer}
 
 -- the text so far
@@ -12,3 +13,7 @@ pub record Adds (old new : Writer) (piece : List ℕ) : Type 0 where
   pub length : new.length ≡ old.length + length piece
   pub text : text_in new ≡ text_in old ++ piece
   pub rest : drop new.length new.out.now ≡ drop new.length old.out.now
+
+-- fields, each behind a space
+pub record AddsFields (old new : Writer) (fields : List (List ℕ)) : Type 0 where
+  pub adds : Adds old new (spaced fields)

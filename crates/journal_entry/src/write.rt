@@ -1,7 +1,7 @@
 ghost use Rattle.std.specs.Prelude.{◌≡◌, ◌+◌, ◌≤◌, length, take, drop};
-ghost use Rattle.journal_entry.specs.Entries.{IsEntry};
-ghost use Rattle.journal_entry.specs.Texts.{spaced, kind_fields, what_fields, text_of};
-ghost use Rattle.journal_entry.specs.Writing.{Adds};
+ghost use Rattle.journal_entry.specs.Entries.{IsEntry, IsKind, IsSample, IsWhat};
+ghost use Rattle.journal_entry.specs.Texts.{kind_fields, what_fields, text_of};
+ghost use Rattle.journal_entry.specs.Writing.{AddsFields};
 
 use crate::writer::Writer;
 use crate::{Entry, What};
@@ -19,15 +19,17 @@ pub fn write_entry(e: &Entry, out: &mut [u8; 256]) -> usize
 {
     let mut text = Writer::new(out);
     text.add(Buffer::new().format(e.feed).as_bytes());
-    text.number(e.at.get());
+    text.moment(e.at);
     write_what(&e.what, &mut text);
     text.len()
 }
 
 // Writes what an entry tells.
 fn write_what(what: &What, text: &mut Writer<'_>)
-    requires { text.old.length + 160 ≤ 256 }
-    ensures { Adds text.old text.new (spaced (what_fields what.now)) }
+    requires { text.old.length + 114 ≤ 256 }
+    ensures text { AddsFields text.old text.new (what_fields what.now) }
+    ensures short { text.new.length ≤ text.old.length + 114 }
+    ensures what { IsWhat what.now }
 {
     match what {
         What::Heard(kind) => write_kind(kind, text),
@@ -45,8 +47,10 @@ fn write_what(what: &What, text: &mut Writer<'_>)
 
 // Writes what a closed minute comes to.
 fn write_kind(kind: &Kind, text: &mut Writer<'_>)
-    requires { text.old.length + 100 ≤ 256 }
-    ensures { Adds text.old text.new (spaced (kind_fields kind.now)) }
+    requires { text.old.length + 71 ≤ 256 }
+    ensures text { AddsFields text.old text.new (kind_fields kind.now) }
+    ensures short { text.new.length ≤ text.old.length + 71 }
+    ensures kind { IsKind kind.now }
 {
     match kind {
         Kind::Verdict { second, leap_at } => {
@@ -73,13 +77,15 @@ fn write_kind(kind: &Kind, text: &mut Writer<'_>)
 
 // Writes a sample.
 fn write_sample(sample: &Sample, text: &mut Writer<'_>)
-    requires { text.old.length + 160 ≤ 256 }
-    ensures { Adds text.old text.new (spaced (what_fields (What.Sample sample.now))) }
+    requires { text.old.length + 114 ≤ 256 }
+    ensures text { AddsFields text.old text.new (what_fields (What.Sample sample.now)) }
+    ensures short { text.new.length ≤ text.old.length + 114 }
+    ensures sample { IsSample sample.now }
 {
     text.field(b"sample");
-    text.number(sample.offset.get());
-    text.number(sample.delay.get());
-    text.number(sample.dispersion.get());
+    text.span(sample.offset);
+    text.span(sample.delay);
+    text.span(sample.dispersion);
     text.number(sample.stratum);
     text.address(sample.address);
     text.number(sample.root_delay.0);

@@ -2,6 +2,7 @@ ghost use Rattle.std.specs.Prelude.{◌≤◌};
 
 use hex::encode_to_slice;
 use itoa::{Buffer, Integer};
+use tick_units::{Local, Span};
 
 /// The room for a text.
 pub const ROOM: usize = 256;
@@ -15,7 +16,8 @@ pub struct Writer<'a> {
 }
 
 impl<'a> Writer<'a> {
-    ghost use Rattle.std.specs.Prelude.{◌≡◌, ◌+◌, ◌≤◌, ◌∷◌, length};
+    ghost use Rattle.std.specs.Prelude.{◌≡◌, ◌+◌, ◌^◌, ◌<◌, ◌≤◌, ◌∷◌, length, unsigned_abs};
+    ghost use Rattle.std.specs.Fmt.{decimal, signed_decimal};
     ghost use Rattle.journal_entry.specs.Texts.{address_text};
     ghost use Rattle.journal_entry.specs.Writing.{Adds};
 
@@ -61,17 +63,37 @@ impl<'a> Writer<'a> {
     pub fn number<I: Integer>(&mut self, number: I)
         requires { self.old.length + 1 + I.MAX_STR_LEN ≤ 256 }
         ensures text { Adds self.old self.new (32 ∷ I.text number) }
-        ensures short { length (I.text number) ≤ I.MAX_STR_LEN }
+        ensures short { self.new.length ≤ self.old.length + 1 + I.MAX_STR_LEN }
     {
         let mut buffer = Buffer::new();
         self.field(buffer.format(number).as_bytes());
+    }
+
+    // Adds a space and a moment's number of microseconds in decimal.
+    pub fn moment(&mut self, at: Local)
+        requires { self.old.length + 21 ≤ 256 }
+        ensures text { Adds self.old self.new (32 ∷ decimal at) }
+        ensures short { self.new.length ≤ self.old.length + 17 }
+        ensures small { at < 2 ^ 50 }
+    {
+        self.number(at.get());
+    }
+
+    // Adds a space and a span's number of units in decimal, with a sign where it is negative.
+    pub fn span(&mut self, span: Span)
+        requires { self.old.length + 41 ≤ 256 }
+        ensures text { Adds self.old self.new (32 ∷ signed_decimal span) }
+        ensures short { self.new.length ≤ self.old.length + 24 }
+        ensures small { unsigned_abs span < 2 ^ 70 }
+    {
+        self.number(span.get());
     }
 
     // Adds a space and the four bytes of an address, each in two hexadecimal digits.
     pub fn address(&mut self, address: u32)
         requires { self.old.length + 9 ≤ 256 }
         ensures text { Adds self.old self.new (32 ∷ address_text address) }
-        ensures short { length (address_text address) ≤ 8 }
+        ensures short { self.new.length ≤ self.old.length + 9 }
     {
         let mut digits = [0; 8];
         let _ = encode_to_slice(address.to_be_bytes(), &mut digits);
