@@ -1,2 +1,5 @@
+pub mod AddressLaws
+pub mod DigitLaws
+pub mod FieldLaws
 pub mod LengthLaws
 pub mod WritingLaws

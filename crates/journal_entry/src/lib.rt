@@ -2,6 +2,7 @@
 #![tactic(auto)]
 
 mod entry;
+mod fields;
 mod read;
 mod write;
 mod writer;
