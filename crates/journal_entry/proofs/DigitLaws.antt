@@ -1,7 +1,8 @@
 -- What decimal digits say.
-use Rattle.std.proofs.Common.{◌≡◌, ℕ, zero, suc, ◌+◌, ◌*◌, ◌^◌, ◌<◌, ◌≤◌, List, [], ◌∷◌, length, get_or, take, decimal, eqb, false, ℤ, pos, negsuc, unsigned_abs, refl, ap, subst, sym, ◌∙◌, arith}
+use Rattle.std.proofs.Common.{◌≡◌, ℕ, zero, suc, ◌+◌, ◌*◌, ◌^◌, ◌<◌, ◌≤◌, List, [], ◌∷◌, length, get_or, take, decimal, eqb, false, ℤ, pos, negsuc, unsigned_abs, neg_ℤ, drop, ◌-◌, refl, ap, subst, sym, ◌∙◌, arith}
 use Rattle.std.specs.Char.{digit_value}
 use Rattle.std.specs.Fmt.{signed_decimal}
+use Rattle.std.proofs.lemmas.List.{take_rest}
 use Rattle.std.proofs.lemmas.Bool.{or_from, ne_eqb}
 use Rattle.journal_entry.specs.Reading.{has_space}
 use Rattle.std.specs.Str.Parse.{AllDigits, digits_value}
@@ -52,3 +53,15 @@ no_space n small = plain (decimal n) (decimal_is_IsNumeral_wide n (omega arith))
 pub no_space_in_span : (z : ℤ) → unsigned_abs z < 2 ^ 70 → has_space (signed_decimal z) ≡ false
 no_space_in_span (pos n) small = no_space n (omega arith)
 no_space_in_span (negsuc n) small = no_space (suc n) (omega arith)
+
+-- a text whose first byte is a sign is that of a negative span, with the digits behind it
+pub signed_behind : (text : List ℕ) (z size result : ℤ) → unsigned_abs z < 2 ^ 70 → text ≡ signed_decimal z → get_or text 0 0 ≡ 45 →
+    ((n : ℕ) → n < 2 ^ 70 → take (length text - 1) (drop 1 text) ≡ decimal n → size ≡ pos n) → result ≡ neg_ℤ size → result ≡ z
+signed_behind text (pos n) size result small e sign says is =
+    let some = decimal_is_IsNumeral_wide n (omega arith) in
+    let digit = digit_in text 0 (subst (AllDigits 10) (sym e) some.0.1) (subst (λ (t : List ℕ). 0 < length t) (sym e) some.0.0) in
+    let none : digit_value 45 < 10 = subst (λ b. digit_value b < 10) sign digit in
+    absurd (omega arith)
+signed_behind text (negsuc n) size result small e sign says is =
+    let digits = take_rest text 1 ∙ ap (drop 1) e in
+    is ∙ ap neg_ℤ (says (suc n) (omega arith) digits)

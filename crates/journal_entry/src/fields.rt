@@ -1,4 +1,4 @@
-ghost use Rattle.std.specs.Prelude.{◌≡◌, ◌<◌, ◌≤◌, ◌^◌, ◌==◌, ◌∷◌, ℕ, ℤ, List, Some, false, length, decimal, unsigned_abs, pos, IfSome};
+ghost use Rattle.std.specs.Prelude.{◌≡◌, ◌<◌, ◌≤◌, ◌^◌, ◌==◌, ◌∷◌, ℕ, ℤ, List, Some, false, decimal, unsigned_abs, pos};
 ghost use Rattle.std.specs.Fmt.{signed_decimal};
 ghost use Rattle.std.specs.List.{position};
 ghost use Rattle.journal_entry.specs.Texts.{address_text};
@@ -11,8 +11,8 @@ use tick_units::{Local, Span};
 // No number of an entry is as great as this.
 const TOO_GREAT: u128 = 1 << 70;
 
-// The fields of a text that aren't read yet. They are read loosely, as a number that begins with a zero: whoever reads them
-// writes what they say again, and compares.
+// The fields of a text that aren't read yet. They are read loosely: a number may begin with a zero, and what is no number,
+// or too great, reads as 0. Whoever reads them writes what they say again, and compares.
 #[derive(Drop)]
 pub struct Fields<'a> {
     rest: &'a [u8],
@@ -54,35 +54,35 @@ impl<'a> Fields<'a> {
 
     // The next field as a number below 2^70.
     #[tactic(auto, using(crate::proofs::DigitLaws::no_space))]
-    fn whole(&mut self) -> Option<u128>
+    fn whole(&mut self) -> u128
         ensures { (n : ℕ) (fields : List (List ℕ)) → n < 2 ^ 70 → HasFields self.old (decimal n ∷ fields) →
-            (result ≡ Some n) × HasFields self.new fields }
+            (result ≡ n) × HasFields self.new fields }
     {
         value_of(self.next())
     }
 
     // The next field as a number of 64 bits.
-    pub fn number(&mut self) -> Option<u64>
+    pub fn number(&mut self) -> u64
         ensures { (n : ℕ) (fields : List (List ℕ)) → n < 2 ^ 64 → HasFields self.old (decimal n ∷ fields) →
-            (result ≡ Some n) × HasFields self.new fields }
+            (result ≡ n) × HasFields self.new fields }
     {
-        u64::try_from(self.whole()?).ok()
+        u64::try_from(self.whole()).unwrap_or(0)
     }
 
     // The next field as a number of 32 bits.
-    pub fn half(&mut self) -> Option<u32>
+    pub fn half(&mut self) -> u32
         ensures { (n : ℕ) (fields : List (List ℕ)) → n < 2 ^ 32 → HasFields self.old (decimal n ∷ fields) →
-            (result ≡ Some n) × HasFields self.new fields }
+            (result ≡ n) × HasFields self.new fields }
     {
-        u32::try_from(self.whole()?).ok()
+        u32::try_from(self.whole()).unwrap_or(0)
     }
 
     // The next field as a number of 8 bits.
-    pub fn byte(&mut self) -> Option<u8>
+    pub fn byte(&mut self) -> u8
         ensures { (n : ℕ) (fields : List (List ℕ)) → n < 2 ^ 8 → HasFields self.old (decimal n ∷ fields) →
-            (result ≡ Some n) × HasFields self.new fields }
+            (result ≡ n) × HasFields self.new fields }
     {
-        u8::try_from(self.whole()?).ok()
+        u8::try_from(self.whole()).unwrap_or(0)
     }
 
     // The next field as a moment.
@@ -90,23 +90,23 @@ impl<'a> Fields<'a> {
         ensures { (n : ℕ) (fields : List (List ℕ)) → n < 2 ^ 50 → HasFields self.old (decimal n ∷ fields) →
             (result ≡ Some n) × HasFields self.new fields }
     {
-        Local::new(self.number()?)
+        Local::new(self.number())
     }
 
     // The next field as a span.
     #[tactic(auto, using(crate::proofs::DigitLaws::no_space_in_span))]
-    pub fn span(&mut self) -> Option<Span>
+    pub fn span(&mut self) -> Span
         ensures { (z : ℤ) (fields : List (List ℕ)) → unsigned_abs z < 2 ^ 70 → HasFields self.old (signed_decimal z ∷ fields) →
-            (result ≡ Some z) × HasFields self.new fields }
+            (result ≡ z) × HasFields self.new fields }
     {
         span_of(self.next())
     }
 
     // The next field as an address.
     #[tactic(auto, using(crate::proofs::AddressLaws::no_space_in_address))]
-    pub fn address(&mut self) -> Option<u32>
+    pub fn address(&mut self) -> u32
         ensures { (n : ℕ) (fields : List (List ℕ)) → n < 2 ^ 32 → HasFields self.old (address_text n ∷ fields) →
-            (result ≡ Some n) × HasFields self.new fields }
+            (result ≡ n) × HasFields self.new fields }
     {
         address_of(self.next())
     }
@@ -120,42 +120,45 @@ fn first_space(text: &[u8]) -> Option<usize>
 }
 
 // The number that decimal digits say, where it is below 2^70.
-fn value_of(digits: &[u8]) -> Option<u128>
-    ensures value { (n : ℕ) → n < 2 ^ 70 → digits.now ≡ decimal n → result ≡ Some n }
-    ensures small { IfSome result (λ n. n < 2 ^ 70) }
+fn value_of(digits: &[u8]) -> u128
+    ensures value { (n : ℕ) → n < 2 ^ 70 → digits.now ≡ decimal n → result ≡ n }
+    ensures small { result < 2 ^ 70 }
 {
     let mut value = 0;
-    for digit in digits {
-        value = value * 10 + u128::from(char::from(*digit).to_digit(10)?);
+    for byte in digits {
+        let Some(digit) = char::from(*byte).to_digit(10) else {
+            return 0;
+        };
+        value = value * 10 + u128::from(digit);
         if value >= TOO_GREAT {
-            return None;
+            return 0;
         }
     }
-    Some(value)
+    value
+}
+
+// The span that decimal digits say.
+fn length_of(digits: &[u8]) -> Span
+    ensures { (n : ℕ) → n < 2 ^ 70 → digits.now ≡ decimal n → result ≡ pos n }
+{
+    Span::new(value_of(digits) as i128).unwrap_or(Span::from(0))
 }
 
 // The span that decimal digits say behind a sign, if there is one.
-fn span_of(text: &[u8]) -> Option<Span>
-    ensures { (z : ℤ) → unsigned_abs z < 2 ^ 70 → text.now ≡ signed_decimal z → result ≡ Some z }
+fn span_of(text: &[u8]) -> Span
+    ensures { (z : ℤ) → unsigned_abs z < 2 ^ 70 → text.now ≡ signed_decimal z → result ≡ z }
 {
     match text {
-        [b'-', digits @ ..] => Some(-length_of(digits)?),
+        [b'-', digits @ ..] => -length_of(digits),
         digits => length_of(digits),
     }
 }
 
-// The span that decimal digits say.
-fn length_of(digits: &[u8]) -> Option<Span>
-    ensures { (n : ℕ) → n < 2 ^ 70 → digits.now ≡ decimal n → result ≡ Some (pos n) }
-{
-    Span::new(value_of(digits)? as i128)
-}
-
 // The address that eight hexadecimal digits say.
-fn address_of(digits: &[u8]) -> Option<u32>
-    ensures { (n : ℕ) → n < 2 ^ 32 → digits.now ≡ address_text n → result ≡ Some n }
+fn address_of(digits: &[u8]) -> u32
+    ensures { (n : ℕ) → n < 2 ^ 32 → digits.now ≡ address_text n → result ≡ n }
 {
     let mut bytes = [0; 4];
-    decode_to_slice(digits, &mut bytes).ok()?;
-    Some(u32::from_be_bytes(bytes))
+    let _ = decode_to_slice(digits, &mut bytes);
+    u32::from_be_bytes(bytes)
 }

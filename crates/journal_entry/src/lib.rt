@@ -5,6 +5,7 @@ mod entry;
 mod fields;
 mod read;
 mod write;
+mod words;
 mod writer;
 
 pub use entry::{Entry, What};

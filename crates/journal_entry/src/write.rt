@@ -4,7 +4,7 @@ ghost use Rattle.journal_entry.specs.Texts.{kind_fields, what_fields, text_of};
 ghost use Rattle.journal_entry.specs.Writing.{AddsFields};
 
 use crate::writer::Writer;
-use crate::{Entry, What};
+use crate::{Entry, What, words};
 use itoa::Buffer;
 use tick_units::{Kind, Sample};
 
@@ -35,11 +35,11 @@ fn write_what(what: &What, text: &mut Writer<'_>)
         What::Heard(kind) => write_kind(kind, text),
         What::Sample(sample) => write_sample(sample, text),
         What::Declined(code) => {
-            text.field(b"declined");
+            text.field(words::DECLINED);
             text.number(*code);
         }
         What::Notice(leap_at) => {
-            text.field(b"notice");
+            text.field(words::NOTICE);
             text.number(*leap_at);
         }
     }
@@ -54,22 +54,22 @@ fn write_kind(kind: &Kind, text: &mut Writer<'_>)
 {
     match kind {
         Kind::Verdict { second, leap_at } => {
-            text.field(b"verdict");
+            text.field(words::VERDICT);
             text.number(*second);
             text.number(*leap_at);
         }
         Kind::Lone { second } => {
-            text.field(b"lone");
+            text.field(words::LONE);
             text.number(*second);
         }
         Kind::Differs { before, now, apart } => {
-            text.field(b"differs");
+            text.field(words::DIFFERS);
             text.number(*before);
             text.number(*now);
             text.number(*apart);
         }
         Kind::Refused { rule } => {
-            text.field(b"refused");
+            text.field(words::REFUSED);
             text.number(*rule);
         }
     }
@@ -82,7 +82,7 @@ fn write_sample(sample: &Sample, text: &mut Writer<'_>)
     ensures short { text.new.length ≤ text.old.length + 114 }
     ensures sample { IsSample sample.now }
 {
-    text.field(b"sample");
+    text.field(words::SAMPLE);
     text.span(sample.offset);
     text.span(sample.delay);
     text.span(sample.dispersion);
