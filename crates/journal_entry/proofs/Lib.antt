@@ -2,4 +2,5 @@ pub mod AddressLaws
 pub mod DigitLaws
 pub mod FieldLaws
 pub mod LengthLaws
+pub mod WordLaws
 pub mod WritingLaws

@@ -6,7 +6,7 @@ use Rattle.journal_entry.proofs.fields.value_of.Goals as goal
 
 pub returns-in_default-clause-value : goal.returns-in_default-clause-value
 returns-in_default-clause-value c = λ n small e.
-    absurd (c.in_default.not-Some (digit_of c.args.digits.now c.loop-byte.byte-index n c.from.result small e c.loop-byte-test.true c.from.ensures))
+    absurd (c.in_default.ensures.value (digit_of c.args.digits.now c.loop-byte.byte-index n c.from.result small e c.loop-byte-test.true c.from.ensures))
 
 pub returns-then-value-ge-TOO_GREAT-clause-value : goal.returns-then-value-ge-TOO_GREAT-clause-value
 returns-then-value-ge-TOO_GREAT-clause-value c = λ n small e.
