@@ -54,7 +54,7 @@ impl<'a> Fields<'a> {
 
     // The next field as a number below 2^70.
     #[tactic(auto, using(crate::proofs::DigitLaws::no_space))]
-    fn whole(&mut self) -> u128
+    fn next_number(&mut self) -> u128
         ensures { (n : ℕ) (fields : List (List ℕ)) → n < 2 ^ 70 → HasFields self.old (decimal n ∷ fields) →
             (result ≡ n) × HasFields self.new fields }
     {
@@ -62,40 +62,40 @@ impl<'a> Fields<'a> {
     }
 
     // The next field as a number of 64 bits.
-    pub fn number(&mut self) -> u64
+    pub fn next_u64(&mut self) -> u64
         ensures { (n : ℕ) (fields : List (List ℕ)) → n < 2 ^ 64 → HasFields self.old (decimal n ∷ fields) →
             (result ≡ n) × HasFields self.new fields }
     {
-        u64::try_from(self.whole()).unwrap_or(0)
+        u64::try_from(self.next_number()).unwrap_or(0)
     }
 
     // The next field as a number of 32 bits.
-    pub fn half(&mut self) -> u32
+    pub fn next_u32(&mut self) -> u32
         ensures { (n : ℕ) (fields : List (List ℕ)) → n < 2 ^ 32 → HasFields self.old (decimal n ∷ fields) →
             (result ≡ n) × HasFields self.new fields }
     {
-        u32::try_from(self.whole()).unwrap_or(0)
+        u32::try_from(self.next_number()).unwrap_or(0)
     }
 
     // The next field as a number of 8 bits.
-    pub fn byte(&mut self) -> u8
+    pub fn next_u8(&mut self) -> u8
         ensures { (n : ℕ) (fields : List (List ℕ)) → n < 2 ^ 8 → HasFields self.old (decimal n ∷ fields) →
             (result ≡ n) × HasFields self.new fields }
     {
-        u8::try_from(self.whole()).unwrap_or(0)
+        u8::try_from(self.next_number()).unwrap_or(0)
     }
 
     // The next field as a moment.
-    pub fn moment(&mut self) -> Option<Local>
+    pub fn next_moment(&mut self) -> Option<Local>
         ensures { (n : ℕ) (fields : List (List ℕ)) → n < 2 ^ 50 → HasFields self.old (decimal n ∷ fields) →
             (result ≡ Some n) × HasFields self.new fields }
     {
-        Local::new(self.number())
+        Local::new(self.next_u64())
     }
 
     // The next field as a span.
     #[tactic(auto, using(crate::proofs::DigitLaws::no_space_in_span))]
-    pub fn span(&mut self) -> Span
+    pub fn next_span(&mut self) -> Span
         ensures { (z : ℤ) (fields : List (List ℕ)) → unsigned_abs z < 2 ^ 70 → HasFields self.old (signed_decimal z ∷ fields) →
             (result ≡ z) × HasFields self.new fields }
     {
@@ -104,7 +104,7 @@ impl<'a> Fields<'a> {
 
     // The next field as an address.
     #[tactic(auto, using(crate::proofs::AddressLaws::no_space_in_address))]
-    pub fn address(&mut self) -> u32
+    pub fn next_address(&mut self) -> u32
         ensures { (n : ℕ) (fields : List (List ℕ)) → n < 2 ^ 32 → HasFields self.old (address_text n ∷ fields) →
             (result ≡ n) × HasFields self.new fields }
     {
@@ -138,7 +138,7 @@ fn value_of(digits: &[u8]) -> u128
 }
 
 // The span that decimal digits say.
-fn length_of(digits: &[u8]) -> Span
+fn unsigned_span_of(digits: &[u8]) -> Span
     ensures { (n : ℕ) → n < 2 ^ 70 → digits.now ≡ decimal n → result ≡ pos n }
 {
     Span::new(value_of(digits) as i128).unwrap_or(Span::from(0))
@@ -149,8 +149,8 @@ fn span_of(text: &[u8]) -> Span
     ensures { (z : ℤ) → unsigned_abs z < 2 ^ 70 → text.now ≡ signed_decimal z → result ≡ z }
 {
     match text {
-        [b'-', digits @ ..] => -length_of(digits),
-        digits => length_of(digits),
+        [b'-', digits @ ..] => -unsigned_span_of(digits),
+        digits => unsigned_span_of(digits),
     }
 }
 

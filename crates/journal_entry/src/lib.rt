@@ -4,10 +4,13 @@
 mod entry;
 mod fields;
 mod read;
-mod write;
 mod words;
+mod write;
 mod writer;
 
 pub use entry::{Entry, What};
 pub use read::read_entry;
 pub use write::write_entry;
+
+#[cfg(test)]
+mod tests;

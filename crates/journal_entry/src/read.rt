@@ -30,8 +30,8 @@ fn candidate(text: &[u8]) -> Option<Entry>
     ensures { (e : entry.Entry) → IsTextOf text.now e → result ≡ Some e }
 {
     let mut fields = Fields::new(text);
-    let feed = fields.half();
-    let at = fields.moment()?;
+    let feed = fields.next_u32();
+    let at = fields.next_moment()?;
     let what = read_what(&mut fields)?;
     Some(Entry { feed, at, what })
 }
@@ -43,29 +43,29 @@ fn read_what(fields: &mut Fields<'_>) -> Option<What>
     let word = fields.next();
     if word == words::VERDICT {
         Some(What::Heard(Kind::Verdict {
-            second: fields.number(),
-            leap_at: fields.number(),
+            second: fields.next_u64(),
+            leap_at: fields.next_u64(),
         }))
     } else if word == words::LONE {
         Some(What::Heard(Kind::Lone {
-            second: fields.number(),
+            second: fields.next_u64(),
         }))
     } else if word == words::DIFFERS {
         Some(What::Heard(Kind::Differs {
-            before: fields.number(),
-            now: fields.number(),
-            apart: fields.number(),
+            before: fields.next_u64(),
+            now: fields.next_u64(),
+            apart: fields.next_u64(),
         }))
     } else if word == words::REFUSED {
         Some(What::Heard(Kind::Refused {
-            rule: fields.byte(),
+            rule: fields.next_u8(),
         }))
     } else if word == words::SAMPLE {
         Some(What::Sample(read_sample(fields)))
     } else if word == words::DECLINED {
-        Some(What::Declined(fields.byte()))
+        Some(What::Declined(fields.next_u8()))
     } else if word == words::NOTICE {
-        Some(What::Notice(fields.number()))
+        Some(What::Notice(fields.next_u64()))
     } else {
         None
     }
@@ -76,12 +76,12 @@ fn read_sample(fields: &mut Fields<'_>) -> Sample
     ensures { (s : sample.Sample) → IsSample s → HasFields fields.old (sample_fields s) → result ≡ s }
 {
     Sample {
-        offset: fields.span(),
-        delay: fields.span(),
-        dispersion: fields.span(),
-        stratum: fields.byte(),
-        address: fields.address(),
-        root_delay: Short(fields.half()),
-        root_disp: Short(fields.half()),
+        offset: fields.next_span(),
+        delay: fields.next_span(),
+        dispersion: fields.next_span(),
+        stratum: fields.next_u8(),
+        address: fields.next_address(),
+        root_delay: Short(fields.next_u32()),
+        root_disp: Short(fields.next_u32()),
     }
 }

@@ -4,4 +4,4 @@ use Rattle.journal_entry.proofs.fields.span_of.Goals as goal
 
 pub returns-in-45 : goal.returns-in-45
 returns-in-45 c = λ z small e.
-    signed_behind c.args.text.now z c.length_of.result c.neg.result small e (search rules) c.length_of.ensures c.neg.ensures
+    signed_behind c.args.text.now z c.unsigned_span_of.result c.neg.result small e (search rules) c.unsigned_span_of.ensures c.neg.ensures
