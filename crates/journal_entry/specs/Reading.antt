@@ -1,5 +1,5 @@
 -- What is left of a text while its fields are read.
-use Rattle.std.specs.Prelude.{◌≡◌, ℕ, Bool, not, ◌==◌, List, drop}
+use Rattle.std.specs.Prelude.{◌≡◌, ℕ, Bool, ◌==◌, List, drop}
 use Rattle.std.specs.List.{list_any}
 use Rattle.journal_entry.specs.Texts.{spaced}
 

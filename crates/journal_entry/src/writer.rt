@@ -4,8 +4,8 @@ use hex::encode_to_slice;
 use itoa::{Buffer, Integer};
 use tick_units::{Local, Span};
 
-/// The room for a text.
-pub const ROOM: usize = 256;
+// The room for a text.
+const ROOM: usize = 256;
 
 // Writes the fields of a text at the front of its room.
 #[derive(Drop)]

@@ -1,4 +1,4 @@
-use Rattle.std.proofs.Common.{rules, arith}
+use Rattle.std.proofs.Common.{rules}
 use Rattle.journal_entry.proofs.DigitLaws.{signed_behind}
 use Rattle.journal_entry.proofs.fields.span_of.Goals as goal
 

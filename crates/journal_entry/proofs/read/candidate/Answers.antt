@@ -1,6 +1,6 @@
-use Rattle.std.proofs.Common.{◌≡◌, ◌∷◌, Some, decimal, sym, subst, ◌∙◌}
+use Rattle.std.proofs.Common.{◌≡◌, ◌∷◌, Some, decimal, ◌∙◌}
 use Rattle.journal_entry.specs.Reading.{HasFields}
-use Rattle.journal_entry.specs.Texts.{IsTextOf, what_fields}
+use Rattle.journal_entry.specs.Texts.{what_fields}
 use Rattle.journal_entry.proofs.read.candidate.Goals as goal
 
 pub returns-in_err-at : goal.returns-in_err-at

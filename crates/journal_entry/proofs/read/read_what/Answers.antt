@@ -1,5 +1,5 @@
 -- The word decides which fields follow it.
-use Rattle.std.proofs.Common.{◌≡◌, ℕ, [], ◌∷◌, Some, codes, decimal, ap, subst}
+use Rattle.std.proofs.Common.{◌≡◌, [], ◌∷◌, Some, codes, decimal, ap, subst}
 use Rattle.journal_entry.specs.Reading.{HasFields}
 use Rattle.tick_units.specs.declared.verdicts.Kind.TheVariants.{Verdict, Lone, Differs, Refused}
 use Rattle.journal_entry.specs.declared.entry.What.TheVariants.{Heard, Sample, Declined, Notice}

@@ -1,4 +1,4 @@
-use Rattle.std.proofs.Common.{◌≡◌, drop, rules, arith}
+use Rattle.std.proofs.Common.{◌≡◌, drop, rules}
 use Rattle.journal_entry.proofs.WritingLaws.{adds_both}
 use Rattle.journal_entry.proofs.write.write_entry.Goals as goal
 

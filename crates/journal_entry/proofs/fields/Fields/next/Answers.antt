@@ -1,4 +1,4 @@
-use Rattle.std.proofs.Common.{◌≡◌, ℕ, List, sym, subst, ◌∙◌, ◌∷◌}
+use Rattle.std.proofs.Common.{ℕ, List, sym, subst, ◌∙◌, ◌∷◌}
 use Rattle.journal_entry.specs.Reading.{HasFields}
 use Rattle.journal_entry.proofs.FieldLaws.{ends_at, ends_last}
 use Rattle.journal_entry.proofs.fields.Fields.next.Goals as goal
