@@ -1,0 +1,6 @@
+pub mod AddressLaws
+pub mod DigitLaws
+pub mod FieldLaws
+pub mod LengthLaws
+pub mod WordLaws
+pub mod WritingLaws

@@ -1,0 +1,5 @@
+pub mod Entries
+pub mod Lawful
+pub mod Reading
+pub mod Texts
+pub mod Writing

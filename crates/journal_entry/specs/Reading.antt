@@ -1,0 +1,11 @@
+-- What is left of a text while its fields are read.
+use Rattle.std.specs.Prelude.{◌≡◌, ℕ, Bool, ◌==◌, List, drop}
+use Rattle.std.specs.List.{list_any}
+use Rattle.journal_entry.specs.Texts.{spaced}
+
+abbrev pub has_space : List ℕ → Bool
+has_space field = list_any (λ byte. byte == 32) field
+
+-- these fields are left, with one space between each two
+pub record HasFields (rest : List ℕ) (fields : List (List ℕ)) : Type 0 where
+  pub joined : rest ≡ drop 1 (spaced fields)

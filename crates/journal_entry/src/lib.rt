@@ -1,0 +1,16 @@
+//! The entries of a journal, and the one text of each.
+#![tactic(auto)]
+
+mod entry;
+mod fields;
+mod read;
+mod words;
+mod write;
+mod writer;
+
+pub use entry::{Entry, What};
+pub use read::read_entry;
+pub use write::write_entry;
+
+#[cfg(test)]
+mod tests;

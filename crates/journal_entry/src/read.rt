@@ -1,0 +1,87 @@
+ghost use Rattle.std.specs.Prelude.{◌≡◌, IfSome, Some};
+ghost use Rattle.journal_entry.specs.Entries.{IsSample, IsWhat};
+ghost use Rattle.journal_entry.specs.Texts.{IsTextOf, sample_fields, what_fields};
+ghost use Rattle.journal_entry.specs.Reading.{HasFields};
+ghost use Rattle.journal_entry.specs.declared.entry.Entry as entry;
+ghost use Rattle.journal_entry.specs.declared.entry.What as what;
+ghost use Rattle.tick_units.specs.declared.sample.Sample as sample;
+
+use crate::fields::Fields;
+use crate::{Entry, What, words, write_entry};
+use tick_units::{Kind, Sample, Short};
+
+/// The entry whose text this is, and `None` where it is no entry's.
+pub fn read_entry(text: &[u8]) -> Option<Entry>
+    ensures entry { IfSome result (λ e. IsTextOf text.now e) }
+    ensures every { (e : entry.Entry) → IsTextOf text.now e → result ≡ Some e }
+{
+    let entry = candidate(text)?;
+    let mut again = [0; 256];
+    let length = write_entry(&entry, &mut again);
+    if &again[..length] == text {
+        Some(entry)
+    } else {
+        None
+    }
+}
+
+// The one entry whose text this can be.
+fn candidate(text: &[u8]) -> Option<Entry>
+    ensures { (e : entry.Entry) → IsTextOf text.now e → result ≡ Some e }
+{
+    let mut fields = Fields::new(text);
+    let feed = fields.next_u32();
+    let at = fields.next_moment()?;
+    let what = read_what(&mut fields)?;
+    Some(Entry { feed, at, what })
+}
+
+// What was told, by its word and the fields behind it.
+fn read_what(fields: &mut Fields<'_>) -> Option<What>
+    ensures { (w : what.What) → IsWhat w → HasFields fields.old (what_fields w) → result ≡ Some w }
+{
+    let word = fields.next();
+    if word == words::VERDICT {
+        Some(What::Heard(Kind::Verdict {
+            second: fields.next_u64(),
+            leap_at: fields.next_u64(),
+        }))
+    } else if word == words::LONE {
+        Some(What::Heard(Kind::Lone {
+            second: fields.next_u64(),
+        }))
+    } else if word == words::DIFFERS {
+        Some(What::Heard(Kind::Differs {
+            before: fields.next_u64(),
+            now: fields.next_u64(),
+            apart: fields.next_u64(),
+        }))
+    } else if word == words::REFUSED {
+        Some(What::Heard(Kind::Refused {
+            rule: fields.next_u8(),
+        }))
+    } else if word == words::SAMPLE {
+        Some(What::Sample(read_sample(fields)))
+    } else if word == words::DECLINED {
+        Some(What::Declined(fields.next_u8()))
+    } else if word == words::NOTICE {
+        Some(What::Notice(fields.next_u64()))
+    } else {
+        None
+    }
+}
+
+// The sample of these fields.
+fn read_sample(fields: &mut Fields<'_>) -> Sample
+    ensures { (s : sample.Sample) → IsSample s → HasFields fields.old (sample_fields s) → result ≡ s }
+{
+    Sample {
+        offset: fields.next_span(),
+        delay: fields.next_span(),
+        dispersion: fields.next_span(),
+        stratum: fields.next_u8(),
+        address: fields.next_address(),
+        root_delay: Short(fields.next_u32()),
+        root_disp: Short(fields.next_u32()),
+    }
+}

@@ -1,0 +1,93 @@
+ghost use Rattle.std.specs.Prelude.{◌≡◌, ◌+◌, ◌≤◌, length, take, drop};
+ghost use Rattle.journal_entry.specs.Entries.{IsEntry, IsKind, IsSample, IsWhat};
+ghost use Rattle.journal_entry.specs.Texts.{kind_fields, what_fields, text_of};
+ghost use Rattle.journal_entry.specs.Writing.{AddsFields};
+
+use crate::writer::Writer;
+use crate::{Entry, What, words};
+use itoa::Buffer;
+use tick_units::{Kind, Sample};
+
+/// Writes the text of an entry at the front of `out`, without a line feed, and leaves the rest as it was. The answer is the
+/// number of bytes written, at most 141.
+pub fn write_entry(e: &Entry, out: &mut [u8; 256]) -> usize
+    ensures text { take result out.new ≡ text_of e.now }
+    ensures rest { drop result out.new ≡ drop result out.old }
+    ensures length { result ≡ length (text_of e.now) }
+    ensures most { result ≤ 141 }
+    ensures entry { IsEntry e.now }
+{
+    let mut text = Writer::new(out);
+    text.add(Buffer::new().format(e.feed).as_bytes());
+    text.moment(e.at);
+    write_what(&e.what, &mut text);
+    text.len()
+}
+
+// Writes what an entry tells.
+fn write_what(what: &What, text: &mut Writer<'_>)
+    requires { text.old.length + 114 ≤ 256 }
+    ensures text { AddsFields text.old text.new (what_fields what.now) }
+    ensures short { text.new.length ≤ text.old.length + 114 }
+    ensures what { IsWhat what.now }
+{
+    match what {
+        What::Heard(kind) => write_kind(kind, text),
+        What::Sample(sample) => write_sample(sample, text),
+        What::Declined(code) => {
+            text.field(words::DECLINED);
+            text.number(*code);
+        }
+        What::Notice(leap_at) => {
+            text.field(words::NOTICE);
+            text.number(*leap_at);
+        }
+    }
+}
+
+// Writes what a closed minute comes to.
+fn write_kind(kind: &Kind, text: &mut Writer<'_>)
+    requires { text.old.length + 71 ≤ 256 }
+    ensures text { AddsFields text.old text.new (kind_fields kind.now) }
+    ensures short { text.new.length ≤ text.old.length + 71 }
+    ensures kind { IsKind kind.now }
+{
+    match kind {
+        Kind::Verdict { second, leap_at } => {
+            text.field(words::VERDICT);
+            text.number(*second);
+            text.number(*leap_at);
+        }
+        Kind::Lone { second } => {
+            text.field(words::LONE);
+            text.number(*second);
+        }
+        Kind::Differs { before, now, apart } => {
+            text.field(words::DIFFERS);
+            text.number(*before);
+            text.number(*now);
+            text.number(*apart);
+        }
+        Kind::Refused { rule } => {
+            text.field(words::REFUSED);
+            text.number(*rule);
+        }
+    }
+}
+
+// Writes a sample.
+fn write_sample(sample: &Sample, text: &mut Writer<'_>)
+    requires { text.old.length + 114 ≤ 256 }
+    ensures text { AddsFields text.old text.new (what_fields (What.Sample sample.now)) }
+    ensures short { text.new.length ≤ text.old.length + 114 }
+    ensures sample { IsSample sample.now }
+{
+    text.field(words::SAMPLE);
+    text.span(sample.offset);
+    text.span(sample.delay);
+    text.span(sample.dispersion);
+    text.number(sample.stratum);
+    text.address(sample.address);
+    text.number(sample.root_delay.0);
+    text.number(sample.root_disp.0);
+}
