@@ -36,8 +36,8 @@ abbrev pub unwrapped_second : ℕ → ℕ
 unwrapped_second low = if nat_lt low 3155673600 then low + 2 ^ 32 else low
 
 -- the span since 1900 of a timestamp: its second unwrapped, its fraction kept
-abbrev pub unwrapped : Stamp → ℤ
-unwrapped stamp = pos (unwrapped_second (stamp.0 / 2 ^ 32) * 2 ^ 32 + stamp.0 % 2 ^ 32)
+abbrev pub span_of : Stamp → ℤ
+span_of stamp = pos (unwrapped_second (stamp.0 / 2 ^ 32) * 2 ^ 32 + stamp.0 % 2 ^ 32)
 
 -- the half of what both ways say, rounded down
 abbrev pub offset_of : (sent received answered arrived : ℤ) → ℤ
@@ -59,8 +59,8 @@ dispersion_of precision waited = pos (4096 + precision_units precision + phi wai
 -- what an answer of a server says that arrived at a moment, to the request asked at another
 abbrev pub sample_of : Address → (asked at : ℕ) → Header → Sample
 sample_of server asked at h = record {
-  offset = offset_of (pos (local_span asked)) (unwrapped h.receive) (unwrapped h.transmit) (pos (local_span at));
-  delay = delay_of (pos (local_span asked)) (unwrapped h.receive) (unwrapped h.transmit) (pos (local_span at));
+  offset = offset_of (pos (local_span asked)) (span_of h.receive) (span_of h.transmit) (pos (local_span at));
+  delay = delay_of (pos (local_span asked)) (span_of h.receive) (span_of h.transmit) (pos (local_span at));
   dispersion = dispersion_of h.precision (at - asked);
   stratum = h.stratum;
   address = server.ip;

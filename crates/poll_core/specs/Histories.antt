@@ -34,23 +34,23 @@ accepted_in (Accepted transmit ∷ before) = Some transmit
 accepted_in (Refused ∷ before) = accepted_in before
 
 -- the refusal, or the sample where there is none
-abbrev pub refused_or : Option PollRefusal → Sample → Result Sample PollRefusal
-refused_or None sample = Ok sample
-refused_or (Some refusal) sample = Err refusal
+abbrev pub result_by : Option PollRefusal → Sample → Result Sample PollRefusal
+result_by None sample = Ok sample
+result_by (Some refusal) sample = Err refusal
 
 -- what a datagram comes to, by the outstanding request and the last accepted answer
 abbrev pub judge_by : Address → Option ℕ → Option Stamp → ℕ → Address → List ℕ → Result Sample PollRefusal
 judge_by server asked accepted at from bytes =
-    refused_or (first_refusal (table server asked accepted from bytes)) (sample_of server (unwrap_or asked 0) at (fields bytes))
+    result_by (first_refusal (table server asked accepted from bytes)) (sample_of server (unwrap_or asked 0) at (fields bytes))
 
-abbrev pub answered : List ℕ → Result Sample PollRefusal → Step
-answered bytes (Ok sample) = Accepted (fields bytes).transmit
-answered bytes (Err refusal) = Refused
+abbrev pub step_by : List ℕ → Result Sample PollRefusal → Step
+step_by bytes (Ok sample) = Accepted (fields bytes).transmit
+step_by bytes (Err refusal) = Refused
 
 -- what an event comes to after these steps
 abbrev pub step_of : Address → List Step → Event → Step
 step_of server before (Asked moment) = Request moment
-step_of server before (Answered at from bytes) = answered bytes (judge_by server (outstanding_in before) (accepted_in before) at from bytes)
+step_of server before (Answered at from bytes) = step_by bytes (judge_by server (outstanding_in before) (accepted_in before) at from bytes)
 
 -- what each event of a history came to, the last first: each is judged by all those before it
 abbrev pub steps : Address → List Event → List Step

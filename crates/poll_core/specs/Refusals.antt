@@ -1,6 +1,7 @@
 -- Why an answer to a poll is refused: the on-wire checks of RFC 5905, section 8 and appendix A.5.1.1, as one table. Of the
 -- rows whose condition holds the first counts; their order is this project's own choice.
-use Rattle.std.specs.Prelude.{ℕ, ◌+◌, ◌*◌, ◌==◌, ◌&&◌, ◌||◌, nat_lt, nat_le, Bool, false, not, Option, None, Some, is_none, unwrap_or, List, [], ◌∷◌, ◌++◌, length, find}
+use Rattle.std.specs.Prelude.{◌≡◌, ℕ, ◌+◌, ◌*◌, ◌==◌, ◌&&◌, ◌||◌, nat_lt, nat_le, Bool, false, not, Option, None, Some, is_none, unwrap_or, List, [], ◌∷◌, ◌++◌, length, map, find}
+use Rattle.std.specs.List.{range_with_len}
 use Rattle.std.specs.Option.{option_map}
 use Rattle.tick_units.specs.declared.stamp.Stamp.{Stamp}
 use Rattle.ntp_packet.specs.Layout.{fields}
@@ -73,3 +74,8 @@ table server asked accepted from bytes =
 -- the refusal of the first row that holds
 abbrev pub first_refusal : List Row → Option PollRefusal
 first_refusal rows = option_map (λ row. row.refusal) (find (λ row. row.holds) rows)
+
+-- the rows of every table are by number, so the first that holds has the least
+abbrev pub TableIsByNumber : Type 0
+TableIsByNumber = (server : Address) (asked : Option ℕ) (accepted : Option Stamp) (from : Address) (bytes : List ℕ) →
+    map (λ row. code_of row.refusal) (table server asked accepted from bytes) ≡ range_with_len 1 10

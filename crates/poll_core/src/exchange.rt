@@ -2,7 +2,7 @@ ghost use Rattle.std.specs.Prelude.{◌≡◌, ◌<◌, ◌≤◌, ◌+◌, ◌*
 ghost use Rattle.civil_minute.specs.Eras.{Unwraps};
 ghost use Rattle.tick_units.specs.Units.{local_span};
 ghost use Rattle.tick_units.specs.Samples.{IsLawful};
-ghost use Rattle.poll_core.specs.Formulas.{unwrapped, precision_units, sample_of};
+ghost use Rattle.poll_core.specs.Formulas.{span_of, precision_units, sample_of};
 
 use civil_minute::unwrap_era;
 use feed_link::Address;
@@ -16,7 +16,7 @@ const OWN_PRECISION: u64 = 1 << 12;
 const MOST_PRECISION: u32 = 36;
 
 // The span of a moment of the host's counter.
-fn counted(moment: Local) -> Span
+fn counter_span(moment: Local) -> Span
     ensures value { result ≡ pos (local_span moment) }
     ensures below { local_span moment < 2 ^ 63 }
 {
@@ -24,8 +24,8 @@ fn counted(moment: Local) -> Span
 }
 
 // The span since 1900 that a timestamp stands for: the second that its low bits name from 2000-01-01 on, and its fraction.
-fn unwrapped(stamp: Stamp) -> Span
-    ensures value { result ≡ unwrapped stamp }
+fn span_of(stamp: Stamp) -> Span
+    ensures value { result ≡ span_of stamp }
     ensures era { Unwraps (stamp.0 / 2 ^ 32) (unsigned_abs result / 2 ^ 32) }
     ensures fraction { unsigned_abs result % 2 ^ 32 ≡ stamp.0 % 2 ^ 32 }
 {
@@ -57,10 +57,10 @@ impl Exchange {
         ensures lawful { IsLawful result }
     {
         let header = &self.header;
-        let sent = counted(self.asked);
-        let arrived = counted(at);
-        let received = unwrapped(header.receive);
-        let answered = unwrapped(header.transmit);
+        let sent = counter_span(self.asked);
+        let arrived = counter_span(at);
+        let received = span_of(header.receive);
+        let answered = span_of(header.transmit);
         Sample {
             offset: ((received - sent) + (answered - arrived)).halved_down(1),
             delay: ((arrived - sent) - (answered - received)).max(Span::from(OWN_PRECISION)),

@@ -59,12 +59,7 @@ impl Poll {
     /// # Errors
     ///
     /// The first of the refusals whose condition holds; the poller then stays as it was.
-    pub fn answer(
-        &mut self,
-        at: Local,
-        from: Address,
-        bytes: &[u8],
-    ) -> Result<Sample, PollRefusal>
+    pub fn answer(&mut self, at: Local, from: Address, bytes: &[u8]) -> Result<Sample, PollRefusal>
         requires { ForSome (asked_at self.old) (λ moment. moment ≤ at) }
         ensures polled { (server : Address) (history : List Event) → HasPolled self.old server history →
             HasPolled self.new server (history ++ Answered at from bytes.now ∷ []) }

@@ -1,5 +1,5 @@
 ghost use Rattle.std.specs.Prelude.{◌≡◌};
-ghost use Rattle.poll_core.specs.Refusals.{code_of};
+ghost use Rattle.poll_core.specs.Refusals.{code_of, TableIsByNumber};
 
 use feed_link::Address;
 use tick_units::{Short, Stamp};
@@ -34,7 +34,8 @@ pub enum PollRefusal {
 impl PollRefusal {
     /// Its number, 1 to 10 in the order of the checks.
     pub fn code(&self) -> u8
-        ensures { result ≡ code_of self.now }
+        ensures value { result ≡ code_of self.now }
+        ensures by_number { TableIsByNumber }
     {
         match self {
             PollRefusal::Stranger { .. } => 1,
