@@ -3,6 +3,8 @@
 
 mod checks;
 mod exchange;
+#[cfg(test)]
+mod figure_tests;
 mod poll;
 mod refusal;
 mod request;
