@@ -54,7 +54,7 @@ impl Poll {
     }
 
     /// Takes a datagram that arrived at this moment from this sender: what it says of the time, where it is the answer to
-    /// the outstanding request. Bytes after the 48th are passed over.
+    /// the outstanding request. It arrived no earlier than the request was made. Bytes after the 48th are passed over.
     ///
     /// # Errors
     ///

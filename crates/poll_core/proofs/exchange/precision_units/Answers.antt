@@ -1,4 +1,4 @@
-use Rattle.std.proofs.Common.{◌≡◌, ◌≤◌, ◌^◌, ◌%◌, ◌*◌, arith}
+use Rattle.std.proofs.Common.{◌≤◌, ◌^◌, arith}
 use Rattle.poll_core.proofs.Lengths.{power-most}
 use Rattle.poll_core.proofs.exchange.precision_units.Goals as goal
 
