@@ -1,0 +1,11 @@
+use Rattle.std.proofs.Common.{rules, arith, sym, subst}
+use Rattle.tick_units.specs.Samples.{IsLawful}
+use Rattle.poll_core.proofs.Lengths.{sample_of-is_lawful}
+use Rattle.poll_core.proofs.exchange.Exchange.sample.Goals as goal
+
+pub returns-clause-value : goal.returns-clause-value
+returns-clause-value c = search rules
+
+pub returns-clause-lawful : goal.returns-clause-lawful
+returns-clause-lawful c =
+    subst IsLawful (sym (returns-clause-value c)) (sample_of-is_lawful c.args.server c.args.self.now.asked c.args.at c.args.self.now.header c.requires (omega arith) (omega arith) (omega arith))

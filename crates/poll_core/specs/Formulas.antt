@@ -1,0 +1,69 @@
+-- The request of a poll, and what an exchange says of the time (RFC 5905, section 8; that the clock's own precision is 2^-20 s
+-- and the bounds of the server's are this project's own choice). Moments are microseconds of the host's counter, and lengths
+-- are units of 2^-32 s.
+use Rattle.std.specs.Prelude.{ℕ, ◌+◌, ◌-◌, ◌*◌, ◌/◌, ◌%◌, ◌^◌, nat_lt, min, ℤ, pos, negsuc, ◌+ℤ◌, ◌-ℤ◌, if◌then◌else◌}
+use Rattle.std.specs.Int.{int_max}
+use Rattle.tick_units.specs.Units.{floor_div, local_span, phi}
+use Rattle.tick_units.specs.declared.sample.Sample.{Sample}
+use Rattle.tick_units.specs.declared.stamp.Stamp.{Stamp}
+use Rattle.ntp_packet.specs.declared.header.Header.{Header}
+use Rattle.feed_link.specs.declared.outside.Address.{Address}
+
+-- the transmit timestamp of the request made at a moment
+abbrev pub request_stamp : ℕ → Stamp
+request_stamp moment = record { 0 = 2 ^ 63 + local_span moment }
+
+-- a request of version 4: the client's mode is 3, its poll 6 and its precision -20
+abbrev pub request_header : ℕ → Header
+request_header moment = record {
+  leap = 0;
+  version = 4;
+  mode = 3;
+  stratum = 0;
+  poll = pos 6;
+  precision = negsuc 19;
+  root_delay = record { 0 = 0 };
+  root_disp = record { 0 = 0 };
+  refid = 0;
+  reference = record { 0 = 0 };
+  origin = record { 0 = 0 };
+  receive = record { 0 = 0 };
+  transmit = request_stamp moment;
+}
+
+-- a second of 32 bits stands for the one from 2000-01-01 on: one that is earlier in its era is the next era's
+abbrev pub unwrapped_second : ℕ → ℕ
+unwrapped_second low = if nat_lt low 3155673600 then low + 2 ^ 32 else low
+
+-- the span since 1900 of a timestamp: its second unwrapped, its fraction kept
+abbrev pub span_of : Stamp → ℤ
+span_of stamp = pos (unwrapped_second (stamp.0 / 2 ^ 32) * 2 ^ 32 + stamp.0 % 2 ^ 32)
+
+-- the half of what both ways say, rounded down
+abbrev pub offset_of : (sent received answered arrived : ℤ) → ℤ
+offset_of sent received answered arrived = floor_div ((received -ℤ sent) +ℤ (answered -ℤ arrived)) 2
+
+-- the way there and back without the server's own time, and at least the clock's own precision
+abbrev pub delay_of : (sent received answered arrived : ℤ) → ℤ
+delay_of sent received answered arrived = int_max ((arrived -ℤ sent) -ℤ (answered -ℤ received)) (pos 4096)
+
+-- 2^p s for the server's precision p, which counts as at least -32 and at most 4
+abbrev pub precision_units : ℤ → ℕ
+precision_units (pos p) = 2 ^ (32 + min p 4)
+precision_units (negsuc p) = 2 ^ (31 - p)
+
+-- both precisions, and the drift of the host's counter over so many microseconds
+abbrev pub dispersion_of : ℤ → ℕ → ℤ
+dispersion_of precision waited = pos (4096 + precision_units precision + phi waited)
+
+-- what an answer of a server says that arrived at a moment, to the request asked at another
+abbrev pub sample_of : Address → (asked at : ℕ) → Header → Sample
+sample_of server asked at h = record {
+  offset = offset_of (pos (local_span asked)) (span_of h.receive) (span_of h.transmit) (pos (local_span at));
+  delay = delay_of (pos (local_span asked)) (span_of h.receive) (span_of h.transmit) (pos (local_span at));
+  dispersion = dispersion_of h.precision (at - asked);
+  stratum = h.stratum;
+  address = server.ip;
+  root_delay = h.root_delay;
+  root_disp = h.root_disp;
+}

@@ -1,0 +1,4 @@
+pub mod Formulas
+pub mod Histories
+pub mod Polling
+pub mod Refusals
