@@ -1,0 +1,13 @@
+-- What a whole journal says besides its samples: how late it is, and its prefixes. A journal is a list of entries.
+use Rattle.std.specs.Prelude.{ℕ, List, [], ◌∷◌, map}
+use Rattle.tick_units.specs.Orders.{greatest}
+use Rattle.journal_entry.specs.declared.entry.Entry.{Entry}
+
+-- the greatest moment, and 0 of no entry
+abbrev pub now_of : List Entry → ℕ
+now_of journal = greatest (map (λ e. e.at) journal)
+
+-- the prefixes of a list, the empty one first and the whole one last
+abbrev pub prefixes : {A : Type 0} → List A → List (List A)
+prefixes [] = [] ∷ []
+prefixes (x ∷ xs) = [] ∷ map (λ front. x ∷ front) (prefixes xs)

@@ -1,0 +1,12 @@
+pub mod Feeds
+pub mod Fields
+pub mod Fit
+pub mod Journal
+pub mod Leaps
+pub mod Page
+pub mod Samples
+pub mod Selecting
+pub mod Settings
+pub mod Sources
+pub mod Standing
+pub mod Surviving

@@ -1,0 +1,100 @@
+ghost use Rattle.std.specs.Prelude.{◌≡◌, ◌<◌, ◌≤◌, ◌^◌, ◌++◌, ◌∷◌, [], List, length, map};
+ghost use Rattle.arrayvec.specs.ArrayVec.{array_vec_len};
+ghost use Rattle.journal_entry.specs.Lawful.{IsLawful, IsLawfulWhat};
+ghost use Rattle.journal_entry.specs.declared.entry.Entry.{Entry};
+ghost use Rattle.system_fold.specs.Page.{page_of};
+ghost use Rattle.system_fold.specs.Settings.{AreLawful, SettingsFields};
+ghost use Rattle.system_fold.specs.Standing.{StandsFor, blank, feeds_of};
+
+use crate::feed::Feed;
+use crate::fit::fit_sources;
+use crate::leaps::Leaps;
+use crate::page::{Occasion, page_by};
+use crate::{Settings, SourceKind};
+use arrayvec::ArrayVec;
+use clock_page::Page;
+use journal_entry::Entry;
+use std::marker::Model;
+
+/// What is kept of a journal to make its page: of each feed its last eight samples, what was said of leap seconds, and how many
+/// entries there were. Contracts see that it stands for the settings and the whole journal.
+#[derive(Drop)]
+pub struct FoldState {
+    holdover: u64,
+    feeds: ArrayVec<Feed, 16>,
+    leaps: Leaps,
+    length: u64,
+}
+
+impl Model for FoldState {
+    ghost use Rattle.system_fold.specs.Standing.{FoldFields, IsFold};
+
+    ghost Value = { FoldFields };
+
+    ghost view = { λ s. record { holdover = s.holdover; feeds = s.feeds.items; leaps = s.leaps; length = s.length } };
+
+    ghost invariant = { λ s. IsFold (record { holdover = s.holdover; feeds = s.feeds.items; leaps = s.leaps; length = s.length }) };
+}
+
+// Of each feed what it is, and no sample.
+fn blank_feeds(kinds: &[SourceKind]) -> ArrayVec<Feed, 16>
+    requires { length kinds.now ≤ 16 }
+    ensures { result.items ≡ map blank kinds.now }
+{
+    let mut feeds = ArrayVec::new();
+    for kind in kinds {
+        feeds.push(Feed::new(*kind));
+    }
+    feeds
+}
+
+// Of the feed that an entry is of, takes the sample that it is, if it is one.
+fn take_sample(feeds: &mut [Feed], e: &Entry)
+    requires feed { e.now.feed < length feeds.old }
+    requires what { IsLawfulWhat e.now.what }
+    ensures { (settings : SettingsFields) (journal : List Entry) → feeds.old ≡ feeds_of settings journal →
+        feeds.new ≡ feeds_of settings (journal ++ e.now ∷ []) }
+{
+    feeds[e.feed as usize].take(e);
+}
+
+impl FoldState {
+    /// The state of the empty journal.
+    pub fn new(settings: &Settings) -> FoldState
+        requires { AreLawful settings.now }
+        ensures { StandsFor result settings.now [] }
+    {
+        FoldState {
+            holdover: settings.holdover(),
+            feeds: blank_feeds(settings.sources()),
+            leaps: Leaps::new(),
+            length: 0,
+        }
+    }
+
+    /// Takes the next entry. A journal has at most 2^22 of them.
+    pub fn step(&mut self, e: &Entry)
+        requires lawful { IsLawful (length self.old.feeds) e.now }
+        requires room { self.old.length < 2 ^ 22 }
+        ensures { (settings : SettingsFields) (journal : List Entry) → StandsFor self.old settings journal →
+            StandsFor self.new settings (journal ++ e.now ∷ []) }
+    {
+        take_sample(self.feeds.as_mut_slice(), e);
+        self.leaps.step(e);
+        self.length += 1;
+    }
+
+    /// The page of the journal.
+    pub fn page(&self) -> Page
+        ensures { (settings : SettingsFields) (journal : List Entry) → StandsFor self.now settings journal → result ≡ page_of settings journal }
+    {
+        let occasion = Occasion {
+            length: self.length,
+            moment: self.leaps.latest,
+            holdover: self.holdover,
+            armed: self.leaps.armed(),
+        };
+        let fit = fit_sources(self.feeds.as_slice(), self.leaps.cut, self.leaps.latest);
+        page_by(&occasion, fit.as_slice())
+    }
+}

@@ -1,0 +1,25 @@
+ghost use Rattle.std.specs.Prelude.{◌≡◌, ◌<◌, ◌^◌, max};
+
+use tick_units::Local;
+
+// The host's counter at its begin.
+pub fn beginning() -> Local
+    ensures { result ≡ 0 }
+{
+    match Local::new(0) {
+        Some(moment) => moment,
+        None => unreachable!(),
+    }
+}
+
+// The later of two moments.
+pub fn later(first: Local, second: Local) -> Local
+    ensures value { result ≡ max first second }
+    ensures below { second < 2 ^ 50 }
+{
+    if first.get() < second.get() {
+        second
+    } else {
+        first
+    }
+}
