@@ -10,7 +10,7 @@ ghost use Rattle.radio_engine.specs.Taking.{HasTaken, TakesBytes, WritesLine, En
 use crate::decoder::Decoder;
 use crate::ending::{Ending, status_by};
 use crate::status::Status;
-use crate::text::{answer_text, status_text};
+use crate::text::{status_text, write_answer_line};
 use feed_link::{Failed, Sink, Source};
 use pulse_log::BadLine;
 use tick_units::{Heard, Plan};
@@ -57,8 +57,9 @@ fn take_byte<K: Sink>(decoder: &mut Decoder, byte: u8, out: &mut K) -> Taken
 fn write_answer<K: Sink>(heard: &Heard, out: &mut K) -> Taken
     ensures { WritesLine result (K.state out.old) (K.state out.new) (heard_line heard.now) }
 {
-    let line = answer_text(heard);
-    match write_all(out, line.as_slice()) {
+    let mut line = [0; 256];
+    let length = write_answer_line(heard, &mut line);
+    match write_all(out, &line[..length]) {
         Ok(()) => Taken::All,
         Err(Failed) => Taken::Stopped,
     }

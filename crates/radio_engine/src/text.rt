@@ -1,12 +1,13 @@
-ghost use Rattle.std.specs.Prelude.{◌≡◌, ◌+◌, ◌≤◌, ◌++◌, length, codes, decimal, ◌∷◌, []};
+ghost use Rattle.std.specs.Prelude.{◌≡◌, ◌+◌, ◌≤◌, ◌++◌, length, take, codes, decimal};
 ghost use Rattle.arrayvec.specs.ArrayVec.{array_vec_len};
 ghost use Rattle.radio_engine.specs.Endings.{status_line};
-ghost use Rattle.radio_engine.specs.Text.{entry_line, heard_line};
+ghost use Rattle.radio_engine.specs.Text.{heard_line};
 
 use crate::ending::Ending;
 use arrayvec::ArrayVec;
 use itoa::Buffer;
-use tick_units::{Heard, Kind, Local};
+use journal_entry::{Entry, What, write_entry};
+use tick_units::Heard;
 
 // A line of the output, with its line feed.
 pub type Line = ArrayVec<u8, 256>;
@@ -29,36 +30,20 @@ fn add_number(line: &mut Line, number: u64)
     add(line, buffer.format(number).as_bytes());
 }
 
-// A line of feed 0: its moment, a word and numbers.
-fn line_of(at: Local, word: &[u8], numbers: &[u64]) -> Line
-    requires word { length word.now ≤ 16 }
-    requires numbers { length numbers.now ≤ 8 }
-    ensures { result.items ≡ entry_line at word.now numbers.now }
+// Writes the line of an answer, which is that of an entry of feed 0, at the front of `line`. The answer is its number of
+// bytes.
+pub fn write_answer_line(heard: &Heard, line: &mut [u8; 256]) -> usize
+    ensures text { take result line.new ≡ heard_line heard.now }
+    ensures within { result ≤ 256 }
 {
-    let mut line = Line::new();
-    add(&mut line, b"0 ");
-    add_number(&mut line, at.get());
-    add(&mut line, b" ");
-    add(&mut line, word);
-    for number in numbers {
-        add(&mut line, b" ");
-        add_number(&mut line, *number);
-    }
-    add(&mut line, b"\n");
-    line
-}
-
-// The line of an answer.
-pub fn answer_text(heard: &Heard) -> Line
-    ensures { result.items ≡ heard_line heard.now }
-{
-    let at = heard.at;
-    match heard.kind {
-        Kind::Verdict { second, leap_at } => line_of(at, b"verdict", &[second, leap_at]),
-        Kind::Lone { second } => line_of(at, b"lone", &[second]),
-        Kind::Differs { before, now, apart } => line_of(at, b"differs", &[before, now, apart]),
-        Kind::Refused { rule } => line_of(at, b"refused", &[u64::from(rule)]),
-    }
+    let entry = Entry {
+        feed: 0,
+        at: heard.at,
+        what: What::Heard(heard.kind),
+    };
+    let end = write_entry(&entry, line);
+    line[end] = b'\n';
+    end + 1
 }
 
 // The status line of a log with a line that isn't lawful.
