@@ -24,29 +24,26 @@ low n = worth (bit_symbol (n % 2 == 1))
 pub low-mod : (n : ℕ) → low n ≡ n % 2
 low-mod n = worth_small (n % 2) (omega arith)
 
-ones_worth : (n rest : ℕ) → n < 16 → 1 * low n + (2 * low (n / 2) + (4 * low (n / 2 / 2) + (8 * low (n / 2 / 2 / 2) + rest))) ≡ n + rest
-ones_worth n rest h = omega (arith, low-mod n, low-mod (n / 2), low-mod (n / 2 / 2), low-mod (n / 2 / 2 / 2))
-
 -- one digit
 pub digit_worth : (n : ℕ) → n < 16 → 1 * low n + (2 * low (n / 2) + (4 * low (n / 2 / 2) + (8 * low (n / 2 / 2 / 2) + 0))) ≡ n
-digit_worth n h = omega (arith, ones_worth n 0 h)
+digit_worth n h = omega (arith, low-mod n, low-mod (n / 2), low-mod (n / 2 / 2), low-mod (n / 2 / 2 / 2))
 
 -- three bits
 pub three_worth : (n : ℕ) → n < 8 → 1 * low n + (2 * low (n / 2) + (4 * low (n / 2 / 2) + 0)) ≡ n
 three_worth n h = omega (arith, low-mod n, low-mod (n / 2), low-mod (n / 2 / 2))
 
--- two digits, with so many bits of the tens
-pub number_worth_1 : (number : ℕ) → number < 20 → 1 * low (number % 10) + (2 * low (number % 10 / 2) + (4 * low (number % 10 / 2 / 2) + (8 * low (number % 10 / 2 / 2 / 2) + (10 * low (number / 10) + 0)))) ≡ number
-number_worth_1 number h = omega (arith, ones_worth (number % 10) (10 * low (number / 10) + 0) (omega arith), low-mod (number / 10))
+-- the digit of the tens, of so many bits
+pub tens_worth_1 : (n : ℕ) → n < 2 → 10 * low n + 0 ≡ 10 * n
+tens_worth_1 n h = omega (arith, low-mod n)
 
-pub number_worth_2 : (number : ℕ) → number < 40 → 1 * low (number % 10) + (2 * low (number % 10 / 2) + (4 * low (number % 10 / 2 / 2) + (8 * low (number % 10 / 2 / 2 / 2) + (10 * low (number / 10) + (20 * low (number / 10 / 2) + 0))))) ≡ number
-number_worth_2 number h = omega (arith, ones_worth (number % 10) (10 * low (number / 10) + (20 * low (number / 10 / 2) + 0)) (omega arith), low-mod (number / 10), low-mod (number / 10 / 2))
+pub tens_worth_2 : (n : ℕ) → n < 4 → 10 * low n + (20 * low (n / 2) + 0) ≡ 10 * n
+tens_worth_2 n h = omega (arith, low-mod n, low-mod (n / 2))
 
-pub number_worth_3 : (number : ℕ) → number < 80 → 1 * low (number % 10) + (2 * low (number % 10 / 2) + (4 * low (number % 10 / 2 / 2) + (8 * low (number % 10 / 2 / 2 / 2) + (10 * low (number / 10) + (20 * low (number / 10 / 2) + (40 * low (number / 10 / 2 / 2) + 0)))))) ≡ number
-number_worth_3 number h = omega (arith, ones_worth (number % 10) (10 * low (number / 10) + (20 * low (number / 10 / 2) + (40 * low (number / 10 / 2 / 2) + 0))) (omega arith), low-mod (number / 10), low-mod (number / 10 / 2), low-mod (number / 10 / 2 / 2))
+pub tens_worth_3 : (n : ℕ) → n < 8 → 10 * low n + (20 * low (n / 2) + (40 * low (n / 2 / 2) + 0)) ≡ 10 * n
+tens_worth_3 n h = omega (arith, low-mod n, low-mod (n / 2), low-mod (n / 2 / 2))
 
-pub number_worth_4 : (number : ℕ) → number < 160 → 1 * low (number % 10) + (2 * low (number % 10 / 2) + (4 * low (number % 10 / 2 / 2) + (8 * low (number % 10 / 2 / 2 / 2) + (10 * low (number / 10) + (20 * low (number / 10 / 2) + (40 * low (number / 10 / 2 / 2) + (80 * low (number / 10 / 2 / 2 / 2) + 0))))))) ≡ number
-number_worth_4 number h = omega (arith, ones_worth (number % 10) (10 * low (number / 10) + (20 * low (number / 10 / 2) + (40 * low (number / 10 / 2 / 2) + (80 * low (number / 10 / 2 / 2 / 2) + 0)))) (omega arith), low-mod (number / 10), low-mod (number / 10 / 2), low-mod (number / 10 / 2 / 2), low-mod (number / 10 / 2 / 2 / 2))
+pub tens_worth_4 : (n : ℕ) → n < 16 → 10 * low n + (20 * low (n / 2) + (40 * low (n / 2 / 2) + (80 * low (n / 2 / 2 / 2) + 0))) ≡ 10 * n
+tens_worth_4 n h = omega (arith, low-mod n, low-mod (n / 2), low-mod (n / 2 / 2), low-mod (n / 2 / 2 / 2))
 
 -- a count with its parity bit is even
 pub even_with_parity : (count : ℕ) → ((count + worth (bit_symbol (count % 2 == 1))) % 2 == 1) ≡ false

@@ -4,6 +4,7 @@ ghost use Rattle.plan_dcf.specs.Fields.{coded};
 ghost use Rattle.plan_dcf.specs.Rules.{first};
 
 use crate::dates::coded;
+use crate::fields::said;
 use crate::rules::first_broken_rule;
 use tick_units::{Broken, Coded, Local, Mark};
 
@@ -18,8 +19,9 @@ pub fn read(segment: &[Mark], _close: Local) -> Result<Coded, Broken>
     ensures leap { IfOk result (λ c. c.leap_at ≢ 0
         → (c.minute ≤ c.leap_at) × (c.leap_at ≤ 6311433600)) }
 {
-    match first_broken_rule(segment) {
+    let civil = said(segment);
+    match first_broken_rule(segment, &civil) {
         Some(rule) => Err(Broken { rule }),
-        None => Ok(coded(segment)),
+        None => Ok(coded(segment, &civil)),
     }
 }

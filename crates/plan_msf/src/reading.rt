@@ -4,6 +4,7 @@ ghost use Rattle.plan_msf.specs.Fields.{coded};
 ghost use Rattle.plan_msf.specs.Rules.{first};
 
 use crate::dates::coded;
+use crate::fields::said;
 use crate::rules::first_broken_rule;
 use tick_units::{Broken, Coded, Local, Mark};
 
@@ -16,8 +17,9 @@ pub fn read(segment: &[Mark], close: Local) -> Result<Coded, Broken>
     // In UK time it is a minute of the years 2000 to 2099.
     ensures century { IfOk result (λ c. (3155670000 ≤ c.minute) × (c.minute < 6311433600)) }
 {
-    match first_broken_rule(segment, close) {
+    let civil = said(segment);
+    match first_broken_rule(segment, close, &civil) {
         Some(rule) => Err(Broken { rule }),
-        None => Ok(coded(segment)),
+        None => Ok(coded(segment, &civil)),
     }
 }

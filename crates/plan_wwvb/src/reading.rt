@@ -4,6 +4,7 @@ ghost use Rattle.plan_wwvb.specs.Fields.{coded};
 ghost use Rattle.plan_wwvb.specs.Rules.{first};
 
 use crate::dates::coded;
+use crate::fields::said;
 use crate::rules::first_broken_rule;
 use tick_units::{Broken, Coded, Local, Mark};
 
@@ -16,8 +17,9 @@ pub fn read(segment: &[Mark], close: Local) -> Result<Coded, Broken>
     // The minute before it is one of the years 2000 to 2099.
     ensures century { IfOk result (λ c. (3155673660 ≤ c.minute) × (c.minute ≤ 6311433600)) }
 {
-    match first_broken_rule(segment, close) {
+    let ordinal = said(segment);
+    match first_broken_rule(segment, close, &ordinal) {
         Some(rule) => Err(Broken { rule }),
-        None => Ok(coded(segment)),
+        None => Ok(coded(segment, &ordinal)),
     }
 }

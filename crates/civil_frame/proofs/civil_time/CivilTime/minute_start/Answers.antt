@@ -1,0 +1,12 @@
+use Rattle.std.proofs.Common.{refl}
+use Rattle.frame_rules.proofs.Meanings.{found_is}
+use Rattle.civil_frame.specs.CivilDates.{names_minute}
+use Rattle.civil_frame.specs.Seconds.{local_start, minute_start}
+use Rattle.civil_frame.proofs.civil_time.CivilTime.minute_start.Goals as goal
+
+pub returns-in-Some-clause-value : goal.returns-in-Some-clause-value
+unfolding minute_start
+returns-in-Some-clause-value c =
+    let civil = c.args.self.now in
+    let found = found_is (names_minute civil) (local_start civil) c.in-Some.second c.in-Some.ensures.value in
+    rw (found.0, found.1, c.from.ensures) refl
