@@ -7,5 +7,5 @@ mod ranges;
 pub use civil_time::{CivilTime, TimeOfDay, local_second};
 pub use ranges::breaks_year_range;
 
-
-
+#[cfg(test)]
+mod tests;
