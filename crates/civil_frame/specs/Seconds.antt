@@ -1,6 +1,6 @@
 -- The absolute seconds of civil times. A clock that is some hours ahead of UTC shows at a second what a clock of UTC shows
 -- so many hours later.
-use Rattle.std.specs.Prelude.{◌≡◌, ℕ, ◌+◌, ◌-◌, ◌*◌, ◌%◌, ◌<◌, ◌≤◌, Bool}
+use Rattle.std.specs.Prelude.{◌≡◌, ◌≢◌, ℕ, ◌+◌, ◌-◌, ◌*◌, ◌%◌, ◌<◌, ◌≤◌, Bool}
 use Rattle.tick_units.specs.declared.verdicts.Coded.{Coded}
 use Rattle.civil_minute.specs.Dates.{second_of}
 use Rattle.frame_rules.specs.Numbers.{number_of}
@@ -24,3 +24,11 @@ pub record IsInCentury (minute shown : ℕ) : Type 0 where
   pub whole : minute % 60 ≡ 0
   pub from : 3155673600 ≤ shown
   pub below : shown < 6311433600
+
+-- what a valid frame says is a whole minute from one second on and below another; a leap second that it announces ends no
+-- earlier than the minute begins, and no later than 2100 does
+pub record IsDated (least bound : ℕ) (c : Coded) : Type 0 where
+  pub whole : c.minute % 60 ≡ 0
+  pub from : least ≤ c.minute
+  pub below : c.minute < bound
+  pub leap : c.leap_at ≢ 0 → (c.minute ≤ c.leap_at) × (c.leap_at ≤ 6311433600)

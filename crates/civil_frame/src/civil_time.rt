@@ -1,5 +1,5 @@
 //! The civil date and time that a frame says, and the absolute second of it.
-ghost use Rattle.std.specs.Prelude.{◌≡◌, ◌+◌, ◌*◌, ◌<◌, ◌≤◌, ◌^◌, IfSome, Some, None, if◌then◌else◌};
+ghost use Rattle.std.specs.Prelude.{◌≡◌, ◌+◌, ◌*◌, ◌%◌, ◌<◌, ◌≤◌, ◌^◌, IfSome, Some, None, if◌then◌else◌};
 ghost use Rattle.civil_frame.specs.CivilDates.{is_in_range, names_minute, breaks_date, breaks_weekday};
 ghost use Rattle.civil_frame.specs.Seconds.{local_start, minute_start};
 
@@ -67,6 +67,7 @@ impl CivilTime {
     pub fn minute_start(&self) -> Option<u64>
         ensures value { result
             ≡ (if names_minute self.now then Some (minute_start self.now) else None) }
+        ensures whole { IfSome result (λ second. second % 60 ≡ 0) }
 
         // What the clock shows lies in the years 2000 to 2099.
         ensures century { IfSome result (λ second. (3155673600 ≤ second + 3600 * self.now.hours_ahead)

@@ -1,8 +1,9 @@
 //! The leap second of a DCF77 segment, and the minute that it says.
-ghost use Rattle.std.specs.Prelude.{◌≡◌, ◌≢◌, ◌<◌, ◌≤◌, not, ◌&&◌, ◌==◌, length, IsTrue};
+ghost use Rattle.std.specs.Prelude.{◌≡◌, ◌<◌, ◌≤◌, not, ◌&&◌, ◌==◌, length, IsTrue};
 ghost use Rattle.std.specs.Bool.{beq};
 ghost use Rattle.civil_minute.specs.Months.{begins_month};
 ghost use Rattle.civil_frame.specs.CivilDates.{names_minute};
+ghost use Rattle.civil_frame.specs.Seconds.{IsDated};
 ghost use Rattle.plan_dcf.specs.Fields.{announces_leap, said, coded};
 ghost use Rattle.plan_dcf.specs.Rules.{breaks_leap_minute};
 
@@ -52,9 +53,7 @@ pub(crate) fn coded(segment: &[Mark], civil: &CivilTime) -> Coded
     requires ahead { civil.now.hours_ahead ≤ 2 }
     requires named { IsTrue (names_minute civil.now) }
     ensures value { result ≡ coded segment.now }
-    ensures century { (3155666400 ≤ result.minute) × (result.minute < 6311433600) }
-    ensures leap { result.leap_at ≢ 0
-        → (result.minute ≤ result.leap_at) × (result.leap_at ≤ 6311433600) }
+    ensures dated { IsDated 3155666400 6311433600 result }
 {
     match civil.minute_start() {
         Some(minute) => {

@@ -1,5 +1,6 @@
 //! What a segment comes to.
-ghost use Rattle.std.specs.Prelude.{◌≡◌, ◌≢◌, ◌<◌, ◌≤◌, None, Some, IfOk, IfErr};
+ghost use Rattle.std.specs.Prelude.{◌≡◌, None, Some, IfOk, IfErr};
+ghost use Rattle.civil_frame.specs.Seconds.{IsDated};
 ghost use Rattle.plan_dcf.specs.Fields.{coded};
 ghost use Rattle.plan_dcf.specs.Rules.{first};
 
@@ -14,10 +15,8 @@ pub fn read(segment: &[Mark], _close: Local) -> Result<Coded, Broken>
     ensures ok { IfOk result (λ c. (first segment.now ≡ None) × (c ≡ coded segment.now)) }
     ensures err { IfErr result (λ broken. first segment.now ≡ Some broken.rule) }
 
-    // In German time it is a minute of the years 2000 to 2099, and a leap second comes no earlier.
-    ensures century { IfOk result (λ c. (3155666400 ≤ c.minute) × (c.minute < 6311433600)) }
-    ensures leap { IfOk result (λ c. c.leap_at ≢ 0
-        → (c.minute ≤ c.leap_at) × (c.leap_at ≤ 6311433600)) }
+    // In German time it is a minute of the years 2000 to 2099.
+    ensures dated { IfOk result (λ c. IsDated 3155666400 6311433600 c) }
 {
     let civil = said(segment);
     match first_broken_rule(segment, &civil) {

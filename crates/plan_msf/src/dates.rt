@@ -1,6 +1,7 @@
 //! The minute that an MSF segment says.
-ghost use Rattle.std.specs.Prelude.{◌≡◌, ◌<◌, ◌≤◌, IsTrue};
+ghost use Rattle.std.specs.Prelude.{◌≡◌, ◌≤◌, IsTrue};
 ghost use Rattle.civil_frame.specs.CivilDates.{names_minute};
+ghost use Rattle.civil_frame.specs.Seconds.{IsDated};
 ghost use Rattle.plan_msf.specs.Fields.{said, coded};
 
 use crate::fields::is_summer;
@@ -14,7 +15,8 @@ pub(crate) fn coded(segment: &[Mark], civil: &CivilTime) -> Coded
     requires ahead { civil.now.hours_ahead ≤ 1 }
     requires named { IsTrue (names_minute civil.now) }
     ensures value { result ≡ coded segment.now }
-    ensures century { (3155670000 ≤ result.minute) × (result.minute < 6311433600) }
+    ensures dated { IsDated 3155670000 6311433600 result }
+    ensures no_leap { result.leap_at ≡ 0 }
 {
     match civil.minute_start() {
         Some(minute) => Coded {

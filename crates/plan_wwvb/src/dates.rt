@@ -1,5 +1,6 @@
 //! The minute of UTC that a WWVB segment says, and the rule on its leap second.
 ghost use Rattle.std.specs.Prelude.{◌≡◌, ◌<◌, ◌≤◌, IsTrue, IfSome, Some, None, if◌then◌else◌};
+ghost use Rattle.civil_frame.specs.Seconds.{IsDated};
 ghost use Rattle.frame_rules.specs.Numbers.{number_of};
 ghost use Rattle.plan_wwvb.specs.Fields.{said, sent_start, coded};
 ghost use Rattle.plan_wwvb.specs.Rules.{names_minute, breaks_leap_minute};
@@ -60,7 +61,7 @@ pub(crate) fn coded(segment: &[Mark], ordinal: &OrdinalTime) -> Coded
     requires year { number_of ordinal.now.year < 1000 }
     requires named { IsTrue (names_minute ordinal.now) }
     ensures value { result ≡ coded segment.now }
-    ensures century { (3155673660 ≤ result.minute) × (result.minute ≤ 6311433600) }
+    ensures dated { IsDated 3155673660 6311433660 result }
 {
     match sent_start(ordinal) {
         Some(second) => Coded {
