@@ -74,7 +74,10 @@ fn marks_are_spaced(rt: HostRuntime) -> Result<(), Fail> {
         );
     }
     assert_eq!(rt; breaks_spacing(&[]), false);
-    assert_eq!(rt; breaks_spacing_to(&[], Local::new(0).ok_or("close")?), false);
+    assert_eq!(rt;
+        breaks_spacing_to(&[], Local::new(0).ok_or("close")?),
+        false
+    );
     assert_eq!(rt; breaks_width(&segment([Symbol::Both; 6])?), false);
     let mut marks = segment([Symbol::Long; 6])?;
     marks[3].symbol = Symbol::Odd;

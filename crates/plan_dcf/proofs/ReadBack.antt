@@ -3,22 +3,18 @@ use Rattle.std.proofs.Common.{◌≡◌, ℕ, zero, suc, ◌+◌, ◌-◌, ◌/�
 use Rattle.std.specs.Prelude.{if◌then◌else◌}
 use Rattle.std.specs.List.{list_any, range_with_len}
 use Rattle.std.proofs.lemmas.List.Sums.{sum_by-cons}
-use Rattle.tick_units.specs.Digits.{bit_symbol}
 use Rattle.tick_units.specs.Fields.{is_one, is_set, bit_at, value, is_odd_over, symbols_of}
 use Rattle.tick_units.specs.Rules.{is_odd, has_odd_symbol}
 use Rattle.tick_units.specs.declared.marks.Mark.{Mark}
 use Rattle.tick_units.specs.declared.marks.Symbol.TheVariants.{Zero}
 use Rattle.tick_units.specs.declared.verdicts.Coded.{Coded}
 use Rattle.civil_minute.specs.declared.seconds.CivilMinute.{CivilMinute}
+use Rattle.frame_rules.proofs.BitSymbols.{is_one-bit_symbol, is_odd-bit_symbol}
 use Rattle.frame_rules.proofs.Template.{has_odd_symbol-symbols_of}
 use Rattle.civil_frame.proofs.Says.{HasNumbers}
 use Rattle.plan_dcf.specs.Fields.{is_summer, is_standard, announces_leap, said}
 use Rattle.plan_dcf.specs.Spelling.{digits_of, date_of, frame_of, IsPassedOver}
-use Rattle.plan_dcf.proofs.SpeltBits.{digit_worth, three_worth, tens_worth_1, tens_worth_2, tens_worth_3, tens_worth_4, even_with_parity, is_odd-bit_symbol}
-
-is_one-bit_symbol : (bit : Bool) → is_one (bit_symbol bit) ≡ bit
-is_one-bit_symbol true = refl
-is_one-bit_symbol false = refl
+use Rattle.plan_dcf.proofs.SpeltBits.{digit_worth, three_worth, tens_worth_1, tens_worth_2, tens_worth_3, tens_worth_4, even_with_parity}
 
 -- the last mark of a leap minute is Zero, as a place that isn't there counts
 last_zero : (long : Bool) → get_or (if long then Zero ∷ [] else []) 0 Zero ≡ Zero
@@ -134,5 +130,5 @@ said-same a b h = rw (
   value_same a b h 49 (10 ∷ []) (omega arith),
   value_same a b h 50 (1 ∷ 2 ∷ 4 ∷ 8 ∷ []) (omega arith),
   value_same a b h 54 (10 ∷ 20 ∷ 40 ∷ 80 ∷ []) (omega arith),
-  bit_same a b h 17 (λ over. omega (arith, over))
+  bit_same a b h 17 (λ over. omega (arith, over)),
 ) refl

@@ -1,5 +1,5 @@
 -- A segment whose first broken rule is none breaks none, and the other way round.
-use Rattle.std.proofs.Common.{◌≡◌, true, false, None, List, refl}
+use Rattle.std.proofs.Common.{◌≡◌, true, false, None, List}
 use Rattle.tick_units.specs.declared.marks.Mark.{Mark}
 use Rattle.frame_rules.proofs.FirstLaws.{AreUnbroken-from_none, first_broken-none}
 use Rattle.frame_rules.specs.MarkRules.{breaks_spacing, breaks_width}

@@ -4,11 +4,12 @@ use Rattle.std.specs.Prelude.{if◌then◌else◌}
 use Rattle.std.specs.List.{range_with_len}
 use Rattle.std.proofs.lemmas.Bool.Decides.{nat_tests}
 use Rattle.std.proofs.lemmas.List.Sums.{sum_by-cons}
-use Rattle.tick_units.specs.Digits.{high_bits_of, bit_symbol}
+use Rattle.tick_units.specs.Digits.{high_bits_of}
 use Rattle.tick_units.specs.Fields.{has_a, has_b, is_set, bit_at, ones, value, has_pattern, symbols_of}
 use Rattle.tick_units.specs.Rules.{is_odd, has_odd_symbol}
 use Rattle.tick_units.specs.declared.marks.Mark.{Mark}
 use Rattle.civil_minute.specs.declared.seconds.CivilMinute.{CivilMinute}
+use Rattle.frame_rules.proofs.BitSymbols.{is_odd-bit_symbol}
 use Rattle.frame_rules.proofs.HighBits.{Tells, three_worth, digit_worth, tens_worth_1, tens_worth_2, tens_worth_3, tens_worth_4}
 use Rattle.frame_rules.proofs.Template.{has_odd_symbol-symbols_of}
 use Rattle.civil_frame.proofs.Says.{HasNumbers}
@@ -58,10 +59,6 @@ HasBits-spelt summer civil weekday marks e = record {
 pub length-frame_of : (summer : Bool) (civil : CivilMinute) (weekday : ℕ) → length (frame_of summer civil weekday) ≡ 60
 unfolding frame_of
 length-frame_of summer civil weekday = refl
-
-is_odd-bit_symbol : (bit : Bool) → is_odd (bit_symbol bit) ≡ false
-is_odd-bit_symbol true = refl
-is_odd-bit_symbol false = refl
 
 is_odd-with_b : (bit : Bool) → is_odd (with_b bit) ≡ false
 is_odd-with_b true = refl
@@ -137,5 +134,5 @@ said-same a b h = rw (
   value_same a b h 41 (8 ∷ 4 ∷ 2 ∷ 1 ∷ []) (omega arith),
   value_same a b h 45 (40 ∷ 20 ∷ 10 ∷ []) (omega arith),
   value_same a b h 48 (8 ∷ 4 ∷ 2 ∷ 1 ∷ []) (omega arith),
-  h.bits_b 58 (omega arith) (omega arith)
+  h.bits_b 58 (omega arith) (omega arith),
 ) refl

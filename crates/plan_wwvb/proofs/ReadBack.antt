@@ -3,14 +3,14 @@ use Rattle.std.proofs.Common.{◌≡◌, ℕ, zero, suc, ◌+◌, ◌*◌, ◌/�
 use Rattle.std.proofs.lemmas.Bool.{cases_eq}
 use Rattle.std.proofs.lemmas.Bool.Decides.{nat_tests}
 use Rattle.std.specs.List.{list_any, range_with_len}
-use Rattle.tick_units.specs.Digits.{bit_symbol}
 use Rattle.tick_units.specs.Fields.{is_one, is_set, value, has_pattern, symbols_of}
 use Rattle.tick_units.specs.Marks.{is_long}
-use Rattle.tick_units.specs.Rules.{is_odd, has_odd_symbol}
+use Rattle.tick_units.specs.Rules.{has_odd_symbol}
 use Rattle.tick_units.specs.declared.marks.Mark.{Mark}
 use Rattle.tick_units.specs.declared.marks.Symbol.{Symbol}
 use Rattle.tick_units.specs.declared.marks.Symbol.TheVariants.{Zero}
 use Rattle.civil_minute.specs.declared.seconds.CivilMinute.{CivilMinute}
+use Rattle.frame_rules.proofs.BitSymbols.{is_one-bit_symbol, is_long-bit_symbol, is_odd-bit_symbol}
 use Rattle.frame_rules.proofs.HighBits.{Tells, worth, bit_worth, digit_worth, tens_worth_2, tens_worth_3, tens_worth_4}
 use Rattle.frame_rules.proofs.Template.{has_odd_symbol-symbols_of}
 use Rattle.civil_frame.proofs.Says.{HasDigits}
@@ -21,18 +21,6 @@ use Rattle.plan_wwvb.specs.Spelling.{frame_of, is_free}
 
 tells_one : Tells is_one
 tells_one = record { of_one = refl; of_zero = refl }
-
-is_one-bit_symbol : (bit : Bool) → is_one (bit_symbol bit) ≡ bit
-is_one-bit_symbol true = refl
-is_one-bit_symbol false = refl
-
-is_long-bit_symbol : (bit : Bool) → is_long (bit_symbol bit) ≡ false
-is_long-bit_symbol true = refl
-is_long-bit_symbol false = refl
-
-is_odd-bit_symbol : (bit : Bool) → is_odd (bit_symbol bit) ≡ false
-is_odd-bit_symbol true = refl
-is_odd-bit_symbol false = refl
 
 -- a place that is Long and shouldn't be
 abbrev pub strays : List Mark → ℕ → Bool
@@ -149,7 +137,7 @@ said-same a b h = rw (
   early_same a b h 25 (80 ∷ 40 ∷ 20 ∷ 10 ∷ []) (omega arith),
   early_same a b h 30 (8 ∷ 4 ∷ 2 ∷ 1 ∷ []) (omega arith),
   late_same a b h 45 (80 ∷ 40 ∷ 20 ∷ 10 ∷ []) (omega arith) (omega arith),
-  late_same a b h 50 (8 ∷ 4 ∷ 2 ∷ 1 ∷ []) (omega arith) (omega arith)
+  late_same a b h 50 (8 ∷ 4 ∷ 2 ∷ 1 ∷ []) (omega arith) (omega arith),
 ) refl
 
 stray_same : (a b : List Mark) → IsReadAs a b → ((place : ℕ) → is_free place ≡ true → is_set is_long a place ≡ false) → (place : ℕ) → strays b place ≡ false → (free : Bool) → is_free place ≡ free → strays a place ≡ false

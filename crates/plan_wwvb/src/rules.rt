@@ -76,11 +76,7 @@ pub(crate) fn breaks_day_of_year(ordinal: &OrdinalTime) -> bool
 
 // The least number of a rule that the segment breaks.
 #[tactic(auto, unfolding(crate::specs::Rules::first))]
-pub(crate) fn first_broken_rule(
-    segment: &[Mark],
-    close: Local,
-    ordinal: &OrdinalTime,
-) -> Option<u8>
+pub(crate) fn first_broken_rule(segment: &[Mark], close: Local, ordinal: &OrdinalTime) -> Option<u8>
     requires read { ordinal.now ≡ said segment.now }
     requires year { number_of ordinal.now.year < 1000 }
     ensures { result ≡ first segment.now close }

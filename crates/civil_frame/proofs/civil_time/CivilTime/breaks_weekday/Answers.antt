@@ -1,4 +1,4 @@
-use Rattle.std.proofs.Common.{◌≡◌, ◌+◌, ◌%◌, refl, ap, ◌∙◌}
+use Rattle.std.proofs.Common.{◌≡◌, ◌+◌, refl, ap, ◌∙◌}
 use Rattle.civil_minute.specs.Dates.{weekday_of, weekday_of_day}
 use Rattle.civil_minute.proofs.Bounds.{second_of-day}
 use Rattle.frame_rules.specs.Numbers.{number_of}

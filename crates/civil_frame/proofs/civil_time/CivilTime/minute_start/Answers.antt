@@ -1,4 +1,4 @@
-use Rattle.std.proofs.Common.{◌≡◌, ℕ, ◌%◌, refl, arith}
+use Rattle.std.proofs.Common.{◌≡◌, ◌%◌, refl, arith}
 use Rattle.frame_rules.proofs.Meanings.{found_is}
 use Rattle.civil_frame.specs.CivilDates.{names_minute}
 use Rattle.civil_frame.specs.Seconds.{local_start, minute_start}
