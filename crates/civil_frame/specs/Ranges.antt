@@ -19,7 +19,7 @@ breaks_hour_range time = is_out_of 0 23 time.hour.ones (number_of time.hour)
 abbrev pub breaks_day_range : CivilTime → Bool
 breaks_day_range civil = is_out_of 1 31 civil.day.ones (number_of civil.day)
 
--- the weekday is the number that is none
+-- the weekday is the number that is none in its plan: 0 in DCF77, 7 in MSF
 abbrev pub breaks_weekday_range : CivilTime → Bool
 breaks_weekday_range civil = civil.weekday == civil.no_weekday
 
@@ -27,6 +27,6 @@ breaks_weekday_range civil = civil.weekday == civil.no_weekday
 abbrev pub breaks_month_range : CivilTime → Bool
 breaks_month_range civil = is_out_of 1 12 civil.month.ones (number_of civil.month)
 
--- a digit is above 9
+-- a digit is above 9, the tens counting tenfold
 abbrev pub breaks_year_range : Number → Bool
 breaks_year_range year = nat_lt 9 year.ones || nat_lt 90 year.tens
