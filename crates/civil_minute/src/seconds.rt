@@ -1,5 +1,5 @@
 //! What UTC's calendar and clock show at an absolute second.
-ghost use Rattle.std.specs.Prelude.{◌≡◌, ◌<◌, ◌≤◌, pos};
+ghost use Rattle.std.specs.Prelude.{◌≡◌, ◌%◌, ◌<◌, ◌≤◌, pos};
 ghost use Rattle.civil_minute.specs.Dates.{weekday_of};
 ghost use Rattle.civil_minute.specs.Months.{begins_month, month_after};
 ghost use Rattle.civil_minute.specs.Seconds.{civil_of, day_of_year_of, Shows};
@@ -39,7 +39,14 @@ pub fn begins_month(second: u64) -> bool
 pub fn next_month_start(second: u64) -> u64
     requires from { 3155587200 ≤ second }
     requires below { second < 6311606400 }
-    ensures { result ≡ month_after second }
+    ensures value { result ≡ month_after second }
+
+    // A later midnight.
+    ensures later { second < result }
+    ensures midnight { result % 86400 ≡ 0 }
+
+    // In the years 2000 to 2099 it is one of these too, or the first of 2100.
+    ensures century { 3155673600 ≤ second → second < 6311433600 → result ≤ 6311433600 }
 {
     let date = date_at(second);
     let days_left = date.days_in_month() as u64 - date.day() as u64;

@@ -1,4 +1,4 @@
-ghost use Rattle.std.specs.Prelude.{None};
+ghost use Rattle.std.specs.Prelude.{◌≡◌, None};
 
 use crate::{Failed, FileSource, Outside};
 use std::fs;
@@ -12,8 +12,10 @@ pub struct HostOutside<'a, R: Files> {
 }
 
 impl<'a, R: Files> HostOutside<'a, R> {
-    /// The files that this runtime reaches.
-    pub fn new(rt: &'a R) -> HostOutside<'a, R> {
+    /// The files that this runtime reaches, none of which has failed to open yet.
+    pub fn new(rt: &'a R) -> HostOutside<'a, R>
+        ensures { result.faults ≡ 0 }
+    {
         HostOutside { rt, faults: 0 }
     }
 }

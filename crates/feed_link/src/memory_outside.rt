@@ -31,7 +31,9 @@ pub struct NamedLog {
 
 impl NamedLog {
     /// A log under a name.
-    pub fn new(name: String, log: MemorySource) -> NamedLog {
+    pub fn new(name: String, log: MemorySource) -> NamedLog
+        ensures { result ≡ record { name = name; log = log } }
+    {
         NamedLog { name, log }
     }
 }

@@ -1,4 +1,4 @@
-ghost use Rattle.std.specs.Prelude.{ℕ, None};
+ghost use Rattle.std.specs.Prelude.{◌≡◌, ℕ, None};
 
 use crate::{Failed, Sink, Source};
 use std::io::{ErrorKind, Read, Write};
@@ -11,8 +11,10 @@ pub struct FileSource<F: Read + Drop> {
 }
 
 impl<F: Read + Drop> FileSource<F> {
-    /// The source of an opened file.
-    pub fn new(file: F) -> FileSource<F> {
+    /// The source of an opened file, which hasn't failed yet.
+    pub fn new(file: F) -> FileSource<F>
+        ensures { result ≡ record { file = file; faults = 0 } }
+    {
         FileSource { file, faults: 0 }
     }
 }
@@ -43,8 +45,10 @@ pub struct StreamSink<W: Write + Drop> {
 }
 
 impl<W: Write + Drop> StreamSink<W> {
-    /// The sink of a stream.
-    pub fn new(stream: W) -> StreamSink<W> {
+    /// The sink of a stream, which hasn't failed yet.
+    pub fn new(stream: W) -> StreamSink<W>
+        ensures { result ≡ record { stream = stream; faults = 0 } }
+    {
         StreamSink { stream, faults: 0 }
     }
 }

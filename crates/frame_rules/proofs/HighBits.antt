@@ -29,15 +29,15 @@ three_worth bit tells n h = omega (arith, bit_worth bit tells (n / 4), bit_worth
 pub digit_worth : (bit : Symbol → Bool) → Tells bit → (n : ℕ) → n < 16 → 8 * worth bit (n / 8 % 2) + (4 * worth bit (n / 4 % 2) + (2 * worth bit (n / 2 % 2) + (1 * worth bit (n / 1 % 2) + 0))) ≡ n
 digit_worth bit tells n h = omega (arith, bit_worth bit tells (n / 8), bit_worth bit tells (n / 4), bit_worth bit tells (n / 2), bit_worth bit tells (n / 1))
 
--- two digits, with so many bits of the tens
-pub number_worth_1 : (bit : Symbol → Bool) → Tells bit → (number : ℕ) → number < 20 → 10 * worth bit (number / 10 / 1 % 2) + (8 * worth bit (number % 10 / 8 % 2) + (4 * worth bit (number % 10 / 4 % 2) + (2 * worth bit (number % 10 / 2 % 2) + (1 * worth bit (number % 10 / 1 % 2) + 0)))) ≡ number
-number_worth_1 bit tells number h = let ones = digit_worth bit tells (number % 10) (omega arith) in omega (arith, bit_worth bit tells (number / 10 / 1))
+-- the digit of the tens, of so many bits
+pub tens_worth_1 : (bit : Symbol → Bool) → Tells bit → (n : ℕ) → n < 2 → 10 * worth bit (n / 1 % 2) + 0 ≡ 10 * n
+tens_worth_1 bit tells n h = omega (arith, bit_worth bit tells (n / 1))
 
-pub number_worth_2 : (bit : Symbol → Bool) → Tells bit → (number : ℕ) → number < 40 → 20 * worth bit (number / 10 / 2 % 2) + (10 * worth bit (number / 10 / 1 % 2) + (8 * worth bit (number % 10 / 8 % 2) + (4 * worth bit (number % 10 / 4 % 2) + (2 * worth bit (number % 10 / 2 % 2) + (1 * worth bit (number % 10 / 1 % 2) + 0))))) ≡ number
-number_worth_2 bit tells number h = let ones = digit_worth bit tells (number % 10) (omega arith) in omega (arith, bit_worth bit tells (number / 10 / 2), bit_worth bit tells (number / 10 / 1))
+pub tens_worth_2 : (bit : Symbol → Bool) → Tells bit → (n : ℕ) → n < 4 → 20 * worth bit (n / 2 % 2) + (10 * worth bit (n / 1 % 2) + 0) ≡ 10 * n
+tens_worth_2 bit tells n h = omega (arith, bit_worth bit tells (n / 2), bit_worth bit tells (n / 1))
 
-pub number_worth_3 : (bit : Symbol → Bool) → Tells bit → (number : ℕ) → number < 80 → 40 * worth bit (number / 10 / 4 % 2) + (20 * worth bit (number / 10 / 2 % 2) + (10 * worth bit (number / 10 / 1 % 2) + (8 * worth bit (number % 10 / 8 % 2) + (4 * worth bit (number % 10 / 4 % 2) + (2 * worth bit (number % 10 / 2 % 2) + (1 * worth bit (number % 10 / 1 % 2) + 0)))))) ≡ number
-number_worth_3 bit tells number h = let ones = digit_worth bit tells (number % 10) (omega arith) in omega (arith, bit_worth bit tells (number / 10 / 4), bit_worth bit tells (number / 10 / 2), bit_worth bit tells (number / 10 / 1))
+pub tens_worth_3 : (bit : Symbol → Bool) → Tells bit → (n : ℕ) → n < 8 → 40 * worth bit (n / 4 % 2) + (20 * worth bit (n / 2 % 2) + (10 * worth bit (n / 1 % 2) + 0)) ≡ 10 * n
+tens_worth_3 bit tells n h = omega (arith, bit_worth bit tells (n / 4), bit_worth bit tells (n / 2), bit_worth bit tells (n / 1))
 
-pub number_worth_4 : (bit : Symbol → Bool) → Tells bit → (number : ℕ) → number < 160 → 80 * worth bit (number / 10 / 8 % 2) + (40 * worth bit (number / 10 / 4 % 2) + (20 * worth bit (number / 10 / 2 % 2) + (10 * worth bit (number / 10 / 1 % 2) + (8 * worth bit (number % 10 / 8 % 2) + (4 * worth bit (number % 10 / 4 % 2) + (2 * worth bit (number % 10 / 2 % 2) + (1 * worth bit (number % 10 / 1 % 2) + 0))))))) ≡ number
-number_worth_4 bit tells number h = let ones = digit_worth bit tells (number % 10) (omega arith) in omega (arith, bit_worth bit tells (number / 10 / 8), bit_worth bit tells (number / 10 / 4), bit_worth bit tells (number / 10 / 2), bit_worth bit tells (number / 10 / 1))
+pub tens_worth_4 : (bit : Symbol → Bool) → Tells bit → (n : ℕ) → n < 16 → 80 * worth bit (n / 8 % 2) + (40 * worth bit (n / 4 % 2) + (20 * worth bit (n / 2 % 2) + (10 * worth bit (n / 1 % 2) + 0))) ≡ 10 * n
+tens_worth_4 bit tells n h = omega (arith, bit_worth bit tells (n / 8), bit_worth bit tells (n / 4), bit_worth bit tells (n / 2), bit_worth bit tells (n / 1))

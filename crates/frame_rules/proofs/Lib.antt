@@ -4,3 +4,4 @@ pub mod Meanings
 pub mod Most
 pub mod HighBits
 pub mod Template
+pub mod BitSymbols

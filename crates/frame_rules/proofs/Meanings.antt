@@ -1,5 +1,5 @@
 -- What the tests of the rules mean, and what it says that a second was found or wasn't.
-use Rattle.std.proofs.Common.{◌≡◌, ℕ, ◌≤◌, Bool, true, false, ◌&&◌, ◌||◌, ◌==◌, nat_lt, not, Some, None, refl, arith}
+use Rattle.std.proofs.Common.{◌≡◌, ℕ, ◌≤◌, Bool, true, false, ◌&&◌, ◌==◌, not, Some, None, refl, arith}
 use Rattle.std.proofs.lemmas.Bool.Decides.{nat_tests}
 use Rattle.std.specs.Prelude.{if◌then◌else◌}
 use Rattle.tick_units.specs.Rules.{is_out_of}
@@ -26,9 +26,6 @@ is_out_of-false least most ones number e = (grind (arith, nat_tests), grind (ari
 -- the other way round
 pub is_out_of-within : (least most ones number : ℕ) → ones ≤ 9 → least ≤ number → number ≤ most → is_out_of least most ones number ≡ false
 is_out_of-within least most ones number one low high = grind (arith, nat_tests)
-
-pub digits-within : (ones tens : ℕ) → ones ≤ 9 → tens ≤ 9 → (nat_lt 9 ones || nat_lt 9 tens) ≡ false
-digits-within ones tens h k = grind (arith, nat_tests)
 
 pub and_false : (b : Bool) → (b && false) ≡ false
 and_false true = refl

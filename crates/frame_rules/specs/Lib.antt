@@ -1,2 +1,4 @@
 pub mod Bits
 pub mod First
+pub mod MarkRules
+pub mod Numbers

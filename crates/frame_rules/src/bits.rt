@@ -41,14 +41,15 @@ pub fn is_set(bit: Bit, segment: &[Mark], place: usize) -> bool
 
 /// The sum of those weights whose bit is 1, the first weight being that of `place` and each next one that of the next
 /// place.
-pub fn value(bit: Bit, segment: &[Mark], place: usize, weights: &[u8]) -> u32
+pub fn value(bit: Bit, segment: &[Mark], place: usize, weights: &[u8]) -> u16
+    requires few { length weights.now ≤ 256 }
     requires places { place + length weights.now < 2 ^ 16 }
     ensures { result ≡ value (has_bit bit) segment.now place weights.now }
 {
     let mut sum = 0;
     for (i, weight) in weights.iter().enumerate() {
         if is_set(bit, segment, place + i) {
-            sum += u32::from(*weight);
+            sum += u16::from(*weight);
         }
     }
     sum

@@ -3,11 +3,15 @@
 #![tactic(auto)]
 
 mod bits;
+mod numbers;
 mod rules;
 mod spelling;
 
 pub use bits::{Bit, has_pattern, is_odd_over, is_set, value};
-pub use rules::{Rule, are_spaced, are_spaced_to, first_broken, has_odd_symbol, is_out_of};
+pub use numbers::{Number, is_out_of};
+pub use rules::{
+    Rule, breaks_length, breaks_spacing, breaks_spacing_to, breaks_width, first_broken,
+};
 pub use spelling::{Spelling, bit_symbol};
 
 #[cfg(test)]

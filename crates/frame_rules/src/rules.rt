@@ -1,8 +1,8 @@
-//! Rules that every plan has, and which broken rule is named.
+//! The rules on marks that the plans share, and which broken rule is named.
 ghost use Rattle.std.specs.Prelude.{◌≡◌, ◌+◌};
 ghost use Rattle.tick_units.specs.Marks.{is_between};
-ghost use Rattle.tick_units.specs.Rules.{starts_of, are_spaced, are_spaced_to, has_odd_symbol, is_out_of};
 ghost use Rattle.frame_rules.specs.First.{first_broken};
+ghost use Rattle.frame_rules.specs.MarkRules.{breaks_spacing, breaks_spacing_to, breaks_width, breaks_length};
 
 use tick_units::{Local, Mark, Symbol};
 
@@ -41,26 +41,26 @@ fn is_a_second_on(before: Local, moment: Local) -> bool
     start + 900_000 <= later && later <= start + 1_100_000
 }
 
-/// Whether each mark starts 900000 to 1100000 microseconds after the one before it.
-pub fn are_spaced(marks: &[Mark]) -> bool
-    ensures { result ≡ are_spaced (starts_of marks.now) }
+/// Whether two neighbouring marks don't start 900000 to 1100000 microseconds apart.
+pub fn breaks_spacing(marks: &[Mark]) -> bool
+    ensures { result ≡ breaks_spacing marks.now }
 {
     let mut rest = marks;
     'marks: while let [mark, more @ ..] = rest {
         if let [next, ..] = more {
             if !is_a_second_on(mark.at, next.at) {
-                return false;
+                return true;
             }
         }
         rest = more;
     }
-    true
+    false
 }
 
-/// Whether each mark starts 900000 to 1100000 microseconds after the one before it, and so does the mark that closes them
-/// after the last.
-pub fn are_spaced_to(marks: &[Mark], close: Local) -> bool
-    ensures { result ≡ are_spaced_to marks.now close }
+/// Whether two neighbouring marks, or the last mark and the mark that closes them, don't start 900000 to 1100000
+/// microseconds apart.
+pub fn breaks_spacing_to(marks: &[Mark], close: Local) -> bool
+    ensures { result ≡ breaks_spacing_to marks.now close }
 {
     let mut rest = marks;
     'marks: while let [mark, more @ ..] = rest {
@@ -69,23 +69,23 @@ pub fn are_spaced_to(marks: &[Mark], close: Local) -> bool
             [] => close,
         };
         if !is_a_second_on(mark.at, next) {
-            return false;
+            return true;
         }
         rest = more;
     }
-    true
+    false
 }
 
 /// Whether a mark's width is in no class.
-pub fn has_odd_symbol(marks: &[Mark]) -> bool
-    ensures { result ≡ has_odd_symbol marks.now }
+pub fn breaks_width(marks: &[Mark]) -> bool
+    ensures { result ≡ breaks_width marks.now }
 {
     marks.iter().any(|mark| mark.symbol == Symbol::Odd)
 }
 
-/// Whether a number of two digits is none: its ones digit is above 9, or it isn't from `least` to `most`.
-pub fn is_out_of(least: u32, most: u32, ones: u32, number: u32) -> bool
-    ensures { result ≡ is_out_of least most ones number }
+/// Whether there are not 60 marks.
+pub fn breaks_length(marks: &[Mark]) -> bool
+    ensures { result ≡ breaks_length marks.now }
 {
-    ones > 9 || number < least || number > most
+    marks.len() != 60
 }

@@ -56,29 +56,35 @@ fn each_plan_has_its_bits(rt: HostRuntime) -> Result<(), Fail> {
 #[test]
 fn marks_are_spaced(rt: HostRuntime) -> Result<(), Fail> {
     let rows = [
-        (900_000, true),
-        (1_100_000, true),
-        (899_999, false),
-        (1_100_001, false),
-        (0, false),
+        (900_000, false),
+        (1_100_000, false),
+        (899_999, true),
+        (1_100_001, true),
+        (0, true),
     ];
-    for (apart, wanted) in rows {
+    for (apart, broken) in rows {
         let mut marks = segment([Symbol::One; 6])?;
         marks[5].at = Local::new(4_000_000 + apart).ok_or("start")?;
-        assert_eq!(rt; are_spaced(&marks), wanted);
-        assert_eq!(rt; are_spaced(&marks[..5]), true);
-        assert_eq!(rt; are_spaced_to(&marks[..5], marks[5].at), wanted);
+        assert_eq!(rt; breaks_spacing(&marks), broken);
+        assert_eq!(rt; breaks_spacing(&marks[..5]), false);
+        assert_eq!(rt; breaks_spacing_to(&marks[..5], marks[5].at), broken);
         assert_eq!(rt;
-            are_spaced_to(&marks, Local::new(5_000_000 + apart).ok_or("close")?),
-            wanted
+            breaks_spacing_to(&marks, Local::new(5_000_000 + apart).ok_or("close")?),
+            broken
         );
     }
-    assert_eq!(rt; are_spaced(&[]), true);
-    assert_eq!(rt; are_spaced_to(&[], Local::new(0).ok_or("close")?), true);
-    assert_eq!(rt; has_odd_symbol(&segment([Symbol::Both; 6])?), false);
+    assert_eq!(rt; breaks_spacing(&[]), false);
+    assert_eq!(rt;
+        breaks_spacing_to(&[], Local::new(0).ok_or("close")?),
+        false
+    );
+    assert_eq!(rt; breaks_width(&segment([Symbol::Both; 6])?), false);
     let mut marks = segment([Symbol::Long; 6])?;
     marks[3].symbol = Symbol::Odd;
-    assert_eq!(rt; has_odd_symbol(&marks), true);
+    assert_eq!(rt; breaks_width(&marks), true);
+    assert_eq!(rt; breaks_length(&marks), true);
+    assert_eq!(rt; breaks_length(&[marks[0]; 60]), false);
+    assert_eq!(rt; breaks_length(&[marks[0]; 61]), true);
     Ok(())
 }
 
@@ -94,8 +100,24 @@ fn the_first_broken_rule_is_named(rt: HostRuntime) {
     assert_eq!(rt; first_broken(&rules), Some(10));
     assert_eq!(rt; first_broken(&rules[2..]), Some(12));
     assert_eq!(rt; first_broken(&rules[..1]), None);
-    assert_eq!(rt; is_out_of(1, 12, 0, 10), false);
-    assert_eq!(rt; is_out_of(1, 12, 10, 10), true);
-    assert_eq!(rt; is_out_of(1, 12, 3, 13), true);
-    assert_eq!(rt; is_out_of(1, 12, 0, 0), true);
+}
+
+#[test]
+fn a_number_has_two_digits(rt: HostRuntime) {
+    let rows = [
+        (10, 0, 10, false),
+        (0, 10, 10, true),
+        (10, 3, 13, true),
+        (0, 0, 0, true),
+        (10, 2, 12, false),
+        (0, 1, 1, false),
+    ];
+    for (tens, ones, wanted, out) in rows {
+        let number = Number { tens, ones };
+        assert_eq!(rt; number.get(), wanted);
+        assert_eq!(rt; number.is_out_of(1, 12), out);
+    }
+    assert_eq!(rt; is_out_of(1, 366, 6, 366), false);
+    assert_eq!(rt; is_out_of(1, 365, 6, 366), true);
+    assert_eq!(rt; is_out_of(1, 366, 10, 360), true);
 }

@@ -1,6 +1,7 @@
-ghost use Rattle.std.specs.Prelude.{◌≡◌, ◌+◌, ◌-◌, ◌*◌, ◌<◌, ◌^◌};
+ghost use Rattle.std.specs.Prelude.{◌≡◌, ◌+◌, ◌-◌, ◌*◌, ◌<◌, ◌^◌, IfOk};
 ghost use Rattle.minute_pair.specs.Answers.{is_apart, agreed_leap};
 ghost use Rattle.minute_pair.specs.Pairing.{answer_by, both_by, before_of_closed};
+ghost use Rattle.minute_pair.specs.Years.{SaysYears, BelievesYears};
 
 use crate::keeper::Closed;
 use tick_units::{Broken, Coded, Kind, Local};
@@ -44,7 +45,9 @@ fn leap_of_both(was: u64, is: u64) -> u64
 
 // The answer to a valid segment behind a valid one.
 fn answer_to_both(before: Local, was: &Coded, closed: &Closed, is: &Coded) -> Kind
-    ensures { result ≡ both_by before was.now closed.now is.now }
+    requires { SaysYears is.now }
+    ensures kind { result ≡ both_by before was.now closed.now is.now }
+    ensures years { BelievesYears result }
 {
     let apart = closed.close.get().saturating_sub(before.get());
     let timely = lasts(60, apart) || (closed.has_leap && lasts(61, apart));
@@ -65,7 +68,9 @@ fn answer_to_both(before: Local, was: &Coded, closed: &Closed, is: &Coded) -> Ki
 
 // The answer to a segment that closed.
 pub fn answer(before: &Before, closed: &Closed) -> Kind
-    ensures { result ≡ answer_by before.now closed.now }
+    requires { IfOk closed.now.judged (λ coded. SaysYears coded) }
+    ensures kind { result ≡ answer_by before.now closed.now }
+    ensures years { BelievesYears result }
 {
     match &closed.judged {
         Err(Broken { rule }) => Kind::Refused { rule: *rule },

@@ -1,9 +1,10 @@
-ghost use Rattle.std.specs.Prelude.{◌≡◌, ◌+◌, ◌<◌, ◌^◌, ◌++◌, ◌∷◌, [], List, MatchOption};
+ghost use Rattle.std.specs.Prelude.{◌≡◌, ◌+◌, ◌<◌, ◌^◌, ◌++◌, ◌∷◌, [], List, MatchOption, IfOk, IfSome};
 ghost use Rattle.tick_units.specs.Marks.{is_between};
 ghost use Rattle.tick_units.specs.Segments.{is_boundary, segments_of};
 ghost use Rattle.tick_units.specs.declared.marks.Mark.{Mark};
 ghost use Rattle.tick_units.specs.declared.marks.Plan.{Plan};
 ghost use Rattle.minute_pair.specs.Answers.{judged};
+ghost use Rattle.minute_pair.specs.Years.{SaysYears};
 ghost use Rattle.minute_pair.specs.Keeping.{is_near, closes_in_time, breaks_spacing, has_leap, Heard, Closes, begun, added};
 
 use crate::mark_list::MarkList;
@@ -113,7 +114,8 @@ impl SegmentKeeper {
 
     // What the piece says, or its least broken rule.
     fn judge(&self, close: Local) -> Result<Coded, Broken>
-        ensures { (plan : Plan) (marks : List Mark) → (h : Heard self.now plan marks) → result ≡ judged plan (record { marks = h.current; close = close }) }
+        ensures judged { (plan : Plan) (marks : List Mark) → (h : Heard self.now plan marks) → result ≡ judged plan (record { marks = h.current; close = close }) }
+        ensures years { IfOk result (λ coded. SaysYears coded) }
     {
         if self.breaks_spacing(close) {
             Err(Broken { rule: 1 })
@@ -156,6 +158,7 @@ impl SegmentKeeper {
         ensures closed { (plan : Plan) (marks : List Mark) → Heard self.old plan marks → MatchOption result
             (segments_of plan (marks ++ mark ∷ []) ≡ segments_of plan marks)
             (λ closed. Closes plan marks mark closed) }
+        ensures years { IfSome result (λ closed. IfOk closed.judged (λ coded. SaysYears coded)) }
     {
         if !is_boundary(self.plan, &self.last, &mark) {
             self.add(&mark);

@@ -1,9 +1,10 @@
-ghost use Rattle.std.specs.Prelude.{◌≡◌, ◌++◌, ◌∷◌, [], List};
+ghost use Rattle.std.specs.Prelude.{◌≡◌, ◌++◌, ◌∷◌, [], List, IfSome};
 ghost use Rattle.std.specs.Option.{option_to_list};
 ghost use Rattle.tick_units.specs.Segments.{segments_of};
 ghost use Rattle.tick_units.specs.declared.marks.Mark.{Mark};
 ghost use Rattle.tick_units.specs.declared.marks.Plan.{Plan};
 ghost use Rattle.minute_pair.specs.Answers.{answers};
+ghost use Rattle.minute_pair.specs.Years.{BelievesYears};
 
 use crate::answers::{Before, answer, before_by};
 use crate::keeper::SegmentKeeper;
@@ -34,6 +35,9 @@ impl Pairing {
         ensures heard { (plan : Plan) (marks : List Mark) → HasPaired self.old plan marks → HasPaired self.new plan (marks ++ mark ∷ []) }
         ensures answered { (plan : Plan) (marks : List Mark) → HasPaired self.old plan marks →
             answers plan (segments_of plan (marks ++ mark ∷ [])) ≡ answers plan (segments_of plan marks) ++ option_to_list result }
+
+        // A second that is believed, and its leap second, lie in the years 2000 to 2099, within a day or two.
+        ensures years { IfSome result (λ heard. BelievesYears heard.kind) }
     {
         let Some(closed) = self.keeper.hear(mark) else {
             return None;

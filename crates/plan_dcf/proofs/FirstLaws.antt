@@ -2,7 +2,8 @@
 use Rattle.std.proofs.Common.{◌≡◌, true, false, Some, List, drop}
 use Rattle.tick_units.specs.declared.marks.Mark.{Mark}
 use Rattle.frame_rules.proofs.FirstLaws.{first_of_one, first_of_two, first_of_three}
-use Rattle.plan_dcf.specs.Rules.{first, rules, breaks_spacing, breaks_width, breaks_length}
+use Rattle.frame_rules.specs.MarkRules.{breaks_spacing, breaks_width}
+use Rattle.plan_dcf.specs.Rules.{first, rules, breaks_length}
 
 pub first_spacing : (marks : List Mark) → breaks_spacing marks ≡ true → first marks ≡ Some 1
 unfolding first

@@ -3,21 +3,18 @@ use Rattle.std.proofs.Common.{◌≡◌, ℕ, zero, suc, ◌+◌, ◌-◌, ◌/�
 use Rattle.std.specs.Prelude.{if◌then◌else◌}
 use Rattle.std.specs.List.{list_any, range_with_len}
 use Rattle.std.proofs.lemmas.List.Sums.{sum_by-cons}
-use Rattle.tick_units.specs.Digits.{bit_symbol}
 use Rattle.tick_units.specs.Fields.{is_one, is_set, bit_at, value, is_odd_over, symbols_of}
 use Rattle.tick_units.specs.Rules.{is_odd, has_odd_symbol}
 use Rattle.tick_units.specs.declared.marks.Mark.{Mark}
 use Rattle.tick_units.specs.declared.marks.Symbol.TheVariants.{Zero}
 use Rattle.tick_units.specs.declared.verdicts.Coded.{Coded}
 use Rattle.civil_minute.specs.declared.seconds.CivilMinute.{CivilMinute}
+use Rattle.frame_rules.proofs.BitSymbols.{is_one-bit_symbol, is_odd-bit_symbol}
 use Rattle.frame_rules.proofs.Template.{has_odd_symbol-symbols_of}
-use Rattle.plan_dcf.specs.Fields.{is_summer, is_standard, announces_leap, minute_ones, minute_of, hour_ones, hour_of, day_ones, day_of, weekday_of, month_ones, month_of, year_ones, year_tens, year_of}
+use Rattle.civil_frame.proofs.Says.{HasNumbers}
+use Rattle.plan_dcf.specs.Fields.{is_summer, is_standard, announces_leap, said}
 use Rattle.plan_dcf.specs.Spelling.{digits_of, date_of, frame_of, IsPassedOver}
-use Rattle.plan_dcf.proofs.SpeltBits.{digit_worth, three_worth, number_worth_1, number_worth_2, number_worth_3, number_worth_4, even_with_parity, is_odd-bit_symbol}
-
-is_one-bit_symbol : (bit : Bool) → is_one (bit_symbol bit) ≡ bit
-is_one-bit_symbol true = refl
-is_one-bit_symbol false = refl
+use Rattle.plan_dcf.proofs.SpeltBits.{digit_worth, three_worth, tens_worth_1, tens_worth_2, tens_worth_3, tens_worth_4, even_with_parity}
 
 -- the last mark of a leap minute is Zero, as a place that isn't there counts
 last_zero : (long : Bool) → get_or (if long then Zero ∷ [] else []) 0 Zero ≡ Zero
@@ -67,36 +64,16 @@ unfolding frame_of
 has_odd_symbol-spelt c civil weekday marks e = rw (has_odd_symbol-symbols_of marks, e) (simp is_odd-bit_symbol (odd_last (c.leap_at == c.minute)))
 
 -- the numbers of a frame
-pub record HasNumbers (civil : CivilMinute) (weekday : ℕ) (marks : List Mark) : Type 0 where
-  pub minute_digit : minute_ones marks ≡ civil.minute % 10
-  pub minute : minute_of marks ≡ civil.minute
-  pub hour_digit : hour_ones marks ≡ civil.hour % 10
-  pub hour : hour_of marks ≡ civil.hour
-  pub day_digit : day_ones marks ≡ civil.day % 10
-  pub day : day_of marks ≡ civil.day
-  pub days : weekday_of marks ≡ weekday
-  pub month_digit : month_ones marks ≡ civil.month % 10
-  pub month : month_of marks ≡ civil.month
-  pub year_digit : year_ones marks ≡ civil.year % 100 % 10
-  pub year_decade : year_tens marks ≡ civil.year % 100 / 10
-  pub year : year_of marks ≡ civil.year % 100
-
 pub HasNumbers-spelt : (c : Coded) (civil : CivilMinute) (weekday : ℕ) (marks : List Mark) → symbols_of marks ≡ frame_of c civil weekday →
-    civil.minute < 60 → civil.hour < 24 → civil.day < 32 → weekday < 8 → civil.month < 13 → HasNumbers civil weekday marks
-unfolding frame_of
+    civil.minute < 60 → civil.hour < 24 → civil.day < 32 → weekday < 8 → civil.month < 13 → HasNumbers (said marks) civil weekday
+unfolding frame_of said
 HasNumbers-spelt c civil weekday marks e minute hour day week month = record {
-  minute_digit = rw e (digit_worth (civil.minute % 10) (omega arith));
-  minute = rw e (number_worth_3 civil.minute (omega arith));
-  hour_digit = rw e (digit_worth (civil.hour % 10) (omega arith));
-  hour = rw e (number_worth_2 civil.hour (omega arith));
-  day_digit = rw e (digit_worth (civil.day % 10) (omega arith));
-  day = rw e (number_worth_2 civil.day (omega arith));
+  year = record { tens = rw e (tens_worth_4 (civil.year % 100 / 10) (omega arith)); ones = rw e (digit_worth (civil.year % 100 % 10) (omega arith)) };
+  month = record { tens = rw e (tens_worth_1 (civil.month / 10) (omega arith)); ones = rw e (digit_worth (civil.month % 10) (omega arith)) };
+  day = record { tens = rw e (tens_worth_2 (civil.day / 10) (omega arith)); ones = rw e (digit_worth (civil.day % 10) (omega arith)) };
+  hour = record { tens = rw e (tens_worth_2 (civil.hour / 10) (omega arith)); ones = rw e (digit_worth (civil.hour % 10) (omega arith)) };
+  minute = record { tens = rw e (tens_worth_3 (civil.minute / 10) (omega arith)); ones = rw e (digit_worth (civil.minute % 10) (omega arith)) };
   days = rw e (three_worth weekday week);
-  month_digit = rw e (digit_worth (civil.month % 10) (omega arith));
-  month = rw e (number_worth_1 civil.month (omega arith));
-  year_digit = rw e (digit_worth (civil.year % 100 % 10) (omega arith));
-  year_decade = rw e (digit_worth (civil.year % 100 / 10) (omega arith));
-  year = rw e (number_worth_4 (civil.year % 100) (omega arith));
 }
 
 -- ---- marks that agree at the places that are read
@@ -139,18 +116,19 @@ HasBits-same c a b h bits = record {
   last = bit_same a b h 59 (λ over. omega (arith, over)) ∙ bits.last;
 }
 
-pub HasNumbers-same : (civil : CivilMinute) (weekday : ℕ) (a b : List Mark) → IsReadAs a b → HasNumbers civil weekday b → HasNumbers civil weekday a
-HasNumbers-same civil weekday a b h numbers = record {
-  minute_digit = value_same a b h 21 (1 ∷ 2 ∷ 4 ∷ 8 ∷ []) (omega arith) ∙ numbers.minute_digit;
-  minute = value_same a b h 21 (1 ∷ 2 ∷ 4 ∷ 8 ∷ 10 ∷ 20 ∷ 40 ∷ []) (omega arith) ∙ numbers.minute;
-  hour_digit = value_same a b h 29 (1 ∷ 2 ∷ 4 ∷ 8 ∷ []) (omega arith) ∙ numbers.hour_digit;
-  hour = value_same a b h 29 (1 ∷ 2 ∷ 4 ∷ 8 ∷ 10 ∷ 20 ∷ []) (omega arith) ∙ numbers.hour;
-  day_digit = value_same a b h 36 (1 ∷ 2 ∷ 4 ∷ 8 ∷ []) (omega arith) ∙ numbers.day_digit;
-  day = value_same a b h 36 (1 ∷ 2 ∷ 4 ∷ 8 ∷ 10 ∷ 20 ∷ []) (omega arith) ∙ numbers.day;
-  days = value_same a b h 42 (1 ∷ 2 ∷ 4 ∷ []) (omega arith) ∙ numbers.days;
-  month_digit = value_same a b h 45 (1 ∷ 2 ∷ 4 ∷ 8 ∷ []) (omega arith) ∙ numbers.month_digit;
-  month = value_same a b h 45 (1 ∷ 2 ∷ 4 ∷ 8 ∷ 10 ∷ []) (omega arith) ∙ numbers.month;
-  year_digit = value_same a b h 50 (1 ∷ 2 ∷ 4 ∷ 8 ∷ []) (omega arith) ∙ numbers.year_digit;
-  year_decade = value_same a b h 54 (1 ∷ 2 ∷ 4 ∷ 8 ∷ []) (omega arith) ∙ numbers.year_decade;
-  year = value_same a b h 50 (1 ∷ 2 ∷ 4 ∷ 8 ∷ 10 ∷ 20 ∷ 40 ∷ 80 ∷ []) (omega arith) ∙ numbers.year;
-}
+pub said-same : (a b : List Mark) → IsReadAs a b → said a ≡ said b
+unfolding said
+said-same a b h = rw (
+  value_same a b h 21 (1 ∷ 2 ∷ 4 ∷ 8 ∷ []) (omega arith),
+  value_same a b h 25 (10 ∷ 20 ∷ 40 ∷ []) (omega arith),
+  value_same a b h 29 (1 ∷ 2 ∷ 4 ∷ 8 ∷ []) (omega arith),
+  value_same a b h 33 (10 ∷ 20 ∷ []) (omega arith),
+  value_same a b h 36 (1 ∷ 2 ∷ 4 ∷ 8 ∷ []) (omega arith),
+  value_same a b h 40 (10 ∷ 20 ∷ []) (omega arith),
+  value_same a b h 42 (1 ∷ 2 ∷ 4 ∷ []) (omega arith),
+  value_same a b h 45 (1 ∷ 2 ∷ 4 ∷ 8 ∷ []) (omega arith),
+  value_same a b h 49 (10 ∷ []) (omega arith),
+  value_same a b h 50 (1 ∷ 2 ∷ 4 ∷ 8 ∷ []) (omega arith),
+  value_same a b h 54 (10 ∷ 20 ∷ 40 ∷ 80 ∷ []) (omega arith),
+  bit_same a b h 17 (λ over. omega (arith, over)),
+) refl

@@ -1,5 +1,5 @@
 -- A segment that has the symbols of a spelling, and lawful spacing, is valid and says what was spelt.
-use Rattle.std.proofs.Common.{◌≡◌, ℕ, ◌+◌, ◌/◌, ◌%◌, ◌<◌, ◌≤◌, inl, inr, Bool, true, false, not, ◌&&◌, ◌==◌, None, List, length, get_or, refl, sym, ap, ◌∙◌, arith}
+use Rattle.std.proofs.Common.{◌≡◌, ℕ, ◌+◌, ◌/◌, ◌%◌, ◌<◌, ◌≤◌, inl, inr, Bool, true, false, not, ◌&&◌, ◌==◌, None, List, length, get_or, refl, sym, ap, subst, ◌∙◌, arith}
 use Rattle.std.specs.Prelude.{if◌then◌else◌}
 use Rattle.std.specs.Bool.{beq}
 use Rattle.std.proofs.lemmas.List.{length-map}
@@ -9,27 +9,30 @@ use Rattle.tick_units.specs.Rules.{starts_of, are_spaced}
 use Rattle.tick_units.specs.declared.marks.Mark.{Mark}
 use Rattle.tick_units.specs.declared.marks.Symbol.TheVariants.{Zero}
 use Rattle.tick_units.specs.declared.verdicts.Coded.{Coded}
-use Rattle.civil_minute.specs.Dates.{is_date, day_number, second_of, weekday_of as civil_weekday, weekday_of_day, midnight_from}
+use Rattle.civil_minute.specs.Dates.{weekday_of, midnight_from}
 use Rattle.civil_minute.specs.Months.{begins_month}
 use Rattle.civil_minute.specs.Seconds.{Shows}
 use Rattle.civil_minute.specs.declared.seconds.CivilMinute.{CivilMinute}
-use Rattle.civil_minute.proofs.Bounds.{date_bounds, weekday_bounds, second_of-day}
+use Rattle.civil_minute.proofs.Bounds.{date_bounds, weekday_bounds}
 use Rattle.civil_minute.proofs.MonthLemmas.{begins_month-midnight}
-use Rattle.frame_rules.proofs.Meanings.{is_out_of-within, digits-within, and_false, test_true, test_false}
+use Rattle.frame_rules.proofs.Meanings.{and_false, test_true, test_false}
 use Rattle.frame_rules.proofs.Template.{template, symbols_of-template}
-use Rattle.plan_dcf.specs.Fields.{minute_ones, minute_of, hour_ones, hour_of, day_ones, day_of, weekday_of, month_ones, month_of, year_ones, year_tens, year_of, hours_ahead, local_start, minute_start, leap_end, coded}
-use Rattle.plan_dcf.specs.Rules.{is_in_range, has_date, names_minute, is_leap_minute, first}
-use Rattle.plan_dcf.specs.Spelling.{IsSpellable, local_second, frame_of, Agrees}
-use Rattle.plan_dcf.proofs.ReadBack.{HasBits, HasBits-spelt, HasBits-same, HasNumbers, HasNumbers-spelt, HasNumbers-same, IsReadAs, length-frame_of, has_odd_symbol-spelt}
+use Rattle.civil_frame.specs.CivilDates.{names_minute}
+use Rattle.civil_frame.specs.Seconds.{local_second, minute_start}
+use Rattle.civil_frame.proofs.Says.{HasNumbers, Says, local_start-said, minute_range, hour_range, day_range, weekday_range, month_range, year_range, date_kept, weekday_kept}
+use Rattle.plan_dcf.specs.Fields.{is_summer, hours_ahead, said, leap_end, coded}
+use Rattle.plan_dcf.specs.Rules.{is_leap_minute, first}
+use Rattle.plan_dcf.specs.Spelling.{IsSpellable, frame_of, Agrees}
+use Rattle.plan_dcf.proofs.ReadBack.{HasBits, HasBits-spelt, HasBits-same, HasNumbers-spelt, said-same, IsReadAs, length-frame_of, has_odd_symbol-spelt}
 use Rattle.plan_dcf.proofs.Validity.{IsValid, first-valid}
 
 -- what is known of a spelling's parts
 pub record IsFrameOf (c : Coded) (civil : CivilMinute) (weekday : ℕ) (marks : List Mark) : Type 0 where
   pub spellable : IsSpellable c
-  pub shows : Shows civil (local_second c)
+  pub shows : Shows civil (local_second hours_ahead c)
   pub from : 2000 ≤ civil.year
   pub below : civil.year < 2100
-  pub weekday_is : weekday ≡ civil_weekday (local_second c)
+  pub weekday_is : weekday ≡ weekday_of (local_second hours_ahead c)
   pub marks_agree : Agrees marks (frame_of c civil weekday)
 
 -- ---- tests that hold or fail
@@ -47,14 +50,6 @@ length_tests : (long : Bool) (n : ℕ) → n ≡ 59 + (if long then 1 else 0) �
 length_tests true n e = rw e (refl, refl)
 length_tests false n e = rw e (refl, refl)
 
--- ---- the date
-
-is_date_same : (y m d year month day : ℕ) → y ≡ year → m ≡ month → d ≡ day → is_date y m d ≡ is_date year month day
-is_date_same y m d year month day e f g = rw (e, f, g) refl
-
-second_same : (y m d h n year month day hour minute : ℕ) → y ≡ year → m ≡ month → d ≡ day → h ≡ hour → n ≡ minute → second_of y m d h n ≡ second_of year month day hour minute
-second_same y m d h n year month day hour minute e f g p q = rw (e, f, g, p, q) refl
-
 -- ---- the leap second
 
 hours_ahead_most : (summer : Bool) → hours_ahead summer ≤ 2
@@ -63,7 +58,7 @@ hours_ahead_most false = omega arith
 
 -- no minute that can be spelt is 0
 minute_above : (c : Coded) → IsSpellable c → 0 < c.minute
-minute_above c s = let ahead = hours_ahead_most c.summer in omega (arith, s.from)
+minute_above c s = let ahead = hours_ahead_most c.summer in omega (arith, s.minute.from)
 
 -- a leap second ends at the minute exactly where one is announced and the minute begins a month
 leap_agrees : (c : Coded) → IsSpellable c → (not (c.leap_at == 0) && begins_month c.minute) ≡ (c.leap_at == c.minute)
@@ -104,33 +99,42 @@ bits_are c civil weekday marks h =
     let frame = template (frame_of c civil weekday) in
     HasBits-same c marks frame (read_as c civil weekday marks h) (HasBits-spelt c civil weekday frame (symbols_of-template (frame_of c civil weekday)))
 
-numbers_of : (c : Coded) (civil : CivilMinute) (weekday : ℕ) (marks : List Mark) → IsFrameOf c civil weekday marks → HasNumbers civil weekday marks
+no_weekday-is : (marks : List Mark) → (said marks).no_weekday ≡ 0
+unfolding said
+no_weekday-is marks = refl
+
+hours_ahead-is : (marks : List Mark) → (said marks).hours_ahead ≡ hours_ahead (is_summer marks)
+unfolding said
+hours_ahead-is marks = refl
+
+numbers_of : (c : Coded) (civil : CivilMinute) (weekday : ℕ) (marks : List Mark) → IsFrameOf c civil weekday marks → HasNumbers (said marks) civil weekday
 numbers_of c civil weekday marks h =
     let date = date_bounds civil.year civil.month civil.day h.shows.date in
-    let week = weekday_bounds (local_second c / 86400) in
+    let week = weekday_bounds (local_second hours_ahead c / 86400) in
     let frame = template (frame_of c civil weekday) in
-    HasNumbers-same civil weekday marks frame (read_as c civil weekday marks h) (HasNumbers-spelt c civil weekday frame (symbols_of-template (frame_of c civil weekday)) h.shows.minute h.shows.hour (omega arith) (omega (arith, h.weekday_is)) (omega arith))
+    let spelt = HasNumbers-spelt c civil weekday frame (symbols_of-template (frame_of c civil weekday)) h.shows.minute h.shows.hour (omega arith) (omega (arith, h.weekday_is)) (omega arith) in
+    subst (λ s. HasNumbers s civil weekday) (sym (said-same marks frame (read_as c civil weekday marks h))) spelt
 
--- the clock's second is that of the civil minute
-second_is : (c : Coded) (civil : CivilMinute) (weekday : ℕ) (marks : List Mark) → IsFrameOf c civil weekday marks → second_of civil.year civil.month civil.day civil.hour civil.minute ≡ local_second c
-second_is c civil weekday marks h = omega (arith, h.shows.starts, h.shows.ends, h.spellable.whole)
+-- the marks say the civil minute
+says : (c : Coded) (civil : CivilMinute) (weekday : ℕ) (marks : List Mark) → IsFrameOf c civil weekday marks → Says (said marks) civil weekday (local_second hours_ahead c)
+says c civil weekday marks h =
+    let week = weekday_bounds (local_second hours_ahead c / 86400) in
+    record {
+      shows = h.shows;
+      whole = omega (arith, h.spellable.minute.whole);
+      from = h.from;
+      below = h.below;
+      numbers = numbers_of c civil weekday marks h;
+      week = ap (λ d. d % 7) h.weekday_is;
+      is_weekday = λ e. absurd (omega (arith, e, no_weekday-is marks, h.weekday_is));
+    }
 
-year_is : (c : Coded) (civil : CivilMinute) (weekday : ℕ) (marks : List Mark) → IsFrameOf c civil weekday marks → 2000 + year_of marks ≡ civil.year
-year_is c civil weekday marks h =
-    let numbers = numbers_of c civil weekday marks h in
-    omega (arith, numbers.year, h.from, h.below)
-
-local_start_is : (c : Coded) (civil : CivilMinute) (weekday : ℕ) (marks : List Mark) → IsFrameOf c civil weekday marks → local_start marks ≡ local_second c
-unfolding local_start
-local_start_is c civil weekday marks h =
-    let numbers = numbers_of c civil weekday marks h in
-    second_same (2000 + year_of marks) (month_of marks) (day_of marks) (hour_of marks) (minute_of marks) civil.year civil.month civil.day civil.hour civil.minute (year_is c civil weekday marks h) numbers.month numbers.day numbers.hour numbers.minute ∙ second_is c civil weekday marks h
-
-minute_start_is : (c : Coded) (civil : CivilMinute) (weekday : ℕ) (marks : List Mark) → IsFrameOf c civil weekday marks → minute_start marks ≡ c.minute
+minute_start_is : (c : Coded) (civil : CivilMinute) (weekday : ℕ) (marks : List Mark) → IsFrameOf c civil weekday marks → minute_start (said marks) ≡ c.minute
 unfolding minute_start
 minute_start_is c civil weekday marks h =
     let bits = bits_are c civil weekday marks h in
-    rw (local_start_is c civil weekday marks h, bits.summer) (omega arith)
+    let start = local_start-said (said marks) civil weekday (local_second hours_ahead c) (says c civil weekday marks h) in
+    rw (start, hours_ahead-is marks, bits.summer) (omega arith)
 
 pub coded-spelt : (c : Coded) (civil : CivilMinute) (weekday : ℕ) (marks : List Mark) → IsFrameOf c civil weekday marks → coded marks ≡ c
 unfolding coded
@@ -140,30 +144,16 @@ coded-spelt c civil weekday marks h =
     let leap : leap_end marks ≡ c.leap_at = rw (bits.leap, minute) (leap_end_is c h.spellable) in
     rw (leap, minute, bits.summer) refl
 
-weekday_kept : (c : Coded) (civil : CivilMinute) (weekday : ℕ) (marks : List Mark) → IsFrameOf c civil weekday marks → (weekday_of marks == weekday_of_day (day_number (2000 + year_of marks) (month_of marks) (day_of marks))) ≡ true
-weekday_kept c civil weekday marks h =
-    let numbers = numbers_of c civil weekday marks h in
-    let day = second_of-day civil.year civil.month civil.day civil.hour civil.minute h.shows.hour h.shows.minute in
-    let second = ap (λ s. s / 86400) (second_is c civil weekday marks h) in
-    let same : day_number (2000 + year_of marks) (month_of marks) (day_of marks) ≡ local_second c / 86400 = rw (year_is c civil weekday marks h, numbers.month, numbers.day) (sym day ∙ second) in
-    test_true (weekday_of marks) (weekday_of_day (day_number (2000 + year_of marks) (month_of marks) (day_of marks))) (numbers.days ∙ h.weekday_is ∙ ap weekday_of_day (sym same))
-
-has_date_is : (c : Coded) (civil : CivilMinute) (weekday : ℕ) (marks : List Mark) → IsFrameOf c civil weekday marks → has_date marks ≡ true
-has_date_is c civil weekday marks h =
-    let numbers = numbers_of c civil weekday marks h in
-    is_date_same (2000 + year_of marks) (month_of marks) (day_of marks) civil.year civil.month civil.day (year_is c civil weekday marks h) numbers.month numbers.day ∙ h.shows.date
-
 pub IsValid-spelt : (c : Coded) (civil : CivilMinute) (weekday : ℕ) (marks : List Mark) → IsFrameOf c civil weekday marks → IsValid marks
 IsValid-spelt c civil weekday marks h =
     let bits = bits_are c civil weekday marks h in
-    let numbers = numbers_of c civil weekday marks h in
-    let date = date_bounds civil.year civil.month civil.day h.shows.date in
-    let week = weekday_bounds (local_second c / 86400) in
-    let tests = length_tests (c.leap_at == c.minute) (length marks) (h.marks_agree.count ∙ length-frame_of c civil weekday) in
+    let second = local_second hours_ahead c in
+    let shown = says c civil weekday marks h in
+    let tests = length_tests (c.leap_at == c.minute) (length marks) (h.marks_agree.shape.count ∙ length-frame_of c civil weekday) in
     let leap : is_leap_minute marks ≡ (c.leap_at == c.minute) = rw (bits.leap, minute_start_is c civil weekday marks h) (leap_agrees c h.spellable) in
     record {
-      spacing = rw h.marks_agree.spacing refl;
-      width = h.marks_agree.width;
+      spacing = rw h.marks_agree.shape.spacing refl;
+      width = h.marks_agree.shape.width;
       length = tests.1;
       start_bit = bits.start;
       zone_bits = rw (bits.summer, bits.standard) (apart c.summer);
@@ -171,15 +161,15 @@ IsValid-spelt c civil weekday marks h =
       minute_parity = bits.minute_parity;
       hour_parity = bits.hour_parity;
       date_parity = bits.date_parity;
-      minute_range = is_out_of-within 0 59 (minute_ones marks) (minute_of marks) (omega (arith, numbers.minute_digit)) (omega arith) (omega (arith, numbers.minute, h.shows.minute));
-      hour_range = is_out_of-within 0 23 (hour_ones marks) (hour_of marks) (omega (arith, numbers.hour_digit)) (omega arith) (omega (arith, numbers.hour, h.shows.hour));
-      day_range = is_out_of-within 1 31 (day_ones marks) (day_of marks) (omega (arith, numbers.day_digit)) (omega (arith, numbers.day)) (omega (arith, numbers.day));
-      weekday_range = test_false (weekday_of marks) 0 (λ e. absurd (omega (arith, numbers.days, h.weekday_is)));
-      month_range = is_out_of-within 1 12 (month_ones marks) (month_of marks) (omega (arith, numbers.month_digit)) (omega (arith, numbers.month)) (omega (arith, numbers.month));
-      year_range = digits-within (year_ones marks) (year_tens marks) (omega (arith, numbers.year_digit)) (omega (arith, numbers.year_decade));
-      date = rw (has_date_is c civil weekday marks h) (and_false (is_in_range marks));
-      weekday = rw (weekday_kept c civil weekday marks h) (and_false (names_minute marks));
-      leap_minute = rw (tests.0, leap, same_equal (c.leap_at == c.minute), bits.last) (and_false (names_minute marks));
+      minute_range = minute_range (said marks) civil weekday second shown;
+      hour_range = hour_range (said marks) civil weekday second shown;
+      day_range = day_range (said marks) civil weekday second shown;
+      weekday_range = weekday_range (said marks) civil weekday second shown;
+      month_range = month_range (said marks) civil weekday second shown;
+      year_range = year_range (said marks) civil weekday second shown;
+      date = date_kept (said marks) civil weekday second shown;
+      weekday = weekday_kept (said marks) civil weekday second shown;
+      leap_minute = rw (tests.0, leap, same_equal (c.leap_at == c.minute), bits.last) (and_false (names_minute (said marks)));
     }
 
 -- the round trip
@@ -190,8 +180,6 @@ round_trip c civil weekday marks h =
 -- marks that have just the symbols of a frame
 pub Agrees-whole : (c : Coded) (civil : CivilMinute) (weekday : ℕ) (marks : List Mark) → symbols_of marks ≡ frame_of c civil weekday → are_spaced (starts_of marks) ≡ true → Agrees marks (frame_of c civil weekday)
 Agrees-whole c civil weekday marks e spaced = record {
-  spacing = spaced;
-  width = has_odd_symbol-spelt c civil weekday marks e;
-  count = sym (length-map marks (λ mark. mark.symbol)) ∙ ap length e;
+  shape = record { spacing = spaced; width = has_odd_symbol-spelt c civil weekday marks e; count = sym (length-map marks (λ mark. mark.symbol)) ∙ ap length e };
   places = λ place read. ap (λ symbols. get_or symbols place Zero) e;
 }

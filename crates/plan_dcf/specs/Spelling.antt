@@ -1,9 +1,9 @@
 -- How DCF77 spells a minute (PTB): the civil time of the minute that begins after the frame, the lowest bits first, with
 -- even parities. What the code carries besides is left 0.
-use Rattle.std.specs.Prelude.{◌≡◌, ◌⊎◌, ℕ, zero, suc, ◌+◌, ◌*◌, ◌/◌, ◌%◌, ◌<◌, ◌≤◌, not, ◌==◌, IsTrue, IsFalse, List, [], ◌∷◌, ◌++◌, length, slice_index_or, replicate, count_by, if◌then◌else◌}
+use Rattle.std.specs.Prelude.{◌≡◌, ◌⊎◌, ℕ, zero, suc, ◌/◌, ◌%◌, ◌≤◌, not, ◌==◌, IsTrue, List, [], ◌∷◌, ◌++◌, slice_index_or, replicate, count_by, if◌then◌else◌}
 use Rattle.tick_units.specs.Digits.{bit_symbol}
 use Rattle.tick_units.specs.Fields.{is_one, symbols_of}
-use Rattle.tick_units.specs.Rules.{starts_of, are_spaced, has_odd_symbol}
+use Rattle.tick_units.specs.Rules.{starts_of, are_spaced}
 use Rattle.tick_units.specs.declared.marks.Mark.{Mark}
 use Rattle.tick_units.specs.declared.marks.Symbol.{Symbol}
 use Rattle.tick_units.specs.declared.marks.Symbol.TheVariants.{Zero, One}
@@ -12,17 +12,14 @@ use Rattle.civil_minute.specs.Dates.{weekday_of, midnight_from}
 use Rattle.civil_minute.specs.Months.{begins_month}
 use Rattle.civil_minute.specs.Seconds.{civil_of}
 use Rattle.civil_minute.specs.declared.seconds.CivilMinute.{CivilMinute}
+use Rattle.frame_rules.specs.MarkRules.{Fits}
+use Rattle.civil_frame.specs.Seconds.{local_second, IsInCentury}
 use Rattle.plan_dcf.specs.Fields.{hours_ahead}
 
--- the second at which a clock that shows UTC shows what a German clock shows at the minute
-abbrev pub local_second : Coded → ℕ
-local_second c = c.minute + 3600 * hours_ahead c.summer
-
--- a whole minute of the years 2000 to 2099 there, and no leap second or one at the next UTC midnight, which begins a month
+-- a whole minute of the years 2000 to 2099 by German time, and no leap second or one at the next UTC midnight, which begins
+-- a month
 pub record IsSpellable (c : Coded) : Type 0 where
-  pub whole : c.minute % 60 ≡ 0
-  pub from : 3155673600 ≤ local_second c
-  pub below : local_second c < 6311433600
+  pub minute : IsInCentury c.minute (local_second hours_ahead c)
   pub leap : (c.leap_at ≡ 0) ⊎ ((c.leap_at ≡ midnight_from c.minute) × IsTrue (begins_month c.leap_at))
 
 -- so many low bits of a number
@@ -58,7 +55,7 @@ frame_of c civil weekday = head_of c ++ with_parity (digits_of 3 civil.minute) +
 
 -- the symbols of a spellable minute
 unfoldable pub spelt : Coded → List Symbol
-spelt c = frame_of c (civil_of (local_second c)) (weekday_of (local_second c))
+spelt c = frame_of c (civil_of (local_second hours_ahead c)) (weekday_of (local_second hours_ahead c))
 
 -- what places 1 to 16 carry is no matter of the minute
 abbrev pub IsPassedOver : ℕ → Type 0
@@ -66,7 +63,5 @@ IsPassedOver place = (1 ≤ place) × (place ≤ 16)
 
 -- lawful marks that agree with these symbols in their number and at each place that isn't passed over
 pub record Agrees (marks : List Mark) (symbols : List Symbol) : Type 0 where
-  pub spacing : IsTrue (are_spaced (starts_of marks))
-  pub width : IsFalse (has_odd_symbol marks)
-  pub count : length marks ≡ length symbols
+  pub shape : Fits (are_spaced (starts_of marks)) marks symbols
   pub places : (place : ℕ) → ¬ (IsPassedOver place) → slice_index_or (symbols_of marks) place Zero ≡ slice_index_or symbols place Zero

@@ -1,83 +1,19 @@
-//! The civil minute that a DCF77 segment says, and the rules on its date.
-ghost use Rattle.std.specs.Prelude.{◌≡◌, ◌≢◌, ◌<◌, ◌≤◌, not, ◌&&◌, ◌==◌, length, IsTrue, IfSome, Some, None, if◌then◌else◌};
+//! The leap second of a DCF77 segment, and the minute that it says.
+ghost use Rattle.std.specs.Prelude.{◌≡◌, ◌<◌, ◌≤◌, not, ◌&&◌, ◌==◌, length, IsTrue};
 ghost use Rattle.std.specs.Bool.{beq};
 ghost use Rattle.civil_minute.specs.Months.{begins_month};
-ghost use Rattle.plan_dcf.specs.Fields.{announces_leap, local_start, minute_start, coded};
-ghost use Rattle.plan_dcf.specs.Rules.{is_in_range, names_minute, breaks_date, breaks_weekday, breaks_leap_minute};
+ghost use Rattle.civil_frame.specs.CivilDates.{names_minute};
+ghost use Rattle.civil_frame.specs.Seconds.{IsDated};
+ghost use Rattle.plan_dcf.specs.Fields.{announces_leap, said, coded};
+ghost use Rattle.plan_dcf.specs.Rules.{breaks_leap_minute};
 
-use crate::fields::{
-    announces_leap, day_of, hour_of, hours_ahead, is_summer, minute_of, month_of, weekday_of,
-    year_of,
-};
-use crate::rules::{
-    breaks_day_range, breaks_hour_range, breaks_minute_range, breaks_month_range,
-    breaks_weekday_range, breaks_year_range,
-};
-use civil_minute::{begins_month, from_date, weekday};
+use crate::fields::{announces_leap, is_summer};
+use civil_frame::CivilTime;
+use civil_minute::begins_month;
 use frame_rules::{Bit, is_set};
 use tick_units::{Coded, Mark};
 
-const HOUR: u64 = 3_600;
-
 const DAY: u64 = 86_400;
-
-// Whether each of the numbers of time and date is in its range.
-#[tactic(auto, unfolding(crate::specs::Rules::is_in_range))]
-fn is_in_range(segment: &[Mark]) -> bool
-    ensures { result ≡ is_in_range segment.now }
-{
-    !(breaks_minute_range(segment)
-        || breaks_hour_range(segment)
-        || breaks_day_range(segment)
-        || breaks_weekday_range(segment)
-        || breaks_month_range(segment)
-        || breaks_year_range(segment))
-}
-
-// The second at which a clock that shows UTC shows what the segment says, where that is a minute of a civil date.
-#[tactic(auto, unfolding(crate::specs::Rules::names_minute, crate::specs::Rules::is_in_range, crate::specs::Fields::local_start))]
-fn local_start(segment: &[Mark]) -> Option<u64>
-    ensures value { result
-        ≡ (if names_minute segment.now then Some (local_start segment.now) else None) }
-    ensures century { IfSome result (λ second. (3155673600 ≤ second) × (second < 6311433600)) }
-{
-    if is_in_range(segment) {
-        let (year, month, day) = (year_of(segment), month_of(segment), day_of(segment));
-        from_date(year, month, day, hour_of(segment), minute_of(segment), 0)
-    } else {
-        None
-    }
-}
-
-// The absolute second at which the minute begins that the segment says.
-pub(crate) fn minute_start(segment: &[Mark]) -> Option<u64>
-    ensures value { result
-        ≡ (if names_minute segment.now then Some (minute_start segment.now) else None) }
-    ensures century { IfSome result (λ second. (3155666400 ≤ second) × (second < 6311433600)) }
-{
-    match local_start(segment) {
-        Some(second) => Some(second - HOUR * u64::from(hours_ahead(is_summer(segment)))),
-        None => None,
-    }
-}
-
-// The year has no such month and day.
-#[tactic(auto, unfolding(crate::specs::Rules::names_minute))]
-pub(crate) fn breaks_date(segment: &[Mark]) -> bool
-    ensures { result ≡ breaks_date segment.now }
-{
-    is_in_range(segment) && local_start(segment).is_none()
-}
-
-// The weekday isn't that of the date.
-pub(crate) fn breaks_weekday(segment: &[Mark]) -> bool
-    ensures { result ≡ breaks_weekday segment.now }
-{
-    match local_start(segment) {
-        Some(second) => weekday_of(segment) != u32::from(weekday(second)),
-        None => false,
-    }
-}
 
 // Whether a leap second is announced and a month begins at this second.
 fn ends_with_leap(segment: &[Mark], second: u64) -> bool
@@ -99,10 +35,12 @@ fn has_wrong_length(segment: &[Mark], second: u64) -> bool
 }
 
 // The 60th mark is there without reason or is wanting, or it is 1.
-pub(crate) fn breaks_leap_minute(segment: &[Mark]) -> bool
+pub(crate) fn breaks_leap_minute(segment: &[Mark], civil: &CivilTime) -> bool
+    requires read { civil.now ≡ said segment.now }
+    requires ahead { civil.now.hours_ahead ≤ 2 }
     ensures { result ≡ breaks_leap_minute segment.now }
 {
-    match minute_start(segment) {
+    match civil.minute_start() {
         Some(second) => has_wrong_length(segment, second) || is_set(Bit::Only, segment, 59),
         None => false,
     }
@@ -110,14 +48,14 @@ pub(crate) fn breaks_leap_minute(segment: &[Mark]) -> bool
 
 // The minute of a segment that says one, and the leap second that it announces.
 #[tactic(auto, unfolding(crate::specs::Fields::coded))]
-pub(crate) fn coded(segment: &[Mark]) -> Coded
-    requires { IsTrue (names_minute segment.now) }
+pub(crate) fn coded(segment: &[Mark], civil: &CivilTime) -> Coded
+    requires read { civil.now ≡ said segment.now }
+    requires ahead { civil.now.hours_ahead ≤ 2 }
+    requires named { IsTrue (names_minute civil.now) }
     ensures value { result ≡ coded segment.now }
-    ensures century { (3155666400 ≤ result.minute) × (result.minute < 6311433600) }
-    ensures leap { result.leap_at ≢ 0
-        → (result.minute ≤ result.leap_at) × (result.leap_at ≤ 6311433600) }
+    ensures dated { IsDated 3155666400 6311433600 result }
 {
-    match minute_start(segment) {
+    match civil.minute_start() {
         Some(minute) => {
             let midnight = minute.div_ceil(DAY) * DAY;
             Coded {

@@ -1,9 +1,11 @@
 //! What a segment comes to.
-ghost use Rattle.std.specs.Prelude.{◌≡◌, ◌≢◌, ◌<◌, ◌≤◌, None, Some, IfOk, IfErr};
+ghost use Rattle.std.specs.Prelude.{◌≡◌, None, Some, IfOk, IfErr};
+ghost use Rattle.civil_frame.specs.Seconds.{IsDated};
 ghost use Rattle.plan_dcf.specs.Fields.{coded};
 ghost use Rattle.plan_dcf.specs.Rules.{first};
 
 use crate::dates::coded;
+use crate::fields::said;
 use crate::rules::first_broken_rule;
 use tick_units::{Broken, Coded, Local, Mark};
 
@@ -13,13 +15,12 @@ pub fn read(segment: &[Mark], _close: Local) -> Result<Coded, Broken>
     ensures ok { IfOk result (λ c. (first segment.now ≡ None) × (c ≡ coded segment.now)) }
     ensures err { IfErr result (λ broken. first segment.now ≡ Some broken.rule) }
 
-    // In German time it is a minute of the years 2000 to 2099, and a leap second comes no earlier.
-    ensures century { IfOk result (λ c. (3155666400 ≤ c.minute) × (c.minute < 6311433600)) }
-    ensures leap { IfOk result (λ c. c.leap_at ≢ 0
-        → (c.minute ≤ c.leap_at) × (c.leap_at ≤ 6311433600)) }
+    // In German time it is a minute of the years 2000 to 2099.
+    ensures dated { IfOk result (λ c. IsDated 3155666400 6311433600 c) }
 {
-    match first_broken_rule(segment) {
+    let civil = said(segment);
+    match first_broken_rule(segment, &civil) {
         Some(rule) => Err(Broken { rule }),
-        None => Ok(coded(segment)),
+        None => Ok(coded(segment, &civil)),
     }
 }

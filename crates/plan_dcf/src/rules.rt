@@ -1,30 +1,13 @@
 //! The rules of DCF77, each a test of a whole segment that is true where the rule is broken.
-ghost use Rattle.std.specs.Prelude.{◌≡◌};
-ghost use Rattle.plan_dcf.specs.Rules.{breaks_spacing, breaks_width, breaks_length, breaks_start_bit, breaks_zone_bits, breaks_time_bit, breaks_minute_parity, breaks_hour_parity, breaks_date_parity, breaks_minute_range, breaks_hour_range, breaks_day_range, breaks_weekday_range, breaks_month_range, breaks_year_range, first};
+ghost use Rattle.std.specs.Prelude.{◌≡◌, ◌≤◌};
+ghost use Rattle.plan_dcf.specs.Fields.{said};
+ghost use Rattle.plan_dcf.specs.Rules.{breaks_length, breaks_start_bit, breaks_zone_bits, breaks_time_bit, breaks_minute_parity, breaks_hour_parity, breaks_date_parity, first};
 
-use crate::dates::{breaks_date, breaks_leap_minute, breaks_weekday};
-use crate::fields::{
-    day_of, day_ones, hour_of, hour_ones, is_standard, is_summer, minute_of, minute_ones, month_of,
-    month_ones, weekday_of, year_ones, year_tens,
-};
-use frame_rules::{
-    Bit, Rule, are_spaced, first_broken, has_odd_symbol, is_odd_over, is_out_of, is_set,
-};
+use crate::dates::breaks_leap_minute;
+use crate::fields::{is_standard, is_summer};
+use civil_frame::{CivilTime, breaks_year_range};
+use frame_rules::{Bit, Rule, breaks_spacing, breaks_width, first_broken, is_odd_over, is_set};
 use tick_units::Mark;
-
-// Two neighbouring marks don't start 900000 to 1100000 microseconds apart.
-fn breaks_spacing(segment: &[Mark]) -> bool
-    ensures { result ≡ breaks_spacing segment.now }
-{
-    !are_spaced(segment)
-}
-
-// A width is in no class.
-fn breaks_width(segment: &[Mark]) -> bool
-    ensures { result ≡ breaks_width segment.now }
-{
-    has_odd_symbol(segment)
-}
 
 // There are neither 59 nor 60 marks.
 fn breaks_length(segment: &[Mark]) -> bool
@@ -72,46 +55,11 @@ fn breaks_date_parity(segment: &[Mark]) -> bool
     is_odd_over(Bit::Only, segment, 36, 58)
 }
 
-pub(crate) fn breaks_minute_range(segment: &[Mark]) -> bool
-    ensures { result ≡ breaks_minute_range segment.now }
-{
-    is_out_of(0, 59, minute_ones(segment), minute_of(segment))
-}
-
-pub(crate) fn breaks_hour_range(segment: &[Mark]) -> bool
-    ensures { result ≡ breaks_hour_range segment.now }
-{
-    is_out_of(0, 23, hour_ones(segment), hour_of(segment))
-}
-
-pub(crate) fn breaks_day_range(segment: &[Mark]) -> bool
-    ensures { result ≡ breaks_day_range segment.now }
-{
-    is_out_of(1, 31, day_ones(segment), day_of(segment))
-}
-
-pub(crate) fn breaks_weekday_range(segment: &[Mark]) -> bool
-    ensures { result ≡ breaks_weekday_range segment.now }
-{
-    weekday_of(segment) == 0
-}
-
-pub(crate) fn breaks_month_range(segment: &[Mark]) -> bool
-    ensures { result ≡ breaks_month_range segment.now }
-{
-    is_out_of(1, 12, month_ones(segment), month_of(segment))
-}
-
-// A digit is above 9.
-pub(crate) fn breaks_year_range(segment: &[Mark]) -> bool
-    ensures { result ≡ breaks_year_range segment.now }
-{
-    year_ones(segment) > 9 || year_tens(segment) > 9
-}
-
 // The least number of a rule that the segment breaks.
 #[tactic(auto, unfolding(crate::specs::Rules::first))]
-pub(crate) fn first_broken_rule(segment: &[Mark]) -> Option<u8>
+pub(crate) fn first_broken_rule(segment: &[Mark], civil: &CivilTime) -> Option<u8>
+    requires read { civil.now ≡ said segment.now }
+    requires ahead { civil.now.hours_ahead ≤ 2 }
     ensures { result ≡ first segment.now }
 {
     first_broken(&[
@@ -124,14 +72,14 @@ pub(crate) fn first_broken_rule(segment: &[Mark]) -> Option<u8>
         Rule::new(13, breaks_minute_parity(segment)),
         Rule::new(14, breaks_hour_parity(segment)),
         Rule::new(15, breaks_date_parity(segment)),
-        Rule::new(16, breaks_minute_range(segment)),
-        Rule::new(17, breaks_hour_range(segment)),
-        Rule::new(18, breaks_day_range(segment)),
-        Rule::new(19, breaks_weekday_range(segment)),
-        Rule::new(20, breaks_month_range(segment)),
-        Rule::new(21, breaks_year_range(segment)),
-        Rule::new(22, breaks_date(segment)),
-        Rule::new(23, breaks_weekday(segment)),
-        Rule::new(24, breaks_leap_minute(segment)),
+        Rule::new(16, civil.time.breaks_minute_range()),
+        Rule::new(17, civil.time.breaks_hour_range()),
+        Rule::new(18, civil.breaks_day_range()),
+        Rule::new(19, civil.breaks_weekday_range()),
+        Rule::new(20, civil.breaks_month_range()),
+        Rule::new(21, breaks_year_range(civil.year)),
+        Rule::new(22, civil.breaks_date()),
+        Rule::new(23, civil.breaks_weekday()),
+        Rule::new(24, breaks_leap_minute(segment, civil)),
     ])
 }

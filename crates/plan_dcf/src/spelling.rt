@@ -8,11 +8,10 @@ ghost use Rattle.plan_dcf.specs.Rules.{first};
 ghost use Rattle.plan_dcf.specs.Spelling.{IsSpellable, bits_of, digits_of, parity_of, with_parity, head_of, date_of, last_of, frame_of, spelt, Agrees};
 
 use crate::fields::hours_ahead;
+use civil_frame::local_second;
 use civil_minute::{CivilMinute, civil_at, weekday};
 use frame_rules::{Spelling, bit_symbol};
 use tick_units::{Coded, Symbol};
-
-const HOUR: u64 = 3_600;
 
 // Puts so many low bits of a number at the end, the lowest first.
 fn push_bits(frame: &mut Spelling, count: usize, number: u32)
@@ -120,7 +119,7 @@ pub fn spell(c: &Coded, out: &mut [Symbol; 61]) -> usize
     ensures read_back { (marks : List Mark) → Agrees marks (spelt c.now)
         → (first marks ≡ None) × (coded marks ≡ c.now) }
 {
-    let local = c.minute + HOUR * u64::from(hours_ahead(c.summer));
+    let local = local_second(c, hours_ahead(c.summer));
     let civil = civil_at(local);
     frame_of(c, &civil, u32::from(weekday(local))).write_to(out)
 }

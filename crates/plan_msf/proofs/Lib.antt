@@ -1,5 +1,4 @@
 pub mod FirstLaws
-pub mod NamedMinute
 pub mod ReadBack
 pub mod RoundTrip
 pub mod Validity

@@ -4,14 +4,16 @@ use Rattle.std.specs.Prelude.{if◌then◌else◌}
 use Rattle.std.specs.List.{range_with_len}
 use Rattle.std.proofs.lemmas.Bool.Decides.{nat_tests}
 use Rattle.std.proofs.lemmas.List.Sums.{sum_by-cons}
-use Rattle.tick_units.specs.Digits.{high_bits_of, bit_symbol}
+use Rattle.tick_units.specs.Digits.{high_bits_of}
 use Rattle.tick_units.specs.Fields.{has_a, has_b, is_set, bit_at, ones, value, has_pattern, symbols_of}
 use Rattle.tick_units.specs.Rules.{is_odd, has_odd_symbol}
 use Rattle.tick_units.specs.declared.marks.Mark.{Mark}
 use Rattle.civil_minute.specs.declared.seconds.CivilMinute.{CivilMinute}
-use Rattle.frame_rules.proofs.HighBits.{Tells, three_worth, digit_worth, number_worth_1, number_worth_2, number_worth_3, number_worth_4}
+use Rattle.frame_rules.proofs.BitSymbols.{is_odd-bit_symbol}
+use Rattle.frame_rules.proofs.HighBits.{Tells, three_worth, digit_worth, tens_worth_1, tens_worth_2, tens_worth_3, tens_worth_4}
 use Rattle.frame_rules.proofs.Template.{has_odd_symbol-symbols_of}
-use Rattle.plan_msf.specs.Fields.{is_summer, minute_ones, minute_of, hour_ones, hour_of, day_ones, day_of, weekday_of, month_ones, month_of, year_ones, year_tens, year_of}
+use Rattle.civil_frame.proofs.Says.{HasNumbers}
+use Rattle.plan_msf.specs.Fields.{is_summer, said}
 use Rattle.plan_msf.specs.Rules.{is_even_with}
 use Rattle.plan_msf.specs.Spelling.{with_b, year_of as year_symbols, date_of, time_of, frame_of}
 
@@ -58,10 +60,6 @@ pub length-frame_of : (summer : Bool) (civil : CivilMinute) (weekday : ℕ) → 
 unfolding frame_of
 length-frame_of summer civil weekday = refl
 
-is_odd-bit_symbol : (bit : Bool) → is_odd (bit_symbol bit) ≡ false
-is_odd-bit_symbol true = refl
-is_odd-bit_symbol false = refl
-
 is_odd-with_b : (bit : Bool) → is_odd (with_b bit) ≡ false
 is_odd-with_b true = refl
 is_odd-with_b false = refl
@@ -71,36 +69,16 @@ unfolding frame_of
 has_odd_symbol-spelt summer civil weekday marks e = rw (has_odd_symbol-symbols_of marks, e) (simp (is_odd-bit_symbol, is_odd-with_b))
 
 -- the numbers of a frame
-pub record HasNumbers (civil : CivilMinute) (weekday : ℕ) (marks : List Mark) : Type 0 where
-  pub minute_digit : minute_ones marks ≡ civil.minute % 10
-  pub minute : minute_of marks ≡ civil.minute
-  pub hour_digit : hour_ones marks ≡ civil.hour % 10
-  pub hour : hour_of marks ≡ civil.hour
-  pub day_digit : day_ones marks ≡ civil.day % 10
-  pub day : day_of marks ≡ civil.day
-  pub days : weekday_of marks ≡ weekday
-  pub month_digit : month_ones marks ≡ civil.month % 10
-  pub month : month_of marks ≡ civil.month
-  pub year_digit : year_ones marks ≡ civil.year % 100 % 10
-  pub year_decade : year_tens marks ≡ civil.year % 100 / 10
-  pub year : year_of marks ≡ civil.year % 100
-
 pub HasNumbers-spelt : (summer : Bool) (civil : CivilMinute) (weekday : ℕ) (marks : List Mark) → symbols_of marks ≡ frame_of summer civil weekday →
-    civil.minute < 60 → civil.hour < 24 → civil.day < 32 → weekday < 8 → civil.month < 13 → HasNumbers civil weekday marks
-unfolding frame_of
+    civil.minute < 60 → civil.hour < 24 → civil.day < 32 → weekday < 8 → civil.month < 13 → HasNumbers (said marks) civil weekday
+unfolding frame_of said
 HasNumbers-spelt summer civil weekday marks e minute hour day week month = record {
-  minute_digit = rw e (digit_worth has_a tells_a (civil.minute % 10) (omega arith));
-  minute = rw e (number_worth_3 has_a tells_a civil.minute (omega arith));
-  hour_digit = rw e (digit_worth has_a tells_a (civil.hour % 10) (omega arith));
-  hour = rw e (number_worth_2 has_a tells_a civil.hour (omega arith));
-  day_digit = rw e (digit_worth has_a tells_a (civil.day % 10) (omega arith));
-  day = rw e (number_worth_2 has_a tells_a civil.day (omega arith));
+  year = record { tens = rw e (tens_worth_4 has_a tells_a (civil.year % 100 / 10) (omega arith)); ones = rw e (digit_worth has_a tells_a (civil.year % 100 % 10) (omega arith)) };
+  month = record { tens = rw e (tens_worth_1 has_a tells_a (civil.month / 10) (omega arith)); ones = rw e (digit_worth has_a tells_a (civil.month % 10) (omega arith)) };
+  day = record { tens = rw e (tens_worth_2 has_a tells_a (civil.day / 10) (omega arith)); ones = rw e (digit_worth has_a tells_a (civil.day % 10) (omega arith)) };
+  hour = record { tens = rw e (tens_worth_2 has_a tells_a (civil.hour / 10) (omega arith)); ones = rw e (digit_worth has_a tells_a (civil.hour % 10) (omega arith)) };
+  minute = record { tens = rw e (tens_worth_3 has_a tells_a (civil.minute / 10) (omega arith)); ones = rw e (digit_worth has_a tells_a (civil.minute % 10) (omega arith)) };
   days = rw e (three_worth has_a tells_a weekday week);
-  month_digit = rw e (digit_worth has_a tells_a (civil.month % 10) (omega arith));
-  month = rw e (number_worth_1 has_a tells_a civil.month (omega arith));
-  year_digit = rw e (digit_worth has_a tells_a (civil.year % 100 % 10) (omega arith));
-  year_decade = rw e (digit_worth has_a tells_a (civil.year % 100 / 10) (omega arith));
-  year = rw e (number_worth_4 has_a tells_a (civil.year % 100) (omega arith));
 }
 
 -- ---- marks that agree in the bits that are read
@@ -142,18 +120,19 @@ HasBits-same summer a b h bits = record {
   summer_time = h.bits_b 58 (omega arith) (omega arith) ∙ bits.summer_time;
 }
 
-pub HasNumbers-same : (civil : CivilMinute) (weekday : ℕ) (a b : List Mark) → IsReadAs a b → HasNumbers civil weekday b → HasNumbers civil weekday a
-HasNumbers-same civil weekday a b h numbers = record {
-  minute_digit = value_same a b h 48 (8 ∷ 4 ∷ 2 ∷ 1 ∷ []) (omega arith) ∙ numbers.minute_digit;
-  minute = value_same a b h 45 (40 ∷ 20 ∷ 10 ∷ 8 ∷ 4 ∷ 2 ∷ 1 ∷ []) (omega arith) ∙ numbers.minute;
-  hour_digit = value_same a b h 41 (8 ∷ 4 ∷ 2 ∷ 1 ∷ []) (omega arith) ∙ numbers.hour_digit;
-  hour = value_same a b h 39 (20 ∷ 10 ∷ 8 ∷ 4 ∷ 2 ∷ 1 ∷ []) (omega arith) ∙ numbers.hour;
-  day_digit = value_same a b h 32 (8 ∷ 4 ∷ 2 ∷ 1 ∷ []) (omega arith) ∙ numbers.day_digit;
-  day = value_same a b h 30 (20 ∷ 10 ∷ 8 ∷ 4 ∷ 2 ∷ 1 ∷ []) (omega arith) ∙ numbers.day;
-  days = value_same a b h 36 (4 ∷ 2 ∷ 1 ∷ []) (omega arith) ∙ numbers.days;
-  month_digit = value_same a b h 26 (8 ∷ 4 ∷ 2 ∷ 1 ∷ []) (omega arith) ∙ numbers.month_digit;
-  month = value_same a b h 25 (10 ∷ 8 ∷ 4 ∷ 2 ∷ 1 ∷ []) (omega arith) ∙ numbers.month;
-  year_digit = value_same a b h 21 (8 ∷ 4 ∷ 2 ∷ 1 ∷ []) (omega arith) ∙ numbers.year_digit;
-  year_decade = value_same a b h 17 (8 ∷ 4 ∷ 2 ∷ 1 ∷ []) (omega arith) ∙ numbers.year_decade;
-  year = value_same a b h 17 (80 ∷ 40 ∷ 20 ∷ 10 ∷ 8 ∷ 4 ∷ 2 ∷ 1 ∷ []) (omega arith) ∙ numbers.year;
-}
+pub said-same : (a b : List Mark) → IsReadAs a b → said a ≡ said b
+unfolding said
+said-same a b h = rw (
+  value_same a b h 17 (80 ∷ 40 ∷ 20 ∷ 10 ∷ []) (omega arith),
+  value_same a b h 21 (8 ∷ 4 ∷ 2 ∷ 1 ∷ []) (omega arith),
+  value_same a b h 25 (10 ∷ []) (omega arith),
+  value_same a b h 26 (8 ∷ 4 ∷ 2 ∷ 1 ∷ []) (omega arith),
+  value_same a b h 30 (20 ∷ 10 ∷ []) (omega arith),
+  value_same a b h 32 (8 ∷ 4 ∷ 2 ∷ 1 ∷ []) (omega arith),
+  value_same a b h 36 (4 ∷ 2 ∷ 1 ∷ []) (omega arith),
+  value_same a b h 39 (20 ∷ 10 ∷ []) (omega arith),
+  value_same a b h 41 (8 ∷ 4 ∷ 2 ∷ 1 ∷ []) (omega arith),
+  value_same a b h 45 (40 ∷ 20 ∷ 10 ∷ []) (omega arith),
+  value_same a b h 48 (8 ∷ 4 ∷ 2 ∷ 1 ∷ []) (omega arith),
+  h.bits_b 58 (omega arith) (omega arith),
+) refl

@@ -1,9 +1,9 @@
 -- How MSF spells a minute (NPL): the civil time of the minute that begins after the frame, the highest bits first, with odd
 -- parities. What the code carries besides is left 0.
-use Rattle.std.specs.Prelude.{◌≡◌, ℕ, ◌+◌, ◌*◌, ◌%◌, ◌<◌, ◌≤◌, Bool, false, true, ◌==◌, IsTrue, IsFalse, List, [], ◌∷◌, ◌++◌, replicate, length, slice_index_or, count_by}
+use Rattle.std.specs.Prelude.{◌≡◌, ℕ, ◌%◌, ◌≤◌, Bool, false, true, ◌==◌, List, [], ◌∷◌, ◌++◌, replicate, slice_index_or, count_by}
 use Rattle.tick_units.specs.Digits.{high_bits_of, high_digits_of}
 use Rattle.tick_units.specs.Fields.{has_a, has_b, is_set}
-use Rattle.tick_units.specs.Rules.{are_spaced_to, has_odd_symbol}
+use Rattle.tick_units.specs.Rules.{are_spaced_to}
 use Rattle.tick_units.specs.declared.marks.Mark.{Mark}
 use Rattle.tick_units.specs.declared.marks.Symbol.{Symbol}
 use Rattle.tick_units.specs.declared.marks.Symbol.TheVariants.{Zero, One, Both, Long}
@@ -11,17 +11,13 @@ use Rattle.tick_units.specs.declared.verdicts.Coded.{Coded}
 use Rattle.civil_minute.specs.Dates.{weekday_of}
 use Rattle.civil_minute.specs.Seconds.{civil_of}
 use Rattle.civil_minute.specs.declared.seconds.CivilMinute.{CivilMinute}
+use Rattle.frame_rules.specs.MarkRules.{Fits}
+use Rattle.civil_frame.specs.Seconds.{local_second, IsInCentury}
 use Rattle.plan_msf.specs.Fields.{hours_ahead}
 
--- the second at which a clock that shows UTC shows what a UK clock shows at the minute
-abbrev pub local_second : Coded → ℕ
-local_second c = c.minute + 3600 * hours_ahead c.summer
-
--- a whole minute of the years 2000 to 2099 there, and no leap second, since MSF announces none
+-- a whole minute of the years 2000 to 2099 by UK time, and no leap second, since MSF announces none
 pub record IsSpellable (c : Coded) : Type 0 where
-  pub whole : c.minute % 60 ≡ 0
-  pub from : 3155673600 ≤ local_second c
-  pub below : local_second c < 6311433600
+  pub minute : IsInCentury c.minute (local_second hours_ahead c)
   pub leap : c.leap_at ≡ 0
 
 -- a place whose bit A is 1, by its bit B
@@ -52,13 +48,11 @@ frame_of summer civil weekday = Long ∷ replicate 16 Zero ++ year_of civil ++ d
 
 -- the symbols of a spellable minute
 unfoldable pub spelt : Coded → List Symbol
-spelt c = frame_of c.summer (civil_of (local_second c)) (weekday_of (local_second c) % 7)
+spelt c = frame_of c.summer (civil_of (local_second hours_ahead c)) (weekday_of (local_second hours_ahead c) % 7)
 
 -- lawful marks that agree with these symbols in their number and in each bit that isn't passed over: bits A from place 17
 -- on, and bits B of places 54 to 58
 pub record Agrees (marks : List Mark) (close : ℕ) (symbols : List Symbol) : Type 0 where
-  pub spacing : IsTrue (are_spaced_to marks close)
-  pub width : IsFalse (has_odd_symbol marks)
-  pub count : length marks ≡ length symbols
+  pub shape : Fits (are_spaced_to marks close) marks symbols
   pub bits_a : (place : ℕ) → 17 ≤ place → is_set has_a marks place ≡ has_a (slice_index_or symbols place Zero)
   pub bits_b : (place : ℕ) → 54 ≤ place → place ≤ 58 → is_set has_b marks place ≡ has_b (slice_index_or symbols place Zero)

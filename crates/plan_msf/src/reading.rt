@@ -1,9 +1,11 @@
 //! What a segment comes to.
-ghost use Rattle.std.specs.Prelude.{◌≡◌, ◌<◌, ◌≤◌, None, Some, IfOk, IfErr};
+ghost use Rattle.std.specs.Prelude.{◌≡◌, None, Some, IfOk, IfErr};
+ghost use Rattle.civil_frame.specs.Seconds.{IsDated};
 ghost use Rattle.plan_msf.specs.Fields.{coded};
 ghost use Rattle.plan_msf.specs.Rules.{first};
 
 use crate::dates::coded;
+use crate::fields::said;
 use crate::rules::first_broken_rule;
 use tick_units::{Broken, Coded, Local, Mark};
 
@@ -14,10 +16,12 @@ pub fn read(segment: &[Mark], close: Local) -> Result<Coded, Broken>
     ensures err { IfErr result (λ broken. first segment.now close ≡ Some broken.rule) }
 
     // In UK time it is a minute of the years 2000 to 2099.
-    ensures century { IfOk result (λ c. (3155670000 ≤ c.minute) × (c.minute < 6311433600)) }
+    ensures dated { IfOk result (λ c. IsDated 3155670000 6311433600 c) }
+    ensures no_leap { IfOk result (λ c. c.leap_at ≡ 0) }
 {
-    match first_broken_rule(segment, close) {
+    let civil = said(segment);
+    match first_broken_rule(segment, close, &civil) {
         Some(rule) => Err(Broken { rule }),
-        None => Ok(coded(segment)),
+        None => Ok(coded(segment, &civil)),
     }
 }

@@ -9,11 +9,10 @@ ghost use Rattle.plan_msf.specs.Rules.{first};
 ghost use Rattle.plan_msf.specs.Spelling.{IsSpellable, with_b, parity_of, year_of, date_of, time_of, frame_of, spelt, Agrees};
 
 use crate::fields::hours_ahead;
+use civil_frame::local_second;
 use civil_minute::{CivilMinute, civil_at, weekday};
 use frame_rules::{Bit, Spelling};
 use tick_units::{Coded, Symbol};
-
-const HOUR: u64 = 3_600;
 
 // The symbol of a place whose bit A is 1, by its bit B.
 fn with_b(bit: bool) -> Symbol
@@ -124,7 +123,7 @@ pub fn spell(c: &Coded, out: &mut [Symbol; 61]) -> usize
     ensures read_back { (marks : List Mark) → (close : ℕ) → Agrees marks close (spelt c.now)
         → (first marks close ≡ None) × (coded marks ≡ c.now) }
 {
-    let local = c.minute + HOUR * u64::from(hours_ahead(c.summer));
+    let local = local_second(c, hours_ahead(c.summer));
     let civil = civil_at(local);
     frame_of(c.summer, &civil, u32::from(weekday(local)) % 7).write_to(out)
 }

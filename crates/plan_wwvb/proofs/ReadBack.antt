@@ -3,37 +3,24 @@ use Rattle.std.proofs.Common.{◌≡◌, ℕ, zero, suc, ◌+◌, ◌*◌, ◌/�
 use Rattle.std.proofs.lemmas.Bool.{cases_eq}
 use Rattle.std.proofs.lemmas.Bool.Decides.{nat_tests}
 use Rattle.std.specs.List.{list_any, range_with_len}
-use Rattle.tick_units.specs.Digits.{bit_symbol}
 use Rattle.tick_units.specs.Fields.{is_one, is_set, value, has_pattern, symbols_of}
 use Rattle.tick_units.specs.Marks.{is_long}
-use Rattle.tick_units.specs.Rules.{is_odd, has_odd_symbol}
+use Rattle.tick_units.specs.Rules.{has_odd_symbol}
 use Rattle.tick_units.specs.declared.marks.Mark.{Mark}
 use Rattle.tick_units.specs.declared.marks.Symbol.{Symbol}
 use Rattle.tick_units.specs.declared.marks.Symbol.TheVariants.{Zero}
 use Rattle.civil_minute.specs.declared.seconds.CivilMinute.{CivilMinute}
-use Rattle.frame_rules.proofs.HighBits.{Tells, worth, bit_worth, digit_worth}
+use Rattle.frame_rules.proofs.BitSymbols.{is_one-bit_symbol, is_long-bit_symbol, is_odd-bit_symbol}
+use Rattle.frame_rules.proofs.HighBits.{Tells, worth, bit_worth, digit_worth, tens_worth_2, tens_worth_3, tens_worth_4}
 use Rattle.frame_rules.proofs.Template.{has_odd_symbol-symbols_of}
-use Rattle.plan_wwvb.specs.Fields.{marker_places, is_marker_place, zero_places, minute_ones, minute_of, hour_ones, hour_of, day_ones, day_tens, day_of, year_ones, year_tens, year_of, announces_leap}
+use Rattle.civil_frame.proofs.Says.{HasDigits}
+use Rattle.plan_wwvb.specs.Fields.{marker_places, is_marker_place, zero_places, announces_leap, said}
+use Rattle.plan_wwvb.specs.declared.fields.OrdinalTime.{OrdinalTime}
 use Rattle.plan_wwvb.specs.Rules.{lacks_marker, breaks_reserved}
 use Rattle.plan_wwvb.specs.Spelling.{frame_of, is_free}
 
 tells_one : Tells is_one
 tells_one = record { of_one = refl; of_zero = refl }
-
-tens_worth : (n : ℕ) → n < 16 → 80 * worth is_one (n / 8 % 2) + (40 * worth is_one (n / 4 % 2) + (20 * worth is_one (n / 2 % 2) + (10 * worth is_one (n / 1 % 2) + 0))) ≡ 10 * n
-tens_worth n h = omega (arith, bit_worth is_one tells_one (n / 8), bit_worth is_one tells_one (n / 4), bit_worth is_one tells_one (n / 2), bit_worth is_one tells_one (n / 1))
-
-is_one-bit_symbol : (bit : Bool) → is_one (bit_symbol bit) ≡ bit
-is_one-bit_symbol true = refl
-is_one-bit_symbol false = refl
-
-is_long-bit_symbol : (bit : Bool) → is_long (bit_symbol bit) ≡ false
-is_long-bit_symbol true = refl
-is_long-bit_symbol false = refl
-
-is_odd-bit_symbol : (bit : Bool) → is_odd (bit_symbol bit) ≡ false
-is_odd-bit_symbol true = refl
-is_odd-bit_symbol false = refl
 
 -- a place that is Long and shouldn't be
 abbrev pub strays : List Mark → ℕ → Bool
@@ -68,32 +55,28 @@ unfolding frame_of
 has_odd_symbol-spelt leap civil day marks e = rw (has_odd_symbol-symbols_of marks, e) (simp is_odd-bit_symbol)
 
 -- the numbers of a frame
-pub record HasNumbers (civil : CivilMinute) (day : ℕ) (marks : List Mark) : Type 0 where
-  pub minute_digit : minute_ones marks ≡ civil.minute % 10
-  pub minute : minute_of marks ≡ civil.minute
-  pub hour_digit : hour_ones marks ≡ civil.hour % 10
-  pub hour : hour_of marks ≡ civil.hour
-  pub day_digit : day_ones marks ≡ day % 10
-  pub day_decade : day_tens marks ≡ day / 10 % 10
-  pub day_number : day_of marks ≡ day
-  pub year_digit : year_ones marks ≡ civil.year % 100 % 10
-  pub year_decade : year_tens marks ≡ civil.year % 100 / 10
-  pub year : year_of marks ≡ civil.year % 100
+pub record HasNumbers (ordinal : OrdinalTime) (civil : CivilMinute) (day : ℕ) : Type 0 where
+  pub minute : HasDigits ordinal.time.minute civil.minute
+  pub hour : HasDigits ordinal.time.hour civil.hour
+  pub hundreds : ordinal.hundreds ≡ 100 * (day / 100)
+  pub days : HasDigits ordinal.day (day % 100)
+  pub year : HasDigits ordinal.year (civil.year % 100)
+
+hundreds_worth : (n : ℕ) → n < 4 → 200 * worth is_one (n / 2 % 2) + (100 * worth is_one (n / 1 % 2) + 0) ≡ 100 * n
+hundreds_worth n h = omega (arith, bit_worth is_one tells_one (n / 2), bit_worth is_one tells_one (n / 1))
 
 pub HasNumbers-spelt : (leap : Bool) (civil : CivilMinute) (day : ℕ) (marks : List Mark) → symbols_of marks ≡ frame_of leap civil day →
-    civil.minute < 60 → civil.hour < 24 → day < 400 → HasNumbers civil day marks
-unfolding frame_of
+    civil.minute < 60 → civil.hour < 24 → day < 400 → HasNumbers (said marks) civil day
+unfolding frame_of said
 HasNumbers-spelt leap civil day marks e minute hour days = record {
-  minute_digit = rw e (digit_worth is_one tells_one (civil.minute % 10) (omega arith));
-  minute = rw e (omega (arith, digit_worth is_one tells_one (civil.minute % 10) (omega arith), bit_worth is_one tells_one (civil.minute / 10 / 4), bit_worth is_one tells_one (civil.minute / 10 / 2), bit_worth is_one tells_one (civil.minute / 10 / 1)));
-  hour_digit = rw e (digit_worth is_one tells_one (civil.hour % 10) (omega arith));
-  hour = rw e (omega (arith, digit_worth is_one tells_one (civil.hour % 10) (omega arith), bit_worth is_one tells_one (civil.hour / 10 / 2), bit_worth is_one tells_one (civil.hour / 10 / 1)));
-  day_digit = rw e (digit_worth is_one tells_one (day % 10) (omega arith));
-  day_decade = rw e (digit_worth is_one tells_one (day / 10 % 10) (omega arith));
-  day_number = rw e (omega (arith, tens_worth (day / 10 % 10) (omega arith), digit_worth is_one tells_one (day % 10) (omega arith), bit_worth is_one tells_one (day / 100 / 2), bit_worth is_one tells_one (day / 100 / 1)));
-  year_digit = rw e (digit_worth is_one tells_one (civil.year % 100 % 10) (omega arith));
-  year_decade = rw e (digit_worth is_one tells_one (civil.year % 100 / 10) (omega arith));
-  year = rw e (omega (arith, tens_worth (civil.year % 100 / 10) (omega arith), digit_worth is_one tells_one (civil.year % 100 % 10) (omega arith)));
+  minute = record { tens = rw e (tens_worth_3 is_one tells_one (civil.minute / 10) (omega arith)); ones = rw e (digit_worth is_one tells_one (civil.minute % 10) (omega arith)) };
+  hour = record { tens = rw e (tens_worth_2 is_one tells_one (civil.hour / 10) (omega arith)); ones = rw e (digit_worth is_one tells_one (civil.hour % 10) (omega arith)) };
+  hundreds = rw e (hundreds_worth (day / 100) (omega arith));
+  days = record {
+    tens = rw e (omega (arith, tens_worth_4 is_one tells_one (day / 10 % 10) (omega arith)));
+    ones = rw e (omega (arith, digit_worth is_one tells_one (day % 10) (omega arith)));
+  };
+  year = record { tens = rw e (tens_worth_4 is_one tells_one (civil.year % 100 / 10) (omega arith)); ones = rw e (digit_worth is_one tells_one (civil.year % 100 % 10) (omega arith)) };
 }
 
 -- ---- tests over places
@@ -143,19 +126,19 @@ any_same a b h test (place ∷ places) e =
     let parts = any_parts (is_free place) (list_any is_free places) e in
     rw (h place parts.0, any_same a b h test places parts.1) refl
 
-pub HasNumbers-same : (civil : CivilMinute) (day : ℕ) (a b : List Mark) → IsReadAs a b → HasNumbers civil day b → HasNumbers civil day a
-HasNumbers-same civil day a b h numbers = record {
-  minute_digit = early_same a b h 5 (8 ∷ 4 ∷ 2 ∷ 1 ∷ []) (omega arith) ∙ numbers.minute_digit;
-  minute = early_same a b h 1 (40 ∷ 20 ∷ 10 ∷ 0 ∷ 8 ∷ 4 ∷ 2 ∷ 1 ∷ []) (omega arith) ∙ numbers.minute;
-  hour_digit = early_same a b h 15 (8 ∷ 4 ∷ 2 ∷ 1 ∷ []) (omega arith) ∙ numbers.hour_digit;
-  hour = early_same a b h 12 (20 ∷ 10 ∷ 0 ∷ 8 ∷ 4 ∷ 2 ∷ 1 ∷ []) (omega arith) ∙ numbers.hour;
-  day_digit = early_same a b h 30 (8 ∷ 4 ∷ 2 ∷ 1 ∷ []) (omega arith) ∙ numbers.day_digit;
-  day_decade = early_same a b h 25 (8 ∷ 4 ∷ 2 ∷ 1 ∷ []) (omega arith) ∙ numbers.day_decade;
-  day_number = early_same a b h 22 (200 ∷ 100 ∷ 0 ∷ 80 ∷ 40 ∷ 20 ∷ 10 ∷ 0 ∷ 8 ∷ 4 ∷ 2 ∷ 1 ∷ []) (omega arith) ∙ numbers.day_number;
-  year_digit = late_same a b h 50 (8 ∷ 4 ∷ 2 ∷ 1 ∷ []) (omega arith) (omega arith) ∙ numbers.year_digit;
-  year_decade = late_same a b h 45 (8 ∷ 4 ∷ 2 ∷ 1 ∷ []) (omega arith) (omega arith) ∙ numbers.year_decade;
-  year = late_same a b h 45 (80 ∷ 40 ∷ 20 ∷ 10 ∷ 0 ∷ 8 ∷ 4 ∷ 2 ∷ 1 ∷ []) (omega arith) (omega arith) ∙ numbers.year;
-}
+pub said-same : (a b : List Mark) → IsReadAs a b → said a ≡ said b
+unfolding said
+said-same a b h = rw (
+  early_same a b h 1 (40 ∷ 20 ∷ 10 ∷ []) (omega arith),
+  early_same a b h 5 (8 ∷ 4 ∷ 2 ∷ 1 ∷ []) (omega arith),
+  early_same a b h 12 (20 ∷ 10 ∷ []) (omega arith),
+  early_same a b h 15 (8 ∷ 4 ∷ 2 ∷ 1 ∷ []) (omega arith),
+  early_same a b h 22 (200 ∷ 100 ∷ []) (omega arith),
+  early_same a b h 25 (80 ∷ 40 ∷ 20 ∷ 10 ∷ []) (omega arith),
+  early_same a b h 30 (8 ∷ 4 ∷ 2 ∷ 1 ∷ []) (omega arith),
+  late_same a b h 45 (80 ∷ 40 ∷ 20 ∷ 10 ∷ []) (omega arith) (omega arith),
+  late_same a b h 50 (8 ∷ 4 ∷ 2 ∷ 1 ∷ []) (omega arith) (omega arith),
+) refl
 
 stray_same : (a b : List Mark) → IsReadAs a b → ((place : ℕ) → is_free place ≡ true → is_set is_long a place ≡ false) → (place : ℕ) → strays b place ≡ false → (free : Bool) → is_free place ≡ free → strays a place ≡ false
 stray_same a b h long place e true free = rw (long place free) refl

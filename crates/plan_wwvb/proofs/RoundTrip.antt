@@ -1,5 +1,5 @@
 -- A segment that has the symbols of a spelling, and lawful spacing, is valid and says what was spelt.
-use Rattle.std.proofs.Common.{◌≡◌, ℕ, ◌+◌, ◌-◌, ◌*◌, ◌/◌, ◌%◌, ◌<◌, ◌≤◌, inl, inr, Bool, true, false, not, ◌&&◌, ◌||◌, ◌==◌, nat_lt, None, List, [], ◌∷◌, length, get_or, refl, sym, ap, ◌∙◌, arith}
+use Rattle.std.proofs.Common.{◌≡◌, ℕ, ◌+◌, ◌-◌, ◌*◌, ◌/◌, ◌%◌, ◌<◌, ◌≤◌, inl, inr, Bool, true, false, not, ◌&&◌, ◌||◌, ◌==◌, nat_lt, None, List, [], ◌∷◌, length, get_or, refl, sym, ap, subst, ◌∙◌, arith}
 use Rattle.std.proofs.lemmas.Bool.Decides.{nat_tests}
 use Rattle.std.proofs.lemmas.List.{length-map}
 use Rattle.std.specs.Prelude.{if◌then◌else◌}
@@ -15,12 +15,14 @@ use Rattle.civil_minute.specs.Months.{begins_month, month_after}
 use Rattle.civil_minute.specs.Seconds.{civil_of, day_of_year_of}
 use Rattle.civil_minute.specs.declared.seconds.CivilMinute.{CivilMinute}
 use Rattle.civil_minute.proofs.MonthEnds.{month_after-begun}
-use Rattle.frame_rules.proofs.Meanings.{is_out_of-within, digits-within, and_false, test_true, test_false}
+use Rattle.frame_rules.specs.Numbers.{number_of}
+use Rattle.frame_rules.proofs.Meanings.{is_out_of-within, and_false, test_true, test_false}
+use Rattle.civil_frame.proofs.Says.{number_is, within, year_within, year_is}
 use Rattle.frame_rules.proofs.Template.{template, symbols_of-template}
-use Rattle.plan_wwvb.specs.Fields.{is_marker_place, minute_ones, minute_of, hour_ones, hour_of, day_ones, day_tens, day_of, year_ones, year_tens, year_of, sent_start, leap_end, coded}
+use Rattle.plan_wwvb.specs.Fields.{is_marker_place, said, day_of_year, sent_start, leap_end, coded}
 use Rattle.plan_wwvb.specs.Rules.{has_stray_marker, names_minute, first}
 use Rattle.plan_wwvb.specs.Spelling.{IsSpellable, sent_second, frame_of, is_free, Agrees}
-use Rattle.plan_wwvb.proofs.ReadBack.{HasBits, HasBits-spelt, HasBits-same, HasNumbers, HasNumbers-spelt, HasNumbers-same, IsReadAs, strays, none_at, length-frame_of, has_odd_symbol-spelt, plus-spelt}
+use Rattle.plan_wwvb.proofs.ReadBack.{HasBits, HasBits-spelt, HasBits-same, HasNumbers, HasNumbers-spelt, said-same, IsReadAs, strays, none_at, length-frame_of, has_odd_symbol-spelt, plus-spelt}
 use Rattle.plan_wwvb.proofs.Validity.{IsValid, first-valid}
 
 -- what is known of a spelling's parts
@@ -54,18 +56,22 @@ bits_are c civil day marks close h =
     let frame = template (frame_of leap civil day) in
     HasBits-same leap marks frame (read_as c civil day marks close h) h.marks_agree.not_long (HasBits-spelt leap civil day frame (symbols_of-template (frame_of leap civil day)))
 
-numbers_of : (c : Coded) (civil : CivilMinute) (day : ℕ) (marks : List Mark) (close : ℕ) → IsFrameOf c civil day marks close → HasNumbers civil day marks
+numbers_of : (c : Coded) (civil : CivilMinute) (day : ℕ) (marks : List Mark) (close : ℕ) → IsFrameOf c civil day marks close → HasNumbers (said marks) civil day
 numbers_of c civil day marks close h =
     let leap = not (c.leap_at == 0) in
     let frame = template (frame_of leap civil day) in
     let hour = hour_is c civil day marks close h in
     let minute = minute_is c civil day marks close h in
-    HasNumbers-same civil day marks frame (read_as c civil day marks close h) (HasNumbers-spelt leap civil day frame (symbols_of-template (frame_of leap civil day)) (omega arith) (omega arith) (omega (arith, h.most, year_length-most civil.year)))
+    let spelt = HasNumbers-spelt leap civil day frame (symbols_of-template (frame_of leap civil day)) (omega arith) (omega arith) (omega (arith, h.most, year_length-most civil.year)) in
+    subst (λ s. HasNumbers s civil day) (sym (said-same marks frame (read_as c civil day marks close h))) spelt
 
-year_is : (c : Coded) (civil : CivilMinute) (day : ℕ) (marks : List Mark) (close : ℕ) → IsFrameOf c civil day marks close → 2000 + year_of marks ≡ civil.year
-year_is c civil day marks close h =
+year_same : (c : Coded) (civil : CivilMinute) (day : ℕ) (marks : List Mark) (close : ℕ) → IsFrameOf c civil day marks close → 2000 + number_of (said marks).year ≡ civil.year
+year_same c civil day marks close h = year_is (said marks).year civil.year (numbers_of c civil day marks close h).year h.from h.below
+
+day_same : (c : Coded) (civil : CivilMinute) (day : ℕ) (marks : List Mark) (close : ℕ) → IsFrameOf c civil day marks close → day_of_year (said marks) ≡ day
+day_same c civil day marks close h =
     let numbers = numbers_of c civil day marks close h in
-    omega (arith, numbers.year, h.from, h.below)
+    omega (arith, numbers.hundreds, numbers.days.tens, numbers.days.ones)
 
 sent_same : (y h n d year hour minute day : ℕ) → y ≡ year → h ≡ hour → n ≡ minute → d ≡ day → second_of y 1 1 h n + 86400 * (d - 1) ≡ second_of year 1 1 hour minute + 86400 * (day - 1)
 sent_same y h n d year hour minute day e f g p = rw (e, f, g, p) refl
@@ -74,15 +80,15 @@ sent_same y h n d year hour minute day e f g p = rw (e, f, g, p) refl
 day_place : (c : Coded) (civil : CivilMinute) (day : ℕ) (marks : List Mark) (close : ℕ) → IsFrameOf c civil day marks close → day ≡ sent_second c / 86400 + 1 - day_number civil.year 1 1
 day_place c civil day marks close h = h.day_is ∙ ap (λ m. sent_second c / 86400 + 1 - day_number m.year 1 1) (sym h.civil_is)
 
-sent_start_is : (c : Coded) (civil : CivilMinute) (day : ℕ) (marks : List Mark) (close : ℕ) → IsFrameOf c civil day marks close → sent_start marks ≡ sent_second c
+sent_start_is : (c : Coded) (civil : CivilMinute) (day : ℕ) (marks : List Mark) (close : ℕ) → IsFrameOf c civil day marks close → sent_start (said marks) ≡ sent_second c
 unfolding sent_start
 sent_start_is c civil day marks close h =
     let numbers = numbers_of c civil day marks close h in
     let hour = hour_is c civil day marks close h in
     let minute = minute_is c civil day marks close h in
     let place = day_place c civil day marks close h in
-    let whole : second_of civil.year 1 1 civil.hour civil.minute + 86400 * (day - 1) ≡ sent_second c = omega (arith, h.least, h.spellable.whole, h.spellable.from) in
-    sent_same (2000 + year_of marks) (hour_of marks) (minute_of marks) (day_of marks) civil.year civil.hour civil.minute day (year_is c civil day marks close h) numbers.hour numbers.minute numbers.day_number ∙ whole
+    let whole : second_of civil.year 1 1 civil.hour civil.minute + 86400 * (day - 1) ≡ sent_second c = omega (arith, h.least, h.spellable.minute.whole, h.spellable.minute.from) in
+    sent_same (2000 + number_of (said marks).year) (number_of (said marks).time.hour) (number_of (said marks).time.minute) (day_of_year (said marks)) civil.year civil.hour civil.minute day (year_same c civil day marks close h) (number_is (said marks).time.hour civil.hour numbers.hour) (number_is (said marks).time.minute civil.minute numbers.minute) (day_same c civil day marks close h) ∙ whole
 
 -- the leap second, in a frame that is sent at a second
 leap_is : (c : Coded) → IsSpellable c → (if not (c.leap_at == 0) then month_after (sent_second c) else 0) ≡ c.leap_at
@@ -97,14 +103,14 @@ unfolding coded
 coded-spelt c civil day marks close h =
     let bits = bits_are c civil day marks close h in
     let sent = sent_start_is c civil day marks close h in
-    let minute : sent_start marks + 60 ≡ c.minute = omega (arith, sent, h.spellable.from) in
+    let minute : sent_start (said marks) + 60 ≡ c.minute = omega (arith, sent, h.spellable.minute.from) in
     let leap : leap_end marks ≡ c.leap_at = rw (bits.announced, sent) (leap_is c h.spellable) in
     rw (minute, leap, ← h.spellable.summer) refl
 
 -- no leap second is announced in the last minute of a month
 begins_not : (begins : Bool) (c : Coded) → IsSpellable c → c.leap_at ≡ month_after (sent_second c) → c.minute < c.leap_at → begins_month (sent_second c + 60) ≡ begins → begins_month (sent_second c + 60) ≡ false
 begins_not false c s at after e = e
-begins_not true c s at after e = absurd (omega (arith, month_after-begun (sent_second c) e, s.from))
+begins_not true c s at after e = absurd (omega (arith, month_after-begun (sent_second c) e, s.minute.from))
 
 leap_minute_kept : (c : Coded) → IsSpellable c → (not (c.leap_at == 0) && begins_month (sent_second c + 60)) ≡ false
 leap_minute_kept c s =
@@ -127,23 +133,25 @@ IsValid-spelt c civil day marks close h =
     let numbers = numbers_of c civil day marks close h in
     let hour = hour_is c civil day marks close h in
     let minute = minute_is c civil day marks close h in
-    let count : length marks ≡ 60 = h.marks_agree.count ∙ length-frame_of (not (c.leap_at == 0)) civil day in
+    let count : length marks ≡ 60 = h.marks_agree.shape.count ∙ length-frame_of (not (c.leap_at == 0)) civil day in
     let sent = sent_start_is c civil day marks close h in
-    let length_is : year_length (2000 + year_of marks) ≡ year_length civil.year = ap year_length (year_is c civil day marks close h) in
-    let tens : nat_lt 9 (day_tens marks) ≡ false = grind (arith, nat_tests, numbers.day_decade) in
-    let days = is_out_of-within 1 (year_length (2000 + year_of marks)) (day_ones marks) (day_of marks) (omega (arith, numbers.day_digit)) (omega (arith, numbers.day_number, h.least)) (omega (arith, numbers.day_number, h.most, length_is)) in
+    let year = year_same c civil day marks close h in
+    let same = day_same c civil day marks close h in
+    let length_is : year_length (2000 + number_of (said marks).year) ≡ year_length civil.year = ap year_length year in
+    let tens : nat_lt 90 (said marks).day.tens ≡ false = grind (arith, nat_tests, numbers.days.tens) in
+    let days = is_out_of-within 1 (year_length (2000 + number_of (said marks).year)) (said marks).day.ones (day_of_year (said marks)) (omega (arith, numbers.days.ones)) (omega (arith, same, h.least)) (omega (arith, same, h.most, length_is)) in
     record {
-      spacing = rw h.marks_agree.spacing refl;
-      width = h.marks_agree.width;
+      spacing = rw h.marks_agree.shape.spacing refl;
+      width = h.marks_agree.shape.width;
       length = rw count refl;
       markers = rw (bits.markers, no_stray marks count bits.no_strays) refl;
       reserved = bits.zeros;
       dut_sign = sign_kept (has_pattern is_one marks 36 (true ∷ false ∷ true ∷ [])) (has_pattern is_one marks 36 (false ∷ true ∷ false ∷ [])) h.marks_agree.sign;
-      minute_range = is_out_of-within 0 59 (minute_ones marks) (minute_of marks) (omega (arith, numbers.minute_digit)) (omega arith) (omega (arith, numbers.minute));
-      hour_range = is_out_of-within 0 23 (hour_ones marks) (hour_of marks) (omega (arith, numbers.hour_digit)) (omega arith) (omega (arith, numbers.hour));
-      year_range = digits-within (year_ones marks) (year_tens marks) (omega (arith, numbers.year_digit)) (omega (arith, numbers.year_decade));
+      minute_range = within 0 59 (said marks).time.minute civil.minute numbers.minute (omega arith) (omega arith);
+      hour_range = within 0 23 (said marks).time.hour civil.hour numbers.hour (omega arith) (omega arith);
+      year_range = year_within (said marks).year civil.year numbers.year;
       day_of_year = rw (tens, days) refl;
-      leap_minute = rw (bits.announced, sent, leap_minute_kept c h.spellable) (and_false (names_minute marks));
+      leap_minute = rw (bits.announced, sent, leap_minute_kept c h.spellable) (and_false (names_minute (said marks)));
     }
 
 -- the round trip
@@ -163,9 +171,7 @@ pub Agrees-whole : (leap : Bool) (civil : CivilMinute) (day : ℕ) (marks : List
 Agrees-whole leap civil day marks close e spaced =
     let bits = HasBits-spelt leap civil day marks e in
     record {
-      spacing = spaced;
-      width = has_odd_symbol-spelt leap civil day marks e;
-      count = sym (length-map marks (λ mark. mark.symbol)) ∙ ap length e;
+      shape = record { spacing = spaced; width = has_odd_symbol-spelt leap civil day marks e; count = sym (length-map marks (λ mark. mark.symbol)) ∙ ap length e };
       places = λ place free. ap (λ symbols. get_or symbols place Zero) e;
       not_long = λ place free. let within = free_in place free in not_stray (is_set is_long marks place) (is_marker_place place) (none_at (strays marks) 0 60 place bits.no_strays (omega arith) (omega (arith, within.0))) within.1;
       sign = rw (plus-spelt leap civil day marks e) refl;

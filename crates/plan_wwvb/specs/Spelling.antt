@@ -1,10 +1,10 @@
 -- How WWVB spells a minute (NIST SP 432): UTC of the minute in which the frame is sent, which is the one before, the highest
 -- bits first. Each ten seconds end with a marker. What the code carries besides is left 0, and DUT1 is plus.
-use Rattle.std.specs.Prelude.{◌≡◌, ◌⊎◌, ℕ, ◌-◌, ◌/◌, ◌%◌, ◌<◌, ◌≤◌, Bool, false, true, not, ◌||◌, ◌==◌, IsTrue, IsFalse, List, [], ◌∷◌, ◌++◌, replicate, length, slice_index_or}
+use Rattle.std.specs.Prelude.{◌≡◌, ◌⊎◌, ℕ, ◌-◌, ◌/◌, ◌%◌, ◌<◌, Bool, false, true, not, ◌||◌, ◌==◌, IsTrue, IsFalse, List, [], ◌∷◌, ◌++◌, replicate, slice_index_or}
 use Rattle.tick_units.specs.Digits.{bit_symbol, high_bits_of}
 use Rattle.tick_units.specs.Fields.{is_one, is_set, has_pattern, symbols_of}
 use Rattle.tick_units.specs.Marks.{is_between, is_long}
-use Rattle.tick_units.specs.Rules.{are_spaced_to, has_odd_symbol}
+use Rattle.tick_units.specs.Rules.{are_spaced_to}
 use Rattle.tick_units.specs.declared.marks.Mark.{Mark}
 use Rattle.tick_units.specs.declared.marks.Symbol.{Symbol}
 use Rattle.tick_units.specs.declared.marks.Symbol.TheVariants.{Zero, One, Long}
@@ -12,17 +12,17 @@ use Rattle.tick_units.specs.declared.verdicts.Coded.{Coded}
 use Rattle.civil_minute.specs.Months.{month_after}
 use Rattle.civil_minute.specs.Seconds.{civil_of, day_of_year_of}
 use Rattle.civil_minute.specs.declared.seconds.CivilMinute.{CivilMinute}
+use Rattle.frame_rules.specs.MarkRules.{Fits}
+use Rattle.civil_frame.specs.Seconds.{IsInCentury}
 
 -- the second at which the frame begins that is sent before the minute
 abbrev pub sent_second : Coded → ℕ
 sent_second c = c.minute - 60
 
--- a whole minute after one of the years 2000 to 2099, no summer time, and no leap second or one at the end of the month in
--- which the frame is sent, past the minute
+-- a whole minute whose frame is sent in the years 2000 to 2099, no summer time, and no leap second or one at the end of the
+-- month in which the frame is sent, past the minute
 pub record IsSpellable (c : Coded) : Type 0 where
-  pub whole : c.minute % 60 ≡ 0
-  pub from : 3155673660 ≤ c.minute
-  pub below : c.minute < 6311433660
+  pub minute : IsInCentury c.minute (sent_second c)
   pub summer : c.summer ≡ false
   pub leap : (c.leap_at ≡ 0) ⊎ ((c.leap_at ≡ month_after (sent_second c)) × (c.minute < c.leap_at))
 
@@ -61,9 +61,7 @@ is_free place = is_between 36 38 place || is_between 40 43 place || place == 55 
 -- lawful marks that agree with these symbols in their number and at each place that isn't free, and have a sign of DUT1 and
 -- no Long at those that are
 pub record Agrees (marks : List Mark) (close : ℕ) (symbols : List Symbol) : Type 0 where
-  pub spacing : IsTrue (are_spaced_to marks close)
-  pub width : IsFalse (has_odd_symbol marks)
-  pub count : length marks ≡ length symbols
+  pub shape : Fits (are_spaced_to marks close) marks symbols
   pub places : (place : ℕ) → IsFalse (is_free place) → slice_index_or (symbols_of marks) place Zero ≡ slice_index_or symbols place Zero
   pub not_long : (place : ℕ) → IsTrue (is_free place) → IsFalse (is_set is_long marks place)
   pub sign : IsTrue (has_pattern is_one marks 36 (true ∷ false ∷ true ∷ []) || has_pattern is_one marks 36 (false ∷ true ∷ false ∷ []))

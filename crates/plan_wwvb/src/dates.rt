@@ -1,46 +1,54 @@
 //! The minute of UTC that a WWVB segment says, and the rule on its leap second.
 ghost use Rattle.std.specs.Prelude.{◌≡◌, ◌<◌, ◌≤◌, IsTrue, IfSome, Some, None, if◌then◌else◌};
-ghost use Rattle.plan_wwvb.specs.Fields.{sent_start, coded};
+ghost use Rattle.civil_frame.specs.Seconds.{IsDated};
+ghost use Rattle.frame_rules.specs.Numbers.{number_of};
+ghost use Rattle.plan_wwvb.specs.Fields.{said, sent_start, coded};
 ghost use Rattle.plan_wwvb.specs.Rules.{names_minute, breaks_leap_minute};
 
-use crate::fields::{announces_leap, day_of, hour_of, minute_of, year_of};
-use crate::rules::{breaks_day_of_year, breaks_hour_range, breaks_minute_range, breaks_year_range};
+use crate::fields::{OrdinalTime, announces_leap};
+use crate::rules::breaks_day_of_year;
+use civil_frame::breaks_year_range;
 use civil_minute::{begins_month, from_year_day, next_month_start};
 use tick_units::{Coded, Mark};
 
 const MINUTE: u64 = 60;
 
-// Whether the segment says a minute of a day of a year.
+// Whether a minute of a day of a year is said.
 #[tactic(auto, unfolding(crate::specs::Rules::names_minute))]
-fn names_minute(segment: &[Mark]) -> bool
-    ensures { result ≡ names_minute segment.now }
+fn names_minute(ordinal: &OrdinalTime) -> bool
+    requires { number_of ordinal.now.year < 1000 }
+    ensures { result ≡ names_minute ordinal.now }
 {
-    !(breaks_minute_range(segment)
-        || breaks_hour_range(segment)
-        || breaks_year_range(segment)
-        || breaks_day_of_year(segment))
+    !(ordinal.time.breaks_minute_range()
+        || ordinal.time.breaks_hour_range()
+        || breaks_year_range(ordinal.year)
+        || breaks_day_of_year(ordinal))
 }
 
 // The absolute second at which the minute begins in which the segment is sent, where it says one.
 #[tactic(auto, unfolding(crate::specs::Rules::names_minute, crate::specs::Fields::sent_start))]
-fn sent_start(segment: &[Mark]) -> Option<u64>
+fn sent_start(ordinal: &OrdinalTime) -> Option<u64>
+    requires { number_of ordinal.now.year < 1000 }
     ensures value { result
-        ≡ (if names_minute segment.now then Some (sent_start segment.now) else None) }
+        ≡ (if names_minute ordinal.now then Some (sent_start ordinal.now) else None) }
     ensures century { IfSome result (λ second. (3155673600 ≤ second) × (second < 6311433600)) }
 {
-    if names_minute(segment) {
-        let (year, day) = (year_of(segment), day_of(segment));
-        from_year_day(year, day, hour_of(segment), minute_of(segment))
+    if names_minute(ordinal) {
+        let (year, day) = (ordinal.year.get(), ordinal.day_of_year());
+        let (hour, minute) = (ordinal.time.hour.get(), ordinal.time.minute.get());
+        from_year_day(year, day, hour, minute)
     } else {
         None
     }
 }
 
 // A leap second is announced in the last minute of a month.
-pub(crate) fn breaks_leap_minute(segment: &[Mark]) -> bool
+pub(crate) fn breaks_leap_minute(segment: &[Mark], ordinal: &OrdinalTime) -> bool
+    requires read { ordinal.now ≡ said segment.now }
+    requires year { number_of ordinal.now.year < 1000 }
     ensures { result ≡ breaks_leap_minute segment.now }
 {
-    match sent_start(segment) {
+    match sent_start(ordinal) {
         Some(second) => announces_leap(segment) && begins_month(second + MINUTE),
         None => false,
     }
@@ -48,12 +56,14 @@ pub(crate) fn breaks_leap_minute(segment: &[Mark]) -> bool
 
 // The minute of a segment that says one, and the leap second that it announces.
 #[tactic(auto, unfolding(crate::specs::Fields::coded))]
-pub(crate) fn coded(segment: &[Mark]) -> Coded
-    requires { IsTrue (names_minute segment.now) }
+pub(crate) fn coded(segment: &[Mark], ordinal: &OrdinalTime) -> Coded
+    requires read { ordinal.now ≡ said segment.now }
+    requires year { number_of ordinal.now.year < 1000 }
+    requires named { IsTrue (names_minute ordinal.now) }
     ensures value { result ≡ coded segment.now }
-    ensures century { (3155673660 ≤ result.minute) × (result.minute ≤ 6311433600) }
+    ensures dated { IsDated 3155673660 6311433660 result }
 {
-    match sent_start(segment) {
+    match sent_start(ordinal) {
         Some(second) => Coded {
             minute: second + MINUTE,
             leap_at: if announces_leap(segment) {

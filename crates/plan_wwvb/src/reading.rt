@@ -1,9 +1,11 @@
 //! What a segment comes to.
-ghost use Rattle.std.specs.Prelude.{◌≡◌, ◌≤◌, None, Some, IfOk, IfErr};
+ghost use Rattle.std.specs.Prelude.{◌≡◌, None, Some, IfOk, IfErr};
+ghost use Rattle.civil_frame.specs.Seconds.{IsDated};
 ghost use Rattle.plan_wwvb.specs.Fields.{coded};
 ghost use Rattle.plan_wwvb.specs.Rules.{first};
 
 use crate::dates::coded;
+use crate::fields::said;
 use crate::rules::first_broken_rule;
 use tick_units::{Broken, Coded, Local, Mark};
 
@@ -14,10 +16,11 @@ pub fn read(segment: &[Mark], close: Local) -> Result<Coded, Broken>
     ensures err { IfErr result (λ broken. first segment.now close ≡ Some broken.rule) }
 
     // The minute before it is one of the years 2000 to 2099.
-    ensures century { IfOk result (λ c. (3155673660 ≤ c.minute) × (c.minute ≤ 6311433600)) }
+    ensures dated { IfOk result (λ c. IsDated 3155673660 6311433660 c) }
 {
-    match first_broken_rule(segment, close) {
+    let ordinal = said(segment);
+    match first_broken_rule(segment, close, &ordinal) {
         Some(rule) => Err(Broken { rule }),
-        None => Ok(coded(segment)),
+        None => Ok(coded(segment, &ordinal)),
     }
 }

@@ -1,16 +1,16 @@
 //! The rules of WWVB, each a test of a whole segment that is true where the rule is broken.
-ghost use Rattle.std.specs.Prelude.{◌≡◌};
-ghost use Rattle.plan_wwvb.specs.Fields.{is_marker_place};
-ghost use Rattle.plan_wwvb.specs.Rules.{breaks_spacing, breaks_width, breaks_length, lacks_marker, has_stray_marker, breaks_markers, breaks_reserved, breaks_dut_sign, breaks_minute_range, breaks_hour_range, breaks_year_range, breaks_day_of_year, first};
+ghost use Rattle.std.specs.Prelude.{◌≡◌, ◌<◌};
+ghost use Rattle.frame_rules.specs.Numbers.{number_of};
+ghost use Rattle.plan_wwvb.specs.Fields.{is_marker_place, said};
+ghost use Rattle.plan_wwvb.specs.Rules.{lacks_marker, has_stray_marker, breaks_markers, breaks_reserved, breaks_dut_sign, breaks_day_of_year, first};
 
 use crate::dates::breaks_leap_minute;
-use crate::fields::{
-    day_of, day_ones, day_tens, hour_of, hour_ones, is_long, minute_of, minute_ones, year_of,
-    year_ones, year_tens,
-};
+use crate::fields::{OrdinalTime, is_long};
+use civil_frame::breaks_year_range;
 use civil_minute::year_length;
 use frame_rules::{
-    Bit, Rule, are_spaced_to, first_broken, has_odd_symbol, has_pattern, is_out_of, is_set,
+    Bit, Rule, breaks_length, breaks_spacing_to, breaks_width, first_broken, has_pattern,
+    is_out_of, is_set,
 };
 use tick_units::{Local, Mark};
 
@@ -24,27 +24,6 @@ const ZEROS: [usize; 11] = [4, 10, 11, 14, 20, 21, 24, 34, 35, 44, 54];
 const PLUS: [bool; 3] = [true, false, true];
 
 const MINUS: [bool; 3] = [false, true, false];
-
-// Two neighbouring marks, or the last mark and the closing mark, don't start 900000 to 1100000 microseconds apart.
-fn breaks_spacing(segment: &[Mark], close: Local) -> bool
-    ensures { result ≡ breaks_spacing segment.now close }
-{
-    !are_spaced_to(segment, close)
-}
-
-// A width is in no class.
-fn breaks_width(segment: &[Mark]) -> bool
-    ensures { result ≡ breaks_width segment.now }
-{
-    has_odd_symbol(segment)
-}
-
-// There are not 60 marks.
-fn breaks_length(segment: &[Mark]) -> bool
-    ensures { result ≡ breaks_length segment.now }
-{
-    segment.len() != 60
-}
 
 // A marker place isn't Long.
 fn lacks_marker(segment: &[Mark]) -> bool
@@ -86,49 +65,33 @@ fn breaks_dut_sign(segment: &[Mark]) -> bool
     !has_pattern(Bit::Only, segment, 36, &PLUS) && !has_pattern(Bit::Only, segment, 36, &MINUS)
 }
 
-pub(crate) fn breaks_minute_range(segment: &[Mark]) -> bool
-    ensures { result ≡ breaks_minute_range segment.now }
-{
-    is_out_of(0, 59, minute_ones(segment), minute_of(segment))
-}
-
-pub(crate) fn breaks_hour_range(segment: &[Mark]) -> bool
-    ensures { result ≡ breaks_hour_range segment.now }
-{
-    is_out_of(0, 23, hour_ones(segment), hour_of(segment))
-}
-
-// A digit is above 9.
-pub(crate) fn breaks_year_range(segment: &[Mark]) -> bool
-    ensures { result ≡ breaks_year_range segment.now }
-{
-    year_ones(segment) > 9 || year_tens(segment) > 9
-}
-
 // The tens or the ones digit is above 9, or the year has no such day.
-pub(crate) fn breaks_day_of_year(segment: &[Mark]) -> bool
-    ensures { result ≡ breaks_day_of_year segment.now }
+pub(crate) fn breaks_day_of_year(ordinal: &OrdinalTime) -> bool
+    requires { number_of ordinal.now.year < 1000 }
+    ensures { result ≡ breaks_day_of_year ordinal.now }
 {
-    let days = year_length(year_of(segment));
-    day_tens(segment) > 9 || is_out_of(1, days, day_ones(segment), day_of(segment))
+    let days = year_length(ordinal.year.get());
+    ordinal.day.tens > 90 || is_out_of(1, days, ordinal.day.ones, ordinal.day_of_year())
 }
 
 // The least number of a rule that the segment breaks.
 #[tactic(auto, unfolding(crate::specs::Rules::first))]
-pub(crate) fn first_broken_rule(segment: &[Mark], close: Local) -> Option<u8>
+pub(crate) fn first_broken_rule(segment: &[Mark], close: Local, ordinal: &OrdinalTime) -> Option<u8>
+    requires read { ordinal.now ≡ said segment.now }
+    requires year { number_of ordinal.now.year < 1000 }
     ensures { result ≡ first segment.now close }
 {
     first_broken(&[
-        Rule::new(1, breaks_spacing(segment, close)),
+        Rule::new(1, breaks_spacing_to(segment, close)),
         Rule::new(2, breaks_width(segment)),
         Rule::new(3, breaks_length(segment)),
         Rule::new(50, breaks_markers(segment)),
         Rule::new(51, breaks_reserved(segment)),
         Rule::new(52, breaks_dut_sign(segment)),
-        Rule::new(53, breaks_minute_range(segment)),
-        Rule::new(54, breaks_hour_range(segment)),
-        Rule::new(55, breaks_year_range(segment)),
-        Rule::new(56, breaks_day_of_year(segment)),
-        Rule::new(58, breaks_leap_minute(segment)),
+        Rule::new(53, ordinal.time.breaks_minute_range()),
+        Rule::new(54, ordinal.time.breaks_hour_range()),
+        Rule::new(55, breaks_year_range(ordinal.year)),
+        Rule::new(56, breaks_day_of_year(ordinal)),
+        Rule::new(58, breaks_leap_minute(segment, ordinal)),
     ])
 }

@@ -1,23 +1,24 @@
 use Rattle.std.proofs.Common.{refl}
 use Rattle.frame_rules.proofs.Meanings.{found_is, none_is}
-use Rattle.plan_dcf.specs.Fields.{minute_start}
-use Rattle.plan_dcf.specs.Rules.{names_minute}
+use Rattle.civil_frame.specs.CivilDates.{names_minute}
+use Rattle.civil_frame.specs.Seconds.{minute_start}
+use Rattle.plan_dcf.specs.Fields.{said}
 use Rattle.plan_dcf.proofs.NamedMinute.{breaks_leap_minute-named}
 use Rattle.plan_dcf.proofs.dates.breaks_leap_minute.Goals as goal
 
 pub returns-then-has_wrong_length : goal.returns-then-has_wrong_length
 returns-then-has_wrong_length c =
     let marks = c.args.segment.now in
-    let found = found_is (names_minute marks) (minute_start marks) c.in-Some.second c.in-Some.ensures.value in
+    let found = found_is (names_minute (said marks)) (minute_start (said marks)) c.in-Some.second (rw c.requires.read at c.in-Some.ensures.value) in
     rw (breaks_leap_minute-named marks c.in-Some.second c.has_wrong_length.result found.0 found.1 c.has_wrong_length.ensures, c.if-has_wrong_length.true) refl
 
 pub returns-else-has_wrong_length : goal.returns-else-has_wrong_length
 returns-else-has_wrong_length c =
     let marks = c.args.segment.now in
-    let found = found_is (names_minute marks) (minute_start marks) c.in-Some.second c.in-Some.ensures.value in
+    let found = found_is (names_minute (said marks)) (minute_start (said marks)) c.in-Some.second (rw c.requires.read at c.in-Some.ensures.value) in
     rw (breaks_leap_minute-named marks c.in-Some.second c.has_wrong_length.result found.0 found.1 c.has_wrong_length.ensures, c.if-has_wrong_length.false, c.is_set.ensures) refl
 
 pub returns-in-None : goal.returns-in-None
 returns-in-None c =
     let marks = c.args.segment.now in
-    rw (none_is (names_minute marks) (minute_start marks) c.in-None.ensures.value) refl
+    rw (none_is (names_minute (said marks)) (minute_start (said marks)) (rw c.requires.read at c.in-None.ensures.value)) refl

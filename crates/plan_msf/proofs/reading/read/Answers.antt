@@ -2,7 +2,7 @@ use Rattle.std.proofs.Common.{sym}
 use Rattle.plan_msf.proofs.Validity.{IsValid-from_none, names_minute-valid}
 use Rattle.plan_msf.proofs.reading.read.Goals as goal
 
-pub coded-requires : goal.coded-requires
-coded-requires c =
+pub coded-requires-clause-named : goal.coded-requires-clause-named
+coded-requires-clause-named c =
     let marks = c.args.segment.now in
-    names_minute-valid marks c.args.close (IsValid-from_none marks c.args.close (sym c.in-None.ensures))
+    rw c.said-civil.ensures.value (names_minute-valid marks c.args.close (IsValid-from_none marks c.args.close (sym c.in-None.ensures)))

@@ -19,7 +19,7 @@ returns-clause-written c = rw (spelt_is c) at c.write_to.ensures.written
 -- the parts of the law
 is_frame : (c : goal.After-write_to) (marks : List Mark) (close : ℕ) → Agrees marks close (frame_of (not (c.args.c.now.leap_at == 0)) c.civil_at-civil.result c.day_of_year.result) → IsFrameOf c.args.c.now c.civil_at-civil.result c.day_of_year.result marks close
 is_frame c marks close agree =
-    let years = c.civil_at-civil.ensures.century (omega (arith, c.requires.from)) (omega (arith, c.requires.below)) in
+    let years = c.civil_at-civil.ensures.century (omega (arith, c.requires.minute.from)) (omega (arith, c.requires.minute.below)) in
     record {
       spellable = c.requires;
       civil_is = c.civil_at-civil.ensures.value;

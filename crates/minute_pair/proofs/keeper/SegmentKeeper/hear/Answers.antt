@@ -23,6 +23,6 @@ returns-clause-closed c = λ plan marks h. record {
   segment = record { marks = h.current; close = c.args.mark.at };
   grows = segments_closed c.args.self.now plan c.args.mark marks (sym c.if-not-is_boundary.ensures) c.if-not-self.false h;
   close = refl;
-  says = c.judge.ensures plan marks h;
+  says = c.judge.ensures.judged plan marks h;
   has_leap = c.has_leap.ensures ∙ leap_kept c.args.self.now plan marks c.args.mark.at h;
 }

@@ -19,4 +19,4 @@ returns-clause-answered c = λ plan marks h.
     let closed = c.in-Some.closed in
     let closes = c.in-Some.ensures.closed plan marks h.heard in
     answers_closed plan (segments_of plan marks) _ closes.segment closed c.answer-kind.result closes.grows closes.close closes.says closes.has_leap
-    (c.answer-kind.ensures ∙ ap (λ (before : Before). answer_by before closed) h.before)
+    (c.answer-kind.ensures.kind ∙ ap (λ (before : Before). answer_by before closed) h.before)

@@ -1,0 +1,2 @@
+pub mod NamedMinute
+pub mod Says

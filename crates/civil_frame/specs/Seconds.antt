@@ -1,0 +1,34 @@
+-- The absolute seconds of civil times. A clock that is some hours ahead of UTC shows at a second what a clock of UTC shows
+-- so many hours later.
+use Rattle.std.specs.Prelude.{◌≡◌, ◌≢◌, ℕ, ◌+◌, ◌-◌, ◌*◌, ◌%◌, ◌<◌, ◌≤◌, Bool}
+use Rattle.tick_units.specs.declared.verdicts.Coded.{Coded}
+use Rattle.civil_minute.specs.Dates.{second_of}
+use Rattle.frame_rules.specs.Numbers.{number_of}
+use Rattle.civil_frame.specs.declared.civil_time.CivilTime.{CivilTime}
+
+-- the second at which a clock of UTC shows what is said
+unfoldable pub local_start : CivilTime → ℕ
+local_start civil = second_of (2000 + number_of civil.year) (number_of civil.month) (number_of civil.day) (number_of civil.time.hour) (number_of civil.time.minute)
+
+-- the absolute second at which the minute begins that is said
+unfoldable pub minute_start : CivilTime → ℕ
+minute_start civil = local_start civil - 3600 * civil.hours_ahead
+
+-- the second at which a clock of UTC shows what a clock of a zone shows at the minute, the zone being so many hours ahead
+-- with summer time or without
+abbrev pub local_second : (Bool → ℕ) → Coded → ℕ
+local_second hours_ahead c = c.minute + 3600 * hours_ahead c.summer
+
+-- a whole minute, at which a clock shows a second of the years 2000 to 2099
+pub record IsInCentury (minute shown : ℕ) : Type 0 where
+  pub whole : minute % 60 ≡ 0
+  pub from : 3155673600 ≤ shown
+  pub below : shown < 6311433600
+
+-- what a valid frame says is a whole minute from one second on and below another; a leap second that it announces ends no
+-- earlier than the minute begins, and no later than 2100 does
+pub record IsDated (least bound : ℕ) (c : Coded) : Type 0 where
+  pub whole : c.minute % 60 ≡ 0
+  pub from : least ≤ c.minute
+  pub below : c.minute < bound
+  pub leap : c.leap_at ≢ 0 → (c.minute ≤ c.leap_at) × (c.leap_at ≤ 6311433600)
