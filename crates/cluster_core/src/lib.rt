@@ -7,6 +7,8 @@ mod combining;
 mod ordering;
 mod survivor;
 mod survivors;
+#[cfg(test)]
+mod tests;
 
 pub use clustering::cluster;
 pub use combining::combine;
