@@ -1,6 +1,5 @@
-ghost use Rattle.std.specs.Prelude.{◌≡◌, ◌*◌, ◌<◌, ◌≤◌, ◌^◌, Bool, true, false, All, Contains, List, length, map, nat_lt, slice_index_or, IfSome, IfNone};
+ghost use Rattle.std.specs.Prelude.{◌≡◌, ◌<◌, ◌≤◌, true, false, All, Contains, List, length, nat_lt, IfSome, IfNone};
 ghost use Rattle.std.specs.List.{list_all};
-ghost use Rattle.tick_units.specs.Orders.{greatest};
 ghost use Rattle.cluster_core.specs.Bounds.{IsMeasured, AreNear};
 ghost use Rattle.cluster_core.specs.Clusters.{Clusters, IsWorst, Settles, greatest_jitter, is_at_rest, rest_of, selection_jitter};
 ghost use Rattle.cluster_core.specs.declared.survivor.Survivor.{Survivor};

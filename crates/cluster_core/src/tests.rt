@@ -1,4 +1,4 @@
-ghost use Rattle.std.specs.Prelude.{◌≡◌, ◌+◌, ◌<◌, ◌≤◌, ◌^◌, All, length, pos, neg_ℤ, ◌≤ℤ◌};
+ghost use Rattle.std.specs.Prelude.{◌≡◌, ◌<◌, ◌≤◌, ◌^◌, All, length, pos, neg_ℤ, ◌≤ℤ◌};
 ghost use Rattle.cluster_core.specs.Bounds.{AreNear, IsMeasured};
 
 use crate::{Survivor, Survivors, cluster, combine};
