@@ -66,8 +66,8 @@ impl Survivors {
         self.members.is_empty()
     }
 
-    /// The survivors, in order.
-    pub fn as_slice(&self) -> &[Survivor]
+    /// The survivors, in the order of the list.
+    pub(crate) fn as_slice(&self) -> &[Survivor]
         ensures value { result.now ≡ self.now }
         ensures few { length result.now ≤ 16 }
     {
