@@ -67,7 +67,7 @@ impl Survivors {
     }
 
     /// The survivors, in the order of the list.
-    pub(crate) fn as_slice(&self) -> &[Survivor]
+    pub fn as_slice(&self) -> &[Survivor]
         ensures value { result.now ≡ self.now }
         ensures few { length result.now ≤ 16 }
     {
