@@ -67,6 +67,7 @@ fn grown(dispersion: Span, microseconds: u64) -> Span
     ensures most { result ≤ℤ pos (2 ^ 36) }
 {
     let most = max_dispersion();
+    // Looked at for what it says of every span: that it is below 2^70.
     let _size = dispersion.unsigned_abs();
     if dispersion < most {
         most.min(dispersion + phi(microseconds))

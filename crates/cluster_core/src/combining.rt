@@ -73,6 +73,7 @@ fn apart(x: &Survivor, base: Span) -> Span
     ensures value { result ≡ x.now.offset -ℤ base }
     ensures offset { unsigned_abs x.now.offset < 2 ^ 70 }
 {
+    // Looked at for what it says of every span: that it is below 2^70.
     let _size = x.offset.unsigned_abs();
     x.offset - base
 }

@@ -66,7 +66,7 @@ impl Survivors {
         self.members.is_empty()
     }
 
-    /// The survivors, in order.
+    /// The survivors, in the order of the list.
     pub fn as_slice(&self) -> &[Survivor]
         ensures value { result.now ≡ self.now }
         ensures few { length result.now ≤ 16 }
