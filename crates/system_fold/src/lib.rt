@@ -10,6 +10,8 @@ mod page;
 mod selecting;
 mod settings;
 mod source;
+mod text;
 
 pub use fold::FoldState;
 pub use settings::{Settings, SourceKind};
+pub use text::page_text;
