@@ -1,4 +1,4 @@
-use Rattle.std.proofs.Common.{ℕ, List, ◌∙◌, subst}
+use Rattle.std.proofs.Common.{ℕ, List, subst}
 use Rattle.radio_engine.specs.Decoding.{WritesAll, WritesFront}
 use Rattle.radio_engine.proofs.stream.write_answer.Goals as goal
 
