@@ -5,3 +5,4 @@ pub mod FitLaws
 pub mod SourceLaws
 pub mod SoundLaws
 pub mod PageLaws
+pub mod SweepLaws

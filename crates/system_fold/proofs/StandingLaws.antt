@@ -6,10 +6,12 @@ use Rattle.std.proofs.Math.Seq.{take-append_seam}
 use Rattle.std.proofs.lemmas.List.{length-append}
 use Rattle.std.proofs.lemmas.List.Elements.{All-cons, All-nil, All-append}
 use Rattle.journal_entry.specs.declared.entry.Entry.{Entry}
+use Rattle.select_core.specs.declared.chime.Candidate.{Candidate}
 use Rattle.system_fold.specs.Settings.{SettingsFields, AreLawful, IsKept}
 use Rattle.system_fold.specs.Standing.{StandsFor, FoldFields, IsFold, KeepsLeaps, blank, feeds_of}
 use Rattle.system_fold.specs.declared.feed.Feed.{Feed}
 use Rattle.system_fold.specs.declared.leaps.Leaps.{Leaps}
+use Rattle.system_fold.specs.declared.source.Source.{Source}
 
 enumerated-length : {X Y : Type 0} (f : ℕ × X → Y) (a : ℕ) (xs : List X) → length (map f (enumerate_from a xs)) ≡ length xs
 enumerated-length f a [] = refl
@@ -32,8 +34,8 @@ few_of fold settings journal h =
     let same : length fold.feeds ≡ length settings.sources = ap (λ (fs : List Feed). length fs) h.feeds ∙ feeds-length settings journal in
     subst (λ (n : ℕ). n ≤ 16) (sym same) h.few
 
-pub few : (fold : FoldFields) → IsFold fold → length fold.feeds ≤ 16
-few fold h = few_of fold h.settings h.journal h.stands
+pub few : (fold : FoldFields) (fit : List Source) (sweep : List Candidate) → IsFold fold fit sweep → length fold.feeds ≤ 16
+few fold fit sweep h = few_of fold h.settings h.journal h.stands
 
 -- the state of the empty journal
 pub stands-nil : (fold : FoldFields) (settings : SettingsFields) → AreLawful settings → length settings.sources ≤ 16 → fold.holdover ≡ settings.holdover → fold.feeds ≡ map blank settings.sources → KeepsLeaps fold.leaps [] → fold.length ≡ 0
@@ -82,3 +84,8 @@ stands-step old n taken leaps e same lawful takes steps settings journal h = sta
 
     feeds : refill n old.feeds taken ≡ feeds_of settings (journal ++ e ∷ [])
     feeds = refill-same n old.feeds taken long ∙ takes settings journal h.feeds
+
+-- a journal and a longer one have as many feeds
+pub stands-same : (old new : FoldFields) (settings : SettingsFields) (journal longer : List Entry) → StandsFor old settings journal → StandsFor new settings longer → length new.feeds ≡ length old.feeds
+stands-same old new settings journal longer before after =
+    ap (λ (fs : List Feed). length fs) after.feeds ∙ feeds-length settings longer ∙ sym (feeds-length settings journal) ∙ sym (ap (λ (fs : List Feed). length fs) before.feeds)
