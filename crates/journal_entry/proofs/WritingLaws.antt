@@ -3,7 +3,7 @@ use Rattle.std.proofs.Common.{◌≡◌, ℕ, ◌+◌, ◌-◌, ◌≤◌, List,
 use Rattle.std.proofs.lemmas.List.{length-append, append-nil}
 use Rattle.journal_entry.specs.Texts.{spaced}
 use Rattle.journal_entry.specs.Writing.{text_in, Adds, AddsFields}
-use Rattle.journal_entry.specs.declared.writer.Writer.{Writer}
+use Rattle.journal_entry.specs.declared.writer.TextWriter.{TextWriter}
 
 -- what a list is past a place, it is past a later one
 drop_later : (xs ys : List ℕ) (i j : ℕ) → i ≤ j → drop i xs ≡ drop i ys → drop j xs ≡ drop j ys
@@ -11,7 +11,7 @@ drop_later xs ys i j within e =
     let there : i + (j - i) ≡ j = omega arith in
     ap (λ k. drop k xs) (sym there) ∙ sym (drop-drop (j - i) i xs) ∙ ap (drop (j - i)) e ∙ drop-drop (j - i) i ys ∙ ap (λ k. drop k ys) there
 
-pub adds_both : (a b c : Writer) (first second : List ℕ) → Adds a b first → Adds b c second → Adds a c (first ++ second)
+pub adds_both : (a b c : TextWriter) (first second : List ℕ) → Adds a b first → Adds b c second → Adds a c (first ++ second)
 adds_both a b c first second h k = record {
   room = k.room ∙ h.room;
   length = (let one = h.length in let two = k.length in omega (arith, length-append first second));
@@ -20,9 +20,9 @@ adds_both a b c first second h k = record {
 }
 
 -- a last field
-pub adds_last : {a b : Writer} {field : List ℕ} → Adds a b (32 ∷ field) → AddsFields a b (field ∷ [])
+pub adds_last : {a b : TextWriter} {field : List ℕ} → Adds a b (32 ∷ field) → AddsFields a b (field ∷ [])
 adds_last {a} {b} {field} h = record { adds = subst (λ (t : List ℕ). Adds a b (32 ∷ t)) (sym (append-nil field)) h }
 
 -- a field that others follow
-pub adds_then : {a b c : Writer} {field : List ℕ} {fields : List (List ℕ)} → Adds a b (32 ∷ field) → AddsFields b c fields → AddsFields a c (field ∷ fields)
+pub adds_then : {a b c : TextWriter} {field : List ℕ} {fields : List (List ℕ)} → Adds a b (32 ∷ field) → AddsFields b c fields → AddsFields a c (field ∷ fields)
 adds_then {a} {b} {c} {field} {fields} h k = record { adds = adds_both a b c (32 ∷ field) (spaced fields) h k.adds }

@@ -2,7 +2,7 @@
 -- Rust's and C's decimal output writes them.
 use Rattle.std.specs.Prelude.{◌≡◌, ℕ, List, [], ◌∷◌, ◌++◌, codes, decimal}
 use Rattle.std.specs.Fmt.{signed_decimal}
-use Rattle.std.specs.Int.{w32, to_be_bytes}
+use Rattle.std.specs.Int.{w32, w64, to_be_bytes}
 use Rattle.std.specs.List.{flat_map}
 use Rattle.hex.specs.Hex.{encode_lower}
 use Rattle.tick_units.specs.declared.verdicts.Kind.{Kind}
@@ -16,6 +16,10 @@ use Rattle.journal_entry.specs.declared.entry.What.TheVariants.{Heard, Sample, D
 -- the four bytes of an IPv4 address, each in two hexadecimal digits
 abbrev pub address_text : ℕ → List ℕ
 address_text address = encode_lower (to_be_bytes w32 address)
+
+-- the eight bytes of a stamp, in the same way
+abbrev pub stamp_text : ℕ → List ℕ
+stamp_text stamp = encode_lower (to_be_bytes w64 stamp)
 
 -- the numbers of a sample
 abbrev pub sample_fields : TimeSample → List (List ℕ)

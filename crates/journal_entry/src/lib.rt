@@ -1,4 +1,4 @@
-//! The entries of a journal, and the one text of each.
+//! The entries of a journal, and the one text of each; and the writer of such texts.
 #![tactic(auto)]
 
 mod entry;
@@ -11,6 +11,7 @@ mod writer;
 pub use entry::{Entry, What};
 pub use read::read_entry;
 pub use write::write_entry;
+pub use writer::TextWriter;
 
 #[cfg(test)]
 mod tests;

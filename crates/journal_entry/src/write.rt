@@ -3,7 +3,7 @@ ghost use Rattle.journal_entry.specs.Entries.{IsEntry, IsKind, IsSample, IsWhat}
 ghost use Rattle.journal_entry.specs.Texts.{kind_fields, what_fields, text_of};
 ghost use Rattle.journal_entry.specs.Writing.{AddsFields};
 
-use crate::writer::Writer;
+use crate::writer::TextWriter;
 use crate::{Entry, What, words};
 use itoa::Buffer;
 use tick_units::{Kind, Sample};
@@ -17,7 +17,7 @@ pub fn write_entry(e: &Entry, out: &mut [u8; 256]) -> usize
     ensures most { result ≤ 141 }
     ensures entry { IsEntry e.now }
 {
-    let mut text = Writer::new(out);
+    let mut text = TextWriter::new(out);
     text.add(Buffer::new().format(e.feed).as_bytes());
     text.moment(e.at);
     write_what(&e.what, &mut text);
@@ -25,7 +25,7 @@ pub fn write_entry(e: &Entry, out: &mut [u8; 256]) -> usize
 }
 
 // Writes what an entry tells.
-fn write_what(what: &What, text: &mut Writer<'_>)
+fn write_what(what: &What, text: &mut TextWriter<'_>)
     requires { text.old.length + 114 ≤ 256 }
     ensures text { AddsFields text.old text.new (what_fields what.now) }
     ensures short { text.new.length ≤ text.old.length + 114 }
@@ -46,7 +46,7 @@ fn write_what(what: &What, text: &mut Writer<'_>)
 }
 
 // Writes what a closed minute comes to.
-fn write_kind(kind: &Kind, text: &mut Writer<'_>)
+fn write_kind(kind: &Kind, text: &mut TextWriter<'_>)
     requires { text.old.length + 71 ≤ 256 }
     ensures text { AddsFields text.old text.new (kind_fields kind.now) }
     ensures short { text.new.length ≤ text.old.length + 71 }
@@ -76,7 +76,7 @@ fn write_kind(kind: &Kind, text: &mut Writer<'_>)
 }
 
 // Writes a sample.
-fn write_sample(sample: &Sample, text: &mut Writer<'_>)
+fn write_sample(sample: &Sample, text: &mut TextWriter<'_>)
     requires { text.old.length + 114 ≤ 256 }
     ensures text { AddsFields text.old text.new (what_fields (What.Sample sample.now)) }
     ensures short { text.new.length ≤ text.old.length + 114 }

@@ -2,42 +2,42 @@ ghost use Rattle.std.specs.Prelude.{◌≤◌};
 
 use hex::encode_to_slice;
 use itoa::{Buffer, Integer};
-use tick_units::{Local, Span};
+use tick_units::{Local, Span, Stamp};
 
 // The room for a text.
 const ROOM: usize = 256;
 
-// Writes the fields of a text at the front of its room.
+/// Writes the fields of a text at the front of its room.
 #[derive(Drop)]
-pub struct Writer<'a> {
+pub struct TextWriter<'a> {
     out: &'a mut [u8; ROOM],
     length: usize,
     ghost within: { length ≤ 256 },
 }
 
-impl<'a> Writer<'a> {
+impl<'a> TextWriter<'a> {
     ghost use Rattle.std.specs.Prelude.{◌≡◌, ◌+◌, ◌^◌, ◌<◌, ◌≤◌, ◌∷◌, length, unsigned_abs};
     ghost use Rattle.std.specs.Fmt.{decimal, signed_decimal};
-    ghost use Rattle.journal_entry.specs.Texts.{address_text};
+    ghost use Rattle.journal_entry.specs.Texts.{address_text, stamp_text};
     ghost use Rattle.journal_entry.specs.Writing.{Adds};
 
-    // The writer of no text.
-    pub fn new(out: &'a mut [u8; ROOM]) -> Writer<'a>
+    /// The writer of no text.
+    pub fn new(out: &'a mut [u8; ROOM]) -> TextWriter<'a>
         ensures room { result.out.ghost_name ≡ out.entry.ghost_name }
         ensures length { result.length ≡ 0 }
         ensures same { result.out.now ≡ out.old }
     {
-        Writer { out, length: 0 }
+        TextWriter { out, length: 0 }
     }
 
-    // The number of bytes written.
+    /// The number of bytes written.
     pub fn len(&self) -> usize
         ensures { result ≡ self.now.length }
     {
         self.length
     }
 
-    // Adds a piece of text.
+    /// Adds a piece of text.
     #[tactic(auto, using(std::proofs::lemmas::Slice::overwrites))]
     pub fn add(&mut self, piece: &[u8])
         requires { self.old.length + length piece.now ≤ 256 }
@@ -49,7 +49,7 @@ impl<'a> Writer<'a> {
         self.length = end;
     }
 
-    // Adds a space and a field.
+    /// Adds a space and a field.
     #[tactic(auto, using(crate::proofs::WritingLaws::adds_both))]
     pub fn field(&mut self, field: &[u8])
         requires { self.old.length + 1 + length field.now ≤ 256 }
@@ -59,7 +59,7 @@ impl<'a> Writer<'a> {
         self.add(field);
     }
 
-    // Adds a space and a number in decimal.
+    /// Adds a space and a number in decimal.
     pub fn number<I: Integer>(&mut self, number: I)
         requires { self.old.length + 1 + I.MAX_STR_LEN ≤ 256 }
         ensures text { Adds self.old self.new (32 ∷ I.text number) }
@@ -69,7 +69,7 @@ impl<'a> Writer<'a> {
         self.field(buffer.format(number).as_bytes());
     }
 
-    // Adds a space and a moment's number of microseconds in decimal.
+    /// Adds a space and a moment's number of microseconds in decimal.
     pub fn moment(&mut self, at: Local)
         requires { self.old.length + 21 ≤ 256 }
         ensures text { Adds self.old self.new (32 ∷ decimal at) }
@@ -79,7 +79,7 @@ impl<'a> Writer<'a> {
         self.number(at.get());
     }
 
-    // Adds a space and a span's number of units in decimal, with a sign where it is negative.
+    /// Adds a space and a span's number of units in decimal, with a sign where it is negative.
     pub fn span(&mut self, span: Span)
         requires { self.old.length + 41 ≤ 256 }
         ensures text { Adds self.old self.new (32 ∷ signed_decimal span) }
@@ -89,7 +89,7 @@ impl<'a> Writer<'a> {
         self.number(span.get());
     }
 
-    // Adds a space and the four bytes of an address, each in two hexadecimal digits.
+    /// Adds a space and the four bytes of an address, each in two hexadecimal digits.
     pub fn address(&mut self, address: u32)
         requires { self.old.length + 9 ≤ 256 }
         ensures text { Adds self.old self.new (32 ∷ address_text address) }
@@ -98,5 +98,17 @@ impl<'a> Writer<'a> {
         let mut digits = [0; 8];
         let _ = encode_to_slice(address.to_be_bytes(), &mut digits);
         self.field(&digits);
+    }
+
+    /// Adds a space and the eight bytes of a stamp, each in two hexadecimal digits.
+    pub fn stamp(&mut self, stamp: Stamp)
+        requires { self.old.length + 17 ≤ 256 }
+        ensures text { Adds self.old self.new (32 ∷ stamp_text stamp.0) }
+        ensures short { self.new.length ≤ self.old.length + 17 }
+        ensures small { stamp.0 < 2 ^ 64 }
+    {
+        let mut sixteen = [0; 16];
+        let _ = encode_to_slice(stamp.0.to_be_bytes(), &mut sixteen);
+        self.field(&sixteen);
     }
 }

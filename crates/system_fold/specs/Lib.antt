@@ -4,6 +4,7 @@ pub mod Fit
 pub mod Journal
 pub mod Leaps
 pub mod Page
+pub mod PageText
 pub mod Samples
 pub mod Selecting
 pub mod Settings

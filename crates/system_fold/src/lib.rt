@@ -4,12 +4,21 @@
 mod feed;
 mod fit;
 mod fold;
+#[cfg(test)]
+mod journals;
 mod leaps;
 mod moments;
 mod page;
 mod selecting;
 mod settings;
 mod source;
+mod text;
+mod whole;
 
 pub use fold::FoldState;
 pub use settings::{Settings, SourceKind};
+pub use text::page_text;
+pub use whole::page_by_steps;
+
+#[cfg(test)]
+mod tests;

@@ -5,8 +5,8 @@ use Rattle.system_fold.specs.Fit.{AreFit, IsSound}
 use Rattle.system_fold.specs.Standing.{StandsFor, FoldFields}
 use Rattle.system_fold.specs.declared.feed.Feed.{Feed}
 use Rattle.system_fold.proofs.SoundLaws.{sound-feeds}
-use Rattle.system_fold.proofs.StandingLaws.{stands-same, stands-step}
-use Rattle.system_fold.proofs.SweepLaws.{few-standing}
+use Rattle.system_fold.proofs.StandingLaws.{stands-step}
+use Rattle.system_fold.proofs.SweepLaws.{few-standing, stands-same}
 use Rattle.system_fold.proofs.fold.FoldState.step.Goals as goal
 
 pub find_fit-requires-clause-sound : goal.find_fit-requires-clause-sound

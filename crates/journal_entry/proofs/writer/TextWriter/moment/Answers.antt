@@ -1,6 +1,6 @@
 use Rattle.std.proofs.Common.{arith}
 use Rattle.journal_entry.proofs.LengthLaws.{moment_length}
-use Rattle.journal_entry.proofs.writer.Writer.moment.Goals as goal
+use Rattle.journal_entry.proofs.writer.TextWriter.moment.Goals as goal
 
 pub returns-clause-short : goal.returns-clause-short
 returns-clause-short c =

@@ -2,7 +2,7 @@ use Rattle.std.proofs.Common.{◌<◌, ◌^◌, ◌∷◌, unsigned_abs, subst, 
 use Rattle.std.specs.Fmt.{signed_decimal}
 use Rattle.journal_entry.specs.Writing.{Adds}
 use Rattle.journal_entry.proofs.LengthLaws.{span_length}
-use Rattle.journal_entry.proofs.writer.Writer.span.Goals as goal
+use Rattle.journal_entry.proofs.writer.TextWriter.span.Goals as goal
 
 pub returns-clause-short : goal.returns-clause-short
 returns-clause-short c =
