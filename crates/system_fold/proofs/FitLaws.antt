@@ -79,5 +79,5 @@ fit-push cut now feeds i feed fit new o below here before is sound same longer =
   few = let was = length-take-le i feeds (omega arith) in let now_is = length-take-le (i + 1) feeds (omega arith) in let few = before.few in omega arith;
 }
 
-pub fit-nil : (cut now : ℕ) → AreFit cut now [] []
-fit-nil cut now = record { value = refl; all = All-nil (IsFit now); few = omega arith }
+pub fit-none : (cut now : ℕ) (fit : List Source) → fit ≡ [] → AreFit cut now [] fit
+fit-none cut now fit none = subst (AreFit cut now []) (sym none) (record { value = refl; all = All-nil (IsFit now); few = omega arith })

@@ -5,4 +5,5 @@ pub mod FitLaws
 pub mod SourceLaws
 pub mod SoundLaws
 pub mod PageLaws
+pub mod SweepLaws
 pub mod LengthLaws

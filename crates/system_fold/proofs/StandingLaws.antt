@@ -1,15 +1,18 @@
 -- What a fold stands for: nothing at first, and with each entry the journal with one more.
-use Rattle.std.proofs.Common.{◌≡◌, ℕ, suc, ◌+◌, ◌≤◌, List, [], ◌∷◌, ◌++◌, refl, sym, ap, ◌∙◌, subst, length, take, drop}
-use Rattle.std.specs.Prelude.{map}
+use Rattle.std.proofs.Common.{◌≡◌, ℕ, suc, ◌+◌, ◌≤◌, ◌<◌, List, [], ◌∷◌, ◌++◌, refl, sym, ap, ◌∙◌, subst, length, get_or, take, drop}
+use Rattle.std.specs.Prelude.{All, map}
 use Rattle.std.specs.List.{enumerate_from, refill}
 use Rattle.std.proofs.Math.Seq.{take-append_seam}
-use Rattle.std.proofs.lemmas.List.{length-append}
-use Rattle.std.proofs.lemmas.List.Elements.{All-cons, All-nil, All-append}
+use Rattle.std.proofs.lemmas.List.{length-append, take_all, take_more}
+use Rattle.std.proofs.lemmas.List.Elements.{All-cons, All-nil, All-append, All-get_or}
+use Rattle.journal_entry.specs.Lawful.{IsLawful}
 use Rattle.journal_entry.specs.declared.entry.Entry.{Entry}
-use Rattle.system_fold.specs.Settings.{SettingsFields, AreLawful, IsKept}
+use Rattle.select_core.specs.declared.chime.Candidate.{Candidate}
+use Rattle.system_fold.specs.Settings.{SettingsFields, AreLawful, IsJournal, IsKept}
 use Rattle.system_fold.specs.Standing.{StandsFor, FoldFields, IsFold, KeepsLeaps, blank, feeds_of}
 use Rattle.system_fold.specs.declared.feed.Feed.{Feed}
 use Rattle.system_fold.specs.declared.leaps.Leaps.{Leaps}
+use Rattle.system_fold.specs.declared.source.Source.{Source}
 
 enumerated-length : {X Y : Type 0} (f : ℕ × X → Y) (a : ℕ) (xs : List X) → length (map f (enumerate_from a xs)) ≡ length xs
 enumerated-length f a [] = refl
@@ -32,8 +35,8 @@ few_of fold settings journal h =
     let same : length fold.feeds ≡ length settings.sources = ap (λ (fs : List Feed). length fs) h.feeds ∙ feeds-length settings journal in
     subst (λ (n : ℕ). n ≤ 16) (sym same) h.few
 
-pub few : (fold : FoldFields) → IsFold fold → length fold.feeds ≤ 16
-few fold h = few_of fold h.settings h.journal h.stands
+pub few : (fold : FoldFields) (fit : List Source) (sweep : List Candidate) → IsFold fold fit sweep → length fold.feeds ≤ 16
+few fold fit sweep h = few_of fold h.settings h.journal h.stands
 
 -- the state of the empty journal
 pub stands-nil : (fold : FoldFields) (settings : SettingsFields) → AreLawful settings → length settings.sources ≤ 16 → fold.holdover ≡ settings.holdover → fold.feeds ≡ map blank settings.sources → KeepsLeaps fold.leaps [] → fold.length ≡ 0
@@ -82,3 +85,21 @@ stands-step old n taken leaps e same lawful takes steps settings journal h = sta
 
     feeds : refill n old.feeds taken ≡ feeds_of settings (journal ++ e ∷ [])
     feeds = refill-same n old.feeds taken long ∙ takes settings journal h.feeds
+
+-- the next entry is of one of the feeds
+pub kept-at : (fold : FoldFields) (settings : SettingsFields) (before journal : List Entry) (i : ℕ) (e : Entry) → StandsFor fold settings before → IsJournal settings journal → i < length journal → e ≡ get_or journal i e → IsLawful (length fold.feeds) e
+kept-at fold settings before journal i e h all below here = subst (λ (n : ℕ). IsLawful n e) (sym same) kept.lawful
+  where
+    same : length fold.feeds ≡ length settings.sources
+    same = ap (λ (fs : List Feed). length fs) h.feeds ∙ feeds-length settings before
+
+    kept : IsKept (length settings.sources) e
+    kept = subst (IsKept (length settings.sources)) (sym here) (All-get_or (IsKept (length settings.sources)) journal i e below all)
+
+-- what holds of each entry that was looked at, with one entry more, and at the end
+pub all-more : {X : Type 0} (P : X → Type 0) (xs : List X) (i : ℕ) (x : X) → i < length xs → x ≡ get_or xs i x → All P (take i xs) → P x → All P (take (i + 1) xs)
+all-more P xs i x below here all next =
+    subst (All P) (sym (take_more xs i x below ∙ ap (λ y. take i xs ++ y ∷ []) (sym here))) (All-append P (take i xs) (x ∷ []) all (All-cons P x [] next (All-nil P)))
+
+pub all-seen : {X : Type 0} (P : X → Type 0) (xs : List X) (i : ℕ) → length xs ≤ i → All P (take i xs) → All P xs
+all-seen P xs i past all = subst (All P) (take_all i xs past) all

@@ -4,14 +4,18 @@ use Rattle.std.specs.List.{enumerate_from}
 use Rattle.tick_units.specs.Orders.{better}
 use Rattle.clock_filter.specs.Held.{last_eight}
 use Rattle.journal_entry.specs.declared.entry.Entry.{Entry}
+use Rattle.select_core.specs.declared.chime.Candidate.{Candidate}
+use Rattle.system_fold.specs.Fit.{AreFit}
 use Rattle.system_fold.specs.Journal.{now_of}
 use Rattle.system_fold.specs.Leaps.{word_in, verdict_in, words_of, last_verdict, passed_among, cut_of}
 use Rattle.system_fold.specs.Samples.{samples_of}
+use Rattle.system_fold.specs.Selecting.{candidate_of}
 use Rattle.system_fold.specs.Settings.{SettingsFields, AreLawful, IsJournal}
 use Rattle.system_fold.specs.declared.feed.Feed.{Feed}
 use Rattle.system_fold.specs.declared.leaps.Leaps.{Leaps}
 use Rattle.system_fold.specs.declared.leaps.Word.{Word}
 use Rattle.system_fold.specs.declared.settings.SourceKind.{SourceKind}
+use Rattle.system_fold.specs.declared.source.Source.{Source}
 
 -- of a journal these words, this Verdict and this cut are kept
 pub record KeepsLeaps (s : Leaps) (journal : List Entry) : Type 0 where
@@ -45,11 +49,13 @@ pub record StandsFor (fold : FoldFields) (settings : SettingsFields) (journal : 
   pub leaps : KeepsLeaps fold.leaps journal
   pub length : fold.length ≡ length journal
 
--- each fold stands for some
-pub record IsFold (fold : FoldFields) : Type 0 where
+-- each fold stands for some, and has ready the sources that are fit and what the selection is told of them
+pub record IsFold (fold : FoldFields) (fit : List Source) (sweep : List Candidate) : Type 0 where
   pub settings : SettingsFields
   pub journal : List Entry
   pub stands : StandsFor fold settings journal
+  pub sources : AreFit fold.leaps.cut fold.leaps.latest fold.feeds fit
+  pub candidates : sweep ≡ map (candidate_of fold.leaps.latest) fit
 
 -- the newer, where there is one
 abbrev pub or_older : {A : Type 0} → Option A → Option A → Option A

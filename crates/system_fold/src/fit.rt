@@ -1,20 +1,26 @@
 //! The sources that are fit to be selected.
-ghost use Rattle.std.specs.Prelude.{◌≡◌, ◌≤◌, ◌<◌, ◌^◌, ◌+◌, ◌++◌, [], List, All, length, pos, ◌≤ℤ◌, unsigned_abs, IfSome};
+ghost use Rattle.std.specs.Prelude.{◌≡◌, ◌≤◌, ◌<◌, ◌^◌, ◌+◌, ◌++◌, [], All, length, map, pos, ◌≤ℤ◌, unsigned_abs, IfSome};
 ghost use Rattle.std.specs.List.{cons_option};
+ghost use Rattle.std.specs.Option.{option_map};
 ghost use Rattle.arrayvec.specs.ArrayVec.{array_vec_len};
+ghost use Rattle.select_core.specs.Standing.{others};
 ghost use Rattle.system_fold.specs.Fit as fit;
-ghost use Rattle.system_fold.specs.Fit.{IsFit, IsSound, fit_feeds};
+ghost use Rattle.system_fold.specs.Fit.{AreFew, AreFit, IsFit, IsSound};
+ghost use Rattle.system_fold.specs.Selecting as selecting;
 
 use crate::feed::Feed;
+use crate::selecting::candidate_of;
 use crate::source::Source;
 use arrayvec::ArrayVec;
 use clock_filter::is_fit;
+use select_core::Sweep;
 use tick_units::Local;
 
 // The feed of a number, where its samples from the cut on make it fit.
 fn fit_source(number: u32, feed: &Feed, cut: u64, now: Local) -> Option<Source>
     requires { IsSound now feed.now }
     ensures value { result ≡ fit.fit_source cut now (number, feed.now) }
+    ensures feed { IfSome result (λ s. s.feed ≡ number) }
     ensures fit { IfSome result (IsFit now) }
 {
     let figures = feed.filter.figures(cut)?;
@@ -40,17 +46,39 @@ pub fn push_some(sources: &mut ArrayVec<Source, 16>, source: Option<Source>)
     }
 }
 
-/// The feeds that are fit, in the order of their numbers.
-pub fn fit_sources(feeds: &[Feed], cut: u64, now: Local) -> ArrayVec<Source, 16>
+// Lets the candidate of a feed stand, where the feed is fit, and none of it where it isn't.
+fn stand(sweep: &mut Sweep, number: u32, source: &Option<Source>, now: Local)
+    requires feed { IfSome source.now (λ s. s.feed ≡ number) }
+    requires fit { IfSome source.now (IsFit now) }
+    requires room { length (others number sweep.old) < 16 }
+    ensures { sweep.new ≡ others number sweep.old ++ cons_option (option_map (selecting.candidate_of now) source.now) [] }
+{
+    match source {
+        Some(source) => sweep.put(candidate_of(source, now)),
+        None => sweep.remove(number),
+    }
+}
+
+/// Finds the feeds that are fit, in the order of their numbers, and lets them, and no others, stand in the sweep, with the
+/// distances that they have now.
+pub fn find_fit(
+    feeds: &[Feed],
+    cut: u64,
+    now: Local,
+    fit: &mut ArrayVec<Source, 16>,
+    sweep: &mut Sweep,
+)
     requires few { length feeds.now ≤ 16 }
     requires sound { All (IsSound now) feeds.now }
-    ensures value { result.items ≡ fit_feeds cut now feeds.now }
-    ensures fit { All (IsFit now) result.items }
-    ensures few { length result.items ≤ 16 }
+    requires standing { AreFew (length feeds.now) sweep.old }
+    ensures fit { AreFit cut now feeds.now fit.new.items }
+    ensures sweep { sweep.new ≡ map (selecting.candidate_of now) fit.new.items }
 {
-    let mut fit = ArrayVec::new();
-    for (number, feed) in feeds.iter().enumerate() {
-        push_some(&mut fit, fit_source(number as u32, feed, cut, now));
+    fit.clear();
+    for (index, feed) in feeds.iter().enumerate() {
+        let number = index as u32;
+        let source = fit_source(number, feed, cut, now);
+        stand(sweep, number, &source, now);
+        push_some(fit, source);
     }
-    fit
 }

@@ -7,23 +7,28 @@ ghost use Rattle.system_fold.specs.Settings.{AreLawful, SettingsFields};
 ghost use Rattle.system_fold.specs.Standing.{StandsFor, blank, feeds_of};
 
 use crate::feed::Feed;
-use crate::fit::fit_sources;
+use crate::fit::find_fit;
 use crate::leaps::Leaps;
-use crate::page::{Occasion, page_by};
+use crate::page::{Occasion, page_within};
+use crate::source::Source;
 use crate::{Settings, SourceKind};
 use arrayvec::ArrayVec;
 use clock_page::Page;
 use journal_entry::Entry;
+use select_core::Sweep;
 use std::marker::Model;
 
-/// What is kept of a journal to make its page: of each feed its last eight samples, what was said of leap seconds, and how many
-/// entries there were. Contracts see that it stands for the settings and the whole journal.
+/// What is kept of a journal to make its page: of each feed its last eight samples, what was said of leap seconds, how many
+/// entries there were, and, worked out once an entry, the sources that are fit and the ends of their intervals in order.
+/// Contracts see that it stands for the settings and the whole journal.
 #[derive(Drop)]
 pub struct FoldState {
     holdover: u64,
     feeds: ArrayVec<Feed, 16>,
     leaps: Leaps,
     length: u64,
+    fit: ArrayVec<Source, 16>,
+    sweep: Sweep,
 }
 
 impl Model for FoldState {
@@ -33,7 +38,7 @@ impl Model for FoldState {
 
     ghost view = { λ s. record { holdover = s.holdover; feeds = s.feeds.items; leaps = s.leaps; length = s.length } };
 
-    ghost invariant = { λ s. IsFold (record { holdover = s.holdover; feeds = s.feeds.items; leaps = s.leaps; length = s.length }) };
+    ghost invariant = { λ s. IsFold (record { holdover = s.holdover; feeds = s.feeds.items; leaps = s.leaps; length = s.length }) s.fit.items s.sweep };
 }
 
 // Of each feed what it is, and no sample.
@@ -69,6 +74,8 @@ impl FoldState {
             feeds: blank_feeds(settings.sources()),
             leaps: Leaps::new(),
             length: 0,
+            fit: ArrayVec::new(),
+            sweep: Sweep::new(),
         }
     }
 
@@ -82,6 +89,13 @@ impl FoldState {
         take_sample(self.feeds.as_mut_slice(), e);
         self.leaps.step(e);
         self.length += 1;
+        find_fit(
+            self.feeds.as_slice(),
+            self.leaps.cut,
+            self.leaps.latest,
+            &mut self.fit,
+            &mut self.sweep,
+        );
     }
 
     /// The page of the journal.
@@ -94,7 +108,6 @@ impl FoldState {
             holdover: self.holdover,
             armed: self.leaps.armed(),
         };
-        let fit = fit_sources(self.feeds.as_slice(), self.leaps.cut, self.leaps.latest);
-        page_by(&occasion, fit.as_slice())
+        page_within(&occasion, self.fit.as_slice(), &self.sweep.chime())
     }
 }

@@ -4,6 +4,8 @@
 mod feed;
 mod fit;
 mod fold;
+#[cfg(test)]
+mod journals;
 mod leaps;
 mod moments;
 mod page;
@@ -11,7 +13,12 @@ mod selecting;
 mod settings;
 mod source;
 mod text;
+mod whole;
 
 pub use fold::FoldState;
 pub use settings::{Settings, SourceKind};
 pub use text::page_text;
+pub use whole::page_by_steps;
+
+#[cfg(test)]
+mod tests;

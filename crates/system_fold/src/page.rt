@@ -1,11 +1,12 @@
 //! The fields of a page.
-ghost use Rattle.std.specs.Prelude.{◌≡◌, ◌∷◌, ◌<◌, ◌≤◌, ◌^◌, ℤ, pos, ◌≤ℤ◌, ◌<ℤ◌, ◌+ℤ◌, List, All, length, min};
+ghost use Rattle.std.specs.Prelude.{◌≡◌, ◌∷◌, ◌<◌, ◌≤◌, ◌^◌, ℤ, pos, ◌≤ℤ◌, ◌<ℤ◌, ◌+ℤ◌, ◌-ℤ◌, List, All, IfSome, length, map, min};
 ghost use Rattle.std.specs.Int.{int_max};
 ghost use Rattle.tick_units.specs.Samples.{IsLength};
 ghost use Rattle.tick_units.specs.Units as units;
 ghost use Rattle.clock_filter.specs.Distance.{root_delay_of, root_dispersion_of};
 ghost use Rattle.cluster_core.specs.Bounds.{AreNear, IsMeasured};
 ghost use Rattle.cluster_core.specs.Mean.{mean};
+ghost use Rattle.select_core.specs.Selection.{chime_of};
 ghost use Rattle.system_fold.specs.Fit.{IsFit};
 ghost use Rattle.system_fold.specs.Selecting as selecting;
 ghost use Rattle.system_fold.specs.Surviving.{IsLong};
@@ -21,6 +22,7 @@ use crate::source::Source;
 use clock_filter::{root_delay, root_dispersion};
 use clock_page::Page;
 use cluster_core::{Survivors, cluster, combine};
+use select_core::Chime;
 use tick_units::{Local, Plan, Short, Span, Stamp, local_span, stamp_of, to_short};
 
 // The least root dispersion, 5 ms (MINDISP of RFC 5905).
@@ -135,20 +137,32 @@ fn page_of_rest(occasion: &Occasion, fit: &[Source], rest: &Survivors) -> Page
     }
 }
 
-/// The page of the sources that are fit.
+/// The page of the sources that are fit, by the interval that enough of them agree on.
 #[tactic(auto, unfolding(crate::specs::Page::page_by))]
+pub fn page_within(occasion: &Occasion, fit: &[Source], chime: &Option<Chime>) -> Page
+    requires holdover { occasion.now.holdover ≤ 86400000000 }
+    requires few { length fit.now ≤ 16 }
+    requires fit { All (IsFit occasion.now.moment) fit.now }
+    requires chime { chime.now ≡ chime_of (map (selecting.candidate_of occasion.now.moment) fit.now) }
+    requires narrow { IfSome chime.now (λ chime. (chime.high -ℤ chime.low) ≤ℤ pos (2 ^ 33)) }
+    ensures { result ≡ page_by occasion.now.length occasion.now.moment occasion.now.holdover occasion.now.armed fit.now }
+{
+    match chime {
+        Some(chime) => {
+            let mut survivors = survivors_in(chime, fit, occasion.moment);
+            cluster(&mut survivors);
+            page_of_rest(occasion, fit, &survivors)
+        }
+        None => Page::unsynchronised(occasion.length, occasion.moment),
+    }
+}
+
+/// The page of the sources that are fit.
 pub fn page_by(occasion: &Occasion, fit: &[Source]) -> Page
     requires holdover { occasion.now.holdover ≤ 86400000000 }
     requires few { length fit.now ≤ 16 }
     requires fit { All (IsFit occasion.now.moment) fit.now }
     ensures { result ≡ page_by occasion.now.length occasion.now.moment occasion.now.holdover occasion.now.armed fit.now }
 {
-    match agreed(fit, occasion.moment) {
-        Some(chime) => {
-            let mut survivors = survivors_in(&chime, fit, occasion.moment);
-            cluster(&mut survivors);
-            page_of_rest(occasion, fit, &survivors)
-        }
-        None => Page::unsynchronised(occasion.length, occasion.moment),
-    }
+    page_within(occasion, fit, &agreed(fit, occasion.moment))
 }

@@ -13,8 +13,8 @@ use cluster_core::{Survivor, Survivors};
 use select_core::{Candidate, Chime, select};
 use tick_units::Local;
 
-// What the selection is told of a source.
-fn candidate_of(source: &Source, now: Local) -> Candidate
+/// What the selection is told of a source.
+pub fn candidate_of(source: &Source, now: Local) -> Candidate
     requires { IsFit now source.now }
     ensures value { result ≡ selecting.candidate_of now source.now }
     ensures measured { IsTrue (is_measured result) }

@@ -1,0 +1,139 @@
+//! Journals and settings of tests.
+ghost use Rattle.std.specs.Prelude.{◌≡◌, ◌≤◌, ◌<◌, ◌^◌, true, length};
+ghost use Rattle.journal_entry.specs.Lawful.{IsLawfulKind, IsLawfulVerdict, IsLawfulWhat, IsTold};
+ghost use Rattle.tick_units.specs.Samples as samples;
+ghost use Rattle.system_fold.specs.Settings.{AreLawful, IsJournal, IsKept};
+
+use crate::{Settings, SourceKind, page_by_steps, page_text};
+use clock_page::Page;
+use journal_entry::{Entry, What, read_entry};
+use std::test::Fail;
+use tick_units::{Kind, Sample, Span};
+
+fn is_told(second: u64) -> bool
+    ensures { result ≡ true → IsTold second }
+{
+    3_155_587_200 <= second && second < 6_311_606_400
+}
+
+fn is_lawful_verdict(second: u64, leap_at: u64) -> bool
+    ensures { result ≡ true → IsLawfulVerdict second leap_at }
+{
+    if leap_at == 0 {
+        return is_told(second);
+    }
+    if !is_told(leap_at) {
+        return false;
+    }
+    is_told(second)
+}
+
+fn is_lawful_kind(kind: &Kind) -> bool
+    ensures { result ≡ true → IsLawfulKind kind.now }
+{
+    match kind {
+        Kind::Verdict { second, leap_at } => is_lawful_verdict(*second, *leap_at),
+        _ => true,
+    }
+}
+
+fn is_length(span: Span) -> bool
+    ensures { result ≡ true → samples.IsLength span }
+{
+    let units = span.get();
+    0 <= units && units < 1 << 66
+}
+
+fn is_lawful_sample(sample: &Sample) -> bool
+    ensures { result ≡ true → samples.IsLawful sample.now }
+{
+    if !is_length(sample.offset) {
+        return false;
+    }
+    if !is_length(sample.delay) {
+        return false;
+    }
+    is_length(sample.dispersion)
+}
+
+fn is_lawful_what(what: &What) -> bool
+    ensures { result ≡ true → IsLawfulWhat what.now }
+{
+    match what {
+        What::Heard(kind) => is_lawful_kind(kind),
+        What::Sample(sample) => is_lawful_sample(sample),
+        What::Declined(_) => true,
+        What::Notice(leap_at) => *leap_at < 6_311_606_400,
+    }
+}
+
+fn is_kept(feeds: u32, e: &Entry) -> bool
+    ensures lawful { result ≡ true → IsKept feeds e.now }
+{
+    let _moment = e.at.get();
+    if e.feed >= feeds {
+        return false;
+    }
+    is_lawful_what(&e.what)
+}
+
+fn is_journal(settings: &Settings, journal: &[Entry]) -> bool
+    ensures { result ≡ true → IsJournal settings.now journal.now }
+{
+    for e in journal {
+        if !is_kept(settings.count(), e) {
+            return false;
+        }
+    }
+    true
+}
+
+fn are_lawful(settings: &Settings) -> bool
+    ensures { result ≡ true → AreLawful settings.now }
+{
+    1 <= settings.holdover() && settings.holdover() <= 86_400_000_000
+}
+
+/// The page of a journal, where it is one of lawful entries.
+pub fn page_after(settings: &Settings, journal: &[Entry]) -> Result<Page, Fail> {
+    if !are_lawful(settings) {
+        return Err("no lawful settings")?;
+    }
+    if !is_journal(settings, journal) {
+        return Err("no lawful journal")?;
+    }
+    if journal.len() > 1 << 22 {
+        return Err("too long")?;
+    }
+    Ok(page_by_steps(settings, journal))
+}
+
+/// Settings with feeds of these kinds.
+pub fn settings_of(holdover: u64, kinds: &[SourceKind]) -> Result<Settings, Fail> {
+    let mut settings = Settings::new(holdover);
+    for kind in kinds {
+        if settings.count() >= 16 {
+            return Err("too many feeds")?;
+        }
+        settings.add(*kind);
+    }
+    Ok(settings)
+}
+
+/// The entries of these texts.
+pub fn journal_of(rt: &HostRuntime, texts: &[&str]) -> Result<Vec<Entry>, Fail> {
+    let mut journal = Vec::new(rt.alloc());
+    for text in texts {
+        journal.push(read_entry(text.as_bytes()).ok_or("no entry")?)?;
+    }
+    Ok(journal)
+}
+
+/// The line of the page of the entries of these texts.
+pub fn text_after(rt: &HostRuntime, settings: &Settings, texts: &[&str]) -> Result<String, Fail> {
+    let journal = journal_of(rt, texts)?;
+    let page = page_after(settings, &journal)?;
+    let mut out = [0; 256];
+    let length = page_text(&page, &mut out);
+    Ok(String::from_utf8(out[..length].to_vec(rt.alloc())?)?)
+}
