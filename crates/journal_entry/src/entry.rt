@@ -7,6 +7,7 @@ pub struct Entry {
     pub feed: u32,
     /// When it was told, on the host's counter.
     pub at: Local,
+    /// What it told.
     pub what: What,
 }
 

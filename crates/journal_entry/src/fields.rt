@@ -1,4 +1,4 @@
-ghost use Rattle.std.specs.Prelude.{◌≡◌, ◌<◌, ◌≤◌, ◌^◌, ◌==◌, ◌∷◌, ℕ, ℤ, List, Some, false, decimal, unsigned_abs, pos};
+ghost use Rattle.std.specs.Prelude.{◌≡◌, ◌<◌, ◌^◌, ◌==◌, ◌∷◌, ℕ, ℤ, List, Some, false, decimal, unsigned_abs, pos};
 ghost use Rattle.std.specs.Fmt.{signed_decimal};
 ghost use Rattle.std.specs.List.{position};
 ghost use Rattle.journal_entry.specs.Texts.{address_text};
