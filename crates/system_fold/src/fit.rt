@@ -1,11 +1,11 @@
 //! The sources that are fit to be selected.
-ghost use Rattle.std.specs.Prelude.{◌≡◌, ◌≤◌, ◌<◌, ◌^◌, ◌+◌, ◌++◌, [], All, length, map, pos, ◌≤ℤ◌, unsigned_abs, IfSome};
+ghost use Rattle.std.specs.Prelude.{◌≡◌, ◌≤◌, ◌<◌, ◌^◌, ◌+◌, ◌++◌, [], List, All, length, map, pos, ◌≤ℤ◌, unsigned_abs, IfSome};
 ghost use Rattle.std.specs.List.{cons_option};
 ghost use Rattle.std.specs.Option.{option_map};
 ghost use Rattle.arrayvec.specs.ArrayVec.{array_vec_len};
 ghost use Rattle.select_core.specs.Standing.{others};
 ghost use Rattle.system_fold.specs.Fit as fit;
-ghost use Rattle.system_fold.specs.Fit.{AreFew, AreFit, IsFit, IsSound};
+ghost use Rattle.system_fold.specs.Fit.{AreFew, AreFit, IsFit, IsSound, fit_feeds};
 ghost use Rattle.system_fold.specs.Selecting as selecting;
 
 use crate::feed::Feed;
@@ -46,6 +46,21 @@ pub fn push_some(sources: &mut ArrayVec<Source, 16>, source: Option<Source>)
     }
 }
 
+/// The feeds that are fit, in the order of their numbers.
+pub fn fit_sources(feeds: &[Feed], cut: u64, now: Local) -> ArrayVec<Source, 16>
+    requires few { length feeds.now ≤ 16 }
+    requires sound { All (IsSound now) feeds.now }
+    ensures value { result.items ≡ fit_feeds cut now feeds.now }
+    ensures fit { All (IsFit now) result.items }
+    ensures few { length result.items ≤ 16 }
+{
+    let mut fit = ArrayVec::new();
+    for (number, feed) in feeds.iter().enumerate() {
+        push_some(&mut fit, fit_source(number as u32, feed, cut, now));
+    }
+    fit
+}
+
 // Lets the candidate of a feed stand, where the feed is fit, and none of it where it isn't.
 fn stand(sweep: &mut Sweep, number: u32, source: &Option<Source>, now: Local)
     requires feed { IfSome source.now (λ s. s.feed ≡ number) }
@@ -59,8 +74,8 @@ fn stand(sweep: &mut Sweep, number: u32, source: &Option<Source>, now: Local)
     }
 }
 
-/// Finds the feeds that are fit, in the order of their numbers, and lets them, and no others, stand in the sweep, with the
-/// distances that they have now.
+/// Finds the feeds that are fit, in the order of their numbers, as `fit_sources` does, and lets them, and no others, stand in
+/// the sweep, with the distances that they have now.
 pub fn find_fit(
     feeds: &[Feed],
     cut: u64,

@@ -157,7 +157,7 @@ pub fn page_within(occasion: &Occasion, fit: &[Source], chime: &Option<Chime>) -
     }
 }
 
-/// The page of the sources that are fit.
+/// The page of the sources that are fit, among which the selection is made anew.
 pub fn page_by(occasion: &Occasion, fit: &[Source]) -> Page
     requires holdover { occasion.now.holdover ≤ 86400000000 }
     requires few { length fit.now ≤ 16 }
