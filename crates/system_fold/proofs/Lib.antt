@@ -6,3 +6,4 @@ pub mod SourceLaws
 pub mod SoundLaws
 pub mod PageLaws
 pub mod LengthLaws
+pub mod PlainLaws
