@@ -33,7 +33,7 @@ newest-most now (x ∷ xs) all = fold-most now 0 (map (λ y. y.at) (x ∷ xs)) (
 pub newest-by : (cut now : ℕ) (feed : Feed) (f : Figures) → IsSound now feed → Some f ≡ figures_of (held cut feed.filter) → f.newest ≤ now
 newest-by cut now feed f sound is = subst (λ (o : Option Figures). IfSome o (λ g. g.newest ≤ now)) (sym is) (newest-most now (held cut feed.filter) (held-all (λ x. x.at ≤ now) cut feed.filter sound.timely))
 
-enumerate-append : {X : Type 0} (a : ℕ) (xs ys : List X) → enumerate_from a (xs ++ ys) ≡ enumerate_from a xs ++ enumerate_from (a + length xs) ys
+pub enumerate-append : {X : Type 0} (a : ℕ) (xs ys : List X) → enumerate_from a (xs ++ ys) ≡ enumerate_from a xs ++ enumerate_from (a + length xs) ys
 enumerate-append a [] ys = ap (λ (n : ℕ). enumerate_from n ys) (omega arith)
 enumerate-append {X} a (x ∷ xs) ys = ap (λ (zs : List (ℕ × X)). (a, x) ∷ zs) (enumerate-append (a + 1) xs ys ∙ ap (λ (n : ℕ). enumerate_from (a + 1) xs ++ enumerate_from n ys) (omega arith))
 

@@ -7,3 +7,4 @@ pub mod SoundLaws
 pub mod PageLaws
 pub mod SweepLaws
 pub mod LengthLaws
+pub mod PlainLaws

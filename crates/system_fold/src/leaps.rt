@@ -46,7 +46,7 @@ pub struct Leaps {
 }
 
 // The word that an entry is, if it is one.
-fn word_said(at: Local, what: &What) -> Option<Word>
+pub fn word_said(at: Local, what: &What) -> Option<Word>
     ensures { result ≡ word_in at what.now }
 {
     match what {
@@ -60,7 +60,7 @@ fn word_said(at: Local, what: &What) -> Option<Word>
     }
 }
 
-fn verdict_said(at: Local, what: &What) -> Option<Verdict>
+pub fn verdict_said(at: Local, what: &What) -> Option<Verdict>
     ensures { result ≡ verdict_in at what.now }
 {
     match what {
@@ -168,7 +168,7 @@ fn sooner(first: Option<Leap>, next: Option<Leap>) -> Option<Leap>
 }
 
 // The greatest end of a leap second among words that isn't above now, or 0.
-fn last_passed(now: Local, verdict: &Option<Verdict>, words: &[Option<Word>]) -> u64
+pub fn last_passed(now: Local, verdict: &Option<Verdict>, words: &[Option<Word>]) -> u64
     ensures { result ≡ passed_among now verdict.now words.now }
 {
     let mut most = 0;

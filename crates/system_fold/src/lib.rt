@@ -9,6 +9,7 @@ mod journals;
 mod leaps;
 mod moments;
 mod page;
+mod plain;
 mod selecting;
 mod settings;
 mod source;
@@ -16,6 +17,7 @@ mod text;
 mod whole;
 
 pub use fold::FoldState;
+pub use plain::page_from_scratch;
 pub use settings::{Settings, SourceKind};
 pub use text::page_text;
 pub use whole::page_by_steps;
