@@ -4,11 +4,25 @@ ghost use Rattle.journal_entry.specs.Lawful.{IsLawfulKind, IsLawfulVerdict, IsLa
 ghost use Rattle.tick_units.specs.Samples as samples;
 ghost use Rattle.system_fold.specs.Settings.{AreLawful, IsJournal, IsKept};
 
-use crate::{Settings, SourceKind, page_by_steps, page_text};
+use crate::{Settings, SourceKind, page_by_steps, page_from_scratch, page_text};
 use clock_page::Page;
+use feed_link::Address;
 use journal_entry::{Entry, What, read_entry};
 use std::test::Fail;
-use tick_units::{Kind, Sample, Span};
+use tick_units::{Kind, Plan, Sample, Span};
+
+pub const DCF: SourceKind = SourceKind::Radio(Plan::Dcf);
+
+pub const MSF: SourceKind = SourceKind::Radio(Plan::Msf);
+
+pub const WWVB: SourceKind = SourceKind::Radio(Plan::Wwvb);
+
+pub const SERVER: SourceKind = SourceKind::Server(Address {
+    ip: 0x7f00_0001,
+    port: 123,
+});
+
+pub const LEAP: SourceKind = SourceKind::Leap;
 
 fn is_told(second: u64) -> bool
     ensures { result ≡ true → IsTold second }
@@ -94,7 +108,7 @@ fn are_lawful(settings: &Settings) -> bool
     1 <= settings.holdover() && settings.holdover() <= 86_400_000_000
 }
 
-/// The page of a journal, where it is one of lawful entries.
+/// The page of a journal, where it is one of lawful entries: by steps and from scratch, which come to the same.
 pub fn page_after(settings: &Settings, journal: &[Entry]) -> Result<Page, Fail> {
     if !are_lawful(settings) {
         return Err("no lawful settings")?;
@@ -105,7 +119,18 @@ pub fn page_after(settings: &Settings, journal: &[Entry]) -> Result<Page, Fail> 
     if journal.len() > 1 << 22 {
         return Err("too long")?;
     }
-    Ok(page_by_steps(settings, journal))
+    let page = page_by_steps(settings, journal);
+    if page_from_scratch(settings, journal) != page {
+        return Err("the two pages differ")?;
+    }
+    Ok(page)
+}
+
+/// The line of a page.
+pub fn line_of(rt: &HostRuntime, page: &Page) -> Result<String, Fail> {
+    let mut out = [0; 256];
+    let length = page_text(page, &mut out);
+    Ok(String::from_utf8(out[..length].to_vec(rt.alloc())?)?)
 }
 
 /// Settings with feeds of these kinds.
@@ -133,7 +158,23 @@ pub fn journal_of(rt: &HostRuntime, texts: &[&str]) -> Result<Vec<Entry>, Fail> 
 pub fn text_after(rt: &HostRuntime, settings: &Settings, texts: &[&str]) -> Result<String, Fail> {
     let journal = journal_of(rt, texts)?;
     let page = page_after(settings, &journal)?;
-    let mut out = [0; 256];
-    let length = page_text(&page, &mut out);
-    Ok(String::from_utf8(out[..length].to_vec(rt.alloc())?)?)
+    line_of(rt, &page)
+}
+
+/// A journal, and the line of its page, which was worked out from the rules by another program.
+pub struct Odd<'a> {
+    pub why: &'a str,
+    pub kinds: &'a [SourceKind],
+    pub entries: &'a [&'a str],
+    pub line: &'a str,
+}
+
+/// The page of an odd journal has its line.
+pub fn is_the_page(rt: &HostRuntime, odd: &Odd<'_>) -> Result<(), Fail> {
+    let settings = settings_of(600_000_000, odd.kinds)?;
+    let text = text_after(rt, &settings, odd.entries)?;
+    if text.as_str() != odd.line {
+        return Err(odd.why)?;
+    }
+    Ok(())
 }

@@ -23,4 +23,8 @@ pub use text::page_text;
 pub use whole::page_by_steps;
 
 #[cfg(test)]
+mod leap_tests;
+#[cfg(test)]
+mod source_tests;
+#[cfg(test)]
 mod tests;

@@ -1,11 +1,14 @@
-use crate::journals::{settings_of, text_after};
-use crate::{Settings, SourceKind};
+ghost use Rattle.std.specs.Prelude.{◌<◌};
+
+use crate::Settings;
+use crate::journals::{DCF, SERVER, line_of, page_after, settings_of, text_after};
+use journal_entry::{Entry, What};
 use std::test::Fail;
-use tick_units::Plan;
+use tick_units::{Local, Sample, Short, Span};
 
 // A station with one receiver, which is trusted for ten minutes after its last minute.
 fn of_one_radio() -> Result<Settings, Fail> {
-    settings_of(600_000_000, &[SourceKind::Radio(Plan::Dcf)])
+    settings_of(600_000_000, &[DCF])
 }
 
 // The minutes of a DCF77 receiver from 2026-01-01 12:00 UTC on.
@@ -80,5 +83,45 @@ fn a_page_ends_with_a_leap_second(rt: HostRuntime) -> Result<(), Fail> {
         let text = text_after(&rt, &settings, &OVER_A_LEAP[..entries])?;
         assert_eq!(rt; text.as_str(), line);
     }
+    Ok(())
+}
+
+// The exchange of a number with the server of a number. The greater its number, the farther a server is from the truth, and
+// the nearer it is to the host.
+fn exchange(number: u64, server: u32) -> Result<Entry, Fail>
+    requires number { number < 4 }
+    requires server { server < 16 }
+{
+    let further = u64::from(server);
+    Ok(Entry {
+        feed: server,
+        at: Local::new(280_000_000 + 1_000_000 * number + further).ok_or("no moment")?,
+        what: What::Sample(Sample {
+            offset: Span::from(15_857_950_998_447_259_648 + 10_000_000 * further),
+            delay: Span::from(1_000_000 * (16 - further) + number),
+            dispersion: Span::from(4_096),
+            stratum: 1,
+            address: 0x0a00_0000 + server,
+            root_delay: Short(server),
+            root_disp: Short(2 * server),
+        }),
+    })
+}
+
+// Four exchanges with each of as many servers as there can be.
+#[test]
+fn sixteen_servers(rt: HostRuntime) -> Result<(), Fail> {
+    let settings = settings_of(600_000_000, &[SERVER; 16])?;
+    let mut journal = Vec::new(rt.alloc());
+    for number in 0..4 {
+        for server in 0..16 {
+            journal.push(exchange(number, server)?)?;
+        }
+    }
+    let page = page_after(&settings, &journal)?;
+    assert_eq!(rt;
+        line_of(&rt, &page)?.as_str(),
+        "page 64 1 2 0a000000 15857950998457259431 283000015 883000002 245 61446 dc12c3850098b734 0"
+    );
     Ok(())
 }
