@@ -27,4 +27,6 @@ mod leap_tests;
 #[cfg(test)]
 mod source_tests;
 #[cfg(test)]
+mod sweep_tests;
+#[cfg(test)]
 mod tests;
