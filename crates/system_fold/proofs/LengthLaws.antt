@@ -1,5 +1,5 @@
 -- The digits of a page's numbers.
-use Rattle.std.proofs.Common.{ℕ, ◌^◌, ◌<◌, ◌≤◌, Bool, true, false, length, decimal, ℤ, pos, negsuc, ◌≤ℤ◌, unsigned_abs, arith}
+use Rattle.std.proofs.Common.{◌^◌, ◌<◌, ◌≤◌, Bool, true, false, length, decimal, ℤ, pos, negsuc, ◌≤ℤ◌, unsigned_abs, arith}
 use Rattle.std.specs.Fmt.{signed_decimal}
 use Rattle.std.specs.Int.{from_bool}
 use Rattle.std.proofs.lemmas.Fmt.{length-decimal-le, length-decimal-le_wide}
