@@ -1,12 +1,11 @@
 -- The page of a journal from the whole of it: what one entry more that was looked at does.
-use Rattle.std.proofs.Common.{◌≡◌, ℕ, zero, suc, ◌+◌, ◌≤◌, ◌<◌, max, Bool, true, false, List, [], ◌∷◌, ◌++◌, refl, sym, ap, ◌∙◌, arith, set, subst, length, get_or, map, take}
-use Rattle.std.specs.Prelude.{All, Option, None, Some, ◌==◌, cond}
+use Rattle.std.proofs.Common.{◌≡◌, ℕ, ◌+◌, ◌≤◌, ◌<◌, max, Bool, true, false, List, [], ◌∷◌, ◌++◌, refl, sym, ap, ◌∙◌, arith, set, subst, length, get_or, map, take}
+use Rattle.std.specs.Prelude.{Option, None, Some, ◌==◌, cond}
 use Rattle.std.specs.List.{enumerate_from, range_with_len}
 use Rattle.std.specs.Option.{option_or}
 use Rattle.std.proofs.lemmas.List.{length-take-le, map-append, take_all, take_more, take_more_set}
 use Rattle.std.proofs.lemmas.List.FromFn.{map-range_with_len_more}
 use Rattle.clock_filter.specs.Held.{last_eight}
-use Rattle.clock_filter.specs.declared.taken.Taken.{Taken}
 use Rattle.journal_entry.specs.declared.entry.Entry.{Entry}
 use Rattle.system_fold.specs.Feeds.{with_sample}
 use Rattle.system_fold.specs.Leaps.{word_in, verdict_in, word_of, words_of, last_verdict, passed, cut_of}

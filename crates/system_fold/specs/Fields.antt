@@ -15,18 +15,19 @@ use Rattle.system_fold.specs.declared.settings.SourceKind.TheVariants.{Radio, Se
 use Rattle.system_fold.specs.declared.settings.SourceKind.TheVariants.{Leap as LeapFile}
 use Rattle.system_fold.specs.declared.source.Source.{Source}
 
--- four letters for a radio, the IPv4 address for a server (RFC 5905, section 7.3)
+-- letters for a radio, with a zero behind three of them (RFC 5905, section 7.3)
 abbrev pub radio_id : Plan → ℕ
 radio_id Dcf = 0x44434600
 radio_id Msf = 0x4d534600
 radio_id Wwvb = 0x57575642
 
+-- these, and for a server the IPv4 address that its best sample has
 abbrev pub reference_id : SourceKind → Figures → ℕ
 reference_id (Radio plan) figures = radio_id plan
 reference_id (Server address) figures = figures.address
 reference_id LeapFile figures = 0
 
--- the moment at which a page ends: after the holdover, or where the next leap second ends if that is sooner
+-- the moment at which a page ends: after the holdover, or where the next leap second comes if that is sooner
 abbrev pub until_leap : Option Leap → ℕ → ℕ
 until_leap None until = until
 until_leap (Some leap) until = min leap.moment until
@@ -35,7 +36,7 @@ abbrev pub leap_second : Option Leap → ℕ
 leap_second None = 0
 leap_second (Some leap) = leap.leap_at
 
--- when the newest sample of these was taken
+-- when the newest of all samples that these hold was taken
 abbrev pub fresh_of : List Source → ℕ
 fresh_of sources = greatest (map (λ s. s.figures.newest) sources)
 

@@ -1,4 +1,4 @@
--- What a page is made by besides its journal, and what journals and settings have to be like.
+-- What a page is made by besides its journal, and what journals and settings have to be like. All of it is this project's own.
 use Rattle.std.specs.Prelude.{ℕ, ◌≤◌, ◌<◌, ◌^◌, List, All, length}
 use Rattle.journal_entry.specs.Lawful.{IsLawful}
 use Rattle.journal_entry.specs.declared.entry.Entry.{Entry}

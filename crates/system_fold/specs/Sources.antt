@@ -13,7 +13,7 @@ use Rattle.system_fold.specs.Settings.{SettingsFields}
 use Rattle.system_fold.specs.declared.settings.SourceKind.{SourceKind}
 use Rattle.system_fold.specs.declared.source.Source.{Source}
 
--- a feed whose samples say something, and what they say: of its last eight, those since the last leap second
+-- a feed, and what its samples say: of its last eight those that aren't from before the cut; none where there are none
 abbrev pub source_of : List Entry → ℕ → SourceKind → Option Source
 source_of journal feed kind =
     option_map (λ figures. record { feed = feed; kind = kind; figures = figures }) (figures_of (held (cut_of journal) (samples_of kind feed journal)))
@@ -21,6 +21,6 @@ source_of journal feed kind =
 abbrev pub sources_of : SettingsFields → List Entry → List Source
 sources_of settings journal = filter_map (λ k. source_of journal k.0 k.1) (enumerate_from 0 settings.sources)
 
--- those that are near enough to be selected
+-- those that may be selected: near enough at the end of the journal, and of a low enough stratum
 abbrev pub fit_sources : SettingsFields → List Entry → List Source
 fit_sources settings journal = filter (λ s. is_fit_at (now_of journal) s.figures) (sources_of settings journal)

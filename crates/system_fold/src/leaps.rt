@@ -22,7 +22,7 @@ pub enum Word {
     },
 }
 
-/// A leap second, and the moment at which it ends.
+/// A leap second: the moment at which it comes, and the second at which it ends.
 #[derive(Clone, Copy)]
 pub struct Leap {
     pub moment: u128,
@@ -72,7 +72,7 @@ pub fn verdict_said(at: Local, what: &What) -> Option<Verdict>
     }
 }
 
-// The moment of a leap. It is reckoned in 128 bits, so no bound is asked for.
+// A leap, by a moment and the second that began there. It is reckoned in 128 bits, so no bound is asked for.
 fn leap_from(at: Local, second: u64, leap_at: u64) -> Leap
     ensures { result ≡ record { moment = (at + leap_at * 10 ^ 6) - second * 10 ^ 6; leap_at = leap_at } }
 {
@@ -167,7 +167,7 @@ fn sooner(first: Option<Leap>, next: Option<Leap>) -> Option<Leap>
     }
 }
 
-// The greatest end of a leap second among words that isn't above now, or 0.
+// The greatest moment of a leap second among words that isn't above now, or 0.
 pub fn last_passed(now: Local, verdict: &Option<Verdict>, words: &[Option<Word>]) -> u64
     ensures { result ≡ passed_among now verdict.now words.now }
 {

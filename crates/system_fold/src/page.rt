@@ -28,7 +28,7 @@ use tick_units::{Local, Plan, Short, Span, Stamp, local_span, stamp_of, to_short
 // The least root dispersion, 5 ms (MINDISP of RFC 5905).
 const MIN_DISPERSION: u64 = 21_474_837;
 
-// The reference ID of a source: four letters of a radio, the IPv4 address of a server.
+// The reference ID of a source: the letters of a radio, the IPv4 address of a server.
 fn reference_id(source: &Source) -> u32
     ensures { result ≡ pages.reference_id source.now.kind source.now.figures }
 {

@@ -77,7 +77,7 @@ fn words_of(journal: &[Entry]) -> [Option<Word>; 16]
     words
 }
 
-// The greatest end of a leap second that has passed by the end of a journal, by what it says then.
+// The greatest moment of a leap second that has passed by the end of a journal, by what it says then.
 fn passed(journal: &[Entry]) -> u64
     ensures { result ≡ words.passed journal.now }
 {

@@ -1,9 +1,4 @@
-use Rattle.std.proofs.Common.{◌≡◌, ◌≤◌, ◌<◌, ◌+◌, ℕ, List, [], ◌∷◌, ◌++◌, ap, sym, subst, ◌∙◌, arith, length, take, get_or}
-use Rattle.clock_filter.specs.Held.{last_eight}
-use Rattle.system_fold.specs.Samples.{samples_of}
-use Rattle.system_fold.specs.Standing.{feeds_of}
-use Rattle.system_fold.specs.declared.feed.Feed.{Feed}
-use Rattle.system_fold.specs.declared.settings.SourceKind.{SourceKind}
+use Rattle.std.proofs.Common.{arith}
 use Rattle.system_fold.proofs.PlainLaws.{feeds-push-more}
 use Rattle.system_fold.proofs.plain.feeds_of.Goals as goal
 

@@ -1,4 +1,4 @@
-use Rattle.std.proofs.Common.{◌≡◌, length, set, ◌∙◌, arith}
+use Rattle.std.proofs.Common.{◌∙◌, arith}
 use Rattle.std.proofs.lemmas.List.{length-set}
 use Rattle.system_fold.proofs.PlainLaws.{words-all, words-more}
 use Rattle.system_fold.proofs.plain.words_of.Goals as goal
