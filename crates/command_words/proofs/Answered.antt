@@ -1,17 +1,16 @@
 -- What clap answers, beside what the words ask for.
-use Rattle.std.proofs.Common.{◌≡◌, ◌∙◌, List, [], ◌∷◌, map, Option, Some, None, true, false, refl, sym, ap, subst, bytes_eq, codes}
+use Rattle.std.proofs.Common.{◌≡◌, ◌∙◌, List, [], ◌∷◌, map, Option, Some, None, true, refl, sym, ap, subst, codes}
 use Rattle.std.proofs.lemmas.Option.{same_Some}
 use Rattle.std.proofs.lemmas.Bool.{true≢false}
 use Rattle.std.specs.List.{list_all}
 use Rattle.clap.specs.Words.{fault_of, matches_of, first_of}
-use Rattle.clap.specs.Walk.{Row, nothing_held, walk_from}
-use Rattle.command_words.specs.CommandLine.{IsOnce, Line, Text, command_words, is_value, options, value_of, words_of}
+use Rattle.command_words.specs.CommandLine.{IsOnce, Text, command_words, is_value, options, value_of}
 use Rattle.command_words.specs.Commands.{AskFor, Asked, IsLimit, Says, decode, is_of, name_of, replay, row_of}
-use Rattle.command_words.specs.Matches.{AreFor, Fit, app, has_only, may_have, option_names}
+use Rattle.command_words.specs.Matches.{AreFor, app, may_have, option_names}
 use Rattle.command_words.proofs.FitLaws.{AreGood, Single, Stand, good}
 use Rattle.command_words.proofs.LineLaws.{HasLine, command_of, given_of, lined, parts_of, parts_spelt}
 use Rattle.command_words.proofs.Names.{all_from, known}
-use Rattle.command_words.proofs.Parts.{Part, fits, given_in, names_option, part_row, parts_after, word_id, words_in}
+use Rattle.command_words.proofs.Parts.{Part, fits, given_in, names_option, part_row, parts_after, words_in}
 use Rattle.command_words.proofs.Readings.{meets}
 use Rattle.command_words.proofs.Values.{lawful, may_from, once, one_word, value_same, word_first}
 use Rattle.command_words.proofs.Walks.{fault_is, matches_are}

@@ -1,17 +1,16 @@
 -- Parts of a lawful line fit.
-use Rattle.std.proofs.Common.{◌≡◌, ◌∙◌, Bool, true, false, not, ◌&&◌, List, [], ◌∷◌, ◌++◌, map, Option, Some, None, refl, sym, ap, subst, inl, inr, bytes_eq, is_some}
-use Rattle.std.specs.Prelude.{◌⊎◌}
-use Rattle.std.proofs.lemmas.Bool.{cases_Bool, or_cases, or_parts, and_parts, true≢false}
+use Rattle.std.proofs.Common.{◌≡◌, ◌∙◌, true, false, List, [], ◌∷◌, ◌++◌, Some, None, refl, sym, ap, subst, inl, inr, bytes_eq, is_some}
+use Rattle.std.proofs.lemmas.Bool.{cases_Bool, or_cases, and_parts, true≢false}
 use Rattle.std.specs.List.{list_all, list_any}
 use Rattle.clap.specs.Walk.{Row, has_row}
-use Rattle.command_words.specs.CommandLine.{Given, IsOnce, Text, is_value, value_of}
+use Rattle.command_words.specs.CommandLine.{IsOnce, Text, is_value, value_of}
 use Rattle.command_words.specs.Commands.{is_of}
 use Rattle.command_words.specs.Matches.{option_names}
 use Rattle.command_words.proofs.LexerLaws.{is_name}
 use Rattle.command_words.proofs.LineLaws.{is_sound}
 use Rattle.command_words.proofs.Meets.{has_row-push}
 use Rattle.command_words.proofs.Names.{itself, known, of_each, of_row, same_text}
-use Rattle.command_words.proofs.Parts.{Part, are_values, fits, given_in, id_of, is_known, names_option, part_row, row, word_id, words_in}
+use Rattle.command_words.proofs.Parts.{Part, are_values, fits, given_in, names_option, row, word_id, words_in}
 use Rattle.command_words.proofs.Values.{are_known}
 
 -- at most one command word is to come, and none behind one

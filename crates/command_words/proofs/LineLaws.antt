@@ -1,11 +1,11 @@
 -- The words of a line have the parts of the line, and words that have parts are a line's.
-use Rattle.std.proofs.Common.{◌≡◌, ◌∙◌, Bool, true, false, ◌&&◌, List, [], ◌∷◌, ◌++◌, map, drop, Option, Some, None, refl, sym, ap, subst, inl, inr, bytes_eq, is_some}
+use Rattle.std.proofs.Common.{◌≡◌, ◌∙◌, Bool, true, false, List, [], ◌∷◌, ◌++◌, map, drop, Option, Some, None, refl, sym, ap, subst, inl, inr, bytes_eq, is_some}
 use Rattle.std.proofs.lemmas.Bool.{and_parts, cases_Bool, true≢false}
 use Rattle.std.proofs.lemmas.Option.{same_Some}
 use Rattle.std.specs.Prelude.{filter_map, unwrap_or}
 use Rattle.std.specs.List.{flat_map, list_all}
 use Rattle.clap.specs.Lexer.{long_of}
-use Rattle.command_words.specs.CommandLine.{Given, Line, Piece, Text, apart, command_word_of, command_words, is_value, joined, option_of, options, word, words_behind, words_of, words_of_piece}
+use Rattle.command_words.specs.CommandLine.{Line, Piece, Text, apart, command_word_of, command_words, is_value, joined, option_of, options, word, words_behind, words_of, words_of_piece}
 use Rattle.command_words.proofs.LexerLaws.{apart_not_mark, is_name, joined_not_mark, long_apart, long_joined, value_not_long, value_not_mark, word_for, word_is}
 use Rattle.command_words.proofs.Meets.{split_part}
 use Rattle.command_words.proofs.Names.{same_text}

@@ -1,20 +1,16 @@
 -- The words that clap takes are those whose parts may stand together: each word, where the rest is known.
-use Rattle.std.proofs.Common.{◌≡◌, ◌∙◌, Bool, true, false, not, ◌&&◌, ◌||◌, List, [], ◌∷◌, ◌++◌, map, Option, Some, None, refl, sym, ap, ap₂, subst, inl, inr, bytes_eq, is_some, ◌==◌, drop}
-use Rattle.std.proofs.lemmas.Bool.{cases_Bool, and_parts, true≢false, not_from_true}
-use Rattle.std.proofs.lemmas.Option.{same_Some}
-use Rattle.std.specs.Prelude.{◌⊎◌}
-use Rattle.clap.specs.Walk.{Row, Waiting, Walk, idle, option, has_row, used, walked, walk_from, nothing_held, settled_rows}
-use Rattle.clap.specs.Kinds.{Kinds, or_else}
-use Rattle.clap.specs.Faults.{settle_fault, turn_fault, use_fault}
-use Rattle.clap.specs.Lexer.{long_of, short_of}
-use Rattle.clap.specs.declared.error.kind.ErrorKind.{ErrorKind}
+use Rattle.std.proofs.Common.{◌≡◌, ◌∙◌, Bool, true, false, ◌||◌, List, [], ◌∷◌, ◌++◌, Option, Some, None, refl, sym, ap, subst, inl, inr, bytes_eq, is_some, drop}
+use Rattle.std.proofs.lemmas.Bool.{cases_Bool, true≢false}
+use Rattle.clap.specs.Walk.{Row, Waiting, idle, option, has_row, used, walk_from, nothing_held}
+use Rattle.clap.specs.Faults.{settle_fault, use_fault}
+use Rattle.clap.specs.Lexer.{long_of}
 use Rattle.clap.specs.declared.error.kind.ErrorKind.TheVariants as kind
-use Rattle.command_words.specs.CommandLine.{Text, is_value}
-use Rattle.command_words.proofs.Names.{IsOption, known, same_text}
-use Rattle.command_words.proofs.Parts.{Part, are_values, fits, id_of, is_known, names_option, part_of, part_row, parts_after, row, trailing_part, with_part, word_id}
-use Rattle.command_words.proofs.Walks.{final, opt, rules, top, total}
-use Rattle.command_words.proofs.Steps.{IsPlainWord, IsShortWord, Turns, bare_word, held, long_word, mark, short_word, sort, state, trailing_second, trailing_word, turn_joined, turn_mark, turn_option, turn_second, turn_short, turn_unknown, turn_unsettled, turn_value, turn_word, use_once, use_twice, used_once}
-use Rattle.command_words.proofs.Meets.{Fails, Meets, Reads, add, bad, ended, has_row-push, idle_fails, long_dashed, long_fails, mark_dashed, never, nonempty, short_dashed, stands, step, through, trail, trail_fails, turn_fails, word_added, word_settles, word_stands}
+use Rattle.command_words.specs.CommandLine.{Text}
+use Rattle.command_words.proofs.Names.{IsOption, known}
+use Rattle.command_words.proofs.Parts.{Part, are_values, fits, names_option, part_of, parts_after, row, with_part, word_id}
+use Rattle.command_words.proofs.Walks.{opt, rules}
+use Rattle.command_words.proofs.Steps.{IsPlainWord, IsShortWord, bare_word, held, long_word, mark, short_word, sort, state, turn_joined, turn_mark, turn_option, turn_second, turn_short, turn_unknown, turn_value, turn_word, use_once, use_twice, used_once}
+use Rattle.command_words.proofs.Meets.{Meets, add, bad, ended, has_row-push, idle_fails, long_dashed, long_fails, mark_dashed, never, nonempty, short_dashed, stands, step, through, trail, trail_fails, turn_fails, word_added, word_settles, word_stands}
 use Rattle.command_words.proofs.PartLaws.{parts_by, parts_end, parts_mark, parts_missing, parts_value}
 
 abbrev pub Rest : List Text → Type 0

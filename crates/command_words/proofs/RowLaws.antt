@@ -1,5 +1,5 @@
 -- The rows of options, as lists of texts.
-use Rattle.std.proofs.Common.{◌≡◌, refl, ◌&&◌, List, Option, Some, map, bytes_eq, sym, Bor, ap}
+use Rattle.std.proofs.Common.{◌≡◌, refl, ◌&&◌, List, Option, Some, map, bytes_eq, sym, Bor}
 use Rattle.std.specs.List.{list_any}
 use Rattle.clap.proofs.WalkLemmas.{list_any-map}
 use Rattle.command_words.specs.CommandLine.{Text, is_value}

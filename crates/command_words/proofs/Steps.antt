@@ -1,10 +1,9 @@
 -- What one word does to the walk, for the command of this crate.
-use Rattle.std.proofs.Common.{◌≡◌, ◌∙◌, ℕ, Bool, true, false, ◌&&◌, List, [], ◌∷◌, ◌++◌, Option, Some, None, codes, refl, sym, ap, subst, inl, inr, bytes_eq, slice_get, length, is_some}
-use Rattle.std.proofs.lemmas.Bool.{cases_Bool, or_parts, true≢false, and_right}
-use Rattle.std.proofs.lemmas.Slice.Eq.{bytes_eq-Decides}
+use Rattle.std.proofs.Common.{◌≡◌, ◌∙◌, ℕ, Bool, true, false, ◌&&◌, List, [], ◌∷◌, ◌++◌, Option, Some, None, refl, sym, ap, inl, inr, bytes_eq, slice_get, length, is_some}
+use Rattle.std.proofs.lemmas.Bool.{or_parts, true≢false, and_right}
 use Rattle.std.specs.Prelude.{◌⊎◌}
 use Rattle.std.specs.Str.{chars}
-use Rattle.clap.specs.Walk.{Held, Row, Rule, Waiting, Walk, arg_by_id, arg_by_long, at_row, idle, option, positional, has_row, more_values, plain, plain_word, long_or_other, used, walked, settled_rows, subcommand_met, is_pending}
+use Rattle.clap.specs.Walk.{Held, Row, Rule, Waiting, Walk, at_row, idle, option, positional, has_row, more_values, plain, plain_word, long_or_other, used, walked, settled_rows, subcommand_met, is_pending}
 use Rattle.clap.specs.Simple.{new_rule}
 use Rattle.clap.specs.Kinds.{Kinds, or_else}
 use Rattle.clap.specs.Faults.{flag_word_fault, flags_fault, settle_fault, turn_fault, use_fault}
@@ -13,7 +12,6 @@ use Rattle.clap.specs.declared.error.kind.ErrorKind.{ErrorKind}
 use Rattle.clap.specs.declared.error.kind.ErrorKind.TheVariants as kind
 use Rattle.clap.specs.declared.parser.matches.ValueSource.TheVariants.{CommandLine}
 use Rattle.clap.specs.declared.builder.ArgAction.TheVariants.{Set}
-use Rattle.clap.specs.Values.{reading_of}
 use Rattle.clap.specs.declared.builder.value_parser.ValueParser.TheVariants as vp
 use Rattle.clap.proofs.FaultLemmas.{fault_ends}
 use Rattle.clap.proofs.WalkLemmas.{bundle_ends}

@@ -1,6 +1,6 @@
 -- The rows of parts that fit, and the options and the command word that parts have.
 use Rattle.std.proofs.Common.{◌≡◌, ◌∙◌, Bool, true, false, not, ◌&&◌, List, [], ◌∷◌, ◌++◌, map, Option, Some, None, refl, sym, ap, subst, inl, inr, bytes_eq, is_some}
-use Rattle.std.proofs.lemmas.Bool.{cases_Bool, or_cases, or_parts, or_right, or_left, or_from, and_parts, true≢false, not_from_true}
+use Rattle.std.proofs.lemmas.Bool.{cases_Bool, or_parts, or_right, or_left, and_parts, true≢false}
 use Rattle.std.proofs.lemmas.Option.{same_Some}
 use Rattle.std.specs.List.{list_all, list_any}
 use Rattle.clap.specs.Walk.{Row, has_row}

@@ -87,11 +87,12 @@ fn words_of_replay(rt: HostRuntime) -> Result<(), Fail> {
     Ok(())
 }
 
+// Where not just one command word stands, and not all that it requires.
 #[test]
-fn other_words_are_refused(rt: HostRuntime) -> Result<(), Fail> {
+fn incomplete_words_are_refused(rt: HostRuntime) -> Result<(), Fail> {
     let alloc = rt.alloc();
-    let table: [&[&str]; 30] = [
-        &[],
+    assert_eq!(rt; read_words(alloc, &[]), Err(WordsFault::Usage));
+    let table: [&[&str]; 13] = [
         &["--"],
         &["decode"],
         &["decode", "--log", "a"],
@@ -102,6 +103,24 @@ fn other_words_are_refused(rt: HostRuntime) -> Result<(), Fail> {
         &["decode", "--plan=dcf", "--log=a", "replay"],
         &["decode", "--plan=dcf", "--log=a", "--", "decode"],
         &["decode", "--plan=dcf", "--", "--log=a"],
+        &["replay", "--station=s", "--script"],
+        &["Decode", "--plan=dcf", "--log=a"],
+        &["decode ", "--plan=dcf", "--log=a"],
+    ];
+    for words in table {
+        assert_eq!(rt;
+            read_words(alloc, words),
+            Err(WordsFault::Usage),
+            "{words:?}"
+        );
+    }
+    Ok(())
+}
+
+#[test]
+fn values_are_plans_and_names(rt: HostRuntime) -> Result<(), Fail> {
+    let alloc = rt.alloc();
+    let table: [&[&str]; 7] = [
         &["decode", "--plan=jjy", "--log=a"],
         &["decode", "--plan=DCF", "--log=a"],
         &["decode", "--plan=dcf", "--log="],
@@ -109,18 +128,31 @@ fn other_words_are_refused(rt: HostRuntime) -> Result<(), Fail> {
         &["decode", "--plan=dcf", "--log", "-"],
         &["decode", "--plan=dcf", "--log=-a"],
         &["decode", "--plan", "--log=a"],
+    ];
+    for words in table {
+        assert_eq!(rt;
+            read_words(alloc, words),
+            Err(WordsFault::Usage),
+            "{words:?}"
+        );
+    }
+    Ok(())
+}
+
+// Each option stands once, is the command's own, and is written whole; clap's help is no option.
+#[test]
+fn other_options_are_refused(rt: HostRuntime) -> Result<(), Fail> {
+    let alloc = rt.alloc();
+    let table: [&[&str]; 9] = [
         &["decode", "--plan=dcf", "--log=a", "--log=a"],
         &["decode", "--plan=dcf", "--log=a", "--log", "b"],
         &["decode", "--plan=dcf", "--log=a", "--limit=1"],
         &["decode", "--plan=dcf", "--log=a", "--station=s"],
         &["replay", "--station=s", "--script=t", "--plan=dcf"],
-        &["replay", "--station=s", "--script"],
         &["decode", "--pla=dcf", "--log=a"],
         &["decode", "-plan=dcf", "--log=a"],
         &["decode", "--plan=dcf", "--log=a", "--help"],
         &["decode", "--plan=dcf", "--log=a", "-h"],
-        &["Decode", "--plan=dcf", "--log=a"],
-        &["decode ", "--plan=dcf", "--log=a"],
     ];
     for words in table {
         assert_eq!(rt;

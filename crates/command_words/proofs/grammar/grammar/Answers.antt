@@ -4,7 +4,7 @@ use Rattle.clap.specs.Words.{App, app_of, new_app, rule_of, with_rule}
 use Rattle.clap.specs.Simple.{app_of_fields}
 use Rattle.clap.specs.declared.builder.Command.{Command}
 use Rattle.clap.specs.declared.builder.Command.TheViews.{out-Command as fields_of}
-use Rattle.command_words.specs.Matches.{app, bare_app, command_rule, option_names, option_rule}
+use Rattle.command_words.specs.Matches.{bare_app, command_rule, option_names, option_rule}
 use Rattle.command_words.proofs.grammar.grammar.Goals as goal
 
 -- what the settings do to what a parse reads

@@ -1,4 +1,4 @@
-use Rattle.std.proofs.Common.{◌≡◌, ◌∙◌, ap₂, sym}
+use Rattle.std.proofs.Common.{◌∙◌, ap₂, sym}
 use Rattle.clap.specs.Words.{app_of, with_rule}
 use Rattle.std.proofs.lemmas.List.Sums.{fold_more}
 use Rattle.command_words.specs.Matches.{option_rule}

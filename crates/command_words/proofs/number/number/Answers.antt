@@ -1,4 +1,4 @@
-use Rattle.std.proofs.Common.{◌≡◌, ◌∙◌, Some, Ok, ap, sym, rules, true, false, is_ok}
+use Rattle.std.proofs.Common.{◌≡◌, Ok, rules}
 use Rattle.command_words.proofs.NumberLaws.{plain_of, read, said}
 use Rattle.command_words.proofs.number.number.Goals as goal
 

@@ -1,8 +1,8 @@
-use Rattle.std.proofs.Common.{rules, ◌≡◌, ◌∙◌, ℕ, List, sym, ap, subst, inl, inr, map, option_map, true, false, [], Bool, Some, None, is_some}
+use Rattle.std.proofs.Common.{rules, ◌≡◌, ◌∙◌, ℕ, List, sym, ap, subst, inl, inr, map, option_map, true, false, [], Bool, None, is_some}
 use Rattle.std.proofs.lemmas.Bool.{true≢false}
 use Rattle.std.proofs.lemmas.Option.{same_Some}
 use Rattle.clap.specs.Words.{App, fault_of, is_simple, is_simple_and_free, app_of, matches_of, kind_of, HasKind, IsAmong, rows_of, found_of}
-use Rattle.command_words.specs.Commands.{Asked, AskFor, asked}
+use Rattle.command_words.specs.Commands.{asked}
 use Rattle.command_words.specs.Matches.{AreFor, app}
 use Rattle.command_words.specs.declared.commands.WordsFault.{WordsFault}
 use Rattle.command_words.specs.declared.commands.WordsFault.TheVariants.{Usage, Memory}
