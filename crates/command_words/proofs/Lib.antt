@@ -1,0 +1,14 @@
+mod Answered
+mod FitLaws
+mod LexerLaws
+mod LineLaws
+mod Meets
+mod Names
+mod NumberLaws
+mod PartLaws
+mod Parts
+mod Readings
+mod RowLaws
+mod Steps
+mod Values
+mod Walks

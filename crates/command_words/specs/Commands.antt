@@ -1,0 +1,59 @@
+-- The commands, their options, and the words that ask for them. The commands are this program's own.
+use Rattle.std.specs.Prelude.{◌≡◌, ℕ, ◌≤◌, ◌&&◌, Bool, true, Option, None, Some, List, [], ◌∷◌, codes, decimal}
+use Rattle.std.specs.List.{list_all, list_any}
+use Rattle.std.specs.Str.{bytes_eq}
+use Rattle.tick_units.specs.declared.marks.Plan.{Plan}
+use Rattle.tick_units.specs.declared.marks.Plan.TheVariants.{Dcf, Msf, Wwvb}
+use Rattle.command_words.specs.CommandLine.{Text, Given, Line, words_of, command_words, options, value_of, is_value, IsOnce}
+use Rattle.command_words.specs.declared.commands.Command.{Command}
+use Rattle.command_words.specs.declared.commands.Command.TheVariants.{Decode, Replay}
+
+-- a command with the values of its options
+pub data Asked : Type 0 where
+  decode : Plan → Text → Asked
+  replay : Text → Text → ℕ → Asked
+
+abbrev pub asked : Command → Asked
+asked (Decode plan log) = decode plan log.now
+asked (Replay station script limit) = replay station.now script.now limit
+
+abbrev pub name_of : Asked → Text
+name_of (decode plan log) = codes "decode"
+name_of (replay station script limit) = codes "replay"
+
+-- the options that a command has
+abbrev pub row_of : Asked → List Text
+row_of (decode plan log) = codes "plan" ∷ codes "log" ∷ []
+row_of (replay station script limit) = codes "station" ∷ codes "script" ∷ codes "limit" ∷ []
+
+abbrev pub plan_word : Plan → Text
+plan_word Dcf = codes "dcf"
+plan_word Msf = codes "msf"
+plan_word Wwvb = codes "wwvb"
+
+-- a number in a range, in decimal without sign and without leading zeros; or the default where none is given
+abbrev pub IsNumber : ℕ → ℕ → ℕ → Option Text → ℕ → Type 0
+IsNumber default least most None n = n ≡ default
+IsNumber default least most (Some text) n = (text ≡ decimal n) × (least ≤ n) × (n ≤ most)
+
+-- how many entries a journal may have: 2^20 where none is given, and at most 2^22
+abbrev pub IsLimit : Option Text → ℕ → Type 0
+IsLimit = IsNumber 1048576 1 4194304
+
+-- by the values that the options' names have
+abbrev pub Says : (Text → Option Text) → Asked → Type 0
+Says value (decode plan log) = (value (codes "plan") ≡ Some (plan_word plan)) × (value (codes "log") ≡ Some log)
+Says value (replay station script limit) = (value (codes "station") ≡ Some station) × (value (codes "script") ≡ Some script) × IsLimit (value (codes "limit")) limit
+
+-- an option is one of a row's, and its value may be one
+abbrev pub is_of : List Text → Given → Bool
+is_of row given = list_any (bytes_eq given.name) row && is_value given.value
+
+-- these words ask for a command; words are lawful where they ask for any
+pub record AskFor (words : List Text) (a : Asked) : Type 0 where
+  pub line : Line
+  pub spelt : words ≡ words_of line
+  pub command : command_words line ≡ name_of a ∷ []
+  pub once : IsOnce (options line)
+  pub lawful : list_all (is_of (row_of a)) (options line) ≡ true
+  pub says : Says (λ name. value_of name (options line)) a

@@ -1,0 +1,28 @@
+// What a command line asks for.
+
+use tick_units::Plan;
+
+/// A command with the values of its options.
+#[derive(Clone, Copy, Debug, PartialEq, Eq)]
+pub enum Command<'a> {
+    /// `decode`: one log is to be decoded by one code plan.
+    Decode {
+        plan: Plan,
+        log: &'a str,
+    },
+    /// `replay`: a script is to be run against a station, with at most `limit` entries (1 to 4194304).
+    Replay {
+        station: &'a str,
+        script: &'a str,
+        limit: u32,
+    },
+}
+
+/// Why words were refused.
+#[derive(Clone, Copy, Debug, PartialEq, Eq)]
+pub enum WordsFault {
+    /// The words ask for no command.
+    Usage,
+    /// Memory ran out.
+    Memory,
+}

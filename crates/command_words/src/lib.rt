@@ -1,0 +1,14 @@
+//! The words of a command line, read with `clap`.
+#![tactic(auto)]
+
+mod commands;
+mod grammar;
+mod number;
+mod reading;
+mod rows;
+
+pub use commands::{Command, WordsFault};
+pub use reading::read_words;
+
+#[cfg(test)]
+mod tests;

@@ -1,0 +1,36 @@
+ghost use Rattle.std.specs.Prelude.{◌≡◌, map, IfOk, IfErr};
+ghost use Rattle.command_words.specs.Commands.{Asked, asked, AskFor};
+
+use crate::commands::{Command, WordsFault};
+use crate::grammar::grammar;
+use crate::rows::command;
+use clap::error::ErrorKind;
+use std::alloc::Global;
+
+/// The command that the words of a command line ask for, without the program's name.
+///
+/// Fails with `Usage` exactly where the words ask for no command, and with `Memory` where memory runs out.
+pub fn read_words<'a>(alloc: Global, words: &'a [&'a str]) -> Result<Command<'a>, WordsFault>
+    ensures asked { IfOk result (λ c. AskFor (map (λ w. w.now) words.entry.now) (asked c)) }
+    ensures only { (a : Asked) → AskFor (map (λ w. w.now) words.entry.now) a → IfOk result (λ c. asked c ≡ a) }
+
+    // Words that are refused for themselves are nobody's.
+    ensures usage { IfErr result (λ e. e ≡ WordsFault.Usage → (a : Asked) → AskFor (map (λ w. w.now) words.entry.now) a → ⊥) }
+{
+    let Ok(grammar) = grammar(alloc) else {
+        return Err(WordsFault::Memory);
+    };
+    let matches = match grammar.try_get_matches_from(words) {
+        Ok(matches) => matches,
+        Err(error) => {
+            return Err(match error.kind() {
+                ErrorKind::OutOfMemory => WordsFault::Memory,
+                _ => WordsFault::Usage,
+            });
+        }
+    };
+    match command(&matches) {
+        Some(command) => Ok(command),
+        None => Err(WordsFault::Usage),
+    }
+}

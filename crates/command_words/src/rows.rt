@@ -1,0 +1,138 @@
+ghost use Rattle.std.specs.Prelude.{◌≡◌, ℕ, IfSome, Some, map, option_map, codes, List};
+ghost use Rattle.std.specs.List.{list_all, list_any};
+ghost use Rattle.std.specs.Str.{bytes_eq};
+ghost use Rattle.clap.specs.Words.{first_of, rows_of, found_of};
+ghost use Rattle.tick_units.specs.declared.marks.Plan.{Plan};
+ghost use Rattle.command_words.specs.CommandLine.{is_value};
+ghost use Rattle.command_words.specs.Commands.{Asked, asked, name_of, plan_word, IsLimit, decode, replay};
+ghost use Rattle.command_words.specs.Matches.{text_of, may_have, has_only, Fit, AreFor};
+
+use crate::commands::Command;
+use crate::grammar::OPTIONS;
+use crate::number::number;
+use clap::ArgMatches;
+use tick_units::Plan;
+
+// The options of each command.
+const DECODE: [&str; 2] = ["plan", "log"];
+
+const REPLAY: [&str; 3] = ["station", "script", "limit"];
+
+// Entries of a journal.
+const LIMIT: u32 = 1_048_576;
+
+const MOST: u64 = 4_194_304;
+
+// The value that was read under a name.
+fn value<'a>(matches: &ArgMatches<'a>, name: &str) -> Option<&'a str>
+    ensures { text_of result ≡ first_of name.now (rows_of (found_of matches.now)) }
+{
+    matches.get_str(name)
+}
+
+fn is_value(text: &str) -> bool
+    ensures { result ≡ is_value text.now }
+{
+    match text.as_bytes().first() {
+        Some(byte) => *byte != b'-',
+        None => false,
+    }
+}
+
+fn is_in(row: &[&str], name: &str) -> bool
+    ensures { result ≡ list_any (λ w. bytes_eq name.now w.now) row.now }
+{
+    row.iter().any(|other| name == *other)
+}
+
+// Whether an option may have this value, or none, under a command with this row of options.
+fn may_have(row: &[&str], name: &str, value: Option<&str>) -> bool
+    ensures { result ≡ may_have (map (λ w. w.now) row.now) name.now (text_of value.entry) }
+{
+    match value {
+        Some(text) => is_in(row, name) && is_value(text),
+        None => true,
+    }
+}
+
+// Whether each of these options may have what it was given.
+fn may_all_have(matches: &ArgMatches<'_>, row: &[&str], names: &[&str]) -> bool
+    ensures { result ≡ list_all (λ w. may_have (map (λ w. w.now) row.now) w.now (first_of w.now (rows_of (found_of matches.now)))) names.now }
+{
+    names
+        .iter()
+        .all(|name| may_have(row, name, value(matches, name)))
+}
+
+// Whether no other options were given than those of a row, and each with a value that may be one.
+fn has_only(matches: &ArgMatches<'_>, row: &[&str]) -> bool
+    ensures { result ≡ has_only (map (λ w. w.now) row.now) (rows_of (found_of matches.now)) }
+{
+    may_all_have(matches, row, &OPTIONS)
+}
+
+fn plan(word: &str) -> Option<Plan>
+    ensures named { IfSome result (λ p. word.now ≡ plan_word p) }
+    ensures every { (p : Plan) → word.now ≡ plan_word p → result ≡ Some p }
+{
+    match word {
+        "dcf" => Some(Plan::Dcf),
+        "msf" => Some(Plan::Msf),
+        "wwvb" => Some(Plan::Wwvb),
+        _ => None,
+    }
+}
+
+fn limit(given: Option<&str>) -> Option<u32>
+    ensures said { IfSome result (λ n. IsLimit (text_of given.entry) n) }
+    ensures every { (n : ℕ) → IsLimit (text_of given.entry) n → result ≡ Some n }
+{
+    let Some(text) = given else {
+        return Some(LIMIT);
+    };
+    let entries = number(text)?;
+    if 1 <= entries && entries <= MOST {
+        Some(entries as u32)
+    } else {
+        None
+    }
+}
+
+fn decode<'a>(matches: &ArgMatches<'a>) -> Option<Command<'a>>
+    ensures asked { IfSome result (λ c. (name_of (asked c) ≡ codes "decode") × Fit (rows_of (found_of matches.now)) (asked c)) }
+    ensures every { (p : Plan) (log : List ℕ) → Fit (rows_of (found_of matches.now)) (decode p log) → option_map asked result ≡ Some (decode p log) }
+{
+    if !has_only(matches, &DECODE) {
+        return None;
+    }
+    Some(Command::Decode {
+        plan: plan(value(matches, "plan")?)?,
+        log: value(matches, "log")?,
+    })
+}
+
+fn replay<'a>(matches: &ArgMatches<'a>) -> Option<Command<'a>>
+    ensures asked { IfSome result (λ c. (name_of (asked c) ≡ codes "replay") × Fit (rows_of (found_of matches.now)) (asked c)) }
+    ensures every { (station script : List ℕ) (n : ℕ) → Fit (rows_of (found_of matches.now)) (replay station script n) → option_map asked result ≡ Some (replay station script n) }
+{
+    if !has_only(matches, &REPLAY) {
+        return None;
+    }
+    Some(Command::Replay {
+        station: value(matches, "station")?,
+        script: value(matches, "script")?,
+        limit: limit(value(matches, "limit"))?,
+    })
+}
+
+// The command that matches ask for.
+pub fn command<'a>(matches: &ArgMatches<'a>) -> Option<Command<'a>>
+    ensures asked { IfSome result (λ c. AreFor (rows_of (found_of matches.now)) (asked c)) }
+    ensures every { (a : Asked) → AreFor (rows_of (found_of matches.now)) a → option_map asked result ≡ Some a }
+{
+    match value(matches, "command")? {
+        "decode" => decode(matches),
+        "replay" => replay(matches),
+        _ => None,
+    }
+}

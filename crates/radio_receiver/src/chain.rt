@@ -1,0 +1,75 @@
+ghost use Rattle.std.specs.Prelude.{◌≡◌, ◌+◌, ◌++◌, ◌-◌, ◌==◌, IfSome};
+ghost use Rattle.std.specs.Option.{option_to_list};
+ghost use Rattle.tick_units.specs.declared.marks.Plan.{Plan};
+ghost use Rattle.minute_pair.specs.Years.{BelievesYears};
+ghost use Rattle.radio_receiver.specs.Histories.{History, answers_of, blank_of, is_blank, with_delay, with_reduction};
+
+use minute_pair::Pairing;
+use second_marks::Marker;
+use tick_units::{Heard, Local, Plan, Reduction};
+
+// A marker and, behind it, a pairing of its marks; what every receiver is made of.
+#[derive(Drop)]
+pub struct Chain {
+    marker: Marker,
+    pairing: Pairing,
+    delay_us: u32,
+    // One more than the start of the last reduction, and 0 where none was heard.
+    least_start: u64,
+}
+
+// A moment less a delay, and not below 0.
+fn sent(at: Local, delay_us: u32) -> Local
+    ensures { result ≡ at - delay_us }
+{
+    Local::new(at.get().saturating_sub(u64::from(delay_us))).unwrap()
+}
+
+impl Chain {
+    ghost use Rattle.radio_receiver.specs.Chains.{HasChained};
+
+    // A chain that has heard nothing.
+    pub fn new(plan: Plan) -> Chain
+        ensures chained { HasChained result (blank_of plan) }
+        ensures least { result.least_start ≡ 0 }
+    {
+        Chain {
+            marker: Marker::new(plan),
+            pairing: Pairing::new(plan),
+            delay_us: 0,
+            least_start: 0,
+        }
+    }
+
+    pub fn fit(&mut self, delay_us: u32)
+        requires { self.old.least_start ≡ 0 }
+        ensures fitted { (h : History) → HasChained self.old h → HasChained self.new (with_delay h delay_us) }
+        ensures least { self.new.least_start ≡ self.old.least_start }
+    {
+        self.delay_us = delay_us;
+    }
+
+    #[tactic(auto, using(crate::proofs::LastLaws::least_push))]
+    pub fn hear(&mut self, reduction: Reduction) -> Option<Heard>
+        ensures heard { (h : History) → HasChained self.old h → HasChained self.new (with_reduction h reduction) }
+        ensures answered { (h : History) → HasChained self.old h → answers_of (with_reduction h reduction) ≡ answers_of h ++ option_to_list result }
+        ensures least { self.new.least_start ≡ reduction.at + 1 }
+        ensures years { IfSome result (λ heard. BelievesYears heard.kind) }
+    {
+        self.least_start = reduction.at.get() + 1;
+        let mark = self.marker.hear(reduction)?;
+        let heard = self.pairing.hear(mark)?;
+        Some(Heard {
+            at: sent(heard.at, self.delay_us),
+            kind: heard.kind,
+        })
+    }
+
+    #[tactic(auto, using(crate::proofs::LastLaws::blank_is))]
+    pub fn is_blank(&self) -> bool
+        ensures nothing { (h : History) → HasChained self.now h → result ≡ is_blank h.reductions }
+        ensures least { result ≡ (self.now.least_start == 0) }
+    {
+        self.least_start == 0
+    }
+}

@@ -1,0 +1,172 @@
+ghost use Rattle.std.specs.Prelude.{◌≡◌, ◌≤◌};
+
+use crate::{DcfReceiver, MsfReceiver, Receiver, WwvbReceiver};
+use std::alloc::Global;
+use std::test::Fail;
+use tick_units::{Heard, Kind, Local, Plan, Reduction};
+
+// The places that are One in a frame of DCF77, by PTB's table: 1 January 2026, 13:00.
+const DCF_ONES: [usize; 12] = [18, 20, 29, 30, 33, 35, 36, 44, 45, 51, 52, 55];
+
+// The places at which bit A is 1, and those at which bit B is, in a frame of MSF, by NPL's table: 1 January 2026, 12:00.
+const MSF_A: [usize; 14] = [19, 22, 23, 29, 35, 36, 40, 43, 53, 54, 55, 56, 57, 58];
+
+const MSF_B: [usize; 3] = [1, 55, 57];
+
+// The places that are One in a frame of WWVB, and its markers, by NIST's table: 31 December 2024, 00:00.
+const WWVB_ONES: [usize; 10] = [22, 23, 26, 27, 31, 32, 36, 38, 47, 51];
+
+const WWVB_MARKERS: [usize; 7] = [0, 9, 19, 29, 39, 49, 59];
+
+// The last answer to reductions, as far as their starts rise, of a receiver with a path delay.
+fn last_answer(
+    receiver: Box<dyn Receiver + Send>,
+    delay_us: u32,
+    reductions: &[Reduction],
+) -> Option<Heard>
+    requires blank { least_start receiver ≡ 0 }
+    requires delay { delay_us ≤ 100000 }
+{
+    let mut receiver = receiver;
+    receiver.fit(delay_us);
+    let mut last = None;
+    let mut least = 0;
+    for reduction in reductions {
+        let at = reduction.at.get();
+        if at < least {
+            return None;
+        }
+        least = at + 1;
+        let heard = receiver.hear(*reduction);
+        if heard.is_some() {
+            last = heard;
+        }
+    }
+    last
+}
+
+fn push(list: &mut Vec<Reduction>, at: u64, width: u32) -> Result<(), Fail> {
+    let at = Local::new(at).ok_or("a start")?;
+    list.push(Reduction { at, width })?;
+    Ok(())
+}
+
+fn start_of(place: usize) -> u64 {
+    2_000_000u64.saturating_add(1_000_000u64.saturating_mul(place as u64))
+}
+
+fn dcf_minute(alloc: Global) -> Result<Vec<Reduction>, Fail> {
+    let mut list = Vec::new(alloc);
+    push(&mut list, 0, 100_000)?;
+    for place in 0..59usize {
+        let is_one = DCF_ONES.contains(&place);
+        push(
+            &mut list,
+            start_of(place),
+            if is_one { 200_000 } else { 100_000 },
+        )?;
+    }
+    push(&mut list, 62_000_000, 100_000)?;
+    Ok(list)
+}
+
+fn msf_minute(alloc: Global) -> Result<Vec<Reduction>, Fail> {
+    let mut list = Vec::new(alloc);
+    push(&mut list, 2_000_000, 500_000)?;
+    for place in 1..60usize {
+        let at = start_of(place);
+        match (MSF_A.contains(&place), MSF_B.contains(&place)) {
+            (false, false) => push(&mut list, at, 100_000)?,
+            (true, false) => push(&mut list, at, 200_000)?,
+            (true, true) => push(&mut list, at, 300_000)?,
+            (false, true) => {
+                push(&mut list, at, 100_000)?;
+                push(&mut list, at.saturating_add(200_000), 100_000)?;
+            }
+        }
+    }
+    push(&mut list, 62_000_000, 500_000)?;
+    push(&mut list, 63_000_000, 100_000)?;
+    Ok(list)
+}
+
+fn wwvb_minute(alloc: Global) -> Result<Vec<Reduction>, Fail> {
+    let mut list = Vec::new(alloc);
+    push(&mut list, 1_000_000, 800_000)?;
+    for place in 0..60usize {
+        let width = if WWVB_MARKERS.contains(&place) {
+            800_000
+        } else if WWVB_ONES.contains(&place) {
+            500_000
+        } else {
+            200_000
+        };
+        push(&mut list, start_of(place), width)?;
+    }
+    push(&mut list, 62_000_000, 800_000)?;
+    Ok(list)
+}
+
+fn lone(at: u64, second: u64) -> Option<Heard> {
+    Some(Heard {
+        at: Local::new(at)?,
+        kind: Kind::Lone { second },
+    })
+}
+
+#[test]
+fn a_boxed_receiver_of_dcf77_hears_a_minute(rt: HostRuntime) -> Result<(), Fail> {
+    let receiver: Box<dyn Receiver + Send> = Box::new(rt.alloc(), DcfReceiver::new())?;
+    assert_eq!(rt; receiver.plan(), Plan::Dcf);
+    let list = dcf_minute(rt.alloc())?;
+    let heard = last_answer(receiver, 0, list.as_slice());
+    assert_eq!(rt; heard, lone(62_000_000, 3_976_257_600));
+    Ok(())
+}
+
+#[test]
+fn a_boxed_receiver_of_msf_hears_a_minute(rt: HostRuntime) -> Result<(), Fail> {
+    let receiver: Box<dyn Receiver + Send> = Box::new(rt.alloc(), MsfReceiver::new())?;
+    assert_eq!(rt; receiver.plan(), Plan::Msf);
+    let list = msf_minute(rt.alloc())?;
+    let heard = last_answer(receiver, 1_500, list.as_slice());
+    assert_eq!(rt; heard, lone(61_998_500, 3_976_257_600));
+    Ok(())
+}
+
+#[test]
+fn a_boxed_receiver_of_wwvb_hears_a_minute(rt: HostRuntime) -> Result<(), Fail> {
+    let receiver: Box<dyn Receiver + Send> = Box::new(rt.alloc(), WwvbReceiver::new())?;
+    assert_eq!(rt; receiver.plan(), Plan::Wwvb);
+    let list = wwvb_minute(rt.alloc())?;
+    let heard = last_answer(receiver, 100_000, list.as_slice());
+    assert_eq!(rt; heard, lone(61_900_000, 3_944_592_060));
+    Ok(())
+}
+
+// Two minutes of MSF that begin 50 ms apart.
+#[test]
+fn no_moment_is_below_0(rt: HostRuntime) -> Result<(), Fail> {
+    let receiver: Box<dyn Receiver + Send> = Box::new(rt.alloc(), MsfReceiver::new())?;
+    let mut list = Vec::new(rt.alloc());
+    push(&mut list, 0, 500_000)?;
+    push(&mut list, 50_000, 500_000)?;
+    push(&mut list, 1_050_000, 100_000)?;
+    let heard = last_answer(receiver, 100_000, list.as_slice()).ok_or("no answer")?;
+    assert_eq!(rt; heard.at.get(), 0);
+    assert_eq!(rt; heard.kind, Kind::Refused { rule: 1 });
+    Ok(())
+}
+
+#[test]
+fn a_receiver_is_blank_until_it_hears(rt: HostRuntime) -> Result<(), Fail> {
+    let mut receiver = DcfReceiver::new();
+    assert!(rt; receiver.blank());
+    receiver.fit(20_000);
+    assert!(rt; receiver.blank());
+    let at = Local::new(0).ok_or("a start")?;
+    let width = 100_000;
+    assert_eq!(rt; receiver.hear(Reduction { at, width }), None);
+    assert!(rt; !receiver.blank());
+    Ok(())
+}
