@@ -1,4 +1,3 @@
 pub mod FigureLaws
 pub mod HeldLaws
-pub mod OrderLaws
 pub mod StageLaws

@@ -1,5 +1,4 @@
 pub mod ClusterLaws
 pub mod MeanLaws
-pub mod OrderLaws
 pub mod SettlingLaws
 pub mod WorstLaws

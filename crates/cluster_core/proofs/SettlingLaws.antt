@@ -10,7 +10,7 @@ use Rattle.cluster_core.specs.Bounds.{AreNear}
 use Rattle.cluster_core.specs.Clusters.{Clusters, Discards, Settles, is_at_rest, may_precede, rest_of, rest_within, greatest_jitter, selection_jitter, without_greatest}
 use Rattle.cluster_core.specs.Clusters.Settles.{stays, goes_on}
 use Rattle.cluster_core.specs.declared.survivor.Survivor.{Survivor}
-use Rattle.cluster_core.proofs.OrderLaws.{in_order-keeps}
+use Rattle.tick_units.proofs.OrderLaws.{in_order-keeps}
 use Rattle.cluster_core.proofs.WorstLaws.{discards-is, discards-some}
 
 -- three are at rest
