@@ -3,15 +3,19 @@
 #![tactic(auto)]
 
 mod bits;
+mod mark_words;
 mod numbers;
+mod places;
 mod rules;
+mod segment;
 mod spelling;
 
-pub use bits::{Bit, has_pattern, is_odd_over, is_set, value};
+pub use bits::{Bit, has_pattern, is_odd_over, value};
+pub use mark_words::MarkWords;
 pub use numbers::{Number, is_out_of};
-pub use rules::{
-    Rule, breaks_length, breaks_spacing, breaks_spacing_to, breaks_width, first_broken,
-};
+pub use places::Places;
+pub use rules::{Rule, breaks_length, first_broken};
+pub use segment::Segment;
 pub use spelling::{Spelling, bit_symbol};
 
 #[cfg(test)]

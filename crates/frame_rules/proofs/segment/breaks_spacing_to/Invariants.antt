@@ -1,6 +1,6 @@
 use Rattle.std.proofs.Common.{◌≡◌, length}
 use Rattle.frame_rules.specs.MarkRules.{breaks_spacing_to}
-use Rattle.frame_rules.proofs.rules.breaks_spacing_to.Given as goal
+use Rattle.frame_rules.proofs.segment.breaks_spacing_to.Given as goal
 
 -- what is left decides
 abbrev pub invariant-marks : goal.invariant-marks
