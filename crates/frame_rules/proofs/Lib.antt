@@ -5,3 +5,5 @@ pub mod Most
 pub mod HighBits
 pub mod Template
 pub mod BitSymbols
+pub mod WordLaws
+pub mod AddingLaws

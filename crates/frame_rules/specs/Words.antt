@@ -8,6 +8,7 @@ use Rattle.tick_units.specs.declared.marks.Mark.{Mark}
 use Rattle.tick_units.specs.declared.marks.Symbol.{Symbol}
 use Rattle.frame_rules.specs.MarkRules.{breaks_spacing, breaks_width}
 use Rattle.frame_rules.specs.declared.mark_words.MarkWords.{MarkWords}
+use Rattle.frame_rules.specs.declared.place_bits.PlaceBits.{PlaceBits}
 
 -- a start comes 900000 to 1100000 microseconds after the last mark, where there is one
 abbrev pub is_near : Option Mark → ℕ → Bool
@@ -23,14 +24,19 @@ word_of bit (mark ∷ marks) = (if bit mark.symbol then 1 else 0) + 2 * word_of 
 abbrev pub has_long : List Mark → Bool
 has_long marks = list_any (λ mark. is_long mark.symbol) marks
 
--- these are the numbers of the marks that were added: how many, up to 61; bits A, bits B and which are Long, of the first 61;
--- whether one behind them is Long; and, of all marks, whether spacing or a width is broken, and the last
+-- these are the bits of the places of marks: how many there are, up to 61; bits A, bits B and which are Long, of the first 61;
+-- and whether one behind them is Long
+pub record HasBits (places : PlaceBits) (marks : List Mark) : Type 0 where
+  pub count : places.count ≡ min (length marks) 61
+  pub bits_a : places.bits_a ≡ word_of has_a (take 61 marks)
+  pub bits_b : places.bits_b ≡ word_of has_b (take 61 marks)
+  pub longs : places.longs ≡ word_of is_long (take 61 marks)
+  pub long_behind : places.long_behind ≡ has_long (drop 61 marks)
+
+-- these are the numbers of the marks that were added: the bits of their places, whether spacing or a width is broken, and the
+-- last of them
 pub record HasAdded (words : MarkWords) (marks : List Mark) : Type 0 where
-  pub count : words.count ≡ min (length marks) 61
-  pub bits_a : words.bits_a ≡ word_of has_a (take 61 marks)
-  pub bits_b : words.bits_b ≡ word_of has_b (take 61 marks)
-  pub longs : words.longs ≡ word_of is_long (take 61 marks)
-  pub long_behind : words.long_behind ≡ has_long (drop 61 marks)
+  pub bits : HasBits words.places marks
   pub spacing : words.spacing_broken ≡ breaks_spacing marks
   pub width : words.width_broken ≡ breaks_width marks
   pub last : words.last ≡ last_or None marks

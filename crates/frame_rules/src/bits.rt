@@ -1,5 +1,7 @@
 //! Bits of places, and what they add up to. Places count from 0.
 ghost use Rattle.std.specs.Prelude.{◌≡◌, ◌+◌, ◌<◌, ◌≤◌, List, length};
+ghost use Rattle.tick_units.specs.Marks.{is_long};
+ghost use Rattle.tick_units.specs.Rules.{is_odd};
 ghost use Rattle.tick_units.specs.Fields.{value, is_odd_over, has_pattern};
 ghost use Rattle.tick_units.specs.declared.marks.Mark.{Mark};
 ghost use Rattle.frame_rules.specs.Bits.{has_bit};
@@ -20,6 +22,7 @@ pub enum Bit {
 
 impl Bit {
     /// Whether this bit of a symbol is 1.
+    #[inline]
     pub fn is_in(self, symbol: Symbol) -> bool
         ensures { result ≡ has_bit self symbol }
     {
@@ -29,6 +32,22 @@ impl Bit {
             Bit::B => symbol == Symbol::OnlyB || symbol == Symbol::Both,
         }
     }
+}
+
+// Whether a symbol is that of a marker.
+#[inline]
+pub(crate) fn is_long(symbol: Symbol) -> bool
+    ensures { result ≡ is_long symbol }
+{
+    symbol == Symbol::Long
+}
+
+// Whether a symbol says that the width is in no class.
+#[inline]
+pub(crate) fn is_odd(symbol: Symbol) -> bool
+    ensures { result ≡ is_odd symbol }
+{
+    symbol == Symbol::Odd
 }
 
 /// The sum of those weights whose bit is 1, the first weight being that of `place` and each next one that of the next

@@ -5,6 +5,7 @@
 mod bits;
 mod mark_words;
 mod numbers;
+mod place_bits;
 mod places;
 mod rules;
 mod segment;

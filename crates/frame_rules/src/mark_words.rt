@@ -1,54 +1,31 @@
 //! A segment whose marks are kept as a few numbers.
-ghost use Rattle.std.specs.Prelude.{◌≡◌, ◌<◌, false, Bool, Option, None, List, [], ◌∷◌, ◌++◌, length, take};
+ghost use Rattle.std.specs.Prelude.{◌≡◌, ◌||◌, Option, None, List, [], ◌∷◌, ◌++◌};
 ghost use Rattle.std.specs.List.{last_or};
-ghost use Rattle.tick_units.specs.Fields.{is_set};
 ghost use Rattle.tick_units.specs.declared.marks.Mark.{Mark};
-ghost use Rattle.tick_units.specs.declared.marks.Symbol.{Symbol};
-ghost use Rattle.tick_units.specs.declared.marks.Symbol.TheVariants.{Zero};
-ghost use Rattle.frame_rules.specs.Words.{is_near, word_of, HasAdded};
+ghost use Rattle.frame_rules.specs.Words.{is_near, HasAdded};
 
-use crate::bits::Bit;
+use crate::bits::{Bit, is_odd};
+use crate::place_bits::PlaceBits;
 use crate::places::Places;
 use crate::rules::is_a_second_on;
-use tick_units::{Local, Mark, Symbol};
+use tick_units::{Local, Mark};
 
-// A minute has 59 or 60 marks: a segment with more is too long, whatever they are.
-const MOST: usize = 61;
-
-/// The marks of a segment, added one by one and kept as numbers alone. Bit `k` of a word is the bit of place `k`, for the
-/// first 61 places.
+/// The marks of a segment, added one by one and kept as numbers alone.
 #[derive(Clone, Copy, Debug)]
 pub struct MarkWords {
-    // How many marks there are, up to 61.
-    count: usize,
-    bits_a: u64,
-    bits_b: u64,
-    longs: u64,
-    // Whether a mark from the 62nd on is Long.
-    long_behind: bool,
+    places: PlaceBits,
+    // Of all marks: whether two neighbours don't start about a second apart, whether a width is in no class, and the last.
     spacing_broken: bool,
     width_broken: bool,
     last: Option<Mark>,
 }
 
-// A word with the bit of the place behind its marks.
+// Whether one of the two is true, with no branch.
 #[inline]
-fn with_bit(word: u64, bit: bool, place: usize) -> u64
-    requires { place < 61 }
-    ensures { (test : Symbol → Bool) (marks : List Mark) (mark : Mark) → word ≡ word_of test marks → length marks ≡ place
-        → bit ≡ test mark.symbol → result ≡ word_of test (marks ++ mark ∷ []) }
+pub(crate) fn either(a: bool, b: bool) -> bool
+    ensures { result ≡ (a || b) }
 {
-    word | u64::from(bit) << place
-}
-
-// Whether the bit of a place is 1.
-#[inline]
-fn has(word: u64, place: usize) -> bool
-    requires { place < 61 }
-    ensures { (test : Symbol → Bool) (marks : List Mark) → word ≡ word_of test (take 61 marks) → test Zero ≡ false
-        → result ≡ is_set test marks place }
-{
-    (word >> place) % 2 == 1
+    a | b
 }
 
 // Whether a moment comes a second after the last mark, where there is one.
@@ -64,15 +41,12 @@ fn is_near(last: &Option<Mark>, moment: Local) -> bool
 
 impl MarkWords {
     /// No mark yet.
+    #[inline]
     pub fn new() -> MarkWords
         ensures { HasAdded result [] }
     {
         MarkWords {
-            count: 0,
-            bits_a: 0,
-            bits_b: 0,
-            longs: 0,
-            long_behind: false,
+            places: PlaceBits::new(),
             spacing_broken: false,
             width_broken: false,
             last: None,
@@ -92,19 +66,13 @@ impl MarkWords {
     pub fn add(&mut self, mark: Mark)
         ensures { (marks : List Mark) → HasAdded self.old marks → HasAdded self.new (marks ++ mark ∷ []) }
     {
-        let near = is_near(&self.last, mark.at);
-        let long = mark.symbol == Symbol::Long;
-        self.spacing_broken = self.spacing_broken || !near;
-        self.width_broken = self.width_broken || mark.symbol == Symbol::Odd;
+        let far = !is_near(&self.last, mark.at);
+        let spacing_broken = either(self.spacing_broken, far);
+        let width_broken = either(self.width_broken, is_odd(mark.symbol));
+        self.spacing_broken = spacing_broken;
+        self.width_broken = width_broken;
+        self.places.add(&mark);
         self.last = Some(mark);
-        if self.count < MOST {
-            self.bits_a = with_bit(self.bits_a, Bit::A.is_in(mark.symbol), self.count);
-            self.bits_b = with_bit(self.bits_b, Bit::B.is_in(mark.symbol), self.count);
-            self.longs = with_bit(self.longs, long, self.count);
-            self.count += 1;
-        } else {
-            self.long_behind = self.long_behind || long;
-        }
     }
 }
 
@@ -113,34 +81,37 @@ impl Places for MarkWords {
 
     ghost stands_for = { HasAdded };
 
+    #[inline]
     fn count(&self) -> usize {
-        self.count
+        self.places.count()
     }
 
+    #[inline]
     fn is_set(&self, bit: Bit, place: usize) -> bool {
-        match bit {
-            Bit::Only => has(self.bits_a, place) && !has(self.bits_b, place),
-            Bit::A => has(self.bits_a, place),
-            Bit::B => has(self.bits_b, place),
-        }
+        self.places.is_set(bit, place)
     }
 
+    #[inline]
     fn is_long(&self, place: usize) -> bool {
-        has(self.longs, place)
+        self.places.is_long(place)
     }
 
+    #[inline]
     fn has_long_behind(&self) -> bool {
-        self.long_behind
+        self.places.has_long_behind()
     }
 
+    #[inline]
     fn breaks_spacing(&self) -> bool {
         self.spacing_broken
     }
 
+    #[inline]
     fn breaks_spacing_to(&self, close: Local) -> bool {
         self.spacing_broken || !is_near(&self.last, close)
     }
 
+    #[inline]
     fn breaks_width(&self) -> bool {
         self.width_broken
     }

@@ -1,11 +1,12 @@
 //! A segment whose marks lie in a slice.
-ghost use Rattle.std.specs.Prelude.{◌≡◌};
+ghost use Rattle.std.specs.Prelude.{◌≡◌, drop};
 ghost use Rattle.frame_rules.specs.MarkRules.{breaks_spacing, breaks_spacing_to, breaks_width};
+ghost use Rattle.frame_rules.specs.Words.{has_long};
 
-use crate::bits::Bit;
+use crate::bits::{Bit, is_long, is_odd};
 use crate::places::Places;
 use crate::rules::is_a_second_on;
-use tick_units::{Local, Mark, Symbol};
+use tick_units::{Local, Mark};
 
 // More marks than any minute has: how many more isn't told.
 const MOST: usize = 61;
@@ -32,16 +33,13 @@ impl<'a> Places for Segment<'a> {
 
     fn is_long(&self, place: usize) -> bool {
         match self.marks.get(place) {
-            Some(mark) => mark.symbol == Symbol::Long,
+            Some(mark) => is_long(mark.symbol),
             None => false,
         }
     }
 
     fn has_long_behind(&self) -> bool {
-        match self.marks.get(MOST..) {
-            Some(behind) => behind.iter().any(|mark| mark.symbol == Symbol::Long),
-            None => false,
-        }
+        has_long_behind(self.marks)
     }
 
     fn breaks_spacing(&self) -> bool {
@@ -53,8 +51,25 @@ impl<'a> Places for Segment<'a> {
     }
 
     fn breaks_width(&self) -> bool {
-        self.marks.iter().any(|mark| mark.symbol == Symbol::Odd)
+        has_odd(self.marks)
     }
+}
+
+// Whether a mark behind the first 61 is Long.
+fn has_long_behind(marks: &[Mark]) -> bool
+    ensures { result ≡ has_long (drop 61 marks.now) }
+{
+    marks
+        .iter()
+        .skip(MOST)
+        .any(|mark| is_long(mark.symbol))
+}
+
+// Whether a mark's width is in no class.
+fn has_odd(marks: &[Mark]) -> bool
+    ensures { result ≡ breaks_width marks.now }
+{
+    marks.iter().any(|mark| is_odd(mark.symbol))
 }
 
 // Whether two neighbouring marks don't start 900000 to 1100000 microseconds apart.

@@ -5,12 +5,17 @@ use Rattle.frame_rules.proofs.bits.value.Goals as goal
 use Rattle.frame_rules.proofs.bits.value.Goals.{then-is_set, else-is_set}
 
 pub loop-i-preserved : goal.loop-i-preserved
-loop-i-preserved c =
+loop-i-preserved g c =
     let weights = c.args.weights.now in
-    let marks = c.args.segment.now in
     let i = c.loop-i.i in
     let lt : i < length weights = omega arith in
     elim c.if-is_set.branch [
-      | then-is_set w ↦ let rest = value_set (has_bit c.args.bit) marks c.args.place i weights lt (sym w.if-is_set.ensures) in record { small = omega arith; so_far = omega arith }
-      | else-is_set w ↦ let rest = value_unset (has_bit c.args.bit) marks c.args.place i weights lt (sym w.if-is_set.ensures) in record { small = omega arith; so_far = omega arith }
+      | then-is_set w ↦ record {
+        small = omega arith;
+        so_far = λ marks h. let rest = value_set (has_bit c.args.bit) marks c.args.place i weights lt (sym (w.if-is_set.ensures marks h)) in omega (arith, c.loop-i.invariant.so_far marks h);
+      }
+      | else-is_set w ↦ record {
+        small = omega arith;
+        so_far = λ marks h. let rest = value_unset (has_bit c.args.bit) marks c.args.place i weights lt (sym (w.if-is_set.ensures marks h)) in omega (arith, c.loop-i.invariant.so_far marks h);
+      }
     ]
