@@ -1,5 +1,5 @@
 //! Bits of places, and what they add up to. Places count from 0.
-ghost use Rattle.std.specs.Prelude.{◌≡◌, ◌+◌, ◌<◌, ◌≤◌, List, length};
+ghost use Rattle.std.specs.Prelude.{◌≡◌, ◌+◌, ◌<◌, ◌≤◌, List, length, sum};
 ghost use Rattle.tick_units.specs.Marks.{is_long};
 ghost use Rattle.tick_units.specs.Rules.{is_odd};
 ghost use Rattle.tick_units.specs.Fields.{value, is_odd_over, has_pattern};
@@ -54,7 +54,8 @@ pub(crate) fn is_odd(symbol: Symbol) -> bool
 /// place.
 pub fn value<P: Places>(bit: Bit, segment: &P, place: usize, weights: &[u8]) -> u16
     requires { place + length weights.now ≤ 61 }
-    ensures { (marks : List Mark) → P.stands_for segment.now marks → result ≡ value (has_bit bit) marks place weights.now }
+    ensures value { (marks : List Mark) → P.stands_for segment.now marks → result ≡ value (has_bit bit) marks place weights.now }
+    ensures most { result ≤ sum weights.now }
 {
     let mut sum = 0;
     for (i, weight) in weights.iter().enumerate() {

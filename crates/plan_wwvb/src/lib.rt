@@ -20,10 +20,12 @@
 
 mod dates;
 mod fields;
+mod frame;
 mod reading;
 mod rules;
 mod spelling;
 
+pub use frame::Frame;
 pub use reading::read;
 pub use spelling::spell;
 
