@@ -14,7 +14,7 @@ mod spelling;
 pub use bits::{Bit, has_pattern, is_odd_over, value};
 pub use mark_words::MarkWords;
 pub use numbers::{Number, is_out_of};
-pub use places::Places;
+pub use places::{KEPT_PLACES, Places};
 pub use rules::{Rule, breaks_length, first_broken};
 pub use segment::Segment;
 pub use spelling::{Spelling, bit_symbol};

@@ -10,10 +10,8 @@ ghost use Rattle.frame_rules.specs.Words.{word_of, has_long, HasBits};
 
 use crate::bits::{Bit, is_long};
 use crate::mark_words::either;
+use crate::places::KEPT_PLACES;
 use tick_units::Mark;
-
-// A minute has 59 or 60 marks: a segment with more is too long, whatever they are.
-const MOST: usize = 61;
 
 // The bits of the first 61 marks, one word for each kind of bit. Bit `k` of a word is that of place `k`.
 #[derive(Clone, Copy, Debug)]
@@ -68,7 +66,7 @@ impl PlaceBits {
         ensures { (marks : List Mark) → HasBits self.old marks → HasBits self.new (marks ++ mark.now ∷ []) }
     {
         let long = is_long(mark.symbol);
-        if self.count < MOST {
+        if self.count < KEPT_PLACES {
             self.bits_a = with_bit(self.bits_a, Bit::A.is_in(mark.symbol), self.count);
             self.bits_b = with_bit(self.bits_b, Bit::B.is_in(mark.symbol), self.count);
             self.longs = with_bit(self.longs, long, self.count);

@@ -10,6 +10,10 @@ ghost use Rattle.frame_rules.specs.Words.{has_long};
 use crate::bits::Bit;
 use tick_units::Local;
 
+/// How many places of a segment can be asked one by one. A minute has 59 or 60 marks: a segment with more is too long, whatever
+/// they are.
+pub const KEPT_PLACES: usize = 61;
+
 /// A segment of marks, as far as rules ask of it. Places count from 0, and those up to 60 can be asked one by one; a place
 /// that the segment doesn't have counts as `Zero`.
 pub trait Places {

@@ -4,12 +4,9 @@ ghost use Rattle.frame_rules.specs.MarkRules.{breaks_spacing, breaks_spacing_to,
 ghost use Rattle.frame_rules.specs.Words.{has_long};
 
 use crate::bits::{Bit, is_long, is_odd};
-use crate::places::Places;
+use crate::places::{KEPT_PLACES, Places};
 use crate::rules::is_a_second_on;
 use tick_units::{Local, Mark};
-
-// More marks than any minute has: how many more isn't told.
-const MOST: usize = 61;
 
 /// The marks of a segment, read where they lie.
 #[derive(Clone, Copy, Debug)]
@@ -21,7 +18,7 @@ impl<'a> Places for Segment<'a> {
     ghost stands_for = { λ segment marks. segment.marks.now ≡ marks };
 
     fn count(&self) -> usize {
-        self.marks.len().min(MOST)
+        self.marks.len().min(KEPT_PLACES)
     }
 
     fn is_set(&self, bit: Bit, place: usize) -> bool {
@@ -61,7 +58,7 @@ fn has_long_behind(marks: &[Mark]) -> bool
 {
     marks
         .iter()
-        .skip(MOST)
+        .skip(KEPT_PLACES)
         .any(|mark| is_long(mark.symbol))
 }
 

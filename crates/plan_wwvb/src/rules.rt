@@ -12,7 +12,7 @@ use crate::dates::breaks_leap_minute;
 use crate::fields::OrdinalTime;
 use civil_frame::breaks_year_range;
 use civil_minute::year_length;
-use frame_rules::{Bit, Places, Rule, breaks_length, first_broken, has_pattern, is_out_of};
+use frame_rules::{Bit, KEPT_PLACES, Places, Rule, breaks_length, first_broken, has_pattern, is_out_of};
 use tick_units::Local;
 
 // The places that are markers.
@@ -25,9 +25,6 @@ const ZEROS: [usize; 11] = [4, 10, 11, 14, 20, 21, 24, 34, 35, 44, 54];
 const PLUS: [bool; 3] = [true, false, true];
 
 const MINUS: [bool; 3] = [false, true, false];
-
-// A segment with more marks is too long, whatever they are.
-const MOST: usize = 61;
 
 // One of these places isn't Long.
 fn lacks_long<P: Places>(segment: &P, places: &[usize]) -> bool
@@ -80,7 +77,7 @@ fn strays<P: Places>(segment: &P, place: usize) -> bool
 fn has_stray_marker<P: Places>(segment: &P) -> bool
     ensures { (marks : List Mark) → P.stands_for segment.now marks → result ≡ has_stray_marker marks }
 {
-    for place in 0..MOST {
+    for place in 0..KEPT_PLACES {
         if strays(segment, place) {
             return true;
         }
