@@ -33,4 +33,6 @@ pub use reading::read;
 pub use spelling::spell;
 
 #[cfg(test)]
+mod frame_tests;
+#[cfg(test)]
 mod tests;

@@ -30,4 +30,6 @@ pub use reading::read;
 pub use spelling::spell;
 
 #[cfg(test)]
+mod frame_tests;
+#[cfg(test)]
 mod tests;

@@ -55,7 +55,11 @@ fn breaks_time_parity<P: Places>(segment: &P) -> bool
 
 // The least number of a rule that the segment breaks.
 #[tactic(auto, unfolding(crate::specs::Rules::first))]
-pub(crate) fn first_broken_rule<P: Places>(segment: &P, close: Local, civil: &CivilTime) -> Option<u8>
+pub(crate) fn first_broken_rule<P: Places>(
+    segment: &P,
+    close: Local,
+    civil: &CivilTime,
+) -> Option<u8>
     requires { (marks : List Mark) → P.stands_for segment.now marks → civil.now ≡ said marks }
     ensures first { (marks : List Mark) → P.stands_for segment.now marks → result ≡ first marks close }
     ensures named { result ≡ None → IsTrue (names_minute civil.now) }

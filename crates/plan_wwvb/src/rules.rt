@@ -12,7 +12,9 @@ use crate::dates::breaks_leap_minute;
 use crate::fields::OrdinalTime;
 use civil_frame::breaks_year_range;
 use civil_minute::year_length;
-use frame_rules::{Bit, KEPT_PLACES, Places, Rule, breaks_length, first_broken, has_pattern, is_out_of};
+use frame_rules::{
+    Bit, KEPT_PLACES, Places, Rule, breaks_length, first_broken, has_pattern, is_out_of,
+};
 use tick_units::Local;
 
 // The places that are markers.
@@ -116,7 +118,11 @@ pub(crate) fn breaks_day_of_year(ordinal: &OrdinalTime) -> bool
 
 // The least number of a rule that the segment breaks.
 #[tactic(auto, unfolding(crate::specs::Rules::first))]
-pub(crate) fn first_broken_rule<P: Places>(segment: &P, close: Local, ordinal: &OrdinalTime) -> Option<u8>
+pub(crate) fn first_broken_rule<P: Places>(
+    segment: &P,
+    close: Local,
+    ordinal: &OrdinalTime,
+) -> Option<u8>
     requires read { (marks : List Mark) → P.stands_for segment.now marks → ordinal.now ≡ said marks }
     requires year { number_of ordinal.now.year < 1000 }
     ensures first { (marks : List Mark) → P.stands_for segment.now marks → result ≡ first marks close }
