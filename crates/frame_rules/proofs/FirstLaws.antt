@@ -1,5 +1,5 @@
 -- No rule of a list is named exactly where each is unbroken.
-use Rattle.std.proofs.Common.{◌≡◌, ℕ, Bool, true, false, cond, None, Some, List, [], ◌∷◌, find, refl, sym, ap, ◌∙◌}
+use Rattle.std.proofs.Common.{◌≡◌, Bool, true, false, cond, None, Some, List, [], ◌∷◌, find, refl, sym, ap, ◌∙◌}
 use Rattle.std.specs.Option.{option_map}
 use Rattle.frame_rules.specs.First.{first_broken}
 use Rattle.frame_rules.specs.declared.rules.Rule.{Rule}

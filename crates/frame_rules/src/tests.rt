@@ -167,9 +167,9 @@ fn a_number_has_two_digits(rt: HostRuntime) {
     assert_eq!(rt; is_out_of(1, 366, 10, 360), true);
 }
 
-// The symbols in turn, by a rule that repeats after no whole number of them.
+// The symbols in turn, each row of seven places beginning with the next one.
 fn symbol_at(place: usize) -> Symbol {
-    match (place + place / 7) % 6 {
+    match (place / 7 + place % 7) % 6 {
         0 => Symbol::Zero,
         1 => Symbol::One,
         2 => Symbol::OnlyB,

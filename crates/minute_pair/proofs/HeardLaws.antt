@@ -12,13 +12,9 @@ use Rattle.minute_pair.specs.Keeping.{Heard}
 use Rattle.minute_pair.specs.Plans.{HasRead}
 use Rattle.minute_pair.proofs.Pieces.{cut_boundary, cut_goes_on, segments_close, segments_open, segments_same}
 
--- the mark before the next one, by the piece
-before_is : (k : SegmentKeeper) (plan : Plan) (marks : List Mark) (mark : Mark) (p : Plan) (before : Option Mark) (boundary : Bool) → (h : Heard k plan marks) → p ≡ plan → before ≡ last_or None h.current → boundary ≡ is_boundary p before mark → boundary ≡ is_boundary plan (last_or None marks) mark
-before_is k plan marks mark p before boundary h plan_is last e = e ∙ ap (λ (q : Plan). is_boundary q before mark) plan_is ∙ ap (λ (o : Option Mark). is_boundary plan o mark) (last ∙ h.ends)
-
--- whether the next mark begins a minute, from what the code tests
+-- whether the next mark begins a minute, by what the code tests: the plan and the last mark of the piece
 pub boundary_is : (k : SegmentKeeper) (plan : Plan) (marks : List Mark) (mark : Mark) (p : Plan) (before : Option Mark) (is_it : Bool) → (h : Heard k plan marks) → p ≡ plan → before ≡ last_or None h.current → is_it ≡ is_boundary p before mark → is_boundary plan (last_or None marks) mark ≡ is_it
-boundary_is k plan marks mark p before is_it h plan_is last e = sym (before_is k plan marks mark p before is_it h plan_is last e)
+boundary_is k plan marks mark p before is_it h plan_is last e = sym (e ∙ ap (λ (q : Plan). is_boundary q before mark) plan_is ∙ ap (λ (o : Option Mark). is_boundary plan o mark) (last ∙ h.ends))
 
 pub heard_added : (k now : SegmentKeeper) (plan : Plan) (mark : Mark) (marks : List Mark) → is_boundary plan (last_or None marks) mark ≡ false → (h : Heard k plan marks) → HasRead now.frame plan (h.current ++ mark ∷ []) → now.is_open ≡ k.is_open → Heard now plan (marks ++ mark ∷ [])
 heard_added k now plan mark marks b h read same = record {

@@ -1,5 +1,5 @@
 //! A segment that is read mark by mark.
-ghost use Rattle.std.specs.Prelude.{◌≡◌, ℕ, None, Some, Option, IfOk, IfErr, min, List, [], ◌∷◌, ◌++◌, length};
+ghost use Rattle.std.specs.Prelude.{◌≡◌, None, Some, IfOk, IfErr, min, List, [], ◌∷◌, ◌++◌, length};
 ghost use Rattle.std.specs.List.{last_or};
 ghost use Rattle.tick_units.specs.declared.marks.Mark.{Mark};
 ghost use Rattle.civil_frame.specs.Seconds.{IsDated};

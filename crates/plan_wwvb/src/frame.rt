@@ -1,5 +1,5 @@
 //! A segment that is read mark by mark.
-ghost use Rattle.std.specs.Prelude.{◌≡◌, ℕ, None, Some, Option, IfOk, IfErr, min, List, [], ◌∷◌, ◌++◌, length};
+ghost use Rattle.std.specs.Prelude.{◌≡◌, None, Some, IfOk, IfErr, List, [], ◌∷◌, ◌++◌};
 ghost use Rattle.std.specs.List.{last_or};
 ghost use Rattle.tick_units.specs.declared.marks.Mark.{Mark};
 ghost use Rattle.civil_frame.specs.Seconds.{IsDated};
@@ -8,7 +8,7 @@ ghost use Rattle.plan_wwvb.specs.Frames.{HasRead};
 ghost use Rattle.plan_wwvb.specs.Rules.{first};
 
 use crate::reading::judge;
-use frame_rules::{MarkWords, Places};
+use frame_rules::MarkWords;
 use tick_units::{Broken, Coded, Local, Mark};
 
 /// A segment of WWVB that is read mark by mark. It keeps a few numbers, however many marks it hears.
@@ -42,14 +42,6 @@ impl Frame {
         ensures { (marks : List Mark) → HasRead self.now marks → result ≡ last_or None marks }
     {
         self.words.last()
-    }
-
-    /// How many marks there are, where 61 stands for any number from 61 on.
-    #[inline]
-    pub fn count(&self) -> usize
-        ensures { (marks : List Mark) → HasRead self.now marks → result ≡ min (length marks) 61 }
-    {
-        self.words.count()
     }
 
     /// What `read` answers to these marks, closed by a mark that starts at this moment.
