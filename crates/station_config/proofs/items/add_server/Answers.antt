@@ -5,7 +5,7 @@ use Rattle.station_config.specs.Finding.{IsMisreadAt}
 use Rattle.station_config.specs.Rows.{server_rows}
 use Rattle.station_config.specs.declared.keys.Part.TheVariants as part
 use Rattle.station_config.proofs.Firsts.{some_table}
-use Rattle.station_config.proofs.reading.add_server.Goals as goal
+use Rattle.station_config.proofs.items.add_server.Goals as goal
 
 pub returns-in-Err-clause-bad : goal.returns-in-Err-clause-bad
 returns-in-Err-clause-bad c =

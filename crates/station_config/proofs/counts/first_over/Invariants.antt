@@ -1,6 +1,6 @@
 use Rattle.std.proofs.Common.{◌≡◌, drop, find, map, nat_lt}
 use Rattle.station_config.specs.Finding.{count_seen}
-use Rattle.station_config.proofs.reading.first_over.Given as goal
+use Rattle.station_config.proofs.counts.first_over.Given as goal
 
 abbrev pub invariant-loop-count : goal.invariant-loop-count
 invariant-loop-count l =

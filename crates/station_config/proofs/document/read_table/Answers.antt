@@ -7,7 +7,7 @@ use Rattle.station_config.specs.Values.{station_of}
 use Rattle.station_config.proofs.Bounds.{station_bounds, within}
 use Rattle.station_config.proofs.Firsts.{first_map, first_none}
 use Rattle.station_config.proofs.Orders.{bads, excess_first, first_passing, misread_first, missing_first, missings, unknowns}
-use Rattle.station_config.proofs.reading.read_table.Goals as goal
+use Rattle.station_config.proofs.document.read_table.Goals as goal
 
 abbrev over : Count → Bool
 over c = nat_lt c.most c.count

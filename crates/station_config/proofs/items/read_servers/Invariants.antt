@@ -5,7 +5,7 @@ use Rattle.station_config.specs.Rows.{tables_from}
 use Rattle.station_config.specs.Values.{server_of}
 use Rattle.station_config.specs.declared.keys.Part.TheVariants as part
 use Rattle.station_config.proofs.Walks.{Left}
-use Rattle.station_config.proofs.reading.read_servers.Given as goal
+use Rattle.station_config.proofs.items.read_servers.Given as goal
 
 abbrev pub invariant-loop-place : goal.invariant-loop-place
 invariant-loop-place l = Left part.Server server_of (map server_fields l.servers.items) (tables_from l.place (items_view (drop l.place l.items))) (tables_from 0 (items_view l.items))

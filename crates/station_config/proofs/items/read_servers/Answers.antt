@@ -6,7 +6,7 @@ use Rattle.station_config.specs.Rows.{table_at, tables_from}
 use Rattle.station_config.specs.Values.{server_of}
 use Rattle.station_config.specs.declared.keys.Part.TheVariants as part
 use Rattle.station_config.proofs.Walks.{Left, left_bad, rest_from}
-use Rattle.station_config.proofs.reading.read_servers.Goals as goal
+use Rattle.station_config.proofs.items.read_servers.Goals as goal
 
 pub returns-in_err-add_server-clause-bad : goal.returns-in_err-add_server-clause-bad
 returns-in_err-add_server-clause-bad c =

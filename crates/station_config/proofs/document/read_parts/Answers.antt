@@ -7,7 +7,7 @@ use Rattle.station_config.specs.Rows.{port_row}
 use Rattle.station_config.specs.Values.{number_at, radio_of, server_of}
 use Rattle.station_config.specs.declared.keys.Part.TheVariants as part
 use Rattle.station_config.proofs.Orders.{bad_link, bad_radio, bad_server, no_bad, none_in}
-use Rattle.station_config.proofs.reading.read_parts.Goals as goal
+use Rattle.station_config.proofs.document.read_parts.Goals as goal
 
 pub read_radios-requires : goal.read_radios-requires
 read_radios-requires c =
