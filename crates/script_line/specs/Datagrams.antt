@@ -21,10 +21,12 @@ is_small_digit c = (nat_le 48 c && nat_le c 57) || (nat_le 97 c && nat_le c 102)
 abbrev pub small_digit_value : ℕ → ℕ
 small_digit_value c = if nat_le 97 c then c - 87 else c - 48
 
--- small digits, of which there are two for each of 1 to 1024 bytes
+-- so many digits are two for each of 1 to 1024 bytes
+abbrev pub are_pairs : ℕ → Bool
+are_pairs count = nat_le 2 count && nat_le count 2048 && (count % 2 == 0)
+
 abbrev pub are_digits : List ℕ → Bool
-are_digits text =
-    nat_le 2 (length text) && nat_le (length text) 2048 && (length text % 2 == 0) && list_all is_small_digit text
+are_digits text = are_pairs (length text) && list_all is_small_digit text
 
 -- the bytes that pairs of digits say
 abbrev pub bytes_said : List ℕ → List ℕ

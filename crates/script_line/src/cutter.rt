@@ -1,4 +1,5 @@
-ghost use Rattle.std.specs.Prelude.{◌≡◌, ◌+◌, ◌<◌, ◌≤◌, ℕ, List, [], ◌++◌, nat_lt, length, take};
+ghost use Rattle.std.specs.Prelude.{◌≡◌, ◌==◌, ◌+◌, ◌<◌, ◌≤◌, ℕ, List, [], ◌++◌, nat_lt, length, take};
+ghost use Rattle.std.specs.List.{position};
 ghost use Rattle.tick_units.specs.Log.{has_tail};
 
 // A line has less bytes than this before its line feed.
@@ -53,7 +54,7 @@ impl LineCutter {
         ensures { (bytes : List ℕ) → HasTaken self.old bytes → TakesPiece self.new bytes piece.now result }
     {
         let held = self.held();
-        match piece.iter().position(|byte| *byte == b'\n') {
+        match first_line_feed(piece) {
             Some(place) if place < TOO_LONG - held => {
                 self.put(held, &piece[..place]);
                 self.ended = true;
@@ -94,6 +95,7 @@ impl LineCutter {
     // The number of bytes of the line that goes on.
     fn held(&self) -> usize
         ensures value { result ≡ length (unfinished_in self.now) }
+        ensures line { take result self.now.room ≡ unfinished_in self.now }
         ensures short { result < 4096 }
     {
         if self.ended { 0 } else { self.length }
@@ -109,4 +111,11 @@ impl LineCutter {
         self.room[held..end].copy_from_slice(piece);
         self.length = end;
     }
+}
+
+// The place of the first line feed.
+fn first_line_feed(piece: &[u8]) -> Option<usize>
+    ensures { result ≡ position (λ byte. byte == 10) piece.now }
+{
+    piece.iter().position(|byte| *byte == b'\n')
 }

@@ -1,6 +1,7 @@
 ghost use Rattle.std.specs.Prelude.{◌≡◌, ℕ, List, IfSome, Some, length, take, drop};
+ghost use Rattle.std.specs.List.{list_all};
 ghost use Rattle.script_line.specs.Datagrams as datagrams;
-ghost use Rattle.script_line.specs.Datagrams.{IsDatagram, IsTextOfDatagram};
+ghost use Rattle.script_line.specs.Datagrams.{IsDatagram, IsTextOfDatagram, bytes_said};
 
 use hex::decode_to_slice;
 use std::marker::Model;
@@ -43,21 +44,51 @@ impl<'a> Datagram<'a> {
         ensures length { result ≡ length self.now }
         ensures lawful { IsDatagram self.now }
     {
-        let length = self.digits.len() / 2;
-        let _ = decode_to_slice(self.digits, &mut out[..length]);
-        length
+        let count = self.count();
+        decode(self.digits, &mut out[..count]);
+        count
     }
+
+    // Its number of bytes.
+    fn count(&self) -> usize
+        ensures value { result ≡ length self.now }
+        ensures lawful { IsDatagram self.now }
+    {
+        self.digits.len() / 2
+    }
+}
+
+// Writes the bytes that digits say over a room of just their number.
+fn decode(digits: &[u8], room: &mut [u8])
+    requires text { IsTextOfDatagram digits.now (bytes_said digits.now) }
+    requires room { length room.old ≡ length (bytes_said digits.now) }
+    ensures { room.new ≡ bytes_said digits.now }
+{
+    let _ = decode_to_slice(digits, room);
 }
 
 // A text of small digits, of which there are two for each of 1 to 1024 bytes.
 fn are_digits(digits: &[u8]) -> bool
     ensures { result ≡ datagrams.are_digits digits.now }
 {
-    let length = digits.len();
-    2 <= length
-        && length <= 2048
-        && length % 2 == 0
-        && digits.iter().all(|byte| is_small_digit(*byte))
+    if !are_pairs(digits.len()) {
+        return false;
+    }
+    are_small(digits)
+}
+
+// Two digits for each of 1 to 1024 bytes.
+fn are_pairs(count: usize) -> bool
+    ensures { result ≡ datagrams.are_pairs count }
+{
+    2 <= count && count <= 2048 && count % 2 == 0
+}
+
+// Digits of which none is a capital letter.
+fn are_small(digits: &[u8]) -> bool
+    ensures { result ≡ list_all datagrams.is_small_digit digits.now }
+{
+    digits.iter().all(|byte| is_small_digit(*byte))
 }
 
 // A hexadecimal digit that is no capital letter.

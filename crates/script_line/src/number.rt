@@ -37,11 +37,14 @@ fn number_of(text: &[u8], count: usize, value: u64) -> Option<Number>
     ensures number { IfSome result (λ number. (number.value ≡ value) × (number.length ≡ count) × (take count text.now ≡ decimal value)) }
     ensures none { IfNone result (take count text.now ≢ decimal value) }
 {
-    match &text[..count] {
-        [] | [b'0', _, ..] => None,
-        _ => Some(Number {
-            value,
-            length: count,
-        }),
+    if count == 0 {
+        return None;
     }
+    if count > 1 && text[0] == b'0' {
+        return None;
+    }
+    Some(Number {
+        value,
+        length: count,
+    })
 }

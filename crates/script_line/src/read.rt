@@ -94,7 +94,7 @@ fn read_request<'a>(mut fields: Fields<'a>) -> Option<ScriptLine<'a>>
     let connection = fields.next_connection()?;
     let arrived = fields.next_moment()?;
     let sent = fields.next_moment()?;
-    if sent < arrived {
+    if sent.get() < arrived.get() {
         return None;
     }
     let datagram = fields.datagram()?;
