@@ -51,7 +51,9 @@ impl LineCutter {
     /// Takes of a piece what stands up to and with its first line feed, or all of it. Where the line would be too long it takes
     /// nothing, and says up to which byte that shows.
     pub fn take(&mut self, piece: &[u8]) -> Taken
-        ensures { (bytes : List ℕ) → HasTaken self.old bytes → TakesPiece self.new bytes piece.now result }
+        ensures taken { (bytes : List ℕ) → HasTaken self.old bytes → TakesPiece self.new bytes piece.now result }
+        ensures within { result.count ≤ length piece.now }
+        ensures progress { 0 < length piece.now → 0 < result.count }
     {
         let held = self.held();
         match first_line_feed(piece) {
