@@ -108,7 +108,7 @@ said_bytes (byte ∷ bytes) each =
     let whole : small_digit_value (digit_for (byte / 16)) * 16 + small_digit_value (digit_for (byte % 16)) ≡ byte = omega arith in
     ap (λ b. b ∷ bytes_said (encode_lower bytes)) whole ∙ ap (λ (t : List ℕ). byte ∷ t) (said_bytes bytes (λ i. each (suc i)))
 
-small_text : (bytes : List ℕ) → IsBytes bytes → list_all is_small_digit (encode_lower bytes) ≡ true
+pub small_text : (bytes : List ℕ) → IsBytes bytes → list_all is_small_digit (encode_lower bytes) ≡ true
 unfolding encode_with
 small_text [] each = refl
 small_text (byte ∷ bytes) each =
