@@ -1,4 +1,4 @@
-use Rattle.std.proofs.Common.{◌≡◌, ap, subst, refl, take, decimal, sym, ◌∙◌, arith}
+use Rattle.std.proofs.Common.{◌≡◌, subst, refl, take, decimal, arith}
 use Rattle.script_line.proofs.NumberLaws.{is_text, not_empty, not_padded}
 use Rattle.script_line.proofs.number.number_of.Goals as goal
 use Rattle.script_line.proofs.number.number_of.Goals.{else-count-gt1-via-then-count-gt1+else-text-eq-ZERO, else-count-gt1-via-else-count-gt1}
