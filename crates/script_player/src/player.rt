@@ -1,4 +1,4 @@
-ghost use Rattle.std.specs.Prelude.{◌≡◌, ◌≤◌, ◌+◌, [], ℕ, List, Ok, IfOk, OnErr, vec_len, length};
+ghost use Rattle.std.specs.Prelude.{◌≡◌, ◌≤◌, ◌+◌, [], ℕ, List, Ok, IfOk, vec_len, length};
 ghost use Rattle.station_config.specs.Station.{StationFields};
 ghost use Rattle.script_line.specs.Texts.{IsLine};
 ghost use Rattle.script_line.specs.declared.line.ScriptLine.{ScriptLine};
@@ -43,7 +43,6 @@ impl Player<BoxedReceiver> {
         ensures ready { IsReady (λ b. least_start b) self.new }
         ensures plays { (station : StationFields) (limit : ℕ) (before : List ScriptLine) → HasPlayed (λ b h. stands_for b h) self.old station limit before →
             Plays (λ b h. stands_for b h) self.new station limit before line.now result }
-        ensures unchanged { OnErr result (self.new ≡ self.old) }
     {
         match line {
             ScriptLine::Pulse { feed, reduction } => self.hear(*feed, *reduction),
@@ -65,7 +64,6 @@ impl Player<BoxedReceiver> {
         ensures ready { IsReady (λ b. least_start b) self.new }
         ensures plays { (station : StationFields) (limit : ℕ) (before : List ScriptLine) → HasPlayed (λ b h. stands_for b h) self.old station limit before →
             Plays (λ b h. stands_for b h) self.new station limit before (lines.Pulse feed reduction) result }
-        ensures unchanged { OnErr result (self.new ≡ self.old) }
     {
         match self.radios.hear(feed, reduction)? {
             Some(entry) => Ok(self.journal.take(&entry)),
@@ -79,7 +77,6 @@ impl Player<BoxedReceiver> {
         ensures ready { IsReady (λ b. least_start b) self.new }
         ensures plays { (station : StationFields) (limit : ℕ) (before : List ScriptLine) → HasPlayed (λ b h. stands_for b h) self.old station limit before →
             Plays (λ b h. stands_for b h) self.new station limit before (lines.Ask feed at) result }
-        ensures unchanged { OnErr result (self.new ≡ self.old) }
     {
         let request = self.servers.ask(feed, at)?;
         Ok(Outcome::Asked(request))
@@ -91,7 +88,6 @@ impl Player<BoxedReceiver> {
         ensures ready { IsReady (λ b. least_start b) self.new }
         ensures plays { (station : StationFields) (limit : ℕ) (before : List ScriptLine) → HasPlayed (λ b h. stands_for b h) self.old station limit before →
             Plays (λ b h. stands_for b h) self.new station limit before (lines.Answer feed at datagram.now) result }
-        ensures unchanged { OnErr result (self.new ≡ self.old) }
     {
         let mut room = [0; 1024];
         let length = datagram.write(&mut room);
@@ -105,7 +101,6 @@ impl Player<BoxedReceiver> {
         ensures ready { IsReady (λ b. least_start b) self.new }
         ensures plays { (station : StationFields) (limit : ℕ) (before : List ScriptLine) → HasPlayed (λ b h. stands_for b h) self.old station limit before →
             Plays (λ b h. stands_for b h) self.new station limit before (lines.Swap feed) result }
-        ensures unchanged { OnErr result (self.new ≡ self.old) }
     {
         self.radios.swap(feed)?;
         Ok(Outcome::Nothing)

@@ -1,4 +1,4 @@
-ghost use Rattle.std.specs.Prelude.{◌≡◌, ◌≤◌, ◌+◌, ◌++◌, ◌∷◌, [], List, IfOk, OnErr, IfSome, vec_len};
+ghost use Rattle.std.specs.Prelude.{◌≡◌, ◌≤◌, ◌+◌, ◌++◌, ◌∷◌, [], List, IfOk, IfSome, vec_len};
 ghost use Rattle.minute_pair.specs.Years.{BelievesYears};
 ghost use Rattle.journal_entry.specs.Lawful.{IsLawful};
 ghost use Rattle.station_config.specs.Station.{StationFields};
@@ -43,9 +43,9 @@ impl Radios<BoxedReceiver> {
         ensures ready { AreReady (λ b. least_start b) self.new }
         ensures count { vec_len self.new.fitted ≡ vec_len self.old.fitted }
         ensures heard { (station : StationFields) (lines : List ScriptLine) → HasRadios (λ b h. stands_for b h) self.old station lines →
-            Gives (may_hear (radio_of station feed) feed reduction lines) (HasHeardPulse (λ b h. stands_for b h) self.new station lines feed reduction) result }
+            Gives (may_hear (radio_of station feed) feed reduction lines) (HasHeardPulse (λ b h. stands_for b h) self.new station lines feed reduction)
+                (HasRadios (λ b h. stands_for b h) self.new station lines) result }
         ensures lawful { IfOk result (λ entry. IfSome entry (λ e. IsLawful (vec_len self.old.fitted) e)) }
-        ensures unchanged { OnErr result (self.new ≡ self.old) }
     {
         let place = feed as usize;
         if place >= self.fitted.len() {
@@ -64,8 +64,8 @@ impl Radios<BoxedReceiver> {
         ensures ready { AreReady (λ b. least_start b) self.new }
         ensures count { vec_len self.new.fitted ≡ vec_len self.old.fitted }
         ensures swapped { (station : StationFields) (lines : List ScriptLine) → HasRadios (λ b h. stands_for b h) self.old station lines →
-            Gives (may_swap station (radio_of station feed) lines) (λ _. HasRadios (λ b h. stands_for b h) self.new station (lines ++ Swap feed ∷ [])) result }
-        ensures unchanged { OnErr result (self.new ≡ self.old) }
+            Gives (may_swap station (radio_of station feed) lines) (λ _. HasRadios (λ b h. stands_for b h) self.new station (lines ++ Swap feed ∷ []))
+                (HasRadios (λ b h. stands_for b h) self.new station lines) result }
     {
         let place = feed as usize;
         if place >= self.fitted.len() {

@@ -1,0 +1,4 @@
+mod LineLaws
+mod ListLaws
+mod RackLaws
+mod RadioLaws
