@@ -1,4 +1,6 @@
 mod LineLaws
 mod ListLaws
+mod PlayerLaws
 mod RackLaws
 mod RadioLaws
+mod ServerLaws

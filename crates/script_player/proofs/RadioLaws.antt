@@ -102,10 +102,10 @@ fields_at stands radios station lines feed radio h at = by (slice_get_cases stat
     by (inl (fields, within, here, read)) = (fields, here, h.each feed radio fields at here)
     by (inr (past, none)) = let within = slice_get_within radios feed radio at in let e = h.count in absurd (omega arith)
 
-nat_le-no : (a b : ℕ) → b < a → nat_le a b ≡ false
+pub nat_le-no : (a b : ℕ) → b < a → nat_le a b ≡ false
 nat_le-no a b h = grind (arith, nat_tests)
 
-nat_le-yes : (a b : ℕ) → a ≤ b → nat_le a b ≡ true
+pub nat_le-yes : (a b : ℕ) → a ≤ b → nat_le a b ≡ true
 nat_le-yes a b h = grind (arith, nat_tests)
 
 nat_lt-no : (a b : ℕ) → b ≤ a → nat_lt a b ≡ false

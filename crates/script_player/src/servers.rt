@@ -36,7 +36,7 @@ impl Servers {
         if place >= self.servers.len() {
             return Err(NotLawful);
         }
-        if at < self.servers[place].last {
+        if at.get() < self.servers[place].last.get() {
             return Err(NotLawful);
         }
         Ok(place)
