@@ -1,0 +1,76 @@
+ghost use Rattle.std.specs.Prelude.{◌≡◌, List, IfOk, IfErr};
+ghost use Rattle.station_config.specs.Faults.{Fault, Says, Refuses, IsFirst};
+ghost use Rattle.station_config.specs.Finding.{IsFirstObstacle, spot_text};
+
+use crate::document::read_table;
+use crate::fault::{KeyText, StationFault};
+use crate::items::Obstacle;
+use crate::keys::{Part, Spot};
+use crate::station::Station;
+use std::alloc::{AllocError, Global};
+
+// The text of a key as a fault names it.
+fn key_text(alloc: Global, spot: Spot<'_>) -> Result<KeyText, AllocError>
+    ensures { IfOk result (λ k. k ≡ spot_text spot.entry) }
+{
+    let place = spot.place;
+    let key = spot.key;
+    let text = match spot.part {
+        Part::Top => String::from_str(alloc, key)?,
+        Part::Radio => format!(in alloc; "radio.{place}.{key}")?,
+        Part::Server => format!(in alloc; "server.{place}.{key}")?,
+        Part::Link => format!(in alloc; "link.{place}.{key}")?,
+    };
+    Ok(KeyText::new(text))
+}
+
+// The fault that an obstacle is.
+fn fault(alloc: Global, obstacle: Obstacle<'_>) -> Result<StationFault, AllocError>
+    ensures { (faults : List Fault) → IsFirstObstacle faults obstacle.entry → IfOk result (IsFirst faults) }
+{
+    Ok(match obstacle {
+        Obstacle::Unknown(spot) => StationFault::UnknownKey {
+            key: key_text(alloc, spot)?,
+        },
+        Obstacle::Missing(spot) => StationFault::Missing {
+            key: key_text(alloc, spot)?,
+        },
+        Obstacle::Range(spot) => StationFault::Range {
+            key: key_text(alloc, spot)?,
+        },
+        Obstacle::TooMany(key, count) => StationFault::TooMany {
+            key: KeyText::new(String::from_str(alloc, key)?),
+            count,
+        },
+        Obstacle::Memory => StationFault::Memory,
+    })
+}
+
+/// Reads a station file, or refuses it with its first fault.
+///
+/// The faults come in this order: a text that isn't TOML, unknown keys, missing keys, values that aren't of their type
+/// and range, and too many rows. Of several of one kind the top table's comes first, then those of the radios, the
+/// servers and the links by their places, and within a table by the bytes of the keys. Fails with `Memory` where memory
+/// runs out.
+pub fn read_station(alloc: Global, text: &[u8]) -> Result<Station, StationFault>
+    ensures said { IfOk result (Says text.now) }
+    ensures refused { IfErr result (Refuses text.now) }
+{
+    let table = match toml::table_from_slice(alloc, text) {
+        Ok(table) => table,
+        Err(error) => {
+            return Err(if error.is_memory() {
+                StationFault::Memory
+            } else {
+                StationFault::NotToml
+            });
+        }
+    };
+    match read_table(alloc, &table) {
+        Ok(station) => Ok(station),
+        Err(obstacle) => match fault(alloc, obstacle) {
+            Ok(fault) => Err(fault),
+            Err(_) => Err(StationFault::Memory),
+        },
+    }
+}

@@ -1,0 +1,188 @@
+ghost use Rattle.std.specs.Prelude.{◌≡◌, ◌≤◌, ◌+◌, ◌++◌, option_map, length, map};
+ghost use Rattle.std.specs.List.{slice_get};
+ghost use Rattle.system_fold.specs.Settings.{AreLawful};
+ghost use Rattle.station_config.specs.Station.{IsStation, kind_of_radio, kind_of_server, settings_of};
+ghost use Rattle.station_config.specs.Inside.{radio_given, radio_kept, server_fields};
+ghost use Rattle.station_config.specs.Finding.{parts_fields};
+
+use feed_link::Address;
+use std::marker::Model;
+use system_fold::{Settings, SourceKind};
+use tick_units::{Local, Plan};
+
+/// A radio of a station.
+#[derive(Clone, Copy, Debug)]
+pub struct RadioRow<'a> {
+    /// Its code plan.
+    pub plan: Plan,
+    /// The name of its log, which isn't empty.
+    pub log: &'a str,
+    /// The delay from the sender to the receiver in microseconds, 0 to 100000.
+    pub delay: u32,
+}
+
+/// A server of a station.
+#[derive(Clone, Copy, Debug, PartialEq, Eq)]
+pub struct ServerRow {
+    /// Where it is asked. The port is 1 to 65535.
+    pub address: Address,
+    /// How often it is asked, 0 to 100000.
+    pub polls: u32,
+}
+
+/// A link that a station serves on.
+#[derive(Clone, Copy, Debug, PartialEq, Eq)]
+pub struct LinkRow {
+    /// Its port, 1 to 65535.
+    pub port: u16,
+}
+
+// A radio as a station keeps it: its log isn't empty, and its delay is at most 100000 microseconds.
+#[derive(Debug, Drop)]
+pub struct Radio {
+    pub plan: Plan,
+    pub log: String,
+    pub delay: u32,
+}
+
+// What was read of a station file: the holdover in microseconds, the first moment, the rows, and the ports of the links.
+#[derive(Debug, Drop)]
+pub struct Parts {
+    pub holdover: u64,
+    pub start: Local,
+    pub radios: Vec<Radio>,
+    pub servers: Vec<ServerRow>,
+    pub links: Vec<u16>,
+}
+
+// The feeds of the radios.
+fn add_radios(settings: &mut Settings, radios: &[Radio])
+    requires { length settings.old.sources + length radios.now ≤ 16 }
+    ensures { settings.new ≡ record { holdover = settings.old.holdover; sources = settings.old.sources ++ map (λ r. kind_of_radio (radio_kept r)) radios.now } }
+{
+    for radio in radios {
+        settings.add(SourceKind::Radio(radio.plan));
+    }
+}
+
+// The feeds of the servers.
+fn add_servers(settings: &mut Settings, servers: &[ServerRow])
+    requires { length settings.old.sources + length servers.now ≤ 16 }
+    ensures { settings.new ≡ record { holdover = settings.old.holdover; sources = settings.old.sources ++ map (λ s. kind_of_server (server_fields s)) servers.now } }
+{
+    for server in servers {
+        settings.add(SourceKind::Server(server.address));
+    }
+}
+
+/// A station: what it hears, whom it asks and where it serves. Contracts see it as a record of these.
+#[derive(Drop)]
+pub struct Station {
+    settings: Settings,
+    start: Local,
+    radios: Vec<Radio>,
+    servers: Vec<ServerRow>,
+    links: Vec<u16>,
+}
+
+impl Model for Station {
+    ghost use Rattle.station_config.specs.Station.{StationFields};
+    ghost use Rattle.station_config.specs.Inside.{IsInside, station_from};
+
+    ghost Value = { StationFields };
+
+    ghost view = { λ s. station_from s.settings s.start s.radios.items s.servers.items s.links.items };
+
+    ghost invariant = { λ s. IsInside s.settings (station_from s.settings s.start s.radios.items s.servers.items s.links.items) };
+}
+
+impl Station {
+    // The station of what was read.
+    pub(crate) fn new(parts: Parts) -> Station
+        requires { IsStation (parts_fields parts) }
+        ensures { result ≡ parts_fields parts }
+    {
+        let mut settings = Settings::new(parts.holdover);
+        add_radios(&mut settings, parts.radios.as_slice());
+        add_servers(&mut settings, parts.servers.as_slice());
+        Station {
+            settings,
+            start: parts.start,
+            radios: parts.radios,
+            servers: parts.servers,
+            links: parts.links,
+        }
+    }
+
+    /// What a page of the station's feeds is reckoned by: its holdover, and its radios and then its servers as sources.
+    pub fn settings(&self) -> &Settings
+        ensures value { result.now ≡ settings_of self.now }
+        ensures lawful { AreLawful result.now }
+        ensures bounds { IsStation self.now }
+    {
+        &self.settings
+    }
+
+    /// The first moment of its links, at most 2^49 microseconds.
+    pub fn start(&self) -> Local
+        ensures value { result ≡ self.now.start }
+        ensures bounds { IsStation self.now }
+    {
+        self.start
+    }
+
+    /// The number of its radios.
+    pub fn radios(&self) -> usize
+        ensures value { result ≡ length self.now.radios }
+        ensures bounds { IsStation self.now }
+    {
+        self.radios.len()
+    }
+
+    /// The number of its servers.
+    pub fn servers(&self) -> usize
+        ensures value { result ≡ length self.now.servers }
+        ensures bounds { IsStation self.now }
+    {
+        self.servers.len()
+    }
+
+    /// The number of the links that it serves on.
+    pub fn links(&self) -> usize
+        ensures value { result ≡ length self.now.links }
+        ensures bounds { IsStation self.now }
+    {
+        self.links.len()
+    }
+
+    /// The radio at a place, from 0. `None` exactly where the place isn't below the number of radios.
+    pub fn radio(&self, i: usize) -> Option<RadioRow<'_>>
+        ensures { option_map radio_given result ≡ slice_get self.now.radios i }
+    {
+        match self.radios.get(i) {
+            Some(radio) => Some(RadioRow {
+                plan: radio.plan,
+                log: radio.log.as_str(),
+                delay: radio.delay,
+            }),
+            None => None,
+        }
+    }
+
+    /// The server at a place, from 0. `None` exactly where the place isn't below the number of servers.
+    pub fn server(&self, i: usize) -> Option<ServerRow>
+        ensures { option_map server_fields result ≡ slice_get self.now.servers i }
+    {
+        self.servers.get(i).copied()
+    }
+
+    /// The link at a place, from 0. `None` exactly where the place isn't below the number of links.
+    pub fn link(&self, i: usize) -> Option<LinkRow>
+        ensures { option_map (λ l. l.port) result ≡ slice_get self.now.links i }
+    {
+        match self.links.get(i) {
+            Some(port) => Some(LinkRow { port: *port }),
+            None => None,
+        }
+    }
+}
