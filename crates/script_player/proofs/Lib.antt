@@ -1,5 +1,6 @@
 mod LineLaws
 mod ListLaws
+mod NewLaws
 mod PlayerLaws
 mod RackLaws
 mod RadioLaws

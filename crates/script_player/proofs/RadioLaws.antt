@@ -120,7 +120,7 @@ eqb-no a b n = grind (arith, nat_tests)
 pub eqb-yes : (a : ℕ) → (a == a) ≡ true
 eqb-yes a = grind (arith, nat_tests)
 
-same-plan : (p : Plan) → is_same_plan p p ≡ true
+pub same-plan : (p : Plan) → is_same_plan p p ≡ true
 same-plan Dcf = refl
 same-plan Msf = refl
 same-plan Wwvb = refl

@@ -1,4 +1,4 @@
-ghost use Rattle.std.specs.Prelude.{◌≡◌, ◌≤◌, ◌+◌, [], ℕ, List, Ok, IfOk, vec_len, length};
+ghost use Rattle.std.specs.Prelude.{◌≡◌, ◌≤◌, ◌+◌, ◌^◌, [], ℕ, List, Ok, IfOk, vec_len, length};
 ghost use Rattle.station_config.specs.Station.{StationFields};
 ghost use Rattle.script_line.specs.Texts.{IsLine};
 ghost use Rattle.script_line.specs.declared.line.ScriptLine.{ScriptLine};
@@ -32,6 +32,32 @@ pub struct Player<B: Drop> {
 
 impl Player<BoxedReceiver> {
     ghost use Rattle.script_player.specs.Standing.{HasPlayed, IsRack, IsReady, Plays};
+
+    /// A station that has played no line yet, and that keeps at most so many entries, up to 4194304. Of each plan the first
+    /// four blank receivers of the rack are used, in its order; the others are dropped.
+    ///
+    /// # Errors
+    /// There is no memory. No other call takes any.
+    pub fn new(
+        alloc: Global,
+        station: &Station,
+        rack: Vec<BoxedReceiver>,
+        limit: u32,
+    ) -> Result<Player<BoxedReceiver>, AllocError>
+        requires rack { IsRack (λ b h. stands_for b h) rack.items }
+        requires limit { limit ≤ 2 ^ 22 }
+        ensures played { IfOk result (λ player. HasPlayed (λ b h. stands_for b h) player station.now limit []) }
+        ensures ready { IfOk result (λ player. IsReady (λ b. least_start b) player) }
+    {
+        let radios = Radios::new(alloc, station, rack)?;
+        let servers = Servers::new(alloc, station)?;
+        let journal = Journal::new(station.settings(), limit);
+        Ok(Player {
+            radios,
+            servers,
+            journal,
+        })
+    }
 
     /// The next line: what it gives, where it may stand behind the lines before it.
     ///

@@ -11,6 +11,8 @@ ghost use Rattle.script_player.specs.Standing.{Gives, HasAnswered, HasServers, I
 use crate::NotLawful;
 use crate::server::Server;
 use journal_entry::Entry;
+use station_config::Station;
+use std::alloc::{AllocError, Global};
 use tick_units::Local;
 
 // The servers of the station. Their numbers begin behind those of the radios.
@@ -21,6 +23,22 @@ pub struct Servers {
 }
 
 impl Servers {
+    // The servers of a station, none of which was asked yet.
+    pub fn new(alloc: Global, station: &Station) -> Result<Servers, AllocError>
+        ensures { IfOk result (λ servers. HasServers servers station.now []) }
+    {
+        let count = station.servers();
+        let mut servers = Vec::with_capacity(alloc, count)?;
+        for place in 0..count {
+            let row = station.server(place).unwrap();
+            servers.push(Server::new(row.address))?;
+        }
+        Ok(Servers {
+            first: station.radios() as u32,
+            servers,
+        })
+    }
+
     // The place of a server, where this moment isn't below its last one.
     fn place_of(&self, feed: u32, at: Local) -> Result<usize, NotLawful>
         ensures lawful { (station : StationFields) (lines : List ScriptLine) → HasServers self.now station lines →
