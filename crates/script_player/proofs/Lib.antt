@@ -5,3 +5,4 @@ mod PlayerLaws
 mod RackLaws
 mod RadioLaws
 mod ServerLaws
+mod TextLaws

@@ -1,8 +1,9 @@
 -- A station before its first line, radio by radio and server by server.
-use Rattle.std.proofs.Common.{◌≡◌, ◌≢◌, ◌∙◌, ◌⊎◌, inl, inr, ℕ, zero, suc, ◌+◌, ◌<◌, ◌≤◌, Bool, true, false, cond, Option, Some, None, List, [], ◌∷◌, ◌++◌, length, take, drop, All, refl, sym, ap, subst, arith}
-use Rattle.std.proofs.lemmas.List.{length-append, length_push, take_more}
-use Rattle.std.proofs.lemmas.Option.{slice_get_within, get_or_from_slice_get}
+use Rattle.std.proofs.Common.{◌≡◌, ◌≢◌, ◌∙◌, ◌⊎◌, inl, inr, ℕ, zero, suc, ◌+◌, ◌<◌, ◌≤◌, Bool, true, false, cond, Option, Some, None, IsSome, List, [], ◌∷◌, ◌++◌, length, get_or, take, drop, All, refl, sym, ap, subst, arith, rules}
+use Rattle.std.proofs.lemmas.List.{length_push, take_all, take_more}
+use Rattle.std.proofs.lemmas.Option.{slice_get_cases, slice_get_within, get_or_from_slice_get}
 use Rattle.std.specs.List.{count_by, enumerate_from, slice_get}
+use Rattle.std.specs.Option.{option_map}
 use Rattle.feed_link.specs.declared.outside.Address.{Address}
 use Rattle.tick_units.specs.declared.marks.Plan.{Plan}
 use Rattle.radio_receiver.specs.Histories.{History, with_delay}
@@ -51,25 +52,26 @@ adds {B} stands old new station fields radio left receiver taken plan delay leas
   });
   blank = subst (All (IsSpare stands)) (sym left_is) (taken.others h.blank);
   four = λ p.
-    let had = h.four p in
-    let took = taken.count p in
-    let more = count_by-push (λ r. is_same_plan p r.plan) station.radios fields in
-    ap (λ xs. left_of p xs + (plan_count p (station.radios ++ fields ∷ []) + 0)) left_is ∙ omega arith;
+      let had = h.four p in
+      let took = taken.count p in
+      let more = count_by-push (λ r. is_same_plan p r.plan) station.radios fields in
+      ap (λ xs. left_of p xs + (plan_count p (station.radios ++ fields ∷ []) + 0)) left_is ∙ omega arith;
 }
   where
     fresh : HasRadio stands radio fields (length station.radios) []
     fresh =
-      let got = taken.receiver_is h.blank in
-      record { plan = plan; delay = delay; least = least; heard = fit (record { plan = fields.plan; delay = got.delay; reductions = [] }) got.blank }
+        let got = taken.receiver_is h.blank in
+        record { plan = plan; delay = delay; least = least; heard = fit (record { plan = fields.plan; delay = got.delay; reductions = [] }) got.blank }
+
     by : (feed : ℕ) (r : Radio B) (f : RadioFields) → slice_get (station.radios ++ fields ∷ []) feed ≡ Some f → (slice_get old.fitted.items feed ≡ Some r) ⊎ ((feed ≡ length old.fitted.items) × (r ≡ radio)) → HasRadio stands r f feed []
     by feed r f here (inl e) =
-      let within = slice_get_within old.fitted.items feed r e in
-      let count = h.fitted_are.count in
-      h.fitted_are.each feed r f e (slice_get-push-front station.radios fields f feed (omega arith) here)
+        let within = slice_get_within old.fitted.items feed r e in
+        let count = h.fitted_are.count in
+        h.fitted_are.each feed r f e (slice_get-push-front station.radios fields f feed (omega arith) here)
     by feed r f here (inr (e, s)) =
-      let at : slice_get (station.radios ++ fields ∷ []) (length station.radios) ≡ Some f = subst (λ n. slice_get (station.radios ++ fields ∷ []) n ≡ Some f) (e ∙ h.fitted_are.count) here in
-      let same = slice_get-push-last station.radios fields f at in
-      subst (λ x. HasRadio stands x f feed []) (sym s)
+        let at : slice_get (station.radios ++ fields ∷ []) (length station.radios) ≡ Some f = subst (λ n. slice_get (station.radios ++ fields ∷ []) n ≡ Some f) (e ∙ h.fitted_are.count) here in
+        let same = slice_get-push-last station.radios fields f at in
+        subst (λ x. HasRadio stands x f feed []) (sym s)
         (subst (λ x. HasRadio stands radio x feed []) (sym same) (subst (λ n. HasRadio stands radio fields n []) (sym (e ∙ h.fitted_are.count)) fresh))
 
 take-slice_get : {X : Type 0} (xs : List X) (n : ℕ) (x : X) → slice_get xs n ≡ Some x → take (n + 1) xs ≡ take n xs ++ x ∷ []
@@ -89,15 +91,15 @@ goes-on stands radios station n fields at h =
     subst (λ rs. HasRadios stands radios (record { holdover = station.holdover; start = station.start; radios = rs; servers = station.servers; links = station.links }) []) (sym (take-slice_get station.radios n fields at)) h
 
 count_by-take : {X : Type 0} (p : X → Bool) (xs : List X) (n : ℕ) (x : X) → slice_get xs n ≡ Some x → p x ≡ true → count_by p (take n xs) < count_by p xs
-count_by-take p [] n x e yes = absurd (cc)
-count_by-take p (y ∷ more) zero x e yes =
+count_by-take p [] n x e passes = absurd (cc)
+count_by-take p (y ∷ more) zero x e passes =
     let same : y ≡ x = cc in
-    let one : weight (p y) ≡ 1 = ap (λ z. weight (p z)) same ∙ ap weight yes in
+    let one : weight (p y) ≡ 1 = ap (λ z. weight (p z)) same ∙ ap weight passes in
     let first = count_by-cons p y more in
     let none : count_by p (take zero (y ∷ more)) ≡ 0 = refl in
     omega arith
-count_by-take p (y ∷ more) (suc n) x e yes =
-    let had = count_by-take p more n x e yes in
+count_by-take p (y ∷ more) (suc n) x e passes =
+    let had = count_by-take p more n x e passes in
     let first = count_by-cons p y more in
     let front : count_by p (take (suc n) (y ∷ more)) ≡ weight (p y) + count_by p (take n more) = count_by-cons p y (take n more) in
     omega arith
@@ -123,17 +125,37 @@ polling-push servers station n server fields at address polled last h =
   where
     by : (place : ℕ) (s : Server) (f : ServerFields) → slice_get (take n station.servers ++ fields ∷ []) place ≡ Some f → (slice_get servers place ≡ Some s) ⊎ ((place ≡ length servers) × (s ≡ server)) → HasServer s f (length station.radios + place) []
     by place s f here (inl e) =
-      let within = slice_get_within servers place s e in
-      let count = h.count in
-      h.each place s f e (slice_get-push-front (take n station.servers) fields f place (omega arith) here)
+        let within = slice_get_within servers place s e in
+        let count = h.count in
+        h.each place s f e (slice_get-push-front (take n station.servers) fields f place (omega arith) here)
     by place s f here (inr (e, same)) =
-      let there : slice_get (take n station.servers ++ fields ∷ []) (length (take n station.servers)) ≡ Some f = subst (λ k. slice_get (take n station.servers ++ fields ∷ []) k ≡ Some f) (e ∙ h.count) here in
-      let own = slice_get-push-last (take n station.servers) fields f there in
-      subst (λ x. HasServer x f (length station.radios + place) []) (sym same) (subst (λ x. HasServer server x (length station.radios + place) []) (sym own) (record { polled = polled; address = address; last = last }))
+        let there : slice_get (take n station.servers ++ fields ∷ []) (length (take n station.servers)) ≡ Some f = subst (λ k. slice_get (take n station.servers ++ fields ∷ []) k ≡ Some f) (e ∙ h.count) here in
+        let own = slice_get-push-last (take n station.servers) fields f there in
+        subst (λ x. HasServer x f (length station.radios + place) []) (sym same) (subst (λ x. HasServer server x (length station.radios + place) []) (sym own) (record { polled = polled; address = address; last = last }))
 
 pub polling-none : (station : StationFields) → HasPolling [] (first_servers 0 station) []
 polling-none station = record { count = refl; each = λ place server fields at here. absurd (cc) }
 
 pub length-enumerate : {X : Type 0} (n : ℕ) (xs : List X) → length (enumerate_from n xs) ≡ length xs
 length-enumerate n [] = refl
-length-enumerate n (x ∷ more) = ap (λ k. k + 1) (length-enumerate (n + 1) more)
+length-enumerate n (x ∷ more) = ap suc (length-enumerate (n + 1) more)
+
+-- a place within a list has an item
+pub some-at : {X Y : Type 0} (f : X → Y) (o : Option X) (ys : List Y) (i : ℕ) → option_map f o ≡ slice_get ys i → i < length ys → IsSome o
+some-at f (Some x) ys i e within = search rules
+some-at {X} {Y} f None ys i e within = absurd (by (slice_get_cases ys i).1)
+  where
+    by : ((y : Y) × (i < length ys) × (slice_get ys i ≡ Some y) × (get_or ys i y ≡ y)) ⊎ ((length ys ≤ i) × (slice_get ys i ≡ None)) → ⊥
+    by (inl (y, w, at, read)) = let both : None ≡ Some y = e ∙ at in cc
+    by (inr (past, none)) = omega arith
+
+-- all radios are the station's
+pub all-radios : {B : Type 0} (stands : B → History → Type 0) (radios : Radios B) (station : StationFields) (n : ℕ) → n ≡ length station.radios → HasRadios stands radios (first_radios n station) [] → HasRadios stands radios station []
+all-radios stands radios station n all h =
+    subst (λ rs. HasRadios stands radios (record { holdover = station.holdover; start = station.start; radios = rs; servers = station.servers; links = station.links }) [])
+    (take_all n station.radios (omega arith)) h
+
+pub all-servers : (servers : List Server) (station : StationFields) (n : ℕ) → n ≡ length station.servers → HasPolling servers (first_servers n station) [] → HasPolling servers station []
+all-servers servers station n all h =
+    subst (λ ss. HasPolling servers (record { holdover = station.holdover; start = station.start; radios = station.radios; servers = ss; links = station.links }) [])
+    (take_all n station.servers (omega arith)) h

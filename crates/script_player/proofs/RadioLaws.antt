@@ -88,7 +88,7 @@ HasFitted_set {B} stands radios station lines line place new none other this h =
     by : (feed : ℕ) (radio : Radio B) (fields : RadioFields) → slice_get station.radios feed ≡ Some fields → ((feed ≡ place) × (radio ≡ new)) ⊎ ((feed ≢ place) × (slice_get radios feed ≡ Some radio)) → HasRadio stands radio fields feed (lines ++ line ∷ [])
     by feed radio fields here (inl (e, f)) =
         subst (λ r. HasRadio stands r fields feed (lines ++ line ∷ [])) (sym f)
-          (subst (λ n. HasRadio stands new fields n (lines ++ line ∷ [])) (sym e) (this fields (subst (λ n. slice_get station.radios n ≡ Some fields) e here)))
+        (subst (λ n. HasRadio stands new fields n (lines ++ line ∷ [])) (sym e) (this fields (subst (λ n. slice_get station.radios n ≡ Some fields) e here)))
     by feed radio fields here (inr (n, f)) = HasRadio-other stands radio fields feed lines line (none feed n) (other feed n) (h.each feed radio fields f here)
 
 -- the station's own radio at a place
@@ -174,18 +174,19 @@ hears {B} stands old new station lines feed reduction radio after heard entry at
     let mine : pulse_in feed (Pulse feed reduction) ≡ Some reduction = ap (λ b. cond b (Some reduction) None) (eqb-yes feed) in
     let others : (f : ℕ) → f ≢ feed → pulse_in f (Pulse feed reduction) ≡ None = λ f n. ap (λ b. cond b (Some reduction) None) (eqb-no feed f n) in
     let this : (own : RadioFields) → slice_get station.radios feed ≡ Some own → HasRadio stands after own feed (lines ++ line ∷ []) =
-      λ own there. HasRadio-pulse stands radio after own feed lines line reduction mine refl plan delay least hear (h.fitted_are.each feed radio own at there) in
-    let set = HasFitted_set stands old.fitted.items station lines line feed after others (λ f n. refl) this h.fitted_are in
-    (ap (λ o. may_hear o feed reduction lines) here ∙ nat_le-yes (least_after (pulses_of feed lines)) reduction.at (subst (λ n. n ≤ reduction.at) had.least timely),
-     record {
-       played = record {
-         fitted_are = subst (λ rs. HasFitted stands rs station (lines ++ line ∷ [])) (sym now) set;
-         blank = subst (All (IsSpare stands)) (sym left) h.blank;
-         four = λ plan. ap (λ xs. left_of plan xs + fitted station plan (lines ++ line ∷ [])) left ∙ ap (λ n. left_of plan old.left.items + n) (fitted-same station plan lines line refl) ∙ h.four plan;
-       };
-       due_is = is ∙ ap (entry_heard feed) (new-is (answers_of (with_reduction (history_of fields feed lines) reduction)) (answers_of (history_of fields feed lines)) heard (answered (history_of fields feed lines) had.heard))
-         ∙ sym (ap (λ o. due_of_radio o feed reduction lines) here);
-     })
+    λ own there. HasRadio-pulse stands radio after own feed lines line reduction mine refl plan delay least hear (h.fitted_are.each feed radio own at there) in
+    let set = HasFitted_set stands old.fitted.items station lines line feed after others (λ f n. refl) this h.fitted_are in (
+      ap (λ o. may_hear o feed reduction lines) here ∙ nat_le-yes (least_after (pulses_of feed lines)) reduction.at (subst (λ n. n ≤ reduction.at) had.least timely),
+      record {
+        played = record {
+          fitted_are = subst (λ rs. HasFitted stands rs station (lines ++ line ∷ [])) (sym now) set;
+          blank = subst (All (IsSpare stands)) (sym left) h.blank;
+          four = λ plan. ap (λ xs. left_of plan xs + fitted station plan (lines ++ line ∷ [])) left ∙ ap (λ n. left_of plan old.left.items + n) (fitted-same station plan lines line refl) ∙ h.four plan;
+        };
+        due_is = is ∙ ap (entry_heard feed) (new-is (answers_of (with_reduction (history_of fields feed lines) reduction)) (answers_of (history_of fields feed lines)) heard (answered (history_of fields feed lines) had.heard))
+            ∙ sym (ap (λ o. due_of_radio o feed reduction lines) here);
+      },
+    )
 
 -- no receiver of the radio's plan is left
 pub swaps-not : {B : Type 0} (stands : B → History → Type 0) (old new : Radios B) (station : StationFields) (lines : List ScriptLine) (feed : ℕ) (radio : Radio B) →
@@ -195,13 +196,14 @@ swaps-not stands old new station lines feed radio at none same left h =
     let own = fields_at stands old.fitted.items station lines feed radio h.fitted_are at in
     let fields = own.0 in
     let zero_left = subst (λ p. left_of p old.left.items ≡ 0) own.2.plan none in
-    let four = h.four fields.plan in
-    (ap (λ o. may_swap station o lines) own.1 ∙ nat_lt-no (fitted station fields.plan lines) 4 (omega arith),
-     record {
-       fitted_are = subst (λ rs. HasFitted stands rs station lines) (sym same) h.fitted_are;
-       blank = subst (All (IsSpare stands)) (sym left) h.blank;
-       four = λ plan. ap (λ xs. left_of plan xs + fitted station plan lines) left ∙ h.four plan;
-     })
+    let four = h.four fields.plan in (
+      ap (λ o. may_swap station o lines) own.1 ∙ nat_lt-no (fitted station fields.plan lines) 4 (omega arith),
+      record {
+        fitted_are = subst (λ rs. HasFitted stands rs station lines) (sym same) h.fitted_are;
+        blank = subst (All (IsSpare stands)) (sym left) h.blank;
+        four = λ plan. ap (λ xs. left_of plan xs + fitted station plan lines) left ∙ h.four plan;
+      },
+    )
 
 -- the next receiver of the radio's plan is fitted
 pub swaps : {B : Type 0} (stands : B → History → Type 0) (old new : Radios B) (station : StationFields) (lines : List ScriptLine) (feed : ℕ) (radio after : Radio B) (left : List (Spare B)) (receiver : B) →
@@ -221,22 +223,23 @@ swaps {B} stands old new station lines feed radio after left receiver at taken p
     let fresh : stands after.receiver (record { plan = radio.plan; delay = radio.delay_us; reductions = [] }) = fit (record { plan = radio.plan; delay = got.delay; reductions = [] }) got.blank in
     let others : (f : ℕ) → f ≢ feed → is_swap_of f (Swap feed) ≡ false = λ f n. eqb-no feed f n in
     let this : (own : RadioFields) → slice_get station.radios feed ≡ Some own → HasRadio stands after own feed (lines ++ line ∷ []) =
-      λ own there. HasRadio-swap stands radio after own feed lines line refl (eqb-yes feed) plan delay least fresh (h.fitted_are.each feed radio own at there) in
+    λ own there. HasRadio-swap stands radio after own feed lines line refl (eqb-yes feed) plan delay least fresh (h.fitted_are.each feed radio own at there) in
     let set = HasFitted_set stands old.fitted.items station lines line feed after (λ f n. refl) others this h.fitted_are in
     let one : (p : Plan) → cond (is_swap_for station p (Swap feed)) 1 0 ≡ one_of p radio.plan =
-      λ p. ap (λ o. cond (is_plan_of p o) 1 0) here ∙ ap (one_of p) (sym had.plan) in
+    λ p. ap (λ o. cond (is_plan_of p o) 1 0) here ∙ ap (one_of p) (sym had.plan) in
     let mine = taken.count radio.plan in
     let self_same : one_of radio.plan radio.plan ≡ 1 = ap (λ b. cond b 1 0) (same-plan radio.plan) in
     let four = h.four radio.plan in
-    let some_left : fitted station radio.plan lines < 4 = omega arith in
-    (ap (λ o. may_swap station o lines) here ∙ nat_lt-yes (fitted station fields.plan lines) 4 (subst (λ p. fitted station p lines < 4) had.plan some_left),
-     record {
-       fitted_are = subst (λ rs. HasFitted stands rs station (lines ++ line ∷ [])) (sym now) set;
-       blank = subst (All (IsSpare stands)) (sym left_is) (taken.others h.blank);
-       four = λ p.
-         let pushed = fitted-push station p lines line in
-         let one_p = one p in
-         let count_p = taken.count p in
-         let four_p = h.four p in
-         ap (λ xs. left_of p xs + fitted station p (lines ++ line ∷ [])) left_is ∙ omega arith;
-     })
+    let some_left : fitted station radio.plan lines < 4 = omega arith in (
+      ap (λ o. may_swap station o lines) here ∙ nat_lt-yes (fitted station fields.plan lines) 4 (subst (λ p. fitted station p lines < 4) had.plan some_left),
+      record {
+        fitted_are = subst (λ rs. HasFitted stands rs station (lines ++ line ∷ [])) (sym now) set;
+        blank = subst (All (IsSpare stands)) (sym left_is) (taken.others h.blank);
+        four = λ p.
+            let pushed = fitted-push station p lines line in
+            let one_p = one p in
+            let count_p = taken.count p in
+            let four_p = h.four p in
+            ap (λ xs. left_of p xs + fitted station p (lines ++ line ∷ [])) left_is ∙ omega arith;
+      },
+    )

@@ -37,7 +37,7 @@ HasServer-event : (old new : Server) (fields : ServerFields) (feed : ℕ) (lines
 HasServer-event old new fields feed lines line at event is moment address last polls h =
     let had : HasPolled old.poll old.address (events_of fields.address feed lines) = subst (λ a. HasPolled old.poll a (events_of fields.address feed lines)) (sym h.address) h.polled in
     let has : HasPolled new.poll fields.address (events_of fields.address feed lines ++ event fields.address ∷ []) =
-      subst (λ a. HasPolled new.poll a (events_of fields.address feed lines ++ event a ∷ [])) h.address (polls (events_of fields.address feed lines) had) in
+    subst (λ a. HasPolled new.poll a (events_of fields.address feed lines ++ event a ∷ [])) h.address (polls (events_of fields.address feed lines) had) in
     record {
       polled = subst (HasPolled new.poll fields.address) (sym (filter_map-some (event_in fields.address feed) lines line (event fields.address) is)) has;
       address = address ∙ h.address;
@@ -79,9 +79,9 @@ HasServers-event old new station lines line feed place at server after event fee
         let same : feed ≡ length station.radios + p = feed_is ∙ ap (λ n. n + place) h.first_is ∙ ap (λ n. length station.radios + n) (sym e) in
         let old_p : slice_get old.servers.items p ≡ Some server = ap (slice_get old.servers.items) e ∙ here in
         subst (λ x. HasServer x fields (length station.radios + p) (lines ++ line ∷ [])) (sym f)
-          (HasServer-event server after fields (length station.radios + p) lines line at event
-            (subst (λ n. event_in fields.address n line ≡ Some (event fields.address)) same (is fields.address)) (subst (λ n. moment_in n line ≡ Some at) same moment)
-            address last polls (h.polling.each p server fields old_p here_p))
+        (HasServer-event server after fields (length station.radios + p) lines line at event
+        (subst (λ n. event_in fields.address n line ≡ Some (event fields.address)) same (is fields.address)) (subst (λ n. moment_in n line ≡ Some at) same moment)
+        address last polls (h.polling.each p server fields old_p here_p))
     by p s fields here_p (inr (n, f)) =
         let first_is = h.first_is in
         let away : length station.radios + p ≢ feed = λ e. n (omega arith) in
@@ -106,6 +106,7 @@ fields_of servers station lines feed place server h e at = by (slice_get_cases s
   where
     same : feed ≡ length station.radios + place
     same = e ∙ ap (λ n. n + place) h.first_is
+
     by : ((fields : ServerFields) × (place < length station.servers) × (slice_get station.servers place ≡ Some fields) × (get_or station.servers place fields ≡ fields)) ⊎ ((length station.servers ≤ place) × (slice_get station.servers place ≡ None)) →
         (fields : ServerFields) × (server_of station feed ≡ Some fields) × HasServer server fields feed lines
     by (inl (fields, within, here, read)) = (fields, server_of-at station feed place same ∙ here, subst (λ n. HasServer server fields n lines) (sym same) (h.polling.each place server fields at here))
@@ -139,9 +140,9 @@ pub asks : (old new : Servers) (station : StationFields) (lines : List ScriptLin
     HasServers old station lines → HasServers new station (lines ++ Ask feed at ∷ [])
 asks old new station lines feed place at server after e here address last asked first now h =
     HasServers-event old new station lines (Ask feed at) feed place at server after (λ s. Asked at) e here
-      (λ s. ap (λ b. cond b (Some (Asked at)) None) (eqb-yes feed)) (ap (λ b. cond b (Some at) None) (eqb-yes feed))
-      (λ other s n. ap (λ b. cond b (Some (Asked at)) None) (eqb-no feed other n)) (λ other n. ap (λ b. cond b (Some at) None) (eqb-no feed other n))
-      address last (λ history. asked server.address history) first now h
+    (λ s. ap (λ b. cond b (Some (Asked at)) None) (eqb-yes feed)) (ap (λ b. cond b (Some at) None) (eqb-yes feed))
+    (λ other s n. ap (λ b. cond b (Some (Asked at)) None) (eqb-no feed other n)) (λ other n. ap (λ b. cond b (Some at) None) (eqb-no feed other n))
+    address last (λ history. asked server.address history) first now h
 
 abbrev entry_of : ℕ → ℕ → What → Entry
 entry_of feed at what = record { feed = feed; at = at; what = what }
@@ -159,11 +160,11 @@ answers old new station lines feed place at datagram server after what e here ad
     let had = own.2 in
     record {
       played = HasServers-event old new station lines (Answer feed at datagram) feed place at server after (λ s. Answered at s datagram) e here
-        (λ s. ap (λ b. cond b (Some (Answered at s datagram)) None) (eqb-yes feed)) (ap (λ b. cond b (Some at) None) (eqb-yes feed))
-        (λ other s n. ap (λ b. cond b (Some (Answered at s datagram)) None) (eqb-no feed other n)) (λ other n. ap (λ b. cond b (Some at) None) (eqb-no feed other n))
-        address last (λ history. answered server.address history) first now h;
+          (λ s. ap (λ b. cond b (Some (Answered at s datagram)) None) (eqb-yes feed)) (ap (λ b. cond b (Some at) None) (eqb-yes feed))
+          (λ other s n. ap (λ b. cond b (Some (Answered at s datagram)) None) (eqb-no feed other n)) (λ other n. ap (λ b. cond b (Some at) None) (eqb-no feed other n))
+          address last (λ history. answered server.address history) first now h;
       due_is =
-        let is : what ≡ what_answered (judge fields.address (events_of fields.address feed lines) at fields.address datagram) =
+          let is : what ≡ what_answered (judge fields.address (events_of fields.address feed lines) at fields.address datagram) =
           judged fields.address (events_of fields.address feed lines) had.polled ∙ ap (λ a. what_answered (judge fields.address (events_of fields.address feed lines) at a datagram)) had.address in
-        ap (λ w. Some (entry_of feed at w)) is ∙ sym (ap (λ o. due_of_server o feed at datagram lines) own.1);
+          ap (λ w. Some (entry_of feed at w)) is ∙ sym (ap (λ o. due_of_server o feed at datagram lines) own.1);
     }

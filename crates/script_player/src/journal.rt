@@ -75,7 +75,6 @@ impl Journal {
     }
 
     // One was dropped.
-    #[tactic(auto, using(crate::proofs::LineLaws::due_push, crate::proofs::RadioLaws::HasFitted_set))]
     pub fn is_full(&self) -> bool
         ensures { (settings : SettingsFields) (limit : ℕ) (entries : List Entry) → HasKept self.now settings limit entries →
             result ≡ nat_lt limit (length entries) }

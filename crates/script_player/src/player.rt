@@ -50,7 +50,8 @@ impl Player<BoxedReceiver> {
         ensures ready { IfOk result (λ player. IsReady (λ b. least_start b) player) }
     {
         let radios = Radios::new(alloc, station, rack)?;
-        let servers = Servers::new(alloc, station)?;
+        let mut servers = Servers::new(alloc, station.radios() as u32);
+        servers.add_all(station)?;
         let journal = Journal::new(station.settings(), limit);
         Ok(Player {
             radios,
@@ -109,7 +110,12 @@ impl Player<BoxedReceiver> {
     }
 
     // A datagram comes from a server.
-    fn answer(&mut self, feed: u32, at: Local, datagram: &Datagram<'_>) -> Result<Outcome, NotLawful>
+    fn answer(
+        &mut self,
+        feed: u32,
+        at: Local,
+        datagram: &Datagram<'_>,
+    ) -> Result<Outcome, NotLawful>
         requires { IsReady (λ b. least_start b) self.old }
         ensures ready { IsReady (λ b. least_start b) self.new }
         ensures plays { (station : StationFields) (limit : ℕ) (before : List ScriptLine) → HasPlayed (λ b h. stands_for b h) self.old station limit before →

@@ -8,9 +8,9 @@ ghost use Rattle.script_player.specs.Replay as replay;
 ghost use Rattle.script_player.specs.Replay.{may_hear, may_swap, radio_of};
 ghost use Rattle.script_player.specs.Standing.{AreReady, Gives, HasHeardPulse, HasRadios, IsRack, left_of, with_radio};
 
-use crate::{BoxedReceiver, NotLawful};
 use crate::rack::{Spare, four_of_each, take_of};
 use crate::radio::Radio;
+use crate::{BoxedReceiver, NotLawful};
 use journal_entry::{Entry, What};
 use radio_receiver::Receiver;
 use station_config::Station;
@@ -82,7 +82,7 @@ impl Radios<BoxedReceiver> {
         ensures count { vec_len self.new.fitted ≡ vec_len self.old.fitted }
         ensures heard { (station : StationFields) (lines : List ScriptLine) → HasRadios (λ b h. stands_for b h) self.old station lines →
             Gives (may_hear (radio_of station feed) feed reduction lines) (HasHeardPulse (λ b h. stands_for b h) self.new station lines feed reduction)
-                (HasRadios (λ b h. stands_for b h) self.new station lines) result }
+            (HasRadios (λ b h. stands_for b h) self.new station lines) result }
         ensures lawful { IfOk result (λ entry. IfSome entry (λ e. IsLawful (vec_len self.old.fitted) e)) }
     {
         let place = feed as usize;
@@ -103,7 +103,7 @@ impl Radios<BoxedReceiver> {
         ensures count { vec_len self.new.fitted ≡ vec_len self.old.fitted }
         ensures swapped { (station : StationFields) (lines : List ScriptLine) → HasRadios (λ b h. stands_for b h) self.old station lines →
             Gives (may_swap station (radio_of station feed) lines) (λ _. HasRadios (λ b h. stands_for b h) self.new station (lines ++ Swap feed ∷ []))
-                (HasRadios (λ b h. stands_for b h) self.new station lines) result }
+            (HasRadios (λ b h. stands_for b h) self.new station lines) result }
     {
         let place = feed as usize;
         if place >= self.fitted.len() {

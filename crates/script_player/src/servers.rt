@@ -1,4 +1,4 @@
-ghost use Rattle.std.specs.Prelude.{◌≡◌, ◌<◌, ◌+◌, ◌++◌, ◌∷◌, [], List, IfOk, length, vec_len};
+ghost use Rattle.std.specs.Prelude.{◌≡◌, ◌<◌, ◌+◌, ◌++◌, ◌∷◌, [], List, IfOk, OnOk, length, vec_len};
 ghost use Rattle.poll_core.specs.Formulas.{request_header};
 ghost use Rattle.ntp_packet.specs.Layout.{layout};
 ghost use Rattle.journal_entry.specs.Lawful.{IsLawful};
@@ -11,6 +11,7 @@ ghost use Rattle.script_player.specs.Standing.{Gives, HasAnswered, HasServers, I
 use crate::NotLawful;
 use crate::server::Server;
 use journal_entry::Entry;
+use poll_core::Poll;
 use station_config::Station;
 use std::alloc::{AllocError, Global};
 use tick_units::Local;
@@ -23,20 +24,33 @@ pub struct Servers {
 }
 
 impl Servers {
+    // No server yet; their numbers begin here.
+    pub fn new(alloc: Global, first: u32) -> Servers
+        ensures first { result.first ≡ first }
+        ensures none { result.servers.items ≡ [] }
+    {
+        Servers {
+            first,
+            servers: Vec::new(alloc),
+        }
+    }
+
     // The servers of a station, none of which was asked yet.
-    pub fn new(alloc: Global, station: &Station) -> Result<Servers, AllocError>
-        ensures { IfOk result (λ servers. HasServers servers station.now []) }
+    pub fn add_all(&mut self, station: &Station) -> Result<(), AllocError>
+        requires first { self.old.first ≡ length station.now.radios }
+        requires none { self.old.servers.items ≡ [] }
+        ensures { OnOk result (HasServers self.new station.now []) }
     {
         let count = station.servers();
-        let mut servers = Vec::with_capacity(alloc, count)?;
+        self.servers.reserve(count)?;
+        let least = Local::new(0).unwrap();
         for place in 0..count {
             let row = station.server(place).unwrap();
-            servers.push(Server::new(row.address))?;
+            let poll = Poll::new(row.address);
+            self.servers
+                .push_reserved(Server::new(poll, row.address, least));
         }
-        Ok(Servers {
-            first: station.radios() as u32,
-            servers,
-        })
+        Ok(())
     }
 
     // The place of a server, where this moment isn't below its last one.
@@ -66,7 +80,7 @@ impl Servers {
         ensures first { self.new.first ≡ self.old.first }
         ensures asked { (station : StationFields) (lines : List ScriptLine) → HasServers self.old station lines →
             Gives (may_poll (server_of station feed) feed at lines) (λ _. HasServers self.new station (lines ++ Ask feed at ∷ []))
-                (HasServers self.new station lines) result }
+            (HasServers self.new station lines) result }
         ensures request { IfOk result (λ bytes. bytes ≡ layout (request_header at)) }
     {
         let place = self.place_of(feed, at)?;
@@ -79,7 +93,7 @@ impl Servers {
         ensures first { self.new.first ≡ self.old.first }
         ensures answered { (station : StationFields) (lines : List ScriptLine) → HasServers self.old station lines →
             Gives (may_poll (server_of station feed) feed at lines) (HasAnswered self.new station lines feed at datagram.now)
-                (HasServers self.new station lines) result }
+            (HasServers self.new station lines) result }
         ensures lawful { IfOk result (λ e. IsLawful (self.old.first + vec_len self.old.servers) e) }
     {
         let place = self.place_of(feed, at)?;

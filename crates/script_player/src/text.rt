@@ -21,6 +21,7 @@ fn write_word(word: &[u8], out: &mut [u8; 256]) -> usize
 }
 
 // Writes a word with its space, the bytes in hexadecimal digits, and a line feed.
+#[tactic(auto, using(crate::proofs::TextLaws::drop_on))]
 fn write_bytes(word: &[u8], bytes: &[u8; 48], out: &mut [u8; 256]) -> usize
     requires { length word.now ≤ 20 }
     ensures text { take result out.new ≡ word.now ++ encode_lower bytes.now ++ 10 ∷ [] }

@@ -14,5 +14,5 @@ returns-clause-plays g c station limit before h =
     let e : take c.write-length.result c.write-length.new.out ≡ c.args.datagram.now = c.write-length.ensures.bytes in
     let answered : HasAnswered c.answer.new.self station before c.args.feed c.args.at (take c.write-length.result c.write-length.new.out) c.in_ok-entry.entry = (c.in_ok-entry.ensures.answered station before h.servers).1 in
     answers-server (λ b h. (goal.Receiver-dyn g (b.vtable, b.value)).stands_for b.value h) c.args.self.now _ station limit before c.args.feed c.args.at c.args.datagram.now c.in_ok-entry.entry c.take.result
-      ((c.in_ok-entry.ensures.answered station before h.servers).0, subst (λ d. HasAnswered c.answer.new.self station before c.args.feed c.args.at d c.in_ok-entry.entry) e answered)
-      refl c.take.ensures.kept c.take.ensures.outcome h
+    ((c.in_ok-entry.ensures.answered station before h.servers).0, subst (λ d. HasAnswered c.answer.new.self station before c.args.feed c.args.at d c.in_ok-entry.entry) e answered)
+    refl c.take.ensures.kept c.take.ensures.outcome h

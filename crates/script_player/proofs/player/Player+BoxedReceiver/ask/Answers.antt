@@ -11,4 +11,4 @@ returns-in_err-request-clause-plays g c station limit before h =
 pub returns-clause-plays : goal.returns-clause-plays
 returns-clause-plays g c station limit before h =
     asks-server (λ b h. (goal.Receiver-dyn g (b.vtable, b.value)).stands_for b.value h) c.args.self.now _ station limit before c.args.feed c.args.at c.in_ok-request.request
-      (c.in_ok-request.ensures.asked station before h.servers) c.in_ok-request.ensures.request refl refl h
+    (c.in_ok-request.ensures.asked station before h.servers) c.in_ok-request.ensures.request refl refl h

@@ -14,10 +14,10 @@ pub returns-in-Some-clause-plays : goal.returns-in-Some-clause-plays
 returns-in-Some-clause-plays g c station limit before h =
     let heard = c.in_ok-entry.ensures.heard station before h.radios in
     hears-entry (λ b h. (goal.Receiver-dyn g (b.vtable, b.value)).stands_for b.value h) c.args.self.now _ station limit before c.args.feed c.args.reduction c.in-Some.entry c.take.result
-      (heard.0, subst (HasHeardPulse (λ b h. (goal.Receiver-dyn g (b.vtable, b.value)).stands_for b.value h) c.hear.new.self station before c.args.feed c.args.reduction) c.in-Some.is heard.1) refl c.take.ensures.kept c.take.ensures.outcome h
+    (heard.0, subst (HasHeardPulse (λ b h. (goal.Receiver-dyn g (b.vtable, b.value)).stands_for b.value h) c.hear.new.self station before c.args.feed c.args.reduction) c.in-Some.is heard.1) refl c.take.ensures.kept c.take.ensures.outcome h
 
 pub returns-in-None-clause-plays : goal.returns-in-None-clause-plays
 returns-in-None-clause-plays g c station limit before h =
     let heard = c.in_ok-entry.ensures.heard station before h.radios in
     hears-none (λ b h. (goal.Receiver-dyn g (b.vtable, b.value)).stands_for b.value h) c.args.self.now _ station limit before c.args.feed c.args.reduction
-      (heard.0, subst (HasHeardPulse (λ b h. (goal.Receiver-dyn g (b.vtable, b.value)).stands_for b.value h) c.hear.new.self station before c.args.feed c.args.reduction) c.in-None.is heard.1) refl refl h
+    (heard.0, subst (HasHeardPulse (λ b h. (goal.Receiver-dyn g (b.vtable, b.value)).stands_for b.value h) c.hear.new.self station before c.args.feed c.args.reduction) c.in-None.is heard.1) refl refl h

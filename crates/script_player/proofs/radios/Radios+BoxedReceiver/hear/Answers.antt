@@ -18,6 +18,6 @@ returns-clause-heard g c station lines h =
     let same : c.index.result.now ≡ c.index_mut.result.now = cc in
     let timely : c.index_mut.result.now.least ≤ c.args.reduction.at = subst (λ r. r.least ≤ c.args.reduction.at) same (omega arith) in
     hears _ c.args.self.now _ station lines c.args.feed c.args.reduction c.index_mut.result.now c.hear-heard.new.self c.hear-heard.result c.entry_heard.result
-      at timely
-      c.hear-heard.ensures.plan c.hear-heard.ensures.delay c.hear-heard.ensures.least c.hear-heard.ensures.heard c.hear-heard.ensures.answered
-      refl refl c.entry_heard.ensures.value h
+    at timely
+    c.hear-heard.ensures.plan c.hear-heard.ensures.delay c.hear-heard.ensures.least c.hear-heard.ensures.heard c.hear-heard.ensures.answered
+    refl refl c.entry_heard.ensures.value h

@@ -19,4 +19,4 @@ returns-clause-swapped g c station lines h =
     let same : c.index.result.now ≡ c.index_mut.result.now = cc in
     let taken = subst (λ r. HasTaken (λ b h. (goal.Receiver-dyn g (b.vtable, b.value)).stands_for b.value h) c.args.self.now.left.items c.take_of.new.spares.items r.plan c.in-Some.receiver) same c.in-Some.ensures.taken in
     swaps (λ b h. (goal.Receiver-dyn g (b.vtable, b.value)).stands_for b.value h) c.args.self.now _ station lines c.args.feed c.index_mut.result.now c.swap.new.self c.take_of.new.spares.items c.in-Some.receiver
-      at taken c.swap.ensures.plan c.swap.ensures.delay c.swap.ensures.least c.swap.ensures.fitted refl refl h
+    at taken c.swap.ensures.plan c.swap.ensures.delay c.swap.ensures.least c.swap.ensures.fitted refl refl h
