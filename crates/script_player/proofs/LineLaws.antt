@@ -1,8 +1,8 @@
 -- What one line more does to what is read off the lines.
-use Rattle.std.proofs.Common.{◌≡◌, ◌∙◌, ℕ, ◌+◌, ◌==◌, Bool, true, false, not, Option, Some, None, List, [], ◌∷◌, ◌++◌, reverse, length, refl, sym, ap, subst, arith, cond}
+use Rattle.std.proofs.Common.{◌≡◌, ◌∙◌, ℕ, true, false, not, Some, None, List, [], ◌∷◌, ◌++◌, reverse, sym, ap, cond}
 use Rattle.std.proofs.lemmas.List.{append-nil, append_assoc, reverse-append}
 use Rattle.std.proofs.lemmas.List.Sums.{take_while-cons}
-use Rattle.std.specs.List.{count_by, filter_map, last_or, take_while}
+use Rattle.std.specs.List.{take_while}
 use Rattle.std.specs.Option.{option_to_list}
 use Rattle.tick_units.specs.declared.marks.Reduction.{Reduction}
 use Rattle.station_config.specs.Station.{StationFields}

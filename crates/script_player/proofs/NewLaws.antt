@@ -1,15 +1,13 @@
 -- A station before its first line, radio by radio and server by server.
-use Rattle.std.proofs.Common.{◌≡◌, ◌≢◌, ◌∙◌, ◌⊎◌, inl, inr, ℕ, zero, suc, ◌+◌, ◌<◌, ◌≤◌, Bool, true, false, cond, Option, Some, None, IsSome, List, [], ◌∷◌, ◌++◌, length, get_or, take, drop, All, refl, sym, ap, subst, arith, rules}
+use Rattle.std.proofs.Common.{◌≡◌, ◌∙◌, ◌⊎◌, inl, inr, ℕ, zero, suc, ◌+◌, ◌<◌, ◌≤◌, Bool, true, Option, Some, None, IsSome, List, [], ◌∷◌, ◌++◌, length, get_or, take, All, refl, sym, ap, subst, arith, rules}
 use Rattle.std.proofs.lemmas.List.{length_push, take_all, take_more}
 use Rattle.std.proofs.lemmas.Option.{slice_get_cases, slice_get_within, get_or_from_slice_get}
 use Rattle.std.specs.List.{count_by, enumerate_from, slice_get}
 use Rattle.std.specs.Option.{option_map}
-use Rattle.feed_link.specs.declared.outside.Address.{Address}
-use Rattle.tick_units.specs.declared.marks.Plan.{Plan}
 use Rattle.radio_receiver.specs.Histories.{History, with_delay}
 use Rattle.poll_core.specs.Polling.{HasPolled}
 use Rattle.station_config.specs.Station.{IsStation, RadioFields, ServerFields, StationFields, is_same_plan, plan_count}
-use Rattle.script_player.specs.Standing.{AreFour, HasFitted, HasPolling, HasRadio, HasRadios, HasServer, HasTaken, IsSpare, first_radios, first_servers, left_of, one_of, with_radio, with_server}
+use Rattle.script_player.specs.Standing.{AreFour, HasFitted, HasPolling, HasRadio, HasRadios, HasServer, HasTaken, IsSpare, first_radios, first_servers, left_of, with_radio}
 use Rattle.script_player.specs.declared.rack.Spare.{Spare}
 use Rattle.script_player.specs.declared.radio.Radio.{Radio}
 use Rattle.script_player.specs.declared.radios.Radios.{Radios}

@@ -1,8 +1,7 @@
 -- One line more for a player.
-use Rattle.std.proofs.Common.{◌≡◌, ◌∙◌, ℕ, ◌+◌, Bool, true, false, Option, Some, None, List, [], ◌∷◌, ◌++◌, Result, refl, sym, ap, subst, arith}
+use Rattle.std.proofs.Common.{◌≡◌, ◌∙◌, ℕ, Bool, true, false, Some, None, List, [], ◌∷◌, ◌++◌, refl, sym, ap, subst}
 use Rattle.std.proofs.lemmas.List.{append-nil}
 use Rattle.std.specs.Option.{option_to_list}
-use Rattle.tick_units.specs.declared.marks.Plan.{Plan}
 use Rattle.tick_units.specs.declared.marks.Reduction.{Reduction}
 use Rattle.journal_entry.specs.declared.entry.Entry.{Entry}
 use Rattle.radio_receiver.specs.Histories.{History}
@@ -13,7 +12,7 @@ use Rattle.station_config.specs.Station.{StationFields, settings_of}
 use Rattle.script_line.specs.declared.line.ScriptLine.{ScriptLine}
 use Rattle.script_line.specs.declared.line.ScriptLine.TheVariants.{Pulse, Ask, Answer, Swap, Request}
 use Rattle.script_player.specs.Keeping.{JournalFields}
-use Rattle.script_player.specs.Replay.{due, due_of_radio, due_to, is_lawful, may_hear, may_poll, may_swap, outcome, outcome_of_due, radio_of, server_of}
+use Rattle.script_player.specs.Replay.{due, due_to, is_lawful, may_hear, may_poll, may_swap, outcome, outcome_of_due, radio_of, server_of}
 use Rattle.script_player.specs.Standing.{HasAnswered, HasGiven, HasHeardPulse, HasKept, HasPlayed, HasRadios, HasServers}
 use Rattle.script_player.specs.declared.outcome.Outcome.{Outcome}
 use Rattle.script_player.specs.declared.outcome.Outcome.TheVariants.{Nothing, Asked}

@@ -1,5 +1,5 @@
 -- What one line more does to the radios of a station.
-use Rattle.std.proofs.Common.{◌≡◌, ◌≢◌, ◌∙◌, ◌⊎◌, inl, inr, ℕ, ◌+◌, ◌<◌, ◌≤◌, ◌==◌, nat_le, nat_lt, Bool, true, false, cond, Option, Some, None, List, [], ◌∷◌, ◌++◌, length, get_or, slice_set, All, refl, sym, ap, subst, arith}
+use Rattle.std.proofs.Common.{◌≡◌, ◌≢◌, ◌∙◌, ◌⊎◌, inl, inr, ℕ, ◌+◌, ◌<◌, ◌≤◌, ◌==◌, nat_le, nat_lt, true, false, cond, Option, Some, None, List, [], ◌∷◌, ◌++◌, length, get_or, slice_set, All, refl, sym, ap, subst, arith}
 use Rattle.std.proofs.lemmas.Bool.Decides.{nat_tests}
 use Rattle.std.proofs.lemmas.List.{length-set}
 use Rattle.std.proofs.lemmas.Option.{slice_get_cases, slice_get_within}
@@ -15,7 +15,7 @@ use Rattle.radio_receiver.proofs.LastLaws.{least_push}
 use Rattle.station_config.specs.Station.{RadioFields, StationFields, is_same_plan}
 use Rattle.script_line.specs.declared.line.ScriptLine.{ScriptLine}
 use Rattle.script_line.specs.declared.line.ScriptLine.TheVariants.{Pulse, Swap}
-use Rattle.script_player.specs.Replay.{due_of_radio, entry_heard, fitted, history_of, is_plan_of, is_swap_for, is_swap_of, may_hear, may_swap, pulse_in, pulses_of, radio_of, reductions_of}
+use Rattle.script_player.specs.Replay.{due_of_radio, entry_heard, fitted, history_of, is_plan_of, is_swap_for, is_swap_of, may_hear, may_swap, pulse_in, pulses_of, radio_of}
 use Rattle.script_player.specs.Standing.{HasFitted, HasHeardPulse, HasRadio, HasRadios, HasTaken, IsSpare, left_of, one_of}
 use Rattle.script_player.specs.declared.rack.Spare.{Spare}
 use Rattle.script_player.specs.declared.radio.Radio.{Radio}

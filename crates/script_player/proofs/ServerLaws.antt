@@ -1,5 +1,5 @@
 -- What one line more does to the servers of a station.
-use Rattle.std.proofs.Common.{◌≡◌, ◌≢◌, ◌∙◌, ◌⊎◌, inl, inr, ℕ, ◌+◌, ◌-◌, ◌<◌, ◌≤◌, ◌==◌, nat_le, nat_lt, Bool, true, false, cond, Option, Some, None, List, [], ◌∷◌, ◌++◌, length, get_or, slice_set, unwrap_or, refl, sym, ap, subst, arith}
+use Rattle.std.proofs.Common.{◌≡◌, ◌≢◌, ◌∙◌, ◌⊎◌, inl, inr, ℕ, ◌+◌, ◌-◌, ◌<◌, ◌≤◌, nat_lt, true, false, cond, Some, None, List, [], ◌∷◌, ◌++◌, length, get_or, slice_set, unwrap_or, sym, ap, subst, arith}
 use Rattle.std.proofs.lemmas.Bool.Decides.{nat_tests}
 use Rattle.std.proofs.lemmas.List.{length-set}
 use Rattle.std.proofs.lemmas.Option.{slice_get_cases, slice_get_past, slice_get_within}
@@ -13,7 +13,7 @@ use Rattle.poll_core.specs.Polling.{HasPolled}
 use Rattle.station_config.specs.Station.{ServerFields, StationFields}
 use Rattle.script_line.specs.declared.line.ScriptLine.{ScriptLine}
 use Rattle.script_line.specs.declared.line.ScriptLine.TheVariants.{Ask, Answer}
-use Rattle.script_player.specs.Replay.{due_of_server, entry_answered, event_in, events_of, last_moment, may_poll, moment_in, server_of, what_answered}
+use Rattle.script_player.specs.Replay.{due_of_server, event_in, events_of, last_moment, may_poll, moment_in, server_of, what_answered}
 use Rattle.script_player.specs.Standing.{HasAnswered, HasPolling, HasServer, HasServers}
 use Rattle.script_player.specs.declared.server.Server.{Server}
 use Rattle.script_player.specs.declared.servers.Servers.{Servers}

@@ -1,4 +1,4 @@
-use Rattle.std.proofs.Common.{◌≡◌, ◌-◌, ◌∙◌, take, refl, ap, subst, arith}
+use Rattle.std.proofs.Common.{◌≡◌, take, refl, subst}
 use Rattle.std.proofs.lemmas.Result.{err_from_is_err_and}
 use Rattle.script_player.specs.Standing.{HasAnswered}
 use Rattle.script_player.proofs.PlayerLaws.{answers-server, still-servers}

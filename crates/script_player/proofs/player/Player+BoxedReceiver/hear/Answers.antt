@@ -1,6 +1,5 @@
-use Rattle.std.proofs.Common.{◌≡◌, true, Some, None, refl, sym, subst}
+use Rattle.std.proofs.Common.{refl, subst}
 use Rattle.std.proofs.lemmas.Result.{err_from_is_err_and}
-use Rattle.script_player.specs.Replay.{may_hear, radio_of}
 use Rattle.script_player.specs.Standing.{HasHeardPulse}
 use Rattle.script_player.proofs.PlayerLaws.{hears-entry, hears-none, still}
 use Rattle.script_player.proofs.player.Player+BoxedReceiver.hear.Goals as goal

@@ -1,6 +1,6 @@
-use Rattle.std.proofs.Common.{◌≡◌, ◌-◌, ◌∙◌, Ok, take, sym, ap, subst, arith}
+use Rattle.std.proofs.Common.{◌≡◌, Ok, take, sym, ap, subst}
 use Rattle.reply_core.specs.Reply.{answer}
-use Rattle.script_player.specs.Replay.{outcome_of_request, page_after}
+use Rattle.script_player.specs.Replay.{outcome_of_request}
 use Rattle.script_player.proofs.player.Player+BoxedReceiver.reply.Goals as goal
 
 pub returns-in-Ok : goal.returns-in-Ok

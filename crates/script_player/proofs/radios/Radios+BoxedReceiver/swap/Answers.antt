@@ -1,7 +1,6 @@
-use Rattle.std.proofs.Common.{◌≡◌, Some, length, refl, subst, ap, sym, arith}
+use Rattle.std.proofs.Common.{◌≡◌, length, refl, subst, ap, arith}
 use Rattle.std.proofs.lemmas.Option.{slice_get_read}
-use Rattle.std.specs.List.{slice_get}
-use Rattle.script_player.specs.Standing.{HasTaken, left_of}
+use Rattle.script_player.specs.Standing.{HasTaken}
 use Rattle.script_player.proofs.RadioLaws.{swaps, swaps-not}
 use Rattle.script_player.proofs.radios.Radios+BoxedReceiver.swap.Goals as goal
 
