@@ -1,7 +1,7 @@
 -- What the decoder stands for, with one more byte.
-use Rattle.std.proofs.Common.{◌≡◌, ℕ, Option, None, Some, List, [], ◌∷◌, ◌++◌, ap, sym, ◌∙◌, subst}
+use Rattle.std.proofs.Common.{◌≡◌, ℕ, ◌+◌, ◌<◌, Option, None, Some, List, [], ◌∷◌, ◌++◌, length, take, get_or, refl, ap, sym, ◌∙◌, subst, append_assoc}
 use Rattle.std.specs.Option.{option_to_list}
-use Rattle.std.proofs.lemmas.List.{append-nil}
+use Rattle.std.proofs.lemmas.List.{append-nil, take_more}
 use Rattle.tick_units.specs.Log.{pulses, bad_line}
 use Rattle.tick_units.specs.Marks.{marks_of}
 use Rattle.tick_units.specs.declared.marks.Mark.{Mark}
@@ -12,7 +12,10 @@ use Rattle.pulse_log.specs.declared.reader.LineReader.{LineReader}
 use Rattle.second_marks.specs.Marker.{HasHeard}
 use Rattle.minute_pair.specs.Pairing.{HasPaired}
 use Rattle.radio_engine.specs.declared.decoder.Decoder.{Decoder}
-use Rattle.radio_engine.specs.Taking.{HasTaken}
+use Rattle.radio_engine.specs.Reading.{Reading}
+use Rattle.radio_engine.specs.Reading.Reading.{log, station}
+use Rattle.radio_engine.specs.Taking.{HasTaken, HasDecoded}
+use Rattle.radio_engine.specs.Text.{log_text}
 
 -- the byte ended no line, or one with a reduction
 pub pulses_none : (bytes longer : List ℕ) (found : Option Reduction) → found ≡ None → pulses longer ≡ pulses bytes ++ option_to_list found → pulses longer ≡ pulses bytes
@@ -38,3 +41,31 @@ marks_none plan bytes longer r found more heard none =
 pub marks_one : (plan : Plan) (bytes longer : List ℕ) (r : Reduction) (found : Option Mark) (mark : Mark) → pulses longer ≡ pulses bytes ++ r ∷ [] →
     marks_of plan (pulses bytes ++ r ∷ []) ≡ marks_of plan (pulses bytes) ++ option_to_list found → found ≡ Some mark → marks_of plan (pulses longer) ≡ marks_of plan (pulses bytes) ++ mark ∷ []
 marks_one plan bytes longer r found mark more heard some = ap (marks_of plan) more ∙ heard ∙ ap (λ (o : Option Mark). marks_of plan (pulses bytes) ++ option_to_list o) some
+
+-- one byte more of a piece
+pub one_more : (before bytes : List ℕ) (i : ℕ) → i < length bytes → (before ++ take i bytes) ++ get_or bytes i 0 ∷ [] ≡ before ++ take (i + 1) bytes
+one_more before bytes i lt = append_assoc before (take i bytes) (get_or bytes i 0 ∷ []) ∙ ap (λ (t : List ℕ). before ++ t) (sym (take_more bytes i 0 lt))
+
+-- a decoder that has taken more bytes, with the text that they add, or a bad line
+module _ (d now : Decoder) (before longer text : List ℕ) where
+  pub decoded_on : (reading : Reading) (more : List ℕ) → HasDecoded d reading before text None →
+      ((plan : Plan) → HasTaken plan d before → HasTaken plan now longer × (log_text plan longer ≡ log_text plan before ++ more)) → HasDecoded now reading longer (text ++ more) None
+  decoded_on (log plan) more h step =
+      let taken = step plan (h.goes_on refl) in
+      record {
+        text_is = ap (λ (t : List ℕ). t ++ more) h.text_is ∙ sym taken.1;
+        bad_is = sym taken.0.good;
+        goes_on = λ _. taken.0;
+      }
+  decoded_on station more h step = absurd h
+
+  pub decoded_bad : (reading : Reading) (line : ℕ) → HasDecoded d reading before text None →
+      ((plan : Plan) → HasTaken plan d before → (bad_line longer ≡ Some line) × (log_text plan longer ≡ log_text plan before)) → HasDecoded now reading longer (text ++ []) (Some line)
+  decoded_bad (log plan) line h step =
+      let taken = step plan (h.goes_on refl) in
+      record {
+        text_is = append-nil text ∙ h.text_is ∙ sym taken.1;
+        bad_is = sym taken.0;
+        goes_on = λ none. absurd (let e : ◌≡◌ {A = Option ℕ} (Some line) None = none in cc);
+      }
+  decoded_bad station line h step = absurd h

@@ -17,7 +17,7 @@ use Rattle.minute_pair.specs.Answers.{answers, answers_after}
 use Rattle.minute_pair.proofs.Growth.{segments_grow}
 use Rattle.minute_pair.proofs.PairingLaws.{answers_grow}
 use Rattle.radio_engine.specs.Text.{log_text, heard_line}
-use Rattle.radio_engine.specs.Decoding.{IsFrontOf}
+use Rattle.radio_engine.specs.Writing.{IsFrontOf}
 use Rattle.radio_engine.specs.Taking.{GrowsBy}
 
 abbrev text_of : Plan → List Mark → List ℕ

@@ -1,6 +1,7 @@
-pub mod PieceLaws
-pub mod Growth
-pub mod Progress
-pub mod EndingLaws
-pub mod StationLaws
 pub mod DecoderLaws
+pub mod DecodingLaws
+pub mod Growth
+pub mod ReachLaws
+pub mod StationLaws
+pub mod TakingLaws
+pub mod WritingLaws

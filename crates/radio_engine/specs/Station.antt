@@ -1,38 +1,39 @@
--- What a command is and what it opens.
-use Rattle.std.specs.Prelude.{◌≡◌, ◌≢◌, ℕ, ◌<◌, ◌≤◌, ◌^◌, None, Some, IsSome, List, [], ◌∷◌, length, codes, slice_index}
+-- What a command opens, and how it ends.
+use Rattle.std.specs.Prelude.{◌≡◌, ℕ, ◌≤◌, None, Some, IsSome, List, length}
 use Rattle.feed_link.specs.Faults.{Rose}
 use Rattle.feed_link.specs.Told.{SourceState, SinkState}
 use Rattle.feed_link.specs.Openings.{OutsideState, Grows}
 use Rattle.tick_units.specs.Log.{bad_at_end}
 use Rattle.tick_units.specs.declared.marks.Plan.{Plan}
-use Rattle.tick_units.specs.declared.marks.Plan.TheVariants.{Dcf, Msf, Wwvb}
-use Rattle.radio_engine.specs.Endings.{status_line}
-use Rattle.radio_engine.specs.Decoding.{Answers, Decodes}
-use Rattle.radio_engine.specs.declared.ending.Ending.TheVariants.{WrongWords, NotOpened}
+use Rattle.radio_engine.specs.Decoding.{Decodes}
+use Rattle.radio_engine.specs.Endings.{status_of, status_line}
+use Rattle.radio_engine.specs.Reading.{most_of}
+use Rattle.radio_engine.specs.Reading.Reading.{log}
+use Rattle.radio_engine.specs.Writing.{Answers}
+use Rattle.radio_engine.specs.declared.ending.Ending.{Ending}
+use Rattle.radio_engine.specs.declared.ending.Ending.TheVariants.{WrongWords, NotOpened, NoMemory}
+use Rattle.radio_engine.specs.declared.file.File.{File}
 use Rattle.radio_engine.specs.declared.status.Status.{Status}
 
-abbrev pub plan_word : Plan → List ℕ
-plan_word Dcf = codes "dcf"
-plan_word Msf = codes "msf"
-plan_word Wwvb = codes "wwvb"
-
--- the words that ask for the log of this name to be decoded by this plan
-pub record IsDecode (words : List (List ℕ)) (plan : Plan) (name : List ℕ) : Type 0 where
-  pub spelt : words ≡ codes "decode" ∷ codes "--plan" ∷ plan_word plan ∷ codes "--log" ∷ name ∷ []
-  pub not_empty : 0 < length name
-  pub no_dash : slice_index name 0 ≢ 45
-
--- words that ask for nothing: nothing is opened, and the status line alone is written
-pub record Refuses (outside outside_now : OutsideState) (out out_now : SinkState) (result : Status) : Type 0 where
+-- nothing is opened, and the status line alone is written
+pub record EndsUnopened (ending : Ending) (outside outside_now : OutsideState) (out out_now : SinkState) (result : Status) : Type 0 where
   pub unchanged : outside_now ≡ outside
-  pub written : Answers WrongWords result out out_now (status_line WrongWords)
+  pub written : Answers (status_of ending) result out out_now (status_line ending)
 
--- the log couldn't be opened: that is the last opening, the outside's count rose in it, and the status line alone is
+-- words that ask for nothing
+abbrev pub Refuses : OutsideState → OutsideState → SinkState → SinkState → Status → Type 0
+Refuses = EndsUnopened WrongWords
+
+-- no memory was found, before anything was opened
+abbrev pub Lacks : OutsideState → OutsideState → SinkState → SinkState → Status → Type 0
+Lacks = EndsUnopened NoMemory
+
+-- the file couldn't be opened: that is the last opening, the outside's count rose in it, and the status line alone is
 -- written
-pub record CannotOpen (name : List ℕ) (outside outside_now : OutsideState) (out out_now : SinkState) (result : Status) : Type 0 where
+pub record CannotOpen (file : File) (name : List ℕ) (outside outside_now : OutsideState) (out out_now : SinkState) (result : Status) : Type 0 where
   pub noted : Grows outside.openings outside_now.openings (record { name = name; opened = None; back = None })
   pub rose : Rose outside.faults outside_now.faults
-  pub written : Answers NotOpened result out out_now (status_line NotOpened)
+  pub written : Answers (status_of (NotOpened file)) result out out_now (status_line (NotOpened file))
 
 -- the log was opened once, decoded and given back
 pub record OpensAndDecodes (plan : Plan) (name : List ℕ) (outside outside_now : OutsideState) (out out_now : SinkState) (result : Status) : Type 0 where
@@ -43,9 +44,9 @@ pub record OpensAndDecodes (plan : Plan) (name : List ℕ) (outside outside_now 
   pub decodes : Decodes plan opened back out out_now result
 
 -- a log that has no fault, and that told its bytes before and after
-pub record IsFaultless (opened back : SourceState) (text : List ℕ) : Type 0 where
+pub record IsFaultless (plan : Plan) (opened back : SourceState) (text : List ℕ) : Type 0 where
   pub told : opened.left ≡ Some text
   pub tells : IsSome back.left
   pub no_fault : Rose opened.faults back.faults → ⊥
   pub lines : bad_at_end text ≡ None
-  pub most : length text ≤ 2 ^ 30
+  pub most : length text ≤ most_of (log plan)

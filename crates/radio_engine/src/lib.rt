@@ -2,12 +2,14 @@
 #![tactic(auto)]
 
 mod decoder;
+mod decoding;
 mod ending;
+mod file;
+mod reading;
 mod station;
 mod status;
-mod stream;
 mod text;
-mod words;
+mod writing;
 
 pub use station::run_station;
 pub use status::Status;

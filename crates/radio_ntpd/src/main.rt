@@ -26,6 +26,6 @@ fn main(rt: HostRuntime) -> ExitCode {
         // Words that can't be had are no lawful words.
         words.clear();
     }
-    let status = run_station(words.as_slice(), &mut outside, &mut out);
+    let status = run_station(rt.alloc(), words.as_slice(), Vec::new(rt.alloc()), &mut outside, &mut out);
     ExitCode::from(status.number())
 }

@@ -7,7 +7,7 @@ use Rattle.second_marks.specs.Marker.{HasHeard}
 use Rattle.minute_pair.specs.Pairing.{HasPaired}
 use Rattle.radio_engine.proofs.Growth.{text_same, text_same_marks, text_grows_by}
 use Rattle.radio_engine.proofs.DecoderLaws.{taken_same, pulses_none, pulses_one, marks_none, marks_one}
-use Rattle.radio_engine.proofs.decoder.Decoder.take.Goals as goal
+use Rattle.radio_engine.proofs.decoder.Decoder.take_byte.Goals as goal
 
 pub returns-in-Err : goal.returns-in-Err
 returns-in-Err c = λ plan bytes h.
