@@ -1,0 +1,10 @@
+//! The station file: a TOML document, read into a station or refused with its first fault.
+#![tactic(auto)]
+
+mod fault;
+mod reading;
+mod station;
+
+pub use fault::{KeyText, StationFault};
+pub use reading::read_station;
+pub use station::{LinkRow, RadioRow, ServerRow, Station};
