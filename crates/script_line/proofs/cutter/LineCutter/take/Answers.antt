@@ -1,0 +1,23 @@
+use Rattle.std.proofs.Common.{ℕ, List, ◌++◌, take, refl, ap, sym, ◌∙◌}
+use Rattle.script_line.specs.Cutting.{HasTaken}
+use Rattle.script_line.proofs.CuttingLaws.{takes_all, takes_line, takes_too_much, too_much_of_line, too_much_of_piece}
+use Rattle.script_line.proofs.cutter.LineCutter.take.Goals as goal
+use Rattle.script_line.proofs.cutter.LineCutter.take.Goals.{in_default-via-in-Some+else-place-held, in_default-via-in-None+else-piece-held}
+
+pub returns-in-Some-clause-taken : goal.returns-in-Some-clause-taken
+returns-in-Some-clause-taken c = λ bytes h.
+    takes_line c.args.self.now _ bytes c.args.piece.now c.in-Some.place h (sym c.first_line_feed.ensures ∙ c.in-Some.is)
+    (c.put.ensures.line ∙ ap (λ (t : List ℕ). t ++ take c.in-Some.place c.args.piece.now) c.held-held.ensures.line) refl
+
+pub returns-in-None-clause-taken : goal.returns-in-None-clause-taken
+returns-in-None-clause-taken c = λ bytes h.
+    takes_all c.args.self.now _ bytes c.args.piece.now h (sym c.first_line_feed.ensures ∙ c.in-None.is)
+    (c.put-in-None.ensures.line ∙ ap (λ (t : List ℕ). t ++ c.args.piece.now) c.held-held.ensures.line) refl
+
+pub returns-in_default-clause-taken : goal.returns-in_default-clause-taken
+returns-in_default-clause-taken c = λ bytes h. elim c.in_default.branch [
+  | in_default-via-in-Some+else-place-held w ↦ (let much = too_much_of_line c.args.piece.now w.in-Some.place c.held-held.result (sym c.first_line_feed.ensures ∙ w.in-Some.is) w.if-place-held.false in
+      takes_too_much c.args.self.now bytes c.args.piece.now c.held-held.result h c.held-held.ensures.value c.held-held.ensures.short much.0 much.1)
+  | in_default-via-in-None+else-piece-held w ↦ (let much = too_much_of_piece c.args.piece.now c.held-held.result (sym c.first_line_feed.ensures ∙ w.in-None.is) w.if-piece-held.false in
+      takes_too_much c.args.self.now bytes c.args.piece.now c.held-held.result h c.held-held.ensures.value c.held-held.ensures.short much.0 much.1)
+]

@@ -1,0 +1,9 @@
+use Rattle.std.proofs.Common.{◌≤◌}
+use Rattle.script_line.specs.Reading.{SaysSoFar}
+use Rattle.script_line.proofs.number.first_number.Given as goal
+
+abbrev pub invariant-loop-count : goal.invariant-loop-count
+invariant-loop-count l = record {
+  says : SaysSoFar l.text l.count l.value;
+  small : l.value ≤ l.most;
+}

@@ -1,0 +1,4 @@
+pub mod Cutting
+pub mod Datagrams
+pub mod Reading
+pub mod Texts

@@ -1,0 +1,123 @@
+ghost use Rattle.std.specs.Prelude.{◌≡◌, ◌==◌, ◌+◌, ◌<◌, ◌≤◌, ℕ, List, [], ◌++◌, nat_lt, length, take};
+ghost use Rattle.std.specs.List.{position};
+ghost use Rattle.tick_units.specs.Log.{has_tail};
+
+// A line has less bytes than this before its line feed.
+const TOO_LONG: usize = 4096;
+
+/// What a piece of a script did to the line that it goes on with.
+#[derive(Clone, Copy, Debug, PartialEq, Eq)]
+pub enum Cut {
+    /// The line goes on after the piece.
+    More,
+    /// The line has ended.
+    Line,
+    /// The line has come to 4096 bytes without a line feed.
+    TooLong,
+}
+
+/// How much of a piece was taken, and what it did.
+#[derive(Clone, Copy, Debug, PartialEq, Eq)]
+pub struct Taken {
+    /// The number of bytes up to and with the line feed, or up to and with the one that made the line too long, or of the whole
+    /// piece.
+    pub count: usize,
+    pub cut: Cut,
+}
+
+/// Cuts the bytes of a script, which come in pieces, into lines. It keeps one line.
+#[derive(Drop)]
+pub struct LineCutter {
+    room: [u8; TOO_LONG],
+    length: usize,
+    ended: bool,
+    ghost short: { length < 4096 },
+}
+
+impl LineCutter {
+    ghost use Rattle.script_line.specs.Cutting.{HasTaken, TakesPiece, line_in, unfinished_in};
+
+    /// The cutter that has taken no byte.
+    pub fn new() -> LineCutter
+        ensures { HasTaken result [] }
+    {
+        LineCutter {
+            room: [0; TOO_LONG],
+            length: 0,
+            ended: false,
+        }
+    }
+
+    /// Takes of a piece what stands up to and with its first line feed, or all of it. Where the line would be too long it takes
+    /// nothing, and says up to which byte that shows.
+    pub fn take(&mut self, piece: &[u8]) -> Taken
+        ensures taken { (bytes : List ℕ) → HasTaken self.old bytes → TakesPiece self.new bytes piece.now result }
+        ensures within { result.count ≤ length piece.now }
+        ensures progress { 0 < length piece.now → 0 < result.count }
+    {
+        let held = self.held();
+        match first_line_feed(piece) {
+            Some(place) if place < TOO_LONG - held => {
+                self.put(held, &piece[..place]);
+                self.ended = true;
+                Taken {
+                    count: place + 1,
+                    cut: Cut::Line,
+                }
+            }
+            None if piece.len() < TOO_LONG - held => {
+                self.put(held, piece);
+                self.ended = false;
+                Taken {
+                    count: piece.len(),
+                    cut: Cut::More,
+                }
+            }
+            _ => Taken {
+                count: TOO_LONG - held,
+                cut: Cut::TooLong,
+            },
+        }
+    }
+
+    /// The line that has ended, without its line feed.
+    pub fn line(&self) -> &[u8]
+        ensures { result.now ≡ line_in self.now }
+    {
+        &self.room[..self.length]
+    }
+
+    /// Bytes have come after the last line feed.
+    pub fn has_tail(&self) -> bool
+        ensures { (bytes : List ℕ) → HasTaken self.now bytes → result ≡ has_tail bytes }
+    {
+        self.held() > 0
+    }
+
+    // The number of bytes of the line that goes on.
+    fn held(&self) -> usize
+        ensures value { result ≡ length (unfinished_in self.now) }
+        ensures line { take result self.now.room ≡ unfinished_in self.now }
+        ensures short { result < 4096 }
+    {
+        if self.ended { 0 } else { self.length }
+    }
+
+    // Puts a piece behind so many bytes.
+    fn put(&mut self, held: usize, piece: &[u8])
+        requires { held + length piece.now < 4096 }
+        ensures line { line_in self.new ≡ take held self.old.room ++ piece.now }
+        ensures ended { self.new.ended ≡ self.old.ended }
+    {
+        let end = held + piece.len();
+        self.room[held..end].copy_from_slice(piece);
+        self.length = end;
+    }
+}
+
+// The place of the first line feed.
+fn first_line_feed(piece: &[u8]) -> Option<usize>
+    ensures { result ≡ position (λ byte. byte == 10) piece.now }
+{
+    piece.iter().position(|byte| *byte == b'\n')
+}

@@ -1,0 +1,39 @@
+use crate::Datagram;
+use tick_units::{Local, Reduction};
+
+/// One line of a replay script: what the outside gives to a station, and when.
+#[derive(Drop)]
+pub enum ScriptLine<'a> {
+    /// A radio's receiver hears a reduction of the carrier.
+    Pulse {
+        /// The number of the feed, from 0: the radios in the order of the station file, then its servers.
+        feed: u32,
+        reduction: Reduction,
+    },
+    /// A poller asks its server.
+    Ask {
+        feed: u32,
+        /// When, on the host's counter.
+        at: Local,
+    },
+    /// A datagram comes from a server.
+    Answer {
+        feed: u32,
+        at: Local,
+        datagram: Datagram<'a>,
+    },
+    /// A radio's receiver is dropped and another one fitted in its place.
+    Swap {
+        feed: u32,
+    },
+    /// A datagram comes from a client, and is answered.
+    Request {
+        /// The client's connection, 0 to 7.
+        connection: u8,
+        /// When it came.
+        arrived: Local,
+        /// When it is answered, not before that.
+        sent: Local,
+        datagram: Datagram<'a>,
+    },
+}
