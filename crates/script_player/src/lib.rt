@@ -1,0 +1,19 @@
+//! What a recorded script comes to, line by line, on one thread.
+#![tactic(auto)]
+
+mod journal;
+mod outcome;
+mod player;
+mod rack;
+mod radio;
+mod radios;
+mod server;
+mod servers;
+
+use radio_receiver::Receiver;
+
+/// A receiver that main or a test has made.
+pub type BoxedReceiver = Box<dyn Receiver + Send>;
+
+pub use outcome::{NotLawful, Outcome};
+pub use player::Player;
