@@ -13,7 +13,7 @@ use Rattle.second_marks.specs.Marker.{HasHeard}
 use Rattle.minute_pair.specs.Pairing.{HasPaired}
 use Rattle.radio_engine.specs.declared.decoder.Decoder.{Decoder}
 use Rattle.radio_engine.specs.Reading.{Reading}
-use Rattle.radio_engine.specs.Reading.Reading.{log, station}
+use Rattle.radio_engine.specs.Reading.Reading.{log, station, script}
 use Rattle.radio_engine.specs.Taking.{HasTaken, HasDecoded}
 use Rattle.radio_engine.specs.Text.{log_text}
 
@@ -58,6 +58,7 @@ module _ (d now : Decoder) (before longer text : List ℕ) where
         goes_on = λ _. taken.0;
       }
   decoded_on station more h step = absurd h
+  decoded_on (script of limit) more h step = absurd h
 
   pub decoded_bad : (reading : Reading) (line : ℕ) → HasDecoded d reading before text None →
       ((plan : Plan) → HasTaken plan d before → (bad_line longer ≡ Some line) × (log_text plan longer ≡ log_text plan before)) → HasDecoded now reading longer (text ++ []) (Some line)
@@ -69,3 +70,4 @@ module _ (d now : Decoder) (before longer text : List ℕ) where
         goes_on = λ none. absurd (let e : ◌≡◌ {A = Option ℕ} (Some line) None = none in cc);
       }
   decoded_bad station line h step = absurd h
+  decoded_bad (script of limit) line h step = absurd h

@@ -2,6 +2,8 @@ pub mod DecoderLaws
 pub mod DecodingLaws
 pub mod Growth
 pub mod ReachLaws
+pub mod ScriptLaws
 pub mod StationLaws
 pub mod TakingLaws
 pub mod WritingLaws
+pub mod PlayingLaws

@@ -5,3 +5,6 @@ pub mod Writing
 pub mod Decoding
 pub mod Station
 pub mod Taking
+pub mod Script
+pub mod Replaying
+pub mod Playing

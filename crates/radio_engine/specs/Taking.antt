@@ -11,7 +11,7 @@ use Rattle.second_marks.specs.Marker.{HasHeard}
 use Rattle.tick_units.specs.declared.verdicts.Heard.{Heard}
 use Rattle.minute_pair.specs.Pairing.{HasPaired}
 use Rattle.radio_engine.specs.Reading.{Reading, HasReadOf, Cause}
-use Rattle.radio_engine.specs.Reading.Reading.{log, station}
+use Rattle.radio_engine.specs.Reading.Reading.{log, station, script}
 use Rattle.radio_engine.specs.Text.{log_text, heard_line}
 use Rattle.radio_engine.specs.Writing.{WritesAll, WritesFront}
 use Rattle.radio_engine.specs.declared.decoder.Decoder.{Decoder}
@@ -139,3 +139,4 @@ pub record IsDecodedBy (d : Decoder) (plan : Plan) (bytes text : List ℕ) (bad 
 abbrev pub HasDecoded : Decoder → Reading → List ℕ → List ℕ → Option ℕ → Type 0
 HasDecoded d (log plan) bytes text bad = IsDecodedBy d plan bytes text bad
 HasDecoded d station bytes text bad = ⊥
+HasDecoded d (script of limit) bytes text bad = ⊥

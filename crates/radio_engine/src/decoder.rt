@@ -47,7 +47,14 @@ impl Decoder {
 }
 
 impl Taker for Decoder {
+    ghost use Rattle.std.specs.Prelude.{◌^◌};
     ghost use Rattle.radio_engine.specs.Taking.{HasDecoded};
+
+    ghost ready = { λ s. Unit {0} };
+
+    ghost taken = { λ s. 0 };
+
+    ghost most = { λ s. 2 ^ 30 };
 
     ghost holds = { λ s reading bytes text bad. HasDecoded s reading bytes text bad };
 

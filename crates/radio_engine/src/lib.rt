@@ -6,6 +6,7 @@ mod decoding;
 mod ending;
 mod file;
 mod reading;
+mod replayer;
 mod station;
 mod status;
 mod text;

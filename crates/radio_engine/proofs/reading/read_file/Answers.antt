@@ -18,7 +18,7 @@ returns-in-Bad-clause-ends g c = λ reading most held.
     let within = c.in-Ok.ensures.within in
     let room = c.min-room.ensures in
     ends_bad _ reading _ _ _ _ _ _ p _ (take c.in-Ok.count c.read_piece.new.piece) _ c.in-Bad.number c.in-Ok.ensures.bytes.0 (omega arith) c.in-Ok.ensures.cause.kept
-    (c.in-Bad.ensures reading p.bytes p.text _ p.held p.written)
+    (c.in-Bad.ensures.takes reading p.bytes p.text _ p.held p.written)
 
 pub returns-in-Stopped-clause-ends : goal.returns-in-Stopped-clause-ends
 returns-in-Stopped-clause-ends g c = λ reading most held.
@@ -27,12 +27,16 @@ returns-in-Stopped-clause-ends g c = λ reading most held.
     let within = c.in-Ok.ensures.within in
     let room = c.min-room.ensures in
     ends_stopped _ reading _ _ _ _ _ _ p _ (take c.in-Ok.count c.read_piece.new.piece) _ c.in-Ok.ensures.bytes.0 (omega arith) c.in-Ok.ensures.cause.kept
-    (c.in-Stopped.ensures reading p.bytes p.text _ p.held p.written)
+    (c.in-Stopped.ensures.takes reading p.bytes p.text _ p.held p.written)
 
 pub pieces-preserved : goal.pieces-preserved
 pieces-preserved g c = record {
   size = c.read_piece.auto.piece ∙ c.pieces.invariant.size;
   number = c.in-Ok.ensures.number ∙ c.pieces.invariant.number;
+  within = (let h = c.in-Ok.ensures.within in let room = c.min-room.ensures in let lt = c.pieces-test.true in omega arith);
+  ready = c.in-All.ensures.ready;
+  taken = (let h = c.pieces.invariant.taken in let k = c.in-All.ensures.taken in let len = length-take c.in-Ok.count c.read_piece.new.piece in omega arith);
+  most = c.in-All.ensures.most ∙ c.pieces.invariant.most;
   progress = λ reading most held.
       let p = c.pieces.invariant.progress reading most held in
       let len = length-take c.in-Ok.count c.read_piece.new.piece in
@@ -40,7 +44,7 @@ pieces-preserved g c = record {
       let room = c.min-room.ensures in
       let size = c.pieces.invariant.size in
       progress_on _ reading _ _ _ _ _ _ p _ (take c.in-Ok.count c.read_piece.new.piece) _ c.in-Ok.count (omega arith) (omega arith) c.in-Ok.ensures.bytes.0 c.in-Ok.ensures.cause.kept
-      (c.in-All.ensures reading p.bytes p.text _ p.held p.written);
+      (c.in-All.ensures.takes reading p.bytes p.text _ p.held p.written);
 }
 
 pub returns-in-Ok-read_piece-clause-ends : goal.returns-in-Ok-read_piece-clause-ends
@@ -53,3 +57,11 @@ returns-in-Ok-read_piece-clause-ends g c = λ reading most held.
     let full = c.pieces-test.false in
     let one : length (take count c.read_piece-2.new.piece) ≡ 1 = omega (arith, length-take count c.read_piece-2.new.piece) in
     ends_too_long _ reading _ _ _ _ _ _ p (take count c.read_piece-2.new.piece) c.in-Ok-read_piece.ensures.bytes.0 one (omega arith) c.in-Ok-read_piece.ensures.cause.kept
+
+pub at_end-requires-in-Ok-eq0 : goal.at_end-requires-in-Ok-eq0
+at_end-requires-in-Ok-eq0 g c =
+    let taken = c.pieces.invariant.taken in
+    let within = c.pieces.invariant.within in
+    let most = c.pieces.invariant.most in
+    let room = c.requires.most in
+    omega arith
