@@ -1,10 +1,16 @@
 //! The station file: a TOML document, read into a station or refused with its first fault.
 #![tactic(auto)]
 
+mod address;
 mod fault;
+mod keys;
 mod reading;
+mod rows;
 mod station;
 
 pub use fault::{KeyText, StationFault};
 pub use reading::read_station;
 pub use station::{LinkRow, RadioRow, ServerRow, Station};
+
+#[cfg(test)]
+mod tests;

@@ -1,12 +1,13 @@
-ghost use Rattle.std.specs.Prelude.{◌≡◌, ℕ, ◌≤◌, option_map, string_bytes, length, map};
+ghost use Rattle.std.specs.Prelude.{◌≡◌, ◌≤◌, ◌+◌, ◌++◌, option_map, length, map};
 ghost use Rattle.std.specs.List.{slice_get};
 ghost use Rattle.system_fold.specs.Settings.{AreLawful};
-ghost use Rattle.station_config.specs.Station.{IsStation, settings_of};
-ghost use Rattle.station_config.specs.Inside.{radio_given, server_fields};
+ghost use Rattle.station_config.specs.Station.{IsStation, kind_of_radio, kind_of_server, settings_of};
+ghost use Rattle.station_config.specs.Inside.{radio_given, radio_kept, server_fields};
+ghost use Rattle.station_config.specs.Finding.{parts_fields};
 
 use feed_link::Address;
 use std::marker::Model;
-use system_fold::Settings;
+use system_fold::{Settings, SourceKind};
 use tick_units::{Local, Plan};
 
 /// A radio of a station.
@@ -36,12 +37,42 @@ pub struct LinkRow {
     pub port: u16,
 }
 
-// A radio as a station keeps it.
+// A radio as a station keeps it: its log isn't empty, and its delay is at most 100000 microseconds.
 #[derive(Debug, Drop)]
 pub struct Radio {
     pub plan: Plan,
     pub log: String,
     pub delay: u32,
+}
+
+// What was read of a station file: the holdover in microseconds, the first moment, the rows, and the ports of the links.
+#[derive(Debug, Drop)]
+pub struct Parts {
+    pub holdover: u64,
+    pub start: Local,
+    pub radios: Vec<Radio>,
+    pub servers: Vec<ServerRow>,
+    pub links: Vec<u16>,
+}
+
+// The feeds of the radios.
+fn add_radios(settings: &mut Settings, radios: &[Radio])
+    requires { length settings.old.sources + length radios.now ≤ 16 }
+    ensures { settings.new ≡ record { holdover = settings.old.holdover; sources = settings.old.sources ++ map (λ r. kind_of_radio (radio_kept r)) radios.now } }
+{
+    for radio in radios {
+        settings.add(SourceKind::Radio(radio.plan));
+    }
+}
+
+// The feeds of the servers.
+fn add_servers(settings: &mut Settings, servers: &[ServerRow])
+    requires { length settings.old.sources + length servers.now ≤ 16 }
+    ensures { settings.new ≡ record { holdover = settings.old.holdover; sources = settings.old.sources ++ map (λ s. kind_of_server (server_fields s)) servers.now } }
+{
+    for server in servers {
+        settings.add(SourceKind::Server(server.address));
+    }
 }
 
 /// A station: what it hears, whom it asks and where it serves. Contracts see it as a record of these.
@@ -66,6 +97,23 @@ impl Model for Station {
 }
 
 impl Station {
+    // The station of what was read.
+    pub(crate) fn new(parts: Parts) -> Station
+        requires { IsStation (parts_fields parts) }
+        ensures { result ≡ parts_fields parts }
+    {
+        let mut settings = Settings::new(parts.holdover);
+        add_radios(&mut settings, parts.radios.as_slice());
+        add_servers(&mut settings, parts.servers.as_slice());
+        Station {
+            settings,
+            start: parts.start,
+            radios: parts.radios,
+            servers: parts.servers,
+            links: parts.links,
+        }
+    }
+
     /// What a page of the station's feeds is reckoned by: its holdover, and its radios and then its servers as sources.
     pub fn settings(&self) -> &Settings
         ensures value { result.now ≡ settings_of self.now }

@@ -1,0 +1,89 @@
+-- The bounds of a station's values, and of a station that has not too many rows.
+use Rattle.std.proofs.Common.{◌≡◌, ◌+◌, ◌^◌, ◌<◌, ◌≤◌, ℕ, zero, suc, pos, negsuc, Bool, true, false, List, [], ◌∷◌, Option, Some, None, All, cond, map, find, get_or, length, nat_le, nat_lt, refl, sym, ap, arith, unwrap_or, if◌then◌else◌}
+use Rattle.std.specs.Prelude.{◌&&◌, is_some}
+use Rattle.std.proofs.lemmas.Bool.{true≢false, and_parts}
+use Rattle.std.proofs.lemmas.Bool.Decides.{nat_tests}
+use Rattle.toml.specs.Data.{Data, Members, array, boolean, datetime, float, integer, string, table}
+use Rattle.tick_units.specs.declared.marks.Plan.{Plan}
+use Rattle.tick_units.specs.declared.marks.Plan.TheVariants.{Dcf, Msf, Wwvb}
+use Rattle.station_config.specs.Faults.{counts_of}
+use Rattle.station_config.specs.Rows.{holdover_row, radio_row, start_row, delay_row, whole_in}
+use Rattle.station_config.specs.Station.{IsStation, RadioFields, StationFields, plan_count}
+use Rattle.station_config.specs.Values.{radio_of, read_or, station_of, tables_at}
+use Rattle.toml.specs.Data.{get_member}
+
+pub record IsFrom (least most n : ℕ) : Type 0 where
+  pub low : least ≤ n
+  pub high : n ≤ most
+
+tested : (least most default n : ℕ) (b : Bool) → IsFrom least most default → b ≡ (nat_le least n && nat_le n most) → IsFrom least most (unwrap_or (if b then Some n else None) default)
+tested least most default n true d e =
+    let (low, high) = and_parts (nat_le least n) (nat_le n most) (sym e) in
+    record { low = grind (arith, nat_tests, low); high = grind (arith, nat_tests, high) }
+tested least most default n false d e = d
+
+whole_is : (least most default : ℕ) (d : Data) → IsFrom least most default → IsFrom least most (unwrap_or (whole_in least most d) default)
+whole_is least most default (integer (pos n)) d = tested least most default n (nat_le least n && nat_le n most) d refl
+whole_is least most default (integer (negsuc n)) d = d
+whole_is least most default (string s) d = d
+whole_is least most default (float x) d = d
+whole_is least most default (boolean b) d = d
+whole_is least most default (datetime t) d = d
+whole_is least most default (array ds) d = d
+whole_is least most default (table ms) d = d
+
+-- a number that is read is in its range
+pub read_is : (least most default : ℕ) (value : Option Data) → IsFrom least most default → IsFrom least most (read_or default (whole_in least most) value)
+read_is least most default None d = d
+read_is least most default (Some v) d = whole_is least most default v d
+
+delay_at : (tables : List (ℕ × Members)) (k : ℕ) (d : RadioFields) → k < length (map (λ t. radio_of t.1) tables) → (get_or (map (λ t. radio_of t.1) tables) k d).delay ≤ 100000
+delay_at [] k d h = absurd (omega arith)
+delay_at (t ∷ ts) zero d h = (read_is 0 100000 0 (get_member delay_row.key t.1) (record { low = omega arith; high = omega arith })).high
+delay_at (t ∷ ts) (suc k) d h = delay_at ts k d (omega arith)
+
+delays : (tables : List (ℕ × Members)) → All (λ r. r.delay ≤ 100000) (map (λ t. radio_of t.1) tables)
+delays tables = λ k d h. delay_at tables k d h
+
+-- the counts of a station, none of which is above its bound
+none_found : {X : Type 0} (b : Bool) (x : X) (rest : Option X) → None ≡ cond b (Some x) rest → (b ≡ false) × (None ≡ rest)
+none_found true x rest e = absurd (true≢false (sym (ap is_some e)))
+none_found false x rest e = (refl, e)
+
+pub record IsWithin (s : StationFields) : Type 0 where
+  pub sources : length s.radios + length s.servers ≤ 16
+  pub dcf : plan_count Dcf s.radios ≤ 4
+  pub msf : plan_count Msf s.radios ≤ 4
+  pub wwvb : plan_count Wwvb s.radios ≤ 4
+  pub ports : length s.links ≤ 8
+
+at_most : (most n : ℕ) → nat_lt most n ≡ false → n ≤ most
+at_most most n e = grind (arith, nat_tests)
+
+pub within : (s : StationFields) → None ≡ find (λ c. nat_lt c.most c.count) (counts_of s) → IsWithin s
+within s e =
+    let (a, e1) = none_found _ _ _ e in
+    let (b, e2) = none_found _ _ _ e1 in
+    let (c, e3) = none_found _ _ _ e2 in
+    let (d, e4) = none_found _ _ _ e3 in
+    let (l, e5) = none_found _ _ _ e4 in
+    record { sources = at_most _ _ a; dcf = at_most _ _ b; msf = at_most _ _ c; wwvb = at_most _ _ d; ports = at_most _ _ l }
+
+each_plan : (s : StationFields) → IsWithin s → (plan : Plan) → plan_count plan s.radios ≤ 4
+each_plan s w Dcf = w.dcf
+each_plan s w Msf = w.msf
+each_plan s w Wwvb = w.wwvb
+
+pub station_bounds : (m : Members) → IsWithin (station_of m) → IsStation (station_of m)
+station_bounds m w =
+    let holdover = read_is 1 86400 1200 (get_member holdover_row.key m) (record { low = omega arith; high = omega arith }) in
+    let start = read_is 0 (2 ^ 49) 0 (get_member start_row.key m) (record { low = omega arith; high = omega arith }) in
+    record {
+      sources = w.sources;
+      plans = each_plan (station_of m) w;
+      ports = w.ports;
+      delays = delays (tables_at radio_row m);
+      least_holdover = omega (arith, holdover.low);
+      most_holdover = omega (arith, holdover.high);
+      latest_start = start.high;
+    }

@@ -1,0 +1,20 @@
+-- The sources of a station's settings, radios first.
+use Rattle.std.proofs.Common.{◌≡◌, ◌∙◌, List, [], ◌∷◌, ◌++◌, refl, ap, map}
+use Rattle.system_fold.specs.declared.settings.SourceKind.{SourceKind}
+use Rattle.station_config.specs.Inside.{radio_kept, server_fields}
+use Rattle.station_config.specs.Station.{kind_of_radio, kind_of_server}
+use Rattle.station_config.specs.declared.station.Radio.{Radio}
+use Rattle.station_config.specs.declared.station.ServerRow.{ServerRow}
+
+map_twice : {X Y Z : Type 0} (g : Y → Z) (f : X → Y) (xs : List X) → map (λ x. g (f x)) xs ≡ map g (map f xs)
+map_twice g f [] = refl
+map_twice g f (x ∷ xs) = ap (λ ys. g (f x) ∷ ys) (map_twice g f xs)
+
+pub sources_are : (none some all : List SourceKind) (radios kept : List Radio) (servers rows : List ServerRow) → none ≡ []
+    → some ≡ none ++ map (λ r. kind_of_radio (radio_kept r)) radios → radios ≡ kept
+    → all ≡ some ++ map (λ s. kind_of_server (server_fields s)) servers → servers ≡ rows
+    → all ≡ map kind_of_radio (map radio_kept kept) ++ map kind_of_server (map server_fields rows)
+sources_are none some all radios kept servers rows e0 e1 r e2 s =
+    e2
+    ∙ ap (λ xs. xs ++ map (λ s. kind_of_server (server_fields s)) servers) (e1 ∙ ap (λ xs. xs ++ map (λ r. kind_of_radio (radio_kept r)) radios) e0 ∙ ap (map (λ r. kind_of_radio (radio_kept r))) r ∙ map_twice kind_of_radio radio_kept kept)
+    ∙ ap (λ xs. map kind_of_radio (map radio_kept kept) ++ xs) (ap (map (λ s. kind_of_server (server_fields s))) s ∙ map_twice kind_of_server server_fields rows)

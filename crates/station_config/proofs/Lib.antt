@@ -1,0 +1,6 @@
+pub mod Bounds
+pub mod Feeds
+pub mod Firsts
+pub mod Octets
+pub mod Orders
+pub mod Walks

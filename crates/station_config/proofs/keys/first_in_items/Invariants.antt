@@ -1,0 +1,11 @@
+use Rattle.std.proofs.Common.{◌≡◌, drop}
+use Rattle.toml.specs.View.{items_view}
+use Rattle.station_config.specs.Faults.{keys_at, sheets}
+use Rattle.station_config.specs.Finding.{keys_for}
+use Rattle.station_config.specs.Rows.{tables_from}
+use Rattle.station_config.proofs.keys.first_in_items.Given as goal
+
+abbrev pub invariant-loop-place : goal.invariant-loop-place
+invariant-loop-place l =
+    keys_at (keys_for l.check) (sheets l.part (tables_from l.place (items_view (drop l.place l.items))))
+    ≡ keys_at (keys_for l.check) (sheets l.part (tables_from 0 (items_view l.items)))

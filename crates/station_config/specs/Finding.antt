@@ -1,0 +1,69 @@
+-- What the clauses of the search for the first fault cite.
+use Rattle.std.specs.Prelude.{◌≡◌, ⊤, ℕ, List, [], ◌++◌, map, Option, Some, None, is_none, IfSome, slice_get}
+use Rattle.std.specs.Borrow.{Bor}
+use Rattle.toml.specs.Data.{Data, Members}
+use Rattle.toml.specs.View.{items_view}
+use Rattle.toml.specs.declared.value.Value.{Value}
+use Rattle.station_config.specs.Faults.{Count as Limit, Fault, bad_in, bad_range, is_wrong, key_in, keys_at, missing_in, missing_key, sheets, too_many, unknown_in, unknown_key}
+use Rattle.station_config.specs.Inside.{radio_kept, server_fields}
+use Rattle.station_config.specs.Rows.{Form, Row, Text, tables_from}
+use Rattle.station_config.specs.Station.{StationFields}
+use Rattle.station_config.specs.Values.{read_or}
+use Rattle.station_config.specs.declared.keys.Check.{Check}
+use Rattle.station_config.specs.declared.keys.Check.TheVariants.{Unknown, Missing}
+use Rattle.station_config.specs.declared.keys.Part.{Part}
+use Rattle.station_config.specs.declared.keys.Spot.{Spot}
+use Rattle.station_config.specs.declared.reading.Count.{Count}
+use Rattle.station_config.specs.declared.reading.Obstacle.{Obstacle}
+use Rattle.station_config.specs.declared.reading.Obstacle.TheVariants as obstacle
+use Rattle.station_config.specs.declared.rows.Misread.{Misread}
+use Rattle.station_config.specs.declared.rows.Misread.TheVariants as misread
+use Rattle.station_config.specs.declared.station.Parts.{Parts}
+
+abbrev pub spot_text : Spot → Text
+spot_text s = key_in s.part s.place s.key.now
+
+abbrev pub keys_for : Check → List Row → Members → List Text
+keys_for Unknown = unknown_in
+keys_for Missing = missing_in
+
+-- the tables of the values of an array, each with its place
+abbrev pub tables_seen : Option (Bor (List Value)) → List (ℕ × Members)
+tables_seen None = []
+tables_seen (Some values) = tables_from 0 (items_view values.now)
+
+-- what was read of the value at a key: its reading or the default, and nothing just where the value is a fault
+pub record IsRead {X : Type 0} (form : Form) (default : X) (reading : Data → Option X) (value : Option Data) (result : Option X) : Type 0 where
+  pub said : IfSome result (λ x. x ≡ read_or default reading value)
+  pub wrong : is_none result ≡ is_wrong form value
+
+-- the first key with a bad value; want of memory says nothing
+abbrev pub IsMisread : List Text → Misread → Type 0
+IsMisread bad misread.Memory = ⊤
+IsMisread bad (misread.Range key) = slice_get bad 0 ≡ Some key.now
+
+-- the same among the keys of all tables
+abbrev pub IsMisreadAt : List Text → Obstacle → Type 0
+IsMisreadAt bad obstacle.Memory = ⊤
+IsMisreadAt bad (obstacle.Range spot) = slice_get bad 0 ≡ Some (spot_text spot)
+IsMisreadAt bad _ = ⊥
+
+-- the rows of these tables are put behind others, and none of their values is a fault
+pub record Adds {F : Type 0} (part : Part) (row_of : Members → F) (tables : List (ℕ × Members)) (before after : List F) : Type 0 where
+  pub rows : after ≡ before ++ map (λ t. row_of t.1) tables
+  pub good : keys_at bad_in (sheets part tables) ≡ []
+
+-- the obstacle is the first of the faults; want of memory says nothing
+abbrev pub IsFirstObstacle : List Fault → Obstacle → Type 0
+IsFirstObstacle faults obstacle.Memory = ⊤
+IsFirstObstacle faults (obstacle.Unknown spot) = slice_get faults 0 ≡ Some (unknown_key (spot_text spot))
+IsFirstObstacle faults (obstacle.Missing spot) = slice_get faults 0 ≡ Some (missing_key (spot_text spot))
+IsFirstObstacle faults (obstacle.Range spot) = slice_get faults 0 ≡ Some (bad_range (spot_text spot))
+IsFirstObstacle faults (obstacle.TooMany key count) = slice_get faults 0 ≡ Some (too_many key.now count)
+
+-- what was read, before it is a station
+abbrev pub parts_fields : Parts → StationFields
+parts_fields p = record { holdover = p.holdover; start = p.start; radios = map radio_kept p.radios.items; servers = map server_fields p.servers.items; links = p.links.items }
+
+abbrev pub count_seen : Count → Limit
+count_seen c = record { key = c.key.now; count = c.count; most = c.most }

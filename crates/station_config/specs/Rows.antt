@@ -1,0 +1,158 @@
+-- The keys of a station file, table by table, with what may stand at each (a TOML document of this project's own).
+use Rattle.std.specs.Prelude.{ℕ, ◌^◌, ◌&&◌, ◌==◌, ◌+◌, ◌++◌, Bool, List, [], ◌∷◌, Option, None, Some, pos, codes, nat_le, nat_lt, length, is_some, find, if◌then◌else◌}
+use Rattle.std.specs.List.{before_first, after_first}
+use Rattle.std.specs.Int.{w32, from_be_bytes}
+use Rattle.std.specs.Str.{bytes_eq}
+use Rattle.tick_units.specs.Log.{number_of}
+use Rattle.tick_units.specs.declared.marks.Plan.{Plan}
+use Rattle.tick_units.specs.declared.marks.Plan.TheVariants.{Dcf, Msf, Wwvb}
+use Rattle.toml.specs.Data.{Data, Items, Members, array, integer, item, no_items, string, table}
+use Rattle.toml.specs.Text.{are_tables}
+
+abbrev pub Text : Type 0
+Text = List ℕ
+
+-- ---- what a value says, where it is of the type and in the range that are asked for
+
+-- a whole number from `least` to `most`
+abbrev pub whole_in : ℕ → ℕ → Data → Option ℕ
+whole_in least most (integer (pos n)) = if nat_le least n && nat_le n most then Some n else None
+whole_in least most _ = None
+
+-- a text that isn't empty
+abbrev pub text_in : Data → Option Text
+text_in (string s) = if nat_lt 0 (length s) then Some s else None
+text_in _ = None
+
+abbrev pub plan_word : Plan → Text
+plan_word Dcf = codes "dcf"
+plan_word Msf = codes "msf"
+plan_word Wwvb = codes "wwvb"
+
+abbrev pub plans : List Plan
+plans = Dcf ∷ Msf ∷ Wwvb ∷ []
+
+-- a plan by its word
+abbrev pub plan_in : Data → Option Plan
+plan_in (string s) = find (λ p. bytes_eq s (plan_word p)) plans
+plan_in _ = None
+
+-- a number from 0 to 255 in decimal, without leading zeros
+abbrev pub octet_or_none : Option ℕ → Option ℕ
+octet_or_none None = None
+octet_or_none (Some n) = if nat_le n 255 then Some n else None
+
+abbrev pub octet_of : Text → Option ℕ
+octet_of text = octet_or_none (number_of text)
+
+-- the IPv4 address of four such numbers, its bytes in network order
+abbrev pub four_of : Option ℕ → Option ℕ → Option ℕ → Option ℕ → Option ℕ
+four_of (Some a) (Some b) (Some c) (Some d) = Some (from_be_bytes w32 (a ∷ b ∷ c ∷ d ∷ []))
+four_of _ _ _ _ = None
+
+-- the part of a text before its first dot, and the part behind it
+abbrev pub before_dot : Text → Text
+before_dot text = before_first (λ byte. byte == 46) text
+
+abbrev pub after_dot : Text → Text
+after_dot text = after_first (λ byte. byte == 46) text
+
+-- four numbers that are parted by dots
+abbrev pub address_of : Text → Option ℕ
+address_of text = four_of (octet_of (before_dot text)) (octet_of (before_dot (after_dot text))) (octet_of (before_dot (after_dot (after_dot text)))) (octet_of (after_dot (after_dot (after_dot text))))
+
+abbrev pub address_in : Data → Option ℕ
+address_in (string s) = address_of s
+address_in _ = None
+
+-- the tables of an array, each with its place
+abbrev pub table_at : ℕ → Data → List (ℕ × Members)
+table_at place (table members) = (place, members) ∷ []
+table_at place _ = []
+
+abbrev pub tables_from : ℕ → Items → List (ℕ × Members)
+tables_from place no_items = []
+tables_from place (item d ds) = table_at place d ++ tables_from (place + 1) ds
+
+-- an array of tables
+abbrev pub tables_in : Data → Option (List (ℕ × Members))
+tables_in (array ds) = if are_tables ds then Some (tables_from 0 ds) else None
+tables_in _ = None
+
+-- ---- the rows
+
+-- what a value has to be
+pub data Form : Type 0 where
+  whole : ℕ → ℕ → Form
+  text : Form
+  plan : Form
+  address : Form
+  tables : Form
+
+-- what stands for a key that isn't there: nothing may, or a number, or no tables
+pub data Need : Type 0 where
+  required : Need
+  preset : ℕ → Need
+  optional : Need
+
+pub record Row : Type 0 where
+  pub key : Text
+  pub form : Form
+  pub need : Need
+
+-- the top table
+abbrev pub holdover_row : Row
+holdover_row = record { key = codes "holdover"; form = whole 1 86400; need = preset 1200 }
+
+abbrev pub link_row : Row
+link_row = record { key = codes "link"; form = tables; need = optional }
+
+abbrev pub radio_row : Row
+radio_row = record { key = codes "radio"; form = tables; need = optional }
+
+abbrev pub server_row : Row
+server_row = record { key = codes "server"; form = tables; need = optional }
+
+abbrev pub start_row : Row
+start_row = record { key = codes "start"; form = whole 0 (2 ^ 49); need = preset 0 }
+
+-- a radio
+abbrev pub delay_row : Row
+delay_row = record { key = codes "delay"; form = whole 0 100000; need = preset 0 }
+
+abbrev pub log_row : Row
+log_row = record { key = codes "log"; form = text; need = required }
+
+abbrev pub plan_row : Row
+plan_row = record { key = codes "plan"; form = plan; need = required }
+
+-- a server
+abbrev pub address_row : Row
+address_row = record { key = codes "address"; form = address; need = required }
+
+abbrev pub polls_row : Row
+polls_row = record { key = codes "polls"; form = whole 0 100000; need = preset 8 }
+
+-- a server, and a link
+abbrev pub port_row : Row
+port_row = record { key = codes "port"; form = whole 1 65535; need = required }
+
+-- the rows of each table, by the bytes of their keys
+abbrev pub top_rows : List Row
+top_rows = holdover_row ∷ link_row ∷ radio_row ∷ server_row ∷ start_row ∷ []
+
+abbrev pub radio_rows : List Row
+radio_rows = delay_row ∷ log_row ∷ plan_row ∷ []
+
+abbrev pub server_rows : List Row
+server_rows = address_row ∷ polls_row ∷ port_row ∷ []
+
+abbrev pub link_rows : List Row
+link_rows = port_row ∷ []
+
+abbrev pub has_form : Form → Data → Bool
+has_form (whole least most) d = is_some (whole_in least most d)
+has_form text d = is_some (text_in d)
+has_form plan d = is_some (plan_in d)
+has_form address d = is_some (address_in d)
+has_form tables d = is_some (tables_in d)

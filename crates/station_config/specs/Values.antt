@@ -1,0 +1,50 @@
+-- The station that a document without faults says: its values, and the defaults of the keys that aren't there.
+use Rattle.std.specs.Prelude.{ℕ, ◌*◌, List, [], map, Option, None, Some, unwrap_or}
+use Rattle.tick_units.specs.declared.marks.Plan.TheVariants.{Dcf}
+use Rattle.toml.specs.Data.{Data, Members, get_member}
+use Rattle.station_config.specs.Rows.{Form, whole, Need, preset, Row, whole_in, text_in, plan_in, address_in, tables_in, holdover_row, link_row, radio_row, server_row, start_row, delay_row, log_row, plan_row, address_row, polls_row, port_row}
+use Rattle.station_config.specs.Station.{RadioFields, ServerFields, StationFields}
+
+-- what is read of the value at a key; the default where there is no value, and where the value is a fault
+abbrev pub read_or : {X : Type 0} → X → (Data → Option X) → Option Data → X
+read_or default reading None = default
+read_or default reading (Some d) = unwrap_or (reading d) default
+
+abbrev pub preset_of : Need → ℕ
+preset_of (preset n) = n
+preset_of _ = 0
+
+abbrev pub whole_of : Form → Data → Option ℕ
+whole_of (whole least most) d = whole_in least most d
+whole_of _ d = None
+
+-- the number in a row of a table
+abbrev pub number_at : Row → Members → ℕ
+number_at row members = read_or (preset_of row.need) (whole_of row.form) (get_member row.key members)
+
+-- the tables of the array in a row, each with its place
+abbrev pub tables_at : Row → Members → List (ℕ × Members)
+tables_at row members = read_or [] tables_in (get_member row.key members)
+
+abbrev pub radio_of : Members → RadioFields
+radio_of members = record {
+  plan = read_or Dcf plan_in (get_member plan_row.key members);
+  log = read_or [] text_in (get_member log_row.key members);
+  delay = number_at delay_row members;
+}
+
+abbrev pub server_of : Members → ServerFields
+server_of members = record {
+  address = record { ip = read_or 0 address_in (get_member address_row.key members); port = number_at port_row members };
+  polls = number_at polls_row members;
+}
+
+-- the holdover of a station is in microseconds, and that of its file in seconds
+abbrev pub station_of : Members → StationFields
+station_of members = record {
+  holdover = 1000000 * number_at holdover_row members;
+  start = number_at start_row members;
+  radios = map (λ t. radio_of t.1) (tables_at radio_row members);
+  servers = map (λ t. server_of t.1) (tables_at server_row members);
+  links = map (λ t. number_at port_row t.1) (tables_at link_row members);
+}

@@ -1,0 +1,65 @@
+ghost use Rattle.std.specs.Prelude.{◌≡◌};
+ghost use Rattle.std.specs.Str.{all_ascii_digits};
+ghost use Rattle.tick_units.specs.Log.{is_number};
+ghost use Rattle.station_config.specs.Rows.{octet_of, four_of, before_dot, after_dot, address_of};
+
+fn are_digits(text: &[u8]) -> bool
+    ensures { result ≡ all_ascii_digits text.now }
+{
+    for byte in text {
+        if !byte.is_ascii_digit() {
+            return false;
+        }
+    }
+    true
+}
+
+// Whether a text is a number in decimal, without a sign and without leading zeros.
+fn is_number(text: &[u8]) -> bool
+    ensures { result ≡ is_number text.now }
+{
+    are_digits(text) && 0 < text.len() && (text[0] != b'0' || text.len() == 1)
+}
+
+// The number that a text is, from 0 to 255.
+fn octet(text: &str) -> Option<u8>
+    ensures { result ≡ octet_of text.now }
+{
+    if is_number(text.as_bytes()) {
+        text.parse::<u8>().ok()
+    } else {
+        None
+    }
+}
+
+// The parts of a text before and behind its first dot; all of it and nothing where it has none.
+fn parts(text: &str) -> (&str, &str)
+    ensures before { result.0.now ≡ before_dot text.now }
+    ensures after { result.1.now ≡ after_dot text.now }
+{
+    match text.split_once('.') {
+        Some(parts) => parts,
+        None => (text, ""),
+    }
+}
+
+fn joined(
+    first: Option<u8>,
+    second: Option<u8>,
+    third: Option<u8>,
+    fourth: Option<u8>,
+) -> Option<u32>
+    ensures { result ≡ four_of first second third fourth }
+{
+    Some(u32::from_be_bytes([first?, second?, third?, fourth?]))
+}
+
+// The IPv4 address of four such numbers that are parted by dots.
+pub fn address(text: &str) -> Option<u32>
+    ensures { result ≡ address_of text.now }
+{
+    let (first, rest) = parts(text);
+    let (second, rest) = parts(rest);
+    let (third, fourth) = parts(rest);
+    joined(octet(first), octet(second), octet(third), octet(fourth))
+}

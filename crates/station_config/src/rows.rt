@@ -1,0 +1,153 @@
+ghost use Rattle.std.specs.Prelude.{◌≡◌, ◌≤◌, Some, None, IfOk, IfErr, IfSome, IsSome, [], is_some, is_none, option_map, string_bytes, codes};
+ghost use Rattle.tick_units.specs.declared.marks.Plan.TheVariants.{Dcf};
+ghost use Rattle.toml.specs.Data.{get_member, string};
+ghost use Rattle.toml.specs.View.{view, table_view};
+ghost use Rattle.station_config.specs.Rows.{whole_in, text_in, plan_in, octet_of, address_of, address_in, whole, text, plan, address, radio_rows, server_rows, link_rows};
+ghost use Rattle.station_config.specs.Values.{read_or, number_at, radio_of, server_of};
+ghost use Rattle.station_config.specs.Rows.{port_row};
+ghost use Rattle.station_config.specs.Faults.{bad_in, missing_in, is_wrong};
+ghost use Rattle.station_config.specs.Finding.{IsRead, IsMisread};
+ghost use Rattle.station_config.specs.Inside.{radio_kept, server_fields};
+
+use crate::address::address;
+use crate::keys::value_at;
+use crate::station::{Radio, ServerRow};
+use feed_link::Address;
+use std::alloc::Global;
+use tick_units::Plan;
+use toml::{Table, Value};
+
+// Why the values of a table couldn't be read: the value at this key isn't of its type and range, or memory ran out.
+#[derive(Clone, Copy, Debug)]
+pub enum Misread {
+    Range(&'static str),
+    Memory,
+}
+
+// A whole number in a range.
+fn whole(value: &Value, least: u64, most: u64) -> Option<u64>
+    ensures value { result ≡ whole_in least most (view value.now) }
+    ensures most { IfSome result (λ n. n ≤ most) }
+{
+    let number = u64::try_from(value.as_integer()?).ok()?;
+    if least <= number && number <= most {
+        Some(number)
+    } else {
+        None
+    }
+}
+
+// The whole number in a range at a key, or else the default.
+pub fn number(table: &Table, key: &str, least: u64, most: u64, default: u64) -> Option<u64>
+    requires { default ≤ most }
+    ensures read { IsRead (whole least most) default (whole_in least most) (get_member key.now (table_view table.now)) result }
+    ensures most { IfSome result (λ n. n ≤ most) }
+{
+    match value_at(table, key) {
+        Some(value) => whole(value, least, most),
+        None => Some(default),
+    }
+}
+
+// The text at a key, which isn't empty.
+fn text<'a>(table: &'a Table, key: &str) -> Option<&'a str>
+    requires { IsSome (get_member key.now (table_view table.now)) }
+    ensures { IsRead text [] text_in (get_member key.now (table_view table.now)) (option_map (λ t. t.now) result) }
+{
+    let text = value_at(table, key)?.as_str()?;
+    if text.is_empty() { None } else { Some(text) }
+}
+
+fn plan_named(word: &str) -> Option<Plan>
+    ensures { result ≡ plan_in (string word.now) }
+{
+    match word {
+        "dcf" => Some(Plan::Dcf),
+        "msf" => Some(Plan::Msf),
+        "wwvb" => Some(Plan::Wwvb),
+        _ => None,
+    }
+}
+
+fn plan(table: &Table) -> Option<Plan>
+    requires { IsSome (get_member (codes "plan") (table_view table.now)) }
+    ensures { IsRead plan Dcf plan_in (get_member (codes "plan") (table_view table.now)) result }
+{
+    plan_named(value_at(table, "plan")?.as_str()?)
+}
+
+fn ip(table: &Table) -> Option<u32>
+    requires { IsSome (get_member (codes "address") (table_view table.now)) }
+    ensures { IsRead address 0 address_in (get_member (codes "address") (table_view table.now)) result }
+{
+    address(value_at(table, "address")?.as_str()?)
+}
+
+fn port(table: &Table) -> Option<u16>
+    requires { IsSome (get_member (codes "port") (table_view table.now)) }
+    ensures { IsRead (whole 1 65535) 0 (whole_in 1 65535) (get_member (codes "port") (table_view table.now)) result }
+{
+    let port = whole(value_at(table, "port")?, 1, 65_535)?;
+    Some(port as u16)
+}
+
+// The radio of a table that has all its keys.
+pub fn radio(alloc: Global, table: &Table) -> Result<Radio, Misread>
+    requires { missing_in radio_rows (table_view table.now) ≡ [] }
+    ensures said { IfOk result (λ r. radio_kept r ≡ radio_of (table_view table.now)) }
+    ensures good { IfOk result (λ _. bad_in radio_rows (table_view table.now) ≡ []) }
+    ensures bad { IfErr result (IsMisread (bad_in radio_rows (table_view table.now))) }
+{
+    let Some(delay) = number(table, "delay", 0, 100_000, 0) else {
+        return Err(Misread::Range("delay"));
+    };
+    let Some(log) = text(table, "log") else {
+        return Err(Misread::Range("log"));
+    };
+    let Some(plan) = plan(table) else {
+        return Err(Misread::Range("plan"));
+    };
+    let Ok(log) = String::from_str(alloc, log) else {
+        return Err(Misread::Memory);
+    };
+    Ok(Radio {
+        plan,
+        log,
+        delay: delay as u32,
+    })
+}
+
+// The server of a table that has all its keys.
+pub fn server(table: &Table) -> Result<ServerRow, Misread>
+    requires { missing_in server_rows (table_view table.now) ≡ [] }
+    ensures said { IfOk result (λ s. server_fields s ≡ server_of (table_view table.now)) }
+    ensures good { IfOk result (λ _. bad_in server_rows (table_view table.now) ≡ []) }
+    ensures bad { IfErr result (IsMisread (bad_in server_rows (table_view table.now))) }
+{
+    let Some(ip) = ip(table) else {
+        return Err(Misread::Range("address"));
+    };
+    let Some(polls) = number(table, "polls", 0, 100_000, 8) else {
+        return Err(Misread::Range("polls"));
+    };
+    let Some(port) = port(table) else {
+        return Err(Misread::Range("port"));
+    };
+    Ok(ServerRow {
+        address: Address { ip, port },
+        polls: polls as u32,
+    })
+}
+
+// The port of the link of a table that has all its keys.
+pub fn link(table: &Table) -> Result<u16, Misread>
+    requires { missing_in link_rows (table_view table.now) ≡ [] }
+    ensures said { IfOk result (λ p. p ≡ number_at port_row (table_view table.now)) }
+    ensures good { IfOk result (λ _. bad_in link_rows (table_view table.now) ≡ []) }
+    ensures bad { IfErr result (IsMisread (bad_in link_rows (table_view table.now))) }
+{
+    match port(table) {
+        Some(port) => Ok(port),
+        None => Err(Misread::Range("port")),
+    }
+}
