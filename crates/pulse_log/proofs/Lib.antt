@@ -3,3 +3,4 @@ pub mod FrontLaws
 pub mod LawfulLaws
 pub mod LogLaws
 pub mod ReaderLaws
+pub mod FrontsLaws

@@ -5,7 +5,7 @@ mod line;
 mod reader;
 mod writer;
 
-pub use reader::{BadLine, LineReader};
+pub use reader::{BadLine, Front, LineReader};
 pub use writer::write_line;
 
 #[cfg(test)]

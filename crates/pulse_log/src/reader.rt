@@ -1,4 +1,4 @@
-ghost use Rattle.std.specs.Prelude.{◌≡◌, ℕ, ◌+◌, ◌≤◌, ◌^◌};
+ghost use Rattle.std.specs.Prelude.{◌≡◌, ℕ, ◌+◌, ◌<◌, ◌≤◌, ◌^◌, length, take};
 
 use crate::line::Line;
 use tick_units::Reduction;
@@ -10,6 +10,15 @@ const LONGEST: u32 = 31;
 #[derive(Clone, Copy, Debug, PartialEq, Eq)]
 pub struct BadLine {
     pub line: u64,
+}
+
+/// What a reader took of some bytes, and what that came to.
+#[derive(Clone, Copy, Debug, PartialEq, Eq)]
+pub struct Front {
+    /// How many of them it took, from the first on.
+    pub count: usize,
+    /// The reduction of the line that they end, or None where they end none; or the line that isn't lawful.
+    pub found: Result<Option<Reduction>, BadLine>,
 }
 
 /// Reads a log byte by byte. A line is the start and the width of a reduction, each in decimal without leading zeros,
@@ -28,7 +37,7 @@ pub struct LineReader {
 impl LineReader {
     ghost use Rattle.std.specs.Prelude.{◌∷◌, ◌++◌, [], List, MatchResult, None, Some};
     ghost use Rattle.tick_units.specs.Log.{bad_at_end};
-    ghost use Rattle.pulse_log.specs.Reading.{HasRead, TakesByte};
+    ghost use Rattle.pulse_log.specs.Reading.{HasRead, GoesOn, TakesByte, TakesFront};
 
     /// The reader that has taken no byte.
     pub fn new() -> LineReader
@@ -63,6 +72,51 @@ impl LineReader {
         }
         self.line.add(byte);
         Ok(None)
+    }
+
+    /// Takes bytes up to the end of the first line that ends among them, up to the byte that makes a line bad, or all of them.
+    #[inline(never)]
+    pub fn take_line(&mut self, bytes: &[u8]) -> Front
+        requires { 0 < length bytes.now }
+        ensures some { 0 < result.count }
+        ensures within { result.count ≤ length bytes.now }
+        ensures taken { (before : List ℕ) → HasRead self.old before → TakesFront self.new before (take result.count bytes.now) result.found }
+    {
+        let count = self.go_on(bytes);
+        match bytes.get(count) {
+            Some(byte) => Front {
+                count: count + 1,
+                found: self.take(*byte),
+            },
+            None => Front {
+                count,
+                found: Ok(None),
+            },
+        }
+    }
+
+    // Takes the bytes that neither end the line nor bring it to 32 bytes.
+    fn go_on(&mut self, bytes: &[u8]) -> usize
+        ensures within { result ≤ length bytes.now }
+        ensures goes { (before : List ℕ) → HasRead self.old before → GoesOn self.new before (take result bytes.now) }
+        ensures bad { self.new.bad ≡ self.old.bad }
+        ensures none { 0 < result → self.old.bad ≡ None }
+    {
+        if self.bad.is_some() {
+            return 0;
+        }
+        // The line is worked on by itself, so that its numbers can stay in registers.
+        let mut line = self.line;
+        let mut count = 0;
+        'bytes: for byte in bytes {
+            if *byte == b'\n' || line.len() == LONGEST {
+                break;
+            }
+            line.add(*byte);
+            count += 1;
+        }
+        self.line = line;
+        count
     }
 
     // Takes a line feed.

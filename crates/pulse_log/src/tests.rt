@@ -16,6 +16,59 @@ fn read(alloc: Global, log: &[u8]) -> Result<(Vec<(u64, u32)>, Option<u64>), All
     Ok((found, bad))
 }
 
+// The same over pieces of this size, line by line.
+fn read_in_pieces(
+    alloc: Global,
+    log: &[u8],
+    size: usize,
+) -> Result<(Vec<(u64, u32)>, Option<u64>), AllocError> {
+    let mut reader = LineReader::new();
+    let mut found = Vec::new(alloc);
+    'pieces: for piece in log.chunks(size.max(1)) {
+        let mut rest = piece;
+        'lines: while !rest.is_empty() {
+            let front = reader.take_line(rest);
+            if let Ok(Some(r)) = front.found {
+                found.push((r.at.get(), r.width))?;
+            }
+            rest = rest.split_at(front.count).1;
+        }
+    }
+    let bad = reader.finish().err().map(|bad| bad.line);
+    Ok((found, bad))
+}
+
+#[test]
+fn pieces_are_taken_line_by_line(rt: HostRuntime) -> Result<(), Fail> {
+    let logs: [(&str, &[(u64, u32)], Option<u64>); 5] = [
+        (
+            "62000000 100000\n63000000 200000\n",
+            &[(62_000_000, 100_000), (63_000_000, 200_000)],
+            None,
+        ),
+        ("7 1\n\n8 1\n", &[(7, 1)], Some(2)),
+        ("7 1\n8 1\n9 1", &[(7, 1), (8, 1)], Some(3)),
+        (
+            "7 1\n11111111111111111111111111111111\n8 1\n",
+            &[(7, 1)],
+            Some(2),
+        ),
+        (
+            "0 1\n1 2000000\n2 x\n3 1\n",
+            &[(0, 1), (1, 2_000_000)],
+            Some(3),
+        ),
+    ];
+    for (log, want, line) in logs {
+        for size in 1..=log.len() {
+            let (found, bad) = read_in_pieces(rt.alloc(), log.as_bytes(), size)?;
+            assert_eq!(rt; found.as_slice(), want, "in {log} by {size}");
+            assert_eq!(rt; bad, line, "in {log} by {size}");
+        }
+    }
+    Ok(())
+}
+
 #[test]
 fn lawful_lines_are_read(rt: HostRuntime) -> Result<(), Fail> {
     let table: [(&str, &[(u64, u32)]); 4] = [

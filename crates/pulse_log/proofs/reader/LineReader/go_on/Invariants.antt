@@ -1,0 +1,5 @@
+use Rattle.pulse_log.proofs.FrontsLaws.{GoesSo}
+use Rattle.pulse_log.proofs.reader.LineReader.go_on.Given as goal
+
+abbrev pub invariant-bytes : goal.invariant-bytes
+invariant-bytes l = GoesSo l.self l.line l.bytes l.count l.byte-index
