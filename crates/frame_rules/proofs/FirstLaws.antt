@@ -1,5 +1,5 @@
 -- No rule of a list is named exactly where each is unbroken.
-use Rattle.std.proofs.Common.{◌≡◌, ℕ, Bool, true, false, cond, None, Some, List, [], ◌∷◌, find, refl}
+use Rattle.std.proofs.Common.{◌≡◌, Bool, true, false, cond, None, Some, List, [], ◌∷◌, find, refl, sym, ap, ◌∙◌}
 use Rattle.std.specs.Option.{option_map}
 use Rattle.frame_rules.specs.First.{first_broken}
 use Rattle.frame_rules.specs.declared.rules.Rule.{Rule}
@@ -23,15 +23,6 @@ pub first_broken-none : (rules : List Rule) → AreUnbroken rules → first_brok
 first_broken-none [] h = refl
 first_broken-none (rule ∷ rules) h = rw h.0 (first_broken-none rules h.1)
 
-abbrev rule : ℕ → Bool → Rule
-rule number broken = record { number = number; broken = broken }
-
--- the first of a list that begins with the rules that every plan has
-pub first_of_one : (a : Bool) (more : List Rule) → a ≡ true → first_broken (rule 1 a ∷ more) ≡ Some 1
-first_of_one a more e = rw e refl
-
-pub first_of_two : (a b : Bool) (more : List Rule) → a ≡ false → b ≡ true → first_broken (rule 1 a ∷ rule 2 b ∷ more) ≡ Some 2
-first_of_two a b more e f = rw (e, f) refl
-
-pub first_of_three : (a b c : Bool) (more : List Rule) → a ≡ false → b ≡ false → c ≡ true → first_broken (rule 1 a ∷ rule 2 b ∷ rule 3 c ∷ more) ≡ Some 3
-first_of_three a b c more e f g = rw (e, f, g) refl
+-- an unbroken rule was made of a test that is false
+pub false_from_unbroken : (rule made : Rule) (broken : Bool) → rule ≡ made → made.broken ≡ broken → rule.broken ≡ false → broken ≡ false
+false_from_unbroken rule made broken e is h = sym is ∙ sym (ap (λ (r : Rule). r.broken) e) ∙ h

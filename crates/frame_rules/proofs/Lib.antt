@@ -1,7 +1,8 @@
 pub mod Sums
 pub mod FirstLaws
 pub mod Meanings
-pub mod Most
 pub mod HighBits
 pub mod Template
 pub mod BitSymbols
+pub mod WordLaws
+pub mod AddingLaws

@@ -2,3 +2,4 @@ pub mod Bits
 pub mod First
 pub mod MarkRules
 pub mod Numbers
+pub mod Words

@@ -1,9 +1,13 @@
 //! Bits of places, and what they add up to. Places count from 0.
-ghost use Rattle.std.specs.Prelude.{◌≡◌, ◌+◌, ◌^◌, ◌<◌, ◌≤◌, length};
-ghost use Rattle.tick_units.specs.Fields.{is_set, value, is_odd_over, has_pattern};
+ghost use Rattle.std.specs.Prelude.{◌≡◌, ◌+◌, ◌<◌, ◌≤◌, List, length, sum};
+ghost use Rattle.tick_units.specs.Marks.{is_long};
+ghost use Rattle.tick_units.specs.Rules.{is_odd};
+ghost use Rattle.tick_units.specs.Fields.{value, is_odd_over, has_pattern};
+ghost use Rattle.tick_units.specs.declared.marks.Mark.{Mark};
 ghost use Rattle.frame_rules.specs.Bits.{has_bit};
 
-use tick_units::{Mark, Symbol};
+use crate::places::Places;
+use tick_units::Symbol;
 
 /// Which bit of a symbol is read.
 #[derive(Clone, Copy, Debug, PartialEq, Eq)]
@@ -18,6 +22,7 @@ pub enum Bit {
 
 impl Bit {
     /// Whether this bit of a symbol is 1.
+    #[inline]
     pub fn is_in(self, symbol: Symbol) -> bool
         ensures { result ≡ has_bit self symbol }
     {
@@ -29,26 +34,32 @@ impl Bit {
     }
 }
 
-/// Whether the bit of a place is 1. A place that the segment doesn't have counts as `Zero`.
-pub fn is_set(bit: Bit, segment: &[Mark], place: usize) -> bool
-    ensures { result ≡ is_set (has_bit bit) segment.now place }
+// Whether a symbol is that of a marker.
+#[inline]
+pub(crate) fn is_long(symbol: Symbol) -> bool
+    ensures { result ≡ is_long symbol }
 {
-    match segment.get(place) {
-        Some(mark) => bit.is_in(mark.symbol),
-        None => false,
-    }
+    symbol == Symbol::Long
+}
+
+// Whether a symbol says that the width is in no class.
+#[inline]
+pub(crate) fn is_odd(symbol: Symbol) -> bool
+    ensures { result ≡ is_odd symbol }
+{
+    symbol == Symbol::Odd
 }
 
 /// The sum of those weights whose bit is 1, the first weight being that of `place` and each next one that of the next
 /// place.
-pub fn value(bit: Bit, segment: &[Mark], place: usize, weights: &[u8]) -> u16
-    requires few { length weights.now ≤ 256 }
-    requires places { place + length weights.now < 2 ^ 16 }
-    ensures { result ≡ value (has_bit bit) segment.now place weights.now }
+pub fn value<P: Places>(bit: Bit, segment: &P, place: usize, weights: &[u8]) -> u16
+    requires { place + length weights.now ≤ 61 }
+    ensures value { (marks : List Mark) → P.stands_for segment.now marks → result ≡ value (has_bit bit) marks place weights.now }
+    ensures most { result ≤ sum weights.now }
 {
     let mut sum = 0;
     for (i, weight) in weights.iter().enumerate() {
-        if is_set(bit, segment, place + i) {
+        if segment.is_set(bit, place + i) {
             sum += u16::from(*weight);
         }
     }
@@ -56,14 +67,14 @@ pub fn value(bit: Bit, segment: &[Mark], place: usize, weights: &[u8]) -> u16
 }
 
 /// Whether an odd number of the places from `first` to `last`, both included, have the bit 1.
-pub fn is_odd_over(bit: Bit, segment: &[Mark], first: usize, last: usize) -> bool
+pub fn is_odd_over<P: Places>(bit: Bit, segment: &P, first: usize, last: usize) -> bool
     requires in_order { first ≤ last }
-    requires places { last < 2 ^ 16 }
-    ensures { result ≡ is_odd_over (has_bit bit) segment.now first last }
+    requires places { last < 61 }
+    ensures { (marks : List Mark) → P.stands_for segment.now marks → result ≡ is_odd_over (has_bit bit) marks first last }
 {
     let mut ones = 0u32;
     for place in first..last + 1 {
-        if is_set(bit, segment, place) {
+        if segment.is_set(bit, place) {
             ones += 1;
         }
     }
@@ -71,12 +82,12 @@ pub fn is_odd_over(bit: Bit, segment: &[Mark], first: usize, last: usize) -> boo
 }
 
 /// Whether the bits of the places from `first` on are these.
-pub fn has_pattern(bit: Bit, segment: &[Mark], first: usize, pattern: &[bool]) -> bool
-    requires places { first + length pattern.now < 2 ^ 16 }
-    ensures { result ≡ has_pattern (has_bit bit) segment.now first pattern.now }
+pub fn has_pattern<P: Places>(bit: Bit, segment: &P, first: usize, pattern: &[bool]) -> bool
+    requires { first + length pattern.now ≤ 61 }
+    ensures { (marks : List Mark) → P.stands_for segment.now marks → result ≡ has_pattern (has_bit bit) marks first pattern.now }
 {
     for (i, wanted) in pattern.iter().enumerate() {
-        if is_set(bit, segment, first + i) != *wanted {
+        if segment.is_set(bit, first + i) != *wanted {
             return false;
         }
     }

@@ -1,17 +1,22 @@
-//! What the frames of the three code plans share: the bits of a segment's places, the values that they spell, and the
-//! rules on marks that every plan has.
+//! What the frames of the three code plans share: a segment whose marks lie in a slice or are kept as numbers, the bits of
+//! its places, the values that they spell, and the rules on marks that every plan has.
 #![tactic(auto)]
 
 mod bits;
+mod mark_words;
 mod numbers;
+mod place_bits;
+mod places;
 mod rules;
+mod segment;
 mod spelling;
 
-pub use bits::{Bit, has_pattern, is_odd_over, is_set, value};
+pub use bits::{Bit, has_pattern, is_odd_over, value};
+pub use mark_words::MarkWords;
 pub use numbers::{Number, is_out_of};
-pub use rules::{
-    Rule, breaks_length, breaks_spacing, breaks_spacing_to, breaks_width, first_broken,
-};
+pub use places::{KEPT_PLACES, Places};
+pub use rules::{Rule, breaks_length, first_broken};
+pub use segment::Segment;
 pub use spelling::{Spelling, bit_symbol};
 
 #[cfg(test)]

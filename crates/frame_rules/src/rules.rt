@@ -1,10 +1,12 @@
 //! The rules on marks that the plans share, and which broken rule is named.
-ghost use Rattle.std.specs.Prelude.{◌≡◌, ◌+◌};
+ghost use Rattle.std.specs.Prelude.{◌≡◌, ◌+◌, List};
 ghost use Rattle.tick_units.specs.Marks.{is_between};
 ghost use Rattle.frame_rules.specs.First.{first_broken};
-ghost use Rattle.frame_rules.specs.MarkRules.{breaks_spacing, breaks_spacing_to, breaks_width, breaks_length};
+ghost use Rattle.frame_rules.specs.MarkRules.{breaks_length};
+ghost use Rattle.tick_units.specs.declared.marks.Mark.{Mark};
 
-use tick_units::{Local, Mark, Symbol};
+use crate::places::Places;
+use tick_units::Local;
 
 /// A numbered rule, and whether a segment breaks it.
 #[derive(Clone, Copy, Debug, PartialEq, Eq)]
@@ -33,7 +35,8 @@ pub fn first_broken(rules: &[Rule]) -> Option<u8>
 }
 
 // Whether one moment comes 900000 to 1100000 microseconds after another.
-fn is_a_second_on(before: Local, moment: Local) -> bool
+#[inline]
+pub(crate) fn is_a_second_on(before: Local, moment: Local) -> bool
     ensures { result ≡ is_between (before + 900000) (before + 1100000) moment }
 {
     let start = before.get();
@@ -41,51 +44,9 @@ fn is_a_second_on(before: Local, moment: Local) -> bool
     start + 900_000 <= later && later <= start + 1_100_000
 }
 
-/// Whether two neighbouring marks don't start 900000 to 1100000 microseconds apart.
-pub fn breaks_spacing(marks: &[Mark]) -> bool
-    ensures { result ≡ breaks_spacing marks.now }
-{
-    let mut rest = marks;
-    'marks: while let [mark, more @ ..] = rest {
-        if let [next, ..] = more {
-            if !is_a_second_on(mark.at, next.at) {
-                return true;
-            }
-        }
-        rest = more;
-    }
-    false
-}
-
-/// Whether two neighbouring marks, or the last mark and the mark that closes them, don't start 900000 to 1100000
-/// microseconds apart.
-pub fn breaks_spacing_to(marks: &[Mark], close: Local) -> bool
-    ensures { result ≡ breaks_spacing_to marks.now close }
-{
-    let mut rest = marks;
-    'marks: while let [mark, more @ ..] = rest {
-        let next = match more {
-            [next, ..] => next.at,
-            [] => close,
-        };
-        if !is_a_second_on(mark.at, next) {
-            return true;
-        }
-        rest = more;
-    }
-    false
-}
-
-/// Whether a mark's width is in no class.
-pub fn breaks_width(marks: &[Mark]) -> bool
-    ensures { result ≡ breaks_width marks.now }
-{
-    marks.iter().any(|mark| mark.symbol == Symbol::Odd)
-}
-
 /// Whether there are not 60 marks.
-pub fn breaks_length(marks: &[Mark]) -> bool
-    ensures { result ≡ breaks_length marks.now }
+pub fn breaks_length<P: Places>(segment: &P) -> bool
+    ensures { (marks : List Mark) → P.stands_for segment.now marks → result ≡ breaks_length marks }
 {
-    marks.len() != 60
+    segment.count() != 60
 }

@@ -3,7 +3,7 @@ use std::test::Fail;
 use tick_units::{Local, Mark, Symbol};
 
 // A segment of these symbols whose marks start a second apart.
-fn segment(symbols: [Symbol; 6]) -> Result<[Mark; 6], Fail> {
+fn marks_of(symbols: [Symbol; 6]) -> Result<[Mark; 6], Fail> {
     let mut marks = [Mark {
         at: Local::new(0).ok_or("start")?,
         symbol: Symbol::Zero,
@@ -17,7 +17,7 @@ fn segment(symbols: [Symbol; 6]) -> Result<[Mark; 6], Fail> {
 
 #[test]
 fn each_plan_has_its_bits(rt: HostRuntime) -> Result<(), Fail> {
-    let marks = segment([
+    let marks = marks_of([
         Symbol::Zero,
         Symbol::One,
         Symbol::OnlyB,
@@ -25,32 +25,65 @@ fn each_plan_has_its_bits(rt: HostRuntime) -> Result<(), Fail> {
         Symbol::Long,
         Symbol::Odd,
     ])?;
+    let segment = Segment { marks: &marks };
     let only = [false, true, false, false, false, false, false];
     let a = [false, true, false, true, false, false, false];
     let b = [false, false, true, true, false, false, false];
     for (place, wanted) in only.iter().enumerate() {
-        assert_eq!(rt; is_set(Bit::Only, &marks, place), *wanted);
+        assert_eq!(rt; segment.is_set(Bit::Only, place), *wanted);
     }
     for (place, wanted) in a.iter().enumerate() {
-        assert_eq!(rt; is_set(Bit::A, &marks, place), *wanted);
+        assert_eq!(rt; segment.is_set(Bit::A, place), *wanted);
     }
     for (place, wanted) in b.iter().enumerate() {
-        assert_eq!(rt; is_set(Bit::B, &marks, place), *wanted);
+        assert_eq!(rt; segment.is_set(Bit::B, place), *wanted);
     }
-    assert_eq!(rt; value(Bit::Only, &marks, 1, &[1, 2, 4]), 1);
-    assert_eq!(rt; value(Bit::A, &marks, 1, &[1, 2, 4]), 5);
-    assert_eq!(rt; value(Bit::B, &marks, 1, &[80, 20, 10, 5]), 30);
-    assert_eq!(rt; value(Bit::B, &marks, 3, &[200, 100, 80, 40]), 200);
-    assert_eq!(rt; is_odd_over(Bit::A, &marks, 0, 2), true);
-    assert_eq!(rt; is_odd_over(Bit::A, &marks, 0, 3), false);
-    assert_eq!(rt; is_odd_over(Bit::A, &marks, 3, 60), true);
-    assert_eq!(rt; has_pattern(Bit::A, &marks, 1, &[true, false, true]), true);
-    assert_eq!(rt; has_pattern(Bit::B, &marks, 1, &[true, false, true]), false);
-    assert_eq!(rt; has_pattern(Bit::A, &marks, 2, &[false, true, false]), true);
-    assert_eq!(rt; has_pattern(Bit::A, &marks, 2, &[false, true, true]), false);
-    assert_eq!(rt; has_pattern(Bit::B, &marks, 5, &[false, false]), true);
-    assert_eq!(rt; has_pattern(Bit::Only, &marks, 0, &[]), true);
+    assert_eq!(rt; value(Bit::Only, &segment, 1, &[1, 2, 4]), 1);
+    assert_eq!(rt; value(Bit::A, &segment, 1, &[1, 2, 4]), 5);
+    assert_eq!(rt; value(Bit::B, &segment, 1, &[80, 20, 10, 5]), 30);
+    assert_eq!(rt; value(Bit::B, &segment, 3, &[200, 100, 80, 40]), 200);
+    assert_eq!(rt; is_odd_over(Bit::A, &segment, 0, 2), true);
+    assert_eq!(rt; is_odd_over(Bit::A, &segment, 0, 3), false);
+    assert_eq!(rt; is_odd_over(Bit::A, &segment, 3, 60), true);
+    assert_eq!(rt;
+        has_pattern(Bit::A, &segment, 1, &[true, false, true]),
+        true
+    );
+    assert_eq!(rt;
+        has_pattern(Bit::B, &segment, 1, &[true, false, true]),
+        false
+    );
+    assert_eq!(rt;
+        has_pattern(Bit::A, &segment, 2, &[false, true, false]),
+        true
+    );
+    assert_eq!(rt;
+        has_pattern(Bit::A, &segment, 2, &[false, true, true]),
+        false
+    );
+    assert_eq!(rt; has_pattern(Bit::B, &segment, 5, &[false, false]), true);
+    assert_eq!(rt; has_pattern(Bit::Only, &segment, 0, &[]), true);
     Ok(())
+}
+
+// Marks that lie in a slice, and the same marks added one by one.
+fn spacing_of(marks: &[Mark], close: Local) -> [bool; 4] {
+    let segment = Segment { marks };
+    let words = added(marks);
+    [
+        segment.breaks_spacing(),
+        words.breaks_spacing(),
+        segment.breaks_spacing_to(close),
+        words.breaks_spacing_to(close),
+    ]
+}
+
+fn added(marks: &[Mark]) -> MarkWords {
+    let mut words = MarkWords::new();
+    for mark in marks {
+        words.add(*mark);
+    }
+    words
 }
 
 #[test]
@@ -63,28 +96,40 @@ fn marks_are_spaced(rt: HostRuntime) -> Result<(), Fail> {
         (0, true),
     ];
     for (apart, broken) in rows {
-        let mut marks = segment([Symbol::One; 6])?;
+        let mut marks = marks_of([Symbol::One; 6])?;
         marks[5].at = Local::new(4_000_000 + apart).ok_or("start")?;
-        assert_eq!(rt; breaks_spacing(&marks), broken);
-        assert_eq!(rt; breaks_spacing(&marks[..5]), false);
-        assert_eq!(rt; breaks_spacing_to(&marks[..5], marks[5].at), broken);
+        let close = Local::new(5_000_000 + apart).ok_or("close")?;
         assert_eq!(rt;
-            breaks_spacing_to(&marks, Local::new(5_000_000 + apart).ok_or("close")?),
+            spacing_of(&marks[..5], marks[5].at),
+            [false, false, broken, broken]
+        );
+        assert_eq!(rt; spacing_of(&marks, close), [broken; 4]);
+    }
+    let close = Local::new(0).ok_or("close")?;
+    assert_eq!(rt; spacing_of(&[], close), [false; 4]);
+    Ok(())
+}
+
+#[test]
+fn marks_have_widths_and_a_number(rt: HostRuntime) -> Result<(), Fail> {
+    let mut marks = marks_of([Symbol::Long; 6])?;
+    assert_eq!(rt; added(&marks).breaks_width(), false);
+    assert_eq!(rt; Segment { marks: &marks }.breaks_width(), false);
+    marks[3].symbol = Symbol::Odd;
+    assert_eq!(rt; added(&marks).breaks_width(), true);
+    assert_eq!(rt; Segment { marks: &marks }.breaks_width(), true);
+    for (count, broken) in [(0, true), (59, true), (60, false), (61, true), (70, true)] {
+        let many = [marks[0]; 70];
+        assert_eq!(rt;
+            breaks_length(&Segment {
+                marks: &many[..count]
+            }),
             broken
         );
+        assert_eq!(rt; breaks_length(&added(&many[..count])), broken);
     }
-    assert_eq!(rt; breaks_spacing(&[]), false);
-    assert_eq!(rt;
-        breaks_spacing_to(&[], Local::new(0).ok_or("close")?),
-        false
-    );
-    assert_eq!(rt; breaks_width(&segment([Symbol::Both; 6])?), false);
-    let mut marks = segment([Symbol::Long; 6])?;
-    marks[3].symbol = Symbol::Odd;
-    assert_eq!(rt; breaks_width(&marks), true);
-    assert_eq!(rt; breaks_length(&marks), true);
-    assert_eq!(rt; breaks_length(&[marks[0]; 60]), false);
-    assert_eq!(rt; breaks_length(&[marks[0]; 61]), true);
+    assert_eq!(rt; added(&marks).last(), Some(marks[5]));
+    assert_eq!(rt; added(&[]).last(), None);
     Ok(())
 }
 
@@ -120,4 +165,72 @@ fn a_number_has_two_digits(rt: HostRuntime) {
     assert_eq!(rt; is_out_of(1, 366, 6, 366), false);
     assert_eq!(rt; is_out_of(1, 365, 6, 366), true);
     assert_eq!(rt; is_out_of(1, 366, 10, 360), true);
+}
+
+// The symbols in turn, each row of seven places beginning with the next one.
+fn symbol_at(place: usize) -> Symbol {
+    match (place / 7 + place % 7) % 6 {
+        0 => Symbol::Zero,
+        1 => Symbol::One,
+        2 => Symbol::OnlyB,
+        3 => Symbol::Both,
+        4 => Symbol::Long,
+        _ => Symbol::Odd,
+    }
+}
+
+fn seventy() -> Result<[Mark; 70], Fail> {
+    let mut marks = [Mark {
+        at: Local::new(0).ok_or("start")?,
+        symbol: Symbol::Zero,
+    }; 70];
+    for (place, mark) in marks.iter_mut().enumerate() {
+        mark.symbol = symbol_at(place);
+    }
+    Ok(marks)
+}
+
+// Whether both forms answer alike on each of the places that are kept.
+fn have_the_same_places(segment: &Segment<'_>, words: &MarkWords) -> bool {
+    for place in 0..61 {
+        let alike = segment.is_set(Bit::Only, place) == words.is_set(Bit::Only, place)
+            && segment.is_set(Bit::A, place) == words.is_set(Bit::A, place)
+            && segment.is_set(Bit::B, place) == words.is_set(Bit::B, place)
+            && segment.is_long(place) == words.is_long(place);
+        if !alike {
+            return false;
+        }
+    }
+    segment.count() == words.count() && segment.has_long_behind() == words.has_long_behind()
+}
+
+#[test]
+fn words_keep_the_places_of_a_slice(rt: HostRuntime) -> Result<(), Fail> {
+    let marks = seventy()?;
+    for count in 0..71 {
+        let segment = Segment {
+            marks: &marks[..count],
+        };
+        assert!(rt;
+            have_the_same_places(&segment, &added(&marks[..count])),
+            "of {count}"
+        );
+    }
+    Ok(())
+}
+
+// A Long mark behind the 61st is remembered, and one before it isn't taken for it.
+#[test]
+fn a_long_mark_behind_is_remembered(rt: HostRuntime) -> Result<(), Fail> {
+    for (place, wanted) in [(60, false), (61, true), (62, true), (69, true)] {
+        let mut marks = [Mark {
+            at: Local::new(0).ok_or("start")?,
+            symbol: Symbol::Zero,
+        }; 70];
+        marks[place].symbol = Symbol::Long;
+        assert_eq!(rt; added(&marks).has_long_behind(), wanted);
+        assert_eq!(rt; Segment { marks: &marks }.has_long_behind(), wanted);
+        assert_eq!(rt; added(&marks[..61]).has_long_behind(), false);
+    }
+    Ok(())
 }

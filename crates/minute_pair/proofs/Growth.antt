@@ -7,7 +7,7 @@ use Rattle.tick_units.specs.Segments.{Segment, is_boundary, cut, segments_of}
 use Rattle.tick_units.specs.declared.marks.Mark.{Mark}
 use Rattle.tick_units.specs.declared.marks.Plan.{Plan}
 use Rattle.minute_pair.proofs.Pieces.{cut_boundary, cut_goes_on, segments_close, segments_open, segments_same}
-use Rattle.minute_pair.proofs.HeardLaws.{last_push}
+use Rattle.frame_rules.proofs.AddingLaws.{last_push}
 
 -- the pieces of marks, of which there is a last one
 record Ends (plan : Plan) (marks : List Mark) : Type 0 where

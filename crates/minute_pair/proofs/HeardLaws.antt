@@ -3,69 +3,56 @@ use Rattle.std.proofs.Common.{◌≡◌, Bool, true, false, ltb, Option, Some, N
 use Rattle.std.specs.List.{last_or}
 use Rattle.std.proofs.lemmas.Bool.{lt-ltb, ltb-false}
 use Rattle.std.proofs.lemmas.List.{length-append}
+use Rattle.frame_rules.proofs.AddingLaws.{last_push}
 use Rattle.tick_units.specs.Segments.{is_boundary, cut, segments_of}
 use Rattle.tick_units.specs.declared.marks.Mark.{Mark}
 use Rattle.tick_units.specs.declared.marks.Plan.{Plan}
 use Rattle.minute_pair.specs.declared.keeper.SegmentKeeper.{SegmentKeeper}
-use Rattle.minute_pair.specs.Keeping.{Heard, added, begun}
+use Rattle.minute_pair.specs.Keeping.{Heard}
+use Rattle.minute_pair.specs.Plans.{HasRead}
 use Rattle.minute_pair.proofs.Pieces.{cut_boundary, cut_goes_on, segments_close, segments_open, segments_same}
-use Rattle.minute_pair.proofs.Flags.{keeps_added, keeps_begun}
 
-pub last_push : {A : Type 0} (before : Option A) (items : List A) (item : A) → last_or before (items ++ item ∷ []) ≡ Some item
-last_push before [] item = refl
-last_push before (x ∷ xs) item = last_push (Some x) xs item
+-- whether the next mark begins a minute, by what the code tests: the plan and the last mark of the piece
+pub boundary_is : (k : SegmentKeeper) (plan : Plan) (marks : List Mark) (mark : Mark) (p : Plan) (before : Option Mark) (is_it : Bool) → (h : Heard k plan marks) → p ≡ plan → before ≡ last_or None h.current → is_it ≡ is_boundary p before mark → is_boundary plan (last_or None marks) mark ≡ is_it
+boundary_is k plan marks mark p before is_it h plan_is last e = sym (e ∙ ap (λ (q : Plan). is_boundary q before mark) plan_is ∙ ap (λ (o : Option Mark). is_boundary plan o mark) (last ∙ h.ends))
 
--- the last mark that is kept is that of the piece
-pub last_is : (k : SegmentKeeper) (plan : Plan) (marks : List Mark) → (h : Heard k plan marks) → k.last ≡ last_or None h.current
-last_is k plan marks h = h.last ∙ sym h.ends
-
-abbrev boundary_of : SegmentKeeper → Mark → Bool
-boundary_of k mark = is_boundary k.plan k.last mark
-
-boundary_is : (k : SegmentKeeper) (plan : Plan) (marks : List Mark) (mark : Mark) → Heard k plan marks → boundary_of k mark ≡ is_boundary plan (last_or None marks) mark
-boundary_is k plan marks mark h = ap (λ (p : Plan). is_boundary p k.last mark) h.plan_is ∙ ap (λ (o : Option Mark). is_boundary plan o mark) h.last
-
-pub heard_added : (k : SegmentKeeper) (plan : Plan) (mark : Mark) (marks : List Mark) → boundary_of k mark ≡ false → Heard k plan marks → Heard (added k mark) plan (marks ++ mark ∷ [])
-heard_added k plan mark marks b h = record {
-  plan_is = h.plan_is;
-  last = sym (last_push None marks mark);
+pub heard_added : (k now : SegmentKeeper) (plan : Plan) (mark : Mark) (marks : List Mark) → is_boundary plan (last_or None marks) mark ≡ false → (h : Heard k plan marks) → HasRead now.frame plan (h.current ++ mark ∷ []) → now.is_open ≡ k.is_open → Heard now plan (marks ++ mark ∷ [])
+heard_added k now plan mark marks b h read same = record {
   done = h.done;
   current = h.current ++ mark ∷ [];
-  pieces = cut_goes_on plan marks mark h.done h.current (sym (boundary_is k plan marks mark h) ∙ b) h.pieces;
+  pieces = cut_goes_on plan marks mark h.done h.current b h.pieces;
   ends = last_push None h.current mark ∙ sym (last_push None marks mark);
-  opened = h.opened;
-  keeps = keeps_added k mark h.current h.keeps (last_is k plan marks h);
+  opened = same ∙ h.opened;
+  read = read;
 }
 
-pub heard_begun : (k : SegmentKeeper) (plan : Plan) (mark : Mark) (marks : List Mark) → boundary_of k mark ≡ true → Heard k plan marks → Heard (begun k mark) plan (marks ++ mark ∷ [])
-heard_begun k plan mark marks b h = record {
-  plan_is = h.plan_is;
-  last = sym (last_push None marks mark);
+pub heard_begun : (k now : SegmentKeeper) (plan : Plan) (mark : Mark) (marks : List Mark) → is_boundary plan (last_or None marks) mark ≡ true → Heard k plan marks → HasRead now.frame plan (mark ∷ []) → now.is_open ≡ true → Heard now plan (marks ++ mark ∷ [])
+heard_begun k now plan mark marks b h read opens = record {
   done = h.done ++ h.current ∷ [];
   current = mark ∷ [];
-  pieces = cut_boundary plan None marks mark (sym (boundary_is k plan marks mark h) ∙ b) ∙ ap (λ ps. ps ++ (mark ∷ []) ∷ []) h.pieces;
+  pieces = cut_boundary plan None marks mark b ∙ ap (λ ps. ps ++ (mark ∷ []) ∷ []) h.pieces;
   ends = sym (last_push None marks mark);
-  opened = sym (lt-ltb 0 (length (h.done ++ h.current ∷ [])) (omega (arith, length-append h.done (h.current ∷ []))));
-  keeps = keeps_begun k mark;
+  opened = opens ∙ sym (lt-ltb 0 (length (h.done ++ h.current ∷ [])) (omega (arith, length-append h.done (h.current ∷ []))));
+  read = read;
 }
 
-pub same_added : (k : SegmentKeeper) (plan : Plan) (mark : Mark) (marks : List Mark) → boundary_of k mark ≡ false → Heard k plan marks → segments_of plan (marks ++ mark ∷ []) ≡ segments_of plan marks
-same_added k plan mark marks b h = segments_same plan marks mark h.done h.current (sym (boundary_is k plan marks mark h) ∙ b) h.pieces h.ends
+pub same_added : (k : SegmentKeeper) (plan : Plan) (mark : Mark) (marks : List Mark) → is_boundary plan (last_or None marks) mark ≡ false → Heard k plan marks → segments_of plan (marks ++ mark ∷ []) ≡ segments_of plan marks
+same_added k plan mark marks b h = segments_same plan marks mark h.done h.current b h.pieces h.ends
 
 none_done : (done : List (List Mark)) → false ≡ ltb 0 (length done) → done ≡ []
 none_done [] e = refl
 none_done (d ∷ ds) e = let none = ltb-false 0 (length (d ∷ ds)) (sym e) in absurd (omega arith)
 
-pub same_opened : (k : SegmentKeeper) (plan : Plan) (mark : Mark) (marks : List Mark) → boundary_of k mark ≡ true → k.is_open ≡ false → Heard k plan marks → segments_of plan (marks ++ mark ∷ []) ≡ segments_of plan marks
+pub same_opened : (k : SegmentKeeper) (plan : Plan) (mark : Mark) (marks : List Mark) → is_boundary plan (last_or None marks) mark ≡ true → k.is_open ≡ false → Heard k plan marks → segments_of plan (marks ++ mark ∷ []) ≡ segments_of plan marks
 same_opened k plan mark marks b shut h =
     let none = none_done h.done (sym shut ∙ h.opened) in
-    segments_open plan marks mark h.current (sym (boundary_is k plan marks mark h) ∙ b) (h.pieces ∙ ap (λ ps. ps ++ h.current ∷ []) none)
+    segments_open plan marks mark h.current b (h.pieces ∙ ap (λ ps. ps ++ h.current ∷ []) none)
 
 closes_after : (plan : Plan) (marks : List Mark) (mark : Mark) (done : List (List Mark)) (current : List Mark) → is_boundary plan (last_or None marks) mark ≡ true → cut plan None marks ≡ done ++ current ∷ [] → true ≡ ltb 0 (length done) →
     segments_of plan (marks ++ mark ∷ []) ≡ segments_of plan marks ++ record { marks = current; close = mark.at } ∷ []
 closes_after plan marks mark [] current b pieces some = cc
 closes_after plan marks mark (piece ∷ done) current b pieces some = segments_close plan marks mark piece done current b pieces
 
-pub segments_closed : (k : SegmentKeeper) (plan : Plan) (mark : Mark) (marks : List Mark) → boundary_of k mark ≡ true → k.is_open ≡ true → (h : Heard k plan marks) →
+pub segments_closed : (k : SegmentKeeper) (plan : Plan) (mark : Mark) (marks : List Mark) → is_boundary plan (last_or None marks) mark ≡ true → k.is_open ≡ true → (h : Heard k plan marks) →
     segments_of plan (marks ++ mark ∷ []) ≡ segments_of plan marks ++ record { marks = h.current; close = mark.at } ∷ []
-segments_closed k plan mark marks b is_open h = closes_after plan marks mark h.done h.current (sym (boundary_is k plan marks mark h) ∙ b) h.pieces (sym is_open ∙ h.opened)
+segments_closed k plan mark marks b is_open h = closes_after plan marks mark h.done h.current b h.pieces (sym is_open ∙ h.opened)

@@ -12,7 +12,7 @@ use Rattle.tick_units.specs.declared.verdicts.Kind.{Kind}
 use Rattle.tick_units.specs.declared.verdicts.Kind.TheVariants.{Verdict, Differs}
 use Rattle.minute_pair.specs.Answers.{judged, has_leap_second, is_apart, apart_of, agreed_leap, kind_of_both, kind_of_valid, kind_behind, kind_alone, kind_after, answer_after, answers_after, answers}
 use Rattle.minute_pair.specs.Pairing.{before_by_judged, before_of, before_of_closed, both_by, valid_by, judged_kind, answer_by}
-use Rattle.minute_pair.proofs.HeardLaws.{last_push}
+use Rattle.frame_rules.proofs.AddingLaws.{last_push}
 use Rattle.minute_pair.specs.declared.answers.Before.TheVariants.{Nothing}
 use Rattle.minute_pair.specs.declared.keeper.Closed.{Closed}
 

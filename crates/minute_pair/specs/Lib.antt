@@ -1,4 +1,5 @@
 pub mod Answers
 pub mod Keeping
 pub mod Pairing
+pub mod Plans
 pub mod Years

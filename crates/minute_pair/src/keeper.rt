@@ -1,14 +1,13 @@
-ghost use Rattle.std.specs.Prelude.{◌≡◌, ◌+◌, ◌<◌, ◌^◌, ◌++◌, ◌∷◌, [], List, MatchOption, IfOk, IfSome};
+ghost use Rattle.std.specs.Prelude.{◌≡◌, ◌+◌, ◌<◌, ◌^◌, true, ◌++◌, ◌∷◌, [], List, MatchOption, IfOk, IfSome};
 ghost use Rattle.tick_units.specs.Marks.{is_between};
 ghost use Rattle.tick_units.specs.Segments.{is_boundary, segments_of};
 ghost use Rattle.tick_units.specs.declared.marks.Mark.{Mark};
 ghost use Rattle.tick_units.specs.declared.marks.Plan.{Plan};
-ghost use Rattle.minute_pair.specs.Answers.{judged};
+ghost use Rattle.minute_pair.specs.Plans.{HasRead};
 ghost use Rattle.minute_pair.specs.Years.{SaysYears};
-ghost use Rattle.minute_pair.specs.Keeping.{is_near, closes_in_time, breaks_spacing, has_leap, Heard, Closes, begun, added};
+ghost use Rattle.minute_pair.specs.Keeping.{Heard, Closes};
 
-use crate::mark_list::MarkList;
-use crate::plans::read;
+use crate::plans::Frame;
 use tick_units::{Broken, Coded, Local, Mark, Plan, Symbol};
 
 // A segment that a mark closed: that mark's start, what the segment says or the least rule that it breaks, and whether it
@@ -20,23 +19,16 @@ pub struct Closed {
     pub has_leap: bool,
 }
 
-// Cuts marks into segments. It keeps the first 61 marks of the piece that it is in, which are more than a minute has,
-// its last mark, and whether its spacing or a width is broken so far.
+// Cuts marks into segments. The frame of its plan reads the piece that it is in.
 #[derive(Drop)]
 pub struct SegmentKeeper {
-    plan: Plan,
-    kept: MarkList,
-    last: Option<Mark>,
+    frame: Frame,
     // Whether a boundary begins the piece.
     is_open: bool,
-    spacing_broken: bool,
-    width_broken: bool,
 }
 
-// A minute has 59 or 60 marks: a piece with more is too long, whatever they are.
-const MOST: usize = 61;
-
 // Whether a moment comes from `least` to `most` microseconds after another.
+#[inline]
 fn follows(before: Local, moment: Local, least: u64, most: u64) -> bool
     requires least { least < 2 ^ 32 }
     requires most { most < 2 ^ 32 }
@@ -47,27 +39,8 @@ fn follows(before: Local, moment: Local, least: u64, most: u64) -> bool
     start + least <= at && at <= start + most
 }
 
-// Whether a moment comes a second after the last mark, where there is one.
-fn is_near(last: &Option<Mark>, moment: Local) -> bool
-    ensures { result ≡ is_near last.now moment }
-{
-    match last {
-        Some(mark) => follows(mark.at, moment, 900_000, 1_100_000),
-        None => true,
-    }
-}
-
-// Whether the mark that closes a segment comes in time.
-fn closes_in_time(plan: Plan, last: &Option<Mark>, close: Local) -> bool
-    ensures { result ≡ closes_in_time plan last.now close }
-{
-    match plan {
-        Plan::Dcf => true,
-        Plan::Msf | Plan::Wwvb => is_near(last, close),
-    }
-}
-
 // Whether a mark begins a minute, by the mark just before it.
+#[inline]
 fn is_boundary(plan: Plan, before: &Option<Mark>, mark: &Mark) -> bool
     ensures { result ≡ is_boundary plan before.now mark.now }
 {
@@ -86,70 +59,20 @@ impl SegmentKeeper {
         ensures { Heard result plan [] }
     {
         SegmentKeeper {
-            plan,
-            kept: MarkList::new(),
-            last: None,
+            frame: Frame::new(plan),
             is_open: false,
-            spacing_broken: false,
-            width_broken: false,
-        }
-    }
-
-    // Whether the spacing of the piece is broken, up to the mark that closes it where its plan asks for that.
-    fn breaks_spacing(&self, close: Local) -> bool
-        ensures { result ≡ breaks_spacing self.now close }
-    {
-        self.spacing_broken || !closes_in_time(self.plan, &self.last, close)
-    }
-
-    // Whether the piece has the 60th mark of a minute with a leap second.
-    fn has_leap(&self) -> bool
-        ensures { result ≡ has_leap self.now }
-    {
-        match self.plan {
-            Plan::Dcf => self.kept.len() == 60,
-            Plan::Msf | Plan::Wwvb => false,
-        }
-    }
-
-    // What the piece says, or its least broken rule.
-    fn judge(&self, close: Local) -> Result<Coded, Broken>
-        ensures judged { (plan : Plan) (marks : List Mark) → (h : Heard self.now plan marks) → result ≡ judged plan (record { marks = h.current; close = close }) }
-        ensures years { IfOk result (λ coded. SaysYears coded) }
-    {
-        if self.breaks_spacing(close) {
-            Err(Broken { rule: 1 })
-        } else if self.width_broken {
-            Err(Broken { rule: 2 })
-        } else if self.kept.len() == MOST {
-            Err(Broken { rule: 3 })
-        } else {
-            read(self.plan, self.kept.as_slice(), close)
         }
     }
 
     // Begins a segment.
-    fn begin(&mut self, mark: &Mark)
-        ensures { self.new ≡ begun self.old mark.now }
+    fn begin(&mut self, mark: Mark)
+        ensures frame { (plan : Plan) (marks : List Mark) → HasRead self.old.frame plan marks → HasRead self.new.frame plan (mark ∷ []) }
+        ensures opened { self.new.is_open ≡ true }
     {
-        self.last = Some(*mark);
-        self.kept.restart(*mark);
+        let mut frame = Frame::new(self.frame.plan());
+        frame.add(mark);
+        self.frame = frame;
         self.is_open = true;
-        self.spacing_broken = false;
-        self.width_broken = mark.symbol == Symbol::Odd;
-    }
-
-    // Goes on with the piece.
-    fn add(&mut self, mark: &Mark)
-        ensures { self.new ≡ added self.old mark.now }
-    {
-        let near = is_near(&self.last, mark.at);
-        self.last = Some(*mark);
-        self.spacing_broken = self.spacing_broken || !near;
-        self.width_broken = self.width_broken || mark.symbol == Symbol::Odd;
-        if self.kept.len() < MOST {
-            self.kept.push(*mark);
-        }
     }
 
     // Hears the next mark: the segment that it closes, if it closes one.
@@ -160,21 +83,22 @@ impl SegmentKeeper {
             (λ closed. Closes plan marks mark closed) }
         ensures years { IfSome result (λ closed. IfOk closed.judged (λ coded. SaysYears coded)) }
     {
-        if !is_boundary(self.plan, &self.last, &mark) {
-            self.add(&mark);
+        let last = self.frame.last();
+        if !is_boundary(self.frame.plan(), &last, &mark) {
+            self.frame.add(mark);
             return None;
         }
         if !self.is_open {
-            self.begin(&mark);
+            self.begin(mark);
             return None;
         }
         let close = mark.at;
         let closed = Closed {
             close,
-            judged: self.judge(close),
-            has_leap: self.has_leap(),
+            judged: self.frame.close(close),
+            has_leap: self.frame.has_leap(),
         };
-        self.begin(&mark);
+        self.begin(mark);
         Some(closed)
     }
 }

@@ -4,7 +4,6 @@
 
 mod answers;
 mod keeper;
-mod mark_list;
 mod pairing;
 mod plans;
 

@@ -1,30 +1,30 @@
 //! What the places of a DCF77 segment say.
-ghost use Rattle.std.specs.Prelude.{◌≡◌, ◌≤◌};
+ghost use Rattle.std.specs.Prelude.{◌≡◌, ◌≤◌, List};
+ghost use Rattle.tick_units.specs.declared.marks.Mark.{Mark};
 ghost use Rattle.plan_dcf.specs.Fields.{is_summer, is_standard, announces_leap, said, hours_ahead};
 
 use civil_frame::{CivilTime, TimeOfDay};
-use frame_rules::{Bit, Number, is_set, value};
-use tick_units::Mark;
+use frame_rules::{Bit, Number, Places, value};
 
 // The weights of a digit of ones.
 const ONES: [u8; 4] = [1, 2, 4, 8];
 
-pub(crate) fn is_summer(segment: &[Mark]) -> bool
-    ensures { result ≡ is_summer segment.now }
+pub(crate) fn is_summer<P: Places>(segment: &P) -> bool
+    ensures { (marks : List Mark) → P.stands_for segment.now marks → result ≡ is_summer marks }
 {
-    is_set(Bit::Only, segment, 17)
+    segment.is_set(Bit::Only, 17)
 }
 
-pub(crate) fn is_standard(segment: &[Mark]) -> bool
-    ensures { result ≡ is_standard segment.now }
+pub(crate) fn is_standard<P: Places>(segment: &P) -> bool
+    ensures { (marks : List Mark) → P.stands_for segment.now marks → result ≡ is_standard marks }
 {
-    is_set(Bit::Only, segment, 18)
+    segment.is_set(Bit::Only, 18)
 }
 
-pub(crate) fn announces_leap(segment: &[Mark]) -> bool
-    ensures { result ≡ announces_leap segment.now }
+pub(crate) fn announces_leap<P: Places>(segment: &P) -> bool
+    ensures { (marks : List Mark) → P.stands_for segment.now marks → result ≡ announces_leap marks }
 {
-    is_set(Bit::Only, segment, 19)
+    segment.is_set(Bit::Only, 19)
 }
 
 // How far a clock of the zone is ahead of UTC, in hours.
@@ -37,8 +37,8 @@ pub(crate) fn hours_ahead(summer: bool) -> u16
 
 // The date and the time.
 #[tactic(auto, unfolding(crate::specs::Fields::said))]
-pub(crate) fn said(segment: &[Mark]) -> CivilTime
-    ensures value { result ≡ said segment.now }
+pub(crate) fn said<P: Places>(segment: &P) -> CivilTime
+    ensures value { (marks : List Mark) → P.stands_for segment.now marks → result ≡ said marks }
     ensures ahead { result.hours_ahead ≤ 2 }
 {
     CivilTime {

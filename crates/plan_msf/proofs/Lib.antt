@@ -1,4 +1,3 @@
-pub mod FirstLaws
 pub mod ReadBack
 pub mod RoundTrip
 pub mod Validity

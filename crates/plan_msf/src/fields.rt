@@ -1,19 +1,19 @@
 //! What the places of an MSF segment say.
-ghost use Rattle.std.specs.Prelude.{◌≡◌, ◌≤◌};
+ghost use Rattle.std.specs.Prelude.{◌≡◌, ◌≤◌, List};
+ghost use Rattle.tick_units.specs.declared.marks.Mark.{Mark};
 ghost use Rattle.plan_msf.specs.Fields.{is_summer, hours_ahead, said};
 
 use civil_frame::{CivilTime, TimeOfDay};
-use frame_rules::{Bit, Number, is_set, value};
-use tick_units::Mark;
+use frame_rules::{Bit, Number, Places, value};
 
 // The weights of a digit of ones.
 const ONES: [u8; 4] = [8, 4, 2, 1];
 
 // Whether summer time is in force.
-pub(crate) fn is_summer(segment: &[Mark]) -> bool
-    ensures { result ≡ is_summer segment.now }
+pub(crate) fn is_summer<P: Places>(segment: &P) -> bool
+    ensures { (marks : List Mark) → P.stands_for segment.now marks → result ≡ is_summer marks }
 {
-    is_set(Bit::B, segment, 58)
+    segment.is_set(Bit::B, 58)
 }
 
 // How far a clock of the zone is ahead of UTC, in hours.
@@ -26,8 +26,8 @@ pub(crate) fn hours_ahead(summer: bool) -> u16
 
 // The date and the time.
 #[tactic(auto, unfolding(crate::specs::Fields::said))]
-pub(crate) fn said(segment: &[Mark]) -> CivilTime
-    ensures value { result ≡ said segment.now }
+pub(crate) fn said<P: Places>(segment: &P) -> CivilTime
+    ensures value { (marks : List Mark) → P.stands_for segment.now marks → result ≡ said marks }
     ensures ahead { result.hours_ahead ≤ 1 }
 {
     CivilTime {

@@ -2,19 +2,20 @@ ghost use Rattle.std.specs.Prelude.{◌≡◌};
 ghost use Rattle.plan_msf.specs.Spelling.{IsSpellable};
 
 use super::*;
+use crate::frame_tests::read_both;
 use std::process::Abort;
 use std::test::Fail;
 use tick_units::{Broken, Coded, Local, Mark, Symbol};
 
 // The places whose bit A is 1, and those whose bit B is.
 #[derive(Clone, Copy)]
-struct Ones {
-    a: &'static [usize],
-    b: &'static [usize],
+pub struct Ones {
+    pub a: &'static [usize],
+    pub b: &'static [usize],
 }
 
 // From Python's datetime. Thursday 2026-01-01, 12:00 GMT.
-const NEW_YEAR: Ones = Ones {
+pub const NEW_YEAR: Ones = Ones {
     a: &[19, 22, 23, 29, 35, 36, 40, 43, 53, 54, 55, 56, 57, 58],
     b: &[55, 57],
 };
@@ -61,7 +62,7 @@ const LAST: Ones = Ones {
 
 const NONE: Ones = Ones { a: &[], b: &[] };
 
-fn symbol(a: bool, b: bool) -> Symbol {
+pub fn symbol(a: bool, b: bool) -> Symbol {
     match (a, b) {
         (false, false) => Symbol::Zero,
         (true, false) => Symbol::One,
@@ -87,8 +88,9 @@ fn frame(ones: Ones, changed: Ones) -> Result<[Mark; 61], Fail> {
     Ok(marks)
 }
 
+// What a segment comes to, read from a slice and mark by mark.
 fn read_closed(segment: &[Mark]) -> Result<Result<Coded, Broken>, Fail> {
-    Ok(read(segment, Local::new(62_000_000).ok_or("close")?))
+    read_both(segment, Local::new(62_000_000).ok_or("close")?)
 }
 
 fn minute(minute: u64, summer: bool) -> Result<Coded, Broken> {
@@ -195,9 +197,9 @@ fn the_least_broken_rule_is_named(rt: HostRuntime) -> Result<(), Fail> {
     let mut marks = frame(NEW_YEAR, Ones { a: &[52], b: &[] })?;
     assert_eq!(rt; read_closed(&marks[..59])?, broken(1));
     let close = Local::new(61_000_000).ok_or("close")?;
-    assert_eq!(rt; read(&marks[..59], close), broken(3));
+    assert_eq!(rt; read_both(&marks[..59], close)?, broken(3));
     marks[3].symbol = Symbol::Odd;
-    assert_eq!(rt; read(&marks[..59], close), broken(2));
+    assert_eq!(rt; read_both(&marks[..59], close)?, broken(2));
     assert_eq!(rt; read_closed(&marks[..60])?, broken(2));
     Ok(())
 }
@@ -214,11 +216,11 @@ fn marks_are_counted_and_spaced(rt: HostRuntime) -> Result<(), Fail> {
     ];
     for (close, wanted) in rows {
         let close = Local::new(close).ok_or("close")?;
-        assert_eq!(rt; read(&marks[..60], close), wanted);
+        assert_eq!(rt; read_both(&marks[..60], close)?, wanted);
     }
     let close = Local::new(63_000_000).ok_or("close")?;
-    assert_eq!(rt; read(&marks, close), broken(3));
-    assert_eq!(rt; read(&[], close), broken(3));
+    assert_eq!(rt; read_both(&marks, close)?, broken(3));
+    assert_eq!(rt; read_both(&[], close)?, broken(3));
     marks[1].at = Local::new(3_100_001).ok_or("start")?;
     assert_eq!(rt; read_closed(&marks[..60])?, broken(1));
     Ok(())

@@ -1,4 +1,4 @@
-pub mod FirstLaws
+pub mod MarkerLaws
 pub mod ReadBack
 pub mod RoundTrip
 pub mod Seconds

@@ -5,6 +5,7 @@ use Rattle.frame_rules.proofs.FirstLaws.{AreUnbroken-from_none, first_broken-non
 use Rattle.frame_rules.specs.MarkRules.{breaks_spacing_to, breaks_width, breaks_length}
 use Rattle.civil_frame.specs.Ranges.{breaks_minute_range, breaks_hour_range, breaks_year_range}
 use Rattle.plan_wwvb.specs.Fields.{said}
+use Rattle.plan_wwvb.specs.declared.fields.OrdinalTime.{OrdinalTime}
 use Rattle.plan_wwvb.specs.Rules.{breaks_markers, breaks_reserved, breaks_dut_sign, breaks_day_of_year, breaks_leap_minute, names_minute, rules, first}
 
 pub record IsValid (marks : List Mark) (close : ℕ) : Type 0 where
@@ -42,7 +43,11 @@ pub first-valid : (marks : List Mark) (close : ℕ) → IsValid marks close → 
 unfolding first
 first-valid marks close h = first_broken-none (rules marks close) (h.spacing, (h.width, (h.length, (h.markers, (h.reserved, (h.dut_sign, (h.minute_range, (h.hour_range, (h.year_range, (h.day_of_year, (h.leap_minute, tt)))))))))))
 
+-- no broken rule on its numbers says that it is a minute of a day of a year
+pub names_minute-kept : (ordinal : OrdinalTime) → breaks_minute_range ordinal.time ≡ false → breaks_hour_range ordinal.time ≡ false → breaks_year_range ordinal.year ≡ false → breaks_day_of_year ordinal ≡ false → names_minute ordinal ≡ true
+unfolding names_minute
+names_minute-kept ordinal minute hour year day = rw (minute, hour, year, day) refl
+
 -- such a segment says a minute of a day of a year
 pub names_minute-valid : (marks : List Mark) (close : ℕ) → IsValid marks close → names_minute (said marks) ≡ true
-unfolding names_minute
-names_minute-valid marks close h = rw (h.minute_range, h.hour_range, h.year_range, h.day_of_year) refl
+names_minute-valid marks close h = names_minute-kept (said marks) h.minute_range h.hour_range h.year_range h.day_of_year

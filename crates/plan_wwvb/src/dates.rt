@@ -1,5 +1,6 @@
 //! The minute of UTC that a WWVB segment says, and the rule on its leap second.
-ghost use Rattle.std.specs.Prelude.{◌≡◌, ◌<◌, ◌≤◌, IsTrue, IfSome, Some, None, if◌then◌else◌};
+ghost use Rattle.std.specs.Prelude.{◌≡◌, ◌<◌, ◌≤◌, List, IsTrue, IfSome, Some, None, if◌then◌else◌};
+ghost use Rattle.tick_units.specs.declared.marks.Mark.{Mark};
 ghost use Rattle.civil_frame.specs.Seconds.{IsDated};
 ghost use Rattle.frame_rules.specs.Numbers.{number_of};
 ghost use Rattle.plan_wwvb.specs.Fields.{said, sent_start, coded};
@@ -9,7 +10,8 @@ use crate::fields::{OrdinalTime, announces_leap};
 use crate::rules::breaks_day_of_year;
 use civil_frame::breaks_year_range;
 use civil_minute::{begins_month, from_year_day, next_month_start};
-use tick_units::{Coded, Mark};
+use frame_rules::Places;
+use tick_units::Coded;
 
 const MINUTE: u64 = 60;
 
@@ -43,10 +45,10 @@ fn sent_start(ordinal: &OrdinalTime) -> Option<u64>
 }
 
 // A leap second is announced in the last minute of a month.
-pub(crate) fn breaks_leap_minute(segment: &[Mark], ordinal: &OrdinalTime) -> bool
-    requires read { ordinal.now ≡ said segment.now }
+pub(crate) fn breaks_leap_minute<P: Places>(segment: &P, ordinal: &OrdinalTime) -> bool
+    requires read { (marks : List Mark) → P.stands_for segment.now marks → ordinal.now ≡ said marks }
     requires year { number_of ordinal.now.year < 1000 }
-    ensures { result ≡ breaks_leap_minute segment.now }
+    ensures { (marks : List Mark) → P.stands_for segment.now marks → result ≡ breaks_leap_minute marks }
 {
     match sent_start(ordinal) {
         Some(second) => announces_leap(segment) && begins_month(second + MINUTE),
@@ -56,11 +58,11 @@ pub(crate) fn breaks_leap_minute(segment: &[Mark], ordinal: &OrdinalTime) -> boo
 
 // The minute of a segment that says one, and the leap second that it announces.
 #[tactic(auto, unfolding(crate::specs::Fields::coded))]
-pub(crate) fn coded(segment: &[Mark], ordinal: &OrdinalTime) -> Coded
-    requires read { ordinal.now ≡ said segment.now }
+pub(crate) fn coded<P: Places>(segment: &P, ordinal: &OrdinalTime) -> Coded
+    requires read { (marks : List Mark) → P.stands_for segment.now marks → ordinal.now ≡ said marks }
     requires year { number_of ordinal.now.year < 1000 }
     requires named { IsTrue (names_minute ordinal.now) }
-    ensures value { result ≡ coded segment.now }
+    ensures value { (marks : List Mark) → P.stands_for segment.now marks → result ≡ coded marks }
     ensures dated { IsDated 3155673660 6311433660 result }
 {
     match sent_start(ordinal) {

@@ -1,13 +1,11 @@
 //! What the places of a WWVB segment say.
-ghost use Rattle.std.specs.Prelude.{◌≡◌, ◌<◌, ◌≤◌};
-ghost use Rattle.tick_units.specs.Fields.{is_set};
-ghost use Rattle.tick_units.specs.Marks.{is_long};
+ghost use Rattle.std.specs.Prelude.{◌≡◌, ◌<◌, List};
+ghost use Rattle.tick_units.specs.declared.marks.Mark.{Mark};
 ghost use Rattle.frame_rules.specs.Numbers.{number_of};
 ghost use Rattle.plan_wwvb.specs.Fields.{announces_leap, said, day_of_year};
 
 use civil_frame::TimeOfDay;
-use frame_rules::{Bit, Number, is_set, value};
-use tick_units::{Mark, Symbol};
+use frame_rules::{Bit, Number, Places, value};
 
 // A minute as the places of a frame say it, by the day of the year.
 #[derive(Clone, Copy, Debug, PartialEq, Eq)]
@@ -32,27 +30,17 @@ impl OrdinalTime {
 // The weights of a digit of ones.
 const ONES: [u8; 4] = [8, 4, 2, 1];
 
-// Whether a place is Long. A place that the segment doesn't have isn't.
-pub(crate) fn is_long(segment: &[Mark], place: usize) -> bool
-    ensures { result ≡ is_set is_long segment.now place }
-{
-    match segment.get(place) {
-        Some(mark) => mark.symbol == Symbol::Long,
-        None => false,
-    }
-}
-
 // Whether a leap second is announced for the end of the month.
-pub(crate) fn announces_leap(segment: &[Mark]) -> bool
-    ensures { result ≡ announces_leap segment.now }
+pub(crate) fn announces_leap<P: Places>(segment: &P) -> bool
+    ensures { (marks : List Mark) → P.stands_for segment.now marks → result ≡ announces_leap marks }
 {
-    is_set(Bit::Only, segment, 56)
+    segment.is_set(Bit::Only, 56)
 }
 
 // The year, the day of the year and the time.
 #[tactic(auto, unfolding(crate::specs::Fields::said))]
-pub(crate) fn said(segment: &[Mark]) -> OrdinalTime
-    ensures value { result ≡ said segment.now }
+pub(crate) fn said<P: Places>(segment: &P) -> OrdinalTime
+    ensures value { (marks : List Mark) → P.stands_for segment.now marks → result ≡ said marks }
     ensures year { number_of result.year < 1000 }
 {
     OrdinalTime {

@@ -1,5 +1,6 @@
 //! What a segment comes to.
-ghost use Rattle.std.specs.Prelude.{◌≡◌, None, Some, IfOk, IfErr};
+ghost use Rattle.std.specs.Prelude.{◌≡◌, None, Some, IfOk, IfErr, List};
+ghost use Rattle.tick_units.specs.declared.marks.Mark.{Mark};
 ghost use Rattle.civil_frame.specs.Seconds.{IsDated};
 ghost use Rattle.plan_wwvb.specs.Fields.{coded};
 ghost use Rattle.plan_wwvb.specs.Rules.{first};
@@ -7,7 +8,21 @@ ghost use Rattle.plan_wwvb.specs.Rules.{first};
 use crate::dates::coded;
 use crate::fields::said;
 use crate::rules::first_broken_rule;
+use frame_rules::{Places, Segment};
 use tick_units::{Broken, Coded, Local, Mark};
+
+// What a segment comes to, however its marks are kept.
+pub(crate) fn judge<P: Places>(segment: &P, close: Local) -> Result<Coded, Broken>
+    ensures ok { (marks : List Mark) → P.stands_for segment.now marks → IfOk result (λ c. (first marks close ≡ None) × (c ≡ coded marks)) }
+    ensures err { (marks : List Mark) → P.stands_for segment.now marks → IfErr result (λ broken. first marks close ≡ Some broken.rule) }
+    ensures dated { IfOk result (λ c. IsDated 3155673660 6311433660 c) }
+{
+    let ordinal = said(segment);
+    match first_broken_rule(segment, close, &ordinal) {
+        Some(rule) => Err(Broken { rule }),
+        None => Ok(coded(segment, &ordinal)),
+    }
+}
 
 /// The minute that a segment says, which begins at the mark that closes it; or the least number of a rule that the
 /// segment breaks. `close` is the start of the closing mark.
@@ -18,9 +33,5 @@ pub fn read(segment: &[Mark], close: Local) -> Result<Coded, Broken>
     // The minute before it is one of the years 2000 to 2099.
     ensures dated { IfOk result (λ c. IsDated 3155673660 6311433660 c) }
 {
-    let ordinal = said(segment);
-    match first_broken_rule(segment, close, &ordinal) {
-        Some(rule) => Err(Broken { rule }),
-        None => Ok(coded(segment, &ordinal)),
-    }
+    judge(&Segment { marks: segment }, close)
 }

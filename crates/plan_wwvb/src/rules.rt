@@ -1,18 +1,21 @@
 //! The rules of WWVB, each a test of a whole segment that is true where the rule is broken.
-ghost use Rattle.std.specs.Prelude.{◌≡◌, ◌<◌};
+ghost use Rattle.std.specs.Prelude.{◌≡◌, ◌<◌, ◌&&◌, not, nat_lt, None, List, IsTrue};
+ghost use Rattle.std.specs.List.{list_all, list_any};
+ghost use Rattle.tick_units.specs.Fields.{is_one, is_set};
+ghost use Rattle.tick_units.specs.Marks.{is_long};
+ghost use Rattle.tick_units.specs.declared.marks.Mark.{Mark};
 ghost use Rattle.frame_rules.specs.Numbers.{number_of};
 ghost use Rattle.plan_wwvb.specs.Fields.{is_marker_place, said};
-ghost use Rattle.plan_wwvb.specs.Rules.{lacks_marker, has_stray_marker, breaks_markers, breaks_reserved, breaks_dut_sign, breaks_day_of_year, first};
+ghost use Rattle.plan_wwvb.specs.Rules.{lacks_marker, has_stray_marker, breaks_markers, breaks_reserved, breaks_dut_sign, breaks_day_of_year, names_minute, first};
 
 use crate::dates::breaks_leap_minute;
-use crate::fields::{OrdinalTime, is_long};
+use crate::fields::OrdinalTime;
 use civil_frame::breaks_year_range;
 use civil_minute::year_length;
 use frame_rules::{
-    Bit, Rule, breaks_length, breaks_spacing_to, breaks_width, first_broken, has_pattern,
-    is_out_of, is_set,
+    Bit, KEPT_PLACES, Places, Rule, breaks_length, first_broken, has_pattern, is_out_of,
 };
-use tick_units::{Local, Mark};
+use tick_units::Local;
 
 // The places that are markers.
 const MARKERS: [usize; 7] = [0, 9, 19, 29, 39, 49, 59];
@@ -25,11 +28,37 @@ const PLUS: [bool; 3] = [true, false, true];
 
 const MINUS: [bool; 3] = [false, true, false];
 
-// A marker place isn't Long.
-fn lacks_marker(segment: &[Mark]) -> bool
-    ensures { result ≡ lacks_marker segment.now }
+// One of these places isn't Long.
+fn lacks_long<P: Places>(segment: &P, places: &[usize]) -> bool
+    requires { IsTrue (list_all (λ place. nat_lt place 61) places.now) }
+    ensures { (marks : List Mark) → P.stands_for segment.now marks → result ≡ list_any (λ place. not (is_set is_long marks place)) places.now }
 {
-    MARKERS.iter().any(|place| !is_long(segment, *place))
+    for place in places {
+        if !segment.is_long(*place) {
+            return true;
+        }
+    }
+    false
+}
+
+// One of these places is 1.
+fn has_one<P: Places>(segment: &P, places: &[usize]) -> bool
+    requires { IsTrue (list_all (λ place. nat_lt place 61) places.now) }
+    ensures { (marks : List Mark) → P.stands_for segment.now marks → result ≡ list_any (is_set is_one marks) places.now }
+{
+    for place in places {
+        if segment.is_set(Bit::Only, *place) {
+            return true;
+        }
+    }
+    false
+}
+
+// A marker place isn't Long.
+fn lacks_marker<P: Places>(segment: &P) -> bool
+    ensures { (marks : List Mark) → P.stands_for segment.now marks → result ≡ lacks_marker marks }
+{
+    lacks_long(segment, &MARKERS)
 }
 
 fn is_marker_place(place: usize) -> bool
@@ -38,29 +67,42 @@ fn is_marker_place(place: usize) -> bool
     MARKERS.iter().any(|marker| *marker == place)
 }
 
-// Another place is Long.
-fn has_stray_marker(segment: &[Mark]) -> bool
-    ensures { result ≡ has_stray_marker segment.now }
+// This place is Long and is no marker's.
+fn strays<P: Places>(segment: &P, place: usize) -> bool
+    requires { place < 61 }
+    ensures { (marks : List Mark) → P.stands_for segment.now marks → result ≡ (is_set is_long marks place && not (is_marker_place place)) }
 {
-    (0..segment.len()).any(|place| is_long(segment, place) && !is_marker_place(place))
+    segment.is_long(place) && !is_marker_place(place)
 }
 
-fn breaks_markers(segment: &[Mark]) -> bool
-    ensures { result ≡ breaks_markers segment.now }
+// Another place is Long.
+fn has_stray_marker<P: Places>(segment: &P) -> bool
+    ensures { (marks : List Mark) → P.stands_for segment.now marks → result ≡ has_stray_marker marks }
+{
+    for place in 0..KEPT_PLACES {
+        if strays(segment, place) {
+            return true;
+        }
+    }
+    segment.has_long_behind()
+}
+
+fn breaks_markers<P: Places>(segment: &P) -> bool
+    ensures { (marks : List Mark) → P.stands_for segment.now marks → result ≡ breaks_markers marks }
 {
     lacks_marker(segment) || has_stray_marker(segment)
 }
 
 // A place that is always 0 is 1.
-fn breaks_reserved(segment: &[Mark]) -> bool
-    ensures { result ≡ breaks_reserved segment.now }
+fn breaks_reserved<P: Places>(segment: &P) -> bool
+    ensures { (marks : List Mark) → P.stands_for segment.now marks → result ≡ breaks_reserved marks }
 {
-    ZEROS.iter().any(|place| is_set(Bit::Only, segment, *place))
+    has_one(segment, &ZEROS)
 }
 
 // The sign of DUT1 is neither plus nor minus.
-fn breaks_dut_sign(segment: &[Mark]) -> bool
-    ensures { result ≡ breaks_dut_sign segment.now }
+fn breaks_dut_sign<P: Places>(segment: &P) -> bool
+    ensures { (marks : List Mark) → P.stands_for segment.now marks → result ≡ breaks_dut_sign marks }
 {
     !has_pattern(Bit::Only, segment, 36, &PLUS) && !has_pattern(Bit::Only, segment, 36, &MINUS)
 }
@@ -76,14 +118,19 @@ pub(crate) fn breaks_day_of_year(ordinal: &OrdinalTime) -> bool
 
 // The least number of a rule that the segment breaks.
 #[tactic(auto, unfolding(crate::specs::Rules::first))]
-pub(crate) fn first_broken_rule(segment: &[Mark], close: Local, ordinal: &OrdinalTime) -> Option<u8>
-    requires read { ordinal.now ≡ said segment.now }
+pub(crate) fn first_broken_rule<P: Places>(
+    segment: &P,
+    close: Local,
+    ordinal: &OrdinalTime,
+) -> Option<u8>
+    requires read { (marks : List Mark) → P.stands_for segment.now marks → ordinal.now ≡ said marks }
     requires year { number_of ordinal.now.year < 1000 }
-    ensures { result ≡ first segment.now close }
+    ensures first { (marks : List Mark) → P.stands_for segment.now marks → result ≡ first marks close }
+    ensures named { result ≡ None → IsTrue (names_minute ordinal.now) }
 {
     first_broken(&[
-        Rule::new(1, breaks_spacing_to(segment, close)),
-        Rule::new(2, breaks_width(segment)),
+        Rule::new(1, segment.breaks_spacing_to(close)),
+        Rule::new(2, segment.breaks_width()),
         Rule::new(3, breaks_length(segment)),
         Rule::new(50, breaks_markers(segment)),
         Rule::new(51, breaks_reserved(segment)),

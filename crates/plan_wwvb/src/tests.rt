@@ -2,12 +2,13 @@ ghost use Rattle.std.specs.Prelude.{◌≡◌, false};
 ghost use Rattle.plan_wwvb.specs.Spelling.{IsSpellable};
 
 use super::*;
+use crate::frame_tests::read_both;
 use std::process::Abort;
 use std::test::Fail;
 use tick_units::{Broken, Coded, Local, Mark, Symbol};
 
 // The places that are 1, from Python's datetime. Thursday 2026-01-01, 12:00, DUT1 above 0.
-const NEW_YEAR: [usize; 8] = [13, 17, 33, 36, 38, 47, 51, 52];
+pub const NEW_YEAR: [usize; 8] = [13, 17, 33, 36, 38, 47, 51, 52];
 
 // 2000-01-01 00:00 and 2099-12-31 23:59.
 const FIRST: [usize; 3] = [33, 36, 38];
@@ -36,7 +37,7 @@ const LAST_MINUTE: [usize; 18] = [
 
 const JUNE: [usize; 16] = [1, 6, 7, 13, 16, 17, 18, 23, 25, 33, 36, 38, 48, 51, 53, 56];
 
-const MARKERS: [usize; 7] = [0, 9, 19, 29, 39, 49, 59];
+pub const MARKERS: [usize; 7] = [0, 9, 19, 29, 39, 49, 59];
 
 // Marks a second apart with the markers, of which these are One, but for those that are changed.
 fn frame(ones: &[usize], changed: &[usize]) -> Result<[Mark; 61], Fail> {
@@ -55,8 +56,9 @@ fn frame(ones: &[usize], changed: &[usize]) -> Result<[Mark; 61], Fail> {
     Ok(marks)
 }
 
+// What a segment comes to, read from a slice and mark by mark.
 fn read_closed(segment: &[Mark]) -> Result<Result<Coded, Broken>, Fail> {
-    Ok(read(segment, Local::new(62_000_000).ok_or("close")?))
+    read_both(segment, Local::new(62_000_000).ok_or("close")?)
 }
 
 fn minute(minute: u64, leap_at: u64) -> Result<Coded, Broken> {
@@ -181,9 +183,9 @@ fn the_least_broken_rule_is_named(rt: HostRuntime) -> Result<(), Fail> {
     assert_eq!(rt; read_closed(&marks[..60])?, broken(50));
     assert_eq!(rt; read_closed(&marks[..59])?, broken(1));
     let close = Local::new(61_000_000).ok_or("close")?;
-    assert_eq!(rt; read(&marks[..59], close), broken(3));
+    assert_eq!(rt; read_both(&marks[..59], close)?, broken(3));
     marks[3].symbol = Symbol::Odd;
-    assert_eq!(rt; read(&marks[..59], close), broken(2));
+    assert_eq!(rt; read_both(&marks[..59], close)?, broken(2));
     Ok(())
 }
 
@@ -199,11 +201,11 @@ fn marks_are_counted_and_spaced(rt: HostRuntime) -> Result<(), Fail> {
     ];
     for (close, wanted) in rows {
         let close = Local::new(close).ok_or("close")?;
-        assert_eq!(rt; read(&marks[..60], close), wanted);
+        assert_eq!(rt; read_both(&marks[..60], close)?, wanted);
     }
     let close = Local::new(63_000_000).ok_or("close")?;
-    assert_eq!(rt; read(&marks, close), broken(3));
-    assert_eq!(rt; read(&[], close), broken(3));
+    assert_eq!(rt; read_both(&marks, close)?, broken(3));
+    assert_eq!(rt; read_both(&[], close)?, broken(3));
     marks[1].at = Local::new(3_100_001).ok_or("start")?;
     assert_eq!(rt; read_closed(&marks[..60])?, broken(1));
     Ok(())

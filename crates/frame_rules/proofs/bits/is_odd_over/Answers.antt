@@ -6,11 +6,16 @@ use Rattle.frame_rules.proofs.bits.is_odd_over.Goals as goal
 use Rattle.frame_rules.proofs.bits.is_odd_over.Goals.{then-is_set, else-is_set}
 
 pub loop-place-preserved : goal.loop-place-preserved
-loop-place-preserved c =
-    let p = is_set (has_bit c.args.bit) c.args.segment.now in
+loop-place-preserved g c =
     let place = c.loop-place.place in
     let within : place ≤ c.args.last = omega arith in
     elim c.if-is_set.branch [
-      | then-is_set w ↦ let rest = ones_set p place c.args.last within (sym w.if-is_set.ensures) in record { few = omega arith; so_far = omega arith }
-      | else-is_set w ↦ let rest = ones_unset p place c.args.last within (sym w.if-is_set.ensures) in record { few = omega arith; so_far = omega arith }
+      | then-is_set w ↦ record {
+        few = omega arith;
+        so_far = λ marks h. let rest = ones_set (is_set (has_bit c.args.bit) marks) place c.args.last within (sym (w.if-is_set.ensures marks h)) in omega (arith, c.loop-place.invariant.so_far marks h);
+      }
+      | else-is_set w ↦ record {
+        few = omega arith;
+        so_far = λ marks h. let rest = ones_unset (is_set (has_bit c.args.bit) marks) place c.args.last within (sym (w.if-is_set.ensures marks h)) in omega (arith, c.loop-place.invariant.so_far marks h);
+      }
     ]

@@ -1,0 +1,9 @@
+use Rattle.std.proofs.Common.{ap, not, ◌∙◌}
+use Rattle.frame_rules.proofs.AddingLaws.{spacing_closed}
+use Rattle.frame_rules.proofs.mark_words.MarkWordsPlaces.breaks_spacing_to.Goals as goal
+
+pub returns-then-self : goal.returns-then-self
+returns-then-self c = λ marks h. c.if-self.true ∙ rw c.if-self.true at (spacing_closed c.args.self.now marks c.args.close h)
+
+pub returns-else-self : goal.returns-else-self
+returns-else-self c = λ marks h. ap not c.is_near.ensures ∙ rw c.if-self.false at (spacing_closed c.args.self.now marks c.args.close h)
