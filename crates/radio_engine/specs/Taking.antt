@@ -124,11 +124,11 @@ GrowsBy plan bytes more heard = MatchOption heard
     (log_text plan more ≡ log_text plan bytes)
     (λ one. log_text plan more ≡ log_text plan bytes ++ heard_line one)
 
--- one more byte was taken, or it makes a line bad
-abbrev pub TakesOne : Plan → Decoder → List ℕ → ℕ → Result (Option Heard) BadLine → Type 0
-TakesOne plan d bytes byte result = MatchResult result
-    (λ heard. HasTaken plan d (bytes ++ byte ∷ []) × GrowsBy plan bytes (bytes ++ byte ∷ []) heard)
-    (λ bad. (bad_line (bytes ++ byte ∷ []) ≡ Some bad.line) × (log_text plan (bytes ++ byte ∷ []) ≡ log_text plan bytes))
+-- a front of what comes was taken, or it makes a line bad
+abbrev pub TakesFront : Plan → Decoder → List ℕ → List ℕ → Result (Option Heard) BadLine → Type 0
+TakesFront plan d bytes front result = MatchResult result
+    (λ heard. HasTaken plan d (bytes ++ front) × GrowsBy plan bytes (bytes ++ front) heard)
+    (λ bad. (bad_line (bytes ++ front) ≡ Some bad.line) × (log_text plan (bytes ++ front) ≡ log_text plan bytes))
 
 -- a decoder that has taken these bytes and given the lines of their answers
 pub record IsDecodedBy (d : Decoder) (plan : Plan) (bytes text : List ℕ) (bad : Option ℕ) : Type 0 where

@@ -1,6 +1,6 @@
-ghost use Rattle.std.specs.Prelude.{ℕ, List, []};
+ghost use Rattle.std.specs.Prelude.{◌<◌, ◌≤◌, ℕ, List, [], length, take};
 ghost use Rattle.tick_units.specs.declared.marks.Plan.{Plan};
-ghost use Rattle.radio_engine.specs.Taking.{HasTaken, TakesOne};
+ghost use Rattle.radio_engine.specs.Taking.{HasTaken, TakesFront};
 
 use crate::reading::{Gives, Taker, Took};
 use crate::text::write_answer_line;
@@ -8,6 +8,13 @@ use minute_pair::Pairing;
 use pulse_log::{BadLine, LineReader};
 use second_marks::Marker;
 use tick_units::{Heard, Plan};
+
+// How many bytes were taken, and the answer to the segment that they close, if they close one; or the bad line.
+#[derive(Clone, Copy)]
+struct Step {
+    count: usize,
+    heard: Result<Option<Heard>, BadLine>,
+}
 
 // Turns the bytes of a log into the answers to its segments.
 #[derive(Drop)]
@@ -28,20 +35,37 @@ impl Decoder {
         }
     }
 
-    // Takes the next byte: the answer to the segment that it closes, if it closes one.
-    pub fn take_byte(&mut self, byte: u8) -> Result<Option<Heard>, BadLine>
-        ensures { (plan : Plan) (bytes : List ℕ) → HasTaken plan self.old bytes → TakesOne plan self.new bytes byte result }
+    // Takes bytes up to the end of the first line that ends among them, up to a bad line, or all of them.
+    fn take_line(&mut self, bytes: &[u8]) -> Step
+        requires { 0 < length bytes.now }
+        ensures some { 0 < result.count }
+        ensures within { result.count ≤ length bytes.now }
+        ensures taken { (plan : Plan) (before : List ℕ) → HasTaken plan self.old before → TakesFront plan self.new before (take result.count bytes.now) result.heard }
     {
-        let found = match self.reader.take(byte) {
+        let front = self.reader.take_line(bytes);
+        let count = front.count;
+        let found = match front.found {
             Ok(found) => found,
-            Err(bad) => return Err(bad),
+            Err(bad) => return Step {
+                count,
+                heard: Err(bad),
+            },
         };
         let Some(reduction) = found else {
-            return Ok(None);
+            return Step {
+                count,
+                heard: Ok(None),
+            };
         };
         match self.marker.hear(reduction) {
-            Some(mark) => Ok(self.pairing.hear(mark)),
-            None => Ok(None),
+            Some(mark) => Step {
+                count,
+                heard: Ok(self.pairing.hear(mark)),
+            },
+            None => Step {
+                count,
+                heard: Ok(None),
+            },
         }
     }
 }
@@ -59,22 +83,21 @@ impl Taker for Decoder {
     ghost holds = { λ s reading bytes text bad. HasDecoded s reading bytes text bad };
 
     fn take(&mut self, bytes: &[u8], line: &mut [u8; 256]) -> Took {
-        for (i, byte) in bytes.iter().enumerate() {
-            match self.take_byte(*byte) {
-                Ok(None) => {}
-                Ok(Some(heard)) => return Took {
-                    count: i + 1,
-                    gives: Gives::Text(write_answer_line(&heard, line)),
-                },
-                Err(bad) => return Took {
-                    count: i + 1,
-                    gives: Gives::Bad(bad.line),
-                },
-            }
-        }
-        Took {
-            count: bytes.len(),
-            gives: Gives::Nothing,
+        let step = self.take_line(bytes);
+        let count = step.count;
+        match step.heard {
+            Ok(None) => Took {
+                count,
+                gives: Gives::Nothing,
+            },
+            Ok(Some(heard)) => Took {
+                count,
+                gives: Gives::Text(write_answer_line(&heard, line)),
+            },
+            Err(bad) => Took {
+                count,
+                gives: Gives::Bad(bad.line),
+            },
         }
     }
 
