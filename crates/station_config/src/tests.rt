@@ -4,27 +4,163 @@ use std::test::Fail;
 use tick_units::Plan;
 
 // The station of a listening laboratory.
-const LABORATORY: &str = "holdover = 1800
+const LABORATORY: &str = r#"holdover = 1800
 [[radio]]
-plan = \"dcf\"
-log = \"dcf.log\"
+plan = "dcf"
+log = "dcf.log"
 delay = 1400
 [[radio]]
-plan = \"msf\"
-log = \"msf.log\"
+plan = "msf"
+log = "msf.log"
 delay = 2700
 [[radio]]
-plan = \"wwvb\"
-log = \"wwvb.log\"
+plan = "wwvb"
+log = "wwvb.log"
 delay = 24000
 [[server]]
-address = \"127.0.0.1\"
+address = "127.0.0.1"
 port = 4123
 [[link]]
 port = 5123
-";
+"#;
 
-const RADIO: &str = "[[radio]]\nplan = \"dcf\"\nlog = \"a\"\n";
+// In each table a line has a file, with `|` for its line feeds, and what it comes to.
+
+const DEFAULTS: &str = r#"# nothing -> 1200000000 0
+radio = []|server = []|link = [] -> 1200000000 0
+[[radio]]|plan = "wwvb"|log = "a b" -> 1200000000 0 wwvb a b 0
+[[server]]|address = "10.0.0.255"|port = 123 -> 1200000000 0 0a0000ff 123 8
+link = [{port = 1}, {port = 2}] -> 1200000000 0 1 2
+start = 5|holdover = 1 -> 1000000 5
+holdover =  -> toml
+holdover = 1|holdover = 2 -> toml
+radio -> toml
+start = 007 -> toml
+"#;
+
+const NUMBERS: &str = r#"holdover = 0 -> range holdover
+holdover = 1 -> 1000000 0
+holdover = 86400 -> 86400000000 0
+holdover = 86401 -> range holdover
+holdover = -1 -> range holdover
+holdover = 9223372036854775807 -> range holdover
+holdover = 0x10 -> 16000000 0
+holdover = 0o17 -> 15000000 0
+holdover = 0b11 -> 3000000 0
+holdover = +5 -> 5000000 0
+holdover = 1_000 -> 1000000000 0
+holdover = 1200.0 -> range holdover
+holdover = 1e3 -> range holdover
+holdover = true -> range holdover
+holdover = "1200" -> range holdover
+holdover = [1] -> range holdover
+holdover = 1979-05-27 -> range holdover
+start = 0 -> 1200000000 0
+start = 562949953421312 -> 1200000000 562949953421312
+start = 562949953421313 -> range start
+start = -1 -> range start
+start = nan -> range start
+"#;
+
+const RADIOS: &str = r#"[[radio]]|plan = "dcf"|log = "a"|delay = 0 -> 1200000000 0 dcf a 0
+[[radio]]|plan = "dcf"|log = "a"|delay = 100000 -> 1200000000 0 dcf a 100000
+[[radio]]|plan = "dcf"|log = "a"|delay = 100001 -> range radio.0.delay
+[[radio]]|plan = "dcf"|log = "a"|delay = -1 -> range radio.0.delay
+[[radio]]|plan = "dcf"|log = "a"|delay = false -> range radio.0.delay
+[[radio]]|log = "a"|plan = "jjy" -> range radio.0.plan
+[[radio]]|log = "a"|plan = "DCF" -> range radio.0.plan
+[[radio]]|log = "a"|plan = "" -> range radio.0.plan
+[[radio]]|log = "a"|plan = 77 -> range radio.0.plan
+[[radio]]|log = "a"|plan = "msf" -> 1200000000 0 msf a 0
+[[radio]]|plan = "dcf"|log = "" -> range radio.0.log
+[[radio]]|plan = "dcf"|log = 7 -> range radio.0.log
+"#;
+
+const ADDRESSES: &str = r#"0.0.0.0 -> 1200000000 0 00000000 123 8
+255.255.255.255 -> 1200000000 0 ffffffff 123 8
+192.0.2.10 -> 1200000000 0 c000020a 123 8
+1.2.3.256 -> range server.0.address
+300.2.3.4 -> range server.0.address
+1.2.3.99999999999999999999 -> range server.0.address
+01.2.3.4 -> range server.0.address
+1.2.3.00 -> range server.0.address
+1.2.3 -> range server.0.address
+1.2.3.4.5 -> range server.0.address
+1.2.3. -> range server.0.address
+.1.2.3 -> range server.0.address
+1..2.3 -> range server.0.address
+ 1.2.3.4 -> range server.0.address
+1.2.3.4  -> range server.0.address
+1.2.+3.4 -> range server.0.address
+1.2.-3.4 -> range server.0.address
+localhost -> range server.0.address
+ -> range server.0.address
+"#;
+
+const PORTS: &str = r#"[[server]]|address = "1.2.3.4"|port = 0 -> range server.0.port
+[[server]]|address = "1.2.3.4"|port = 1 -> 1200000000 0 01020304 1 8
+[[server]]|address = "1.2.3.4"|port = 65535 -> 1200000000 0 01020304 65535 8
+[[server]]|address = "1.2.3.4"|port = 65536 -> range server.0.port
+[[server]]|address = "1.2.3.4"|port = 1|polls = 0 -> 1200000000 0 01020304 1 0
+[[server]]|address = "1.2.3.4"|port = 1|polls = 100000 -> 1200000000 0 01020304 1 100000
+[[server]]|address = "1.2.3.4"|port = 1|polls = 100001 -> range server.0.polls
+[[server]]|address = "1.2.3.4"|port = 1|polls = 8.0 -> range server.0.polls
+[[server]]|address = "1.2.3.4"|polls = 8 -> missing server.0.port
+[[server]]|address = 1|port = 1 -> range server.0.address
+[[link]]|port = 0 -> range link.0.port
+[[link]]|port = 1 -> 1200000000 0 1
+[[link]]|port = 65535 -> 1200000000 0 65535
+[[link]]|port = 65536 -> range link.0.port
+[[link]] -> missing link.0.port
+"#;
+
+const UNKNOWN: &str = r#"leap = 1 -> unknown leap
+gap = 0 -> unknown gap
+zone = 1|abc = 1 -> unknown abc
+zone = 1|Zone = 1 -> unknown Zone
+radios = [] -> unknown radios
+"a key\n" = 1 -> unknown a key|
+holdover.plan = 1 -> range holdover
+radio.plan = "dcf" -> range radio
+[[radio]]|[[radio]]|foo = 1 -> unknown radio.1.foo
+[[radio]]|port = 1 -> unknown radio.0.port
+[[server]]|"" = 1 -> unknown server.0.
+[[link]]|"a.b" = 1 -> unknown link.0.a.b
+[[link]]|[[link]]|[[link]]|plan = 1 -> unknown link.2.plan
+"#;
+
+// Kinds of faults come in their order wherever they stand; of one kind the top table comes first, and then the arrays.
+const FIRST: &str = r#"holdover = 0|link = 1|[[server]]|zone = 1 -> unknown server.0.zone
+[[link]]|x = 1|[[server]]|x = 1|[[radio]]|x = 1 -> unknown radio.0.x
+[[link]]|x = 1|[[server]]|x = 1|[[radio]] -> unknown server.0.x
+x = 1|[[radio]]|a = 1 -> unknown x
+holdover = 0|[[link]] -> missing link.0.port
+[[link]]|[[server]]|[[radio]] -> missing radio.0.log
+[[link]]|[[server]]|[[radio]]|log = 1|plan = 1 -> missing server.0.address
+[[radio]]|log = 1|[[radio]] -> missing radio.0.plan
+start = -1|holdover = 0 -> range holdover
+start = -1|server = 1|radio = 1|link = 1 -> range link
+start = -1|server = 1|radio = 1 -> range radio
+start = -1|server = 1 -> range server
+start = -1|[[radio]]|plan = 1|log = 1|delay = "" -> range start
+[[radio]]|plan = 1|log = 1|delay = "" -> range radio.0.delay
+[[radio]]|plan = 1|log = 1 -> range radio.0.log
+[[server]]|port = 0|polls = -1|address = "" -> range server.0.address
+[[server]]|port = 0|polls = -1|address = "1.1.1.1" -> range server.0.polls
+[[link]]|port = 0|[[server]]|port = 0|address = "1.1.1.1" -> range server.0.port
+[[link]]|port = 1|[[link]]|port = 0 -> range link.1.port
+"#;
+
+// A key that isn't an array of tables is at fault itself, and nothing in it is looked at.
+const ARRAYS: &str = r#"radio = [{x = 1}, 2] -> range radio
+radio = 1 -> range radio
+server = [1] -> range server
+server = [[]] -> range server
+[link]|port = 1 -> range link
+radio = [{log = "", plan = 1}] -> range radio.0.log
+radio = [{log = "a", plan = "dcf"}, {log = "b", plan = "msf", delay = 7}] -> 1200000000 0 dcf a 0 msf b 7
+link = [{}] -> missing link.0.port
+"#;
 
 fn plan_word(plan: Plan) -> &'static str {
     match plan {
@@ -34,35 +170,53 @@ fn plan_word(plan: Plan) -> &'static str {
     }
 }
 
+fn radio_text(alloc: Global, station: &Station, i: usize) -> Result<String, Fail> {
+    match station.radio(i) {
+        Some(radio) => {
+            let plan = plan_word(radio.plan);
+            let log = radio.log;
+            let delay = radio.delay;
+            Ok(format!(in alloc; " {plan} {log} {delay}")?)
+        }
+        None => Ok(String::from_str(alloc, " none")?),
+    }
+}
+
+fn server_text(alloc: Global, station: &Station, i: usize) -> Result<String, Fail> {
+    match station.server(i) {
+        Some(server) => {
+            let ip = server.address.ip;
+            let port = server.address.port;
+            let polls = server.polls;
+            Ok(format!(in alloc; " {ip:08x} {port} {polls}")?)
+        }
+        None => Ok(String::from_str(alloc, " none")?),
+    }
+}
+
+fn link_text(alloc: Global, station: &Station, i: usize) -> Result<String, Fail> {
+    match station.link(i) {
+        Some(link) => {
+            let port = link.port;
+            Ok(format!(in alloc; " {port}")?)
+        }
+        None => Ok(String::from_str(alloc, " none")?),
+    }
+}
+
 // A station's values in one line: the holdover in microseconds, the start, and the rows.
 fn station_text(alloc: Global, station: &Station) -> Result<String, Fail> {
     let holdover = station.settings().holdover();
     let start = station.start().get();
     let mut text = format!(in alloc; "{holdover} {start}")?;
     for i in 0..station.radios() {
-        if let Some(radio) = station.radio(i) {
-            let plan = plan_word(radio.plan);
-            let log = radio.log;
-            let delay = radio.delay;
-            let row = format!(in alloc; " {plan} {log} {delay}")?;
-            text.push_str(row.as_str())?;
-        }
+        text.push_str(radio_text(alloc, station, i)?.as_str())?;
     }
     for i in 0..station.servers() {
-        if let Some(server) = station.server(i) {
-            let ip = server.address.ip;
-            let port = server.address.port;
-            let polls = server.polls;
-            let row = format!(in alloc; " {ip:08x} {port} {polls}")?;
-            text.push_str(row.as_str())?;
-        }
+        text.push_str(server_text(alloc, station, i)?.as_str())?;
     }
     for i in 0..station.links() {
-        if let Some(link) = station.link(i) {
-            let port = link.port;
-            let row = format!(in alloc; " {port}")?;
-            text.push_str(row.as_str())?;
-        }
+        text.push_str(link_text(alloc, station, i)?.as_str())?;
     }
     Ok(text)
 }
@@ -94,18 +248,48 @@ fn answer(alloc: Global, text: &[u8]) -> Result<String, Fail> {
     }
 }
 
-// What a file comes to that has a value between these two texts.
-fn with_value(alloc: Global, before: &str, value: &str, after: &str) -> Result<String, Fail> {
-    let text = format!(in alloc; "{before}{value}{after}")?;
-    answer(alloc, text.as_bytes())
+// A text with a line feed for each `|`.
+fn in_lines(alloc: Global, text: &str) -> Result<String, Fail> {
+    let mut lines = String::new(alloc);
+    for c in text.chars() {
+        lines.push(if c == '|' { '\n' } else { c })?;
+    }
+    Ok(lines)
+}
+
+// Whether the file of a line, between two texts, comes to what the line says.
+fn is_right(alloc: Global, line: &str, before: &str, after: &str) -> Result<bool, Fail> {
+    let Some((file, want)) = line.split_once(" -> ") else {
+        return Ok(false);
+    };
+    let file = format!(in alloc; "{before}{file}{after}")?;
+    let file = in_lines(alloc, file.as_str())?;
+    let want = in_lines(alloc, want)?;
+    Ok(answer(alloc, file.as_bytes())?.as_str() == want.as_str())
+}
+
+// The first line of a table that is wrong.
+fn wrong<'a>(
+    alloc: Global,
+    table: &'a str,
+    before: &str,
+    after: &str,
+) -> Result<Option<&'a str>, Fail> {
+    for line in table.lines() {
+        if !is_right(alloc, line, before, after)? {
+            return Ok(Some(line));
+        }
+    }
+    Ok(None)
 }
 
 #[test]
 fn the_laboratory(rt: HostRuntime) -> Result<(), Fail> {
     let alloc = rt.alloc();
+    let text = answer(alloc, LABORATORY.as_bytes())?;
     let want =
         "1800000000 0 dcf dcf.log 1400 msf msf.log 2700 wwvb wwvb.log 24000 7f000001 4123 8 5123";
-    assert_eq!(rt; answer(alloc, LABORATORY.as_bytes())?.as_str(), want);
+    assert_eq!(rt; text.as_str(), want);
     if let Ok(station) = read_station(alloc, LABORATORY.as_bytes()) {
         assert_eq!(rt; station.radios(), 3);
         assert_eq!(rt; station.servers(), 1);
@@ -121,338 +305,137 @@ fn the_laboratory(rt: HostRuntime) -> Result<(), Fail> {
 #[test]
 fn defaults(rt: HostRuntime) -> Result<(), Fail> {
     let alloc = rt.alloc();
-    let table = [
-        ("", "1200000000 0"),
-        ("# nothing\n", "1200000000 0"),
-        ("radio = []\nserver = []\nlink = []\n", "1200000000 0"),
-        (
-            "[[radio]]\nplan = \"wwvb\"\nlog = \"a b\"\n",
-            "1200000000 0 wwvb a b 0",
-        ),
-        (
-            "[[server]]\naddress = \"10.0.0.255\"\nport = 123\n",
-            "1200000000 0 0a0000ff 123 8",
-        ),
-        ("link = [{port = 1}, {port = 2}]\n", "1200000000 0 1 2"),
-        ("start = 5\nholdover = 1\n", "1000000 5"),
-    ];
-    for (text, want) in table {
-        assert_eq!(rt; answer(alloc, text.as_bytes())?.as_str(), want, "{text:?}");
-    }
+    assert_eq!(rt; answer(alloc, b"")?.as_str(), "1200000000 0");
+    assert_eq!(rt; wrong(alloc, DEFAULTS, "", "|")?, None);
     Ok(())
 }
 
 #[test]
-fn no_document(rt: HostRuntime) -> Result<(), Fail> {
+fn no_text(rt: HostRuntime) -> Result<(), Fail> {
     let alloc = rt.alloc();
-    let table: [&[u8]; 6] = [
-        b"holdover = ",
-        b"holdover = 1\nholdover = 2\n",
-        b"start = 0\xff",
-        b"leap = \"\xc3\x28\"\n",
-        b"radio",
-        b"start = 007\n",
-    ];
-    for text in table {
-        assert_eq!(rt; answer(alloc, text)?.as_str(), "toml", "{text:?}");
-    }
+    assert_eq!(rt; answer(alloc, b"start = 0\xff")?.as_str(), "toml");
+    assert_eq!(rt; answer(alloc, b"leap = \"\xc3\x28\"\n")?.as_str(), "toml");
     Ok(())
 }
 
 #[test]
-fn numbers_of_the_top_table(rt: HostRuntime) -> Result<(), Fail> {
+fn values(rt: HostRuntime) -> Result<(), Fail> {
     let alloc = rt.alloc();
-    let table = [
-        ("0", "range holdover"),
-        ("1", "1000000 0"),
-        ("86400", "86400000000 0"),
-        ("86401", "range holdover"),
-        ("-1", "range holdover"),
-        ("9223372036854775807", "range holdover"),
-        ("0x10", "16000000 0"),
-        ("0o17", "15000000 0"),
-        ("0b11", "3000000 0"),
-        ("+5", "5000000 0"),
-        ("1_000", "1000000000 0"),
-        ("1200.0", "range holdover"),
-        ("1e3", "range holdover"),
-        ("true", "range holdover"),
-        ("\"1200\"", "range holdover"),
-        ("[1]", "range holdover"),
-        ("1979-05-27", "range holdover"),
-    ];
-    for (value, want) in table {
-        let text = with_value(alloc, "holdover = ", value, "\n")?;
-        assert_eq!(rt; text.as_str(), want, "{value:?}");
-    }
-    let table = [
-        ("0", "1200000000 0"),
-        ("562949953421312", "1200000000 562949953421312"),
-        ("562949953421313", "range start"),
-        ("-1", "range start"),
-        ("nan", "range start"),
-    ];
-    for (value, want) in table {
-        let text = with_value(alloc, "start = ", value, "\n")?;
-        assert_eq!(rt; text.as_str(), want, "{value:?}");
-    }
-    Ok(())
-}
-
-#[test]
-fn values_of_a_radio(rt: HostRuntime) -> Result<(), Fail> {
-    let alloc = rt.alloc();
-    let table = [
-        ("delay = 0", "1200000000 0 dcf a 0"),
-        ("delay = 100000", "1200000000 0 dcf a 100000"),
-        ("delay = 100001", "range radio.0.delay"),
-        ("delay = -1", "range radio.0.delay"),
-        ("delay = false", "range radio.0.delay"),
-    ];
-    for (value, want) in table {
-        let text = with_value(alloc, RADIO, value, "\n")?;
-        assert_eq!(rt; text.as_str(), want, "{value:?}");
-    }
-    let table = [
-        ("\"jjy\"", "range radio.0.plan"),
-        ("\"DCF\"", "range radio.0.plan"),
-        ("\"\"", "range radio.0.plan"),
-        ("77", "range radio.0.plan"),
-        ("\"msf\"", "1200000000 0 msf a 0"),
-    ];
-    for (value, want) in table {
-        let text = with_value(alloc, "[[radio]]\nlog = \"a\"\nplan = ", value, "\n")?;
-        assert_eq!(rt; text.as_str(), want, "{value:?}");
-    }
-    let text = with_value(alloc, "[[radio]]\nplan = \"dcf\"\nlog = ", "\"\"", "\n")?;
-    assert_eq!(rt; text.as_str(), "range radio.0.log");
-    let text = with_value(alloc, "[[radio]]\nplan = \"dcf\"\nlog = ", "7", "\n")?;
-    assert_eq!(rt; text.as_str(), "range radio.0.log");
+    assert_eq!(rt; wrong(alloc, NUMBERS, "", "|")?, None);
+    assert_eq!(rt; wrong(alloc, RADIOS, "", "|")?, None);
+    assert_eq!(rt; wrong(alloc, PORTS, "", "|")?, None);
     Ok(())
 }
 
 #[test]
 fn addresses(rt: HostRuntime) -> Result<(), Fail> {
     let alloc = rt.alloc();
-    let table = [
-        ("0.0.0.0", "1200000000 0 00000000 123 8"),
-        ("255.255.255.255", "1200000000 0 ffffffff 123 8"),
-        ("192.0.2.10", "1200000000 0 c000020a 123 8"),
-        ("1.2.3.256", "range server.0.address"),
-        ("300.2.3.4", "range server.0.address"),
-        ("1.2.3.99999999999999999999", "range server.0.address"),
-        ("01.2.3.4", "range server.0.address"),
-        ("1.2.3.00", "range server.0.address"),
-        ("1.2.3", "range server.0.address"),
-        ("1.2.3.4.5", "range server.0.address"),
-        ("1.2.3.", "range server.0.address"),
-        (".1.2.3", "range server.0.address"),
-        ("1..2.3", "range server.0.address"),
-        (" 1.2.3.4", "range server.0.address"),
-        ("1.2.3.4 ", "range server.0.address"),
-        ("1.2.+3.4", "range server.0.address"),
-        ("1.2.-3.4", "range server.0.address"),
-        ("localhost", "range server.0.address"),
-        ("", "range server.0.address"),
-    ];
-    for (value, want) in table {
-        let text = with_value(alloc, "[[server]]\nport = 123\naddress = \"", value, "\"\n")?;
-        assert_eq!(rt; text.as_str(), want, "{value:?}");
-    }
-    let text = with_value(alloc, "[[server]]\nport = 123\naddress = ", "1", "\n")?;
-    assert_eq!(rt; text.as_str(), "range server.0.address");
+    let before = "[[server]]|port = 123|address = \"";
+    assert_eq!(rt; wrong(alloc, ADDRESSES, before, "\"|")?, None);
     Ok(())
 }
 
 #[test]
-fn ports_and_polls(rt: HostRuntime) -> Result<(), Fail> {
+fn faults(rt: HostRuntime) -> Result<(), Fail> {
     let alloc = rt.alloc();
-    let table = [
-        ("port = 0", "range server.0.port"),
-        ("port = 1", "1200000000 0 01020304 1 8"),
-        ("port = 65535", "1200000000 0 01020304 65535 8"),
-        ("port = 65536", "range server.0.port"),
-        ("port = 1\npolls = 0", "1200000000 0 01020304 1 0"),
-        ("port = 1\npolls = 100000", "1200000000 0 01020304 1 100000"),
-        ("port = 1\npolls = 100001", "range server.0.polls"),
-        ("port = 1\npolls = 8.0", "range server.0.polls"),
-        ("polls = 8", "missing server.0.port"),
-    ];
-    for (value, want) in table {
-        let text = with_value(alloc, "[[server]]\naddress = \"1.2.3.4\"\n", value, "\n")?;
-        assert_eq!(rt; text.as_str(), want, "{value:?}");
-    }
-    let table = [
-        ("port = 0", "range link.0.port"),
-        ("port = 1", "1200000000 0 1"),
-        ("port = 65535", "1200000000 0 65535"),
-        ("port = 65536", "range link.0.port"),
-        ("", "missing link.0.port"),
-    ];
-    for (value, want) in table {
-        let text = with_value(alloc, "[[link]]\n", value, "\n")?;
-        assert_eq!(rt; text.as_str(), want, "{value:?}");
+    assert_eq!(rt; wrong(alloc, UNKNOWN, "", "|")?, None);
+    assert_eq!(rt; answer(alloc, b"\"\" = 1\n")?.as_str(), "unknown ");
+    assert_eq!(rt; wrong(alloc, FIRST, "", "|")?, None);
+    assert_eq!(rt; wrong(alloc, ARRAYS, "", "|")?, None);
+    Ok(())
+}
+
+fn push_times(text: &mut String, row: &str, times: u8) -> Result<(), Fail> {
+    for _ in 0..times {
+        text.push_str(row)?;
     }
     Ok(())
 }
 
-#[test]
-fn unknown_keys(rt: HostRuntime) -> Result<(), Fail> {
-    let alloc = rt.alloc();
-    let table = [
-        ("leap = 1\n", "unknown leap"),
-        ("zone = 1\nabc = 1\n", "unknown abc"),
-        ("zone = 1\nZone = 1\n", "unknown Zone"),
-        ("radios = []\n", "unknown radios"),
-        ("\"\" = 1\n", "unknown "),
-        ("\"a key\\n\" = 1\n", "unknown a key\n"),
-        ("holdover.plan = 1\n", "range holdover"),
-        ("radio.plan = \"dcf\"\n", "range radio"),
-        ("[[radio]]\n[[radio]]\nfoo = 1\n", "unknown radio.1.foo"),
-        ("[[radio]]\nport = 1\n", "unknown radio.0.port"),
-        ("[[server]]\n\"\" = 1\n", "unknown server.0."),
-        ("[[link]]\n\"a.b\" = 1\n", "unknown link.0.a.b"),
-        (
-            "[[link]]\n[[link]]\n[[link]]\nplan = 1\n",
-            "unknown link.2.plan",
-        ),
-        ("gap = 0\n", "unknown gap"),
-    ];
-    for (text, want) in table {
-        assert_eq!(rt; answer(alloc, text.as_bytes())?.as_str(), want, "{text:?}");
-    }
-    Ok(())
+// How many rows of each kind a file has.
+#[derive(Clone, Copy, Debug)]
+struct Rows {
+    dcf: u8,
+    msf: u8,
+    wwvb: u8,
+    servers: u8,
+    links: u8,
 }
 
-// Kinds of faults come in their order wherever they stand; of one kind the top table comes first, and then the arrays.
-#[test]
-fn the_first_fault(rt: HostRuntime) -> Result<(), Fail> {
-    let alloc = rt.alloc();
-    let table = [
-        (
-            "holdover = 0\nlink = 1\n[[server]]\nzone = 1\n",
-            "unknown server.0.zone",
-        ),
-        (
-            "[[link]]\nx = 1\n[[server]]\nx = 1\n[[radio]]\nx = 1\n",
-            "unknown radio.0.x",
-        ),
-        (
-            "[[link]]\nx = 1\n[[server]]\nx = 1\n[[radio]]\n",
-            "unknown server.0.x",
-        ),
-        ("x = 1\n[[radio]]\na = 1\n", "unknown x"),
-        ("holdover = 0\n[[link]]\n", "missing link.0.port"),
-        ("[[link]]\n[[server]]\n[[radio]]\n", "missing radio.0.log"),
-        (
-            "[[link]]\n[[server]]\n[[radio]]\nlog = 1\nplan = 1\n",
-            "missing server.0.address",
-        ),
-        ("[[radio]]\nlog = 1\n[[radio]]\n", "missing radio.0.plan"),
-        ("start = -1\nholdover = 0\n", "range holdover"),
-        (
-            "start = -1\nserver = 1\nradio = 1\nlink = 1\n",
-            "range link",
-        ),
-        ("start = -1\nserver = 1\nradio = 1\n", "range radio"),
-        ("start = -1\nserver = 1\n", "range server"),
-        (
-            "start = -1\n[[radio]]\nplan = 1\nlog = 1\ndelay = \"\"\n",
-            "range start",
-        ),
-        (
-            "[[radio]]\nplan = 1\nlog = 1\ndelay = \"\"\n",
-            "range radio.0.delay",
-        ),
-        ("[[radio]]\nplan = 1\nlog = 1\n", "range radio.0.log"),
-        (
-            "[[server]]\nport = 0\npolls = -1\naddress = \"\"\n",
-            "range server.0.address",
-        ),
-        (
-            "[[server]]\nport = 0\npolls = -1\naddress = \"1.1.1.1\"\n",
-            "range server.0.polls",
-        ),
-        (
-            "[[link]]\nport = 0\n[[server]]\nport = 0\naddress = \"1.1.1.1\"\n",
-            "range server.0.port",
-        ),
-        (
-            "[[link]]\nport = 1\n[[link]]\nport = 0\n",
-            "range link.1.port",
-        ),
-    ];
-    for (text, want) in table {
-        assert_eq!(rt; answer(alloc, text.as_bytes())?.as_str(), want, "{text:?}");
-    }
-    Ok(())
-}
-
-// A key that isn't an array of tables is at fault itself, and nothing in it is looked at.
-#[test]
-fn arrays(rt: HostRuntime) -> Result<(), Fail> {
-    let alloc = rt.alloc();
-    let table = [
-        ("radio = [{x = 1}, 2]\n", "range radio"),
-        ("radio = 1\n", "range radio"),
-        ("server = [1]\n", "range server"),
-        ("server = [[]]\n", "range server"),
-        ("[link]\nport = 1\n", "range link"),
-        ("radio = [{log = \"\", plan = 1}]\n", "range radio.0.log"),
-        (
-            "radio = [{log = \"a\", plan = \"dcf\"}, {log = \"b\", plan = \"msf\", delay = 7}]\n",
-            "1200000000 0 dcf a 0 msf b 7",
-        ),
-        ("link = [{}]\n", "missing link.0.port"),
-        ("link = []\n", "1200000000 0"),
-    ];
-    for (text, want) in table {
-        assert_eq!(rt; answer(alloc, text.as_bytes())?.as_str(), want, "{text:?}");
-    }
-    Ok(())
-}
-
-// A file with so many rows of each kind.
-fn rows(alloc: Global, dcf: u8, msf: u8, wwvb: u8, servers: u8, links: u8) -> Result<String, Fail> {
+fn file_of(alloc: Global, rows: Rows) -> Result<String, Fail> {
     let mut text = String::new(alloc);
-    for (plan, count) in [("dcf", dcf), ("msf", msf), ("wwvb", wwvb)] {
-        for _ in 0..count {
-            let row = format!(in alloc; "[[radio]]\nplan = \"{plan}\"\nlog = \"a\"\n")?;
-            text.push_str(row.as_str())?;
-        }
-    }
-    for _ in 0..servers {
-        text.push_str("[[server]]\naddress = \"1.2.3.4\"\nport = 1\n")?;
-    }
-    for _ in 0..links {
-        text.push_str("[[link]]\nport = 1\n")?;
-    }
+    push_times(
+        &mut text,
+        "[[radio]]\nplan = \"dcf\"\nlog = \"a\"\n",
+        rows.dcf,
+    )?;
+    push_times(
+        &mut text,
+        "[[radio]]\nplan = \"msf\"\nlog = \"a\"\n",
+        rows.msf,
+    )?;
+    push_times(
+        &mut text,
+        "[[radio]]\nplan = \"wwvb\"\nlog = \"a\"\n",
+        rows.wwvb,
+    )?;
+    push_times(
+        &mut text,
+        "[[server]]\naddress = \"1.2.3.4\"\nport = 1\n",
+        rows.servers,
+    )?;
+    push_times(&mut text, "[[link]]\nport = 1\n", rows.links)?;
     Ok(text)
 }
 
+// What a file with so many rows of each kind comes to.
+fn of_rows(
+    alloc: Global,
+    dcf: u8,
+    msf: u8,
+    wwvb: u8,
+    servers: u8,
+    links: u8,
+) -> Result<String, Fail> {
+    let rows = Rows {
+        dcf,
+        msf,
+        wwvb,
+        servers,
+        links,
+    };
+    answer(alloc, file_of(alloc, rows)?.as_bytes())
+}
+
+// The radios and servers together come first, and then the plans and the links.
 #[test]
 fn too_many(rt: HostRuntime) -> Result<(), Fail> {
     let alloc = rt.alloc();
-    let table = [
-        (4, 4, 4, 5, 9, "many radio 17"),
-        (0, 0, 0, 17, 0, "many radio 17"),
-        (5, 5, 5, 2, 9, "many radio 17"),
-        (5, 6, 4, 0, 9, "many radio 5"),
-        (4, 6, 5, 0, 9, "many radio 6"),
-        (4, 4, 5, 0, 9, "many radio 5"),
-        (4, 4, 4, 4, 9, "many link 9"),
-        (0, 0, 0, 0, 10, "many link 10"),
-    ];
-    for (dcf, msf, wwvb, servers, links, want) in table {
-        let text = rows(alloc, dcf, msf, wwvb, servers, links)?;
-        assert_eq!(rt; answer(alloc, text.as_bytes())?.as_str(), want);
-    }
-    let full = rows(alloc, 4, 4, 4, 4, 8)?;
-    let station = read_station(alloc, full.as_bytes());
-    assert!(rt; station.is_ok());
-    let servers = rows(alloc, 0, 0, 0, 16, 0)?;
-    assert!(rt; read_station(alloc, servers.as_bytes()).is_ok());
-    let text = with_value(alloc, full.as_str(), "[[link]]\nport = 0\n", "")?;
-    assert_eq!(rt; text.as_str(), "range link.8.port");
+    assert_eq!(rt; of_rows(alloc, 5, 5, 5, 2, 9)?.as_str(), "many radio 17");
+    assert_eq!(rt; of_rows(alloc, 0, 0, 0, 17, 0)?.as_str(), "many radio 17");
+    assert_eq!(rt; of_rows(alloc, 5, 6, 4, 0, 9)?.as_str(), "many radio 5");
+    assert_eq!(rt; of_rows(alloc, 4, 6, 5, 0, 9)?.as_str(), "many radio 6");
+    assert_eq!(rt; of_rows(alloc, 4, 3, 5, 0, 9)?.as_str(), "many radio 5");
+    assert_eq!(rt; of_rows(alloc, 4, 4, 4, 4, 9)?.as_str(), "many link 9");
+    Ok(())
+}
+
+#[test]
+fn as_many_as_may_be(rt: HostRuntime) -> Result<(), Fail> {
+    let alloc = rt.alloc();
+    let rows = Rows {
+        dcf: 4,
+        msf: 4,
+        wwvb: 4,
+        servers: 4,
+        links: 8,
+    };
+    let full = file_of(alloc, rows)?;
+    assert!(rt; read_station(alloc, full.as_bytes()).is_ok());
+    let text = format!(in alloc; "{full}[[link]]\nport = 0\n")?;
+    assert_eq!(rt;
+        answer(alloc, text.as_bytes())?.as_str(),
+        "range link.8.port"
+    );
     Ok(())
 }
