@@ -7,3 +7,5 @@ pub mod StationLaws
 pub mod TakingLaws
 pub mod WritingLaws
 pub mod PlayingLaws
+pub mod LoadingLaws
+pub mod ReplayLaws

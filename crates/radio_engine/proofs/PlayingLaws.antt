@@ -13,7 +13,6 @@ use Rattle.script_line.specs.declared.line.ScriptLine.{ScriptLine}
 use Rattle.script_player.specs.Replay.{is_lawful, outcome}
 use Rattle.script_player.specs.Standing.{HasPlayed}
 use Rattle.script_player.specs.Texts.{outcome_text, replay_text}
-use Rattle.script_player.specs.declared.player.Player.{Player}
 use Rattle.station_config.specs.Station.{StationFields}
 use Rattle.radio_engine.specs.Playing.{HasReplayed, IsPlayedBy, IsPlayedLine}
 use Rattle.radio_engine.specs.Reading.{Reading, bad_in_the_end}
@@ -24,9 +23,6 @@ use Rattle.radio_engine.specs.declared.reading.Gives.{Gives}
 use Rattle.radio_engine.specs.declared.reading.Gives.TheVariants.{Nothing, Text, Bad}
 use Rattle.radio_engine.specs.declared.replayer.Replayer.{Replayer}
 use Rattle.radio_engine.proofs.ScriptLaws.{complete_count, same_lines, too_long, next_line, bad_line, replay_more, short_unfinished}
-
-pub same_player : {B : Type 0} (stands : B → History → Type 0) (a b : Player B) (of : StationFields) (limit : ℕ) (lines : List ScriptLine) → b ≡ a → HasPlayed stands a of limit lines → HasPlayed stands b of limit lines
-same_player stands a b of limit lines e h = subst (λ p. HasPlayed stands p of limit lines) (sym e) h
 
 tail_by : (t : Bool) (n : ℕ) → t ≡ true → cond t (Some n) None ≡ Some n
 tail_by true n e = refl

@@ -3,7 +3,8 @@ use Rattle.std.proofs.Common.{◌≡◌, ℕ, ◌≤◌, ◌^◌, Option, Some, 
 use Rattle.std.specs.Prelude.{IsSome}
 use Rattle.std.proofs.lemmas.List.{append-nil, length-append, same_from_push}
 use Rattle.std.proofs.lemmas.Bool.{false≢true}
-use Rattle.command_words.specs.Commands.Asked.{decode}
+use Rattle.command_words.specs.Commands.{AskFor, IsLimit}
+use Rattle.command_words.specs.Commands.Asked.{decode, replay}
 use Rattle.feed_link.specs.Faults.{Rose}
 use Rattle.feed_link.specs.Told.{SourceState, SinkState, Takes, NoneLeft}
 use Rattle.feed_link.specs.Openings.{Opening, OutsideState, Grows}
@@ -113,3 +114,21 @@ decode_along P p q a b e h =
     let plans : p ≡ q = cc in
     let names : a ≡ b = cc in
     subst (λ (n : List ℕ). P q n) names (subst (λ (r : Plan). P r a) plans h)
+
+pub replay_along : (P : List ℕ → List ℕ → ℕ → Type 0) (a b c d : List ℕ) (n m : ℕ) → replay a b n ≡ replay c d m → P a b n → P c d m
+replay_along P a b c d n m e h =
+    let first : a ≡ c = cc in
+    let second : b ≡ d = cc in
+    let limits : n ≡ m = cc in
+    subst (λ (s : List ℕ). P s d m) first (subst (λ (t : List ℕ). P a t m) second (subst (λ (k : ℕ). P a b k) limits h))
+
+pub not_both : (plan : Plan) (name a b : List ℕ) (n : ℕ) → decode plan name ≡ replay a b n → ⊥
+not_both plan name a b n e = cc
+
+limit_by : (value : Option (List ℕ)) (n : ℕ) → IsLimit value n → n ≤ 2 ^ 22
+limit_by None n h = omega arith
+limit_by (Some text) n h = h.2
+
+-- the limit that words ask for
+pub limit_of : (words : List (List ℕ)) (a b : List ℕ) (n : ℕ) → AskFor words (replay a b n) → n ≤ 2 ^ 22
+limit_of words a b n h = limit_by _ n h.says.2

@@ -1,9 +1,10 @@
 -- A text written after another.
-use Rattle.std.proofs.Common.{ℕ, List, ◌++◌, ap, sym, ◌∙◌, subst, inl, inr, append_assoc}
+use Rattle.std.proofs.Common.{ℕ, List, ◌++◌, ap, sym, ◌∙◌, subst, inl, inr, append_assoc, refl}
 use Rattle.feed_link.specs.Faults.{Rose}
 use Rattle.feed_link.specs.Told.{SinkState}
 use Rattle.feed_link.proofs.ToldLaws.{Adds-more}
 use Rattle.radio_engine.specs.declared.status.Status.{Status}
+use Rattle.radio_engine.specs.declared.status.Status.TheVariants.{WriteFault}
 use Rattle.radio_engine.specs.Writing.{IsFrontOf, WritesAll, WritesFront, Answers}
 
 -- a text, and then another
@@ -34,3 +35,7 @@ front_of_more a b x y more h = (
   h.2,
   h.3,
 )
+
+-- a write failed in the first of two texts
+pub answers_front : (status : Status) (a b : SinkState) (x y : List ℕ) → WritesFront a b x → Answers status WriteFault a b (x ++ y)
+answers_front status a b x y h = inr (refl, front_of_more a b x (x ++ y) (y, refl) h)

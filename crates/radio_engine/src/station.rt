@@ -1,14 +1,16 @@
 ghost use Rattle.std.specs.Prelude.{◌≡◌, ◌⊎◌, ℕ, List, ◌∷◌, [], ◌++◌, Some, map};
-ghost use Rattle.command_words.specs.Commands.{Asked, AskFor, decode};
+ghost use Rattle.command_words.specs.Commands.{Asked, AskFor, decode, replay};
 ghost use Rattle.feed_link.specs.Faults.{Rose};
 ghost use Rattle.feed_link.specs.Told.{SourceState};
 ghost use Rattle.feed_link.specs.Openings.{Opening};
 ghost use Rattle.tick_units.specs.declared.marks.Plan.{Plan};
-ghost use Rattle.radio_engine.specs.Station.{Refuses, Lacks, CannotOpen, OpensAndDecodes, IsFaultless};
+ghost use Rattle.radio_engine.specs.Station.{Refuses, Lacks, CannotOpen, OpensAndDecodes, IsFaultless, RunsReplay};
+ghost use Rattle.script_player.specs.Standing.{IsRack};
 ghost use Rattle.radio_engine.specs.declared.file.File.TheVariants.{Log};
 
 use crate::decoding::open_and_decode;
 use crate::ending::Ending;
+use crate::replay::run_replay;
 use crate::status::Status;
 use crate::writing::finish;
 use command_words::{Command, WordsFault, read_words};
@@ -17,7 +19,10 @@ use radio_receiver::Receiver;
 use std::alloc::Global;
 
 /// Runs the command that the words spell. `decode` opens its log once, writes a line for each answer as it comes and then
-/// the status line, and gives the log back.
+/// the status line, and gives the log back. `replay` reads its station, plays its script line by line with receivers of the
+/// rack, and writes what each line gives, then the page of the entries kept and the status line.
+///
+/// The rack holds at least four blank receivers of each plan. Those of a plan are used in the rack's order.
 pub fn run_station<O: Outside, K: Sink>(
     alloc: Global,
     words: &[&str],
@@ -25,6 +30,8 @@ pub fn run_station<O: Outside, K: Sink>(
     outside: &mut O,
     out: &mut K,
 ) -> Status
+    requires { IsRack (λ b h. stands_for b h) rack.items }
+
     // Other words are refused, and nothing is opened.
     ensures refused { ((a : Asked) → AskFor (map (λ w. w.now) words.now) a → ⊥) →
         Refuses (O.state outside.old) (O.state outside.new) (K.state out.old) (K.state out.new) result
@@ -36,6 +43,10 @@ pub fn run_station<O: Outside, K: Sink>(
         ⊎ (CannotOpen Log name (O.state outside.old) (O.state outside.new) (K.state out.old) (K.state out.new) result
         ⊎ OpensAndDecodes plan name (O.state outside.old) (O.state outside.new) (K.state out.old) (K.state out.new) result) }
 
+    // The station file is opened once and read whole, and then the script is opened once and played line by line.
+    ensures replayed { (station script : List ℕ) (limit : ℕ) → AskFor (map (λ w. w.now) words.now) (replay station script limit) →
+        RunsReplay station script limit (O.state outside.old) (O.state outside.new) (K.state out.old) (K.state out.new) result }
+
     // A log without a fault is decoded whole.
     ensures complete { (plan : Plan) (name text : List ℕ) (before : List Opening) (opened back : SourceState) →
         AskFor (map (λ w. w.now) words.now) (decode plan name) →
@@ -43,10 +54,13 @@ pub fn run_station<O: Outside, K: Sink>(
         IsFaultless plan opened back text → (Rose (K.state out.old).faults (K.state out.new).faults → ⊥) →
         (result ≡ Status.Done) ⊎ (result ≡ Status.Memory) }
 {
-    let _ = rack;
     match read_words(alloc, words) {
         Ok(Command::Decode { plan, log }) => open_and_decode(plan, log, outside, out),
-        Ok(Command::Replay { .. }) => finish(Ending::NoMemory, out),
+        Ok(Command::Replay {
+            station,
+            script,
+            limit,
+        }) => run_replay(alloc, station, script, limit, rack, outside, out),
         Err(WordsFault::Usage) => finish(Ending::WrongWords, out),
         Err(WordsFault::Memory) => finish(Ending::NoMemory, out),
     }

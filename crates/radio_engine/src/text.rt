@@ -1,13 +1,16 @@
 ghost use Rattle.std.specs.Prelude.{◌≡◌, ◌+◌, ◌≤◌, ◌++◌, length, take, codes, decimal};
 ghost use Rattle.arrayvec.specs.ArrayVec.{array_vec_len};
 ghost use Rattle.radio_engine.specs.Endings.{status_line};
+ghost use Rattle.radio_engine.specs.Replaying.{page_text};
 ghost use Rattle.radio_engine.specs.Text.{heard_line};
 
 use crate::ending::Ending;
 use crate::file::{file_name, file_place};
 use arrayvec::ArrayVec;
+use clock_page::Page;
 use itoa::Buffer;
 use journal_entry::{Entry, What, write_entry};
+use system_fold::page_text;
 use tick_units::Heard;
 
 // A line of the output, with its line feed.
@@ -47,6 +50,17 @@ pub fn write_answer_line(heard: &Heard, line: &mut [u8; 256]) -> usize
     end + 1
 }
 
+// Writes the line of a page at the front of `line`. The answer is its number of bytes.
+#[tactic(auto, unfolding(crate::specs::Replaying::page_text))]
+pub fn write_page_line(page: &Page, line: &mut [u8; 256]) -> usize
+    ensures text { take result line.new ≡ page_text page.now }
+    ensures within { result ≤ 256 }
+{
+    let end = page_text(page, line);
+    line[end] = b'\n';
+    end + 1
+}
+
 // A line of these texts, one after the other.
 fn joined(first: &[u8], second: &[u8], third: &[u8]) -> Line
     requires { length first.now + length second.now + length third.now ≤ 200 }
@@ -69,6 +83,17 @@ fn numbered(front: &[u8], place: &[u8], number: u64) -> Line
     add_number(&mut line, number);
     add(&mut line, b"\n");
     line
+}
+
+// The end of a line that ends with a number.
+pub fn count_text(count: u64) -> Line
+    ensures { result.items ≡ codes " " ++ decimal count ++ codes "\n" }
+{
+    let mut text = Line::new();
+    add(&mut text, b" ");
+    add_number(&mut text, count);
+    add(&mut text, b"\n");
+    text
 }
 
 // The last line of a command.

@@ -1,10 +1,10 @@
 -- The text of a datagram, and the way back.
 use Rattle.std.proofs.Common.{◌≡◌, ℕ, zero, suc, ◌+◌, ◌*◌, ◌/◌, ◌%◌, ◌<◌, ◌≤◌, Bool, true, false, ◌&&◌, ◌||◌, not, eqb, ltb, leb, List, [], ◌∷◌, Ok, length, get_or, refl, ap, sym, ◌∙◌, inl, inr, arith}
 use Rattle.std.specs.List.{list_all}
-use Rattle.std.proofs.lemmas.Bool.{and_parts, cases_lt, eqb-true, eq-eqb, le-leb, leb-true, leb-false, ltb-true, or_cases}
+use Rattle.std.proofs.lemmas.Bool.{and_parts, cases_lt, eqb-true, eq-eqb, le-leb, leb-true, ltb-true, or_cases}
 use Rattle.hex.specs.Hex.{IsBytes, decode_sized, encode_with, encode_lower, lower_digits}
 use Rattle.hex.proofs.HexLemmas.{decode_sized-encode_lower, length-encode_with}
-use Rattle.script_line.specs.Datagrams.{IsDatagram, IsTextOfDatagram, is_small_digit, small_digit_value, are_pairs, are_digits, bytes_said}
+use Rattle.script_line.specs.Datagrams.{IsTextOfDatagram, is_small_digit, small_digit_value, are_pairs, are_digits, bytes_said}
 
 -- a test of each number below a bound, which computes
 abbrev all_below : (ℕ → Bool) → ℕ → Bool
@@ -108,7 +108,7 @@ said_bytes (byte ∷ bytes) each =
     let whole : small_digit_value (digit_for (byte / 16)) * 16 + small_digit_value (digit_for (byte % 16)) ≡ byte = omega arith in
     ap (λ b. b ∷ bytes_said (encode_lower bytes)) whole ∙ ap (λ (t : List ℕ). byte ∷ t) (said_bytes bytes (λ i. each (suc i)))
 
-small_text : (bytes : List ℕ) → IsBytes bytes → list_all is_small_digit (encode_lower bytes) ≡ true
+pub small_text : (bytes : List ℕ) → IsBytes bytes → list_all is_small_digit (encode_lower bytes) ≡ true
 unfolding encode_with
 small_text [] each = refl
 small_text (byte ∷ bytes) each =

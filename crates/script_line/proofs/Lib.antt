@@ -1,5 +1,5 @@
 pub mod CuttingLaws
 pub mod DatagramLaws
 pub mod FieldLaws
+pub mod LineLaws
 pub mod NumberLaws
-pub mod WordLaws

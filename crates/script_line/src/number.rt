@@ -2,6 +2,9 @@ ghost use Rattle.std.specs.Prelude.{◌≡◌, ℕ, ◌++◌, ◌≢◌, ◌<◌
 ghost use Rattle.journal_entry.specs.Texts.{spaced};
 ghost use Rattle.script_line.specs.Reading.{BeginsWith, SaysSoFar};
 
+// No number but 0 begins with it.
+const ZERO: u8 = b'0';
+
 // A number in decimal without leading zeros, and how many digits it has.
 #[derive(Clone, Copy)]
 pub struct Number {
@@ -40,7 +43,7 @@ fn number_of(text: &[u8], count: usize, value: u64) -> Option<Number>
     if count == 0 {
         return None;
     }
-    if count > 1 && text[0] == b'0' {
+    if count > 1 && text[0] == ZERO {
         return None;
     }
     Some(Number {

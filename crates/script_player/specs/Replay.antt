@@ -1,7 +1,7 @@
 -- What the lines of a recorded script come to. There is no state: what a line does is read off all the lines before it. How a
 -- script drives a station is this project's own; the receivers' answers are those of their code plans (PTB, NPL, NIST), the
 -- exchanges, the page and the replies those of RFC 5905.
-use Rattle.std.specs.Prelude.{ℕ, ◌+◌, ◌-◌, ◌==◌, ◌&&◌, nat_lt, nat_le, Bool, true, false, not, Option, None, Some, Result, Ok, Err, List, [], ◌∷◌, ◌++◌, length, take, reverse, unwrap_or, if◌then◌else◌}
+use Rattle.std.specs.Prelude.{ℕ, ◌+◌, ◌-◌, ◌==◌, nat_lt, nat_le, Bool, true, false, not, Option, None, Some, Result, Ok, Err, List, [], ◌∷◌, ◌++◌, length, take, reverse, unwrap_or, if◌then◌else◌}
 use Rattle.std.specs.List.{count_by, filter_map, last_or, slice_get, take_while}
 use Rattle.std.specs.Option.{option_to_list}
 use Rattle.tick_units.specs.declared.marks.Plan.{Plan}

@@ -22,10 +22,10 @@ use Rattle.script_player.specs.declared.server.Server.{Server}
 use Rattle.script_player.specs.declared.servers.Servers.{Servers}
 use Rattle.script_player.specs.declared.player.Player.{Player}
 
--- what a call answers to a line: something where the line is lawful, and that it isn't where it isn't
-abbrev pub Gives : {A : Type 0} → Bool → (A → Type 0) → Result A NotLawful → Type 0
-Gives lawful Given (Ok x) = (lawful ≡ true) × Given x
-Gives lawful Given (Err refused) = lawful ≡ false
+-- what a call answers to a line: something exactly where the line is lawful; where it isn't, all is as it was
+abbrev pub Gives : {A : Type 0} → Bool → (A → Type 0) → Type 0 → Result A NotLawful → Type 0
+Gives lawful Given Same (Ok x) = (lawful ≡ true) × Given x
+Gives lawful Given Same (Err refused) = (lawful ≡ false) × Same
 
 -- each of some receivers stands for one of these histories, in order
 abbrev pub AreOf : {B : Type 0} → (B → History → Type 0) → List B → List History → Type 0
@@ -58,6 +58,12 @@ pub record IsSpare {B : Type 0} (stands : B → History → Type 0) (spare : Spa
 abbrev pub left_of : {B : Type 0} → Plan → List (Spare B) → ℕ
 left_of plan spares = count_by (λ spare. is_same_plan plan spare.plan) spares
 
+-- at this place stands a receiver of the plan
+pub record IsPlaceOf {B : Type 0} (plan : Plan) (spares : List (Spare B)) (place : ℕ) : Type 0 where
+  pub spare : Spare B
+  pub at : slice_get spares place ≡ Some spare
+  pub plan_is : is_same_plan plan spare.plan ≡ true
+
 -- a blank receiver of a plan
 pub record IsBlankOf {B : Type 0} (stands : B → History → Type 0) (plan : Plan) (receiver : B) : Type 0 where
   pub delay : ℕ
@@ -85,12 +91,30 @@ pub record HasSorted {B : Type 0} (stands : B → History → Type 0) (spares : 
   pub most : (plan : Plan) → left_of plan spares ≤ 4
   pub enough : (plan : Plan) → 4 ≤ left_of plan spares + count_by (is_blank_of plan) histories
 
+-- the radios of a station, in order
+pub record HasFitted {B : Type 0} (stands : B → History → Type 0) (radios : List (Radio B)) (station : StationFields) (lines : List ScriptLine) : Type 0 where
+  pub count : length radios ≡ length station.radios
+  pub each : (feed : ℕ) (radio : Radio B) (fields : RadioFields) → slice_get radios feed ≡ Some radio → slice_get station.radios feed ≡ Some fields → HasRadio stands radio fields feed lines
+
 -- of each plan four receivers are fitted or left
 pub record HasRadios {B : Type 0} (stands : B → History → Type 0) (radios : Radios B) (station : StationFields) (lines : List ScriptLine) : Type 0 where
-  pub count : length radios.fitted.items ≡ length station.radios
-  pub each : (feed : ℕ) (radio : Radio B) (fields : RadioFields) → slice_get radios.fitted.items feed ≡ Some radio → slice_get station.radios feed ≡ Some fields → HasRadio stands radio fields feed lines
+  pub fitted_are : HasFitted stands radios.fitted.items station lines
   pub blank : All (IsSpare stands) radios.left.items
   pub four : (plan : Plan) → left_of plan radios.left.items + fitted station plan lines ≡ 4
+
+-- a station with one radio more, and with one server more
+abbrev pub with_radio : StationFields → RadioFields → StationFields
+with_radio station fields = record { holdover = station.holdover; start = station.start; radios = station.radios ++ fields ∷ []; servers = station.servers; links = station.links }
+
+abbrev pub with_server : StationFields → ServerFields → StationFields
+with_server station fields = record { holdover = station.holdover; start = station.start; radios = station.radios; servers = station.servers ++ fields ∷ []; links = station.links }
+
+-- a station with the first of its radios alone, and with the first of its servers alone
+abbrev pub first_radios : ℕ → StationFields → StationFields
+first_radios n station = record { holdover = station.holdover; start = station.start; radios = take n station.radios; servers = station.servers; links = station.links }
+
+abbrev pub first_servers : ℕ → StationFields → StationFields
+first_servers n station = record { holdover = station.holdover; start = station.start; radios = station.radios; servers = take n station.servers; links = station.links }
 
 -- each receiver can hear what its radio may hear next
 pub record AreReady {B : Type 0} (least_start : B → ℕ) (radios : Radios B) : Type 0 where
@@ -108,10 +132,18 @@ pub record HasServer (server : Server) (fields : ServerFields) (feed : ℕ) (lin
   pub address : server.address ≡ fields.address
   pub last : server.last ≡ last_moment feed lines
 
+-- a moment isn't below the last one of the server at a place
+abbrev pub IsTimely : List Server → ℕ → ℕ → Type 0
+IsTimely servers place at = (server : Server) → slice_get servers place ≡ Some server → server.last ≤ at
+
+-- the servers of a station, in order; their numbers begin behind those of the radios
+pub record HasPolling (servers : List Server) (station : StationFields) (lines : List ScriptLine) : Type 0 where
+  pub count : length servers ≡ length station.servers
+  pub each : (place : ℕ) (server : Server) (fields : ServerFields) → slice_get servers place ≡ Some server → slice_get station.servers place ≡ Some fields → HasServer server fields (length station.radios + place) lines
+
 pub record HasServers (servers : Servers) (station : StationFields) (lines : List ScriptLine) : Type 0 where
-  pub first : servers.first ≡ length station.radios
-  pub count : length servers.servers.items ≡ length station.servers
-  pub each : (place : ℕ) (server : Server) (fields : ServerFields) → slice_get servers.servers.items place ≡ Some server → slice_get station.servers place ≡ Some fields → HasServer server fields (length station.radios + place) lines
+  pub first_is : servers.first ≡ length station.radios
+  pub polling : HasPolling servers.servers.items station lines
 
 -- a datagram more, and the entry that it was due
 pub record HasAnswered (servers : Servers) (station : StationFields) (lines : List ScriptLine) (feed at : ℕ) (datagram : List ℕ) (entry : Entry) : Type 0 where
@@ -138,7 +170,8 @@ pub record HasGiven {B : Type 0} (stands : B → History → Type 0) (player : P
 
 -- what a player answers to a line behind these lines
 abbrev pub Plays : {B : Type 0} → (B → History → Type 0) → Player B → StationFields → ℕ → List ScriptLine → ScriptLine → Result Outcome NotLawful → Type 0
-Plays stands player station limit lines line result = Gives (is_lawful station lines line) (HasGiven stands player station limit lines line) result
+Plays stands player station limit lines line result =
+    Gives (is_lawful station lines line) (HasGiven stands player station limit lines line) (HasPlayed stands player station limit lines) result
 
 -- each receiver of a player can hear what its radio may hear next
 abbrev pub IsReady : {B : Type 0} → (B → ℕ) → Player B → Type 0

@@ -9,6 +9,7 @@ mod radio;
 mod radios;
 mod server;
 mod servers;
+mod text;
 
 use radio_receiver::Receiver;
 
@@ -17,3 +18,4 @@ pub type BoxedReceiver = Box<dyn Receiver + Send>;
 
 pub use outcome::{NotLawful, Outcome};
 pub use player::Player;
+pub use text::write_outcome;

@@ -1,4 +1,4 @@
-ghost use Rattle.std.specs.Prelude.{◌≡◌, ◌≤◌, ◌+◌, [], ℕ, List, Ok, IfOk, OnErr, vec_len, length};
+ghost use Rattle.std.specs.Prelude.{◌≡◌, ◌≤◌, ◌+◌, ◌^◌, [], ℕ, List, Ok, IfOk, vec_len, length};
 ghost use Rattle.station_config.specs.Station.{StationFields};
 ghost use Rattle.script_line.specs.Texts.{IsLine};
 ghost use Rattle.script_line.specs.declared.line.ScriptLine.{ScriptLine};
@@ -33,6 +33,33 @@ pub struct Player<B: Drop> {
 impl Player<BoxedReceiver> {
     ghost use Rattle.script_player.specs.Standing.{HasPlayed, IsRack, IsReady, Plays};
 
+    /// A station that has played no line yet, and that keeps at most so many entries, up to 4194304. Of each plan the first
+    /// four blank receivers of the rack are used, in its order; the others are dropped.
+    ///
+    /// # Errors
+    /// There is no memory. No other call takes any.
+    pub fn new(
+        alloc: Global,
+        station: &Station,
+        rack: Vec<BoxedReceiver>,
+        limit: u32,
+    ) -> Result<Player<BoxedReceiver>, AllocError>
+        requires rack { IsRack (λ b h. stands_for b h) rack.items }
+        requires limit { limit ≤ 2 ^ 22 }
+        ensures played { IfOk result (λ player. HasPlayed (λ b h. stands_for b h) player station.now limit []) }
+        ensures ready { IfOk result (λ player. IsReady (λ b. least_start b) player) }
+    {
+        let radios = Radios::new(alloc, station, rack)?;
+        let mut servers = Servers::new(alloc, station.radios() as u32);
+        servers.add_all(station)?;
+        let journal = Journal::new(station.settings(), limit);
+        Ok(Player {
+            radios,
+            servers,
+            journal,
+        })
+    }
+
     /// The next line: what it gives, where it may stand behind the lines before it.
     ///
     /// # Errors
@@ -43,7 +70,6 @@ impl Player<BoxedReceiver> {
         ensures ready { IsReady (λ b. least_start b) self.new }
         ensures plays { (station : StationFields) (limit : ℕ) (before : List ScriptLine) → HasPlayed (λ b h. stands_for b h) self.old station limit before →
             Plays (λ b h. stands_for b h) self.new station limit before line.now result }
-        ensures unchanged { OnErr result (self.new ≡ self.old) }
     {
         match line {
             ScriptLine::Pulse { feed, reduction } => self.hear(*feed, *reduction),
@@ -65,7 +91,6 @@ impl Player<BoxedReceiver> {
         ensures ready { IsReady (λ b. least_start b) self.new }
         ensures plays { (station : StationFields) (limit : ℕ) (before : List ScriptLine) → HasPlayed (λ b h. stands_for b h) self.old station limit before →
             Plays (λ b h. stands_for b h) self.new station limit before (lines.Pulse feed reduction) result }
-        ensures unchanged { OnErr result (self.new ≡ self.old) }
     {
         match self.radios.hear(feed, reduction)? {
             Some(entry) => Ok(self.journal.take(&entry)),
@@ -79,19 +104,22 @@ impl Player<BoxedReceiver> {
         ensures ready { IsReady (λ b. least_start b) self.new }
         ensures plays { (station : StationFields) (limit : ℕ) (before : List ScriptLine) → HasPlayed (λ b h. stands_for b h) self.old station limit before →
             Plays (λ b h. stands_for b h) self.new station limit before (lines.Ask feed at) result }
-        ensures unchanged { OnErr result (self.new ≡ self.old) }
     {
         let request = self.servers.ask(feed, at)?;
         Ok(Outcome::Asked(request))
     }
 
     // A datagram comes from a server.
-    fn answer(&mut self, feed: u32, at: Local, datagram: &Datagram<'_>) -> Result<Outcome, NotLawful>
+    fn answer(
+        &mut self,
+        feed: u32,
+        at: Local,
+        datagram: &Datagram<'_>,
+    ) -> Result<Outcome, NotLawful>
         requires { IsReady (λ b. least_start b) self.old }
         ensures ready { IsReady (λ b. least_start b) self.new }
         ensures plays { (station : StationFields) (limit : ℕ) (before : List ScriptLine) → HasPlayed (λ b h. stands_for b h) self.old station limit before →
             Plays (λ b h. stands_for b h) self.new station limit before (lines.Answer feed at datagram.now) result }
-        ensures unchanged { OnErr result (self.new ≡ self.old) }
     {
         let mut room = [0; 1024];
         let length = datagram.write(&mut room);
@@ -105,7 +133,6 @@ impl Player<BoxedReceiver> {
         ensures ready { IsReady (λ b. least_start b) self.new }
         ensures plays { (station : StationFields) (limit : ℕ) (before : List ScriptLine) → HasPlayed (λ b h. stands_for b h) self.old station limit before →
             Plays (λ b h. stands_for b h) self.new station limit before (lines.Swap feed) result }
-        ensures unchanged { OnErr result (self.new ≡ self.old) }
     {
         self.radios.swap(feed)?;
         Ok(Outcome::Nothing)

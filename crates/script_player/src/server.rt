@@ -1,4 +1,4 @@
-ghost use Rattle.std.specs.Prelude.{◌≡◌, ◌≤◌, ◌++◌, ◌∷◌, [], List};
+ghost use Rattle.std.specs.Prelude.{◌≡◌, ◌≤◌, ◌++◌, ◌∷◌, [], List, None};
 ghost use Rattle.std.specs.Option.{ForSome};
 ghost use Rattle.poll_core.specs.Formulas.{request_header};
 ghost use Rattle.poll_core.specs.Histories.{Event, judge};
@@ -26,16 +26,17 @@ pub struct Server {
 impl Server {
     ghost use Rattle.script_player.specs.Replay.{what_answered};
 
-    // A server that was asked nothing.
-    pub fn new(address: Address) -> Server
+    // A server with a poller that has asked nothing. No moment of it will be below this one.
+    pub fn new(poll: Poll, address: Address, last: Local) -> Server
+        requires { asked_at poll ≡ None }
+        ensures poll { result.poll ≡ poll }
         ensures address { result.address ≡ address }
-        ensures polled { HasPolled result.poll address [] }
-        ensures last { result.last ≡ 0 }
+        ensures last { result.last ≡ last }
     {
         Server {
-            poll: Poll::new(address),
+            poll,
             address,
-            last: Local::new(0).unwrap(),
+            last,
         }
     }
 

@@ -10,8 +10,8 @@ use Rattle.station_config.specs.Values.{tables_at}
 use Rattle.station_config.specs.declared.fault.StationFault.{StationFault}
 use Rattle.station_config.specs.declared.fault.StationFault.TheVariants as fault
 use Rattle.station_config.specs.declared.keys.Part.TheVariants as part
-use Rattle.station_config.specs.declared.reading.Obstacle.{Obstacle}
-use Rattle.station_config.specs.declared.reading.Obstacle.TheVariants as obstacle
+use Rattle.station_config.specs.declared.items.Obstacle.{Obstacle}
+use Rattle.station_config.specs.declared.items.Obstacle.TheVariants as obstacle
 use Rattle.station_config.proofs.Firsts.{empty_back, empty_front, empty_map, first_map, first_some}
 use Rattle.station_config.proofs.Walks.{misread_more}
 

@@ -10,8 +10,8 @@ use Rattle.station_config.specs.Faults.{bad_in, keys_at, missing_in, sheets}
 use Rattle.station_config.specs.Finding.{Adds, IsMisreadAt}
 use Rattle.station_config.specs.Rows.{Row, Text, table_at, tables_from}
 use Rattle.station_config.specs.declared.keys.Part.{Part}
-use Rattle.station_config.specs.declared.reading.Obstacle.{Obstacle}
-use Rattle.station_config.specs.declared.reading.Obstacle.TheVariants as obstacle
+use Rattle.station_config.specs.declared.items.Obstacle.{Obstacle}
+use Rattle.station_config.specs.declared.items.Obstacle.TheVariants as obstacle
 use Rattle.station_config.proofs.Firsts.{empty_back, empty_front, first_some}
 
 pub keys_at-append : (kind : List Row → Members → List Text) (part : Part) (xs ys : List (ℕ × Members)) → keys_at kind (sheets part (xs ++ ys)) ≡ keys_at kind (sheets part xs) ++ keys_at kind (sheets part ys)

@@ -13,9 +13,9 @@ use Rattle.station_config.specs.declared.keys.Check.{Check}
 use Rattle.station_config.specs.declared.keys.Check.TheVariants.{Unknown, Missing}
 use Rattle.station_config.specs.declared.keys.Part.{Part}
 use Rattle.station_config.specs.declared.keys.Spot.{Spot}
-use Rattle.station_config.specs.declared.reading.Count.{Count}
-use Rattle.station_config.specs.declared.reading.Obstacle.{Obstacle}
-use Rattle.station_config.specs.declared.reading.Obstacle.TheVariants as obstacle
+use Rattle.station_config.specs.declared.counts.Count.{Count}
+use Rattle.station_config.specs.declared.items.Obstacle.{Obstacle}
+use Rattle.station_config.specs.declared.items.Obstacle.TheVariants as obstacle
 use Rattle.station_config.specs.declared.rows.Misread.{Misread}
 use Rattle.station_config.specs.declared.rows.Misread.TheVariants as misread
 use Rattle.station_config.specs.declared.station.Parts.{Parts}

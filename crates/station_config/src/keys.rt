@@ -1,4 +1,4 @@
-ghost use Rattle.std.specs.Prelude.{◌≡◌, [], Some, None, map, not, filter, is_none, is_some, option_map, slice_get};
+ghost use Rattle.std.specs.Prelude.{◌≡◌, [], Some, None, map, filter, is_none, is_some, option_map, slice_get};
 ghost use Rattle.std.specs.List.{list_any};
 ghost use Rattle.std.specs.Str.{bytes_eq};
 ghost use Rattle.toml.specs.Data.{get_member};

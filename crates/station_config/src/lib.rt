@@ -2,7 +2,10 @@
 #![tactic(auto)]
 
 mod address;
+mod counts;
+mod document;
 mod fault;
+mod items;
 mod keys;
 mod reading;
 mod rows;

@@ -1,11 +1,10 @@
-ghost use Rattle.std.specs.Prelude.{◌≡◌, ◌≤◌, Some, None, IfOk, IfErr, IfSome, IsSome, [], is_some, is_none, option_map, string_bytes, codes};
+ghost use Rattle.std.specs.Prelude.{◌≡◌, ◌≤◌, Some, None, IfOk, IfErr, IfSome, IsSome, [], option_map, codes};
 ghost use Rattle.tick_units.specs.declared.marks.Plan.TheVariants.{Dcf};
 ghost use Rattle.toml.specs.Data.{get_member, string};
 ghost use Rattle.toml.specs.View.{view, table_view};
-ghost use Rattle.station_config.specs.Rows.{whole_in, text_in, plan_in, octet_of, address_of, address_in, whole, text, plan, address, radio_rows, server_rows, link_rows};
-ghost use Rattle.station_config.specs.Values.{read_or, number_at, radio_of, server_of};
-ghost use Rattle.station_config.specs.Rows.{port_row};
-ghost use Rattle.station_config.specs.Faults.{bad_in, missing_in, is_wrong};
+ghost use Rattle.station_config.specs.Rows.{whole_in, text_in, plan_in, address_in, whole, text, plan, address, radio_rows, server_rows, link_rows, port_row};
+ghost use Rattle.station_config.specs.Values.{number_at, radio_of, server_of};
+ghost use Rattle.station_config.specs.Faults.{bad_in, missing_in};
 ghost use Rattle.station_config.specs.Finding.{IsRead, IsMisread};
 ghost use Rattle.station_config.specs.Inside.{radio_kept, server_fields};
 

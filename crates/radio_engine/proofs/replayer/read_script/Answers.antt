@@ -1,6 +1,6 @@
 use Rattle.std.proofs.Common.{◌≡◌, length, take, refl, ◌∙◌, arith}
 use Rattle.std.proofs.lemmas.List.{length-take}
-use Rattle.radio_engine.proofs.ReachLaws.{ends_at_end, ends_too_long, ends_bad, ends_stopped, progress_on}
+use Rattle.radio_engine.proofs.ReachLaws.{ends_by_fault, ends_at_end, ends_too_long, ends_bad, ends_stopped, progress_on}
 use Rattle.radio_engine.proofs.replayer.read_script.Goals as goal
 
 pub returns-then-count-eq0-clause-ends : goal.returns-then-count-eq0-clause-ends
@@ -57,3 +57,20 @@ returns-in-Ok-read_piece-clause-ends g c = λ reading most held.
     let full = c.pieces-test.false in
     let one : length (take count c.read_piece-2.new.piece) ≡ 1 = omega (arith, length-take count c.read_piece-2.new.piece) in
     ends_too_long _ reading _ _ _ _ _ _ p (take count c.read_piece-2.new.piece) c.in-Ok-read_piece.ensures.bytes.0 one (omega arith) c.in-Ok-read_piece.ensures.cause.kept
+
+pub returns-in_default-clause-ends : goal.returns-in_default-clause-ends
+returns-in_default-clause-ends g c = λ reading most held.
+    let p = c.pieces.invariant.progress reading most held in
+    ends_by_fault _ reading _ _ _ _ _ _ p c.in_default.ensures.bytes c.in_default.ensures.cause.rose
+
+pub returns-in-Ok-eq0-clause-ends : goal.returns-in-Ok-eq0-clause-ends
+returns-in-Ok-eq0-clause-ends g c = λ reading most held.
+    let p = c.pieces.invariant.progress reading most held in
+    let size = c.pieces.invariant.size in
+    let bytes = rw c.in-Ok-eq0.field-0-test at c.in-Ok-eq0.ensures.bytes in
+    ends_at_end _ reading _ _ _ _ _ _ p c.at_end-in-Ok-eq0.result (c.at_end-in-Ok-eq0.ensures reading p.bytes p.text p.held) bytes.0 (bytes.1 refl (omega arith)) c.in-Ok-eq0.ensures.cause.kept
+
+pub returns-in-Err-clause-ends : goal.returns-in-Err-clause-ends
+returns-in-Err-clause-ends g c = λ reading most held.
+    let p = c.pieces.invariant.progress reading most held in
+    ends_by_fault _ reading _ _ _ _ _ _ p c.in-Err.ensures.bytes c.in-Err.ensures.cause.rose

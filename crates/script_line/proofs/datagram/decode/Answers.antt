@@ -1,5 +1,4 @@
-use Rattle.std.proofs.Common.{◌≡◌, length, sym, ap, ◌∙◌}
-use Rattle.hex.proofs.HexLemmas.{decode_sized-encode_lower}
+use Rattle.std.proofs.Common.{length}
 use Rattle.script_line.proofs.DatagramLaws.{decodes}
 use Rattle.script_line.proofs.datagram.decode.Goals as goal
 

@@ -1,5 +1,4 @@
-use Rattle.std.proofs.Common.{◌≡◌, ◌<◌, ◌≤◌, ◌^◌, [], ◌∷◌, Some, decimal, refl, arith}
-use Rattle.hex.specs.Hex.{encode_lower}
+use Rattle.std.proofs.Common.{◌≡◌, [], ◌∷◌, Some, decimal, refl}
 use Rattle.script_line.proofs.FieldLaws.{no_fields, left_over}
 use Rattle.script_line.specs.declared.line.ScriptLine.TheVariants.{Pulse}
 use Rattle.script_line.proofs.read.read_pulse.Goals as goal

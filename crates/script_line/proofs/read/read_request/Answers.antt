@@ -1,6 +1,5 @@
 use Rattle.std.proofs.Common.{◌≡◌, ◌<◌, ◌≤◌, ◌^◌, [], ◌∷◌, Some, decimal, refl, arith}
 use Rattle.hex.specs.Hex.{encode_lower}
-use Rattle.script_line.proofs.FieldLaws.{no_fields, left_over}
 use Rattle.script_line.specs.declared.line.ScriptLine.TheVariants.{Request}
 use Rattle.script_line.proofs.read.read_request.Goals as goal
 

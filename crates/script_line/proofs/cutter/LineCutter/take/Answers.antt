@@ -1,5 +1,4 @@
 use Rattle.std.proofs.Common.{ℕ, List, ◌++◌, take, refl, ap, sym, ◌∙◌}
-use Rattle.script_line.specs.Cutting.{HasTaken}
 use Rattle.script_line.proofs.CuttingLaws.{takes_all, takes_line, takes_too_much, too_much_of_line, too_much_of_piece}
 use Rattle.script_line.proofs.cutter.LineCutter.take.Goals as goal
 use Rattle.script_line.proofs.cutter.LineCutter.take.Goals.{in_default-via-in-Some+else-place-held, in_default-via-in-None+else-piece-held}

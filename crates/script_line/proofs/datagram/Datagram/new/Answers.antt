@@ -1,4 +1,4 @@
-use Rattle.std.proofs.Common.{◌≡◌, Some, true, ap, sym, ◌∙◌}
+use Rattle.std.proofs.Common.{Some, sym, ◌∙◌}
 use Rattle.std.proofs.lemmas.Bool.{both_ways}
 use Rattle.script_line.proofs.DatagramLaws.{text_of_digits, digits_of_text, said_is}
 use Rattle.script_line.proofs.datagram.Datagram.new.Goals as goal

@@ -1,0 +1,329 @@
+use crate::{Status, run_station};
+use feed_link::{MemoryOutside, MemorySink, MemorySource, NamedLog};
+use radio_receiver::{DcfReceiver, MsfReceiver, WwvbReceiver};
+use script_player::BoxedReceiver;
+use std::alloc::{AllocError, Global};
+use std::process::Abort;
+use std::test::Fail;
+
+const WORDS: [&str; 5] = ["replay", "--station", "s", "--script", "p"];
+
+const LIMIT_2: [&str; 7] = [
+    "replay", "--station", "s", "--script", "p", "--limit", "2",
+];
+
+const DCF: &str = "holdover = 600\n[[radio]]\nplan = \"dcf\"\nlog = \"log\"\n";
+
+const SERVER: &str = "[[server]]\naddress = \"127.0.0.1\"\nport = 123\n";
+
+// The places that are One in frames of DCF77, computed from the calendar by PTB's table: 1 January 2026, 13:00 to 13:04.
+const NOON: [&[usize]; 5] = [
+    &[18, 20, 29, 30, 33, 35, 36, 44, 45, 51, 52, 55],
+    &[18, 20, 21, 28, 29, 30, 33, 35, 36, 44, 45, 51, 52, 55],
+    &[18, 20, 22, 28, 29, 30, 33, 35, 36, 44, 45, 51, 52, 55],
+    &[18, 20, 21, 22, 29, 30, 33, 35, 36, 44, 45, 51, 52, 55],
+    &[18, 20, 23, 28, 29, 30, 33, 35, 36, 44, 45, 51, 52, 55],
+];
+
+// The pulses of so many frames from 2 s on, behind a first one at 0, up to and with the one at a moment.
+fn pulses(text: &mut String, from: u64, to: u64) -> Result<(), AllocError> {
+    if from == 0 {
+        text.push_str("pulse 0 0 100000\n")?;
+    }
+    let mut frame = 0u64;
+    for ones in NOON {
+        for place in 0..59usize {
+            let at = 2_000_000u64
+                .saturating_add(frame.saturating_mul(60_000_000))
+                .saturating_add(1_000_000u64.saturating_mul(place as u64));
+            if from < at && at <= to {
+                let width = if ones.contains(&place) {
+                    200_000
+                } else {
+                    100_000
+                };
+                writeln!(text, "pulse 0 {at} {width}")?;
+            }
+        }
+        frame = frame.saturating_add(1);
+    }
+    if from < 302_000_000 && 302_000_000 <= to {
+        text.push_str("pulse 0 302000000 100000\n")?;
+    }
+    Ok(())
+}
+
+// A request: its first byte, zeros, and the transmit timestamp 1122334455667788; and more bytes behind it.
+fn request(text: &mut String, arrived: u64, sent: u64, first: &str, more: usize) -> Result<(), AllocError> {
+    write!(text, "request 0 {arrived} {sent} {first}0006ec")?;
+    for _ in 0..36u8 {
+        text.push_str("00")?;
+    }
+    text.push_str("1122334455667788")?;
+    for _ in 0..more {
+        text.push_str("00")?;
+    }
+    text.push_str("\n")
+}
+
+// Calls that fail, counted from 1, or 0 for none: openings, readings of the station and of the script, and writings.
+#[derive(Clone, Copy)]
+struct Failing {
+    open: u64,
+    station: u64,
+    script: u64,
+    write: u64,
+}
+
+const NONE: Failing = Failing {
+    open: 0,
+    station: 0,
+    script: 0,
+    write: 0,
+};
+
+fn named(alloc: Global, name: &str, text: &[u8], fails: u64) -> Result<NamedLog, AllocError> {
+    let source = MemorySource::new(
+        Vec::from_slice(alloc, text)?,
+        vec![in alloc; fails]?,
+    );
+    Ok(NamedLog::new(String::from_str(alloc, name)?, source))
+}
+
+// What the words write over a station file "s" and a script "p", and their status.
+fn run(
+    alloc: Global,
+    words: &[&str],
+    station: &[u8],
+    script: &str,
+    failing: Failing,
+) -> Result<(Vec<u8>, Status), Fail> {
+    let mut rack: Vec<BoxedReceiver> = Vec::new(alloc);
+    for _ in 0..4u8 {
+        rack.push(Box::new(alloc, DcfReceiver::new())?)?;
+        rack.push(Box::new(alloc, WwvbReceiver::new())?)?;
+        rack.push(Box::new(alloc, MsfReceiver::new())?)?;
+    }
+    let mut logs = Vec::new(alloc);
+    logs.push(named(alloc, "s", station, failing.station)?)?;
+    logs.push(named(alloc, "p", script.as_bytes(), failing.script)?)?;
+    let mut outside = MemoryOutside::new(alloc, logs, vec![in alloc; failing.open]?, 4, 100)?;
+    let mut out = MemorySink::new(alloc, vec![in alloc; failing.write]?);
+    let status = run_station(alloc, words, rack, &mut outside, &mut out);
+    Ok((out.into_bytes(), status))
+}
+
+// A station and a script write this text, and end so.
+fn writes(
+    rt: &impl Abort,
+    alloc: Global,
+    words: &[&str],
+    station: &str,
+    script: &str,
+    want: &str,
+    end: Status,
+) -> Result<(), Fail> {
+    let (written, status) = run(alloc, words, station.as_bytes(), script, NONE)?;
+    assert_eq!(rt; written.as_slice(), want.as_bytes());
+    assert_eq!(rt; status, end);
+    Ok(())
+}
+
+const FIVE: &str = "0 62000000 lone 3976257600\n0 122000000 verdict 3976257660 0\n0 182000000 verdict 3976257720 0\n0 242000000 verdict 3976257780 0\nreply e40006ec0000000000100000494e4954000000000000000011223344556677880\
+00000f300000000000000f30020c49b\n0 302000000 verdict 3976257840 0\nreply 240106ec000000000000f06744434600ed00e130000000001122334455667788ed00e13100000000ed00e1310020c49b\npage 5 1 1 44434600 17077896086183477248 302000000 902000000 0 61542 ed00e13000000000 0\nstatus 0\n";
+
+fn five_minutes(alloc: Global) -> Result<String, AllocError> {
+    let mut script = String::new(alloc);
+    pulses(&mut script, 0, 242_000_000)?;
+    request(&mut script, 243_000_000, 243_000_500, "23", 0)?;
+    pulses(&mut script, 242_000_000, 302_000_000)?;
+    request(&mut script, 303_000_000, 303_000_500, "23", 0)?;
+    Ok(script)
+}
+
+#[test]
+fn five_minutes_make_a_page(rt: HostRuntime) -> Result<(), Fail> {
+    let script = five_minutes(rt.alloc())?;
+    writes(&rt, rt.alloc(), &WORDS, DCF, script.as_str(), FIVE, Status::Done)
+}
+
+#[test]
+fn a_page_ends(rt: HostRuntime) -> Result<(), Fail> {
+    let mut script = five_minutes(rt.alloc())?;
+    request(&mut script, 901_999_999, 901_999_999, "23", 0)?;
+    request(&mut script, 902_000_000, 902_000_000, "23", 0)?;
+    let (written, status) = run(rt.alloc(), &WORDS, DCF.as_bytes(), script.as_str(), NONE)?;
+    let mut lines = written.split(|byte| *byte == b'\n').skip(7);
+    let near = lines.next().ok_or("a reply")?;
+    let past = lines.next().ok_or("another")?;
+    assert!(rt; near.starts_with(b"reply 240106ec"));
+    assert!(rt; past.starts_with(b"reply e40006ec0000000000100000494e4954"));
+    assert_eq!(rt; status, Status::Done);
+    Ok(())
+}
+
+#[test]
+fn requests_are_answered_or_dropped(rt: HostRuntime) -> Result<(), Fail> {
+    let mut script = String::from_str(rt.alloc(), "request 0 1 1 23\n")?;
+    request(&mut script, 1_000_000, 1_000_000, "2b", 0)?;
+    request(&mut script, 1_000_000, 1_000_000, "21", 0)?;
+    request(&mut script, 1_000_000, 1_000_000, "23", 20)?;
+    let want = "drop short\ndrop version\ndrop mode\nreply e40006ec0000000000100000494e4954000000000000000011223344556677880000000100000000\
+0000000100000000\npage 0 0 0 494e4954 0 0 0 0 1048576 0000000000000000 0\nstatus 0\n";
+    writes(&rt, rt.alloc(), &WORDS, DCF, script.as_str(), want, Status::Done)
+}
+
+#[test]
+fn a_full_journal_goes_on(rt: HostRuntime) -> Result<(), Fail> {
+    let mut script = String::new(rt.alloc());
+    pulses(&mut script, 0, 182_000_000)?;
+    request(&mut script, 183_000_000, 183_000_000, "23", 0)?;
+    let (written, status) = run(rt.alloc(), &LIMIT_2, DCF.as_bytes(), script.as_str(), NONE)?;
+    assert!(rt; written.starts_with(b"0 62000000 lone 3976257600\n0 122000000 verdict 3976257660 0\nreply e40006ec"));
+    assert!(rt; written.ends_with(b"\npage 2 0 0 494e4954 0 122000000 0 0 1048576 0000000000000000 0\nstatus 6 full 2\n"));
+    assert_eq!(rt; status, Status::JournalFull);
+    // A bad line comes before it.
+    script.push_str("\n")?;
+    let (written, status) = run(rt.alloc(), &LIMIT_2, DCF.as_bytes(), script.as_str(), NONE)?;
+    assert!(rt; written.ends_with(b"\npage 2 0 0 494e4954 0 122000000 0 0 1048576 0000000000000000 0\nstatus 5 script 181\n"));
+    assert_eq!(rt; status, Status::BadLine);
+    Ok(())
+}
+
+#[test]
+fn servers_are_asked(rt: HostRuntime) -> Result<(), Fail> {
+    let answer =
+        "answer 0 1010000 240206ec00000100000002000a00000100000000000000008000000100000000ed00e13100000000ed00e1310020c49b\n";
+    let mut script = String::from_str(rt.alloc(), "ask 0 1000000\n")?;
+    script.push_str(answer)?;
+    script.push_str(answer)?;
+    let mut want = String::from_str(rt.alloc(), "asked 230006ec")?;
+    for _ in 0..36u8 {
+        want.push_str("00")?;
+    }
+    want.push_str(
+        "8000000100000000\n0 1010000 sample 17077897383243199545 40802189 8837 2 7f000001 256 512\n0 1010000 declined 3\n",
+    )?;
+    let (written, status) = run(rt.alloc(), &WORDS, SERVER.as_bytes(), script.as_str(), NONE)?;
+    assert!(rt; written.starts_with(want.as_bytes()));
+    assert_eq!(rt; status, Status::Done);
+    Ok(())
+}
+
+#[test]
+fn a_swap_loses_its_half_frame(rt: HostRuntime) -> Result<(), Fail> {
+    let mut script = String::new(rt.alloc());
+    pulses(&mut script, 0, 90_000_000)?;
+    script.push_str("swap 0\n")?;
+    pulses(&mut script, 90_000_000, 182_000_000)?;
+    let (written, status) = run(rt.alloc(), &WORDS, DCF.as_bytes(), script.as_str(), NONE)?;
+    assert!(rt; written.starts_with(b"0 62000000 lone 3976257600\n0 182000000 lone 3976257720\npage 2 "));
+    assert_eq!(rt; status, Status::Done);
+    Ok(())
+}
+
+const EMPTY_PAGE: &str = "page 0 0 0 494e4954 0 0 0 0 1048576 0000000000000000 0\n";
+
+#[test]
+fn a_script_ends_at_its_first_bad_line(rt: HostRuntime) -> Result<(), Fail> {
+    let table = [
+        ("pulse 1 0 100000\n", 1),
+        ("\n", 1),
+        ("pulse 0 1 100000\npulse 0 1 100000\n", 2),
+        ("pulse 0 1 100000\npulse 0 2 100000", 2),
+        ("pulse 0 1 2000001\n", 1),
+        ("pulse 0  1 100000\n", 1),
+        ("ask 0 1\n", 1),
+        ("swap 0\nswap 0\nswap 0\nswap 0\n", 4),
+        ("request 8 1 1 23\n", 1),
+        ("request 0 2 1 23\n", 1),
+    ];
+    for (script, line) in table {
+        let mut want = String::from_str(rt.alloc(), EMPTY_PAGE)?;
+        writeln!(want, "status 5 script {line}")?;
+        writes(&rt, rt.alloc(), &WORDS, DCF, script, want.as_str(), Status::BadLine)?;
+    }
+    Ok(())
+}
+
+#[test]
+fn a_line_of_4096_bytes_is_bad(rt: HostRuntime) -> Result<(), Fail> {
+    let mut script = String::from_str(rt.alloc(), "swap 0\n")?;
+    for _ in 0..4096u32 {
+        script.push_str("0")?;
+    }
+    let mut want = String::from_str(rt.alloc(), EMPTY_PAGE)?;
+    want.push_str("status 5 script 2\n")?;
+    writes(&rt, rt.alloc(), &WORDS, DCF, script.as_str(), want.as_str(), Status::BadLine)
+}
+
+#[test]
+fn a_station_with_a_fault(rt: HostRuntime) -> Result<(), Fail> {
+    let table = [
+        ("[[radio]]\nplan = \"jjy\"\nlog = \"log\"\n", "range radio.0.plan"),
+        ("leap = 1\n", "unknown leap"),
+        ("holdover = \n", "toml"),
+        ("[[radio]]\nplan = \"dcf\"\n", "missing radio.0.log"),
+        (
+            "link = [{port=1},{port=1},{port=1},{port=1},{port=1},{port=1},{port=1},{port=1},{port=1}]\n",
+            "many link 9",
+        ),
+    ];
+    for (station, fault) in table {
+        let mut want = String::from_str(rt.alloc(), "status 3 station ")?;
+        writeln!(want, "{fault}")?;
+        writes(&rt, rt.alloc(), &WORDS, station, "swap 0\n", want.as_str(), Status::Station)?;
+    }
+    let (written, status) = run(rt.alloc(), &WORDS, b"holdover = \xff\n", "", NONE)?;
+    assert_eq!(rt; written.as_slice(), b"status 3 station toml\n".as_slice());
+    assert_eq!(rt; status, Status::Station);
+    Ok(())
+}
+
+#[test]
+fn a_station_of_65536_bytes_is_whole(rt: HostRuntime) -> Result<(), Fail> {
+    let mut station = String::new(rt.alloc());
+    for _ in 0..65_536u32 {
+        station.push_str("#")?;
+    }
+    let mut want = String::from_str(rt.alloc(), EMPTY_PAGE)?;
+    want.push_str("status 0\n")?;
+    writes(&rt, rt.alloc(), &WORDS, station.as_str(), "", want.as_str(), Status::Done)?;
+    station.push_str("#")?;
+    writes(&rt, rt.alloc(), &WORDS, station.as_str(), "", "status 10 long station\n", Status::TooLong)
+}
+
+#[test]
+fn openings_and_readings_that_fail(rt: HostRuntime) -> Result<(), Fail> {
+    let mut read_fault = String::from_str(rt.alloc(), EMPTY_PAGE)?;
+    read_fault.push_str("status 4 read script\n")?;
+    let table = [
+        (Failing { open: 1, ..NONE }, "status 2 open station\n", Status::OpenFault),
+        (Failing { open: 2, ..NONE }, "status 2 open script\n", Status::OpenFault),
+        (Failing { station: 1, ..NONE }, "status 4 read station\n", Status::ReadFault),
+        (Failing { station: 2, ..NONE }, "status 4 read station\n", Status::ReadFault),
+        (Failing { script: 1, ..NONE }, read_fault.as_str(), Status::ReadFault),
+        (Failing { script: 2, ..NONE }, read_fault.as_str(), Status::ReadFault),
+    ];
+    for (failing, want, end) in table {
+        let (written, status) = run(rt.alloc(), &WORDS, DCF.as_bytes(), "swap 0\n", failing)?;
+        assert_eq!(rt; written.as_slice(), want.as_bytes());
+        assert_eq!(rt; status, end);
+    }
+    Ok(())
+}
+
+// Nine writings: five entries, two replies, the page and the status.
+#[test]
+fn a_write_that_fails_leaves_what_was_written(rt: HostRuntime) -> Result<(), Fail> {
+    let script = five_minutes(rt.alloc())?;
+    for write in 1..10u64 {
+        let failing = Failing { write, ..NONE };
+        let (written, status) = run(rt.alloc(), &WORDS, DCF.as_bytes(), script.as_str(), failing)?;
+        let lines = written.iter().filter(|byte| **byte == b'\n').count();
+        assert!(rt; FIVE.as_bytes().starts_with(written.as_slice()));
+        assert_eq!(rt; lines as u64 + 1, write);
+        assert_eq!(rt; status, Status::WriteFault);
+    }
+    Ok(())
+}

@@ -1,0 +1,60 @@
+use Rattle.std.proofs.Common.{◌∙◌, ◌*◌, sym, ap, map, subst}
+use Rattle.std.proofs.lemmas.Result.{err_from_is_err_and}
+use Rattle.toml.specs.View.{table_view}
+use Rattle.station_config.specs.Faults.{bad_in, keys_at, missing_in, sheets}
+use Rattle.station_config.specs.Finding.{IsMisreadAt}
+use Rattle.station_config.specs.Rows.{port_row}
+use Rattle.station_config.specs.Values.{number_at, radio_of, server_of}
+use Rattle.station_config.specs.declared.keys.Part.TheVariants as part
+use Rattle.station_config.proofs.Orders.{bad_link, bad_radio, bad_server, no_bad, none_in}
+use Rattle.station_config.proofs.document.read_parts.Goals as goal
+
+pub read_radios-requires : goal.read_radios-requires
+read_radios-requires c =
+    ap (λ ts. keys_at missing_in (sheets part.Radio ts)) c.in-Ok.ensures.radios ∙ (none_in missing_in (table_view c.args.table.now) c.requires).radios
+
+pub read_servers-requires : goal.read_servers-requires
+read_servers-requires c =
+    ap (λ ts. keys_at missing_in (sheets part.Server ts)) c.in-Ok.ensures.servers ∙ (none_in missing_in (table_view c.args.table.now) c.requires).servers
+
+pub read_links-requires : goal.read_links-requires
+read_links-requires c =
+    ap (λ ts. keys_at missing_in (sheets part.Link ts)) c.in-Ok.ensures.links ∙ (none_in missing_in (table_view c.args.table.now) c.requires).links
+
+pub returns-in_err-radios-clause-bad : goal.returns-in_err-radios-clause-bad
+returns-in_err-radios-clause-bad c =
+    let p = err_from_is_err_and c.from_residual.result c.from_residual.ensures.1 in
+    let o = c.in_err-radios.field-0.0 in
+    let h = subst (λ ts. IsMisreadAt (keys_at bad_in (sheets part.Radio ts)) o) c.in-Ok.ensures.radios c.in_err-radios.ensures.bad in
+    rw (p.1, p.2) (bad_radio (table_view c.args.table.now) o c.in-Ok.ensures.good h)
+
+pub returns-in_err-servers-clause-bad : goal.returns-in_err-servers-clause-bad
+returns-in_err-servers-clause-bad c =
+    let p = err_from_is_err_and c.from_residual-in_err-servers.result c.from_residual-in_err-servers.ensures.1 in
+    let o = c.in_err-servers.field-0.0 in
+    let radios = sym (ap (λ ts. keys_at bad_in (sheets part.Radio ts)) c.in-Ok.ensures.radios) ∙ c.in_ok-radios.ensures.read.good in
+    let h = subst (λ ts. IsMisreadAt (keys_at bad_in (sheets part.Server ts)) o) c.in-Ok.ensures.servers c.in_err-servers.ensures.bad in
+    rw (p.1, p.2) (bad_server (table_view c.args.table.now) o c.in-Ok.ensures.good radios h)
+
+pub returns-in_err-links-clause-bad : goal.returns-in_err-links-clause-bad
+returns-in_err-links-clause-bad c =
+    let p = err_from_is_err_and c.from_residual-in_err-links.result c.from_residual-in_err-links.ensures.1 in
+    let o = c.in_err-links.field-0.0 in
+    let radios = sym (ap (λ ts. keys_at bad_in (sheets part.Radio ts)) c.in-Ok.ensures.radios) ∙ c.in_ok-radios.ensures.read.good in
+    let servers = sym (ap (λ ts. keys_at bad_in (sheets part.Server ts)) c.in-Ok.ensures.servers) ∙ c.in_ok-servers.ensures.read.good in
+    let h = subst (λ ts. IsMisreadAt (keys_at bad_in (sheets part.Link ts)) o) c.in-Ok.ensures.links c.in_err-links.ensures.bad in
+    rw (p.1, p.2) (bad_link (table_view c.args.table.now) o c.in-Ok.ensures.good radios servers h)
+
+pub returns-clause-said : goal.returns-clause-said
+returns-clause-said c =
+    let radios = c.in_ok-radios.ensures.read.rows ∙ ap (map (λ t. radio_of t.1)) c.in-Ok.ensures.radios in
+    let servers = c.in_ok-servers.ensures.read.rows ∙ ap (map (λ t. server_of t.1)) c.in-Ok.ensures.servers in
+    let links = c.in_ok-links.ensures.read.rows ∙ ap (map (λ t. number_at port_row t.1)) c.in-Ok.ensures.links in
+    λ i. record { holdover = 1000000 * c.in-Ok.ensures.holdover i; start = c.in-Ok.ensures.start i; radios = radios i; servers = servers i; links = links i }
+
+pub returns-clause-good : goal.returns-clause-good
+returns-clause-good c =
+    let radios = sym (ap (λ ts. keys_at bad_in (sheets part.Radio ts)) c.in-Ok.ensures.radios) ∙ c.in_ok-radios.ensures.read.good in
+    let servers = sym (ap (λ ts. keys_at bad_in (sheets part.Server ts)) c.in-Ok.ensures.servers) ∙ c.in_ok-servers.ensures.read.good in
+    let links = sym (ap (λ ts. keys_at bad_in (sheets part.Link ts)) c.in-Ok.ensures.links) ∙ c.in_ok-links.ensures.read.good in
+    no_bad (table_view c.args.table.now) c.in-Ok.ensures.good radios servers links

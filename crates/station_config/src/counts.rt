@@ -1,0 +1,73 @@
+ghost use Rattle.std.specs.Prelude.{◌≡◌, find, map, nat_lt, option_map};
+ghost use Rattle.station_config.specs.Station.{is_same_plan, plan_count};
+ghost use Rattle.station_config.specs.Faults.{counts_of};
+ghost use Rattle.station_config.specs.Finding.{count_seen, parts_fields};
+ghost use Rattle.station_config.specs.Inside.{radio_kept};
+
+use crate::station::{Parts, Radio};
+use tick_units::Plan;
+
+// A number of rows, and how many there may be.
+#[derive(Clone, Copy, Debug)]
+pub struct Count {
+    pub key: &'static str,
+    pub count: u64,
+    pub most: u64,
+}
+
+fn has_plan(radio: &Radio, plan: Plan) -> bool
+    ensures { result ≡ is_same_plan plan radio.now.plan }
+{
+    radio.plan == plan
+}
+
+fn plan_count(radios: &[Radio], plan: Plan) -> u64
+    ensures { result ≡ plan_count plan (map radio_kept radios.now) }
+{
+    radios.iter().filter(|radio| has_plan(radio, plan)).count() as u64
+}
+
+fn first_over(counts: &[Count]) -> Option<Count>
+    ensures { option_map count_seen result ≡ find (λ c. nat_lt c.most c.count) (map count_seen counts.now) }
+{
+    for count in counts {
+        if count.most < count.count {
+            return Some(*count);
+        }
+    }
+    None
+}
+
+// The first number of rows that is above what there may be.
+pub fn excess(parts: &Parts) -> Option<Count>
+    ensures { option_map count_seen result ≡ find (λ c. nat_lt c.most c.count) (counts_of (parts_fields parts.now)) }
+{
+    let radios = parts.radios.as_slice();
+    first_over(&[
+        Count {
+            key: "radio",
+            count: (radios.len() + parts.servers.len()) as u64,
+            most: 16,
+        },
+        Count {
+            key: "radio",
+            count: plan_count(radios, Plan::Dcf),
+            most: 4,
+        },
+        Count {
+            key: "radio",
+            count: plan_count(radios, Plan::Msf),
+            most: 4,
+        },
+        Count {
+            key: "radio",
+            count: plan_count(radios, Plan::Wwvb),
+            most: 4,
+        },
+        Count {
+            key: "link",
+            count: parts.links.len() as u64,
+            most: 8,
+        },
+    ])
+}

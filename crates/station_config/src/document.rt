@@ -1,0 +1,108 @@
+ghost use Rattle.std.specs.Prelude.{◌≡◌, ◌≤◌, ◌^◌, [], Some, IfOk, IfErr, slice_get};
+ghost use Rattle.toml.specs.Data.{get_member};
+ghost use Rattle.toml.specs.View.{items_view, table_view};
+ghost use Rattle.station_config.specs.Rows.{tables_from, top_rows, holdover_row, link_row, radio_row, server_row, start_row, whole_in};
+ghost use Rattle.station_config.specs.Values.{number_at, station_of, tables_at};
+ghost use Rattle.station_config.specs.Faults.{bad_in, faults_of, keys_at, missing_in, sheets_of};
+ghost use Rattle.station_config.specs.Finding.{IsFirstObstacle, IsMisreadAt, IsRead, parts_fields};
+
+use crate::counts::excess;
+use crate::items::{Obstacle, read_links, read_radios, read_servers};
+use crate::keys::{Check, Part, Spot, first_at, tables};
+use crate::rows::number;
+use crate::station::{Parts, Station};
+use std::alloc::Global;
+use tick_units::Local;
+use toml::{Table, Value};
+
+// The values of the top table, and the arrays whose tables aren't read yet.
+#[derive(Clone, Copy, Debug)]
+pub struct Top<'a> {
+    pub holdover: u64,
+    pub start: Local,
+    pub radios: &'a [Value],
+    pub servers: &'a [Value],
+    pub links: &'a [Value],
+}
+
+// The first moment of the links.
+fn start(table: &Table) -> Option<Local>
+    ensures { IsRead start_row.form 0 (whole_in 0 (2 ^ 49)) (get_member start_row.key (table_view table.now)) result }
+{
+    Local::new(number(table, "start", 0, 1 << 49, 0)?)
+}
+
+// The top table, or the first of its keys whose value isn't of its type and range.
+fn read_top<'a>(table: &'a Table) -> Result<Top<'a>, &'static str>
+    ensures holdover { IfOk result (λ t. t.holdover ≡ number_at holdover_row (table_view table.now)) }
+    ensures start { IfOk result (λ t. t.start ≡ number_at start_row (table_view table.now)) }
+    ensures radios { IfOk result (λ t. tables_from 0 (items_view t.radios.now) ≡ tables_at radio_row (table_view table.now)) }
+    ensures servers { IfOk result (λ t. tables_from 0 (items_view t.servers.now) ≡ tables_at server_row (table_view table.now)) }
+    ensures links { IfOk result (λ t. tables_from 0 (items_view t.links.now) ≡ tables_at link_row (table_view table.now)) }
+    ensures most { IfOk result (λ t. t.holdover ≤ 86400) }
+    ensures good { IfOk result (λ _. bad_in top_rows (table_view table.now) ≡ []) }
+    ensures bad { IfErr result (λ k. slice_get (bad_in top_rows (table_view table.now)) 0 ≡ Some k.now) }
+{
+    let holdover = number(table, "holdover", 1, 86_400, 1200).ok_or("holdover")?;
+    let links = tables(table, "link").ok_or("link")?;
+    let radios = tables(table, "radio").ok_or("radio")?;
+    let servers = tables(table, "server").ok_or("server")?;
+    let start = start(table).ok_or("start")?;
+    Ok(Top {
+        holdover,
+        start,
+        radios,
+        servers,
+        links,
+    })
+}
+
+// The values of a document whose tables have all their keys, or its first value that isn't of its type and range.
+fn read_parts(alloc: Global, table: &Table) -> Result<Parts, Obstacle<'static>>
+    requires { keys_at missing_in (sheets_of (table_view table.now)) ≡ [] }
+    ensures said { IfOk result (λ p. parts_fields p ≡ station_of (table_view table.now)) }
+    ensures good { IfOk result (λ _. keys_at bad_in (sheets_of (table_view table.now)) ≡ []) }
+    ensures bad { IfErr result (IsMisreadAt (keys_at bad_in (sheets_of (table_view table.now)))) }
+{
+    let top = match read_top(table) {
+        Ok(top) => top,
+        Err(key) => {
+            return Err(Obstacle::Range(Spot {
+                part: Part::Top,
+                place: 0,
+                key,
+            }));
+        }
+    };
+    let radios = read_radios(alloc, top.radios)?;
+    let servers = read_servers(alloc, top.servers)?;
+    let links = read_links(alloc, top.links)?;
+    Ok(Parts {
+        holdover: 1_000_000 * top.holdover,
+        start: top.start,
+        radios,
+        servers,
+        links,
+    })
+}
+
+// The station of a document, or what stands against it.
+pub fn read_table<'a>(alloc: Global, table: &'a Table) -> Result<Station, Obstacle<'a>>
+    ensures said { IfOk result (λ s. s ≡ station_of (table_view table.now)) }
+    ensures good { IfOk result (λ _. faults_of (table_view table.now) ≡ []) }
+    ensures bad { IfErr result (IsFirstObstacle (faults_of (table_view table.now))) }
+{
+    if let Some(spot) = first_at(Check::Unknown, table) {
+        return Err(Obstacle::Unknown(spot));
+    }
+    if let Some(spot) = first_at(Check::Missing, table) {
+        return Err(Obstacle::Missing(spot));
+    }
+    match read_parts(alloc, table) {
+        Ok(parts) => match excess(&parts) {
+            Some(over) => Err(Obstacle::TooMany(over.key, over.count)),
+            None => Ok(Station::new(parts)),
+        },
+        Err(obstacle) => Err(obstacle),
+    }
+}

@@ -1,0 +1,129 @@
+ghost use Rattle.std.specs.Prelude.{◌≡◌, ◌++◌, List, [], IfOk, IfErr, map};
+ghost use Rattle.toml.specs.View.{view, items_view};
+ghost use Rattle.station_config.specs.Rows.{Text, table_at, tables_from, port_row};
+ghost use Rattle.station_config.specs.Values.{number_at, radio_of, server_of};
+ghost use Rattle.station_config.specs.Faults.{bad_in, key_in, keys_at, missing_in, sheets};
+ghost use Rattle.station_config.specs.Finding.{Adds, IsMisread, IsMisreadAt};
+ghost use Rattle.station_config.specs.Inside.{radio_kept, server_fields};
+
+use crate::keys::{Part, Spot};
+use crate::rows::{Misread, link, radio, server};
+use crate::station::{Radio, ServerRow};
+use std::alloc::Global;
+use toml::Value;
+
+// What stands against a station: its first fault, or want of memory.
+#[derive(Clone, Copy, Debug)]
+pub enum Obstacle<'a> {
+    Unknown(Spot<'a>),
+    Missing(Spot<'a>),
+    Range(Spot<'a>),
+    TooMany(&'static str, u64),
+    Memory,
+}
+
+// What a misread value of a table is among the values of all tables.
+fn placed(part: Part, place: usize, misread: Misread) -> Obstacle<'static>
+    ensures { (bad more : List Text) → IsMisread bad misread → IsMisreadAt (map (key_in part place) bad ++ more) result }
+{
+    match misread {
+        Misread::Range(key) => Obstacle::Range(Spot { part, place, key }),
+        Misread::Memory => Obstacle::Memory,
+    }
+}
+
+fn add_radio(
+    alloc: Global,
+    radios: &mut Vec<Radio>,
+    place: usize,
+    item: &Value,
+) -> Result<(), Obstacle<'static>>
+    requires { keys_at missing_in (sheets Part.Radio (table_at place (view item.now))) ≡ [] }
+    ensures added { IfOk result (λ _. Adds Part.Radio radio_of (table_at place (view item.now)) (map radio_kept radios.old.items) (map radio_kept radios.new.items)) }
+    ensures bad { IfErr result (IsMisreadAt (keys_at bad_in (sheets Part.Radio (table_at place (view item.now))))) }
+{
+    let Some(table) = item.as_table() else {
+        return Ok(());
+    };
+    match radio(alloc, table) {
+        Ok(radio) => match radios.push(radio) {
+            Ok(()) => Ok(()),
+            Err(_) => Err(Obstacle::Memory),
+        },
+        Err(fault) => Err(placed(Part::Radio, place, fault)),
+    }
+}
+
+fn add_server(
+    servers: &mut Vec<ServerRow>,
+    place: usize,
+    item: &Value,
+) -> Result<(), Obstacle<'static>>
+    requires { keys_at missing_in (sheets Part.Server (table_at place (view item.now))) ≡ [] }
+    ensures added { IfOk result (λ _. Adds Part.Server server_of (table_at place (view item.now)) (map server_fields servers.old.items) (map server_fields servers.new.items)) }
+    ensures bad { IfErr result (IsMisreadAt (keys_at bad_in (sheets Part.Server (table_at place (view item.now))))) }
+{
+    let Some(table) = item.as_table() else {
+        return Ok(());
+    };
+    match server(table) {
+        Ok(server) => match servers.push(server) {
+            Ok(()) => Ok(()),
+            Err(_) => Err(Obstacle::Memory),
+        },
+        Err(fault) => Err(placed(Part::Server, place, fault)),
+    }
+}
+
+fn add_link(links: &mut Vec<u16>, place: usize, item: &Value) -> Result<(), Obstacle<'static>>
+    requires { keys_at missing_in (sheets Part.Link (table_at place (view item.now))) ≡ [] }
+    ensures added { IfOk result (λ _. Adds Part.Link (number_at port_row) (table_at place (view item.now)) links.old.items links.new.items) }
+    ensures bad { IfErr result (IsMisreadAt (keys_at bad_in (sheets Part.Link (table_at place (view item.now))))) }
+{
+    let Some(table) = item.as_table() else {
+        return Ok(());
+    };
+    match link(table) {
+        Ok(port) => match links.push(port) {
+            Ok(()) => Ok(()),
+            Err(_) => Err(Obstacle::Memory),
+        },
+        Err(fault) => Err(placed(Part::Link, place, fault)),
+    }
+}
+
+pub fn read_radios(alloc: Global, items: &[Value]) -> Result<Vec<Radio>, Obstacle<'static>>
+    requires { keys_at missing_in (sheets Part.Radio (tables_from 0 (items_view items.now))) ≡ [] }
+    ensures read { IfOk result (λ v. Adds Part.Radio radio_of (tables_from 0 (items_view items.now)) [] (map radio_kept v.items)) }
+    ensures bad { IfErr result (IsMisreadAt (keys_at bad_in (sheets Part.Radio (tables_from 0 (items_view items.now))))) }
+{
+    let mut radios = Vec::new(alloc);
+    for (place, item) in items.iter().enumerate() {
+        add_radio(alloc, &mut radios, place, item)?;
+    }
+    Ok(radios)
+}
+
+pub fn read_servers(alloc: Global, items: &[Value]) -> Result<Vec<ServerRow>, Obstacle<'static>>
+    requires { keys_at missing_in (sheets Part.Server (tables_from 0 (items_view items.now))) ≡ [] }
+    ensures read { IfOk result (λ v. Adds Part.Server server_of (tables_from 0 (items_view items.now)) [] (map server_fields v.items)) }
+    ensures bad { IfErr result (IsMisreadAt (keys_at bad_in (sheets Part.Server (tables_from 0 (items_view items.now))))) }
+{
+    let mut servers = Vec::new(alloc);
+    for (place, item) in items.iter().enumerate() {
+        add_server(&mut servers, place, item)?;
+    }
+    Ok(servers)
+}
+
+pub fn read_links(alloc: Global, items: &[Value]) -> Result<Vec<u16>, Obstacle<'static>>
+    requires { keys_at missing_in (sheets Part.Link (tables_from 0 (items_view items.now))) ≡ [] }
+    ensures read { IfOk result (λ v. Adds Part.Link (number_at port_row) (tables_from 0 (items_view items.now)) [] v.items) }
+    ensures bad { IfErr result (IsMisreadAt (keys_at bad_in (sheets Part.Link (tables_from 0 (items_view items.now))))) }
+{
+    let mut links = Vec::new(alloc);
+    for (place, item) in items.iter().enumerate() {
+        add_link(&mut links, place, item)?;
+    }
+    Ok(links)
+}
