@@ -252,3 +252,15 @@ fn each_version(rt: HostRuntime) -> Result<(), Fail> {
     }
     Ok(())
 }
+
+// Strata 1 to 15, with and without a warning of a leap second, are taken.
+#[test]
+fn a_server_of_the_least_and_of_the_greatest_stratum(rt: HostRuntime) -> Result<(), Fail> {
+    for first in [0x24, 0x64, 0xa4] {
+        for stratum in [1, 15] {
+            let found = answered(SERVER, &with(0, &[first, stratum]))?;
+            assert!(rt; found.is_ok(), "{first} {stratum}");
+        }
+    }
+    Ok(())
+}

@@ -16,7 +16,27 @@ fn read(alloc: Global, log: &[u8]) -> Result<(Vec<(u64, u32)>, Option<u64>), All
     Ok((found, bad))
 }
 
-// The same over pieces of this size, line by line.
+// Takes a piece of a log line by line, and adds what its lines say.
+fn take_lines(
+    reader: &mut LineReader,
+    piece: &[u8],
+    found: &mut Vec<(u64, u32)>,
+) -> Result<(), AllocError> {
+    let mut rest = piece;
+    for _ in piece {
+        if rest.is_empty() {
+            return Ok(());
+        }
+        let front = reader.take_line(rest);
+        rest = rest.split_at(front.count).1;
+        if let Ok(Some(r)) = front.found {
+            found.push((r.at.get(), r.width))?;
+        }
+    }
+    Ok(())
+}
+
+// What a reader answers over a log in pieces of this size, and at its end.
 fn read_in_pieces(
     alloc: Global,
     log: &[u8],
@@ -24,15 +44,8 @@ fn read_in_pieces(
 ) -> Result<(Vec<(u64, u32)>, Option<u64>), AllocError> {
     let mut reader = LineReader::new();
     let mut found = Vec::new(alloc);
-    'pieces: for piece in log.chunks(size.max(1)) {
-        let mut rest = piece;
-        'lines: while !rest.is_empty() {
-            let front = reader.take_line(rest);
-            if let Ok(Some(r)) = front.found {
-                found.push((r.at.get(), r.width))?;
-            }
-            rest = rest.split_at(front.count).1;
-        }
+    for piece in log.chunks(size.max(1)) {
+        take_lines(&mut reader, piece, &mut found)?;
     }
     let bad = reader.finish().err().map(|bad| bad.line);
     Ok((found, bad))

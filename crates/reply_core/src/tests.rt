@@ -189,3 +189,23 @@ fn each_version_is_answered(rt: HostRuntime) -> Result<(), Fail> {
     }
     Ok(())
 }
+
+// The page is from 302 s, and the host's counter drifts 15 us in a second: 590 units of 2^-16 s in ten minutes, and nothing
+// before the page was made.
+#[test]
+fn a_dispersion_grows_from_the_page_on(rt: HostRuntime) -> Result<(), Fail> {
+    let page = of_a_radio()?;
+    for (sent, dispersion) in [
+        (0, [0x00, 0x00, 0xf0, 0x66]),
+        (302_000_000, [0x00, 0x00, 0xf0, 0x66]),
+        (302_000_001, [0x00, 0x00, 0xf0, 0x67]),
+        (901_999_999, [0x00, 0x00, 0xf2, 0xb4]),
+    ] {
+        let bytes = match answered(&page, &REQUEST, 0, sent)? {
+            Ok(bytes) => bytes,
+            Err(_) => return Err("dropped")?,
+        };
+        assert!(rt; bytes[8..].starts_with(&dispersion), "at {sent}");
+    }
+    Ok(())
+}

@@ -1,4 +1,4 @@
-use Rattle.std.proofs.Common.{[], ◌∷◌, refl, sym, ◌∙◌}
+use Rattle.std.proofs.Common.{[], ◌∷◌, sym, ◌∙◌}
 use Rattle.frame_rules.proofs.FirstLaws.{AreUnbroken-from_none, false_from_unbroken}
 use Rattle.plan_wwvb.proofs.Validity.{names_minute-kept}
 use Rattle.plan_wwvb.proofs.rules.first_broken_rule.Goals as goal
