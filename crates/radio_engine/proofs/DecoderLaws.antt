@@ -14,7 +14,7 @@ use Rattle.minute_pair.specs.Pairing.{HasPaired}
 use Rattle.radio_engine.specs.declared.decoder.Decoder.{Decoder}
 use Rattle.radio_engine.specs.Reading.{Reading}
 use Rattle.radio_engine.specs.Reading.Reading.{log, station, script}
-use Rattle.radio_engine.specs.Taking.{HasTaken, HasDecoded}
+use Rattle.radio_engine.specs.Taking.{HasTaken, HasDecoded, Hears}
 use Rattle.radio_engine.specs.Text.{log_text}
 
 -- the byte ended no line, or one with a reduction
@@ -32,19 +32,15 @@ taken_same d plan reader bytes longer h good read same = record {
   paired = subst (λ (rs : List Reduction). HasPaired d.pairing plan (marks_of plan rs)) (sym same) h.paired;
 }
 
--- the marks after one more reduction, which completes none or one
-pub marks_none : (plan : Plan) (bytes longer : List ℕ) (r : Reduction) (found : Option Mark) → pulses longer ≡ pulses bytes ++ r ∷ [] →
-    marks_of plan (pulses bytes ++ r ∷ []) ≡ marks_of plan (pulses bytes) ++ option_to_list found → found ≡ None → marks_of plan (pulses longer) ≡ marks_of plan (pulses bytes)
-marks_none plan bytes longer r found more heard none =
-    ap (marks_of plan) more ∙ heard ∙ ap (λ (o : Option Mark). marks_of plan (pulses bytes) ++ option_to_list o) none ∙ append-nil (marks_of plan (pulses bytes))
-
-pub marks_one : (plan : Plan) (bytes longer : List ℕ) (r : Reduction) (found : Option Mark) (mark : Mark) → pulses longer ≡ pulses bytes ++ r ∷ [] →
-    marks_of plan (pulses bytes ++ r ∷ []) ≡ marks_of plan (pulses bytes) ++ option_to_list found → found ≡ Some mark → marks_of plan (pulses longer) ≡ marks_of plan (pulses bytes) ++ mark ∷ []
-marks_one plan bytes longer r found mark more heard some = ap (marks_of plan) more ∙ heard ∙ ap (λ (o : Option Mark). marks_of plan (pulses bytes) ++ option_to_list o) some
-
--- one byte more of a piece
-pub one_more : (before bytes : List ℕ) (i : ℕ) → i < length bytes → (before ++ take i bytes) ++ get_or bytes i 0 ∷ [] ≡ before ++ take (i + 1) bytes
-one_more before bytes i lt = append_assoc before (take i bytes) (get_or bytes i 0 ∷ []) ∙ ap (λ (t : List ℕ). before ++ t) (sym (take_more bytes i 0 lt))
+-- a line with a reduction was taken, and that was heard
+pub taken_more : (d now : Decoder) (plan : Plan) (bytes longer : List ℕ) (r : Reduction) → HasTaken plan d bytes → bad_line longer ≡ None → HasRead now.reader longer →
+    pulses longer ≡ pulses bytes ++ r ∷ [] → Hears plan now (pulses bytes ++ r ∷ []) → HasTaken plan now longer
+taken_more d now plan bytes longer r h good read more hears = record {
+  good = good;
+  read = read;
+  marked = subst (λ (rs : List Reduction). HasHeard now.marker plan rs) (sym more) hears.marked;
+  paired = subst (λ (rs : List Reduction). HasPaired now.pairing plan (marks_of plan rs)) (sym more) hears.paired;
+}
 
 -- a decoder that has taken more bytes, with the text that they add, or a bad line
 module _ (d now : Decoder) (before longer text : List ℕ) where

@@ -5,10 +5,13 @@ use Rattle.feed_link.specs.Told.{SourceState, SinkState}
 use Rattle.tick_units.specs.declared.marks.Plan.{Plan}
 use Rattle.tick_units.specs.Log.{pulses, bad_line}
 use Rattle.tick_units.specs.Marks.{marks_of}
+use Rattle.tick_units.specs.Segments.{segments_of}
+use Rattle.tick_units.specs.declared.marks.Reduction.{Reduction}
 use Rattle.pulse_log.specs.Reading.{HasRead}
 use Rattle.pulse_log.specs.declared.reader.BadLine.{BadLine}
 use Rattle.second_marks.specs.Marker.{HasHeard}
 use Rattle.tick_units.specs.declared.verdicts.Heard.{Heard}
+use Rattle.minute_pair.specs.Answers.{answers}
 use Rattle.minute_pair.specs.Pairing.{HasPaired}
 use Rattle.radio_engine.specs.Reading.{Reading, HasReadOf, Cause}
 use Rattle.radio_engine.specs.Reading.Reading.{log, station, script}
@@ -117,6 +120,14 @@ pub record HasTaken (plan : Plan) (d : Decoder) (bytes : List ℕ) : Type 0 wher
   pub read : HasRead d.reader bytes
   pub marked : HasHeard d.marker plan (pulses bytes)
   pub paired : HasPaired d.pairing plan (marks_of plan (pulses bytes))
+
+-- the decoder's marker and pairing have heard these reductions
+pub record Hears (plan : Plan) (d : Decoder) (reductions : List Reduction) : Type 0 where
+  pub marked : HasHeard d.marker plan reductions
+  pub paired : HasPaired d.pairing plan (marks_of plan reductions)
+
+abbrev pub answers_to : Plan → List Reduction → List Heard
+answers_to plan reductions = answers plan (segments_of plan (marks_of plan reductions))
 
 -- the text has grown by the line of an answer, if there is one
 abbrev pub GrowsBy : Plan → List ℕ → List ℕ → Option Heard → Type 0

@@ -1,13 +1,15 @@
-ghost use Rattle.std.specs.Prelude.{◌<◌, ◌≤◌, ℕ, List, [], length, take};
+ghost use Rattle.std.specs.Prelude.{◌≡◌, ◌<◌, ◌≤◌, ◌∷◌, ◌++◌, ℕ, List, [], length, take};
 ghost use Rattle.tick_units.specs.declared.marks.Plan.{Plan};
-ghost use Rattle.radio_engine.specs.Taking.{HasTaken, TakesFront};
+ghost use Rattle.tick_units.specs.declared.marks.Reduction.{Reduction};
+ghost use Rattle.std.specs.Option.{option_to_list};
+ghost use Rattle.radio_engine.specs.Taking.{HasTaken, Hears, TakesFront, answers_to};
 
 use crate::reading::{Gives, Taker, Took};
 use crate::text::write_answer_line;
 use minute_pair::Pairing;
 use pulse_log::{BadLine, LineReader};
 use second_marks::Marker;
-use tick_units::{Heard, Plan};
+use tick_units::{Heard, Plan, Reduction};
 
 // How many bytes were taken, and the answer to the segment that they close, if they close one; or the bad line.
 #[derive(Clone, Copy)]
@@ -44,29 +46,31 @@ impl Decoder {
     {
         let front = self.reader.take_line(bytes);
         let count = front.count;
-        let found = match front.found {
-            Ok(found) => found,
-            Err(bad) => return Step {
+        match front.found {
+            Ok(None) => Step {
+                count,
+                heard: Ok(None),
+            },
+            Ok(Some(reduction)) => Step {
+                count,
+                heard: Ok(self.hear(reduction)),
+            },
+            Err(bad) => Step {
                 count,
                 heard: Err(bad),
             },
-        };
-        let Some(reduction) = found else {
-            return Step {
-                count,
-                heard: Ok(None),
-            };
-        };
-        match self.marker.hear(reduction) {
-            Some(mark) => Step {
-                count,
-                heard: Ok(self.pairing.hear(mark)),
-            },
-            None => Step {
-                count,
-                heard: Ok(None),
-            },
         }
+    }
+
+    // Hears the reduction of a line: the answer to the segment that it closes, if it closes one.
+    fn hear(&mut self, reduction: Reduction) -> Option<Heard>
+        ensures reader { self.new.reader ≡ self.old.reader }
+        ensures heard { (plan : Plan) (reductions : List Reduction) → Hears plan self.old reductions → Hears plan self.new (reductions ++ reduction ∷ []) }
+        ensures answered { (plan : Plan) (reductions : List Reduction) → Hears plan self.old reductions →
+            answers_to plan (reductions ++ reduction ∷ []) ≡ answers_to plan reductions ++ option_to_list result }
+    {
+        let mark = self.marker.hear(reduction)?;
+        self.pairing.hear(mark)
     }
 }
 

@@ -56,11 +56,13 @@ pub fn run_station<O: Outside, K: Sink>(
 {
     match read_words(alloc, words) {
         Ok(Command::Decode { plan, log }) => open_and_decode(plan, log, outside, out),
-        Ok(Command::Replay {
-            station,
-            script,
-            limit,
-        }) => run_replay(alloc, station, script, limit, rack, outside, out),
+        Ok(
+            Command::Replay {
+                station,
+                script,
+                limit,
+            },
+        ) => run_replay(alloc, station, script, limit, rack, outside, out),
         Err(WordsFault::Usage) => finish(Ending::WrongWords, out),
         Err(WordsFault::Memory) => finish(Ending::NoMemory, out),
     }

@@ -1,53 +1,21 @@
-use Rattle.std.proofs.Common.{List, [], ◌++◌, take, sym, subst}
-use Rattle.tick_units.specs.Log.{pulses}
-use Rattle.tick_units.specs.Marks.{marks_of}
-use Rattle.tick_units.specs.declared.marks.Mark.{Mark}
-use Rattle.tick_units.specs.declared.marks.Reduction.{Reduction}
-use Rattle.second_marks.specs.Marker.{HasHeard}
-use Rattle.minute_pair.specs.Pairing.{HasPaired}
-use Rattle.radio_engine.proofs.Growth.{text_same, text_same_marks, text_grows_by}
-use Rattle.radio_engine.proofs.DecoderLaws.{taken_same, pulses_none, pulses_one, marks_none, marks_one}
+use Rattle.std.proofs.Common.{◌≡◌, ◌∷◌, [], ◌++◌, take, Ok, Some, None, MatchResult, sym, subst, rules}
+use Rattle.std.specs.Option.{option_to_list}
+use Rattle.tick_units.specs.Log.{pulses, bad_line}
+use Rattle.pulse_log.specs.Reading.{HasRead}
+use Rattle.radio_engine.proofs.Growth.{text_grows_by}
+use Rattle.radio_engine.proofs.DecoderLaws.{taken_more}
 use Rattle.radio_engine.proofs.decoder.Decoder.take_line.Goals as goal
 
-pub returns-in-Err-clause-taken : goal.returns-in-Err-clause-taken
-returns-in-Err-clause-taken c = λ plan bytes h.
-    let taken = c.in-Err.ensures bytes h.read in
-    (taken.found.0, text_same plan bytes (bytes ++ take c.take_line.result.count c.args.bytes.now) taken.found.1)
-
-pub returns-in_default-clause-taken : goal.returns-in_default-clause-taken
-returns-in_default-clause-taken c = λ plan bytes h.
-    let longer = bytes ++ take c.take_line.result.count c.args.bytes.now in
-    let taken = c.in-Ok.ensures bytes h.read in
-    let same = pulses_none bytes longer c.in-Ok.found c.in_default.is taken.found.1 in
-    (taken_same c.args.self.now plan c.take.new.self bytes longer h taken.found.0 taken.read same, text_same plan bytes longer same)
-
-pub returns-in-None-clause-taken : goal.returns-in-None-clause-taken
-returns-in-None-clause-taken c = λ plan bytes h.
-    let longer = bytes ++ take c.take_line.result.count c.args.bytes.now in
-    let taken = c.in-Ok.ensures bytes h.read in
-    let more = pulses_one bytes longer c.in-Ok.found c.in-Some.reduction c.in-Some.is taken.found.1 in
-    let marks = marks_none plan bytes longer c.in-Some.reduction c.hear.result more (c.hear.ensures.marks plan (pulses bytes) h.marked) c.in-None.is in (
-      record {
-        good = taken.found.0;
-        read = taken.read;
-        marked = subst (λ (rs : List Reduction). HasHeard c.hear.new.self plan rs) (sym more) (c.hear.ensures.heard plan (pulses bytes) h.marked);
-        paired = subst (λ (ms : List Mark). HasPaired c.args.self.now.pairing plan ms) (sym marks) h.paired;
-      },
-      text_same_marks plan bytes longer marks,
-    )
-
-pub returns-in-Some-hear-clause-taken : goal.returns-in-Some-hear-clause-taken
-returns-in-Some-hear-clause-taken c = λ plan bytes h.
-    let longer = bytes ++ take c.take_line.result.count c.args.bytes.now in
-    let old = marks_of plan (pulses bytes) in
-    let taken = c.in-Ok.ensures bytes h.read in
-    let more = pulses_one bytes longer c.in-Ok.found c.in-Some.reduction c.in-Some.is taken.found.1 in
-    let marks = marks_one plan bytes longer c.in-Some.reduction c.hear.result c.in-Some-hear.mark more (c.hear.ensures.marks plan (pulses bytes) h.marked) c.in-Some-hear.is in (
-      record {
-        good = taken.found.0;
-        read = taken.read;
-        marked = subst (λ (rs : List Reduction). HasHeard c.hear.new.self plan rs) (sym more) (c.hear.ensures.heard plan (pulses bytes) h.marked);
-        paired = subst (λ (ms : List Mark). HasPaired c.hear-in-Some-hear.new.self plan ms) (sym marks) (c.hear-in-Some-hear.ensures.heard plan old h.paired);
-      },
-      text_grows_by plan bytes longer c.in-Some-hear.mark c.hear-in-Some-hear.result marks (c.hear-in-Some-hear.ensures.answered plan old h.paired),
+pub returns-in-Ok-Some-clause-taken : goal.returns-in-Ok-Some-clause-taken
+returns-in-Ok-Some-clause-taken c = λ plan before h.
+    let longer = before ++ take c.take_line-front.result.count c.args.bytes.now in
+    let taken = c.take_line-front.ensures.taken before h.read in
+    let found = taken.found in
+    let r = c.in-Ok-Some.reduction in
+    let is : c.take_line-front.result.found ≡ Ok (Some r) = search rules in
+    let both = subst (λ x. MatchResult x (λ found. (bad_line longer ≡ None) × (pulses longer ≡ pulses before ++ option_to_list found)) (λ bad. (bad_line longer ≡ Some bad.line) × (pulses longer ≡ pulses before))) is found in
+    let more : pulses longer ≡ pulses before ++ r ∷ [] = both.1 in
+    let hears = c.hear.ensures.heard plan (pulses before) (record { marked = h.marked; paired = h.paired }) in (
+      taken_more c.args.self.now c.hear.new.self plan before longer r h both.0 (subst (λ reader. HasRead reader longer) (sym c.hear.ensures.reader) taken.read) more hears,
+      text_grows_by plan before longer r c.hear.result more (c.hear.ensures.answered plan (pulses before) (record { marked = h.marked; paired = h.paired })),
     )
