@@ -116,7 +116,11 @@ fn open_and_play<O: Outside, K: Sink>(
 }
 
 // Opens a station file, reads it whole and gives it back: how far the reading came, or that the opening failed.
-fn open_station<O: Outside>(name: &str, text: &mut StationText, outside: &mut O) -> Result<Reach, Failed>
+fn open_station<O: Outside>(
+    name: &str,
+    text: &mut StationText,
+    outside: &mut O,
+) -> Result<Reach, Failed>
     requires { text.old.length ≡ 0 }
     ensures { TriesStation name.now (O.state outside.old) (O.state outside.new) (bytes_of text.new) result }
 {
@@ -130,7 +134,7 @@ fn open_station<O: Outside>(name: &str, text: &mut StationText, outside: &mut O)
 
 // The station that a file says which was read so far, or what keeps it from being played.
 fn judge(alloc: Global, reach: Reach, text: &[u8]) -> Result<Station, Obstacle>
-    ensures { ((line : ℕ) → reach ≡ ToBadLine line → ⊥) → 
+    ensures { ((line : ℕ) → reach ≡ ToBadLine line → ⊥) →
         MatchResult result (λ of. (reach ≡ ToEnd) × Says text.now of) (λ obstacle. IsObstacle reach text.now obstacle) }
 {
     match reach {
@@ -155,9 +159,9 @@ fn prepare(
     requires rack { IsRack (λ b h. stands_for b h) rack.items }
     requires most { limit ≤ 2 ^ 22 }
     ensures ready { IfOk result (λ p. IsReady (λ b. least_start b) p) }
-    ensures judged { ((line : ℕ) → reach ≡ ToBadLine line → ⊥) → 
+    ensures judged { ((line : ℕ) → reach ≡ ToBadLine line → ⊥) →
         MatchResult result (λ player. (reach ≡ ToEnd) × ((of : StationFields) × Says text.now of × HasPlayed (λ b h. stands_for b h) player of limit []))
-            (λ obstacle. IsObstacle reach text.now obstacle) }
+        (λ obstacle. IsObstacle reach text.now obstacle) }
 {
     let station = match judge(alloc, reach, text) {
         Ok(station) => station,

@@ -8,9 +8,7 @@ use std::test::Fail;
 
 const WORDS: [&str; 5] = ["replay", "--station", "s", "--script", "p"];
 
-const LIMIT_2: [&str; 7] = [
-    "replay", "--station", "s", "--script", "p", "--limit", "2",
-];
+const LIMIT_2: [&str; 7] = ["replay", "--station", "s", "--script", "p", "--limit", "2"];
 
 const DCF: &str = "holdover = 600\n[[radio]]\nplan = \"dcf\"\nlog = \"log\"\n";
 
@@ -54,7 +52,13 @@ fn pulses(text: &mut String, from: u64, to: u64) -> Result<(), AllocError> {
 }
 
 // A request: its first byte, zeros, and the transmit timestamp 1122334455667788; and more bytes behind it.
-fn request(text: &mut String, arrived: u64, sent: u64, first: &str, more: usize) -> Result<(), AllocError> {
+fn request(
+    text: &mut String,
+    arrived: u64,
+    sent: u64,
+    first: &str,
+    more: usize,
+) -> Result<(), AllocError> {
     write!(text, "request 0 {arrived} {sent} {first}0006ec")?;
     for _ in 0..36u8 {
         text.push_str("00")?;
@@ -83,10 +87,7 @@ const NONE: Failing = Failing {
 };
 
 fn named(alloc: Global, name: &str, text: &[u8], fails: u64) -> Result<NamedLog, AllocError> {
-    let source = MemorySource::new(
-        Vec::from_slice(alloc, text)?,
-        vec![in alloc; fails]?,
-    );
+    let source = MemorySource::new(Vec::from_slice(alloc, text)?, vec![in alloc; fails]?);
     Ok(NamedLog::new(String::from_str(alloc, name)?, source))
 }
 
@@ -129,7 +130,8 @@ fn writes(
     Ok(())
 }
 
-const FIVE: &str = "0 62000000 lone 3976257600\n0 122000000 verdict 3976257660 0\n0 182000000 verdict 3976257720 0\n0 242000000 verdict 3976257780 0\nreply e40006ec0000000000100000494e4954000000000000000011223344556677880\
+const FIVE: &str =
+    "0 62000000 lone 3976257600\n0 122000000 verdict 3976257660 0\n0 182000000 verdict 3976257720 0\n0 242000000 verdict 3976257780 0\nreply e40006ec0000000000100000494e4954000000000000000011223344556677880\
 00000f300000000000000f30020c49b\n0 302000000 verdict 3976257840 0\nreply 240106ec000000000000f06744434600ed00e130000000001122334455667788ed00e13100000000ed00e1310020c49b\npage 5 1 1 44434600 17077896086183477248 302000000 902000000 0 61542 ed00e13000000000 0\nstatus 0\n";
 
 fn five_minutes(alloc: Global) -> Result<String, AllocError> {
@@ -144,7 +146,15 @@ fn five_minutes(alloc: Global) -> Result<String, AllocError> {
 #[test]
 fn five_minutes_make_a_page(rt: HostRuntime) -> Result<(), Fail> {
     let script = five_minutes(rt.alloc())?;
-    writes(&rt, rt.alloc(), &WORDS, DCF, script.as_str(), FIVE, Status::Done)
+    writes(
+        &rt,
+        rt.alloc(),
+        &WORDS,
+        DCF,
+        script.as_str(),
+        FIVE,
+        Status::Done,
+    )
 }
 
 #[test]
@@ -168,9 +178,18 @@ fn requests_are_answered_or_dropped(rt: HostRuntime) -> Result<(), Fail> {
     request(&mut script, 1_000_000, 1_000_000, "2b", 0)?;
     request(&mut script, 1_000_000, 1_000_000, "21", 0)?;
     request(&mut script, 1_000_000, 1_000_000, "23", 20)?;
-    let want = "drop short\ndrop version\ndrop mode\nreply e40006ec0000000000100000494e4954000000000000000011223344556677880000000100000000\
+    let want =
+        "drop short\ndrop version\ndrop mode\nreply e40006ec0000000000100000494e4954000000000000000011223344556677880000000100000000\
 0000000100000000\npage 0 0 0 494e4954 0 0 0 0 1048576 0000000000000000 0\nstatus 0\n";
-    writes(&rt, rt.alloc(), &WORDS, DCF, script.as_str(), want, Status::Done)
+    writes(
+        &rt,
+        rt.alloc(),
+        &WORDS,
+        DCF,
+        script.as_str(),
+        want,
+        Status::Done,
+    )
 }
 
 #[test]
@@ -179,13 +198,25 @@ fn a_full_journal_goes_on(rt: HostRuntime) -> Result<(), Fail> {
     pulses(&mut script, 0, 182_000_000)?;
     request(&mut script, 183_000_000, 183_000_000, "23", 0)?;
     let (written, status) = run(rt.alloc(), &LIMIT_2, DCF.as_bytes(), script.as_str(), NONE)?;
-    assert!(rt; written.starts_with(b"0 62000000 lone 3976257600\n0 122000000 verdict 3976257660 0\nreply e40006ec"));
-    assert!(rt; written.ends_with(b"\npage 2 0 0 494e4954 0 122000000 0 0 1048576 0000000000000000 0\nstatus 6 full 2\n"));
+    assert!(rt;
+        written.starts_with(
+            b"0 62000000 lone 3976257600\n0 122000000 verdict 3976257660 0\nreply e40006ec"
+        )
+    );
+    assert!(rt;
+        written.ends_with(
+            b"\npage 2 0 0 494e4954 0 122000000 0 0 1048576 0000000000000000 0\nstatus 6 full 2\n"
+        )
+    );
     assert_eq!(rt; status, Status::JournalFull);
     // A bad line comes before it.
     script.push_str("\n")?;
     let (written, status) = run(rt.alloc(), &LIMIT_2, DCF.as_bytes(), script.as_str(), NONE)?;
-    assert!(rt; written.ends_with(b"\npage 2 0 0 494e4954 0 122000000 0 0 1048576 0000000000000000 0\nstatus 5 script 181\n"));
+    assert!(rt;
+        written.ends_with(
+            b"\npage 2 0 0 494e4954 0 122000000 0 0 1048576 0000000000000000 0\nstatus 5 script 181\n"
+        )
+    );
     assert_eq!(rt; status, Status::BadLine);
     Ok(())
 }
@@ -217,7 +248,9 @@ fn a_swap_loses_its_half_frame(rt: HostRuntime) -> Result<(), Fail> {
     script.push_str("swap 0\n")?;
     pulses(&mut script, 90_000_000, 182_000_000)?;
     let (written, status) = run(rt.alloc(), &WORDS, DCF.as_bytes(), script.as_str(), NONE)?;
-    assert!(rt; written.starts_with(b"0 62000000 lone 3976257600\n0 182000000 lone 3976257720\npage 2 "));
+    assert!(rt;
+        written.starts_with(b"0 62000000 lone 3976257600\n0 182000000 lone 3976257720\npage 2 ")
+    );
     assert_eq!(rt; status, Status::Done);
     Ok(())
 }
@@ -241,7 +274,15 @@ fn a_script_ends_at_its_first_bad_line(rt: HostRuntime) -> Result<(), Fail> {
     for (script, line) in table {
         let mut want = String::from_str(rt.alloc(), EMPTY_PAGE)?;
         writeln!(want, "status 5 script {line}")?;
-        writes(&rt, rt.alloc(), &WORDS, DCF, script, want.as_str(), Status::BadLine)?;
+        writes(
+            &rt,
+            rt.alloc(),
+            &WORDS,
+            DCF,
+            script,
+            want.as_str(),
+            Status::BadLine,
+        )?;
     }
     Ok(())
 }
@@ -254,13 +295,24 @@ fn a_line_of_4096_bytes_is_bad(rt: HostRuntime) -> Result<(), Fail> {
     }
     let mut want = String::from_str(rt.alloc(), EMPTY_PAGE)?;
     want.push_str("status 5 script 2\n")?;
-    writes(&rt, rt.alloc(), &WORDS, DCF, script.as_str(), want.as_str(), Status::BadLine)
+    writes(
+        &rt,
+        rt.alloc(),
+        &WORDS,
+        DCF,
+        script.as_str(),
+        want.as_str(),
+        Status::BadLine,
+    )
 }
 
 #[test]
 fn a_station_with_a_fault(rt: HostRuntime) -> Result<(), Fail> {
     let table = [
-        ("[[radio]]\nplan = \"jjy\"\nlog = \"log\"\n", "range radio.0.plan"),
+        (
+            "[[radio]]\nplan = \"jjy\"\nlog = \"log\"\n",
+            "range radio.0.plan",
+        ),
         ("leap = 1\n", "unknown leap"),
         ("holdover = \n", "toml"),
         ("[[radio]]\nplan = \"dcf\"\n", "missing radio.0.log"),
@@ -272,7 +324,15 @@ fn a_station_with_a_fault(rt: HostRuntime) -> Result<(), Fail> {
     for (station, fault) in table {
         let mut want = String::from_str(rt.alloc(), "status 3 station ")?;
         writeln!(want, "{fault}")?;
-        writes(&rt, rt.alloc(), &WORDS, station, "swap 0\n", want.as_str(), Status::Station)?;
+        writes(
+            &rt,
+            rt.alloc(),
+            &WORDS,
+            station,
+            "swap 0\n",
+            want.as_str(),
+            Status::Station,
+        )?;
     }
     let (written, status) = run(rt.alloc(), &WORDS, b"holdover = \xff\n", "", NONE)?;
     assert_eq!(rt; written.as_slice(), b"status 3 station toml\n".as_slice());
@@ -288,9 +348,25 @@ fn a_station_of_65536_bytes_is_whole(rt: HostRuntime) -> Result<(), Fail> {
     }
     let mut want = String::from_str(rt.alloc(), EMPTY_PAGE)?;
     want.push_str("status 0\n")?;
-    writes(&rt, rt.alloc(), &WORDS, station.as_str(), "", want.as_str(), Status::Done)?;
+    writes(
+        &rt,
+        rt.alloc(),
+        &WORDS,
+        station.as_str(),
+        "",
+        want.as_str(),
+        Status::Done,
+    )?;
     station.push_str("#")?;
-    writes(&rt, rt.alloc(), &WORDS, station.as_str(), "", "status 10 long station\n", Status::TooLong)
+    writes(
+        &rt,
+        rt.alloc(),
+        &WORDS,
+        station.as_str(),
+        "",
+        "status 10 long station\n",
+        Status::TooLong,
+    )
 }
 
 #[test]
@@ -298,12 +374,36 @@ fn openings_and_readings_that_fail(rt: HostRuntime) -> Result<(), Fail> {
     let mut read_fault = String::from_str(rt.alloc(), EMPTY_PAGE)?;
     read_fault.push_str("status 4 read script\n")?;
     let table = [
-        (Failing { open: 1, ..NONE }, "status 2 open station\n", Status::OpenFault),
-        (Failing { open: 2, ..NONE }, "status 2 open script\n", Status::OpenFault),
-        (Failing { station: 1, ..NONE }, "status 4 read station\n", Status::ReadFault),
-        (Failing { station: 2, ..NONE }, "status 4 read station\n", Status::ReadFault),
-        (Failing { script: 1, ..NONE }, read_fault.as_str(), Status::ReadFault),
-        (Failing { script: 2, ..NONE }, read_fault.as_str(), Status::ReadFault),
+        (
+            Failing { open: 1, ..NONE },
+            "status 2 open station\n",
+            Status::OpenFault,
+        ),
+        (
+            Failing { open: 2, ..NONE },
+            "status 2 open script\n",
+            Status::OpenFault,
+        ),
+        (
+            Failing { station: 1, ..NONE },
+            "status 4 read station\n",
+            Status::ReadFault,
+        ),
+        (
+            Failing { station: 2, ..NONE },
+            "status 4 read station\n",
+            Status::ReadFault,
+        ),
+        (
+            Failing { script: 1, ..NONE },
+            read_fault.as_str(),
+            Status::ReadFault,
+        ),
+        (
+            Failing { script: 2, ..NONE },
+            read_fault.as_str(),
+            Status::ReadFault,
+        ),
     ];
     for (failing, want, end) in table {
         let (written, status) = run(rt.alloc(), &WORDS, DCF.as_bytes(), "swap 0\n", failing)?;

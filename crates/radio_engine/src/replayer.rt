@@ -32,7 +32,11 @@ pub struct Replayer<B: Drop> {
 }
 
 // Plays the line of this text: what it gives, and the text of that.
-fn play_text(player: &mut Player<BoxedReceiver>, text: &[u8], line: &mut [u8; 256]) -> Result<usize, NotLawful>
+fn play_text(
+    player: &mut Player<BoxedReceiver>,
+    text: &[u8],
+    line: &mut [u8; 256],
+) -> Result<usize, NotLawful>
     requires ready { IsReady (λ b. least_start b) player.old }
     ensures ready { IsReady (λ b. least_start b) player.new }
     ensures fits { MatchResult result (λ length. length ≤ 256) (λ _. Unit {0}) }
@@ -129,11 +133,7 @@ impl Replayer<BoxedReceiver> {
 }
 
 // Plays a piece of a script, up to a bad line or a write that fails.
-fn play_piece<K: Sink>(
-    replayer: &mut Replayer<BoxedReceiver>,
-    piece: &[u8],
-    out: &mut K,
-) -> Taken
+fn play_piece<K: Sink>(replayer: &mut Replayer<BoxedReceiver>, piece: &[u8], out: &mut K) -> Taken
     requires ready { IsReady (λ b. least_start b) replayer.old.player }
     requires room { replayer.old.lines + length piece.now ≤ 2 ^ 26 }
     ensures ready { IsReady (λ b. least_start b) replayer.new.player }

@@ -37,7 +37,7 @@ rest-preserved g c = record {
       let h = c.rest.invariant.so_far reading bytes text start held written in
       let took = c.take-took.result in
       rw c.split_at.ensures.back (taken_on start _ _ c.rest.rest.now _ h _ _ took.count (given took.gives c.take-took.new.line) (bad_of took.gives)
-          (c.take-took.ensures.holds reading h.front h.text h.held) c.in-All.ensures.0 c.in-All.ensures.1);
+      (c.take-took.ensures.holds reading h.front h.text h.held) c.in-All.ensures.0 c.in-All.ensures.1);
 }
 
 pub returns-clause-takes : goal.returns-clause-takes

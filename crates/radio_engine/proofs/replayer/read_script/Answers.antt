@@ -36,7 +36,6 @@ pieces-preserved g c = record {
   within = (let h = c.in-Ok.ensures.within in let room = c.min-room.ensures in let lt = c.pieces-test.true in omega arith);
   ready = c.in-All.ensures.ready;
   taken = (let h = c.pieces.invariant.taken in let k = c.in-All.ensures.taken in let len = length-take c.in-Ok.count c.read_piece.new.piece in omega arith);
-
   progress = λ reading most held.
       let p = c.pieces.invariant.progress reading most held in
       let len = length-take c.in-Ok.count c.read_piece.new.piece in
