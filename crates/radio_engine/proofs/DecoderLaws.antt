@@ -1,5 +1,5 @@
--- What the decoder stands for, with one more byte.
-use Rattle.std.proofs.Common.{◌≡◌, ℕ, ◌+◌, ◌<◌, Option, None, Some, List, [], ◌∷◌, ◌++◌, length, take, get_or, refl, ap, sym, ◌∙◌, subst, append_assoc}
+-- What the decoder stands for, with more bytes.
+use Rattle.std.proofs.Common.{Result, Ok, Err, ◌≡◌, ℕ, ◌+◌, ◌<◌, Option, None, Some, List, [], ◌∷◌, ◌++◌, length, take, get_or, refl, ap, sym, ◌∙◌, subst, append_assoc}
 use Rattle.std.specs.Option.{option_to_list}
 use Rattle.std.proofs.lemmas.List.{append-nil, take_more}
 use Rattle.tick_units.specs.Log.{pulses, bad_line}
@@ -9,38 +9,24 @@ use Rattle.tick_units.specs.declared.marks.Plan.{Plan}
 use Rattle.tick_units.specs.declared.marks.Reduction.{Reduction}
 use Rattle.pulse_log.specs.Reading.{HasRead}
 use Rattle.pulse_log.specs.declared.reader.LineReader.{LineReader}
+use Rattle.pulse_log.specs.declared.reader.BadLine.{BadLine}
+use Rattle.tick_units.specs.declared.verdicts.Heard.{Heard}
 use Rattle.second_marks.specs.Marker.{HasHeard}
 use Rattle.minute_pair.specs.Pairing.{HasPaired}
 use Rattle.radio_engine.specs.declared.decoder.Decoder.{Decoder}
 use Rattle.radio_engine.specs.Reading.{Reading}
 use Rattle.radio_engine.specs.Reading.Reading.{log, station, script}
-use Rattle.radio_engine.specs.Taking.{HasTaken, HasDecoded, Hears}
+use Rattle.radio_engine.specs.Taking.{HasTaken, HasDecoded, HearsLine, TakesFront}
 use Rattle.radio_engine.specs.Text.{log_text}
 
--- the byte ended no line, or one with a reduction
-pub pulses_none : (bytes longer : List ℕ) (found : Option Reduction) → found ≡ None → pulses longer ≡ pulses bytes ++ option_to_list found → pulses longer ≡ pulses bytes
-pulses_none bytes longer found none e = e ∙ ap (λ (o : Option Reduction). pulses bytes ++ option_to_list o) none ∙ append-nil (pulses bytes)
-
+-- a line with a reduction has ended
 pub pulses_one : (bytes longer : List ℕ) (found : Option Reduction) (r : Reduction) → found ≡ Some r → pulses longer ≡ pulses bytes ++ option_to_list found → pulses longer ≡ pulses bytes ++ r ∷ []
 pulses_one bytes longer found r some e = e ∙ ap (λ (o : Option Reduction). pulses bytes ++ option_to_list o) some
 
-pub taken_same : (d : Decoder) (plan : Plan) (reader : LineReader) (bytes longer : List ℕ) → HasTaken plan d bytes → bad_line longer ≡ None → HasRead reader longer → pulses longer ≡ pulses bytes → HasTaken plan (record d { reader = reader }) longer
-taken_same d plan reader bytes longer h good read same = record {
-  good = good;
-  read = read;
-  marked = subst (λ (rs : List Reduction). HasHeard d.marker plan rs) (sym same) h.marked;
-  paired = subst (λ (rs : List Reduction). HasPaired d.pairing plan (marks_of plan rs)) (sym same) h.paired;
-}
-
--- a line with a reduction was taken, and that was heard
-pub taken_more : (d now : Decoder) (plan : Plan) (bytes longer : List ℕ) (r : Reduction) → HasTaken plan d bytes → bad_line longer ≡ None → HasRead now.reader longer →
-    pulses longer ≡ pulses bytes ++ r ∷ [] → Hears plan now (pulses bytes ++ r ∷ []) → HasTaken plan now longer
-taken_more d now plan bytes longer r h good read more hears = record {
-  good = good;
-  read = read;
-  marked = subst (λ (rs : List Reduction). HasHeard now.marker plan rs) (sym more) hears.marked;
-  paired = subst (λ (rs : List Reduction). HasPaired now.pairing plan (marks_of plan rs)) (sym more) hears.paired;
-}
+-- what a line says was heard, and the reader has taken it
+pub takes_front : (d : Decoder) (plan : Plan) (before front : List ℕ) (result : Result (Option Heard) BadLine) → HearsLine plan d before (before ++ front) result → HasRead d.reader (before ++ front) → TakesFront plan d before front result
+takes_front d plan before front (Ok heard) h read = (record { good = h.0; read = read; marked = h.1.marked; paired = h.1.paired }, h.2)
+takes_front d plan before front (Err bad) h read = h
 
 -- a decoder that has taken more bytes, with the text that they add, or a bad line
 module _ (d now : Decoder) (before longer text : List ℕ) where

@@ -9,3 +9,4 @@ pub mod WritingLaws
 pub mod PlayingLaws
 pub mod LoadingLaws
 pub mod ReplayLaws
+pub mod RackLaws

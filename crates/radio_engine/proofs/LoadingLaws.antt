@@ -48,5 +48,5 @@ told_by ToLimit bytes due is = subst IsTold (sym is) tt
 told_by (ToBadLine line) bytes due is = absurd is
 told_by ToEnd bytes due is = elim is [
   | inl memory ↦ subst IsTold (sym memory) tt
-  | inr faulty ↦ subst IsTold (sym faulty.1.0) faulty.1.1
+  | inr faulty ↦ subst IsTold (sym faulty.1) faulty.2
 ]

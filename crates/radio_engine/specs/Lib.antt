@@ -9,3 +9,4 @@ pub mod Script
 pub mod Replaying
 pub mod Playing
 pub mod Loading
+pub mod Racks

@@ -1,6 +1,7 @@
 -- What a taker of bytes stands for: the bytes that it has taken, the text that it has given for them, and their first bad
 -- line.
 use Rattle.std.specs.Prelude.{◌≡◌, ℕ, ◌≤◌, Option, None, Some, List, [], ◌∷◌, ◌++◌, take, Result, MatchResult, MatchOption}
+use Rattle.std.specs.Option.{option_to_list}
 use Rattle.feed_link.specs.Told.{SourceState, SinkState}
 use Rattle.tick_units.specs.declared.marks.Plan.{Plan}
 use Rattle.tick_units.specs.Log.{pulses, bad_line}
@@ -134,6 +135,18 @@ abbrev pub GrowsBy : Plan → List ℕ → List ℕ → Option Heard → Type 0
 GrowsBy plan bytes more heard = MatchOption heard
     (log_text plan more ≡ log_text plan bytes)
     (λ one. log_text plan more ≡ log_text plan bytes ++ heard_line one)
+
+-- what a reader found in longer bytes: the reduction of one line more, none, or a bad line
+abbrev pub IsFound : List ℕ → List ℕ → Result (Option Reduction) BadLine → Type 0
+IsFound bytes longer found = MatchResult found
+    (λ found. (bad_line longer ≡ None) × (pulses longer ≡ pulses bytes ++ option_to_list found))
+    (λ bad. (bad_line longer ≡ Some bad.line) × (pulses longer ≡ pulses bytes))
+
+-- that was heard, and the answer is the one that it adds
+abbrev pub HearsLine : Plan → Decoder → List ℕ → List ℕ → Result (Option Heard) BadLine → Type 0
+HearsLine plan d bytes longer result = MatchResult result
+    (λ heard. (bad_line longer ≡ None) × Hears plan d (pulses longer) × GrowsBy plan bytes longer heard)
+    (λ bad. (bad_line longer ≡ Some bad.line) × (log_text plan longer ≡ log_text plan bytes))
 
 -- a front of what comes was taken, or it makes a line bad
 abbrev pub TakesFront : Plan → Decoder → List ℕ → List ℕ → Result (Option Heard) BadLine → Type 0

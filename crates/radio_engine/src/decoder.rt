@@ -1,8 +1,9 @@
 ghost use Rattle.std.specs.Prelude.{◌≡◌, ◌<◌, ◌≤◌, ◌∷◌, ◌++◌, ℕ, List, [], length, take};
+ghost use Rattle.tick_units.specs.Log.{pulses};
 ghost use Rattle.tick_units.specs.declared.marks.Plan.{Plan};
 ghost use Rattle.tick_units.specs.declared.marks.Reduction.{Reduction};
 ghost use Rattle.std.specs.Option.{option_to_list};
-ghost use Rattle.radio_engine.specs.Taking.{HasTaken, Hears, TakesFront, answers_to};
+ghost use Rattle.radio_engine.specs.Taking.{HasTaken, Hears, HearsLine, IsFound, TakesFront, answers_to};
 
 use crate::reading::{Gives, Taker, Took};
 use crate::text::write_answer_line;
@@ -45,20 +46,25 @@ impl Decoder {
         ensures taken { (plan : Plan) (before : List ℕ) → HasTaken plan self.old before → TakesFront plan self.new before (take result.count bytes.now) result.heard }
     {
         let front = self.reader.take_line(bytes);
-        let count = front.count;
-        match front.found {
-            Ok(None) => Step {
-                count,
-                heard: Ok(None),
-            },
-            Ok(Some(reduction)) => Step {
-                count,
-                heard: Ok(self.hear(reduction)),
-            },
-            Err(bad) => Step {
-                count,
-                heard: Err(bad),
-            },
+        Step {
+            count: front.count,
+            heard: self.hear_line(front.found),
+        }
+    }
+
+    // Hears what a line says that the reader has taken.
+    fn hear_line(
+        &mut self,
+        found: Result<Option<Reduction>, BadLine>,
+    ) -> Result<Option<Heard>, BadLine>
+        ensures reader { self.new.reader ≡ self.old.reader }
+        ensures heard { (plan : Plan) (before longer : List ℕ) → IsFound before longer found → Hears plan self.old (pulses before) →
+            HearsLine plan self.new before longer result }
+    {
+        match found {
+            Ok(None) => Ok(None),
+            Ok(Some(reduction)) => Ok(self.hear(reduction)),
+            Err(bad) => Err(bad),
         }
     }
 

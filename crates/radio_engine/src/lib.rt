@@ -7,6 +7,7 @@ mod ending;
 mod file;
 mod loading;
 mod obstacle;
+mod rack;
 mod reading;
 mod replay;
 mod replayer;
@@ -16,6 +17,7 @@ mod status;
 mod text;
 mod writing;
 
+pub use rack::put_in_rack;
 pub use station::run_station;
 pub use status::Status;
 

@@ -30,37 +30,6 @@ use script_player::{BoxedReceiver, Player};
 use station_config::{Station, StationFault, read_station};
 use std::alloc::{AllocError, Global};
 
-// STUB
-fn new_stub(
-    alloc: Global,
-    station: &Station,
-    rack: Vec<BoxedReceiver>,
-    limit: u32,
-) -> Result<Player<BoxedReceiver>, AllocError>
-    requires rack { IsRack (λ b h. stands_for b h) rack.items }
-    requires most { limit ≤ 2 ^ 22 }
-    ensures ready { IfOk result (λ p. IsReady (λ b. least_start b) p) }
-    ensures played { IfOk result (λ p. HasPlayed (λ b h. stands_for b h) p station.now limit []) }
-{
-    Player::new(alloc, station, rack, limit)
-}
-
-// STUB
-fn page_stub(player: &Player<BoxedReceiver>) -> Page
-    ensures { (station : StationFields) (limit : ℕ) (before : List ScriptLine) → HasPlayed (λ b h. stands_for b h) player.now station limit before →
-        result ≡ replay.page_after station limit before }
-{
-    player.page()
-}
-
-// STUB
-fn full_stub(player: &Player<BoxedReceiver>) -> bool
-    ensures { (station : StationFields) (limit : ℕ) (before : List ScriptLine) → HasPlayed (λ b h. stands_for b h) player.now station limit before →
-        result ≡ replay.is_full station limit before }
-{
-    player.is_full()
-}
-
 // How a command ends that has played a script so far, where entries were lost or not.
 fn replay_ending(reach: Reach, lost: bool, limit: u32) -> Ending
     ensures { result ≡ replay_ending reach lost limit }
@@ -102,8 +71,8 @@ fn play_whole<S: Source, K: Sink>(
 {
     match read_script(script, replayer, out) {
         Ok(reach) => {
-            let page = page_stub(&replayer.player);
-            let ending = replay_ending(reach, full_stub(&replayer.player), limit);
+            let page = replayer.player.page();
+            let ending = replay_ending(reach, replayer.player.is_full(), limit);
             finish_page(&page, ending, out)
         }
         Err(Failed) => Status::WriteFault,
@@ -198,7 +167,7 @@ fn prepare(
         Ok(station) => station,
         Err(obstacle) => return Err(obstacle),
     };
-    match new_stub(alloc, &station, rack, limit) {
+    match Player::new(alloc, &station, rack, limit) {
         Ok(player) => Ok(player),
         Err(_) => Err(Obstacle::Ends(Ending::NoMemory)),
     }

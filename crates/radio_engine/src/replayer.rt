@@ -31,28 +31,6 @@ pub struct Replayer<B: Drop> {
     pub lines: u64,
 }
 
-// STUB
-fn play_stub(
-    player: &mut Player<BoxedReceiver>,
-    line: &ScriptLine<'_>,
-) -> Result<Outcome, NotLawful>
-    requires line { IsLine line.now }
-    requires ready { IsReady (λ b. least_start b) player.old }
-    ensures ready { IsReady (λ b. least_start b) player.new }
-    ensures plays { (station : StationFields) (limit : ℕ) (before : List ScriptLine) → HasPlayed (λ b h. stands_for b h) player.old station limit before →
-        Plays (λ b h. stands_for b h) player.new station limit before line.now result }
-{
-    player.play(line)
-}
-
-// STUB
-fn write_stub(outcome: &Outcome, out: &mut [u8; 256]) -> usize
-    ensures text { take result out.new ≡ outcome_text outcome.now }
-    ensures within { result ≤ 256 }
-{
-    write_outcome(outcome, out)
-}
-
 // Plays the line of this text: what it gives, and the text of that.
 fn play_text(
     player: &mut Player<BoxedReceiver>,
@@ -68,8 +46,8 @@ fn play_text(
     let Some(script_line) = read_line(text) else {
         return Err(NotLawful);
     };
-    match play_stub(player, &script_line) {
-        Ok(outcome) => Ok(write_stub(&outcome, line)),
+    match player.play(&script_line) {
+        Ok(outcome) => Ok(write_outcome(&outcome, line)),
         Err(NotLawful) => Err(NotLawful),
     }
 }

@@ -1,4 +1,4 @@
-ghost use Rattle.std.specs.Prelude.{◌≡◌, ◌⊎◌, ℕ, List, ◌∷◌, [], ◌++◌, Some, map};
+ghost use Rattle.std.specs.Prelude.{◌≡◌, ◌≤◌, ◌^◌, ◌⊎◌, ℕ, List, ◌∷◌, [], ◌++◌, Some, map};
 ghost use Rattle.command_words.specs.Commands.{Asked, AskFor, decode, replay};
 ghost use Rattle.feed_link.specs.Faults.{Rose};
 ghost use Rattle.feed_link.specs.Told.{SourceState};
@@ -17,6 +17,17 @@ use command_words::{Command, WordsFault, read_words};
 use feed_link::{Outside, Sink};
 use radio_receiver::Receiver;
 use std::alloc::Global;
+
+// The most entries that words may ask for.
+const MOST: u32 = 4_194_304;
+
+// A limit that words ask for is within the most.
+fn within(limit: u32) -> u32
+    ensures most { result ≤ 2 ^ 22 }
+    ensures same { limit ≤ 2 ^ 22 → result ≡ limit }
+{
+    limit.min(MOST)
+}
 
 /// Runs the command that the words spell. `decode` opens its log once, writes a line for each answer as it comes and then
 /// the status line, and gives the log back. `replay` reads its station, plays its script line by line with receivers of the
@@ -62,7 +73,7 @@ pub fn run_station<O: Outside, K: Sink>(
                 script,
                 limit,
             },
-        ) => run_replay(alloc, station, script, limit, rack, outside, out),
+        ) => run_replay(alloc, station, script, within(limit), rack, outside, out),
         Err(WordsFault::Usage) => finish(Ending::WrongWords, out),
         Err(WordsFault::Memory) => finish(Ending::NoMemory, out),
     }

@@ -4,8 +4,12 @@
 
 use feed_link::{HostOutside, StreamSink};
 use radio_engine::run_station;
+use radio_receiver::{DcfReceiver, MsfReceiver, Receiver, WwvbReceiver};
 use std::process::ExitCode;
 use std::{env, io};
+
+// The exit status for want of memory.
+const MEMORY: u8 = 9;
 
 fn main(rt: HostRuntime) -> ExitCode {
     let mut outside = HostOutside::new(&rt);
@@ -26,6 +30,21 @@ fn main(rt: HostRuntime) -> ExitCode {
         // Words that can't be had are no lawful words.
         words.clear();
     }
-    let status = run_station(rt.alloc(), words.as_slice(), Vec::new(rt.alloc()), &mut outside, &mut out);
+    let mut rack: Vec<Box<dyn Receiver + Send>> = Vec::new(rt.alloc());
+    for _ in 0..4u8 {
+        let Ok(dcf) = Box::new(rt.alloc(), DcfReceiver::new()) else {
+            return ExitCode::from(MEMORY);
+        };
+        let Ok(msf) = Box::new(rt.alloc(), MsfReceiver::new()) else {
+            return ExitCode::from(MEMORY);
+        };
+        let Ok(wwvb) = Box::new(rt.alloc(), WwvbReceiver::new()) else {
+            return ExitCode::from(MEMORY);
+        };
+        if rack.push(dcf).is_err() || rack.push(msf).is_err() || rack.push(wwvb).is_err() {
+            return ExitCode::from(MEMORY);
+        }
+    }
+    let status = run_station(rt.alloc(), words.as_slice(), rack, &mut outside, &mut out);
     ExitCode::from(status.number())
 }

@@ -1,4 +1,5 @@
-use Rattle.std.proofs.Common.{◌≡◌, false, sym, ◌∙◌, subst}
+use Rattle.std.proofs.Common.{◌≡◌, ◌≤◌, ℕ, List, length, false, ap, sym, ◌∙◌, subst, arith}
+use Rattle.std.proofs.lemmas.List.{length-take}
 use Rattle.script_line.specs.declared.line.ScriptLine.{ScriptLine}
 use Rattle.script_player.specs.Replay.{is_lawful}
 use Rattle.radio_engine.proofs.ScriptLaws.{some_line}
@@ -12,3 +13,10 @@ returns-in-Err-clause-plays g c = λ station limit before h.
           subst (λ (l : ScriptLine). is_lawful station before l ≡ false) (sym same) played.0,
       played.1,
     )
+
+pub returns-in-Ok-clause-fits : goal.returns-in-Ok-clause-fits
+returns-in-Ok-clause-fits g c =
+    let text = ap (λ (t : List ℕ). length t) c.write_outcome.ensures.text in
+    let size = c.write_outcome.ensures.length in
+    let room = c.write_outcome.array_long in
+    omega (arith, length-take c.write_outcome.result c.write_outcome.new.out)

@@ -1,4 +1,4 @@
-use Rattle.std.proofs.Common.{◌⊎◌, inr, sym}
+use Rattle.std.proofs.Common.{ℕ, ◌⊎◌, inr, sym, subst}
 use Rattle.command_words.specs.Commands.Asked.{decode, replay}
 use Rattle.radio_engine.specs.Station.{CannotOpen, OpensAndDecodes, RunsReplay}
 use Rattle.radio_engine.specs.declared.file.File.TheVariants.{Log}
@@ -33,14 +33,12 @@ returns-in-Ok-Decode-clause-replayed g c = λ a b n h. absurd (not_both _ _ a b 
 pub returns-in-Err-Usage-clause-replayed : goal.returns-in-Err-Usage-clause-replayed
 returns-in-Err-Usage-clause-replayed g c = λ a b n h. absurd (c.in-Err-Usage.ensures.usage c.in-Err-Usage.field-0-is (replay a b n) h)
 
-pub run_replay-requires-clause-most : goal.run_replay-requires-clause-most
-run_replay-requires-clause-most g c = limit_of _ _ _ _ (rw c.in-Ok-Replay.field-0-is at c.in-Ok-Replay.ensures.asked)
-
 pub returns-in-Ok-Replay-clause-replayed : goal.returns-in-Ok-Replay-clause-replayed
 returns-in-Ok-Replay-clause-replayed g c = λ a b n h.
     let same = rw c.in-Ok-Replay.field-0-is at (c.in-Ok-Replay.ensures.only (replay a b n) h) in
     replay_along (λ s t k. RunsReplay s t k (g.O.Outside.state c.args.outside.now) (g.O.Outside.state c.run_replay.new.outside) (g.K.Sink.state c.args.out.now) (g.K.Sink.state c.run_replay.new.out) c.run_replay.result)
-    _ _ a b _ n same c.run_replay.ensures
+    _ _ a b _ n same (subst (λ (k : ℕ). RunsReplay c.in-Ok-Replay.station.now c.in-Ok-Replay.script.now k (g.O.Outside.state c.args.outside.now) (g.O.Outside.state c.run_replay.new.outside) (g.K.Sink.state c.args.out.now) (g.K.Sink.state c.run_replay.new.out) c.run_replay.result)
+    (c.within.ensures.same (limit_of _ _ _ _ (rw c.in-Ok-Replay.field-0-is at c.in-Ok-Replay.ensures.asked))) c.run_replay.ensures)
 
 pub returns-in-Ok-Replay-clause-decoded : goal.returns-in-Ok-Replay-clause-decoded
 returns-in-Ok-Replay-clause-decoded g c = λ plan name h. absurd (not_both plan name _ _ _ (sym (rw c.in-Ok-Replay.field-0-is at (c.in-Ok-Replay.ensures.only (decode plan name) h))))
