@@ -1,0 +1,50 @@
+-- Lists with one item more, or one item changed.
+use Rattle.std.proofs.Common.{◌≡◌, ◌≢◌, ◌∙◌, ◌⊎◌, inl, inr, ℕ, zero, suc, ◌+◌, Bool, Option, Some, None, List, [], ◌∷◌, ◌++◌, length, reverse, slice_set, refl, ap, arith, cond}
+use Rattle.std.proofs.lemmas.List.{append-nil, reverse-append}
+use Rattle.std.proofs.lemmas.List.Elements.{filter_map-append}
+use Rattle.std.proofs.lemmas.List.Sums.{sum_by-append, sum_by-cons}
+use Rattle.std.specs.List.{cons_option, count_by, filter_map, last_or, slice_get}
+use Rattle.std.specs.Option.{option_to_list}
+
+pub filter_map-none : {X Y : Type 0} (h : X → Option Y) (xs : List X) (x : X) → h x ≡ None → filter_map h (xs ++ x ∷ []) ≡ filter_map h xs
+filter_map-none h xs x none =
+    filter_map-append h xs (x ∷ []) ∙ ap (λ o. filter_map h xs ++ cons_option o []) none ∙ append-nil (filter_map h xs)
+
+pub filter_map-some : {X Y : Type 0} (h : X → Option Y) (xs : List X) (x : X) (y : Y) → h x ≡ Some y → filter_map h (xs ++ x ∷ []) ≡ filter_map h xs ++ y ∷ []
+filter_map-some h xs x y some =
+    filter_map-append h xs (x ∷ []) ∙ ap (λ o. filter_map h xs ++ cons_option o []) some
+
+pub last_or-push : {X : Type 0} (o : Option X) (xs : List X) (x : X) → last_or o (xs ++ x ∷ []) ≡ Some x
+last_or-push o [] x = refl
+last_or-push o (y ∷ ys) x = last_or-push (Some y) ys x
+
+pub reverse-push : {X : Type 0} (xs : List X) (x : X) → reverse (xs ++ x ∷ []) ≡ x ∷ reverse xs
+reverse-push xs x = reverse-append xs (x ∷ [])
+
+-- 1 for what passes a test
+abbrev pub weight : Bool → ℕ
+weight b = cond b 1 0
+
+pub count_by-cons : {X : Type 0} (p : X → Bool) (x : X) (xs : List X) → count_by p (x ∷ xs) ≡ weight (p x) + count_by p xs
+count_by-cons p x xs = sum_by-cons (λ y. cond (p y) 1 0) x xs
+
+pub count_by-push : {X : Type 0} (p : X → Bool) (xs : List X) (x : X) → count_by p (xs ++ x ∷ []) ≡ count_by p xs + weight (p x)
+count_by-push p xs x = let e : count_by p (xs ++ x ∷ []) ≡ count_by p xs + (0 + weight (p x)) = sum_by-append (λ y. cond (p y) 1 0) xs (x ∷ []) in omega arith
+
+-- what stands at a place after a place was set
+pub slice_set-cases : {X : Type 0} (xs : List X) (i j : ℕ) (v x : X) → slice_get (slice_set xs i v) j ≡ Some x → ((j ≡ i) × (x ≡ v)) ⊎ ((j ≢ i) × (slice_get xs j ≡ Some x))
+slice_set-cases [] i j v x h = absurd (cc)
+slice_set-cases (y ∷ ys) zero zero v x h = inl (refl, cc)
+slice_set-cases (y ∷ ys) zero (suc j) v x h = inr (λ e. absurd (omega arith), h)
+slice_set-cases (y ∷ ys) (suc i) zero v x h = inr (λ e. absurd (omega arith), h)
+slice_set-cases (y ∷ ys) (suc i) (suc j) v x h = onward (slice_set-cases ys i j v x h)
+  where
+    onward : ((j ≡ i) × (x ≡ v)) ⊎ ((j ≢ i) × (slice_get ys j ≡ Some x)) → ((suc j ≡ suc i) × (x ≡ v)) ⊎ ((suc j ≢ suc i) × (slice_get ys j ≡ Some x))
+    onward (inl (e, f)) = inl (ap suc e, f)
+    onward (inr (n, f)) = inr (λ e. n (omega arith), f)
+
+-- the answer that is new stands behind the old ones
+pub slice_get-behind : {X : Type 0} (xs : List X) (o : Option X) → slice_get (xs ++ option_to_list o) (length xs) ≡ o
+slice_get-behind [] None = refl
+slice_get-behind [] (Some x) = refl
+slice_get-behind (y ∷ ys) o = slice_get-behind ys o

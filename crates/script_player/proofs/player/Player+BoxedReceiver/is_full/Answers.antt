@@ -1,0 +1,6 @@
+use Rattle.station_config.specs.Station.{settings_of}
+use Rattle.script_player.specs.Replay.{due}
+use Rattle.script_player.proofs.player.Player+BoxedReceiver.is_full.Goals as goal
+
+pub returns : goal.returns
+returns g c station limit before h = c.is_full.ensures (settings_of station) limit (due station before) h.journal

@@ -1,0 +1,19 @@
+use Rattle.script_player.proofs.PlayerLaws.{requests}
+use Rattle.script_player.proofs.player.Player+BoxedReceiver.play.Goals as goal
+
+pub returns-in-Pulse-clause-plays : goal.returns-in-Pulse-clause-plays
+returns-in-Pulse-clause-plays g c station limit before h = rw c.in-Pulse.is (c.hear.ensures.plays station limit before h)
+
+pub returns-in-Ask-clause-plays : goal.returns-in-Ask-clause-plays
+returns-in-Ask-clause-plays g c station limit before h = rw c.in-Ask.is (c.ask.ensures.plays station limit before h)
+
+pub returns-in-Answer-clause-plays : goal.returns-in-Answer-clause-plays
+returns-in-Answer-clause-plays g c station limit before h = rw c.in-Answer.is (c.answer.ensures.plays station limit before h)
+
+pub returns-in-Swap-clause-plays : goal.returns-in-Swap-clause-plays
+returns-in-Swap-clause-plays g c station limit before h = rw c.in-Swap.is (c.swap.ensures.plays station limit before h)
+
+pub returns-in-Request-clause-plays : goal.returns-in-Request-clause-plays
+returns-in-Request-clause-plays g c station limit before h =
+    let r = c.in-Request in
+    rw r.is (requests (λ b h. (goal.Receiver-dyn g (b.vtable, b.value)).stands_for b.value h) c.args.self.now station limit before r.connection r.arrived r.sent r.datagram c.reply.result (c.reply.ensures station limit before r.connection h) h)

@@ -1,0 +1,11 @@
+use Rattle.std.proofs.Common.{◌≡◌, [], length}
+use Rattle.station_config.specs.Station.{IsStation}
+use Rattle.script_player.specs.Standing.{AreReady, HasRadios, first_radios}
+use Rattle.script_player.proofs.radios.Radios+BoxedReceiver.new.Given as goal
+
+abbrev pub invariant-loop-place : goal.invariant-loop-place
+invariant-loop-place g l =
+    HasRadios (λ b h. (goal.Receiver-dyn g (b.vtable, b.value)).stands_for b.value h) l.radios (first_radios l.place l.station) []
+    × AreReady (λ b. (goal.Receiver-dyn g (b.vtable, b.value)).least_start b.value) l.radios
+    × IsStation l.station
+    × (l.count ≡ length l.station.radios)

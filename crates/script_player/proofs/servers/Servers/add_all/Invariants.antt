@@ -1,0 +1,13 @@
+use Rattle.std.proofs.Common.{◌≡◌, ◌≤◌, [], length, vec_capacity}
+use Rattle.station_config.specs.Station.{IsStation}
+use Rattle.script_player.specs.Standing.{HasPolling, first_servers}
+use Rattle.script_player.proofs.servers.Servers.add_all.Given as goal
+
+abbrev pub invariant-loop-place : goal.invariant-loop-place
+invariant-loop-place l =
+    HasPolling l.self.servers.items (first_servers l.place l.station) []
+    × IsStation l.station
+    × (l.count ≡ length l.station.servers)
+    × (l.count ≤ vec_capacity l.self.servers)
+    × (l.self.first ≡ length l.station.radios)
+    × (l.least ≡ 0)

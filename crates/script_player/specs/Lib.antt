@@ -1,0 +1,4 @@
+pub mod Keeping
+pub mod Replay
+pub mod Standing
+pub mod Texts

@@ -1,0 +1,198 @@
+-- What the lines of a recorded script come to. There is no state: what a line does is read off all the lines before it. How a
+-- script drives a station is this project's own; the receivers' answers are those of their code plans (PTB, NPL, NIST), the
+-- exchanges, the page and the replies those of RFC 5905.
+use Rattle.std.specs.Prelude.{ℕ, ◌+◌, ◌-◌, ◌==◌, nat_lt, nat_le, Bool, true, false, not, Option, None, Some, Result, Ok, Err, List, [], ◌∷◌, ◌++◌, length, take, reverse, unwrap_or, if◌then◌else◌}
+use Rattle.std.specs.List.{count_by, filter_map, last_or, slice_get, take_while}
+use Rattle.std.specs.Option.{option_to_list}
+use Rattle.tick_units.specs.declared.marks.Plan.{Plan}
+use Rattle.tick_units.specs.declared.marks.Reduction.{Reduction}
+use Rattle.tick_units.specs.declared.sample.Sample.{Sample as TimeSample}
+use Rattle.tick_units.specs.declared.verdicts.Heard.{Heard as Answered}
+use Rattle.feed_link.specs.declared.outside.Address.{Address}
+use Rattle.journal_entry.specs.declared.entry.Entry.{Entry}
+use Rattle.journal_entry.specs.declared.entry.What.{What}
+use Rattle.journal_entry.specs.declared.entry.What.TheVariants.{Heard, Sample, Declined}
+use Rattle.radio_receiver.specs.Histories.{History, answers_of, least_after, with_reduction}
+use Rattle.poll_core.specs.Histories.{Event, judge}
+use Rattle.poll_core.specs.Histories.Event.{Asked as WasAsked, Answered as WasAnswered}
+use Rattle.poll_core.specs.Formulas.{request_header}
+use Rattle.poll_core.specs.Refusals.{code_of}
+use Rattle.poll_core.specs.declared.refusal.PollRefusal.{PollRefusal}
+use Rattle.ntp_packet.specs.Layout.{layout}
+use Rattle.reply_core.specs.Reply.{answer}
+use Rattle.reply_core.specs.declared.dropped.Dropped.{Dropped as WhyDropped}
+use Rattle.clock_page.specs.Page.{PageFields}
+use Rattle.system_fold.specs.Page.{page_of}
+use Rattle.station_config.specs.Station.{RadioFields, ServerFields, StationFields, is_same_plan, plan_count, settings_of}
+use Rattle.script_line.specs.declared.line.ScriptLine.{ScriptLine}
+use Rattle.script_line.specs.declared.line.ScriptLine.TheVariants.{Pulse, Ask, Answer, Swap, Request}
+use Rattle.script_player.specs.declared.outcome.Outcome.{Outcome}
+use Rattle.script_player.specs.declared.outcome.Outcome.TheVariants.{Nothing, Kept, Asked, Replied, Dropped}
+
+-- feeds are numbered: the radios of the station in order, then its servers
+abbrev pub radio_of : StationFields → ℕ → Option RadioFields
+radio_of station feed = slice_get station.radios feed
+
+abbrev pub server_of : StationFields → ℕ → Option ServerFields
+server_of station feed = if nat_lt feed (length station.radios) then None else slice_get station.servers (feed - length station.radios)
+
+-- the pulse that a line gives to a feed
+abbrev pub pulse_in : ℕ → ScriptLine → Option Reduction
+pulse_in feed (Pulse number reduction) = if number == feed then Some reduction else None
+pulse_in feed (Ask number at) = None
+pulse_in feed (Answer number at datagram) = None
+pulse_in feed (Swap number) = None
+pulse_in feed (Request connection arrived sent datagram) = None
+
+abbrev pub pulses_of : ℕ → List ScriptLine → List Reduction
+pulses_of feed lines = filter_map (pulse_in feed) lines
+
+-- a line that takes a feed's receiver away
+abbrev pub is_swap_of : ℕ → ScriptLine → Bool
+is_swap_of feed (Swap number) = number == feed
+is_swap_of feed (Pulse number reduction) = false
+is_swap_of feed (Ask number at) = false
+is_swap_of feed (Answer number at datagram) = false
+is_swap_of feed (Request connection arrived sent datagram) = false
+
+-- the lines behind a feed's last swap, or all where there is none: from the end back to it
+abbrev pub behind_swap : ℕ → List ScriptLine → List ScriptLine
+behind_swap feed lines = reverse (take_while (λ line. not (is_swap_of feed line)) (reverse lines))
+
+-- what the receiver that a feed has now has heard: the pulses since its last swap
+abbrev pub reductions_of : ℕ → List ScriptLine → List Reduction
+reductions_of feed lines = pulses_of feed (behind_swap feed lines)
+
+-- that receiver was fitted with the radio's delay
+abbrev pub history_of : RadioFields → ℕ → List ScriptLine → History
+history_of radio feed lines = record { plan = radio.plan; delay = radio.delay; reductions = reductions_of feed lines }
+
+-- how many receivers of a plan were fitted: one for each radio of the plan, and one for each swap of such a radio
+abbrev pub is_plan_of : Plan → Option RadioFields → Bool
+is_plan_of plan None = false
+is_plan_of plan (Some radio) = is_same_plan plan radio.plan
+
+abbrev pub is_swap_for : StationFields → Plan → ScriptLine → Bool
+is_swap_for station plan (Swap feed) = is_plan_of plan (radio_of station feed)
+is_swap_for station plan (Pulse feed reduction) = false
+is_swap_for station plan (Ask feed at) = false
+is_swap_for station plan (Answer feed at datagram) = false
+is_swap_for station plan (Request connection arrived sent datagram) = false
+
+abbrev pub fitted : StationFields → Plan → List ScriptLine → ℕ
+fitted station plan lines = plan_count plan station.radios + count_by (is_swap_for station plan) lines
+
+-- the requests and the answers of a feed's poller; a datagram comes from the feed's own server
+abbrev pub event_in : Address → ℕ → ScriptLine → Option Event
+event_in server feed (Ask number at) = if number == feed then Some (WasAsked at) else None
+event_in server feed (Answer number at datagram) = if number == feed then Some (WasAnswered at server datagram) else None
+event_in server feed (Pulse number reduction) = None
+event_in server feed (Swap number) = None
+event_in server feed (Request connection arrived sent datagram) = None
+
+abbrev pub events_of : Address → ℕ → List ScriptLine → List Event
+events_of server feed lines = filter_map (event_in server feed) lines
+
+-- the moment of a feed's last request or answer, and 0 where there is none
+abbrev pub moment_in : ℕ → ScriptLine → Option ℕ
+moment_in feed (Ask number at) = if number == feed then Some at else None
+moment_in feed (Answer number at datagram) = if number == feed then Some at else None
+moment_in feed (Pulse number reduction) = None
+moment_in feed (Swap number) = None
+moment_in feed (Request connection arrived sent datagram) = None
+
+abbrev pub last_moment : ℕ → List ScriptLine → ℕ
+last_moment feed lines = unwrap_or (last_or None (filter_map (moment_in feed) lines)) 0
+
+-- a pulse begins behind all earlier ones of its radio, over swaps too
+abbrev pub may_hear : Option RadioFields → ℕ → Reduction → List ScriptLine → Bool
+may_hear None feed reduction lines = false
+may_hear (Some radio) feed reduction lines = nat_le (least_after (pulses_of feed lines)) reduction.at
+
+-- no moment of a server is below an earlier one
+abbrev pub may_poll : Option ServerFields → ℕ → ℕ → List ScriptLine → Bool
+may_poll None feed at lines = false
+may_poll (Some server) feed at lines = nat_le (last_moment feed lines) at
+
+-- there are four receivers of each plan
+abbrev pub may_swap : StationFields → Option RadioFields → List ScriptLine → Bool
+may_swap station None lines = false
+may_swap station (Some radio) lines = nat_lt (fitted station radio.plan lines) 4
+
+-- whether a line may stand behind these lines
+abbrev pub is_lawful : StationFields → List ScriptLine → ScriptLine → Bool
+is_lawful station lines (Pulse feed reduction) = may_hear (radio_of station feed) feed reduction lines
+is_lawful station lines (Ask feed at) = may_poll (server_of station feed) feed at lines
+is_lawful station lines (Answer feed at datagram) = may_poll (server_of station feed) feed at lines
+is_lawful station lines (Swap feed) = may_swap station (radio_of station feed) lines
+is_lawful station lines (Request connection arrived sent datagram) = true
+
+-- the answer by which a receiver's list of answers grows with a reduction, if it grows
+abbrev pub new_answer : History → Reduction → Option Answered
+new_answer h reduction = slice_get (answers_of (with_reduction h reduction)) (length (answers_of h))
+
+abbrev pub entry_heard : ℕ → Option Answered → Option Entry
+entry_heard feed None = None
+entry_heard feed (Some heard) = Some (record { feed = feed; at = heard.at; what = Heard heard.kind })
+
+abbrev pub due_of_radio : Option RadioFields → ℕ → Reduction → List ScriptLine → Option Entry
+due_of_radio None feed reduction lines = None
+due_of_radio (Some radio) feed reduction lines = entry_heard feed (new_answer (history_of radio feed lines) reduction)
+
+abbrev pub what_answered : Result TimeSample PollRefusal → What
+what_answered (Ok sample) = Sample sample
+what_answered (Err refusal) = Declined (code_of refusal)
+
+abbrev pub entry_answered : ℕ → ℕ → Result TimeSample PollRefusal → Entry
+entry_answered feed at judged = record { feed = feed; at = at; what = what_answered judged }
+
+abbrev pub due_of_server : Option ServerFields → ℕ → ℕ → List ℕ → List ScriptLine → Option Entry
+due_of_server None feed at datagram lines = None
+due_of_server (Some server) feed at datagram lines =
+    Some (entry_answered feed at (judge server.address (events_of server.address feed lines) at server.address datagram))
+
+-- the entry that is due to a line behind these lines: one for each answer of a receiver, and one for each datagram of a server
+abbrev pub due_to : StationFields → List ScriptLine → ScriptLine → Option Entry
+due_to station lines (Pulse feed reduction) = due_of_radio (radio_of station feed) feed reduction lines
+due_to station lines (Answer feed at datagram) = due_of_server (server_of station feed) feed at datagram lines
+due_to station lines (Ask feed at) = None
+due_to station lines (Swap feed) = None
+due_to station lines (Request connection arrived sent datagram) = None
+
+-- what each of some lines comes to, by all the lines before it
+abbrev pub each_after : {A : Type 0} → (List ScriptLine → ScriptLine → List A) → List ScriptLine → List ScriptLine → List A
+each_after f before [] = []
+each_after f before (line ∷ more) = f before line ++ each_after f (before ++ line ∷ []) more
+
+-- all entries that are due, in order
+abbrev pub due : StationFields → List ScriptLine → List Entry
+due station lines = each_after (λ before line. option_to_list (due_to station before line)) [] lines
+
+-- those that are kept: the first ones, up to the limit
+abbrev pub kept : StationFields → ℕ → List ScriptLine → List Entry
+kept station limit lines = take limit (due station lines)
+
+-- one was due while as many as the limit were kept
+abbrev pub is_full : StationFields → ℕ → List ScriptLine → Bool
+is_full station limit lines = nat_lt limit (length (due station lines))
+
+-- the page of the entries kept
+abbrev pub page_after : StationFields → ℕ → List ScriptLine → PageFields
+page_after station limit lines = page_of (settings_of station) (kept station limit lines)
+
+-- an entry is told where it is kept
+abbrev pub outcome_of_due : ℕ → List Entry → Option Entry → Outcome
+outcome_of_due limit before None = Nothing
+outcome_of_due limit before (Some e) = if nat_lt (length before) limit then Kept e else Nothing
+
+abbrev pub outcome_of_request : Result (List ℕ) WhyDropped → Outcome
+outcome_of_request (Ok bytes) = Replied bytes
+outcome_of_request (Err why) = Dropped why
+
+-- what a lawful line gives behind these lines
+abbrev pub outcome : StationFields → ℕ → List ScriptLine → ScriptLine → Outcome
+outcome station limit lines (Pulse feed reduction) = outcome_of_due limit (due station lines) (due_to station lines (Pulse feed reduction))
+outcome station limit lines (Answer feed at datagram) = outcome_of_due limit (due station lines) (due_to station lines (Answer feed at datagram))
+outcome station limit lines (Ask feed at) = Asked (layout (request_header at))
+outcome station limit lines (Swap feed) = Nothing
+outcome station limit lines (Request connection arrived sent datagram) = outcome_of_request (answer (page_after station limit lines) datagram arrived sent)

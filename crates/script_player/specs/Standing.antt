@@ -1,0 +1,178 @@
+-- What a player keeps, against the definitions on all the lines before.
+use Rattle.std.specs.Prelude.{◌≡◌, ℕ, ◌+◌, ◌≤◌, ◌&&◌, ◌++◌, Bool, true, false, nat_lt, Option, Some, Result, Ok, Err, List, [], ◌∷◌, All, length, take, if◌then◌else◌}
+use Rattle.std.specs.List.{count_by, slice_get}
+use Rattle.tick_units.specs.declared.marks.Plan.{Plan}
+use Rattle.tick_units.specs.declared.marks.Reduction.{Reduction}
+use Rattle.journal_entry.specs.declared.entry.Entry.{Entry}
+use Rattle.radio_receiver.specs.Histories.{History, is_blank, least_after}
+use Rattle.poll_core.specs.Polling.{HasPolled}
+use Rattle.system_fold.specs.Settings.{SettingsFields}
+use Rattle.system_fold.specs.Standing.{StandsFor}
+use Rattle.station_config.specs.Station.{RadioFields, ServerFields, StationFields, is_same_plan, settings_of}
+use Rattle.script_line.specs.declared.line.ScriptLine.{ScriptLine}
+use Rattle.script_line.specs.declared.line.ScriptLine.TheVariants.{Pulse, Answer}
+use Rattle.script_player.specs.Keeping.{JournalFields}
+use Rattle.script_player.specs.Replay.{due, due_of_radio, due_of_server, events_of, fitted, history_of, is_lawful, last_moment, outcome, pulses_of, radio_of, server_of}
+use Rattle.script_player.specs.declared.outcome.NotLawful.{NotLawful}
+use Rattle.script_player.specs.declared.outcome.Outcome.{Outcome}
+use Rattle.script_player.specs.declared.radio.Radio.{Radio}
+use Rattle.script_player.specs.declared.rack.Spare.{Spare}
+use Rattle.script_player.specs.declared.radios.Radios.{Radios}
+use Rattle.script_player.specs.declared.server.Server.{Server}
+use Rattle.script_player.specs.declared.servers.Servers.{Servers}
+use Rattle.script_player.specs.declared.player.Player.{Player}
+
+-- what a call answers to a line: something exactly where the line is lawful; where it isn't, all is as it was
+abbrev pub Gives : {A : Type 0} → Bool → (A → Type 0) → Type 0 → Result A NotLawful → Type 0
+Gives lawful Given Same (Ok x) = (lawful ≡ true) × Given x
+Gives lawful Given Same (Err refused) = (lawful ≡ false) × Same
+
+-- each of some receivers stands for one of these histories, in order
+abbrev pub AreOf : {B : Type 0} → (B → History → Type 0) → List B → List History → Type 0
+AreOf stands [] [] = Unit {0}
+AreOf stands [] (h ∷ others) = ⊥
+AreOf stands (b ∷ more) [] = ⊥
+AreOf stands (b ∷ more) (h ∷ others) = stands b h × AreOf stands more others
+
+abbrev pub is_blank_of : Plan → History → Bool
+is_blank_of plan h = is_same_plan plan h.plan && is_blank h.reductions
+
+-- receivers of whatever history, among them at least four blank ones of each plan
+pub record IsRack {B : Type 0} (stands : B → History → Type 0) (rack : List B) : Type 0 where
+  pub histories : List History
+  pub are : AreOf stands rack histories
+  pub enough : (plan : Plan) → 4 ≤ count_by (is_blank_of plan) histories
+
+-- a radio has the receiver that has heard the pulses since its last swap
+pub record HasRadio {B : Type 0} (stands : B → History → Type 0) (radio : Radio B) (fields : RadioFields) (feed : ℕ) (lines : List ScriptLine) : Type 0 where
+  pub plan : radio.plan ≡ fields.plan
+  pub delay : radio.delay_us ≡ fields.delay
+  pub least : radio.least ≡ least_after (pulses_of feed lines)
+  pub heard : stands radio.receiver (history_of fields feed lines)
+
+-- a receiver that is left is blank, and of its plan
+pub record IsSpare {B : Type 0} (stands : B → History → Type 0) (spare : Spare B) : Type 0 where
+  pub delay : ℕ
+  pub blank : stands spare.receiver (record { plan = spare.plan; delay = delay; reductions = [] })
+
+abbrev pub left_of : {B : Type 0} → Plan → List (Spare B) → ℕ
+left_of plan spares = count_by (λ spare. is_same_plan plan spare.plan) spares
+
+-- at this place stands a receiver of the plan
+pub record IsPlaceOf {B : Type 0} (plan : Plan) (spares : List (Spare B)) (place : ℕ) : Type 0 where
+  pub spare : Spare B
+  pub at : slice_get spares place ≡ Some spare
+  pub plan_is : is_same_plan plan spare.plan ≡ true
+
+-- a blank receiver of a plan
+pub record IsBlankOf {B : Type 0} (stands : B → History → Type 0) (plan : Plan) (receiver : B) : Type 0 where
+  pub delay : ℕ
+  pub blank : stands receiver (record { plan = plan; delay = delay; reductions = [] })
+
+abbrev pub one_of : Plan → Plan → ℕ
+one_of plan other = if is_same_plan plan other then 1 else 0
+
+-- of the receivers that were left one of a plan was taken
+pub record HasTaken {B : Type 0} (stands : B → History → Type 0) (old new : List (Spare B)) (plan : Plan) (receiver : B) : Type 0 where
+  pub receiver_is : All (IsSpare stands) old → IsBlankOf stands plan receiver
+  pub others : All (IsSpare stands) old → All (IsSpare stands) new
+  pub count : (p : Plan) → left_of p old ≡ left_of p new + one_of p plan
+
+-- four receivers of each plan are left, and none is fitted
+pub record AreFour {B : Type 0} (stands : B → History → Type 0) (spares : List (Spare B)) : Type 0 where
+  pub blank : All (IsSpare stands) spares
+  pub four : (plan : Plan) → left_of plan spares ≡ 4
+
+-- of a rack some receivers were looked at, and these kept; the others are still to come
+pub record HasSorted {B : Type 0} (stands : B → History → Type 0) (spares : List (Spare B)) (rest : List B) : Type 0 where
+  pub histories : List History
+  pub are : AreOf stands rest histories
+  pub blank : All (IsSpare stands) spares
+  pub most : (plan : Plan) → left_of plan spares ≤ 4
+  pub enough : (plan : Plan) → 4 ≤ left_of plan spares + count_by (is_blank_of plan) histories
+
+-- the radios of a station, in order
+pub record HasFitted {B : Type 0} (stands : B → History → Type 0) (radios : List (Radio B)) (station : StationFields) (lines : List ScriptLine) : Type 0 where
+  pub count : length radios ≡ length station.radios
+  pub each : (feed : ℕ) (radio : Radio B) (fields : RadioFields) → slice_get radios feed ≡ Some radio → slice_get station.radios feed ≡ Some fields → HasRadio stands radio fields feed lines
+
+-- of each plan four receivers are fitted or left
+pub record HasRadios {B : Type 0} (stands : B → History → Type 0) (radios : Radios B) (station : StationFields) (lines : List ScriptLine) : Type 0 where
+  pub fitted_are : HasFitted stands radios.fitted.items station lines
+  pub blank : All (IsSpare stands) radios.left.items
+  pub four : (plan : Plan) → left_of plan radios.left.items + fitted station plan lines ≡ 4
+
+-- a station with one radio more, and with one server more
+abbrev pub with_radio : StationFields → RadioFields → StationFields
+with_radio station fields = record { holdover = station.holdover; start = station.start; radios = station.radios ++ fields ∷ []; servers = station.servers; links = station.links }
+
+abbrev pub with_server : StationFields → ServerFields → StationFields
+with_server station fields = record { holdover = station.holdover; start = station.start; radios = station.radios; servers = station.servers ++ fields ∷ []; links = station.links }
+
+-- a station with the first of its radios alone, and with the first of its servers alone
+abbrev pub first_radios : ℕ → StationFields → StationFields
+first_radios n station = record { holdover = station.holdover; start = station.start; radios = take n station.radios; servers = station.servers; links = station.links }
+
+abbrev pub first_servers : ℕ → StationFields → StationFields
+first_servers n station = record { holdover = station.holdover; start = station.start; radios = station.radios; servers = take n station.servers; links = station.links }
+
+-- each receiver can hear what its radio may hear next
+pub record AreReady {B : Type 0} (least_start : B → ℕ) (radios : Radios B) : Type 0 where
+  pub fitted : All (λ radio. least_start radio.receiver ≤ radio.least) radios.fitted.items
+  pub left : All (λ spare. least_start spare.receiver ≡ 0) radios.left.items
+
+-- a pulse more, and the entry that it was due
+pub record HasHeardPulse {B : Type 0} (stands : B → History → Type 0) (radios : Radios B) (station : StationFields) (lines : List ScriptLine) (feed : ℕ) (reduction : Reduction) (entry : Option Entry) : Type 0 where
+  pub played : HasRadios stands radios station (lines ++ Pulse feed reduction ∷ [])
+  pub due_is : entry ≡ due_of_radio (radio_of station feed) feed reduction lines
+
+-- a server has the poller of its exchanges
+pub record HasServer (server : Server) (fields : ServerFields) (feed : ℕ) (lines : List ScriptLine) : Type 0 where
+  pub polled : HasPolled server.poll fields.address (events_of fields.address feed lines)
+  pub address : server.address ≡ fields.address
+  pub last : server.last ≡ last_moment feed lines
+
+-- a moment isn't below the last one of the server at a place
+abbrev pub IsTimely : List Server → ℕ → ℕ → Type 0
+IsTimely servers place at = (server : Server) → slice_get servers place ≡ Some server → server.last ≤ at
+
+-- the servers of a station, in order; their numbers begin behind those of the radios
+pub record HasPolling (servers : List Server) (station : StationFields) (lines : List ScriptLine) : Type 0 where
+  pub count : length servers ≡ length station.servers
+  pub each : (place : ℕ) (server : Server) (fields : ServerFields) → slice_get servers place ≡ Some server → slice_get station.servers place ≡ Some fields → HasServer server fields (length station.radios + place) lines
+
+pub record HasServers (servers : Servers) (station : StationFields) (lines : List ScriptLine) : Type 0 where
+  pub first_is : servers.first ≡ length station.radios
+  pub polling : HasPolling servers.servers.items station lines
+
+-- a datagram more, and the entry that it was due
+pub record HasAnswered (servers : Servers) (station : StationFields) (lines : List ScriptLine) (feed at : ℕ) (datagram : List ℕ) (entry : Entry) : Type 0 where
+  pub played : HasServers servers station (lines ++ Answer feed at datagram ∷ [])
+  pub due_is : Some entry ≡ due_of_server (server_of station feed) feed at datagram lines
+
+-- of the entries that were due the first are kept, up to the limit
+pub record HasKept (journal : JournalFields) (settings : SettingsFields) (limit : ℕ) (entries : List Entry) : Type 0 where
+  pub limit_is : journal.limit ≡ limit
+  pub fold : StandsFor journal.fold settings (take limit entries)
+  pub count : journal.count ≡ length (take limit entries)
+  pub full : journal.is_full ≡ nat_lt limit (length entries)
+
+-- a player stands for a station, a limit and the lines so far
+pub record HasPlayed {B : Type 0} (stands : B → History → Type 0) (player : Player B) (station : StationFields) (limit : ℕ) (lines : List ScriptLine) : Type 0 where
+  pub radios : HasRadios stands player.radios station lines
+  pub servers : HasServers player.servers station lines
+  pub journal : HasKept player.journal (settings_of station) limit (due station lines)
+
+-- one line more, and what it gave
+pub record HasGiven {B : Type 0} (stands : B → History → Type 0) (player : Player B) (station : StationFields) (limit : ℕ) (lines : List ScriptLine) (line : ScriptLine) (given : Outcome) : Type 0 where
+  pub played : HasPlayed stands player station limit (lines ++ line ∷ [])
+  pub outcome_is : given ≡ outcome station limit lines line
+
+-- what a player answers to a line behind these lines
+abbrev pub Plays : {B : Type 0} → (B → History → Type 0) → Player B → StationFields → ℕ → List ScriptLine → ScriptLine → Result Outcome NotLawful → Type 0
+Plays stands player station limit lines line result =
+    Gives (is_lawful station lines line) (HasGiven stands player station limit lines line) (HasPlayed stands player station limit lines) result
+
+-- each receiver of a player can hear what its radio may hear next
+abbrev pub IsReady : {B : Type 0} → (B → ℕ) → Player B → Type 0
+IsReady least_start player = AreReady least_start player.radios

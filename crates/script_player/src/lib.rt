@@ -1,0 +1,21 @@
+//! What a recorded script comes to, line by line, on one thread.
+#![tactic(auto)]
+
+mod journal;
+mod outcome;
+mod player;
+mod rack;
+mod radio;
+mod radios;
+mod server;
+mod servers;
+mod text;
+
+use radio_receiver::Receiver;
+
+/// A receiver that main or a test has made.
+pub type BoxedReceiver = Box<dyn Receiver + Send>;
+
+pub use outcome::{NotLawful, Outcome};
+pub use player::Player;
+pub use text::write_outcome;

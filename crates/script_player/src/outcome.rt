@@ -1,0 +1,21 @@
+use journal_entry::Entry;
+use reply_core::Dropped as WhyDropped;
+
+/// What a line of a script gives.
+#[derive(Clone, Copy, Debug, PartialEq, Eq)]
+pub enum Outcome {
+    /// Nothing is told: no minute was complete, a receiver was swapped, or the journal was full.
+    Nothing,
+    /// This entry is kept.
+    Kept(Entry),
+    /// The server of the feed is asked by these bytes.
+    Asked([u8; 48]),
+    /// The client is answered by these bytes.
+    Replied([u8; 48]),
+    /// The client isn't answered.
+    Dropped(WhyDropped),
+}
+
+/// A line that may not stand behind the lines before it.
+#[derive(Clone, Copy, Debug, PartialEq, Eq)]
+pub struct NotLawful;

@@ -1,0 +1,171 @@
+ghost use Rattle.std.specs.Prelude.{◌≡◌, ◌≤◌, ◌+◌, ◌^◌, [], ℕ, List, Ok, IfOk, vec_len, length};
+ghost use Rattle.station_config.specs.Station.{StationFields};
+ghost use Rattle.script_line.specs.Texts.{IsLine};
+ghost use Rattle.script_line.specs.declared.line.ScriptLine.{ScriptLine};
+ghost use Rattle.script_line.specs.declared.line.ScriptLine.TheVariants as lines;
+ghost use Rattle.script_player.specs.Replay as replay;
+ghost use Rattle.script_player.specs.Replay.{page_after};
+
+use crate::journal::Journal;
+use crate::radios::Radios;
+use crate::servers::Servers;
+use crate::{BoxedReceiver, NotLawful, Outcome};
+use clock_page::Page;
+use radio_receiver::Receiver;
+use reply_core::reply;
+use script_line::{Datagram, ScriptLine};
+use station_config::Station;
+use std::alloc::{AllocError, Global};
+use tick_units::{Local, Reduction};
+
+/// A station in the middle of a script: it plays the lines one after the other, and keeps the journal's page.
+///
+/// It stands for its station, the most entries that are kept, and the lines that it has played.
+#[derive(Drop)]
+pub struct Player<B: Drop> {
+    radios: Radios<B>,
+    servers: Servers,
+    journal: Journal,
+    ghost first: { servers.first ≡ vec_len radios.fitted },
+    ghost feeds: { length journal.fold.feeds ≡ vec_len radios.fitted + vec_len servers.servers },
+}
+
+impl Player<BoxedReceiver> {
+    ghost use Rattle.script_player.specs.Standing.{HasPlayed, IsRack, IsReady, Plays};
+
+    /// A station that has played no line yet, and that keeps at most so many entries, up to 4194304. Of each plan the first
+    /// four blank receivers of the rack are used, in its order; the others are dropped.
+    ///
+    /// # Errors
+    /// There is no memory. No other call takes any.
+    pub fn new(
+        alloc: Global,
+        station: &Station,
+        rack: Vec<BoxedReceiver>,
+        limit: u32,
+    ) -> Result<Player<BoxedReceiver>, AllocError>
+        requires rack { IsRack (λ b h. stands_for b h) rack.items }
+        requires limit { limit ≤ 2 ^ 22 }
+        ensures played { IfOk result (λ player. HasPlayed (λ b h. stands_for b h) player station.now limit []) }
+        ensures ready { IfOk result (λ player. IsReady (λ b. least_start b) player) }
+    {
+        let radios = Radios::new(alloc, station, rack)?;
+        let mut servers = Servers::new(alloc, station.radios() as u32);
+        servers.add_all(station)?;
+        let journal = Journal::new(station.settings(), limit);
+        Ok(Player {
+            radios,
+            servers,
+            journal,
+        })
+    }
+
+    /// The next line: what it gives, where it may stand behind the lines before it.
+    ///
+    /// # Errors
+    /// A line that may not stand there, which changes nothing.
+    pub fn play(&mut self, line: &ScriptLine<'_>) -> Result<Outcome, NotLawful>
+        requires line { IsLine line.now }
+        requires ready { IsReady (λ b. least_start b) self.old }
+        ensures ready { IsReady (λ b. least_start b) self.new }
+        ensures plays { (station : StationFields) (limit : ℕ) (before : List ScriptLine) → HasPlayed (λ b h. stands_for b h) self.old station limit before →
+            Plays (λ b h. stands_for b h) self.new station limit before line.now result }
+    {
+        match line {
+            ScriptLine::Pulse { feed, reduction } => self.hear(*feed, *reduction),
+            ScriptLine::Ask { feed, at } => self.ask(*feed, *at),
+            ScriptLine::Answer { feed, at, datagram } => self.answer(*feed, *at, datagram),
+            ScriptLine::Swap { feed } => self.swap(*feed),
+            ScriptLine::Request {
+                connection: _,
+                arrived,
+                sent,
+                datagram,
+            } => Ok(self.reply(*arrived, *sent, datagram)),
+        }
+    }
+
+    // A pulse for a radio.
+    fn hear(&mut self, feed: u32, reduction: Reduction) -> Result<Outcome, NotLawful>
+        requires { IsReady (λ b. least_start b) self.old }
+        ensures ready { IsReady (λ b. least_start b) self.new }
+        ensures plays { (station : StationFields) (limit : ℕ) (before : List ScriptLine) → HasPlayed (λ b h. stands_for b h) self.old station limit before →
+            Plays (λ b h. stands_for b h) self.new station limit before (lines.Pulse feed reduction) result }
+    {
+        match self.radios.hear(feed, reduction)? {
+            Some(entry) => Ok(self.journal.take(&entry)),
+            None => Ok(Outcome::Nothing),
+        }
+    }
+
+    // A server is asked.
+    fn ask(&mut self, feed: u32, at: Local) -> Result<Outcome, NotLawful>
+        requires { IsReady (λ b. least_start b) self.old }
+        ensures ready { IsReady (λ b. least_start b) self.new }
+        ensures plays { (station : StationFields) (limit : ℕ) (before : List ScriptLine) → HasPlayed (λ b h. stands_for b h) self.old station limit before →
+            Plays (λ b h. stands_for b h) self.new station limit before (lines.Ask feed at) result }
+    {
+        let request = self.servers.ask(feed, at)?;
+        Ok(Outcome::Asked(request))
+    }
+
+    // A datagram comes from a server.
+    fn answer(
+        &mut self,
+        feed: u32,
+        at: Local,
+        datagram: &Datagram<'_>,
+    ) -> Result<Outcome, NotLawful>
+        requires { IsReady (λ b. least_start b) self.old }
+        ensures ready { IsReady (λ b. least_start b) self.new }
+        ensures plays { (station : StationFields) (limit : ℕ) (before : List ScriptLine) → HasPlayed (λ b h. stands_for b h) self.old station limit before →
+            Plays (λ b h. stands_for b h) self.new station limit before (lines.Answer feed at datagram.now) result }
+    {
+        let mut room = [0; 1024];
+        let length = datagram.write(&mut room);
+        let entry = self.servers.answer(feed, at, &room[..length])?;
+        Ok(self.journal.take(&entry))
+    }
+
+    // A radio gets another receiver.
+    fn swap(&mut self, feed: u32) -> Result<Outcome, NotLawful>
+        requires { IsReady (λ b. least_start b) self.old }
+        ensures ready { IsReady (λ b. least_start b) self.new }
+        ensures plays { (station : StationFields) (limit : ℕ) (before : List ScriptLine) → HasPlayed (λ b h. stands_for b h) self.old station limit before →
+            Plays (λ b h. stands_for b h) self.new station limit before (lines.Swap feed) result }
+    {
+        self.radios.swap(feed)?;
+        Ok(Outcome::Nothing)
+    }
+
+    // A client's datagram is answered from the page of the entries kept so far.
+    fn reply(&self, arrived: Local, sent: Local, datagram: &Datagram<'_>) -> Outcome
+        requires { arrived ≤ sent }
+        ensures { (station : StationFields) (limit : ℕ) (before : List ScriptLine) (connection : ℕ) → HasPlayed (λ b h. stands_for b h) self.now station limit before →
+            result ≡ replay.outcome station limit before (lines.Request connection arrived sent datagram.now) }
+    {
+        let mut room = [0; 1024];
+        let length = datagram.write(&mut room);
+        let mut answer = [0; 48];
+        match reply(&self.page(), &room[..length], arrived, sent, &mut answer) {
+            Ok(()) => Outcome::Replied(answer),
+            Err(why) => Outcome::Dropped(why),
+        }
+    }
+
+    /// The page of the entries kept so far.
+    pub fn page(&self) -> Page
+        ensures { (station : StationFields) (limit : ℕ) (before : List ScriptLine) → HasPlayed (λ b h. stands_for b h) self.now station limit before →
+            result ≡ page_after station limit before }
+    {
+        self.journal.page()
+    }
+
+    /// Whether an entry was due while as many were kept as may be.
+    pub fn is_full(&self) -> bool
+        ensures { (station : StationFields) (limit : ℕ) (before : List ScriptLine) → HasPlayed (λ b h. stands_for b h) self.now station limit before →
+            result ≡ replay.is_full station limit before }
+    {
+        self.journal.is_full()
+    }
+}

@@ -1,0 +1,119 @@
+ghost use Rattle.std.specs.Prelude.{◌≡◌, ◌≤◌, ◌+◌, ◌++◌, ◌∷◌, [], List, IfOk, OnOk, IfSome, vec_len};
+ghost use Rattle.minute_pair.specs.Years.{BelievesYears};
+ghost use Rattle.journal_entry.specs.Lawful.{IsLawful};
+ghost use Rattle.station_config.specs.Station.{RadioFields, StationFields};
+ghost use Rattle.script_line.specs.declared.line.ScriptLine.{ScriptLine};
+ghost use Rattle.script_line.specs.declared.line.ScriptLine.TheVariants.{Pulse, Swap};
+ghost use Rattle.script_player.specs.Replay as replay;
+ghost use Rattle.script_player.specs.Replay.{may_hear, may_swap, radio_of};
+ghost use Rattle.script_player.specs.Standing.{AreReady, Gives, HasHeardPulse, HasRadios, IsRack, left_of, with_radio};
+
+use crate::rack::{Spare, four_of_each, take_of};
+use crate::radio::Radio;
+use crate::{BoxedReceiver, NotLawful};
+use journal_entry::{Entry, What};
+use radio_receiver::Receiver;
+use station_config::Station;
+use std::alloc::{AllocError, Global};
+use tick_units::{Heard, Plan, Reduction};
+
+// The radios of the station by number, and the receivers that are left for swaps.
+#[derive(Drop)]
+pub struct Radios<B: Drop> {
+    fitted: Vec<Radio<B>>,
+    left: Vec<Spare<B>>,
+}
+
+// The entry of an answer.
+fn entry_heard(feed: u32, heard: Option<Heard>) -> Option<Entry>
+    requires { IfSome heard (λ told. BelievesYears told.kind) }
+    ensures value { result ≡ replay.entry_heard feed heard }
+    ensures lawful { IfSome result (λ e. IsLawful (feed + 1) e) }
+{
+    let heard = heard?;
+    Some(Entry {
+        feed,
+        at: heard.at,
+        what: What::Heard(heard.kind),
+    })
+}
+
+impl Radios<BoxedReceiver> {
+    // The radios of a station, each with the first receiver of its plan that is left of the rack.
+    pub fn new(
+        alloc: Global,
+        station: &Station,
+        rack: Vec<BoxedReceiver>,
+    ) -> Result<Radios<BoxedReceiver>, AllocError>
+        requires { IsRack (λ b h. stands_for b h) rack.items }
+        ensures ready { IfOk result (λ radios. AreReady (λ b. least_start b) radios) }
+        ensures played { IfOk result (λ radios. HasRadios (λ b h. stands_for b h) radios station.now []) }
+    {
+        let count = station.radios();
+        let mut radios = Radios {
+            fitted: Vec::with_capacity(alloc, count)?,
+            left: four_of_each(alloc, rack)?,
+        };
+        for place in 0..count {
+            let row = station.radio(place).unwrap();
+            radios.add(row.plan, row.delay)?;
+        }
+        Ok(radios)
+    }
+
+    // One radio more, with this plan and this delay.
+    fn add(&mut self, plan: Plan, delay_us: u32) -> Result<(), AllocError>
+        requires ready { AreReady (λ b. least_start b) self.old }
+        requires left { 1 ≤ left_of plan self.old.left.items }
+        requires delay { delay_us ≤ 100000 }
+        ensures ready { AreReady (λ b. least_start b) self.new }
+        ensures added { (station : StationFields) (fields : RadioFields) → fields.plan ≡ plan → fields.delay ≡ delay_us → HasRadios (λ b h. stands_for b h) self.old station [] →
+            OnOk result (HasRadios (λ b h. stands_for b h) self.new (with_radio station fields) []) }
+    {
+        let receiver = take_of(&mut self.left, plan).unwrap();
+        self.fitted.push(Radio::new(receiver, plan, delay_us))?;
+        Ok(())
+    }
+
+    // A pulse for a radio: the entry that it is due.
+    pub fn hear(&mut self, feed: u32, reduction: Reduction) -> Result<Option<Entry>, NotLawful>
+        requires { AreReady (λ b. least_start b) self.old }
+        ensures ready { AreReady (λ b. least_start b) self.new }
+        ensures count { vec_len self.new.fitted ≡ vec_len self.old.fitted }
+        ensures heard { (station : StationFields) (lines : List ScriptLine) → HasRadios (λ b h. stands_for b h) self.old station lines →
+            Gives (may_hear (radio_of station feed) feed reduction lines) (HasHeardPulse (λ b h. stands_for b h) self.new station lines feed reduction)
+            (HasRadios (λ b h. stands_for b h) self.new station lines) result }
+        ensures lawful { IfOk result (λ entry. IfSome entry (λ e. IsLawful (vec_len self.old.fitted) e)) }
+    {
+        let place = feed as usize;
+        if place >= self.fitted.len() {
+            return Err(NotLawful);
+        }
+        if reduction.at.get() < self.fitted[place].least {
+            return Err(NotLawful);
+        }
+        let heard = self.fitted[place].hear(reduction);
+        Ok(entry_heard(feed, heard))
+    }
+
+    // A radio's receiver is dropped, and the next of its plan is fitted in its place.
+    pub fn swap(&mut self, feed: u32) -> Result<(), NotLawful>
+        requires { AreReady (λ b. least_start b) self.old }
+        ensures ready { AreReady (λ b. least_start b) self.new }
+        ensures count { vec_len self.new.fitted ≡ vec_len self.old.fitted }
+        ensures swapped { (station : StationFields) (lines : List ScriptLine) → HasRadios (λ b h. stands_for b h) self.old station lines →
+            Gives (may_swap station (radio_of station feed) lines) (λ _. HasRadios (λ b h. stands_for b h) self.new station (lines ++ Swap feed ∷ []))
+            (HasRadios (λ b h. stands_for b h) self.new station lines) result }
+    {
+        let place = feed as usize;
+        if place >= self.fitted.len() {
+            return Err(NotLawful);
+        }
+        let plan = self.fitted[place].plan;
+        let Some(receiver) = take_of(&mut self.left, plan) else {
+            return Err(NotLawful);
+        };
+        self.fitted[place].swap(receiver);
+        Ok(())
+    }
+}
