@@ -1,18 +1,13 @@
 -- What the decoder stands for, with more bytes.
-use Rattle.std.proofs.Common.{Result, Ok, Err, ◌≡◌, ℕ, ◌+◌, ◌<◌, Option, None, Some, List, [], ◌∷◌, ◌++◌, length, take, get_or, refl, ap, sym, ◌∙◌, subst, append_assoc}
+use Rattle.std.proofs.Common.{Result, Ok, Err, ◌≡◌, ℕ, Option, None, Some, List, [], ◌∷◌, ◌++◌, refl, ap, sym, ◌∙◌}
 use Rattle.std.specs.Option.{option_to_list}
-use Rattle.std.proofs.lemmas.List.{append-nil, take_more}
+use Rattle.std.proofs.lemmas.List.{append-nil}
 use Rattle.tick_units.specs.Log.{pulses, bad_line}
-use Rattle.tick_units.specs.Marks.{marks_of}
-use Rattle.tick_units.specs.declared.marks.Mark.{Mark}
 use Rattle.tick_units.specs.declared.marks.Plan.{Plan}
 use Rattle.tick_units.specs.declared.marks.Reduction.{Reduction}
 use Rattle.pulse_log.specs.Reading.{HasRead}
-use Rattle.pulse_log.specs.declared.reader.LineReader.{LineReader}
 use Rattle.pulse_log.specs.declared.reader.BadLine.{BadLine}
 use Rattle.tick_units.specs.declared.verdicts.Heard.{Heard}
-use Rattle.second_marks.specs.Marker.{HasHeard}
-use Rattle.minute_pair.specs.Pairing.{HasPaired}
 use Rattle.radio_engine.specs.declared.decoder.Decoder.{Decoder}
 use Rattle.radio_engine.specs.Reading.{Reading}
 use Rattle.radio_engine.specs.Reading.Reading.{log, station, script}

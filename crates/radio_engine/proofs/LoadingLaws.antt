@@ -1,5 +1,5 @@
 -- How the reading of a station file ends.
-use Rattle.std.proofs.Common.{◌≡◌, ℕ, ◌≤◌, Option, None, Some, List, [], ◌++◌, take, refl, ap, sym, ◌∙◌, subst, inl, inr, arith}
+use Rattle.std.proofs.Common.{◌≡◌, ℕ, Option, None, Some, List, [], ◌++◌, take, refl, ap, sym, ◌∙◌, subst, inl, inr, arith}
 use Rattle.std.proofs.lemmas.List.{append-nil}
 use Rattle.feed_link.specs.Told.{SourceState, SinkState}
 use Rattle.radio_engine.specs.Loading.{HasKept, HasLoaded, IsObstacle, IsTold, KeepsAll, bytes_of}

@@ -1,18 +1,16 @@
 -- What a player of a script's bytes stands for, with more bytes.
-use Rattle.std.proofs.Common.{◌≡◌, ℕ, ◌+◌, ◌<◌, ◌≤◌, Bool, true, false, cond, Option, None, Some, List, [], ◌∷◌, ◌++◌, length, take, refl, ap, sym, ◌∙◌, subst, inr, arith}
+use Rattle.std.proofs.Common.{◌≡◌, ℕ, ◌+◌, Bool, true, false, cond, Option, None, Some, List, [], ◌∷◌, ◌++◌, length, take, refl, ap, sym, ◌∙◌, subst, inr}
 use Rattle.std.proofs.lemmas.List.{append-nil, length_push}
 use Rattle.radio_receiver.specs.Histories.{History}
 use Rattle.tick_units.specs.Log.{lines_of, has_tail}
 use Rattle.script_line.specs.Cutting.{HasTaken, TakesPiece, IsCut, line_in}
-use Rattle.script_line.specs.Texts.{IsTextOf}
 use Rattle.script_line.specs.declared.cutter.Cut.{Cut}
 use Rattle.script_line.specs.declared.cutter.Cut.TheVariants.{More, Line, TooLong}
 use Rattle.script_line.specs.declared.cutter.LineCutter.{LineCutter}
 use Rattle.script_line.specs.declared.cutter.Taken.{Taken}
 use Rattle.script_line.specs.declared.line.ScriptLine.{ScriptLine}
-use Rattle.script_player.specs.Replay.{is_lawful, outcome}
 use Rattle.script_player.specs.Standing.{HasPlayed}
-use Rattle.script_player.specs.Texts.{outcome_text, replay_text}
+use Rattle.script_player.specs.Texts.{replay_text}
 use Rattle.station_config.specs.Station.{StationFields}
 use Rattle.radio_engine.specs.Playing.{HasReplayed, IsPlayedBy, IsPlayedLine}
 use Rattle.radio_engine.specs.Reading.{Reading, bad_in_the_end}

@@ -1,7 +1,7 @@
 -- The lines of a replay script, up to the first that is bad.
-use Rattle.std.specs.Prelude.{◌≡◌, ℕ, ◌+◌, ◌≤◌, ◌⊎◌, nat_le, Bool, true, false, Option, None, Some, List, [], ◌∷◌, ◌++◌, length, map, if◌then◌else◌}
+use Rattle.std.specs.Prelude.{◌≡◌, ℕ, ◌+◌, ◌≤◌, ◌⊎◌, nat_le, true, false, Option, None, Some, List, [], ◌∷◌, ◌++◌, length, if◌then◌else◌}
 use Rattle.tick_units.specs.Log.{lines_of}
-use Rattle.script_line.specs.Texts.{IsTextOf, text_of}
+use Rattle.script_line.specs.Texts.{IsTextOf}
 use Rattle.script_line.specs.declared.line.ScriptLine.{ScriptLine}
 use Rattle.script_player.specs.Replay.{is_lawful}
 use Rattle.station_config.specs.Station.{StationFields}

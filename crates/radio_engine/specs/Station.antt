@@ -1,5 +1,5 @@
 -- What a command opens, and how it ends.
-use Rattle.std.specs.Prelude.{◌≡◌, ℕ, ◌≤◌, ◌⊎◌, None, Some, IsSome, List, [], ◌∷◌, length, Result, MatchResult}
+use Rattle.std.specs.Prelude.{◌≡◌, ℕ, ◌≤◌, ◌⊎◌, None, Some, IsSome, List, length, Result, MatchResult}
 use Rattle.feed_link.specs.Faults.{Rose}
 use Rattle.feed_link.specs.Told.{SourceState, SinkState}
 use Rattle.feed_link.specs.Openings.{OutsideState, Grows}
@@ -10,14 +10,14 @@ use Rattle.tick_units.specs.declared.marks.Plan.{Plan}
 use Rattle.radio_engine.specs.Decoding.{Decodes}
 use Rattle.radio_engine.specs.Endings.{status_of, status_line}
 use Rattle.radio_engine.specs.Loading.{HasLoaded, IsObstacle, status_at, line_at}
-use Rattle.radio_engine.specs.Reading.{Reading, most_of}
+use Rattle.radio_engine.specs.Reading.{most_of}
 use Rattle.radio_engine.specs.Reading.Reading.{log}
 use Rattle.radio_engine.specs.Replaying.{Replays}
 use Rattle.radio_engine.specs.Writing.{Answers}
 use Rattle.radio_engine.specs.declared.ending.Ending.{Ending}
 use Rattle.radio_engine.specs.declared.ending.Ending.TheVariants.{WrongWords, NotOpened, NoMemory}
 use Rattle.radio_engine.specs.declared.file.File.{File}
-use Rattle.radio_engine.specs.declared.file.File.TheVariants.{Log, Script, Station}
+use Rattle.radio_engine.specs.declared.file.File.TheVariants.{Script, Station}
 use Rattle.radio_engine.specs.declared.obstacle.Obstacle.{Obstacle}
 use Rattle.radio_engine.specs.declared.reading.Reach.{Reach}
 use Rattle.radio_engine.specs.declared.reading.Reach.TheVariants.{ToEnd}

@@ -1,6 +1,6 @@
 -- What a taker of bytes stands for: the bytes that it has taken, the text that it has given for them, and their first bad
 -- line.
-use Rattle.std.specs.Prelude.{◌≡◌, ℕ, ◌≤◌, Option, None, Some, List, [], ◌∷◌, ◌++◌, take, Result, MatchResult, MatchOption}
+use Rattle.std.specs.Prelude.{◌≡◌, ℕ, ◌≤◌, Option, None, Some, List, [], ◌++◌, take, Result, MatchResult, MatchOption}
 use Rattle.std.specs.Option.{option_to_list}
 use Rattle.feed_link.specs.Told.{SourceState, SinkState}
 use Rattle.tick_units.specs.declared.marks.Plan.{Plan}

@@ -1,7 +1,6 @@
-use crate::{Status, run_station};
+use crate::Status;
+use crate::tests::run_over;
 use feed_link::{MemoryOutside, MemorySink, MemorySource, NamedLog};
-use radio_receiver::{DcfReceiver, MsfReceiver, WwvbReceiver};
-use script_player::BoxedReceiver;
 use std::alloc::{AllocError, Global};
 use std::process::Abort;
 use std::test::Fail;
@@ -99,18 +98,12 @@ fn run(
     script: &str,
     failing: Failing,
 ) -> Result<(Vec<u8>, Status), Fail> {
-    let mut rack: Vec<BoxedReceiver> = Vec::new(alloc);
-    for _ in 0..4u8 {
-        rack.push(Box::new(alloc, DcfReceiver::new())?)?;
-        rack.push(Box::new(alloc, WwvbReceiver::new())?)?;
-        rack.push(Box::new(alloc, MsfReceiver::new())?)?;
-    }
     let mut logs = Vec::new(alloc);
     logs.push(named(alloc, "s", station, failing.station)?)?;
     logs.push(named(alloc, "p", script.as_bytes(), failing.script)?)?;
     let mut outside = MemoryOutside::new(alloc, logs, vec![in alloc; failing.open]?, 4, 100)?;
     let mut out = MemorySink::new(alloc, vec![in alloc; failing.write]?);
-    let status = run_station(alloc, words, rack, &mut outside, &mut out);
+    let status = run_over(alloc, words, &mut outside, &mut out)?;
     Ok((out.into_bytes(), status))
 }
 

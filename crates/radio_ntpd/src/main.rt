@@ -3,10 +3,11 @@
 #![tactic(auto)]
 
 use feed_link::{HostOutside, StreamSink};
-use radio_engine::run_station;
+use radio_engine::{put_in_rack, run_station};
 use radio_receiver::{DcfReceiver, MsfReceiver, Receiver, WwvbReceiver};
 use std::process::ExitCode;
 use std::{env, io};
+use tick_units::Plan;
 
 // The exit status for want of memory.
 const MEMORY: u8 = 9;
@@ -41,7 +42,10 @@ fn main(rt: HostRuntime) -> ExitCode {
         let Ok(wwvb) = Box::new(rt.alloc(), WwvbReceiver::new()) else {
             return ExitCode::from(MEMORY);
         };
-        if rack.push(dcf).is_err() || rack.push(msf).is_err() || rack.push(wwvb).is_err() {
+        if put_in_rack(&mut rack, dcf, Plan::Dcf).is_err()
+            || put_in_rack(&mut rack, msf, Plan::Msf).is_err()
+            || put_in_rack(&mut rack, wwvb, Plan::Wwvb).is_err()
+        {
             return ExitCode::from(MEMORY);
         }
     }

@@ -1,4 +1,4 @@
-use Rattle.std.proofs.Common.{rules, ℕ, List, ◌+◌, length, refl, ap, ◌∙◌, arith}
+use Rattle.std.proofs.Common.{rules, ℕ, List, length, refl, ap, ◌∙◌, arith}
 use Rattle.std.proofs.lemmas.List.{length-drop}
 use Rattle.radio_engine.specs.Taking.{given, bad_of}
 use Rattle.radio_engine.proofs.TakingLaws.{taken_on, taken_bad, taken_stopped, taken_whole, none_of}

@@ -1,4 +1,4 @@
-use Rattle.std.proofs.Common.{◌≡◌, ◌∷◌, [], ◌++◌, List, sym, subst}
+use Rattle.std.proofs.Common.{List, sym, subst}
 use Rattle.tick_units.specs.Log.{pulses}
 use Rattle.tick_units.specs.declared.marks.Reduction.{Reduction}
 use Rattle.radio_engine.specs.Taking.{Hears}
