@@ -3,14 +3,9 @@
 #![tactic(auto)]
 
 use feed_link::{HostOutside, StreamSink};
-use radio_engine::{put_in_rack, run_station};
-use radio_receiver::{DcfReceiver, MsfReceiver, Receiver, WwvbReceiver};
+use radio_engine::run_decoder;
 use std::process::ExitCode;
 use std::{env, io};
-use tick_units::Plan;
-
-// The exit status for want of memory.
-const MEMORY: u8 = 9;
 
 fn main(rt: HostRuntime) -> ExitCode {
     let mut outside = HostOutside::new(&rt);
@@ -31,24 +26,6 @@ fn main(rt: HostRuntime) -> ExitCode {
         // Words that can't be had are no lawful words.
         words.clear();
     }
-    let mut rack: Vec<Box<dyn Receiver + Send>> = Vec::new(rt.alloc());
-    for _ in 0..4u8 {
-        let Ok(dcf) = Box::new(rt.alloc(), DcfReceiver::new()) else {
-            return ExitCode::from(MEMORY);
-        };
-        let Ok(msf) = Box::new(rt.alloc(), MsfReceiver::new()) else {
-            return ExitCode::from(MEMORY);
-        };
-        let Ok(wwvb) = Box::new(rt.alloc(), WwvbReceiver::new()) else {
-            return ExitCode::from(MEMORY);
-        };
-        if put_in_rack(&mut rack, dcf, Plan::Dcf).is_err()
-            || put_in_rack(&mut rack, msf, Plan::Msf).is_err()
-            || put_in_rack(&mut rack, wwvb, Plan::Wwvb).is_err()
-        {
-            return ExitCode::from(MEMORY);
-        }
-    }
-    let status = run_station(rt.alloc(), words.as_slice(), rack, &mut outside, &mut out);
+    let status = run_decoder(rt.alloc(), words.as_slice(), &mut outside, &mut out);
     ExitCode::from(status.number())
 }
