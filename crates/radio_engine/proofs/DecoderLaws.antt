@@ -1,40 +1,50 @@
--- What the decoder stands for, with one more byte.
-use Rattle.std.proofs.Common.{◌≡◌, ℕ, Option, None, Some, List, [], ◌∷◌, ◌++◌, ap, sym, ◌∙◌, subst}
+-- What the decoder stands for, with more bytes.
+use Rattle.std.proofs.Common.{Result, Ok, Err, ◌≡◌, ℕ, Option, None, Some, List, [], ◌∷◌, ◌++◌, refl, ap, sym, ◌∙◌}
 use Rattle.std.specs.Option.{option_to_list}
 use Rattle.std.proofs.lemmas.List.{append-nil}
 use Rattle.tick_units.specs.Log.{pulses, bad_line}
-use Rattle.tick_units.specs.Marks.{marks_of}
-use Rattle.tick_units.specs.declared.marks.Mark.{Mark}
 use Rattle.tick_units.specs.declared.marks.Plan.{Plan}
 use Rattle.tick_units.specs.declared.marks.Reduction.{Reduction}
 use Rattle.pulse_log.specs.Reading.{HasRead}
-use Rattle.pulse_log.specs.declared.reader.LineReader.{LineReader}
-use Rattle.second_marks.specs.Marker.{HasHeard}
-use Rattle.minute_pair.specs.Pairing.{HasPaired}
+use Rattle.pulse_log.specs.declared.reader.BadLine.{BadLine}
+use Rattle.tick_units.specs.declared.verdicts.Heard.{Heard}
 use Rattle.radio_engine.specs.declared.decoder.Decoder.{Decoder}
-use Rattle.radio_engine.specs.Taking.{HasTaken}
+use Rattle.radio_engine.specs.Reading.{Reading}
+use Rattle.radio_engine.specs.Reading.Reading.{log, station, script}
+use Rattle.radio_engine.specs.Taking.{HasTaken, HasDecoded, HearsLine, TakesFront}
+use Rattle.radio_engine.specs.Text.{log_text}
 
--- the byte ended no line, or one with a reduction
-pub pulses_none : (bytes longer : List ℕ) (found : Option Reduction) → found ≡ None → pulses longer ≡ pulses bytes ++ option_to_list found → pulses longer ≡ pulses bytes
-pulses_none bytes longer found none e = e ∙ ap (λ (o : Option Reduction). pulses bytes ++ option_to_list o) none ∙ append-nil (pulses bytes)
-
+-- a line with a reduction has ended
 pub pulses_one : (bytes longer : List ℕ) (found : Option Reduction) (r : Reduction) → found ≡ Some r → pulses longer ≡ pulses bytes ++ option_to_list found → pulses longer ≡ pulses bytes ++ r ∷ []
 pulses_one bytes longer found r some e = e ∙ ap (λ (o : Option Reduction). pulses bytes ++ option_to_list o) some
 
-pub taken_same : (d : Decoder) (plan : Plan) (reader : LineReader) (bytes longer : List ℕ) → HasTaken plan d bytes → bad_line longer ≡ None → HasRead reader longer → pulses longer ≡ pulses bytes → HasTaken plan (record d { reader = reader }) longer
-taken_same d plan reader bytes longer h good read same = record {
-  good = good;
-  read = read;
-  marked = subst (λ (rs : List Reduction). HasHeard d.marker plan rs) (sym same) h.marked;
-  paired = subst (λ (rs : List Reduction). HasPaired d.pairing plan (marks_of plan rs)) (sym same) h.paired;
-}
+-- what a line says was heard, and the reader has taken it
+pub takes_front : (d : Decoder) (plan : Plan) (before front : List ℕ) (result : Result (Option Heard) BadLine) → HearsLine plan d before (before ++ front) result → HasRead d.reader (before ++ front) → TakesFront plan d before front result
+takes_front d plan before front (Ok heard) h read = (record { good = h.0; read = read; marked = h.1.marked; paired = h.1.paired }, h.2)
+takes_front d plan before front (Err bad) h read = h
 
--- the marks after one more reduction, which completes none or one
-pub marks_none : (plan : Plan) (bytes longer : List ℕ) (r : Reduction) (found : Option Mark) → pulses longer ≡ pulses bytes ++ r ∷ [] →
-    marks_of plan (pulses bytes ++ r ∷ []) ≡ marks_of plan (pulses bytes) ++ option_to_list found → found ≡ None → marks_of plan (pulses longer) ≡ marks_of plan (pulses bytes)
-marks_none plan bytes longer r found more heard none =
-    ap (marks_of plan) more ∙ heard ∙ ap (λ (o : Option Mark). marks_of plan (pulses bytes) ++ option_to_list o) none ∙ append-nil (marks_of plan (pulses bytes))
+-- a decoder that has taken more bytes, with the text that they add, or a bad line
+module _ (d now : Decoder) (before longer text : List ℕ) where
+  pub decoded_on : (reading : Reading) (more : List ℕ) → HasDecoded d reading before text None →
+      ((plan : Plan) → HasTaken plan d before → HasTaken plan now longer × (log_text plan longer ≡ log_text plan before ++ more)) → HasDecoded now reading longer (text ++ more) None
+  decoded_on (log plan) more h step =
+      let taken = step plan (h.goes_on refl) in
+      record {
+        text_is = ap (λ (t : List ℕ). t ++ more) h.text_is ∙ sym taken.1;
+        bad_is = sym taken.0.good;
+        goes_on = λ _. taken.0;
+      }
+  decoded_on station more h step = absurd h
+  decoded_on (script of limit) more h step = absurd h
 
-pub marks_one : (plan : Plan) (bytes longer : List ℕ) (r : Reduction) (found : Option Mark) (mark : Mark) → pulses longer ≡ pulses bytes ++ r ∷ [] →
-    marks_of plan (pulses bytes ++ r ∷ []) ≡ marks_of plan (pulses bytes) ++ option_to_list found → found ≡ Some mark → marks_of plan (pulses longer) ≡ marks_of plan (pulses bytes) ++ mark ∷ []
-marks_one plan bytes longer r found mark more heard some = ap (marks_of plan) more ∙ heard ∙ ap (λ (o : Option Mark). marks_of plan (pulses bytes) ++ option_to_list o) some
+  pub decoded_bad : (reading : Reading) (line : ℕ) → HasDecoded d reading before text None →
+      ((plan : Plan) → HasTaken plan d before → (bad_line longer ≡ Some line) × (log_text plan longer ≡ log_text plan before)) → HasDecoded now reading longer (text ++ []) (Some line)
+  decoded_bad (log plan) line h step =
+      let taken = step plan (h.goes_on refl) in
+      record {
+        text_is = append-nil text ∙ h.text_is ∙ sym taken.1;
+        bad_is = sym taken.0;
+        goes_on = λ none. absurd (let e : ◌≡◌ {A = Option ℕ} (Some line) None = none in cc);
+      }
+  decoded_bad station line h step = absurd h
+  decoded_bad (script of limit) line h step = absurd h

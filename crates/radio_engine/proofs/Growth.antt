@@ -17,8 +17,8 @@ use Rattle.minute_pair.specs.Answers.{answers, answers_after}
 use Rattle.minute_pair.proofs.Growth.{segments_grow}
 use Rattle.minute_pair.proofs.PairingLaws.{answers_grow}
 use Rattle.radio_engine.specs.Text.{log_text, heard_line}
-use Rattle.radio_engine.specs.Decoding.{IsFrontOf}
-use Rattle.radio_engine.specs.Taking.{GrowsBy}
+use Rattle.radio_engine.specs.Writing.{IsFrontOf}
+use Rattle.radio_engine.specs.Taking.{GrowsBy, answers_to}
 
 abbrev text_of : Plan → List Mark → List ℕ
 text_of plan marks = flat_map heard_line (answers plan (segments_of plan marks))
@@ -27,12 +27,12 @@ grows_from : (plan : Plan) (bytes more : List ℕ) (heard : Option Heard) → lo
 grows_from plan bytes more None e = e ∙ append-nil (log_text plan bytes)
 grows_from plan bytes more (Some one) e = e ∙ ap (λ (line : List ℕ). log_text plan bytes ++ line) (append-nil (heard_line one))
 
--- the text after one more mark
-pub text_grows_by : (plan : Plan) (bytes more : List ℕ) (mark : Mark) (heard : Option Heard) → marks_of plan (pulses more) ≡ marks_of plan (pulses bytes) ++ mark ∷ [] →
-    answers plan (segments_of plan (marks_of plan (pulses bytes) ++ mark ∷ [])) ≡ answers plan (segments_of plan (marks_of plan (pulses bytes))) ++ option_to_list heard → GrowsBy plan bytes more heard
-text_grows_by plan bytes more mark heard marks answered =
+-- the text after one more reduction
+pub text_grows_by : (plan : Plan) (bytes more : List ℕ) (r : Reduction) (heard : Option Heard) → pulses more ≡ pulses bytes ++ r ∷ [] →
+    answers_to plan (pulses bytes ++ r ∷ []) ≡ answers_to plan (pulses bytes) ++ option_to_list heard → GrowsBy plan bytes more heard
+text_grows_by plan bytes more r heard longer answered =
     grows_from plan bytes more heard (
-    ap (text_of plan) marks ∙ ap (flat_map heard_line) answered ∙ flat_map-append heard_line (answers plan (segments_of plan (marks_of plan (pulses bytes)))) (option_to_list heard))
+    ap (λ (rs : List Reduction). text_of plan (marks_of plan rs)) longer ∙ ap (flat_map heard_line) answered ∙ flat_map-append heard_line (answers_to plan (pulses bytes)) (option_to_list heard))
 
 -- with no more marks, and with no more reductions
 pub text_same_marks : (plan : Plan) (bytes more : List ℕ) → marks_of plan (pulses more) ≡ marks_of plan (pulses bytes) → log_text plan more ≡ log_text plan bytes

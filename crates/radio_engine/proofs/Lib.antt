@@ -1,6 +1,12 @@
-pub mod PieceLaws
-pub mod Growth
-pub mod Progress
-pub mod EndingLaws
-pub mod StationLaws
 pub mod DecoderLaws
+pub mod DecodingLaws
+pub mod Growth
+pub mod ReachLaws
+pub mod ScriptLaws
+pub mod StationLaws
+pub mod TakingLaws
+pub mod WritingLaws
+pub mod PlayingLaws
+pub mod LoadingLaws
+pub mod ReplayLaws
+pub mod RackLaws

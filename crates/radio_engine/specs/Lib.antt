@@ -1,5 +1,12 @@
 pub mod Endings
 pub mod Text
+pub mod Reading
+pub mod Writing
 pub mod Decoding
 pub mod Station
 pub mod Taking
+pub mod Script
+pub mod Replaying
+pub mod Playing
+pub mod Loading
+pub mod Racks

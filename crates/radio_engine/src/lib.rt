@@ -1,14 +1,25 @@
 //! What the station does: the one call that the program makes, from its words to its status.
 #![tactic(auto)]
 
+mod decode_only;
 mod decoder;
+mod decoding;
 mod ending;
+mod file;
+mod loading;
+mod obstacle;
+mod rack;
+mod reading;
+mod replay;
+mod replayer;
 mod station;
+mod station_text;
 mod status;
-mod stream;
 mod text;
-mod words;
+mod writing;
 
+pub use decode_only::run_decoder;
+pub use rack::put_in_rack;
 pub use station::run_station;
 pub use status::Status;
 

@@ -144,7 +144,7 @@ fn run(
     logs.push(NamedLog::new(String::from_str(alloc, "log")?, source))?;
     let mut outside = MemoryOutside::new(alloc, logs, vec![in alloc; failing.open]?, 4, 100)?;
     let mut out = MemorySink::new(alloc, vec![in alloc; failing.write]?);
-    let status = run_station(words, &mut outside, &mut out);
+    let status = run_decoder(alloc, words, &mut outside, &mut out);
     Ok((out.into_bytes(), status))
 }
 
@@ -514,12 +514,11 @@ fn a_log_that_cannot_be_opened(rt: HostRuntime) -> Result<(), Fail> {
 
 #[test]
 fn other_words_are_usage(rt: HostRuntime) -> Result<(), Fail> {
-    let table: [&[&str]; 8] = [
+    let table: [&[&str]; 7] = [
         &[],
         &["decode"],
         &["decode", "--log", "log"],
         &["decode", "--plan", "jjy", "--log", "log"],
-        &["decode", "--log", "log", "--plan", "dcf"],
         &["decode", "--plan", "dcf", "--log", ""],
         &["decode", "--plan", "dcf", "--log", "-"],
         &["decode", "--plan", "dcf", "--log", "log", "log"],

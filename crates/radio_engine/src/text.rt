@@ -1,12 +1,16 @@
 ghost use Rattle.std.specs.Prelude.{◌≡◌, ◌+◌, ◌≤◌, ◌++◌, length, take, codes, decimal};
 ghost use Rattle.arrayvec.specs.ArrayVec.{array_vec_len};
 ghost use Rattle.radio_engine.specs.Endings.{status_line};
+ghost use Rattle.radio_engine.specs.Replaying.{page_text};
 ghost use Rattle.radio_engine.specs.Text.{heard_line};
 
 use crate::ending::Ending;
+use crate::file::{file_name, file_place};
 use arrayvec::ArrayVec;
+use clock_page::Page;
 use itoa::Buffer;
 use journal_entry::{Entry, What, write_entry};
+use system_fold::page_text;
 use tick_units::Heard;
 
 // A line of the output, with its line feed.
@@ -46,25 +50,50 @@ pub fn write_answer_line(heard: &Heard, line: &mut [u8; 256]) -> usize
     end + 1
 }
 
-// The status line of a log with a line that isn't lawful.
-fn wrong_line_text(line: u64) -> Line
-    ensures { result.items ≡ codes "status 5 line 0 " ++ decimal line ++ codes "\n" }
+// Writes the line of a page at the front of `line`. The answer is its number of bytes.
+#[tactic(auto, unfolding(crate::specs::Replaying::page_text))]
+pub fn write_page_line(page: &Page, line: &mut [u8; 256]) -> usize
+    ensures text { take result line.new ≡ page_text page.now }
+    ensures within { result ≤ 256 }
 {
-    let mut text = Line::new();
-    add(&mut text, b"status 5 line 0 ");
-    add_number(&mut text, line);
-    add(&mut text, b"\n");
-    text
+    let end = page_text(page, line);
+    line[end] = b'\n';
+    end + 1
 }
 
-// A line of this text.
-fn line_from(text: &[u8]) -> Line
-    requires { length text.now ≤ 256 }
-    ensures { result.items ≡ text.now }
+// A line of these texts, one after the other.
+fn joined(first: &[u8], second: &[u8], third: &[u8]) -> Line
+    requires { length first.now + length second.now + length third.now ≤ 200 }
+    ensures text { result.items ≡ first.now ++ second.now ++ third.now }
+    ensures short { array_vec_len result ≤ 200 }
 {
     let mut line = Line::new();
-    add(&mut line, text);
+    add(&mut line, first);
+    add(&mut line, second);
+    add(&mut line, third);
     line
+}
+
+// A line that ends with a number.
+fn numbered(front: &[u8], place: &[u8], number: u64) -> Line
+    requires { length front.now + length place.now ≤ 100 }
+    ensures { result.items ≡ front.now ++ place.now ++ codes " " ++ decimal number ++ codes "\n" }
+{
+    let mut line = joined(front, place, b" ");
+    add_number(&mut line, number);
+    add(&mut line, b"\n");
+    line
+}
+
+// The end of a line that ends with a number.
+pub fn count_text(count: u64) -> Line
+    ensures { result.items ≡ codes " " ++ decimal count ++ codes "\n" }
+{
+    let mut text = Line::new();
+    add(&mut text, b" ");
+    add_number(&mut text, count);
+    add(&mut text, b"\n");
+    text
 }
 
 // The last line of a command.
@@ -72,11 +101,13 @@ pub fn status_text(ending: Ending) -> Line
     ensures { result.items ≡ status_line ending }
 {
     match ending {
-        Ending::Whole => line_from(b"status 0\n"),
-        Ending::WrongWords => line_from(b"status 1 usage\n"),
-        Ending::NotOpened => line_from(b"status 2 open feed 0\n"),
-        Ending::NotRead => line_from(b"status 4 read feed 0\n"),
-        Ending::WrongLine { line } => wrong_line_text(line),
-        Ending::Long => line_from(b"status 10 long feed 0\n"),
+        Ending::Whole => joined(b"status 0\n", b"", b""),
+        Ending::WrongWords => joined(b"status 1 usage\n", b"", b""),
+        Ending::NotOpened(file) => joined(b"status 2 open ", file_name(file), b"\n"),
+        Ending::NotRead(file) => joined(b"status 4 read ", file_name(file), b"\n"),
+        Ending::WrongLine(file, line) => numbered(b"status 5 ", file_place(file), line),
+        Ending::Full(limit) => numbered(b"status 6 ", b"full", u64::from(limit)),
+        Ending::NoMemory => joined(b"status 9 memory\n", b"", b""),
+        Ending::Long(file) => joined(b"status 10 long ", file_name(file), b"\n"),
     }
 }

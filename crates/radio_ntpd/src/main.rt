@@ -3,7 +3,7 @@
 #![tactic(auto)]
 
 use feed_link::{HostOutside, StreamSink};
-use radio_engine::run_station;
+use radio_engine::run_decoder;
 use std::process::ExitCode;
 use std::{env, io};
 
@@ -26,6 +26,6 @@ fn main(rt: HostRuntime) -> ExitCode {
         // Words that can't be had are no lawful words.
         words.clear();
     }
-    let status = run_station(words.as_slice(), &mut outside, &mut out);
+    let status = run_decoder(rt.alloc(), words.as_slice(), &mut outside, &mut out);
     ExitCode::from(status.number())
 }

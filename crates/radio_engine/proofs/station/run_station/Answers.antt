@@ -1,38 +1,48 @@
-use Rattle.std.proofs.Common.{ℕ, Some, List, inr, sym, ◌∙◌, subst}
-use Rattle.feed_link.specs.Openings.{IsNext, Grows}
-use Rattle.feed_link.proofs.OpeningLaws.{out_after, back_after}
-use Rattle.tick_units.specs.declared.marks.Plan.{Plan}
-use Rattle.radio_engine.specs.Decoding.{Decodes}
-use Rattle.radio_engine.proofs.StationLaws.{same_name, same_plan, complete_by}
+use Rattle.std.proofs.Common.{ℕ, ◌⊎◌, inr, sym, subst}
+use Rattle.command_words.specs.Commands.Asked.{decode, replay}
+use Rattle.radio_engine.specs.Station.{CannotOpen, OpensAndDecodes, RunsReplay}
+use Rattle.radio_engine.specs.declared.file.File.TheVariants.{Log}
+use Rattle.radio_engine.proofs.StationLaws.{complete_by, decode_along, replay_along, not_both, limit_of}
 use Rattle.radio_engine.proofs.station.run_station.Goals as goal
 
-pub give_back_log-requires : goal.give_back_log-requires
-give_back_log-requires g c = out_after _ _ _ _ _ c.in-Ok.ensures.opened (subst (λ (n : ℕ). IsNext (g.O.Outside.state c.args.outside.now).openings n) (sym c.decode-status.ensures.number) c.in-Ok.ensures.number)
+pub returns-in-Ok-Decode-clause-decoded : goal.returns-in-Ok-Decode-clause-decoded
+returns-in-Ok-Decode-clause-decoded g c = λ plan name h.
+    let same = rw c.in-Ok-Decode.field-0-is at (c.in-Ok-Decode.ensures.only (decode plan name) h) in
+    inr (decode_along (λ p n. CannotOpen Log n (g.O.Outside.state c.args.outside.now) (g.O.Outside.state c.open_and_decode.new.outside) (g.K.Sink.state c.args.out.now) (g.K.Sink.state c.open_and_decode.new.out) c.open_and_decode.result
+    ⊎ OpensAndDecodes p n (g.O.Outside.state c.args.outside.now) (g.O.Outside.state c.open_and_decode.new.outside) (g.K.Sink.state c.args.out.now) (g.K.Sink.state c.open_and_decode.new.out) c.open_and_decode.result)
+    c.in-Ok-Decode.plan plan c.in-Ok-Decode.log.now name same c.open_and_decode.ensures)
 
-pub returns-clause-decoded : goal.returns-clause-decoded
-returns-clause-decoded g c = λ plan name h.
-    let was = g.O.Log.Source.state c.in-Ok.log in
-    let is = g.O.Log.Source.state c.decode-status.new.log in
-    let old = (g.O.Outside.state c.args.outside.now).openings in
-    let now = (g.O.Outside.state c.give_back_log.new.self).openings in
-    let same = same_name _ c.in-Some.asked.plan plan c.in-Some.asked.log.now name c.in-Some.ensures.some h in
-    let plans = same_plan _ c.in-Some.asked.plan plan c.in-Some.asked.log.now name c.in-Some.ensures.some h in
-    let next = subst (λ (n : ℕ). IsNext old n) (sym c.decode-status.ensures.number) c.in-Ok.ensures.number in
-    let noted = back_after old (g.O.Outside.state c.open_log.new.self).openings now c.in-Some.asked.log.now was is _ c.in-Ok.ensures.opened next c.give_back_log.ensures.back in
-    inr (record {
-      opened = was;
-      back = is;
-      noted = subst (λ (n : List ℕ). Grows old now (record { name = n; opened = Some was; back = Some is })) same noted;
-      no_fault = c.give_back_log.ensures.faults ∙ c.in-Ok.ensures.cause.kept;
-      decodes = subst (λ (p : Plan). Decodes p was is (g.K.Sink.state c.args.out.now) (g.K.Sink.state c.decode-status.new.out) c.decode-status.result) plans c.decode-status.ensures.decodes;
-    })
+pub returns-in-Ok-Decode-clause-complete : goal.returns-in-Ok-Decode-clause-complete
+returns-in-Ok-Decode-clause-complete g c = λ plan name text before opened back h told faultless no_write.
+    let same = rw c.in-Ok-Decode.field-0-is at (c.in-Ok-Decode.ensures.only (decode plan name) h) in
+    complete_by plan _ _ before name opened back _ _ _ text
+    (decode_along (λ p n. CannotOpen Log n (g.O.Outside.state c.args.outside.now) (g.O.Outside.state c.open_and_decode.new.outside) (g.K.Sink.state c.args.out.now) (g.K.Sink.state c.open_and_decode.new.out) c.open_and_decode.result
+    ⊎ OpensAndDecodes p n (g.O.Outside.state c.args.outside.now) (g.O.Outside.state c.open_and_decode.new.outside) (g.K.Sink.state c.args.out.now) (g.K.Sink.state c.open_and_decode.new.out) c.open_and_decode.result)
+    c.in-Ok-Decode.plan plan c.in-Ok-Decode.log.now name same c.open_and_decode.ensures)
+    told faultless no_write
 
-pub returns-clause-complete : goal.returns-clause-complete
-returns-clause-complete g c = λ plan name text before opened back h told faultless no_write.
-    let was = g.O.Log.Source.state c.in-Ok.log in
-    let is = g.O.Log.Source.state c.decode-status.new.log in
-    let old = (g.O.Outside.state c.args.outside.now).openings in
-    let now = (g.O.Outside.state c.give_back_log.new.self).openings in
-    let next = subst (λ (n : ℕ). IsNext old n) (sym c.decode-status.ensures.number) c.in-Ok.ensures.number in
-    let noted = back_after old (g.O.Outside.state c.open_log.new.self).openings now c.in-Some.asked.log.now was is _ c.in-Ok.ensures.opened next c.give_back_log.ensures.back in
-    complete_by c.in-Some.asked.plan old now before c.in-Some.asked.log.now name was is opened back _ _ c.decode-status.result text noted told c.decode-status.ensures.decodes faultless no_write
+pub returns-in-Err-Usage-clause-decoded : goal.returns-in-Err-Usage-clause-decoded
+returns-in-Err-Usage-clause-decoded g c = λ plan name h. absurd (c.in-Err-Usage.ensures.usage c.in-Err-Usage.field-0-is (decode plan name) h)
+
+pub returns-in-Err-Usage-clause-complete : goal.returns-in-Err-Usage-clause-complete
+returns-in-Err-Usage-clause-complete g c = λ plan name text before opened back h told faultless no_write. absurd (c.in-Err-Usage.ensures.usage c.in-Err-Usage.field-0-is (decode plan name) h)
+
+pub returns-in-Ok-Decode-clause-replayed : goal.returns-in-Ok-Decode-clause-replayed
+returns-in-Ok-Decode-clause-replayed g c = λ a b n h. absurd (not_both _ _ a b n (rw c.in-Ok-Decode.field-0-is at (c.in-Ok-Decode.ensures.only (replay a b n) h)))
+
+pub returns-in-Err-Usage-clause-replayed : goal.returns-in-Err-Usage-clause-replayed
+returns-in-Err-Usage-clause-replayed g c = λ a b n h. absurd (c.in-Err-Usage.ensures.usage c.in-Err-Usage.field-0-is (replay a b n) h)
+
+pub returns-in-Ok-Replay-clause-replayed : goal.returns-in-Ok-Replay-clause-replayed
+returns-in-Ok-Replay-clause-replayed g c = λ a b n h.
+    let same = rw c.in-Ok-Replay.field-0-is at (c.in-Ok-Replay.ensures.only (replay a b n) h) in
+    replay_along (λ s t k. RunsReplay s t k (g.O.Outside.state c.args.outside.now) (g.O.Outside.state c.run_replay.new.outside) (g.K.Sink.state c.args.out.now) (g.K.Sink.state c.run_replay.new.out) c.run_replay.result)
+    _ _ a b _ n same (subst (λ (k : ℕ). RunsReplay c.in-Ok-Replay.station.now c.in-Ok-Replay.script.now k (g.O.Outside.state c.args.outside.now) (g.O.Outside.state c.run_replay.new.outside) (g.K.Sink.state c.args.out.now) (g.K.Sink.state c.run_replay.new.out) c.run_replay.result)
+    (c.within.ensures.same (limit_of _ _ _ _ (rw c.in-Ok-Replay.field-0-is at c.in-Ok-Replay.ensures.asked))) c.run_replay.ensures)
+
+pub returns-in-Ok-Replay-clause-decoded : goal.returns-in-Ok-Replay-clause-decoded
+returns-in-Ok-Replay-clause-decoded g c = λ plan name h. absurd (not_both plan name _ _ _ (sym (rw c.in-Ok-Replay.field-0-is at (c.in-Ok-Replay.ensures.only (decode plan name) h))))
+
+pub returns-in-Ok-Replay-clause-complete : goal.returns-in-Ok-Replay-clause-complete
+returns-in-Ok-Replay-clause-complete g c = λ plan name text before opened back h told faultless no_write.
+    absurd (not_both plan name _ _ _ (sym (rw c.in-Ok-Replay.field-0-is at (c.in-Ok-Replay.ensures.only (decode plan name) h))))

@@ -1,0 +1,10 @@
+use Rattle.std.proofs.Common.{◌≡◌, ℕ, List, ◌++◌, length}
+use Rattle.radio_engine.specs.Writing.{WritesAll}
+use Rattle.radio_engine.proofs.writing.write_all.Given as goal
+
+-- what was written so far is the front of the text
+abbrev pub invariant-rest : goal.invariant-rest
+invariant-rest g l = (front : List ℕ) × (l.text ≡ front ++ l.rest) × WritesAll (g.K.Sink.state l.fn.out) (g.K.Sink.state l.out) front
+
+abbrev pub decreases-rest : goal.decreases-rest
+decreases-rest g l = length l.rest

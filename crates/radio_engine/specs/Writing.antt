@@ -1,0 +1,24 @@
+-- What it is to write a text, and to end with it.
+use Rattle.std.specs.Prelude.{◌≡◌, ℕ, ◌⊎◌, List, ◌++◌}
+use Rattle.feed_link.specs.Faults.{Rose}
+use Rattle.feed_link.specs.Told.{SinkState, Adds}
+use Rattle.radio_engine.specs.declared.status.Status.{Status}
+use Rattle.radio_engine.specs.declared.status.Status.TheVariants.{WriteFault}
+
+-- a text is a front of another
+abbrev pub IsFrontOf : List ℕ → List ℕ → Type 0
+IsFrontOf front whole = (rest : List ℕ) × (whole ≡ front ++ rest)
+
+-- a text was written whole, and no write failed
+abbrev pub WritesAll : SinkState → SinkState → List ℕ → Type 0
+WritesAll out out_now text = Adds out.held out_now.held text × (out_now.faults ≡ out.faults)
+
+-- a write of this text failed: a front of it is held, and the sink's count rose
+abbrev pub WritesFront : SinkState → SinkState → List ℕ → Type 0
+WritesFront out out_now text = (front : List ℕ) × IsFrontOf front text × Adds out.held out_now.held front × Rose out.faults out_now.faults
+
+-- the text was written whole, and the answer is this status; or a write failed, and that is the answer
+abbrev pub Answers : Status → Status → SinkState → SinkState → List ℕ → Type 0
+Answers status result out out_now text =
+    ((result ≡ status) × WritesAll out out_now text)
+    ⊎ ((result ≡ WriteFault) × WritesFront out out_now text)

@@ -1,0 +1,27 @@
+ghost use Rattle.std.specs.Prelude.{◌≡◌, ℕ, [], OnOk};
+ghost use Rattle.tick_units.specs.declared.marks.Plan.TheVariants.{Dcf, Msf, Wwvb};
+ghost use Rattle.radio_receiver.specs.Histories.{blank_of};
+ghost use Rattle.radio_engine.specs.Racks.{HasOfEach, with_one};
+
+use radio_receiver::Receiver;
+use script_player::BoxedReceiver;
+use std::alloc::AllocError;
+use tick_units::Plan;
+
+/// Puts a blank receiver of a plan at the end of a rack.
+///
+/// # Errors
+/// There is no memory.
+#[tactic(auto, using(crate::proofs::RackLaws::of_each_push))]
+pub fn put_in_rack(
+    rack: &mut Vec<BoxedReceiver>,
+    receiver: BoxedReceiver,
+    plan: Plan,
+) -> Result<(), AllocError>
+    requires { stands_for receiver (blank_of plan) }
+    ensures { (d m w : ℕ) → HasOfEach (λ b h. stands_for b h) d m w rack.old.items →
+        OnOk result (HasOfEach (λ b h. stands_for b h) (with_one plan Dcf d) (with_one plan Msf m) (with_one plan Wwvb w) rack.new.items) }
+{
+    rack.push(receiver)?;
+    Ok(())
+}
