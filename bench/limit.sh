@@ -1,6 +1,6 @@
 #!/bin/sh
-# The limit of a log, met on a real file: 2^30 bytes are whole, and a line more is too long. Needs 1 GiB of disk for a
-# minute, and the built program (run ./radio_ntpd once before).
+# The limits of a log and of a script, met on real files: 2^30 and 2^26 bytes are whole, and a line more is too long. Needs 1 GiB
+# of disk for a minute, and the built program (run ./radio_ntpd once before).
 set -eu
 top=$(cd "$(dirname "$0")/.." && pwd)
 program="$top/crates/radio_ntpd/out/radio_ntpd"
@@ -13,12 +13,32 @@ import sys
 for block in range(10_000_000, 10_000_000 + 2**26, 2**16):
     sys.stdout.write("".join(f"{at} 100000\n" for at in range(block, block + 2**16)))
 PY
+# The program writes this text; $1 is the text, $2 the file, the rest are the words.
 expect() {
-    got=$("$program" decode --plan dcf --log "$work/log" || true)
-    if [ "$got" = "$1" ]; then echo "$(wc -c < "$work/log") bytes: $got"; else
-        echo "$(wc -c < "$work/log") bytes: '$got' where '$1' was due" >&2; exit 1
+    want=$1 file=$2
+    shift 2
+    got=$("$program" "$@" || true)
+    if [ "$got" = "$want" ]; then echo "$(wc -c < "$file") bytes: $(echo "$got" | tail -n 1)"; else
+        echo "$(wc -c < "$file") bytes: '$got' where '$want' was due" >&2; exit 1
     fi
 }
-expect 'status 0'
+log() { expect "$1" "$work/log" decode --plan dcf --log "$work/log"; }
+log 'status 0'
 echo '90000000 100000' >> "$work/log"
-expect 'status 10 long feed 0'
+log 'status 10 long feed 0'
+rm "$work/log"
+
+# 2^21 lines of 32 bytes.
+printf '[[radio]]\nplan = "dcf"\nlog = "log"\n' > "$work/station"
+python3 - > "$work/script" <<'PY'
+import sys
+for block in range(10**15, 10**15 + 2**21, 2**16):
+    sys.stdout.write("".join(f"pulse 0 {at} 100000\n" for at in range(block, block + 2**16)))
+PY
+# No entry, so a page without time.
+page='page 0 0 0 494e4954 0 0 0 0 1048576 0000000000000000 0
+'
+script() { expect "$page$1" "$work/script" replay --station "$work/station" --script "$work/script"; }
+script 'status 0'
+echo 'pulse 0 1100000000000000 100000' >> "$work/script"
+script 'status 10 long script'

@@ -1,0 +1,105 @@
+#!/bin/sh
+# How long replaying takes: ns a line of the built program, over scripts of 100 thousand and of a million lines of one station
+# with twelve radios and a request each minute, beside `decode` of the pulses of that station's first DCF77 radio in the same
+# run; and the peak memory of each. A line costs the same however long the script is, and memory doesn't grow with it. It builds
+# nothing: run ./radio_ntpd once before.
+#
+#     bench/replay.sh [SHORT LONG [RUNS]]
+set -eu
+short=${1:-100000}
+long=${2:-1000000}
+runs=${3:-5}
+top=$(cd "$(dirname "$0")/.." && pwd)
+program="$top/crates/radio_ntpd/out/radio_ntpd"
+[ -x "$program" ] || { echo "not built yet: run ./radio_ntpd first" >&2; exit 1; }
+work=$(mktemp -d)
+trap 'rm -rf "$work"' EXIT
+python3 -B "$top/bench/make_script.py" --station > "$work/station"
+python3 -B "$top/bench/make_script.py" --lines "$long" > "$work/long"
+head -n "$short" "$work/long" > "$work/short"
+sed -n 's/^pulse 0 //p' "$work/long" > "$work/log"
+
+# Runs a command so often, and says the least time in ns and the greatest peak of memory in KiB. It is plain C since a process
+# counts what its parent had when it was started, which is much more for Python.
+cat > "$work/measure.c" <<'C'
+#include <fcntl.h>
+#include <stdio.h>
+#include <stdlib.h>
+#include <sys/resource.h>
+#include <sys/wait.h>
+#include <time.h>
+#include <unistd.h>
+
+static double now(void) {
+    struct timespec at;
+    clock_gettime(CLOCK_MONOTONIC, &at);
+    return at.tv_sec * 1e9 + at.tv_nsec;
+}
+
+int main(int count, char **words) {
+    double least = 1e18;
+    long peak = 0;
+    for (int run = 0; run < atoi(words[1]); run++) {
+        double begin = now();
+        pid_t child = fork();
+        if (child == 0) {
+            dup2(open("/dev/null", O_WRONLY), 1);
+            execv(words[2], words + 2);
+            _exit(127);
+        }
+        int status;
+        struct rusage used;
+        wait4(child, &status, 0, &used);
+        double took = now() - begin;
+        if (status != 0) {
+            fprintf(stderr, "%s %s ended with the status %d\n", words[2], words[3], WEXITSTATUS(status));
+            return 1;
+        }
+        if (took < least) least = took;
+        if (used.ru_maxrss > peak) peak = used.ru_maxrss;
+    }
+    printf("%.0f %ld\n", least, peak);
+    return count < 3;
+}
+C
+gcc -O2 -o "$work/measure" "$work/measure.c"
+
+# Measures a command over a file; $1 names it.
+measure() {
+    name=$1 file=$2 result=$3
+    shift 3
+    "$work/measure" "$runs" "$@" > "$result"
+    wc -l < "$file" >> "$result"
+    awk -v name="$name" 'NR == 1 { ns = $1; peak = $2 } NR == 2 { lines = $1 }
+        END { printf "%-8s %9d lines %9.1f ns a line %8d KiB at most\n", name, lines, ns / lines, peak }' "$result"
+}
+
+echo "the least of $runs runs"
+measure replay "$work/short" "$work/of_short" "$program" replay --station "$work/station" --script "$work/short"
+measure replay "$work/long" "$work/of_long" "$program" replay --station "$work/station" --script "$work/long"
+measure decode "$work/log" "$work/of_log" "$program" decode --plan dcf --log "$work/log"
+
+# The cost of a line behind the short script, without what starting costs.
+python3 -B - "$work/of_short" "$work/of_long" "$work/of_log" <<'PY'
+import sys
+(short_time, short_peak, short), (long_time, long_peak, long), (decode_time, _, pulses) = (
+    tuple(map(float, open(name).read().split())) for name in sys.argv[1:]
+)
+line, pulse = (long_time - short_time) / (long - short), decode_time / pulses
+print(f"a line behind the first {short:.0f}: {line:.1f} ns, {line / pulse:.2f} times a pulse of decode")
+print(f"memory of the long script less that of the short one: {long_peak - short_peak:.0f} KiB")
+PY
+
+# Every minute is heard whole: each radio's first is alone and the others agree, each request is answered, and all is kept.
+"$program" replay --station "$work/station" --script "$work/long" > "$work/text"
+python3 -B - "$work/long" "$work/text" <<'PY'
+import collections, sys
+asked = sum(1 for line in open(sys.argv[1]) if line.startswith("request "))
+text = open(sys.argv[2]).read().splitlines()
+told = collections.Counter(line.split()[0] if line[0] > "9" else line.split()[2] for line in text)
+entries = told["lone"] + told["verdict"]
+due = {"lone": 12, "verdict": told["verdict"], "reply": asked, "page": 1, "status": 1}
+if dict(told) != due or text[-1] != "status 0" or not text[-2].startswith(f"page {entries} 1 1 ") or entries < 12 * (asked - 1):
+    sys.exit(f"the text isn't that of the script: {dict(told)}, {text[-2]}, {text[-1]}")
+print(f"{entries} entries, {asked} replies, status 0")
+PY
