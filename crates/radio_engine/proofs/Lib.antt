@@ -10,3 +10,4 @@ pub mod PlayingLaws
 pub mod LoadingLaws
 pub mod ReplayLaws
 pub mod RackLaws
+pub mod EmptyRack

@@ -1,7 +1,6 @@
 //! What the station does: the one call that the program makes, from its words to its status.
 #![tactic(auto)]
 
-mod decode_only;
 mod decoder;
 mod decoding;
 mod ending;
@@ -18,10 +17,11 @@ mod status;
 mod text;
 mod writing;
 
-pub use decode_only::run_decoder;
 pub use rack::put_in_rack;
 pub use station::run_station;
 pub use status::Status;
 
+#[cfg(test)]
+mod replay_tests;
 #[cfg(test)]
 mod tests;

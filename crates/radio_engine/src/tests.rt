@@ -1,8 +1,11 @@
 use super::*;
 use feed_link::{MemoryOutside, MemorySink, MemorySource, NamedLog};
+use radio_receiver::{DcfReceiver, MsfReceiver, WwvbReceiver};
+use script_player::BoxedReceiver;
 use std::alloc::{AllocError, Global};
 use std::process::Abort;
 use std::test::Fail;
+use tick_units::Plan;
 
 const WORDS: [&str; 5] = ["decode", "--plan", "dcf", "--log", "log"];
 
@@ -144,8 +147,31 @@ fn run(
     logs.push(NamedLog::new(String::from_str(alloc, "log")?, source))?;
     let mut outside = MemoryOutside::new(alloc, logs, vec![in alloc; failing.open]?, 4, 100)?;
     let mut out = MemorySink::new(alloc, vec![in alloc; failing.write]?);
-    let status = run_decoder(alloc, words, &mut outside, &mut out);
+    let status = run_over(alloc, words, &mut outside, &mut out)?;
     Ok((out.into_bytes(), status))
+}
+
+// Runs the words with four receivers of each plan.
+pub fn run_over(
+    alloc: Global,
+    words: &[&str],
+    outside: &mut MemoryOutside,
+    out: &mut MemorySink,
+) -> Result<Status, AllocError> {
+    let mut rack: Vec<BoxedReceiver> = Vec::new(alloc);
+    put_in_rack(&mut rack, Box::new(alloc, DcfReceiver::new())?, Plan::Dcf)?;
+    put_in_rack(&mut rack, Box::new(alloc, MsfReceiver::new())?, Plan::Msf)?;
+    put_in_rack(&mut rack, Box::new(alloc, WwvbReceiver::new())?, Plan::Wwvb)?;
+    put_in_rack(&mut rack, Box::new(alloc, DcfReceiver::new())?, Plan::Dcf)?;
+    put_in_rack(&mut rack, Box::new(alloc, MsfReceiver::new())?, Plan::Msf)?;
+    put_in_rack(&mut rack, Box::new(alloc, WwvbReceiver::new())?, Plan::Wwvb)?;
+    put_in_rack(&mut rack, Box::new(alloc, DcfReceiver::new())?, Plan::Dcf)?;
+    put_in_rack(&mut rack, Box::new(alloc, MsfReceiver::new())?, Plan::Msf)?;
+    put_in_rack(&mut rack, Box::new(alloc, WwvbReceiver::new())?, Plan::Wwvb)?;
+    put_in_rack(&mut rack, Box::new(alloc, DcfReceiver::new())?, Plan::Dcf)?;
+    put_in_rack(&mut rack, Box::new(alloc, MsfReceiver::new())?, Plan::Msf)?;
+    put_in_rack(&mut rack, Box::new(alloc, WwvbReceiver::new())?, Plan::Wwvb)?;
+    Ok(run_station(alloc, words, rack, outside, out))
 }
 
 // What a log of these frames writes is this text.
