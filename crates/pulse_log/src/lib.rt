@@ -3,6 +3,7 @@
 
 mod line;
 mod reader;
+mod whole;
 mod writer;
 
 pub use reader::{BadLine, Front, LineReader};
