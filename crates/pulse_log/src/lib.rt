@@ -1,4 +1,4 @@
-//! Pulse logs: a reader that takes their bytes one by one, and the writing of a line.
+//! Pulse logs: a reader of their bytes, one by one or line by line, and the writing of a line.
 #![tactic(auto)]
 
 mod line;

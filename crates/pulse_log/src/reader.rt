@@ -22,7 +22,7 @@ pub struct Front {
     pub found: Result<Option<Reduction>, BadLine>,
 }
 
-/// Reads a log byte by byte. A line is the start and the width of a reduction, each in decimal without leading zeros,
+/// Reads a log byte by byte or line by line. A line is the start and the width of a reduction, each in decimal without leading zeros,
 /// with one space between them and a line feed behind them. The start is below 2^50 microseconds and above that of the
 /// line before, the width 1 to 2000000 microseconds. The reader stops at the first line that isn't so.
 #[derive(Drop)]
@@ -99,7 +99,7 @@ impl LineReader {
         self.bad.is_none() && self.line.len() == 0
     }
 
-    // Takes a line at once.
+    // Takes a line at once, with its line feed.
     fn take_whole(&mut self, line: WholeLine) -> Front
         requires none { self.old.bad ≡ None }
         requires empty { self.old.line.length ≡ 0 }
@@ -117,7 +117,7 @@ impl LineReader {
         }
     }
 
-    // Takes the bytes of a line that isn't taken at once.
+    // Takes the bytes of a line that can't be taken at once.
     #[inline(never)]
     fn take_by_bytes(&mut self, bytes: &[u8]) -> Front
         requires { 0 < length bytes.now }

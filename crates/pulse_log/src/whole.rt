@@ -9,7 +9,7 @@ const STARTS: usize = 15;
 // Each number of at most this number of digits is below 2000000.
 const WIDTHS: usize = 6;
 
-/// What a line says that stands whole at the front of some bytes.
+/// What the line at the front of some bytes says, where it stands there whole.
 #[derive(Clone, Copy, Debug)]
 pub struct WholeLine {
     pub found: Reduction,
@@ -26,8 +26,8 @@ struct Number {
     count: usize,
 }
 
-/// The line at the front of these bytes, where it's a lawful one that starts at `least` or later. None also where the bytes
-/// end before it does, and for a start of 0 or of 16 digits and a width of 7: these are left to who reads byte by byte.
+/// The line at the front of these bytes, where it's a lawful one that starts at `least` or later. None also where it goes on
+/// behind them, and where its start is 0 or has 16 digits or its width has 7: such a line is left to who reads byte by byte.
 pub fn line_in_front(bytes: &[u8], least: u64) -> Option<WholeLine>
     ensures within { IfSome result (λ line. line.count ≤ length bytes.now) }
     ensures some { IfSome result (λ line. 0 < line.count) }
@@ -56,8 +56,8 @@ pub fn line_in_front(bytes: &[u8], least: u64) -> Option<WholeLine>
     })
 }
 
-// The number whose digits are the first of these bytes, of which at most so many are read. None where there is no digit, or a 0
-// is the first.
+// The number whose digits are the first of these bytes; at most so many of them are read. None where there is no digit or the
+// first is 0.
 fn number_in_front(bytes: &[u8], most: usize) -> Option<Number>
     requires { most ≤ 15 }
     ensures within { IfSome result (λ number. number.count ≤ length bytes.now) }

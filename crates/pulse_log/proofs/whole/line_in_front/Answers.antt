@@ -1,4 +1,4 @@
-use Rattle.std.proofs.Common.{ℕ, List, [], ◌∷◌, ◌++◌, decimal, ap, sym, ◌∙◌}
+use Rattle.std.proofs.Common.{ℕ, [], ◌∷◌, ◌++◌, decimal, ap, sym, ◌∙◌}
 use Rattle.pulse_log.proofs.WholeLaws.{line_is}
 use Rattle.pulse_log.proofs.whole.line_in_front.Goals as goal
 
