@@ -22,9 +22,9 @@ pub struct Front {
     pub found: Result<Option<Reduction>, BadLine>,
 }
 
-/// Reads a log byte by byte or line by line. A line is the start and the width of a reduction, each in decimal without leading zeros,
-/// with one space between them and a line feed behind them. The start is below 2^50 microseconds and above that of the
-/// line before, the width 1 to 2000000 microseconds. The reader stops at the first line that isn't so.
+/// Reads a log byte by byte or line by line. A line is the start and the width of a reduction, each in decimal without
+/// leading zeros, with one space between them and a line feed behind them. The start is below 2^50 microseconds and above
+/// that of the line before, the width 1 to 2000000 microseconds. The reader stops at the first line that isn't so.
 #[derive(Drop)]
 pub struct LineReader {
     line: Line,
