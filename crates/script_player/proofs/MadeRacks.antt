@@ -6,11 +6,11 @@ use Rattle.tick_units.specs.declared.marks.Plan.TheVariants.{Dcf, Msf, Wwvb}
 use Rattle.radio_receiver.specs.Histories.{History, blank_of}
 use Rattle.script_player.specs.Standing.{AreOf, IsRack, is_blank_of}
 
-pub are_of-push : {B : Type 0} (stands : B → History → Type 0) (rack : List B) (histories : List History) (b : B) (h : History) → AreOf stands rack histories → stands b h → AreOf stands (rack ++ b ∷ []) (histories ++ h ∷ [])
-are_of-push stands [] [] b h are is = (is, tt)
-are_of-push stands [] (first ∷ others) b h are is = absurd are
-are_of-push stands (x ∷ more) [] b h are is = absurd are
-are_of-push stands (x ∷ more) (first ∷ others) b h are is = (are.0, are_of-push stands more others b h are.1 is)
+pub are_of_push : {B : Type 0} (stands : B → History → Type 0) (rack : List B) (histories : List History) (b : B) (h : History) → AreOf stands rack histories → stands b h → AreOf stands (rack ++ b ∷ []) (histories ++ h ∷ [])
+are_of_push stands [] [] b h are is = (is, tt)
+are_of_push stands [] (first ∷ others) b h are is = absurd are
+are_of_push stands (x ∷ more) [] b h are is = absurd are
+are_of_push stands (x ∷ more) (first ∷ others) b h are is = (are.0, are_of_push stands more others b h are.1 is)
 
 pub none_yet : {B : Type 0} (stands : B → History → Type 0) (rack : List B) → rack ≡ [] → AreOf stands rack []
 none_yet stands rack none = subst (λ r. AreOf stands r []) (sym none) tt

@@ -22,7 +22,7 @@ struct Played {
 }
 
 // Puts a blank receiver of a plan at the end of a rack.
-#[tactic(auto, using(crate::proofs::MadeRacks::are_of-push))]
+#[tactic(auto, using(crate::proofs::MadeRacks::are_of_push))]
 fn put(
     rack: &mut Vec<BoxedReceiver>,
     receiver: BoxedReceiver,
