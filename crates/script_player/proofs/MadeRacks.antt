@@ -1,5 +1,5 @@
 -- A rack that is made of blank receivers, one after the other.
-use Rattle.std.proofs.Common.{◌≡◌, ◌≤◌, ℕ, List, [], ◌∷◌, ◌++◌, sym, subst, arith}
+use Rattle.std.proofs.Common.{◌≡◌, ◌≤◌, ℕ, List, [], ◌∷◌, ◌++◌, refl, sym, subst, arith}
 use Rattle.std.specs.List.{count_by}
 use Rattle.tick_units.specs.declared.marks.Plan.{Plan}
 use Rattle.tick_units.specs.declared.marks.Plan.TheVariants.{Dcf, Msf, Wwvb}
@@ -16,13 +16,13 @@ pub none_yet : {B : Type 0} (stands : B → History → Type 0) (rack : List B) 
 none_yet stands rack none = subst (λ r. AreOf stands r []) (sym none) tt
 
 -- blank receivers of the three plans in turn, four of each
-pub twelve : List History
+abbrev pub twelve : List History
 twelve = blank_of Dcf ∷ blank_of Msf ∷ blank_of Wwvb ∷ blank_of Dcf ∷ blank_of Msf ∷ blank_of Wwvb ∷ blank_of Dcf ∷ blank_of Msf ∷ blank_of Wwvb ∷ blank_of Dcf ∷ blank_of Msf ∷ blank_of Wwvb ∷ []
 
 enough_of : (plan : Plan) → 4 ≤ count_by (is_blank_of plan) twelve
-enough_of Dcf = omega arith
-enough_of Msf = omega arith
-enough_of Wwvb = omega arith
+enough_of Dcf = let four : count_by (is_blank_of Dcf) twelve ≡ 4 = refl in omega arith
+enough_of Msf = let four : count_by (is_blank_of Msf) twelve ≡ 4 = refl in omega arith
+enough_of Wwvb = let four : count_by (is_blank_of Wwvb) twelve ≡ 4 = refl in omega arith
 
 pub rack_of : {B : Type 0} (stands : B → History → Type 0) (rack : List B) → AreOf stands rack twelve → IsRack stands rack
 rack_of stands rack are = record { histories = twelve; are = are; enough = enough_of }

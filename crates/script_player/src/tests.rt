@@ -23,11 +23,7 @@ struct Played {
 
 // Puts a blank receiver of a plan at the end of a rack.
 #[tactic(auto, using(crate::proofs::MadeRacks::are_of_push))]
-fn put(
-    rack: &mut Vec<BoxedReceiver>,
-    receiver: BoxedReceiver,
-    plan: Plan,
-) -> Result<(), AllocError>
+fn put(rack: &mut Vec<BoxedReceiver>, receiver: BoxedReceiver, plan: Plan) -> Result<(), AllocError>
     requires { stands_for receiver (blank_of plan) }
     ensures { (histories : List History) → AreOf (λ b h. stands_for b h) rack.old.items histories →
         OnOk result (AreOf (λ b h. stands_for b h) rack.new.items (histories ++ blank_of plan ∷ [])) }
@@ -132,7 +128,10 @@ fn a_swap_loses_what_was_heard_and_keeps_the_delay(rt: HostRuntime) -> Result<()
     let station = "[[radio]]\nplan = \"dcf\"\nlog = \"log\"\ndelay = 1400\n";
     let all = "0 3998600 refused 3\n0 5998600 refused 3\n0 7998600 refused 3\n";
     for (swap, want) in [("", all), ("swap 0\n", "0 7998600 refused 3\n")] {
-        let mut script = String::from_str(rt.alloc(), "pulse 0 0 100000\npulse 0 2000000 100000\n")?;
+        let mut script = String::from_str(
+            rt.alloc(),
+            "pulse 0 0 100000\npulse 0 2000000 100000\n",
+        )?;
         script.push_str(swap)?;
         script.push_str(
             "pulse 0 4000000 100000\npulse 0 6000000 100000\npulse 0 8000000 100000\n",
@@ -175,8 +174,7 @@ fn answer(script: &mut String, place: &str) -> Result<(), AllocError> {
 const ASKED: &str =
     "asked 230006ec0000000000000000000000000000000000000000000000000000000000000000000000008000000100000000\n";
 
-const SAMPLE: &str =
-    "0 1010000 sample 17077897383243199545 40802189 8837 2 7f000001 256 512\n";
+const SAMPLE: &str = "0 1010000 sample 17077897383243199545 40802189 8837 2 7f000001 256 512\n";
 
 #[test]
 fn moments_of_a_server_do_not_fall(rt: HostRuntime) -> Result<(), Fail> {
@@ -193,13 +191,7 @@ fn moments_of_a_server_do_not_fall(rt: HostRuntime) -> Result<(), Fail> {
     want.push_str(
         "5 is not lawful\n6 is not lawful\n0 1010000 declined 3\nasked 230006ec00000000000000000000000000000000000000000000000000000000000000000000000080000001028f5c28\n",
     )?;
-    gives(
-        &rt,
-        rt.alloc(),
-        SERVER,
-        script.as_str(),
-        want.as_str(),
-    )
+    gives(&rt, rt.alloc(), SERVER, script.as_str(), want.as_str())
 }
 
 // Feed 0 is a radio, feed 1 a server, and there is no other.
@@ -225,6 +217,12 @@ fn lines_of_other_feeds_are_not_lawful(rt: HostRuntime) -> Result<(), Fail> {
     )
 }
 
+// A page is of so many entries, the latest of this moment.
+fn keeps(rt: &impl Abort, page: &Page, length: u64, anchor: u64) {
+    assert_eq!(rt; page.length, length);
+    assert_eq!(rt; page.anchor.get(), anchor);
+}
+
 // An entry that is dropped is heard all the same: the moment of its server stays.
 #[test]
 fn a_full_journal_drops_what_is_due(rt: HostRuntime) -> Result<(), Fail> {
@@ -245,8 +243,7 @@ fn a_full_journal_drops_what_is_due(rt: HostRuntime) -> Result<(), Fail> {
         let played = play(rt.alloc(), SERVER, limit, script.as_str())?;
         assert_eq!(rt; played.text.as_slice(), want.as_bytes());
         assert_eq!(rt; played.is_full, is_full);
-        assert_eq!(rt; played.page.length, u64::from(limit));
-        assert_eq!(rt; played.page.anchor.get(), anchor);
+        keeps(&rt, &played.page, u64::from(limit), anchor);
     }
     Ok(())
 }
