@@ -85,7 +85,10 @@ fn gives(
 
 #[test]
 fn each_opening_may_fail(rt: HostRuntime) -> Result<(), Fail> {
-    for (open, want) in [(1, "status 2 open station\n"), (2, "status 2 open script\n")] {
+    for (open, want) in [
+        (1, "status 2 open station\n"),
+        (2, "status 2 open script\n"),
+    ] {
         gives(
             &rt,
             rt.alloc(),
@@ -201,19 +204,15 @@ fn each_writing_of_a_station_fault_may_fail(rt: HostRuntime) -> Result<(), Fail>
 // Minute marks with no second between them.
 const MARKS: &str = "0 100000\n2000000 100000\n4000000 100000\n6000000 100000\n";
 
-const ANSWERS: [&str; 3] = ["0 4000000 refused 3\n", "0 6000000 refused 3\n", "status 0\n"];
+const ANSWERS: [&str; 3] = [
+    "0 4000000 refused 3\n",
+    "0 6000000 refused 3\n",
+    "status 0\n",
+];
 
 #[test]
 fn each_writing_of_a_log_may_fail(rt: HostRuntime) -> Result<(), Fail> {
-    stops_at_each_writing(
-        &rt,
-        rt.alloc(),
-        &DECODE,
-        "",
-        MARKS,
-        &ANSWERS,
-        Status::Done,
-    )
+    stops_at_each_writing(&rt, rt.alloc(), &DECODE, "", MARKS, &ANSWERS, Status::Done)
 }
 
 // Of several causes a failed writing comes first.
@@ -236,42 +235,86 @@ fn a_failed_writing_comes_before_other_faults(rt: HostRuntime) -> Result<(), Fai
     Ok(())
 }
 
-// What was written where memory may have been refused: the whole text, the status of want of memory alone, or, where the output
-// in memory found no room for more, a front of the text.
+// Runs words where memory may be refused. What they write is the whole text, or the status of want of memory alone, or, where
+// the output in memory found no room for more, a front of the text. Where the run wasn't reached nothing is judged.
 fn is_whole_or_wants_memory(
     rt: &impl Abort,
-    written: &[u8],
-    status: Status,
-    whole: &[u8],
+    alloc: Global,
+    words: &[&str],
+    station: &str,
+    script: &str,
+    whole: &str,
     end: Status,
 ) {
+    let Ok((written, status)) = run(alloc, words, station.as_bytes(), script, NONE) else {
+        return;
+    };
+    let written = written.as_slice();
     match status {
         Status::Memory => assert_eq!(rt; written, b"status 9 memory\n".as_slice()),
-        Status::WriteFault => assert!(rt; whole.starts_with(written) && written.len() < whole.len()),
+        Status::WriteFault => {
+            assert!(rt; whole.as_bytes().starts_with(written));
+            assert!(rt; written.len() < whole.len());
+        }
         _ => {
-            assert_eq!(rt; written, whole);
+            assert_eq!(rt; written, whole.as_bytes());
             assert_eq!(rt; status, end);
         }
     }
 }
 
-// checks/refuse-allocations.sh runs it with each allocation refused in turn. Where that is one of the test's own, before the
-// run, nothing is judged.
+// Behind checks/refuse-allocations.sh each allocation is refused in turn.
 #[test]
-fn want_of_memory_is_told_alone(rt: HostRuntime) -> Result<(), Fail> {
+fn want_of_memory_in_a_replay(rt: HostRuntime) {
     let alloc = rt.alloc();
     let Ok(station) = station(alloc) else {
-        return Ok(());
+        return;
     };
     let Ok(script) = script(alloc) else {
-        return Ok(());
+        return;
     };
     let Ok(whole) = front(alloc, 9, "") else {
-        return Ok(());
+        return;
     };
-    let Ok((written, status)) = run(alloc, &WORDS, station.as_bytes(), script.as_str(), NONE) else {
-        return Ok(());
-    };
-    is_whole_or_wants_memory(&rt, written.as_slice(), status, whole.as_bytes(), Status::Done);
-    Ok(())
+    is_whole_or_wants_memory(
+        &rt,
+        alloc,
+        &WORDS,
+        station.as_str(),
+        script.as_str(),
+        whole.as_str(),
+        Status::Done,
+    );
+}
+
+#[test]
+fn want_of_memory_in_a_log(rt: HostRuntime) {
+    is_whole_or_wants_memory(
+        &rt,
+        rt.alloc(),
+        &DECODE,
+        "",
+        MARKS,
+        "0 4000000 refused 3\n0 6000000 refused 3\nstatus 0\n",
+        Status::Done,
+    );
+}
+
+#[test]
+fn want_of_memory_in_a_refusal(rt: HostRuntime) {
+    let alloc = rt.alloc();
+    let usage = "status 1 usage\n";
+    is_whole_or_wants_memory(&rt, alloc, &["decode"], "", "", usage, Status::Usage);
+    let toml = "status 3 station toml\n";
+    is_whole_or_wants_memory(
+        &rt,
+        alloc,
+        &WORDS,
+        "holdover = \n",
+        "",
+        toml,
+        Status::Station,
+    );
+    let fault = "status 3 station unknown leap\n";
+    is_whole_or_wants_memory(&rt, alloc, &WORDS, "leap = 1\n", "", fault, Status::Station);
 }
