@@ -1,7 +1,7 @@
 #!/bin/sh
 # Refuses each allocation of a run in turn, the first, the second and so on past the last, and looks at how the run ends.
 #
-# A run that lacked memory may only end so:
+# A run may only end so:
 #   whole      the same text and status as without a refusal
 #   memory     `status 9 memory` alone, and 9
 #   unbegun    no text, and 9: the receivers found no memory
@@ -9,13 +9,18 @@
 # With the fakes a refusal may also be one of the test's own (it then judges nothing) or of the output in memory, which is a
 # failed write. Anything else is printed as BAD, and the script ends with 1.
 #
-# usage, at the top of the repository: checks/refuse-allocations.sh
-# It wants what `rt ci` leaves: crates/radio_ntpd/out/radio_ntpd and crates/radio_engine/out/radio_engine_tests. It takes a few
-# seconds, needs a C compiler and glibc, and is no part of the gate.
+#     checks/refuse-allocations.sh
+#
+# Each line has the number, whether there was such an allocation, and how the run ended. It builds nothing: run `rt ci` before, or
+# `rt run` in crates/radio_ntpd and `rt test` in crates/radio_engine. It takes a few seconds, wants a C compiler and glibc, and is
+# no part of the gate.
 set -u
-top=$(pwd)
-program=$top/crates/radio_ntpd/out/radio_ntpd
-tests=$top/crates/radio_engine/out/radio_engine_tests
+cd "$(dirname "$0")/.." || exit 1
+program=crates/radio_ntpd/out/radio_ntpd
+tests=crates/radio_engine/out/radio_engine_tests
+for built in "$program" "$tests"; do
+    [ -x "$built" ] || { echo "$built isn't built yet" >&2; exit 1; }
+done
 work=$(mktemp -d) || exit 1
 trap 'rm -rf "$work"' EXIT
 bad=0
