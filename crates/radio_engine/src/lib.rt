@@ -22,6 +22,8 @@ pub use station::run_station;
 pub use status::Status;
 
 #[cfg(test)]
+mod fault_tests;
+#[cfg(test)]
 mod replay_tests;
 #[cfg(test)]
 mod tests;

@@ -1,11 +1,11 @@
 use crate::Status;
 use crate::tests::run_over;
-use feed_link::{MemoryOutside, MemorySink, MemorySource, NamedLog};
+use feed_link::{FakeOpen, MemoryOutside, MemorySink, MemorySource, NamedLog};
 use std::alloc::{AllocError, Global};
 use std::process::Abort;
 use std::test::Fail;
 
-const WORDS: [&str; 5] = ["replay", "--station", "s", "--script", "p"];
+pub const WORDS: [&str; 5] = ["replay", "--station", "s", "--script", "p"];
 
 const LIMIT_2: [&str; 7] = ["replay", "--station", "s", "--script", "p", "--limit", "2"];
 
@@ -51,7 +51,7 @@ fn pulses(text: &mut String, from: u64, to: u64) -> Result<(), AllocError> {
 }
 
 // A request: its first byte, zeros, and the transmit timestamp 1122334455667788; and more bytes behind it.
-fn request(
+pub fn request(
     text: &mut String,
     arrived: u64,
     sent: u64,
@@ -71,14 +71,14 @@ fn request(
 
 // Calls that fail, counted from 1, or 0 for none: openings, readings of the station and of the script, and writings.
 #[derive(Clone, Copy)]
-struct Failing {
-    open: u64,
-    station: u64,
-    script: u64,
-    write: u64,
+pub struct Failing {
+    pub open: u64,
+    pub station: u64,
+    pub script: u64,
+    pub write: u64,
 }
 
-const NONE: Failing = Failing {
+pub const NONE: Failing = Failing {
     open: 0,
     station: 0,
     script: 0,
@@ -91,13 +91,13 @@ fn named(alloc: Global, name: &str, text: &[u8], fails: u64) -> Result<NamedLog,
 }
 
 // What the words write over a station file "s" and a script "p", and their status.
-fn run(
+pub fn run(
     alloc: Global,
     words: &[&str],
     station: &[u8],
     script: &str,
     failing: Failing,
-) -> Result<(Vec<u8>, Status), Fail> {
+) -> Result<(Vec<u8>, Status), FakeOpen> {
     let mut logs = Vec::new(alloc);
     logs.push(named(alloc, "s", station, failing.station)?)?;
     logs.push(named(alloc, "p", script.as_bytes(), failing.script)?)?;
@@ -248,7 +248,7 @@ fn a_swap_loses_its_half_frame(rt: HostRuntime) -> Result<(), Fail> {
     Ok(())
 }
 
-const EMPTY_PAGE: &str = "page 0 0 0 494e4954 0 0 0 0 1048576 0000000000000000 0\n";
+pub const EMPTY_PAGE: &str = "page 0 0 0 494e4954 0 0 0 0 1048576 0000000000000000 0\n";
 
 #[test]
 fn a_script_ends_at_its_first_bad_line(rt: HostRuntime) -> Result<(), Fail> {
@@ -360,65 +360,6 @@ fn a_station_of_65536_bytes_is_whole(rt: HostRuntime) -> Result<(), Fail> {
         "status 10 long station\n",
         Status::TooLong,
     )
-}
-
-#[test]
-fn openings_and_readings_that_fail(rt: HostRuntime) -> Result<(), Fail> {
-    let mut read_fault = String::from_str(rt.alloc(), EMPTY_PAGE)?;
-    read_fault.push_str("status 4 read script\n")?;
-    let table = [
-        (
-            Failing { open: 1, ..NONE },
-            "status 2 open station\n",
-            Status::OpenFault,
-        ),
-        (
-            Failing { open: 2, ..NONE },
-            "status 2 open script\n",
-            Status::OpenFault,
-        ),
-        (
-            Failing { station: 1, ..NONE },
-            "status 4 read station\n",
-            Status::ReadFault,
-        ),
-        (
-            Failing { station: 2, ..NONE },
-            "status 4 read station\n",
-            Status::ReadFault,
-        ),
-        (
-            Failing { script: 1, ..NONE },
-            read_fault.as_str(),
-            Status::ReadFault,
-        ),
-        (
-            Failing { script: 2, ..NONE },
-            read_fault.as_str(),
-            Status::ReadFault,
-        ),
-    ];
-    for (failing, want, end) in table {
-        let (written, status) = run(rt.alloc(), &WORDS, DCF.as_bytes(), "swap 0\n", failing)?;
-        assert_eq!(rt; written.as_slice(), want.as_bytes());
-        assert_eq!(rt; status, end);
-    }
-    Ok(())
-}
-
-// Nine writings: five entries, two replies, the page and the status.
-#[test]
-fn a_write_that_fails_leaves_what_was_written(rt: HostRuntime) -> Result<(), Fail> {
-    let script = five_minutes(rt.alloc())?;
-    for write in 1..10u64 {
-        let failing = Failing { write, ..NONE };
-        let (written, status) = run(rt.alloc(), &WORDS, DCF.as_bytes(), script.as_str(), failing)?;
-        let lines = written.iter().filter(|byte| **byte == b'\n').count();
-        assert!(rt; FIVE.as_bytes().starts_with(written.as_slice()));
-        assert_eq!(rt; lines as u64 + 1, write);
-        assert_eq!(rt; status, Status::WriteFault);
-    }
-    Ok(())
 }
 
 // The places that are One in each frame of 1 January 2017 (winter time), and those of its frames from 00:55 to 01:03, computed

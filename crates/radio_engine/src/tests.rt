@@ -118,19 +118,14 @@ fn two_frames(alloc: Global) -> Result<String, AllocError> {
     )
 }
 
-// The calls that fail: readings of the log, writings, and openings, each counted from 1, or 0 for none.
+// The calls that fail: readings of the log, and openings, each counted from 1, or 0 for none.
 #[derive(Clone, Copy)]
 struct Failing {
     read: u64,
-    write: u64,
     open: u64,
 }
 
-const NONE: Failing = Failing {
-    read: 0,
-    write: 0,
-    open: 0,
-};
+const NONE: Failing = Failing { read: 0, open: 0 };
 
 // What the words write over a log of this text under the name "log", and their status.
 fn run(
@@ -146,7 +141,7 @@ fn run(
     let mut logs = Vec::new(alloc);
     logs.push(NamedLog::new(String::from_str(alloc, "log")?, source))?;
     let mut outside = MemoryOutside::new(alloc, logs, vec![in alloc; failing.open]?, 4, 100)?;
-    let mut out = MemorySink::new(alloc, vec![in alloc; failing.write]?);
+    let mut out = MemorySink::new(alloc, Vec::new(alloc));
     let status = run_over(alloc, words, &mut outside, &mut out)?;
     Ok((out.into_bytes(), status))
 }
@@ -507,22 +502,10 @@ fn a_read_that_fails_ends_the_log(rt: HostRuntime) -> Result<(), Fail> {
         assert_eq!(rt; written.as_slice(), want.as_bytes(), "at {read}");
         assert_eq!(rt; status, Status::ReadFault);
     }
-    Ok(())
-}
-
-#[test]
-fn a_write_that_fails_leaves_what_was_written(rt: HostRuntime) -> Result<(), Fail> {
-    let text = two_frames(rt.alloc())?;
-    for (write, kept) in [(1, 0), (2, 27), (3, 60)] {
-        let failing = Failing { write, ..NONE };
-        let (written, status) = run(rt.alloc(), &WORDS, text.as_str(), failing)?;
-        assert_eq!(rt;
-            Some(written.as_slice()),
-            TWO_FRAMES.as_bytes().get(..kept),
-            "at {write}"
-        );
-        assert_eq!(rt; status, Status::WriteFault);
-    }
+    let past = Failing { read: 6, ..NONE };
+    let (written, status) = run(rt.alloc(), &WORDS, text.as_str(), past)?;
+    assert_eq!(rt; written.as_slice(), TWO_FRAMES.as_bytes());
+    assert_eq!(rt; status, Status::Done);
     Ok(())
 }
 

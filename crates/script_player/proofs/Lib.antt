@@ -1,5 +1,6 @@
 mod LineLaws
 mod ListLaws
+mod MadeRacks
 mod NewLaws
 mod PlayerLaws
 mod RackLaws

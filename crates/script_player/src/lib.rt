@@ -19,3 +19,6 @@ pub type BoxedReceiver = Box<dyn Receiver + Send>;
 pub use outcome::{NotLawful, Outcome};
 pub use player::Player;
 pub use text::write_outcome;
+
+#[cfg(test)]
+mod tests;

@@ -1,0 +1,106 @@
+#!/bin/sh
+# Refuses each allocation of a run in turn, the first, the second and so on past the last, and looks at how the run ends.
+#
+# A run may only end so:
+#   whole      the same text and status as without a refusal
+#   memory     `status 9 memory` alone, and 9
+#   unbegun    no text, and 9: the receivers found no memory
+#   unread     `status 1 usage` alone, and 1: the words found no memory
+# With the fakes a refusal may also be one of the test's own (it then judges nothing) or of the output in memory, which is a
+# failed write. Anything else is printed as BAD, and the script ends with 1.
+#
+#     checks/refuse-allocations.sh
+#
+# Each line has the number, whether there was such an allocation, and how the run ended. It builds nothing: run `rt ci` before, or
+# `rt run` in crates/radio_ntpd and `rt test` in crates/radio_engine. It takes a few seconds, wants a C compiler and glibc, and is
+# no part of the gate.
+set -u
+cd "$(dirname "$0")/.." || exit 1
+program=crates/radio_ntpd/out/radio_ntpd
+tests=crates/radio_engine/out/radio_engine_tests
+for built in "$program" "$tests"; do
+    [ -x "$built" ] || { echo "$built isn't built yet" >&2; exit 1; }
+done
+work=$(mktemp -d) || exit 1
+trap 'rm -rf "$work"' EXIT
+bad=0
+
+# Counts the calls of malloc and realloc, and refuses the one that REFUSE names. It then writes to descriptor 9.
+cat > "$work/refuse.c" <<'C'
+#include <stdlib.h>
+#include <unistd.h>
+void *__libc_malloc(size_t size);
+void *__libc_realloc(void *old, size_t size);
+static long calls, at = -1;
+static int refused(void) {
+    if (at < 0) { const char *word = getenv("REFUSE"); at = word ? atol(word) : 0; }
+    return ++calls == at && write(9, "refused\n", 8) == 8;
+}
+void *malloc(size_t size) { return refused() ? NULL : __libc_malloc(size); }
+void *realloc(void *old, size_t size) { return refused() ? NULL : __libc_realloc(old, size); }
+C
+cc -O1 -shared -fPIC -o "$work/refuse.so" "$work/refuse.c" || exit 1
+printf 'status 9 memory\n' > "$work/memory"
+printf 'status 1 usage\n' > "$work/usage"
+printf 'leap = 1\n' > "$work/fault.toml"
+printf 'holdover =\n' > "$work/bad.toml"
+
+# Runs a command with its allocation of number $1 refused. `made` says whether there was one.
+refuse() {
+    number=$1
+    shift
+    REFUSE=$number LD_PRELOAD=$work/refuse.so "$@" > "$work/out" 2> "$work/err" 9> "$work/mark"
+    status=$?
+    made=no
+    if [ -s "$work/mark" ]; then made=yes; fi
+}
+
+# How a run of the program ended, which ends whole with the text `whole` and the status $1.
+ended() {
+    if [ "$status" = "$1" ] && cmp -s "$work/out" "$work/whole"; then echo whole
+    elif [ "$status" = 9 ] && cmp -s "$work/out" "$work/memory"; then echo memory
+    elif [ "$status" = 9 ] && [ ! -s "$work/out" ]; then echo unbegun
+    elif [ "$status" = 1 ] && cmp -s "$work/out" "$work/usage"; then echo unread
+    else echo "BAD: status $status"
+    fi
+}
+
+# Refuses each allocation of the program with these words.
+program() {
+    echo "radio_ntpd $*"
+    "$program" "$@" > "$work/whole" 2> "$work/err"
+    wanted=$?
+    next=1
+    made=yes
+    while [ "$made" = yes ]; do
+        refuse "$next" "$program" "$@"
+        how=$(ended "$wanted")
+        echo "  $next $made $how"
+        case $how in BAD*) bad=1 ;; esac
+        next=$((next + 1))
+    done
+}
+
+# Refuses each allocation of a test over the fakes, which judges by itself.
+fakes() {
+    echo "$1"
+    next=1
+    made=yes
+    while [ "$made" = yes ]; do
+        refuse "$next" "$tests" "$1"
+        how=passed
+        if [ "$status" != 0 ]; then how="BAD: status $status"; bad=1; fi
+        echo "  $next $made $how"
+        next=$((next + 1))
+    done
+}
+
+program replay --station examples/station.toml --script examples/exchange.script
+program replay --station "$work/fault.toml" --script examples/exchange.script
+program replay --station "$work/bad.toml" --script examples/exchange.script
+program decode --plan dcf --log examples/dcf77-hour.log
+program decode --plan dcf
+fakes fault_tests::want_of_memory_in_a_replay
+fakes fault_tests::want_of_memory_in_a_log
+fakes fault_tests::want_of_memory_in_a_refusal
+exit "$bad"

@@ -1,0 +1,5 @@
+use Rattle.script_player.specs.Standing.{IsReady}
+use Rattle.script_player.proofs.tests.play_lines.Given as goal
+
+abbrev pub invariant-loop-words : goal.invariant-loop-words
+invariant-loop-words g l = IsReady (λ b. (goal.Receiver-dyn g (b.vtable, b.value)).least_start b.value) l.player
