@@ -5,9 +5,10 @@ the program.
     make_script.py --lines N
     make_script.py --station
 
-With --lines it writes a script of so many lines: the pulses of twelve radios in order of time, and a client's request in each
-minute. With --station it writes the station file that goes with it: four radios of DCF77, four of MSF and four of WWVB. The
-first minute begins at 2 s of the host's counter and is 2026-01-01 12:00 UTC; winter time is kept all year.
+With --lines it writes a script of so many lines: the pulses of twelve radios in order of time, and in each minute an exchange
+with each of four servers and a client's request. With --station it writes the station file that goes with it: four radios of
+DCF77, four of MSF and four of WWVB, and the servers, sixteen feeds in all. The first minute begins at 2 s of the host's counter
+and is 2026-01-01 12:00 UTC; winter time is kept all year.
 """
 
 import argparse
@@ -24,6 +25,9 @@ JITTER = 2500
 # How much later each radio's pulses come than those of the one before it, which its path delay makes up for.
 DELAY = 7000
 REQUEST = "230006ec" + "00" * 36 + "1122334455667788"
+SERVERS = range(12, 16)
+# A request takes this long to a server, and its answer the same, in microseconds.
+ONE_WAY = 4000
 
 
 def put(bits, places, number, weights):
@@ -79,6 +83,20 @@ def wwvb_minute(sent):
     return [(second * 1_000_000, width) for second, width in enumerate(widths)]
 
 
+def stamp(at):
+    """The time at a moment of the host's counter, in RFC 5905's 64 bits."""
+    first = (FIRST - datetime.datetime(1900, 1, 1)) // datetime.timedelta(seconds=1)
+    return ((first << 32) + ((at - START) << 32) // 1_000_000) % 2**64
+
+
+def exchange(feed, at):
+    """A request to a server of stratum 2 and its answer, each its moment and its line."""
+    asked = 2**63 + (at << 32) // 1_000_000
+    served = stamp(at + ONE_WAY)
+    header = "240206ec" + "00000100" + "00000200" + "0a000001" + f"{0:016x}" + f"{asked:016x}" + f"{served:016x}" * 2
+    return [(at, f"ask {feed} {at}\n"), (at + 2 * ONE_WAY, f"answer {feed} {at + 2 * ONE_WAY} {header}\n")]
+
+
 PLANS = (("dcf", dcf_minute), ("msf", msf_minute), ("wwvb", wwvb_minute))
 
 
@@ -89,6 +107,8 @@ def lines():
         begin = START + minute * 60_000_000
         sent = FIRST + datetime.timedelta(minutes=minute)
         timed = [(begin + 30_700_000, f"request {minute % 8} {begin + 30_700_000} {begin + 30_700_050} {REQUEST}\n")]
+        for feed in SERVERS:
+            timed += exchange(feed, begin + 20_500_000 + DELAY * feed)
         for number, (_, pulses_of) in enumerate(PLANS):
             pulses = pulses_of(sent)
             for feed in range(4 * number, 4 * number + 4):
@@ -102,7 +122,8 @@ def lines():
 def station():
     plans = [plan for plan, _ in PLANS for _ in range(4)]
     radios = (f'\n[[radio]]\nplan = "{plan}"\nlog = "{feed}.log"\ndelay = {DELAY * feed}\n' for feed, plan in enumerate(plans))
-    return "holdover = 1800\n" + "".join(radios)
+    servers = (f'\n[[server]]\naddress = "127.0.0.{feed}"\nport = 123\n' for feed in SERVERS)
+    return "holdover = 1800\n" + "".join(radios) + "".join(servers)
 
 
 def main():

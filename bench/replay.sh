@@ -1,8 +1,8 @@
 #!/bin/sh
 # How long replaying takes: ns a line of the built program, over scripts of 100 thousand and of a million lines of one station
-# with twelve radios and a request each minute, beside `decode` of the pulses of that station's first DCF77 radio in the same
-# run; and the peak memory of each. A line costs the same however long the script is, and memory doesn't grow with it. It builds
-# nothing: run ./radio_ntpd once before.
+# with twelve radios and four servers, an exchange with each and a client's request in each minute, beside `decode` of the pulses
+# of that station's first DCF77 radio in the same run; and the peak memory of each. A line costs the same however long the script
+# is, and memory doesn't grow with it. It builds nothing: run ./radio_ntpd once before.
 #
 #     bench/replay.sh [SHORT LONG [RUNS]]
 set -eu
@@ -90,16 +90,17 @@ print(f"a line behind the first {short:.0f}: {line:.1f} ns, {line / pulse:.2f} t
 print(f"memory of the long script less that of the short one: {long_peak - short_peak:.0f} KiB")
 PY
 
-# Every minute is heard whole: each radio's first is alone and the others agree, each request is answered, and all is kept.
+# Every minute is heard whole: each radio's first is alone and the others agree, each answer of a server is a sample, each request
+# is answered, and all is kept.
 "$program" replay --station "$work/station" --script "$work/long" > "$work/text"
 python3 -B - "$work/long" "$work/text" <<'PY'
 import collections, sys
-asked = sum(1 for line in open(sys.argv[1]) if line.startswith("request "))
+words = collections.Counter(line.split()[0] for line in open(sys.argv[1]))
 text = open(sys.argv[2]).read().splitlines()
 told = collections.Counter(line.split()[0] if line[0] > "9" else line.split()[2] for line in text)
-entries = told["lone"] + told["verdict"]
-due = {"lone": 12, "verdict": told["verdict"], "reply": asked, "page": 1, "status": 1}
-if dict(told) != due or text[-1] != "status 0" or not text[-2].startswith(f"page {entries} 1 1 ") or entries < 12 * (asked - 1):
+entries = told["lone"] + told["verdict"] + told["sample"]
+due = {"lone": 12, "verdict": told["verdict"], "asked": words["ask"], "sample": words["answer"], "reply": words["request"], "page": 1, "status": 1}
+if dict(told) != due or text[-1] != "status 0" or not text[-2].startswith(f"page {entries} 1 ") or told["verdict"] < 12 * (words["request"] - 2):
     sys.exit(f"the text isn't that of the script: {dict(told)}, {text[-2]}, {text[-1]}")
-print(f"{entries} entries, {asked} replies, status 0")
+print(f"{entries} entries, {words['request']} replies, status 0")
 PY

@@ -3,9 +3,8 @@
 #
 # A run may only end so:
 #   whole      the same text and status as without a refusal
-#   unread     `status 1 usage` alone, and 1: the words found no memory
-#   unbegun    no text, and 9: the receivers found no memory
-#   memory     `status 9 memory` alone, and 9; behind the first such number there is neither of the two before
+#   unbegun    no text, and 9: the words of the command line or the receivers found no memory
+#   memory     `status 9 memory` alone, and 9; behind the first such number none is unbegun
 # With the fakes a refusal may also be one of the test's own (it then judges nothing) or of the output in memory, which is a
 # failed write. Anything else is printed as BAD, and the script ends with 1.
 #
@@ -41,7 +40,6 @@ void *realloc(void *old, size_t size) { return refused() ? NULL : __libc_realloc
 C
 cc -O1 -shared -fPIC -o "$work/refuse.so" "$work/refuse.c" || exit 1
 printf 'status 9 memory\n' > "$work/memory"
-printf 'status 1 usage\n' > "$work/usage"
 printf 'leap = 1\n' > "$work/fault.toml"
 printf 'holdover =\n' > "$work/bad.toml"
 
@@ -60,7 +58,6 @@ ended() {
     if [ "$status" = "$1" ] && cmp -s "$work/out" "$work/whole"; then echo whole
     elif [ "$status" = 9 ] && cmp -s "$work/out" "$work/memory"; then echo memory
     elif [ "$status" = 9 ] && [ ! -s "$work/out" ]; then echo unbegun
-    elif [ "$status" = 1 ] && cmp -s "$work/out" "$work/usage"; then echo unread
     else echo "BAD: status $status"
     fi
 }
@@ -76,7 +73,7 @@ program() {
     while [ "$made" = yes ]; do
         refuse "$next" "$program" "$@"
         how=$(ended "$wanted")
-        case $begun$how in yesun*) how="BAD: $how" ;; esac
+        case $begun$how in yesunbegun) how="BAD: unbegun" ;; esac
         case $how in memory) begun=yes ;; BAD*) bad=1 ;; esac
         echo "  $next $made $how"
         next=$((next + 1))

@@ -4,3 +4,5 @@ pub mod LawfulLaws
 pub mod LogLaws
 pub mod ReaderLaws
 pub mod FrontsLaws
+pub mod NumberLaws
+pub mod WholeLaws

@@ -1,8 +1,9 @@
-//! Pulse logs: a reader that takes their bytes one by one, and the writing of a line.
+//! Pulse logs: a reader of their bytes, one by one or line by line, and the writing of a line.
 #![tactic(auto)]
 
 mod line;
 mod reader;
+mod whole;
 mod writer;
 
 pub use reader::{BadLine, Front, LineReader};

@@ -1,6 +1,7 @@
-ghost use Rattle.std.specs.Prelude.{◌≡◌, ℕ, ◌+◌, ◌<◌, ◌≤◌, ◌^◌, length, take};
+ghost use Rattle.std.specs.Prelude.{◌≡◌, true, ℕ, ◌+◌, ◌<◌, ◌≤◌, ◌^◌, length, take, IfSome};
 
 use crate::line::Line;
+use crate::whole::{WholeLine, line_in_front};
 use tick_units::Reduction;
 
 // A line has at most this number of bytes before its line feed.
@@ -21,9 +22,9 @@ pub struct Front {
     pub found: Result<Option<Reduction>, BadLine>,
 }
 
-/// Reads a log byte by byte. A line is the start and the width of a reduction, each in decimal without leading zeros,
-/// with one space between them and a line feed behind them. The start is below 2^50 microseconds and above that of the
-/// line before, the width 1 to 2000000 microseconds. The reader stops at the first line that isn't so.
+/// Reads a log byte by byte or line by line. A line is the start and the width of a reduction, each in decimal without
+/// leading zeros, with one space between them and a line feed behind them. The start is below 2^50 microseconds and above
+/// that of the line before, the width 1 to 2000000 microseconds. The reader stops at the first line that isn't so.
 #[derive(Drop)]
 pub struct LineReader {
     line: Line,
@@ -38,6 +39,7 @@ impl LineReader {
     ghost use Rattle.std.specs.Prelude.{◌∷◌, ◌++◌, [], List, MatchResult, None, Some};
     ghost use Rattle.tick_units.specs.Log.{bad_at_end};
     ghost use Rattle.pulse_log.specs.Reading.{HasRead, GoesOn, TakesByte, TakesFront};
+    ghost use Rattle.pulse_log.specs.Writing.{line_of};
 
     /// The reader that has taken no byte.
     pub fn new() -> LineReader
@@ -77,6 +79,47 @@ impl LineReader {
     /// Takes bytes up to the end of the first line that ends among them, up to the byte that makes a line bad, or all of them.
     #[inline(never)]
     pub fn take_line(&mut self, bytes: &[u8]) -> Front
+        requires { 0 < length bytes.now }
+        ensures some { 0 < result.count }
+        ensures within { result.count ≤ length bytes.now }
+        ensures taken { (before : List ℕ) → HasRead self.old before → TakesFront self.new before (take result.count bytes.now) result.found }
+    {
+        if self.is_between_lines() {
+            if let Some(line) = line_in_front(bytes, self.least) {
+                return self.take_whole(line);
+            }
+        }
+        self.take_by_bytes(bytes)
+    }
+
+    // No line was bad, and none has begun.
+    fn is_between_lines(&self) -> bool
+        ensures { result ≡ true → (self.now.bad ≡ None) × (self.now.line.length ≡ 0) }
+    {
+        self.bad.is_none() && self.line.len() == 0
+    }
+
+    // Takes a line at once, with its line feed.
+    fn take_whole(&mut self, line: WholeLine) -> Front
+        requires none { self.old.bad ≡ None }
+        requires empty { self.old.line.length ≡ 0 }
+        requires least { self.old.least ≤ line.found.at }
+        ensures count { result.count ≡ line.count }
+        ensures taken { (before : List ℕ) → HasRead self.old before →
+            TakesFront self.new before (line_of line.found ++ 10 ∷ []) result.found }
+    {
+        let WholeLine { found, count } = line;
+        self.lines += 1;
+        self.least = found.at.get() + 1;
+        Front {
+            count,
+            found: Ok(Some(found)),
+        }
+    }
+
+    // Takes the bytes of a line that can't be taken at once.
+    #[inline(never)]
+    fn take_by_bytes(&mut self, bytes: &[u8]) -> Front
         requires { 0 < length bytes.now }
         ensures some { 0 < result.count }
         ensures within { result.count ≤ length bytes.now }

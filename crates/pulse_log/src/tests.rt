@@ -84,7 +84,7 @@ fn pieces_are_taken_line_by_line(rt: HostRuntime) -> Result<(), Fail> {
 
 #[test]
 fn lawful_lines_are_read(rt: HostRuntime) -> Result<(), Fail> {
-    let table: [(&str, &[(u64, u32)]); 4] = [
+    let table: [(&str, &[(u64, u32)]); 6] = [
         ("", &[]),
         ("0 1\n", &[(0, 1)]),
         (
@@ -95,11 +95,29 @@ fn lawful_lines_are_read(rt: HostRuntime) -> Result<(), Fail> {
             "1125899906842623 2000000\n",
             &[(1_125_899_906_842_623, 2_000_000)],
         ),
+        (
+            "999999999999999 999999\n1000000000000000 1000000\n",
+            &[
+                (999_999_999_999_999, 999_999),
+                (1_000_000_000_000_000, 1_000_000),
+            ],
+        ),
+        (
+            "1 10\n1000000000000000 9\n1000000000000001 1000001\n",
+            &[
+                (1, 10),
+                (1_000_000_000_000_000, 9),
+                (1_000_000_000_000_001, 1_000_001),
+            ],
+        ),
     ];
     for (log, want) in table {
         let (found, bad) = read(rt.alloc(), log.as_bytes())?;
         assert_eq!(rt; found.as_slice(), want);
         assert_eq!(rt; bad, None);
+        let (found, bad) = read_in_pieces(rt.alloc(), log.as_bytes(), 512)?;
+        assert_eq!(rt; found.as_slice(), want, "at once");
+        assert_eq!(rt; bad, None, "at once");
     }
     Ok(())
 }
@@ -135,6 +153,9 @@ fn the_first_line_that_is_not_lawful_is_told(rt: HostRuntime) -> Result<(), Fail
         let (found, bad) = read(rt.alloc(), log.as_bytes())?;
         assert_eq!(rt; found.len(), lawful, "in {log}");
         assert_eq!(rt; bad, Some(line), "in {log}");
+        let (found, bad) = read_in_pieces(rt.alloc(), log.as_bytes(), 512)?;
+        assert_eq!(rt; found.len(), lawful, "in {log} at once");
+        assert_eq!(rt; bad, Some(line), "in {log} at once");
     }
     Ok(())
 }

@@ -6,6 +6,7 @@ pub mod ScriptLaws
 pub mod StationLaws
 pub mod TakingLaws
 pub mod WritingLaws
+pub mod PlayableLaws
 pub mod PlayingLaws
 pub mod LoadingLaws
 pub mod ReplayLaws

@@ -19,7 +19,8 @@ use Rattle.radio_engine.specs.Endings.{status_of, ending_by}
 use Rattle.radio_engine.specs.Decoding.{Decodes}
 use Rattle.radio_engine.specs.Reading.{Cause}
 use Rattle.radio_engine.specs.Reading.Reading.{log}
-use Rattle.radio_engine.specs.Station.{CannotOpen, OpensAndDecodes, IsFaultless}
+use Rattle.radio_engine.specs.Faultless.{IsFaultless}
+use Rattle.radio_engine.specs.Station.{CannotOpen, OpensAndDecodes}
 use Rattle.pulse_log.proofs.LogLaws.{bad_stays}
 
 -- the opening that was noted is the one that is told

@@ -4,6 +4,7 @@ pub mod Reading
 pub mod Writing
 pub mod Decoding
 pub mod Station
+pub mod Faultless
 pub mod Taking
 pub mod Script
 pub mod Replaying

@@ -1,17 +1,14 @@
 -- What a command opens, and how it ends.
-use Rattle.std.specs.Prelude.{◌≡◌, ℕ, ◌≤◌, ◌⊎◌, None, Some, IsSome, List, length, Result, MatchResult}
+use Rattle.std.specs.Prelude.{◌≡◌, ℕ, ◌⊎◌, None, Some, List, Result, MatchResult}
 use Rattle.feed_link.specs.Faults.{Rose}
 use Rattle.feed_link.specs.Told.{SourceState, SinkState}
 use Rattle.feed_link.specs.Openings.{OutsideState, Grows}
 use Rattle.station_config.specs.Faults.{Says}
 use Rattle.station_config.specs.Station.{StationFields}
-use Rattle.tick_units.specs.Log.{bad_at_end}
 use Rattle.tick_units.specs.declared.marks.Plan.{Plan}
 use Rattle.radio_engine.specs.Decoding.{Decodes}
 use Rattle.radio_engine.specs.Endings.{status_of, status_line}
 use Rattle.radio_engine.specs.Loading.{HasLoaded, IsObstacle, status_at, line_at}
-use Rattle.radio_engine.specs.Reading.{most_of}
-use Rattle.radio_engine.specs.Reading.Reading.{log}
 use Rattle.radio_engine.specs.Replaying.{Replays}
 use Rattle.radio_engine.specs.Writing.{Answers}
 use Rattle.radio_engine.specs.declared.ending.Ending.{Ending}
@@ -109,11 +106,3 @@ pub record CannotTry (name : List ℕ) (outside outside_now : OutsideState) : Ty
 
 abbrev pub TriesStation : {E : Type 0} → List ℕ → OutsideState → OutsideState → List ℕ → Result Reach E → Type 0
 TriesStation name outside outside_now bytes result = MatchResult result (λ reach. OpensStation name outside outside_now reach bytes) (λ _. CannotTry name outside outside_now)
-
--- a log that has no fault, and that told its bytes before and after
-pub record IsFaultless (plan : Plan) (opened back : SourceState) (text : List ℕ) : Type 0 where
-  pub told : opened.left ≡ Some text
-  pub tells : IsSome back.left
-  pub no_fault : Rose opened.faults back.faults → ⊥
-  pub lines : bad_at_end text ≡ None
-  pub most : length text ≤ most_of (log plan)

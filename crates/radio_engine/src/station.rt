@@ -4,7 +4,8 @@ ghost use Rattle.feed_link.specs.Faults.{Rose};
 ghost use Rattle.feed_link.specs.Told.{SourceState};
 ghost use Rattle.feed_link.specs.Openings.{Opening};
 ghost use Rattle.tick_units.specs.declared.marks.Plan.{Plan};
-ghost use Rattle.radio_engine.specs.Station.{Refuses, Lacks, CannotOpen, OpensAndDecodes, IsFaultless, RunsReplay};
+ghost use Rattle.radio_engine.specs.Faultless.{IsFaultless, HasPlayable};
+ghost use Rattle.radio_engine.specs.Station.{Refuses, Lacks, CannotOpen, OpensAndDecodes, RunsReplay};
 ghost use Rattle.script_player.specs.Standing.{IsRack};
 ghost use Rattle.radio_engine.specs.declared.file.File.TheVariants.{Log};
 
@@ -64,6 +65,11 @@ pub fn run_station<O: Outside, K: Sink>(
         (O.state outside.new).openings ≡ Some (before ++ record { name = name; opened = Some opened; back = Some back } ∷ []) →
         IsFaultless plan opened back text → (Rose (K.state out.old).faults (K.state out.new).faults → ⊥) →
         (result ≡ Status.Done) ⊎ (result ≡ Status.Memory) }
+
+    // A script without a fault is played whole.
+    ensures playable { (station script : List ℕ) (limit : ℕ) → AskFor (map (λ w. w.now) words.now) (replay station script limit) →
+        HasPlayable station script limit (O.state outside.old) (O.state outside.new) → (Rose (K.state out.old).faults (K.state out.new).faults → ⊥) →
+        result ≡ Status.Done }
 {
     match read_words(alloc, words) {
         Ok(Command::Decode { plan, log }) => open_and_decode(plan, log, outside, out),

@@ -11,29 +11,38 @@ use std::{env, io};
 use tick_units::Plan;
 
 fn main(rt: HostRuntime) -> ExitCode {
-    let mut outside = HostOutside::new(&rt);
-    let mut out = StreamSink::new(io::writer(&rt));
-    let mut arguments = Vec::new(rt.alloc());
-    let mut known = false;
-    if let Ok(all) = env::args(&rt) {
-        known = true;
-        for word in all.skip(1) {
-            known = known && arguments.push(word).is_ok();
-        }
-    }
-    let mut words = Vec::new(rt.alloc());
-    for word in arguments.iter() {
-        known = known && words.push(word.as_str()).is_ok();
-    }
-    if !known {
-        // Words that can't be had are no lawful words.
-        words.clear();
-    }
-    let status = match run(rt.alloc(), words.as_slice(), &mut outside, &mut out) {
+    let status = match start(&rt) {
         Ok(status) => status,
         Err(AllocError) => Status::Memory,
     };
     ExitCode::from(status.number())
+}
+
+// Runs the words that the host gives, over its files and its standard output.
+fn start(rt: &HostRuntime) -> Result<Status, AllocError> {
+    let arguments = arguments(rt)?;
+    let mut words = Vec::new(rt.alloc());
+    for argument in arguments.iter() {
+        words.push(argument.as_str())?;
+    }
+    let mut outside = HostOutside::new(rt);
+    let mut out = StreamSink::new(io::writer(rt));
+    run(rt.alloc(), words.as_slice(), &mut outside, &mut out)
+}
+
+// The words after the program's name, and none where one of them isn't UTF-8, since no lawful words have such a one.
+fn arguments(rt: &HostRuntime) -> Result<Vec<String>, AllocError> {
+    let mut arguments = Vec::new(rt.alloc());
+    match env::args(rt) {
+        Ok(all) => {
+            for argument in all.skip(1) {
+                arguments.push(argument)?;
+            }
+        }
+        Err(error) if error.kind() == io::ErrorKind::OutOfMemory => return Err(AllocError),
+        Err(_) => {}
+    }
+    Ok(arguments)
 }
 
 // Runs the words with four receivers of each plan.

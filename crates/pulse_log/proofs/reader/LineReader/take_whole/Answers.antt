@@ -1,0 +1,10 @@
+use Rattle.std.proofs.Common.{refl, arith}
+use Rattle.pulse_log.proofs.WholeLaws.{takes_whole}
+use Rattle.pulse_log.proofs.reader.LineReader.take_whole.Goals as goal
+
+pub returns-clause-taken : goal.returns-clause-taken
+returns-clause-taken c = λ before h.
+    let found = c.args.line.found in
+    let value = c.get.ensures.value in
+    let below = c.get.ensures.below in
+    takes_whole c.args.self.now _ before found h c.requires.none c.requires.empty c.requires.least (omega arith) c.args.line.least c.args.line.most refl refl (omega arith) c.requires.none

@@ -1,0 +1,83 @@
+ghost use Rattle.std.specs.Prelude.{◌≡◌, ◌+◌, ◌<◌, ◌≤◌, ◌^◌, ◌∷◌, ◌++◌, [], length, take, decimal, IfSome};
+ghost use Rattle.pulse_log.specs.Writing.{line_of};
+
+use tick_units::{Local, Reduction};
+
+// Each number of at most this number of digits is below 2^50.
+const STARTS: usize = 15;
+
+// Each number of at most this number of digits is below 2000000.
+const WIDTHS: usize = 6;
+
+/// What the line at the front of some bytes says, where it stands there whole.
+#[derive(Clone, Copy, Debug)]
+pub struct WholeLine {
+    pub found: Reduction,
+    /// Its number of bytes, with its line feed.
+    pub count: usize,
+    ghost least: { 1 ≤ found.width },
+    ghost most: { found.width ≤ 2000000 },
+}
+
+// A number in decimal at the front of some bytes, and how many digits it has.
+#[derive(Clone, Copy, Debug)]
+struct Number {
+    value: u64,
+    count: usize,
+}
+
+/// The line at the front of these bytes, where it's a lawful one that starts at `least` or later. None also where it goes on
+/// behind them, and where its start is 0 or has 16 digits or its width has 7: such a line is left to who reads byte by byte.
+pub fn line_in_front(bytes: &[u8], least: u64) -> Option<WholeLine>
+    ensures within { IfSome result (λ line. line.count ≤ length bytes.now) }
+    ensures some { IfSome result (λ line. 0 < line.count) }
+    ensures text { IfSome result (λ line. take line.count bytes.now ≡ line_of line.found ++ 10 ∷ []) }
+    ensures least { IfSome result (λ line. least ≤ line.found.at) }
+{
+    let start = number_in_front(bytes, STARTS)?;
+    let Some(b' ') = bytes.get(start.count) else {
+        return None;
+    };
+    let rest = bytes.split_at(start.count + 1).1;
+    let width = number_in_front(rest, WIDTHS)?;
+    let Some(b'\n') = rest.get(width.count) else {
+        return None;
+    };
+    if start.value < least {
+        return None;
+    }
+    let at = Local::new(start.value)?;
+    Some(WholeLine {
+        found: Reduction {
+            at,
+            width: width.value as u32,
+        },
+        count: start.count + width.count + 2,
+    })
+}
+
+// The number whose digits are the first of these bytes; at most so many of them are read. None where there is no digit or the
+// first is 0.
+fn number_in_front(bytes: &[u8], most: usize) -> Option<Number>
+    requires { most ≤ 15 }
+    ensures within { IfSome result (λ number. number.count ≤ length bytes.now) }
+    ensures text { IfSome result (λ number. take number.count bytes.now ≡ decimal number.value) }
+    ensures some { IfSome result (λ number. 0 < number.value) }
+    ensures below { IfSome result (λ number. number.value < 10 ^ most) }
+{
+    let front = &bytes[..bytes.len().min(most)];
+    let mut value = 0;
+    let mut count = 0;
+    'digits: for byte in front {
+        let digit = u64::from(*byte).wrapping_sub(u64::from(b'0'));
+        if 9 < digit {
+            break;
+        }
+        value = value * 10 + digit;
+        count += 1;
+    }
+    if count == 0 || bytes[0] == b'0' {
+        return None;
+    }
+    Some(Number { value, count })
+}
