@@ -1,0 +1,113 @@
+#!/bin/sh
+# Runs the examples of README.md and docs/OPERATING.md, and compares their texts and statuses with what these pages say. The gate
+# runs it behind `rt ci`, on the program that it has built.
+#
+#     checks/examples.sh
+set -u
+cd "$(dirname "$0")/.." || exit 1
+work=$(mktemp -d) || exit 1
+trap 'rm -rf "$work"' EXIT
+bad=0
+checked=0
+
+# The words end with the status $1 and the last line $2, which is empty where nothing is written.
+ends() {
+    status=$1 last=$2
+    shift 2
+    ./radio_ntpd "$@" > "$work/out"
+    told=$?
+    checked=$((checked + 1))
+    if [ "$told" != "$status" ] || [ "$(tail -n 1 "$work/out")" != "$last" ]; then
+        echo "examples: '$*' ends with $told and '$(tail -n 1 "$work/out")', not with $status and '$last'" >&2
+        bad=1
+    fi
+}
+
+# The last run wrote a line that begins so.
+wrote() {
+    checked=$((checked + 1))
+    if ! grep -q "^$1" "$work/out"; then
+        echo "examples: no line begins with '$1'" >&2
+        bad=1
+    fi
+}
+
+# A script that is replayed with the example's station.
+script() {
+    printf "$1" > "$work/script"
+    shift
+    ends "$@" replay --station examples/station.toml --script "$work/script"
+}
+
+# A station file that is refused so.
+station() {
+    printf "$1" > "$work/station"
+    ends 3 "status 3 station $2" replay --station "$work/station" --script examples/exchange.script
+}
+
+# So many of a text, one behind the other.
+repeated() {
+    count=$1
+    while [ "$count" -gt 0 ]; do
+        printf '%s' "$2"
+        count=$((count - 1))
+    done
+}
+
+# README.md
+ends 0 'status 0' decode --plan dcf --log examples/dcf77-hour.log
+wrote '0 67000606 lone 4004773200$'
+wrote '0 127001445 verdict 4004773260 0$'
+wrote '0 487002471 refused 2$'
+ends 0 'status 0' replay --station examples/station.toml --script examples/exchange.script
+wrote 'asked 230006ec0000000000000000000000000000000000000000000000000000000000000000000000008000003200000000$'
+wrote '1 50009130 sample 17200369634135639483 37151467 8781 2 7f000001 256 512$'
+wrote 'reply 240306ec000003060000f2407f000001eeb3fd3f0253111e1122334455667788eeb3fd49fffcb923eeb3fd49ffffffff$'
+wrote 'page 5 1 3 7f000001 17200369634134243619 50009130 1850009130 774 62005 eeb3fd3f0253111e 0$'
+
+# A log, an exchange and both of them give a page with time.
+sed 's/^/pulse 0 /' examples/dcf77-hour.log > "$work/radio.script"
+grep -e ask -e answer examples/exchange.script | sort -s -n -k 3,3 - "$work/radio.script" > "$work/both.script"
+for name in radio both; do
+    ends 0 'status 0' replay --station examples/station.toml --script "$work/$name.script"
+    wrote 'page [0-9]* 1 '
+done
+
+# The words.
+ends 0 'status 0' --plan=dcf --log=examples/dcf77-hour.log -- decode
+ends 1 'status 1 usage'
+ends 1 'status 1 usage' replay --station examples/station.toml --script examples/exchange.script --limit 0
+
+# How it ends.
+ends 2 'status 2 open feed 0' decode --plan dcf --log nosuch
+ends 4 'status 4 read feed 0' decode --plan dcf --log /
+ends 2 'status 2 open station' replay --station nosuch --script examples/exchange.script
+ends 4 'status 4 read station' replay --station / --script examples/exchange.script
+ends 4 'status 4 read script' replay --station examples/station.toml --script /
+wrote 'page 0 0 0 494e4954 '
+script 'ask 1 2000000\npulse 1 3000000 100000\n' 5 'status 5 script 2'
+wrote 'asked '
+wrote 'page 0 '
+script 'swap 0\nswap 0\nswap 0\nswap 0\n' 5 'status 5 script 4'
+wrote 'page 0 '
+ends 6 'status 6 full 2' replay --station examples/station.toml --script examples/exchange.script --limit 2
+wrote 'page 2 '
+printf '1000000 100000\n2000000 10' > "$work/log"
+ends 5 'status 5 line 0 2' decode --plan dcf --log "$work/log"
+if [ -e /dev/full ]; then
+    ./radio_ntpd decode --plan dcf --log examples/dcf77-hour.log > /dev/full
+    [ $? = 8 ] || { echo 'examples: a full disk does not end with 8' >&2; bad=1; }
+fi
+
+# A station file that is refused.
+station 'holdover =' 'toml'
+station 'leap = 1\n' 'unknown leap'
+station '[[radio]]\nplan = "dcf"\n' 'missing radio.0.log'
+station '[[radio]]\nplan = "jjy"\nlog = "a.log"\n' 'range radio.0.plan'
+station 'radio = 3\n' 'range radio'
+station "$(repeated 5 '[[radio]]\nplan = "dcf"\nlog = "a.log"\n')" 'many radio 5'
+station "$(repeated 17 '[[server]]\naddress = "127.0.0.1"\nport = 123\n')" 'many radio 17'
+station "$(repeated 9 '[[link]]\nport = 123\n')" 'many link 9'
+
+[ "$bad" = 0 ] && echo "examples: $checked as the pages say"
+exit "$bad"
