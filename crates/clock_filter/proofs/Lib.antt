@@ -1,3 +1,4 @@
 pub mod FigureLaws
 pub mod HeldLaws
+pub mod KnownLaws
 pub mod StageLaws

@@ -2,3 +2,4 @@ pub mod Bounds
 pub mod Distance
 pub mod Figures
 pub mod Held
+pub mod Known

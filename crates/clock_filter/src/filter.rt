@@ -1,7 +1,8 @@
-ghost use Rattle.std.specs.Prelude.{◌≡◌, ◌≤◌, ◌^◌, List, [], ◌∷◌, ◌++◌, IfSome};
+ghost use Rattle.std.specs.Prelude.{◌≡◌, ◌≤◌, ◌^◌, List, [], ◌∷◌, ◌++◌, length, IfSome};
 ghost use Rattle.clock_filter.specs.Bounds.{AreLawful, IsMeasured, IsTimely};
 ghost use Rattle.clock_filter.specs.Figures as figures;
 ghost use Rattle.clock_filter.specs.Held.{StandsFor, held};
+ghost use Rattle.clock_filter.specs.Known.{IsKnown};
 ghost use Rattle.clock_filter.specs.declared.taken.Taken.{Taken};
 
 use crate::Taken;
@@ -11,19 +12,34 @@ use arrayvec::ArrayVec;
 use std::marker::Model;
 use tick_units::{Local, Sample};
 
-/// The clock filter of a source: its last eight samples, which stand for all that were added. Contracts see it as their list.
+/// The clock filter of a source: its last eight samples, which stand for all that were added, and what they say from a cut on,
+/// which is worked out once. Contracts see it as the list of the samples.
 #[derive(Drop)]
 pub struct Filter {
     last: ArrayVec<Taken, 8>,
+    cut: u64,
+    known: Option<Figures>,
 }
 
 impl Model for Filter {
     ghost use Rattle.std.specs.Prelude.{List};
+    ghost use Rattle.clock_filter.specs.Known.{IsKnown};
     ghost use Rattle.clock_filter.specs.declared.taken.Taken.{Taken};
 
     ghost Value = { List Taken };
 
     ghost view = { λ f. f.last.items };
+
+    ghost invariant = { λ f. IsKnown f.cut f.last.items f.known };
+}
+
+// What the last samples of a source say from a cut on.
+fn figures_from(cut: u64, last: &[Taken]) -> Option<Figures>
+    requires { length last.now ≤ 8 }
+    ensures { IsKnown cut last.now result }
+{
+    let held = held_of(last, cut);
+    figures_of(held.as_slice())
 }
 
 impl Filter {
@@ -33,6 +49,8 @@ impl Filter {
     {
         Filter {
             last: ArrayVec::new(),
+            cut: 0,
+            known: None,
         }
     }
 
@@ -45,6 +63,17 @@ impl Filter {
             self.last.remove(0);
         }
         self.last.push(Taken { at, sample: s });
+        self.known = figures_from(self.cut, self.last.as_slice());
+    }
+
+    /// Works out what the samples say from this cut on, in microseconds of the host's counter, so that `figures` has it ready.
+    pub fn look_from(&mut self, cut: u64)
+        ensures { self.new ≡ self.old }
+    {
+        if cut != self.cut {
+            self.known = figures_from(cut, self.last.as_slice());
+            self.cut = cut;
+        }
     }
 
     /// The figures of those of the last eight samples that aren't from before `cut`, in microseconds of the host's counter,
@@ -55,7 +84,10 @@ impl Filter {
         ensures jitter { IfSome result (λ f. f.jitter2 ≤ 2 ^ 80) }
         ensures measured { (samples : List Taken) → StandsFor self.now samples → AreLawful samples → IfSome result IsMeasured }
     {
-        let held = held_of(self.last.as_slice(), cut);
-        figures_of(held.as_slice())
+        if cut == self.cut {
+            self.known
+        } else {
+            figures_from(cut, self.last.as_slice())
+        }
     }
 }

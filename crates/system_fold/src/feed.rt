@@ -46,4 +46,10 @@ impl Feed {
             self.filter.add(taken.at, taken.sample);
         }
     }
+    /// Works out what its samples say from this cut on.
+    pub fn look_from(&mut self, cut: u64)
+        ensures { self.new ≡ self.old }
+    {
+        self.filter.look_from(cut);
+    }
 }

@@ -53,14 +53,24 @@ fn blank_feeds(kinds: &[SourceKind]) -> ArrayVec<Feed, 16>
     feeds
 }
 
+// Works out what the samples of each feed say from a cut on, where that isn't known.
+fn look_from(feeds: &mut [Feed], cut: u64)
+    ensures { feeds.new ≡ feeds.old }
+{
+    for feed in feeds {
+        feed.look_from(cut);
+    }
+}
+
 // Of the feed that an entry is of, takes the sample that it is, if it is one.
-fn take_sample(feeds: &mut [Feed], e: &Entry)
+fn take_sample(feeds: &mut [Feed], e: &Entry, cut: u64)
     requires feed { e.now.feed < length feeds.old }
     requires what { IsLawfulWhat e.now.what }
     ensures { (settings : SettingsFields) (journal : List Entry) → feeds.old ≡ feeds_of settings journal →
         feeds.new ≡ feeds_of settings (journal ++ e.now ∷ []) }
 {
     feeds[e.feed as usize].take(e);
+    look_from(feeds, cut);
 }
 
 impl FoldState {
@@ -86,8 +96,8 @@ impl FoldState {
         ensures { (settings : SettingsFields) (journal : List Entry) → StandsFor self.old settings journal →
             StandsFor self.new settings (journal ++ e.now ∷ []) }
     {
-        take_sample(self.feeds.as_mut_slice(), e);
         self.leaps.step(e);
+        take_sample(self.feeds.as_mut_slice(), e, self.leaps.cut);
         self.length += 1;
         find_fit(
             self.feeds.as_slice(),

@@ -7,4 +7,4 @@ use Rattle.system_fold.proofs.fold.take_sample.Goals as goal
 pub returns : goal.returns
 returns c = λ settings journal h.
     let few : length c.args.feeds.now ≡ length settings.sources = ap (λ (fs : List Feed). length fs) h ∙ feeds-length settings journal in
-    feeds-taken settings journal c.args.e.now (get_or c.args.feeds.now c.args.e.now.feed c.index-feeds-e.result) c.take.new.self c.args.feeds.now h (subst (λ (n : ℕ). c.args.e.now.feed < n) few c.requires.feed) (ap (λ (d : Feed). get_or c.args.feeds.now c.args.e.now.feed d) c.index-feeds-e.is) c.take.ensures.kind c.take.ensures.filter
+    c.look_from.ensures ∙ feeds-taken settings journal c.args.e.now (get_or c.args.feeds.now c.args.e.now.feed c.index-feeds-e.result) c.take.new.self c.args.feeds.now h (subst (λ (n : ℕ). c.args.e.now.feed < n) few c.requires.feed) (ap (λ (d : Feed). get_or c.args.feeds.now c.args.e.now.feed d) c.index-feeds-e.is) c.take.ensures.kind c.take.ensures.filter

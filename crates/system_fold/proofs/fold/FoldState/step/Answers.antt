@@ -1,13 +1,20 @@
-use Rattle.std.proofs.Common.{◌++◌, ◌∷◌, [], ◌∙◌, refl, ap, length, subst, sym, List}
+use Rattle.std.proofs.Common.{◌++◌, ◌∷◌, [], ◌∙◌, refl, ap, length, subst, sym, List, arith}
 use Rattle.std.specs.Prelude.{All}
 use Rattle.journal_entry.specs.Lawful.{IsLawful}
 use Rattle.system_fold.specs.Fit.{AreFit, IsSound}
 use Rattle.system_fold.specs.Standing.{StandsFor, FoldFields}
 use Rattle.system_fold.specs.declared.feed.Feed.{Feed}
 use Rattle.system_fold.proofs.SoundLaws.{sound-feeds}
-use Rattle.system_fold.proofs.StandingLaws.{stands-step}
+use Rattle.system_fold.proofs.StandingLaws.{few, stands-step}
 use Rattle.system_fold.proofs.SweepLaws.{few-standing, stands-same}
 use Rattle.system_fold.proofs.fold.FoldState.step.Goals as goal
+
+pub step-requires : goal.step-requires
+step-requires c =
+    let lawful = subst (λ (f : FoldFields). IsLawful (length f.feeds) c.args.e.now) (sym c.self.view_is) c.requires.lawful in
+    let below = lawful.feed in
+    let most = few _ _ _ c.self.invariant in
+    omega arith
 
 pub find_fit-requires-clause-sound : goal.find_fit-requires-clause-sound
 find_fit-requires-clause-sound c = subst (All (IsSound c.step.new.self.latest)) (sym c.as_slice.ensures.value) (sound-feeds _ _ _ (stands-step (record { holdover = c.self.inside.holdover; feeds = c.self.inside.feeds.items; leaps = c.self.inside.leaps; length = c.self.inside.length }) _ c.take_sample.new.feeds c.step.new.self c.args.e.now refl (record { lawful = subst (λ (f : FoldFields). IsLawful (length f.feeds) c.args.e.now) (sym c.self.view_is) c.requires.lawful; moment = c.step.ensures.moment }) (λ settings journal same. c.take_sample.ensures settings journal (c.as_mut_slice.ensures.value ∙ same)) c.step.ensures.leaps c.self.invariant.settings c.self.invariant.journal c.self.invariant.stands))
