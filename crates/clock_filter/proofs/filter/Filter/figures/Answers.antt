@@ -1,7 +1,4 @@
-use Rattle.std.proofs.Common.{◌∙◌, sym, subst}
-use Rattle.std.specs.Prelude.{IfSome, Option}
-use Rattle.clock_filter.specs.Bounds.{IsTimely}
-use Rattle.clock_filter.specs.declared.figures.Figures.{Figures}
+use Rattle.std.proofs.Common.{◌∙◌}
 use Rattle.clock_filter.proofs.KnownLaws.{known_timely, known_measured}
 use Rattle.clock_filter.proofs.filter.Filter.figures.Goals as goal
 
