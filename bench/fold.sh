@@ -2,7 +2,7 @@
 # What an entry costs in a fold, with the page after it: instructions an entry, counted by callgrind, of a small program that folds
 # the answers of so many servers, none or some of them ten seconds off. Two trees are built in one run, each in a temporary folder
 # over copies of the crates, which proves them first (some minutes where nothing is kept): this one, which keeps the ends of the
-# intervals in order, and that of a commit which selected anew at each page. Needs rt, git, valgrind.
+# intervals in order and each source's figures, and that of a commit which worked out both anew at each entry. Needs rt, git, valgrind.
 #
 #     bench/fold.sh [ENTRIES [COMMIT]]
 set -eu
