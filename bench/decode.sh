@@ -8,11 +8,7 @@
 set -eu
 minutes=${1:-90000}
 runs=${2:-5}
-top=$(cd "$(dirname "$0")/.." && pwd)
-program="$top/crates/radio_ntpd/out/radio_ntpd"
-[ -x "$program" ] || { echo "not built yet: run ./radio_ntpd first" >&2; exit 1; }
-work=$(mktemp -d)
-trap 'rm -rf "$work"' EXIT
+. "$(dirname "$0")/built.sh"
 python3 "$top/bench/make_dcf_log.py" --minutes "$minutes" --jitter 2500 > "$work/log"
 pulses=$(wc -l < "$work/log")
 gcc -O2 -o "$work/plain" "$top/bench/plain_decoder.c"

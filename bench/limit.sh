@@ -2,11 +2,7 @@
 # The limits of a log and of a script, met on real files: 2^30 and 2^26 bytes are whole, and a line more is too long. Needs 1 GiB
 # of disk for a minute, and the built program (run ./radio_ntpd once before).
 set -eu
-top=$(cd "$(dirname "$0")/.." && pwd)
-program="$top/crates/radio_ntpd/out/radio_ntpd"
-[ -x "$program" ] || { echo "not built yet: run ./radio_ntpd first" >&2; exit 1; }
-work=$(mktemp -d)
-trap 'rm -rf "$work"' EXIT
+. "$(dirname "$0")/built.sh"
 # 2^26 lines of 16 bytes, each a microsecond after the one before it: marks that close no segment.
 python3 - > "$work/log" <<'PY'
 import sys

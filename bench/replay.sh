@@ -9,11 +9,7 @@ set -eu
 short=${1:-100000}
 long=${2:-1000000}
 runs=${3:-5}
-top=$(cd "$(dirname "$0")/.." && pwd)
-program="$top/crates/radio_ntpd/out/radio_ntpd"
-[ -x "$program" ] || { echo "not built yet: run ./radio_ntpd first" >&2; exit 1; }
-work=$(mktemp -d)
-trap 'rm -rf "$work"' EXIT
+. "$(dirname "$0")/built.sh"
 python3 -B "$top/bench/make_script.py" --station > "$work/station"
 python3 -B "$top/bench/make_script.py" --lines "$long" > "$work/long"
 head -n "$short" "$work/long" > "$work/short"

@@ -78,6 +78,8 @@ ends 0 'status 0' --plan=dcf --log=examples/dcf77-hour.log -- decode
 ends 1 'status 1 usage'
 ends 1 'status 1 usage' replay --station examples/station.toml --script examples/exchange.script --limit 0
 
+ends 1 'status 1 usage' decode --plan dcf --log "$(printf 'no\377utf8')"
+
 # How it ends.
 ends 2 'status 2 open feed 0' decode --plan dcf --log nosuch
 ends 4 'status 4 read feed 0' decode --plan dcf --log /
