@@ -45,7 +45,13 @@ fn add_exchange(filter: &mut Filter, second: u32, offset: u64, delay: u64) -> Re
 
 // Four minutes of a DCF77 radio, from 2026-01-01 12:01 UTC on.
 fn of_four_minutes() -> Result<Filter, Fail> {
+    of_four_minutes_from(0)
+}
+
+// The same, of a filter that looks from a cut on.
+fn of_four_minutes_from(cut: u64) -> Result<Filter, Fail> {
     let mut filter = Filter::new();
+    filter.look_from(cut);
     for minute in 0u32..4 {
         let at = moment(122_000_000 + 60_000_000 * u64::from(minute))?;
         filter.add(at, of_a_radio(at, 3_976_257_660 + 60 * minute));
@@ -108,15 +114,45 @@ fn minutes_of_a_radio(rt: HostRuntime) -> Result<(), Fail> {
 }
 
 // A sample from the cut itself is held, one from a microsecond before it isn't; stages without a sample count as 16 s.
+const CUTS: [(u64, u64); 4] = [
+    (182_000_000, 8_327_189_969),
+    (182_000_001, 16_915_621_322),
+    (242_000_000, 16_915_621_322),
+    (302_000_000, 34_093_450_396),
+];
+
+// Whichever cut a filter looks from, before its samples came or behind them, it tells of each cut what it says.
+#[test]
+fn a_filter_may_look_from_any_cut(rt: HostRuntime) -> Result<(), Fail> {
+    for (from, dispersion) in CUTS {
+        let mut filter = of_four_minutes_from(from)?;
+        let ready = figures_at(&filter, from)?;
+        assert_eq!(rt;
+            ready.dispersion,
+            Span::from(dispersion),
+            "ready from {from}"
+        );
+        for (cut, dispersion) in CUTS {
+            let figures = figures_at(&filter, cut)?;
+            assert_eq!(rt;
+                figures.dispersion,
+                Span::from(dispersion),
+                "from {from}, {cut}"
+            );
+            filter.look_from(cut);
+            let moved = figures_at(&filter, cut)?;
+            assert_eq!(rt; moved.dispersion, Span::from(dispersion), "moved to {cut}");
+        }
+        filter.look_from(302_000_001);
+        assert_eq!(rt; filter.figures(302_000_001), None);
+    }
+    Ok(())
+}
+
 #[test]
 fn a_cut_leaves_stages_empty(rt: HostRuntime) -> Result<(), Fail> {
     let filter = of_four_minutes()?;
-    for (cut, dispersion) in [
-        (182_000_000, 8_327_189_969),
-        (182_000_001, 16_915_621_322),
-        (242_000_000, 16_915_621_322),
-        (302_000_000, 34_093_450_396),
-    ] {
+    for (cut, dispersion) in CUTS {
         let figures = figures_at(&filter, cut)?;
         assert_eq!(rt; figures.dispersion, Span::from(dispersion), "from {cut}");
     }
