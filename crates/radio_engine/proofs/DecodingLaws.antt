@@ -53,8 +53,9 @@ decodes_after plan d file file_now out out_mid out_now reach result h answers =
       read = h.read;
       due = reach;
       cause = subst (λ (b : Option ℕ). Cause (log plan) reach b file file_now (h.front ++ h.behind) h.extra) (sym same.0) h.cause;
-      written = answers_more (status_of (ending_by Log reach)) result out out_mid out_now (log_text plan (h.front ++ h.behind)) (status_line (ending_by Log reach))
-          (subst (λ (t : List ℕ). WritesAll out out_mid t) (decoded.text_is ∙ sym same.1) h.written) answers;
+      between = out_mid;
+      lines = subst (λ (t : List ℕ). WritesAll out out_mid t) (decoded.text_is ∙ sym same.1) h.written;
+      written = answers;
     })
 
 pub decodes_stopped : (plan : Plan) (d : Decoder) (file file_now : SourceState) (out out_now : SinkState) →

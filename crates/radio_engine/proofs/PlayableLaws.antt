@@ -113,7 +113,7 @@ script_done : (of : StationFields) (limit : ℕ) (opened back : SourceState) (ou
 script_done of limit opened back out out_now result r p no_write = elim r [
   | inr stopped ↦ absurd (no_write stopped.written.3)
   | inl h ↦ elim h.written [
-    | inr failed ↦ absurd (no_write failed.1.3)
+    | inr failed ↦ absurd (no_write (subst (λ (n : ℕ). Rose n out_now.faults) h.played.1 failed.1.3))
     | inl all ↦ (let front = front_of opened.left back.left p.text (h.bytes ++ h.extra) p.told p.tells h.read.taken in
         let whole = read_whole of limit opened back p h.bytes h.extra front.0 front.1 front.2 h.lines h.bad h.lawful h.reach h.cause in
         let room : is_full of limit h.lines ≡ false = ap (is_full of limit) whole.1 ∙ p.room in

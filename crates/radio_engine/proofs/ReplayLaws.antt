@@ -48,9 +48,9 @@ module _ {B : Type 0} (stands : B → History → Type 0) (r : Replayer B) (of :
         cause = h.cause;
         due = due;
         due_is = due_is ∙ ap (λ (b : Bool). replay_ending reach b limit) (lost_is p.lines p.played);
-        written = answers_more (status_of due) result out out_mid out_now (replay_text of limit p.lines) (page_text (page_after of limit p.lines) ++ status_line due)
-            (subst (λ (t : List ℕ). WritesAll out out_mid t) p.text_is h.written)
-            (subst (λ (q : PageFields). Answers (status_of due) result out_mid out_now (page_text q ++ status_line due)) (page_is p.lines p.played) answers);
+        between = out_mid;
+        played = subst (λ (t : List ℕ). WritesAll out out_mid t) p.text_is h.written;
+        written = subst (λ (q : PageFields). Answers (status_of due) result out_mid out_now (page_text q ++ status_line due)) (page_is p.lines p.played) answers;
       })
 
   pub replays_stopped : (out out_now : SinkState) → EndsStopped (HasReplayed stands r (script of limit)) (script of limit) file file_now out out_now → Replays of limit file file_now out out_now WriteFault

@@ -79,7 +79,7 @@ faultless_done : (plan : Plan) (opened back : SourceState) (out out_now : SinkSt
 faultless_done plan opened back out out_now result text d f no_write = elim d [
   | inr stopped ↦ absurd (no_write stopped.written.3)
   | inl h ↦ elim h.written [
-    | inr failed ↦ absurd (no_write failed.1.3)
+    | inr failed ↦ absurd (no_write (subst (λ (n : ℕ). Rose n out_now.faults) h.lines.1 failed.1.3))
     | inl all ↦ (let front = front_of opened.left back.left text (h.bytes ++ h.extra) f.told f.tells h.read.taken in
         let whole = faultless_reach plan h.due opened back h.bytes h.extra text front.0 h.cause front.1 front.2 f.no_fault f.lines f.most in
         all.0 ∙ ap (λ (r : Reach). status_of (ending_by Log r)) whole)

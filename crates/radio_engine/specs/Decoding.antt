@@ -1,5 +1,5 @@
 -- What it is to decode a log: the bytes read, why the reading ended, and what is written.
-use Rattle.std.specs.Prelude.{◌≡◌, ℕ, ◌⊎◌, List, [], ◌++◌}
+use Rattle.std.specs.Prelude.{◌≡◌, ℕ, ◌⊎◌, List, []}
 use Rattle.feed_link.specs.Told.{SourceState, SinkState}
 use Rattle.tick_units.specs.declared.marks.Plan.{Plan}
 use Rattle.tick_units.specs.Log.{bad_line}
@@ -7,7 +7,7 @@ use Rattle.radio_engine.specs.Endings.{status_of, status_line, ending_by}
 use Rattle.radio_engine.specs.Reading.{HasReadOf, Cause}
 use Rattle.radio_engine.specs.Reading.Reading.{log}
 use Rattle.radio_engine.specs.Text.{log_text}
-use Rattle.radio_engine.specs.Writing.{WritesFront, Answers}
+use Rattle.radio_engine.specs.Writing.{WritesAll, WritesFront, Answers}
 use Rattle.radio_engine.specs.declared.file.File.TheVariants.{Log}
 use Rattle.radio_engine.specs.declared.reading.Reach.{Reach}
 use Rattle.radio_engine.specs.declared.status.Status.{Status}
@@ -20,7 +20,9 @@ pub record EndsByCause (plan : Plan) (file file_now : SourceState) (out out_now 
   pub read : HasReadOf (log plan) file file_now bytes extra
   pub due : Reach
   pub cause : Cause (log plan) due (bad_line bytes) file file_now bytes extra
-  pub written : Answers (status_of (ending_by Log due)) result out out_now (log_text plan bytes ++ status_line (ending_by Log due))
+  pub between : SinkState
+  pub lines : WritesAll out between (log_text plan bytes)
+  pub written : Answers (status_of (ending_by Log due)) result between out_now (status_line (ending_by Log due))
 
 -- a write failed while the log was read, and nothing was read or written after it
 pub record EndsByWriting (plan : Plan) (file file_now : SourceState) (out out_now : SinkState) (result : Status) : Type 0 where

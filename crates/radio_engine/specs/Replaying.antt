@@ -11,7 +11,7 @@ use Rattle.radio_engine.specs.Endings.{status_of, status_line, ending_by}
 use Rattle.radio_engine.specs.Reading.{HasReadOf, Cause}
 use Rattle.radio_engine.specs.Reading.Reading.{script}
 use Rattle.radio_engine.specs.Script.{HasLines}
-use Rattle.radio_engine.specs.Writing.{WritesFront, Answers}
+use Rattle.radio_engine.specs.Writing.{WritesAll, WritesFront, Answers}
 use Rattle.radio_engine.specs.declared.ending.Ending.{Ending}
 use Rattle.radio_engine.specs.declared.ending.Ending.TheVariants.{Full}
 use Rattle.radio_engine.specs.declared.file.File.TheVariants.{Script}
@@ -46,7 +46,9 @@ pub record EndsPlaying (station : StationFields) (limit : ℕ) (file file_now : 
   pub cause : Cause (script station limit) reach bad file file_now bytes extra
   pub due : Ending
   pub due_is : due ≡ replay_ending reach (is_full station limit lines) limit
-  pub written : Answers (status_of due) result out out_now (replay_text station limit lines ++ (page_text (page_after station limit lines) ++ status_line due))
+  pub between : SinkState
+  pub played : WritesAll out between (replay_text station limit lines)
+  pub written : Answers (status_of due) result between out_now (page_text (page_after station limit lines) ++ status_line due)
 
 -- a write failed in what the last of these lines gives, or before; the bytes behind it that were read with it were not looked
 -- at, and nothing was read or written after it
