@@ -14,10 +14,10 @@ use Rattle.radio_engine.specs.Taking.{HasTaken, IsDecodedBy, HasDecoded, EndsIts
 use Rattle.radio_engine.specs.Text.{log_text}
 use Rattle.radio_engine.specs.Writing.{WritesAll, Answers}
 use Rattle.radio_engine.specs.declared.decoder.Decoder.{Decoder}
-use Rattle.radio_engine.specs.declared.file.File.TheVariants.{Log}
+use Rattle.radio_engine.specs.declared.ending.subject.Subject.TheVariants.{Log}
 use Rattle.radio_engine.specs.declared.reading.Reach.{Reach}
-use Rattle.radio_engine.specs.declared.status.Status.{Status}
-use Rattle.radio_engine.specs.declared.status.Status.TheVariants.{WriteFault}
+use Rattle.radio_engine.specs.declared.ending.status.Status.{Status}
+use Rattle.radio_engine.specs.declared.ending.status.Status.TheVariants.{WriteFault}
 use Rattle.radio_engine.proofs.Growth.{text_same, text_grows}
 use Rattle.radio_engine.proofs.WritingLaws.{answers_more, front_of_more}
 

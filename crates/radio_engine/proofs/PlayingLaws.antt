@@ -12,14 +12,13 @@ use Rattle.script_line.specs.declared.line.ScriptLine.{ScriptLine}
 use Rattle.script_player.specs.Standing.{HasPlayed}
 use Rattle.script_player.specs.Texts.{replay_text}
 use Rattle.station_config.specs.Station.{StationFields}
-use Rattle.radio_engine.specs.Playing.{HasReplayed, IsPlayedBy, IsPlayedLine}
-use Rattle.radio_engine.specs.Reading.{Reading, bad_in_the_end}
-use Rattle.radio_engine.specs.Reading.Reading.{log, station, script}
+use Rattle.radio_engine.specs.Playing.{IsPlayedBy, IsPlayedLine}
+use Rattle.radio_engine.specs.Reading.{bad_in_the_end}
 use Rattle.radio_engine.specs.Script.{HasLines}
 use Rattle.radio_engine.specs.Taking.{given, bad_of}
 use Rattle.radio_engine.specs.declared.reading.Gives.{Gives}
 use Rattle.radio_engine.specs.declared.reading.Gives.TheVariants.{Nothing, Text, Bad}
-use Rattle.radio_engine.specs.declared.replayer.Replayer.{Replayer}
+use Rattle.radio_engine.specs.declared.replay.replayer.Replayer.{Replayer}
 use Rattle.radio_engine.proofs.ScriptLaws.{complete_count, same_lines, too_long, next_line, bad_line, replay_more, short_unfinished}
 
 tail_by : (t : Bool) (n : ℕ) → t ≡ true → cond t (Some n) None ≡ Some n
@@ -32,31 +31,25 @@ no_tail_by true n e = cc
 
 module _ {B : Type 0} (stands : B → History → Type 0) (r : Replayer B) where
   -- the end, with bytes behind the last line feed or none
-  pub tail_bad : (reading : Reading) (bytes text : List ℕ) (found : Bool) → HasReplayed stands r reading bytes text None → ((b : List ℕ) → HasTaken r.cutter b → found ≡ has_tail b) → found ≡ true →
-      bad_in_the_end reading None bytes ≡ Some (r.lines + 1)
-  tail_bad (log plan) bytes text found h tail is = absurd h
-  tail_bad station bytes text found h tail is = absurd h
-  tail_bad (script of limit) bytes text found h tail is =
+  pub tail_bad : (of : StationFields) (limit : ℕ) (bytes text : List ℕ) (found : Bool) → IsPlayedBy stands r of limit bytes text None → ((b : List ℕ) → HasTaken r.cutter b → found ≡ has_tail b) → found ≡ true →
+      bad_in_the_end None bytes ≡ Some (r.lines + 1)
+  tail_bad of limit bytes text found h tail is =
       let count = h.count refl in
       let whole = complete_count of bytes h.lines h.lawful in
       tail_by (has_tail bytes) (length (lines_of bytes).complete + 1) (sym (tail bytes (h.cut refl)) ∙ is) ∙ ap (λ n. Some (n + 1)) (whole ∙ sym count)
 
-  pub no_tail : (reading : Reading) (bytes text : List ℕ) (found : Bool) → HasReplayed stands r reading bytes text None → ((b : List ℕ) → HasTaken r.cutter b → found ≡ has_tail b) → found ≡ false →
-      bad_in_the_end reading None bytes ≡ None
-  no_tail (log plan) bytes text found h tail is = absurd h
-  no_tail station bytes text found h tail is = absurd h
-  no_tail (script of limit) bytes text found h tail is = no_tail_by (has_tail bytes) (length (lines_of bytes).complete + 1) (sym (tail bytes (h.cut refl)) ∙ is)
+  pub no_tail : (of : StationFields) (limit : ℕ) (bytes text : List ℕ) (found : Bool) → IsPlayedBy stands r of limit bytes text None → ((b : List ℕ) → HasTaken r.cutter b → found ≡ has_tail b) → found ≡ false →
+      bad_in_the_end None bytes ≡ None
+  no_tail of limit bytes text found h tail is = no_tail_by (has_tail bytes) (length (lines_of bytes).complete + 1) (sym (tail bytes (h.cut refl)) ∙ is)
 
   module _ (bytes : List ℕ) (taken : Taken) (cutter : LineCutter) (takes : (b : List ℕ) → HasTaken r.cutter b → TakesPiece cutter b bytes taken) where
     -- so many bytes were cut, in this way
     cut_by : (before : List ℕ) (cut : Cut) → taken.cut ≡ cut → HasTaken r.cutter before → IsCut cut cutter before bytes (take taken.count bytes)
     cut_by before cut is h = subst (λ (k : Cut). IsCut k cutter before bytes (take taken.count bytes)) is (takes before h).cut
 
-    pub took_more : (reading : Reading) (before text : List ℕ) → HasReplayed stands r reading before text None → taken.cut ≡ More →
-        HasReplayed stands (record r { cutter = cutter }) reading (before ++ take taken.count bytes) (text ++ []) None
-    took_more (log plan) before text h is = absurd h
-    took_more station before text h is = absurd h
-    took_more (script of limit) before text h is =
+    pub took_more : (of : StationFields) (limit : ℕ) (before text : List ℕ) → IsPlayedBy stands r of limit before text None → taken.cut ≡ More →
+        IsPlayedBy stands (record r { cutter = cutter }) of limit (before ++ take taken.count bytes) (text ++ []) None
+    took_more of limit before text h is =
         let cut = cut_by before More is (h.cut refl) in
         record {
           lines = h.lines;
@@ -67,11 +60,9 @@ module _ {B : Type 0} (stands : B → History → Type 0) (r : Replayer B) where
           count = λ _. h.count refl;
         }
 
-    pub took_long : (reading : Reading) (before text : List ℕ) → HasReplayed stands r reading before text None → taken.cut ≡ TooLong →
-        HasReplayed stands (record r { cutter = cutter }) reading (before ++ take taken.count bytes) (text ++ []) (Some (r.lines + 1))
-    took_long (log plan) before text h is = absurd h
-    took_long station before text h is = absurd h
-    took_long (script of limit) before text h is =
+    pub took_long : (of : StationFields) (limit : ℕ) (before text : List ℕ) → IsPlayedBy stands r of limit before text None → taken.cut ≡ TooLong →
+        IsPlayedBy stands (record r { cutter = cutter }) of limit (before ++ take taken.count bytes) (text ++ []) (Some (r.lines + 1))
+    took_long of limit before text h is =
         let cut = cut_by before TooLong is (h.cut refl) in
         let lines : HasLines of (before ++ take taken.count bytes) h.lines (Some (length h.lines + 1)) = too_long of before h.lines h.lawful (before ++ take taken.count bytes) cut.2 cut.1 in
         record {
@@ -109,10 +100,8 @@ module _ {B : Type 0} (stands : B → History → Type 0) (r : Replayer B) where
             count = λ none. absurd (let e : ◌≡◌ {A = Option ℕ} (Some number) None = none in cc);
           }
 
-    pub took_line : (reading : Reading) (before text : List ℕ) (now : Replayer B) (line : List ℕ) (gives : Gives) → HasReplayed stands r reading before text None → taken.cut ≡ Line → now.cutter ≡ cutter →
+    pub took_line : (of : StationFields) (limit : ℕ) (before text : List ℕ) (now : Replayer B) (line : List ℕ) (gives : Gives) → IsPlayedBy stands r of limit before text None → taken.cut ≡ Line → now.cutter ≡ cutter →
         ((of : StationFields) (limit : ℕ) (lines : List ScriptLine) → HasPlayed stands r.player of limit lines → IsPlayedLine stands r.lines now.lines now.player of limit lines (line_in cutter) line gives) →
-        HasReplayed stands now reading (before ++ take taken.count bytes) (text ++ given gives line) (bad_of gives)
-    took_line (log plan) before text now line gives h is same plays = absurd h
-    took_line station before text now line gives h is same plays = absurd h
-    took_line (script of limit) before text now line gives h is same plays =
+        IsPlayedBy stands now of limit (before ++ take taken.count bytes) (text ++ given gives line) (bad_of gives)
+    took_line of limit before text now line gives h is same plays =
         played_line of limit before text h now same line (cut_by before Line is (h.cut refl)) gives (plays of limit h.lines h.played)

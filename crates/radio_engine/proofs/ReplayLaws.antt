@@ -10,17 +10,17 @@ use Rattle.script_player.specs.Standing.{HasPlayed}
 use Rattle.script_player.specs.Texts.{replay_text}
 use Rattle.station_config.specs.Station.{StationFields}
 use Rattle.radio_engine.specs.Endings.{status_of, status_line}
-use Rattle.radio_engine.specs.Playing.{HasReplayed, IsPlayedBy}
-use Rattle.radio_engine.specs.Reading.Reading.{script}
-use Rattle.radio_engine.specs.Replaying.{Replays, page_text, replay_ending}
+use Rattle.radio_engine.specs.Playing.{IsPlayedBy}
+use Rattle.radio_engine.specs.Replaying.{Replays, most_of_a_script, replay_ending}
 use Rattle.radio_engine.specs.Script.{HasLines}
 use Rattle.radio_engine.specs.Taking.{EndsItself, EndsStopped}
+use Rattle.radio_engine.specs.Text.{page_text}
 use Rattle.radio_engine.specs.Writing.{WritesAll, WritesFront, Answers}
 use Rattle.radio_engine.specs.declared.ending.Ending.{Ending}
 use Rattle.radio_engine.specs.declared.reading.Reach.{Reach}
-use Rattle.radio_engine.specs.declared.replayer.Replayer.{Replayer}
-use Rattle.radio_engine.specs.declared.status.Status.{Status}
-use Rattle.radio_engine.specs.declared.status.Status.TheVariants.{WriteFault}
+use Rattle.radio_engine.specs.declared.replay.replayer.Replayer.{Replayer}
+use Rattle.radio_engine.specs.declared.ending.status.Status.{Status}
+use Rattle.radio_engine.specs.declared.ending.status.Status.TheVariants.{WriteFault}
 use Rattle.radio_engine.proofs.ScriptLaws.{bad_stays}
 use Rattle.radio_engine.proofs.WritingLaws.{answers_more}
 
@@ -31,7 +31,7 @@ lines_stay of lines front behind (Some n) h none = bad_stays of lines n front be
 
 module _ {B : Type 0} (stands : B → History → Type 0) (r : Replayer B) (of : StationFields) (limit : ℕ) (file file_now : SourceState) where
   pub replays_after : (out out_mid out_now : SinkState) (reach : Reach) (result : Status) (page : PageFields) (lost : Bool) (due : Ending) →
-      EndsItself (HasReplayed stands r (script of limit)) (script of limit) file file_now out out_mid reach →
+      EndsItself (IsPlayedBy stands r of limit) most_of_a_script file file_now out out_mid reach →
       ((lines : List ScriptLine) → HasPlayed stands r.player of limit lines → page ≡ page_after of limit lines) →
       ((lines : List ScriptLine) → HasPlayed stands r.player of limit lines → lost ≡ is_full of limit lines) →
       due ≡ replay_ending reach lost limit → Answers (status_of due) result out_mid out_now (page_text page ++ status_line due) → Replays of limit file file_now out out_now result
@@ -53,7 +53,7 @@ module _ {B : Type 0} (stands : B → History → Type 0) (r : Replayer B) (of :
         written = subst (λ (q : PageFields). Answers (status_of due) result out_mid out_now (page_text q ++ status_line due)) (page_is p.lines p.played) answers;
       })
 
-  pub replays_stopped : (out out_now : SinkState) → EndsStopped (HasReplayed stands r (script of limit)) (script of limit) file file_now out out_now → Replays of limit file file_now out out_now WriteFault
+  pub replays_stopped : (out out_now : SinkState) → EndsStopped (IsPlayedBy stands r of limit) most_of_a_script file file_now out out_now → Replays of limit file file_now out out_now WriteFault
   replays_stopped out out_now h =
       let p : IsPlayedBy stands r of limit h.front h.text None = h.held in
       inr (record {

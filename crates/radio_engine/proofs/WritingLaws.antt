@@ -3,8 +3,8 @@ use Rattle.std.proofs.Common.{ℕ, List, ◌++◌, ap, sym, ◌∙◌, subst, in
 use Rattle.feed_link.specs.Faults.{Rose}
 use Rattle.feed_link.specs.Told.{SinkState}
 use Rattle.feed_link.proofs.ToldLaws.{Adds-more}
-use Rattle.radio_engine.specs.declared.status.Status.{Status}
-use Rattle.radio_engine.specs.declared.status.Status.TheVariants.{WriteFault}
+use Rattle.radio_engine.specs.declared.ending.status.Status.{Status}
+use Rattle.radio_engine.specs.declared.ending.status.Status.TheVariants.{WriteFault}
 use Rattle.radio_engine.specs.Writing.{IsFrontOf, WritesAll, WritesFront, Answers}
 
 -- a text, and then another

@@ -1,13 +1,17 @@
+-- What a reader has to believe, in this order: Run (what the program does), Endings (statuses and status lines), Writing (what is
+-- written, and what a failed write leaves), Reading (why a reading ended), Opening, Text, Decoding, StationFile, Script,
+-- Replaying, Racks. The other files are scaffolding of private functions.
+pub mod Run
 pub mod Endings
-pub mod Text
-pub mod Reading
 pub mod Writing
+pub mod Reading
+pub mod Opening
+pub mod Text
 pub mod Decoding
-pub mod Station
-pub mod Faultless
-pub mod Taking
+pub mod StationFile
 pub mod Script
 pub mod Replaying
-pub mod Playing
-pub mod Loading
 pub mod Racks
+pub mod Keeping
+pub mod Taking
+pub mod Playing

@@ -1,4 +1,4 @@
--- What a player of a script's bytes stands for.
+-- Scaffolding: what a player of a script's bytes stands for.
 use Rattle.std.specs.Prelude.{◌≡◌, ℕ, ◌+◌, true, false, Option, None, Result, Ok, Err, List, [], ◌∷◌, ◌++◌, length, take}
 use Rattle.radio_receiver.specs.Histories.{History}
 use Rattle.script_line.specs.Cutting.{HasTaken}
@@ -10,12 +10,10 @@ use Rattle.script_player.specs.Texts.{outcome_text, replay_text}
 use Rattle.script_player.specs.declared.outcome.NotLawful.{NotLawful}
 use Rattle.script_player.specs.declared.player.Player.{Player}
 use Rattle.station_config.specs.Station.{StationFields}
-use Rattle.radio_engine.specs.Reading.{Reading}
-use Rattle.radio_engine.specs.Reading.Reading.{log, station, script}
 use Rattle.radio_engine.specs.Script.{HasLines}
 use Rattle.radio_engine.specs.declared.reading.Gives.{Gives}
 use Rattle.radio_engine.specs.declared.reading.Gives.TheVariants.{Nothing, Text, Bad}
-use Rattle.radio_engine.specs.declared.replayer.Replayer.{Replayer}
+use Rattle.radio_engine.specs.declared.replay.replayer.Replayer.{Replayer}
 
 -- it has taken these bytes, has played their lines and given the text of these, and has met this bad line
 pub record IsPlayedBy {B : Type 0} (stands : B → History → Type 0) (r : Replayer B) (of : StationFields) (limit : ℕ) (bytes text : List ℕ) (bad : Option ℕ) : Type 0 where
@@ -25,11 +23,6 @@ pub record IsPlayedBy {B : Type 0} (stands : B → History → Type 0) (r : Repl
   pub played : HasPlayed stands r.player of limit lines
   pub cut : bad ≡ None → HasTaken r.cutter bytes
   pub count : bad ≡ None → r.lines ≡ length lines
-
-abbrev pub HasReplayed : {B : Type 0} → (B → History → Type 0) → Replayer B → Reading → List ℕ → List ℕ → Option ℕ → Type 0
-HasReplayed stands r (log plan) bytes text bad = ⊥
-HasReplayed stands r station bytes text bad = ⊥
-HasReplayed stands r (script of limit) bytes text bad = IsPlayedBy stands r of limit bytes text bad
 
 -- a text was played as the next line, and gave this text; or it is no line that may stand here
 abbrev pub PlaysNext : {B : Type 0} → (B → History → Type 0) → Player B → StationFields → ℕ → List ScriptLine → List ℕ → List ℕ → Result ℕ NotLawful → Type 0

@@ -1,24 +1,20 @@
--- The text of a decoded log: a line for each answer, which is that of an entry of feed 0. The form is this project's own.
+-- The lines that a command writes: an entry a line, and a page. The forms are this project's own.
 use Rattle.std.specs.Prelude.{ℕ, List, ◌++◌, codes}
 use Rattle.std.specs.List.{flat_map}
-use Rattle.tick_units.specs.declared.marks.Plan.{Plan}
-use Rattle.tick_units.specs.Log.{pulses}
-use Rattle.tick_units.specs.Marks.{marks_of}
-use Rattle.tick_units.specs.Segments.{segments_of}
-use Rattle.tick_units.specs.declared.verdicts.Heard.{Heard}
+use Rattle.clock_page.specs.Page.{PageFields}
 use Rattle.journal_entry.specs.Texts.{text_of}
 use Rattle.journal_entry.specs.declared.entry.Entry.{Entry}
-use Rattle.journal_entry.specs.declared.entry.What.TheVariants as what
-use Rattle.minute_pair.specs.Answers.{answers}
+use Rattle.log_decoder.specs.Due.{due_log}
+use Rattle.system_fold.specs.PageText.{page_line}
+use Rattle.tick_units.specs.declared.marks.Plan.{Plan}
 
--- an answer as an entry of feed 0
-abbrev pub entry_of : Heard → Entry
-entry_of heard = record { feed = 0; at = heard.at; what = what.Heard heard.kind }
+abbrev pub entry_line : Entry → List ℕ
+entry_line entry = text_of entry ++ codes "\n"
 
--- the line of an answer
-abbrev pub heard_line : Heard → List ℕ
-heard_line heard = text_of (entry_of heard) ++ codes "\n"
-
--- the lines of the answers of a log
+-- the lines of a decoded log: those of the entries that it is due as feed 0, without a path delay
 abbrev pub log_text : Plan → List ℕ → List ℕ
-log_text plan bytes = flat_map heard_line (answers plan (segments_of plan (marks_of plan (pulses bytes))))
+log_text plan bytes = flat_map entry_line (due_log 0 plan 0 bytes)
+
+-- the line of a page
+unfoldable pub page_text : PageFields → List ℕ
+page_text page = page_line page ++ codes "\n"

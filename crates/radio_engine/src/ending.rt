@@ -1,21 +1,27 @@
+//! How a command ends: its status, and the line that tells it.
 ghost use Rattle.std.specs.Prelude.{◌≡◌};
-ghost use Rattle.radio_engine.specs.Endings.{status_of, ending_by};
+ghost use Rattle.radio_engine.specs.Endings.{status_of};
 
-use crate::file::File;
-use crate::reading::Reach;
-use crate::status::Status;
+pub mod page;
+pub mod status;
+pub mod subject;
+pub mod text;
+pub mod writing;
+
+use status::Status;
+use subject::Subject;
 
 // How a command ends, where no write fails, with what its status line tells.
 #[derive(Clone, Copy, Debug)]
 pub enum Ending {
     Whole,
     WrongWords,
-    NotOpened(File),
-    NotRead(File),
-    WrongLine(File, u64),
+    NotOpened(Subject),
+    NotRead(Subject),
+    WrongLine(Subject, u64),
     Full(u32),
     NoMemory,
-    Long(File),
+    Long(Subject),
 }
 
 // The status of an ending.
@@ -31,17 +37,5 @@ pub fn status_by(ending: Ending) -> Status
         Ending::Full(_) => Status::JournalFull,
         Ending::NoMemory => Status::Memory,
         Ending::Long(_) => Status::TooLong,
-    }
-}
-
-// How a command ends that has read a file so far.
-pub fn ending_by(file: File, reach: Reach) -> Ending
-    ensures { result ≡ ending_by file reach }
-{
-    match reach {
-        Reach::ToEnd => Ending::Whole,
-        Reach::ToFault => Ending::NotRead(file),
-        Reach::ToBadLine(line) => Ending::WrongLine(file, line),
-        Reach::ToLimit => Ending::Long(file),
     }
 }

@@ -2,56 +2,140 @@
 //! call that does all, and ends with that call's status.
 #![tactic(auto)]
 
+ghost use Rattle.std.specs.Prelude.{◌≡◌, ◌⊎◌, IfOk, OnErr, drop, map};
+ghost use Rattle.std.specs.Process.{exit_status};
+ghost use Rattle.std.specs.Vec.Iter.{into_iter_items};
+ghost use Rattle.command_words.specs.Commands.{Asked, AskFor};
+ghost use Rattle.feed_link.specs.Faults.{Rose};
+ghost use Rattle.radio_engine.specs.Endings.{number_of};
+ghost use Rattle.radio_engine.specs.Run.{Refuses, Lacks, Runs, IsFaultless};
+
 use feed_link::{HostOutside, Outside, Sink, StreamSink};
-use radio_engine::{Status, put_in_rack, run_station};
+use radio_engine::{Status, end_without_memory, put_in_rack, run_station};
 use radio_receiver::{DcfReceiver, MsfReceiver, Receiver, WwvbReceiver};
 use std::alloc::{AllocError, Global};
+use std::env::Args;
+use std::fs::{self, Files};
+use std::os::fd::AsRawFd;
 use std::process::ExitCode;
 use std::{env, io};
 use tick_units::Plan;
 
 fn main(rt: HostRuntime) -> ExitCode {
-    let status = match start(&rt) {
-        Ok(status) => status,
-        Err(AllocError) => Status::Memory,
+    let _standard = hold_standard_streams(&rt);
+    let mut outside = HostOutside::new(&rt);
+    let mut out = StreamSink::new(io::writer(&rt));
+    let status = match words(&rt) {
+        Ok(words) => run_words(rt.alloc(), words.as_slice(), &mut outside, &mut out),
+        Err(AllocError) => end_without_memory(&mut out),
     };
+    exit_code(status)
+}
+
+// The program's exit status.
+fn exit_code(status: Status) -> ExitCode
+    ensures { exit_status result ≡ number_of status }
+{
     ExitCode::from(status.number())
 }
 
-// Runs the words that the host gives, over its files and its standard output.
-fn start(rt: &HostRuntime) -> Result<Status, AllocError> {
-    let arguments = arguments(rt)?;
-    let mut words = Vec::new(rt.alloc());
-    for argument in arguments.iter() {
-        words.push(argument.as_str())?;
-    }
-    let mut outside = HostOutside::new(rt);
-    let mut out = StreamSink::new(io::writer(rt));
-    run(rt.alloc(), words.as_slice(), &mut outside, &mut out)
+// Files that hold the numbers of those of standard input, output and error that were closed when the program began. Else the next
+// file that is opened would take such a number, and what is written to standard output would go there.
+fn hold_standard_streams<R: Files>(rt: &R) -> [Option<R::File>; 3]
+where
+    R::File: AsRawFd,
+{
+    [hold(rt), hold(rt), hold(rt)]
 }
 
-// The words after the program's name, and none where one of them isn't UTF-8, since no lawful words have such a one.
-fn arguments(rt: &HostRuntime) -> Result<Vec<String>, AllocError> {
-    let mut arguments = Vec::new(rt.alloc());
+// The root folder, which is always there and can't be written to, as an open file, where it got the number of a standard stream.
+fn hold<R: Files>(rt: &R) -> Option<R::File>
+where
+    R::File: AsRawFd,
+{
+    let file = fs::open(rt, "/").ok()?;
+    if file.as_raw_fd() > 2 {
+        return None;
+    }
+    Some(file)
+}
+
+// The words that the host gives, and none where one of them isn't UTF-8, since no lawful words have such a one.
+fn words(rt: &HostRuntime) -> Result<Vec<String>, AllocError> {
     match env::args(rt) {
-        Ok(all) => {
-            for argument in all.skip(1) {
-                arguments.push(argument)?;
-            }
-        }
-        Err(error) if error.kind() == io::ErrorKind::OutOfMemory => return Err(AllocError),
-        Err(_) => {}
+        Ok(all) => behind_the_name(rt.alloc(), all),
+        Err(error) if error.kind() == io::ErrorKind::OutOfMemory => Err(AllocError),
+        Err(_) => Ok(Vec::new(rt.alloc())),
     }
-    Ok(arguments)
 }
 
-// Runs the words with four receivers of each plan.
-fn run<O: Outside, K: Sink>(
+// The words after the program's name.
+fn behind_the_name(alloc: Global, all: Args) -> Result<Vec<String>, AllocError>
+    ensures { IfOk result (λ words. words.items ≡ drop 1 (into_iter_items all)) }
+{
+    let mut all = all;
+    let _ = all.next();
+    let mut words = Vec::new(alloc);
+    for word in all {
+        words.push(word)?;
+    }
+    Ok(words)
+}
+
+// Words as their texts.
+fn texts_of<'a>(alloc: Global, words: &'a [String]) -> Result<Vec<&'a str>, AllocError>
+    ensures { IfOk result (λ texts. map (λ t. t.now) texts.items ≡ words.now) }
+{
+    let mut texts = Vec::new(alloc);
+    for word in words {
+        texts.push(word.as_str())?;
+    }
+    Ok(texts)
+}
+
+// Runs the command that words ask for. Where no memory is found before it begins, nothing is opened and the status line is written.
+fn run_words<O: Outside, K: Sink>(
     alloc: Global,
-    words: &[&str],
+    words: &[String],
     outside: &mut O,
     out: &mut K,
-) -> Result<Status, AllocError> {
+) -> Status
+    ensures refused { ((asked : Asked) → AskFor words.now asked → ⊥) →
+        Refuses (O.state outside.old) (O.state outside.new) (K.state out.old) (K.state out.new) result
+        ⊎ Lacks (O.state outside.old) (O.state outside.new) (K.state out.old) (K.state out.new) result }
+    ensures runs { (asked : Asked) → AskFor words.now asked →
+        Lacks (O.state outside.old) (O.state outside.new) (K.state out.old) (K.state out.new) result
+        ⊎ Runs asked (O.state outside.old) (O.state outside.new) (K.state out.old) (K.state out.new) result }
+    ensures complete { (asked : Asked) → AskFor words.now asked →
+        IsFaultless asked (O.state outside.old) (O.state outside.new) → (Rose (K.state out.old).faults (K.state out.new).faults → ⊥) →
+        result ≡ Status.Done }
+{
+    match run(alloc, words, outside, out) {
+        Ok(status) => status,
+        Err(AllocError) => end_without_memory(out),
+    }
+}
+
+// Runs the words with four receivers of each plan, where there is memory for them.
+fn run<O: Outside, K: Sink>(
+    alloc: Global,
+    words: &[String],
+    outside: &mut O,
+    out: &mut K,
+) -> Result<Status, AllocError>
+    ensures refused { ((asked : Asked) → AskFor words.now asked → ⊥) → IfOk result (λ status.
+        Refuses (O.state outside.old) (O.state outside.new) (K.state out.old) (K.state out.new) status
+        ⊎ Lacks (O.state outside.old) (O.state outside.new) (K.state out.old) (K.state out.new) status) }
+    ensures runs { (asked : Asked) → AskFor words.now asked → IfOk result (λ status.
+        Lacks (O.state outside.old) (O.state outside.new) (K.state out.old) (K.state out.new) status
+        ⊎ Runs asked (O.state outside.old) (O.state outside.new) (K.state out.old) (K.state out.new) status) }
+    ensures complete { (asked : Asked) → AskFor words.now asked →
+        IsFaultless asked (O.state outside.old) (O.state outside.new) → (Rose (K.state out.old).faults (K.state out.new).faults → ⊥) →
+        IfOk result (λ status. status ≡ Status.Done) }
+    ensures outside_kept { OnErr result (O.state outside.new ≡ O.state outside.old) }
+    ensures out_kept { OnErr result (K.state out.new ≡ K.state out.old) }
+{
+    let texts = texts_of(alloc, words)?;
     let mut rack: Vec<Box<dyn Receiver + Send>> = Vec::new(alloc);
     put_in_rack(&mut rack, Box::new(alloc, DcfReceiver::new())?, Plan::Dcf)?;
     put_in_rack(&mut rack, Box::new(alloc, MsfReceiver::new())?, Plan::Msf)?;
@@ -65,5 +149,5 @@ fn run<O: Outside, K: Sink>(
     put_in_rack(&mut rack, Box::new(alloc, DcfReceiver::new())?, Plan::Dcf)?;
     put_in_rack(&mut rack, Box::new(alloc, MsfReceiver::new())?, Plan::Msf)?;
     put_in_rack(&mut rack, Box::new(alloc, WwvbReceiver::new())?, Plan::Wwvb)?;
-    Ok(run_station(alloc, words, rack, outside, out))
+    Ok(run_station(alloc, texts.as_slice(), rack, outside, out))
 }

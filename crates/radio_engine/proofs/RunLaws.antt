@@ -1,0 +1,39 @@
+-- A command without a fault is done, and one that opened nothing is none.
+use Rattle.std.proofs.Common.{◌≡◌, ℕ, ◌≤◌, ◌^◌, ◌⊎◌, Option, Some, None, List, [], ◌∷◌, ◌++◌, length, map, ap, sym, ◌∙◌, subst, inl, inr, arith}
+use Rattle.std.proofs.lemmas.List.{length-append}
+use Rattle.command_words.specs.Commands.{Asked, AskFor, IsLimit}
+use Rattle.command_words.specs.Commands.Asked.{decode, replay}
+use Rattle.feed_link.specs.Faults.{Rose}
+use Rattle.feed_link.specs.Told.{SinkState}
+use Rattle.feed_link.specs.Openings.{Opening, OutsideState, log_visit, visited}
+use Rattle.radio_engine.specs.Run.{Lacks, Runs, IsFaultless}
+use Rattle.radio_engine.specs.declared.ending.status.Status.{Status}
+use Rattle.radio_engine.specs.declared.ending.status.Status.TheVariants.{Done}
+use Rattle.radio_engine.proofs.GoodLogLaws.{log_done}
+use Rattle.radio_engine.proofs.GoodScriptLaws.{replay_done}
+
+-- openings that were told are there
+not_more : (told : Option (List Opening)) (before more : List Opening) (one : Opening) → told ≡ Some before → told ≡ Some (before ++ one ∷ more) → ⊥
+not_more told before more one were are =
+    let same : before ≡ before ++ one ∷ more = (let e = sym were ∙ are in cc) in
+    let len = ap length same in
+    absurd (omega (arith, length-append before (one ∷ more)))
+
+pub untouched : (asked : Asked) (outside : OutsideState) → IsFaultless asked outside outside → ⊥
+untouched (decode plan log) outside p = not_more outside.openings p.before [] (visited (log_visit log p.opened p.back)) p.were p.are
+untouched (replay station script limit) outside p = not_more outside.openings p.before _ (visited (log_visit station p.opened p.back)) p.were p.are
+
+pub runs_done : (asked : Asked) (outside outside_now : OutsideState) (out out_now : SinkState) (result : Status) →
+    IsFaultless asked outside outside_now → (Rose out.faults out_now.faults → ⊥) →
+    Lacks outside outside_now out out_now result ⊎ Runs asked outside outside_now out out_now result → result ≡ Done
+runs_done asked outside outside_now out out_now result good no_write (inl lacks) = absurd (untouched asked outside (subst (λ (o : OutsideState). IsFaultless asked outside o) lacks.unchanged good))
+runs_done (decode plan log) outside outside_now out out_now result good no_write (inr did) = log_done plan log outside outside_now out out_now result good no_write did
+runs_done (replay station script limit) outside outside_now out out_now result good no_write (inr did) = replay_done station script limit outside outside_now out out_now result good no_write did
+
+limit_by : (value : Option (List ℕ)) (n : ℕ) → IsLimit value n → n ≤ 2 ^ 22
+limit_by None n h = omega arith
+limit_by (Some text) n h = h.2
+
+-- the limit that words ask for
+pub limit_of : (words : List (List ℕ)) (a b : List ℕ) (n : ℕ) → AskFor words (replay a b n) → n ≤ 2 ^ 22
+limit_of words a b n h = limit_by _ n h.says.2

@@ -1,0 +1,22 @@
+use Rattle.std.proofs.Common.{◌≡◌, ℕ, List, length, false, ap, sym, ◌∙◌, subst, arith}
+use Rattle.std.proofs.lemmas.List.{length-take}
+use Rattle.script_line.specs.declared.line.ScriptLine.{ScriptLine}
+use Rattle.script_player.specs.Replay.{is_lawful}
+use Rattle.radio_engine.proofs.ScriptLaws.{some_line}
+use Rattle.radio_engine.proofs.replay.replayer.play_text.Goals as goal
+
+pub returns-in-Err-clause-plays : goal.returns-in-Err-clause-plays
+returns-in-Err-clause-plays g c = λ station limit before h.
+    let played = c.in-Err.ensures.plays station limit before h in (
+      λ line text.
+          let same = some_line line c.in-Some.script_line (sym (c.read_line.ensures.every line text) ∙ c.in-Some.is) in
+          subst (λ (l : ScriptLine). is_lawful station before l ≡ false) (sym same) played.0,
+      played.1,
+    )
+
+pub returns-in-Ok-clause-fits : goal.returns-in-Ok-clause-fits
+returns-in-Ok-clause-fits g c =
+    let text = ap (λ (t : List ℕ). length t) c.write_outcome.ensures.text in
+    let size = c.write_outcome.ensures.length in
+    let room = c.write_outcome.array_long in
+    omega (arith, length-take c.write_outcome.result c.write_outcome.new.out)

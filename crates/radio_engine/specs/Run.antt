@@ -1,0 +1,36 @@
+-- What the program does: each command that words may ask for, what becomes of it, and when nothing has a fault.
+use Rattle.std.specs.Prelude.{◌≡◌, ℕ, ◌⊎◌, List}
+use Rattle.command_words.specs.Commands.{Asked}
+use Rattle.command_words.specs.Commands.Asked.{decode, replay}
+use Rattle.feed_link.specs.Told.{SinkState}
+use Rattle.feed_link.specs.Openings.{OutsideState}
+use Rattle.radio_engine.specs.Decoding.{RunsDecode, HasGoodLog}
+use Rattle.radio_engine.specs.Endings.{status_of, status_line}
+use Rattle.radio_engine.specs.Replaying.{RunsReplay, HasGoodScript}
+use Rattle.radio_engine.specs.Writing.{Answers}
+use Rattle.radio_engine.specs.declared.ending.Ending.{Ending}
+use Rattle.radio_engine.specs.declared.ending.Ending.TheVariants.{WrongWords, NoMemory}
+use Rattle.radio_engine.specs.declared.ending.status.Status.{Status}
+
+-- nothing is opened, and the status line alone is written
+pub record EndsUnopened (ending : Ending) (outside outside_now : OutsideState) (out out_now : SinkState) (result : Status) : Type 0 where
+  pub unchanged : outside_now ≡ outside
+  pub written : Answers (status_of ending) result out out_now (status_line ending)
+
+-- words that ask for nothing
+abbrev pub Refuses : OutsideState → OutsideState → SinkState → SinkState → Status → Type 0
+Refuses = EndsUnopened WrongWords
+
+-- no memory was found, before anything was opened
+abbrev pub Lacks : OutsideState → OutsideState → SinkState → SinkState → Status → Type 0
+Lacks = EndsUnopened NoMemory
+
+-- what becomes of a command, once its memory is found
+abbrev pub Runs : Asked → OutsideState → OutsideState → SinkState → SinkState → Status → Type 0
+Runs (decode plan log) outside outside_now out out_now result = RunsDecode plan log outside outside_now out out_now result
+Runs (replay station script limit) outside outside_now out out_now result = RunsReplay station script limit outside outside_now out out_now result
+
+-- all that a command opens was opened and given back, told its bytes, and has no fault
+abbrev pub IsFaultless : Asked → OutsideState → OutsideState → Type 0
+IsFaultless (decode plan log) outside outside_now = HasGoodLog log outside outside_now
+IsFaultless (replay station script limit) outside outside_now = HasGoodScript station script limit outside outside_now

@@ -1,0 +1,77 @@
+//! The one call that the program makes.
+ghost use Rattle.std.specs.Prelude.{◌≡◌, ◌≤◌, ◌^◌, ◌⊎◌, map};
+ghost use Rattle.command_words.specs.Commands.{Asked, AskFor};
+ghost use Rattle.feed_link.specs.Faults.{Rose};
+ghost use Rattle.radio_engine.specs.Run.{Refuses, Lacks, Runs, IsFaultless};
+ghost use Rattle.script_player.specs.Standing.{IsRack};
+
+use crate::decode::open_and_decode;
+use crate::ending::Ending;
+use crate::ending::status::Status;
+use crate::ending::writing::finish;
+use crate::replay::run_replay;
+use command_words::{Command, WordsFault, read_words};
+use feed_link::{Outside, Sink};
+use radio_receiver::Receiver;
+use std::alloc::Global;
+
+// The most entries that words may ask for.
+const MOST: u32 = 4_194_304;
+
+// A limit that words ask for is within the most.
+fn within(limit: u32) -> u32
+    ensures most { result ≤ 2 ^ 22 }
+    ensures same { limit ≤ 2 ^ 22 → result ≡ limit }
+{
+    limit.min(MOST)
+}
+
+/// Ends a command for which no memory was found before anything was opened: the status line is written.
+pub fn end_without_memory<K: Sink>(out: &mut K) -> Status
+    ensures { Answers (status_of NoMemory) result (K.state out.old) (K.state out.new) (status_line NoMemory) }
+{
+    finish(Ending::NoMemory, out)
+}
+
+/// Runs the command that the words spell. `decode` opens its log once, writes a line for each answer as it comes and then
+/// the status line, and gives the log back. `replay` reads its station, plays its script line by line with receivers of the
+/// rack, and writes what each line gives, then the page of the entries kept and the status line.
+///
+/// The rack holds at least four blank receivers of each plan. Those of a plan are used in the rack's order.
+pub fn run_station<O: Outside, K: Sink>(
+    alloc: Global,
+    words: &[&str],
+    rack: Vec<Box<dyn Receiver + Send>>,
+    outside: &mut O,
+    out: &mut K,
+) -> Status
+    requires { IsRack (λ b h. stands_for b h) rack.items }
+
+    // Words that ask for no command are refused, and nothing is opened.
+    ensures refused { ((asked : Asked) → AskFor (map (λ w. w.now) words.now) asked → ⊥) →
+        Refuses (O.state outside.old) (O.state outside.new) (K.state out.old) (K.state out.new) result
+        ⊎ Lacks (O.state outside.old) (O.state outside.new) (K.state out.old) (K.state out.new) result }
+
+    // The command that they ask for is run: what it opens, reads, writes and gives back, and the cause of its answer.
+    ensures runs { (asked : Asked) → AskFor (map (λ w. w.now) words.now) asked →
+        Lacks (O.state outside.old) (O.state outside.new) (K.state out.old) (K.state out.new) result
+        ⊎ Runs asked (O.state outside.old) (O.state outside.new) (K.state out.old) (K.state out.new) result }
+
+    // Where nothing has a fault, all is done.
+    ensures complete { (asked : Asked) → AskFor (map (λ w. w.now) words.now) asked →
+        IsFaultless asked (O.state outside.old) (O.state outside.new) → (Rose (K.state out.old).faults (K.state out.new).faults → ⊥) →
+        result ≡ Status.Done }
+{
+    match read_words(alloc, words) {
+        Ok(Command::Decode { plan, log }) => open_and_decode(plan, log, outside, out),
+        Ok(
+            Command::Replay {
+                station,
+                script,
+                limit,
+            },
+        ) => run_replay(alloc, station, script, within(limit), rack, outside, out),
+        Err(WordsFault::Usage) => finish(Ending::WrongWords, out),
+        Err(WordsFault::Memory) => finish(Ending::NoMemory, out),
+    }
+}
