@@ -11,12 +11,15 @@ use Rattle.tick_units.specs.Log.{bad_line, bad_at_end, or_unfinished, lines_of}
 use Rattle.tick_units.specs.declared.marks.Plan.{Plan}
 use Rattle.radio_engine.specs.Decoding.{Decodes, IsGoodLog, HasGoodLog, RunsDecode, most_of_a_log}
 use Rattle.radio_engine.specs.Endings.{status_of, ending_at}
-use Rattle.radio_engine.specs.Reading.{Cause}
+use Rattle.file_reader.specs.Ends.{HasReadFront, EndsReading}
+use Rattle.file_reader.specs.declared.reader.FileEnd.{FileEnd}
+use Rattle.file_reader.specs.declared.reader.FileEnd.TheVariants.{Whole, Fault, TooLong}
+use Rattle.radio_engine.specs.Reading.{ReadsLines}
 use Rattle.radio_engine.specs.declared.ending.status.Status.{Status}
 use Rattle.radio_engine.specs.declared.ending.status.Status.TheVariants.{Done}
 use Rattle.radio_engine.specs.declared.ending.subject.Subject.TheVariants.{Feed}
 use Rattle.radio_engine.specs.declared.reading.Reach.{Reach}
-use Rattle.radio_engine.specs.declared.reading.Reach.TheVariants.{ToEnd, ToFault, ToBadLine, ToLimit}
+use Rattle.radio_engine.specs.declared.reading.Reach.TheVariants.{AtEnd, AtBadLine}
 use Rattle.radio_engine.proofs.OpeningLaws.{one_opened, one_failed}
 
 -- the bytes read of a file that told its bytes are a front of them
@@ -48,22 +51,34 @@ whole_text bytes extra rest text e none nothing =
     e ∙ ap (λ (x : List ℕ). (bytes ++ x) ++ rest) none ∙ ap (λ (r : List ℕ). (bytes ++ []) ++ r) nothing ∙ append-nil (bytes ++ []) ∙ append-nil bytes
 
 -- such a log is read to its end
-module _ (opened back : SourceState) (good : IsGoodLog opened back) (bytes extra rest : List ℕ) (told : back.left ≡ Some rest) (e : good.text ≡ (bytes ++ extra) ++ rest) where
-  good_reach : (reach : Reach) → Cause most_of_a_log reach (bad_line bytes) opened back bytes extra → reach ≡ ToEnd
-  good_reach ToEnd cause = refl
-  good_reach ToFault cause = absurd (good.no_fault (rose_by_one opened.faults back.faults cause.2))
-  good_reach ToLimit cause =
-      let size = cause.0 in
-      let one = cause.1 in
+module _ (opened back : SourceState) (good : IsGoodLog opened back) (bytes : List ℕ) where
+  -- a reading that ended so took a front of the text
+  front_by : (end : FileEnd) (read : EndsReading end most_of_a_log opened back bytes) → (rest : List ℕ) × (back.left ≡ Some rest) × (good.text ≡ (bytes ++ read.extra) ++ rest)
+  front_by end read = front_of opened.left back.left good.text (bytes ++ read.extra) good.told good.tells read.taken
+
+  front_so_far : HasReadFront most_of_a_log opened back bytes → (rest : List ℕ) × (back.left ≡ Some rest) × (good.text ≡ (bytes ++ []) ++ rest)
+  front_so_far read =
+      let front = front_of opened.left back.left good.text bytes good.told good.tells read.taken in
+      (front.0, front.1, front.2 ∙ ap (λ (b : List ℕ). b ++ front.0) (sym (append-nil bytes)))
+
+  good_reach : (reach : Reach) → ReadsLines reach most_of_a_log opened back bytes (bad_line bytes) → reach ≡ AtEnd Whole
+  good_reach (AtEnd Whole) h = refl
+  good_reach (AtEnd Fault) h = absurd (good.no_fault (rose_by_one opened.faults back.faults h.0.cause.1))
+  good_reach (AtEnd TooLong) h =
+      let front = front_by TooLong h.0 in
+      let size = h.0.cause.0 in
+      let one = h.0.cause.1 in
       let most = good.most in
-      let len = ap length e in
-      absurd (omega (arith, length-append (bytes ++ extra) rest, length-append bytes extra))
-  good_reach (ToBadLine line) cause = elim cause.1 [
-    | inl bad ↦ absurd (no_bad_front bytes extra rest good.text line e good.lines bad)
-    | inr tail ↦ (let whole = whole_text bytes extra rest good.text e cause.0 (none_left back.left rest told tail.0) in
-        let wrong : ◌≡◌ {A = Option ℕ} None (Some line) = sym good.lines ∙ ap bad_at_end whole ∙ tail.2 in
-        cc)
-  ]
+      let len = ap length front.2 in
+      absurd (omega (arith, length-append (bytes ++ h.0.extra) front.0, length-append bytes h.0.extra))
+  good_reach (AtBadLine line) h =
+      let front = front_so_far h.0 in
+      elim h.1 [
+        | inl bad ↦ absurd (no_bad_front bytes [] front.0 good.text line front.2 good.lines bad)
+        | inr tail ↦ (let whole = whole_text bytes [] front.0 good.text front.2 refl (none_left back.left front.0 front.1 tail.0) in
+            let wrong : ◌≡◌ {A = Option ℕ} None (Some line) = sym good.lines ∙ ap bad_at_end whole ∙ tail.2 in
+            cc)
+      ]
 
 good_done : (plan : Plan) (opened back : SourceState) (out out_now : SinkState) (result : Status) →
     Decodes plan opened back out out_now result → IsGoodLog opened back → (Rose out.faults out_now.faults → ⊥) → result ≡ Done
@@ -71,9 +86,7 @@ good_done plan opened back out out_now result d good no_write = elim d [
   | inr stopped ↦ absurd (no_write stopped.written.3)
   | inl h ↦ elim h.written [
     | inr failed ↦ absurd (no_write (subst (λ (n : ℕ). Rose n out_now.faults) h.lines.1 failed.1.3))
-    | inl all ↦ (let front = front_of opened.left back.left good.text (h.bytes ++ h.extra) good.told good.tells h.read.taken in
-        let whole = good_reach opened back good h.bytes h.extra front.0 front.1 front.2 h.due h.cause in
-        all.0 ∙ ap (λ (r : Reach). status_of (ending_at (Feed 0) r)) whole)
+    | inl all ↦ all.0 ∙ ap (λ (r : Reach). status_of (ending_at (Feed 0) r)) (good_reach opened back good h.bytes h.due h.read)
   ]
 ]
 

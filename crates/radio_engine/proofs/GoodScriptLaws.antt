@@ -4,7 +4,9 @@ use Rattle.std.proofs.lemmas.List.{append-nil, length-append}
 use Rattle.feed_link.specs.Faults.{Rose}
 use Rattle.feed_link.specs.Told.{SourceState, SinkState}
 use Rattle.feed_link.specs.Openings.{OutsideState}
-use Rattle.file_reader.specs.declared.end.FileEnd.TheVariants.{Whole}
+use Rattle.file_reader.specs.Ends.{EndsReading}
+use Rattle.file_reader.specs.declared.reader.FileEnd.{FileEnd}
+use Rattle.file_reader.specs.declared.reader.FileEnd.TheVariants.{Whole, Fault, TooLong}
 use Rattle.script_line.proofs.LineLaws.{one_line, short_line}
 use Rattle.script_line.specs.Texts.{IsTextOf}
 use Rattle.script_line.specs.declared.line.ScriptLine.{ScriptLine}
@@ -14,13 +16,13 @@ use Rattle.station_config.specs.Station.{StationFields}
 use Rattle.station_config.specs.Values.{station_of}
 use Rattle.tick_units.specs.Log.{lines_of, has_tail, or_unfinished}
 use Rattle.radio_engine.specs.declared.reading.Reach.{Reach}
-use Rattle.radio_engine.specs.declared.reading.Reach.TheVariants.{ToEnd, ToFault, ToBadLine, ToLimit}
+use Rattle.radio_engine.specs.declared.reading.Reach.TheVariants.{AtEnd, AtBadLine}
 use Rattle.radio_engine.specs.declared.ending.status.Status.{Status}
 use Rattle.radio_engine.specs.declared.ending.status.Status.TheVariants.{Done}
 use Rattle.radio_engine.specs.Endings.{status_of}
-use Rattle.radio_engine.specs.Reading.{Cause}
+use Rattle.radio_engine.specs.Reading.{ReadsLines}
 use Rattle.radio_engine.specs.Replaying.{Replays, RunsReplay, IsGoodScript, HasGoodScript, most_of_a_script, needed_by_replay, replay_ending}
-use Rattle.radio_engine.specs.StationFile.{HasLoaded, HasStation, IsStation}
+use Rattle.radio_engine.specs.StationFile.{HasStation, IsStation}
 use Rattle.radio_engine.specs.Script.{AreLawful, IsBad, IsFirstBad, HasLines}
 use Rattle.radio_engine.proofs.ScriptLaws.{bad_stays}
 use Rattle.radio_engine.proofs.GoodLogLaws.{front_of, none_left, whole_text, rose_by_one}
@@ -74,37 +76,45 @@ no_tail None bytes e none = rw none refl
 no_tail (Some n) bytes e none = cc
 
 -- a script without a fault is read to its end, and its lines are these
-module _ (of : StationFields) (limit : ℕ) (file file_now : SourceState) (p : IsGoodScript of limit file file_now) (bytes extra rest : List ℕ) (told : file_now.left ≡ Some rest) (e : p.text ≡ (bytes ++ extra) ++ rest)
-    (lines : List ScriptLine) (bad : Option ℕ) (lawful : HasLines of bytes lines bad) where
-  same_whole : p.text ≡ bytes → (lines ≡ p.lines) × (bad ≡ None)
-  same_whole same = same_lines of bytes lines p.lines bad lawful (subst (λ (b : List ℕ). HasLines of b p.lines None) same p.lawful)
+module _ (of : StationFields) (limit : ℕ) (opened back : SourceState) (good : IsGoodScript of limit opened back) (bytes : List ℕ) (lines : List ScriptLine) (bad : Option ℕ) (lawful : HasLines of bytes lines bad) where
+  same_whole : good.text ≡ bytes → (lines ≡ good.lines) × (bad ≡ None)
+  same_whole same = same_lines of bytes lines good.lines bad lawful (subst (λ (b : List ℕ). HasLines of b good.lines None) same good.lawful)
 
   -- a front of it has no bad line
-  no_bad_front : (n : ℕ) → bad ≡ Some n → ⊥
-  no_bad_front n is =
-      let longer = bad_stays of lines n bytes (extra ++ rest) (subst (λ (b : Option ℕ). HasLines of bytes lines b) is lawful) in
-      let all = subst (λ (b : List ℕ). HasLines of b lines (Some n)) (sym (e ∙ append_assoc bytes extra rest)) longer in
-      let wrong = (same_lines of p.text lines p.lines (Some n) all p.lawful).1 in
+  no_bad_front : (n : ℕ) (rest : List ℕ) → good.text ≡ bytes ++ rest → bad ≡ Some n → ⊥
+  no_bad_front n rest e is =
+      let longer = bad_stays of lines n bytes rest (subst (λ (b : Option ℕ). HasLines of bytes lines b) is lawful) in
+      let all = subst (λ (b : List ℕ). HasLines of b lines (Some n)) (sym e) longer in
+      let wrong = (same_lines of good.text lines good.lines (Some n) all good.lawful).1 in
       cc
 
-  no_bad_end : (n : ℕ) → p.text ≡ bytes → bad ≡ None → or_unfinished bad (lines_of bytes) ≡ Some n → ⊥
+  no_bad_end : (n : ℕ) → good.text ≡ bytes → bad ≡ None → or_unfinished bad (lines_of bytes) ≡ Some n → ⊥
   no_bad_end n same none is =
-      let wrong : ◌≡◌ {A = Option ℕ} None (Some n) = sym (no_tail bad bytes none (ap has_tail (sym same) ∙ p.finished)) ∙ is in
+      let wrong : ◌≡◌ {A = Option ℕ} None (Some n) = sym (no_tail bad bytes none (ap has_tail (sym same) ∙ good.finished)) ∙ is in
       cc
 
-  read_whole : (reach : Reach) → Cause most_of_a_script reach bad file file_now bytes extra → (reach ≡ ToEnd) × (lines ≡ p.lines)
-  read_whole ToEnd cause = (refl, (same_whole (whole_text bytes extra rest p.text e cause.0 (none_left file_now.left rest told cause.1))).0)
-  read_whole ToFault cause = absurd (p.no_fault (rose_by_one file.faults file_now.faults cause.2))
-  read_whole ToLimit cause =
-      let size = cause.0 in
-      let one = cause.1 in
-      let most = p.most in
-      let len = ap length e in
-      absurd (omega (arith, length-append (bytes ++ extra) rest, length-append bytes extra))
-  read_whole (ToBadLine n) cause = elim cause.1 [
-    | inl is ↦ absurd (no_bad_front n is)
-    | inr tail ↦ absurd (no_bad_end n (whole_text bytes extra rest p.text e cause.0 (none_left file_now.left rest told tail.0)) tail.1 tail.2)
-  ]
+  -- a reading that ended so took a front of the text
+  front_by : (end : FileEnd) (read : EndsReading end most_of_a_script opened back bytes) → (rest : List ℕ) × (back.left ≡ Some rest) × (good.text ≡ (bytes ++ read.extra) ++ rest)
+  front_by end read = front_of opened.left back.left good.text (bytes ++ read.extra) good.told good.tells read.taken
+
+  read_whole : (reach : Reach) → ReadsLines reach most_of_a_script opened back bytes bad → (reach ≡ AtEnd Whole) × (lines ≡ good.lines)
+  read_whole (AtEnd Whole) h =
+      let front = front_by Whole h.0 in
+      (refl, (same_whole (whole_text bytes h.0.extra front.0 good.text front.2 h.0.cause.0 (none_left back.left front.0 front.1 h.0.cause.1))).0)
+  read_whole (AtEnd Fault) h = absurd (good.no_fault (rose_by_one opened.faults back.faults h.0.cause.1))
+  read_whole (AtEnd TooLong) h =
+      let front = front_by TooLong h.0 in
+      let size = h.0.cause.0 in
+      let one = h.0.cause.1 in
+      let most = good.most in
+      let len = ap length front.2 in
+      absurd (omega (arith, length-append (bytes ++ h.0.extra) front.0, length-append bytes h.0.extra))
+  read_whole (AtBadLine n) h =
+      let front = front_of opened.left back.left good.text bytes good.told good.tells h.0.taken in
+      elim h.1 [
+        | inl is ↦ absurd (no_bad_front n front.0 front.2 is)
+        | inr tail ↦ absurd (no_bad_end n (front.2 ∙ ap (λ (r : List ℕ). bytes ++ r) (none_left back.left front.0 front.1 tail.0) ∙ append-nil bytes) tail.1 tail.2)
+      ]
 
 -- it is Done where no write fails
 script_done : (of : StationFields) (limit : ℕ) (opened back : SourceState) (out out_now : SinkState) (result : Status) →
@@ -113,10 +123,9 @@ script_done of limit opened back out out_now result r p no_write = elim r [
   | inr stopped ↦ absurd (no_write stopped.written.3)
   | inl h ↦ elim h.written [
     | inr failed ↦ absurd (no_write (subst (λ (n : ℕ). Rose n out_now.faults) h.played.1 failed.1.3))
-    | inl all ↦ (let front = front_of opened.left back.left p.text (h.bytes ++ h.extra) p.told p.tells h.read.taken in
-        let whole = read_whole of limit opened back p h.bytes h.extra front.0 front.1 front.2 h.lines h.bad h.lawful h.reach h.cause in
+    | inl all ↦ (let whole = read_whole of limit opened back p h.bytes h.lines h.bad h.lawful h.reach h.read in
         let room : is_full of limit h.lines ≡ false = ap (is_full of limit) whole.1 ∙ p.room in
-        all.0 ∙ ap status_of (h.due_is ∙ ap (λ (x : Reach). replay_ending x (is_full of limit h.lines) limit) whole.0 ∙ ap (λ (b : Bool). replay_ending ToEnd b limit) room))
+        all.0 ∙ ap status_of (h.due_is ∙ ap (λ (x : Reach). replay_ending x (is_full of limit h.lines) limit) whole.0 ∙ ap (λ (b : Bool). replay_ending (AtEnd Whole) b limit) room))
   ]
 ]
 
@@ -130,8 +139,8 @@ one_station bytes a b h k =
 -- the station that was read is that of the file
 read_station : (of said : StationFields) (opened back : SourceState) → IsStation of opened back → HasStation opened back said → said ≡ of
 read_station of said opened back h is =
-    let front = front_of opened.left back.left h.text (is.bytes ++ is.loaded.0) h.told h.tells is.loaded.1.TAKEN in
-    let same = whole_text is.bytes is.loaded.0 front.0 h.text front.2 is.loaded.1.NO_EXTRA (none_left back.left front.0 front.1 is.loaded.1.NONE_LEFT) in
+    let front = front_of opened.left back.left h.text (is.bytes ++ is.read.extra) h.told h.tells is.read.taken in
+    let same = whole_text is.bytes is.read.extra front.0 h.text front.2 is.read.cause.0 (none_left back.left front.0 front.1 is.read.cause.1) in
     one_station is.bytes said of is.says (subst (λ (b : List ℕ). Says b of) same h.says)
 
 module _ (name script_name : List ℕ) (limit : ℕ) (outside outside_now : OutsideState) (out out_now : SinkState) (result : Status) (p : HasGoodScript name script_name limit outside outside_now) (no_write : Rose out.faults out_now.faults → ⊥) where

@@ -1,4 +1,3 @@
-pub mod DecodingLaws
 pub mod EmptyRack
 pub mod GoodLogLaws
 pub mod GoodScriptLaws
@@ -7,6 +6,7 @@ pub mod PlayingLaws
 pub mod RackLaws
 pub mod ReachLaws
 pub mod ReplayLaws
+pub mod ReplayRunLaws
 pub mod RunLaws
 pub mod ScriptLaws
 pub mod StationFileLaws

@@ -22,11 +22,11 @@ log_states a b e = cc
 unopened : (state : State) → ◌≡◌ {A = Option State} None (Some state) → ⊥
 unopened state e = cc
 
-first_of : (a b : Opening) (as bs : List Opening) → a ∷ as ≡ b ∷ bs → a ≡ b
-first_of a b as bs e = cc
+first_of : (a b : Opening) (front back : List Opening) → a ∷ front ≡ b ∷ back → a ≡ b
+first_of a b front back e = cc
 
-rest_of : (a b : Opening) (as bs : List Opening) → a ∷ as ≡ b ∷ bs → as ≡ bs
-rest_of a b as bs e = cc
+rest_of : (a b : Opening) (front back : List Opening) → a ∷ front ≡ b ∷ back → front ≡ back
+rest_of a b front back e = cc
 
 -- openings that are equal told the same
 same_states : (name : List ℕ) (a b c d : SourceState) → visited (log_visit name a b) ≡ visited (log_visit name c d) → (a ≡ c) × (b ≡ d)

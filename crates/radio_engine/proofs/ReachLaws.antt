@@ -1,53 +1,74 @@
 -- How the reading of a file ends whose bytes were taken as they came.
-use Rattle.std.proofs.Common.{◌≡◌, ℕ, Option, None, Some, List, [], ◌++◌, refl, sym, subst, inl}
+use Rattle.std.proofs.Common.{◌≡◌, ℕ, Option, None, Some, List, [], ◌++◌, refl, sym, subst, inl, inr}
 use Rattle.std.proofs.lemmas.List.{append-nil}
-use Rattle.feed_link.specs.Told.{SourceState, SinkState}
-use Rattle.radio_engine.specs.Reading.{HasReadOf, Cause}
-use Rattle.radio_engine.specs.Taking.{Holds, TakesAll, MeetsBad, Stops, EndsItself, EndsStopped}
+use Rattle.feed_link.specs.Told.{SourceState, SinkState, Takes}
+use Rattle.file_reader.specs.Ends.{HasReadFront, EndsReading}
+use Rattle.file_reader.specs.declared.reader.FileEnd.TheVariants.{Whole, Fault, TooLong}
+use Rattle.radio_engine.specs.Reading.{ReadsLines, bad_in_the_end}
+use Rattle.radio_engine.specs.Taking.{Holds, TakesAll, MeetsBad, Stops, EndsAt, EndsItself, EndsStopped}
 use Rattle.radio_engine.specs.declared.reading.Reach.{Reach}
-use Rattle.radio_engine.specs.declared.reading.Reach.TheVariants.{ToBadLine}
+use Rattle.radio_engine.specs.declared.reading.Reach.TheVariants.{AtEnd, AtBadLine}
+
+-- a reading that came to the end took all that it read
+front_of_whole : (limit : ℕ) (file file_now : SourceState) (bytes : List ℕ) → EndsReading Whole limit file file_now bytes → HasReadFront limit file file_now bytes
+front_of_whole limit file file_now bytes h = record {
+  taken = subst (λ (b : List ℕ). Takes file.left file_now.left b) (append-nil bytes) (subst (λ (e : List ℕ). Takes file.left file_now.left (bytes ++ e)) h.cause.0 h.taken);
+  most = h.most;
+  no_fault = h.cause.2;
+}
 
 module _ (holds : Holds) (limit : ℕ) (file file_now : SourceState) (out out_now : SinkState) (bytes : List ℕ) where
-  -- all bytes read were taken
-  pub ends_with : (reach : Reach) (extra : List ℕ) → TakesAll holds out out_now bytes → HasReadOf limit file file_now bytes extra → Cause limit reach None file file_now bytes extra →
-      EndsItself holds limit file file_now out out_now reach
-  ends_with reach extra h read cause = record {
+  ends_with : (reach : Reach) → TakesAll holds out out_now bytes → ReadsLines reach limit file file_now bytes None → EndsItself holds limit file file_now out out_now reach
+  ends_with reach h read = record {
     front = bytes;
     behind = [];
-    extra = extra;
     text = h.text;
     bad = None;
-    read = subst (λ (b : List ℕ). HasReadOf limit file file_now b extra) (sym (append-nil bytes)) read;
     held = h.held;
     none_behind = λ _. refl;
-    cause = subst (λ (b : List ℕ). Cause limit reach None file file_now b extra) (sym (append-nil bytes)) cause;
+    read = subst (λ (b : List ℕ). ReadsLines reach limit file file_now b None) (sym (append-nil bytes)) read;
     written = h.written;
   }
 
-  -- one of them ends a bad line
-  pub ends_bad : (line : ℕ) → MeetsBad holds line out out_now bytes → HasReadOf limit file file_now bytes [] → file_now.faults ≡ file.faults →
-      EndsItself holds limit file file_now out out_now (ToBadLine line)
-  ends_bad line h read same = record {
+  -- all bytes were read, and the last line is unfinished or not
+  at_end : (reach : Reach) → EndsAt reach (bad_in_the_end None bytes) → EndsReading Whole limit file file_now bytes → ReadsLines reach limit file file_now bytes None
+  at_end (AtEnd Whole) end read = (read, end)
+  at_end (AtEnd Fault) end read = absurd end
+  at_end (AtEnd TooLong) end read = absurd end
+  at_end (AtBadLine line) end read = (front_of_whole limit file file_now bytes read, inr (read.cause.1, refl, end))
+
+  pub ends_whole : (reach : Reach) → TakesAll holds out out_now bytes → EndsReading Whole limit file file_now bytes → EndsAt reach (bad_in_the_end None bytes) →
+      EndsItself holds limit file file_now out out_now reach
+  ends_whole reach h read end = ends_with reach h (at_end reach end read)
+
+  -- a read failed
+  pub ends_fault : TakesAll holds out out_now bytes → EndsReading Fault limit file file_now bytes → EndsItself holds limit file file_now out out_now (AtEnd Fault)
+  ends_fault h read = ends_with (AtEnd Fault) h (read, refl)
+
+  -- there are more bytes than the limit
+  pub ends_long : TakesAll holds out out_now bytes → EndsReading TooLong limit file file_now bytes → EndsItself holds limit file file_now out out_now (AtEnd TooLong)
+  ends_long h read = ends_with (AtEnd TooLong) h (read, refl)
+
+  -- one of the bytes read ends a bad line
+  pub ends_bad : (line : ℕ) → MeetsBad holds line out out_now bytes → HasReadFront limit file file_now bytes → EndsItself holds limit file file_now out out_now (AtBadLine line)
+  ends_bad line h read = record {
     front = h.front;
     behind = h.behind;
-    extra = [];
     text = h.text;
     bad = Some line;
-    read = subst (λ (b : List ℕ). HasReadOf limit file file_now b []) (sym h.all) read;
     held = h.held;
     none_behind = λ none. absurd (let e : ◌≡◌ {A = Option ℕ} (Some line) None = none in cc);
-    cause = (refl, inl refl, same);
+    read = (subst (λ (b : List ℕ). HasReadFront limit file file_now b) (sym h.all) read, inl refl);
     written = h.written;
   }
 
   -- a write failed
-  pub ends_stopped : Stops holds out out_now bytes → HasReadOf limit file file_now bytes [] → file_now.faults ≡ file.faults → EndsStopped holds limit file file_now out out_now
-  ends_stopped h read same = record {
+  pub ends_stopped : Stops holds out out_now bytes → HasReadFront limit file file_now bytes → EndsStopped holds limit file file_now out out_now
+  ends_stopped h read = record {
     front = h.front;
     behind = h.behind;
     text = h.text;
-    read = subst (λ (b : List ℕ). HasReadOf limit file file_now b []) (sym h.all) read;
-    no_fault = same;
+    read = subst (λ (b : List ℕ). HasReadFront limit file file_now b) (sym h.all) read;
     held = h.held;
     written = h.written;
   }

@@ -39,13 +39,11 @@ module _ {B : Type 0} (stands : B → History → Type 0) (r : Replayer B) (of :
       let p : IsPlayedBy stands r of limit h.front h.text h.bad = h.held in
       inl (record {
         bytes = h.front ++ h.behind;
-        extra = h.extra;
-        read = h.read;
         lines = p.lines;
         bad = h.bad;
         lawful = lines_stay of p.lines h.front h.behind h.bad p.lawful h.none_behind;
         reach = reach;
-        cause = h.cause;
+        read = h.read;
         due = due;
         due_is = due_is ∙ ap (λ (b : Bool). replay_ending reach b limit) (lost_is p.lines p.played);
         between = out_mid;
@@ -60,7 +58,6 @@ module _ {B : Type 0} (stands : B → History → Type 0) (r : Replayer B) (of :
         bytes = h.front;
         behind = h.behind;
         read = h.read;
-        no_fault = h.no_fault;
         lines = p.lines;
         lawful = p.lawful;
         answer = refl;

@@ -1,7 +1,7 @@
 -- What keeps a station from being used is told.
 use Rattle.std.proofs.Common.{ℕ, List, sym, subst, inl, inr}
-use Rattle.file_reader.specs.declared.end.FileEnd.{FileEnd}
-use Rattle.file_reader.specs.declared.end.FileEnd.TheVariants.{Whole, Fault, TooLong}
+use Rattle.file_reader.specs.declared.reader.FileEnd.{FileEnd}
+use Rattle.file_reader.specs.declared.reader.FileEnd.TheVariants.{Whole, Fault, TooLong}
 use Rattle.radio_engine.specs.StationFile.{IsObstacle, IsTold}
 use Rattle.radio_engine.specs.declared.station_file.obstacle.Obstacle.{Obstacle}
 

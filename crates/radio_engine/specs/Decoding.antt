@@ -4,11 +4,12 @@ use Rattle.feed_link.specs.Faults.{Rose}
 use Rattle.feed_link.specs.Told.{SourceState, SinkState}
 use Rattle.feed_link.specs.Openings.{Opening, OutsideState, Wanted, MakesOpenings, log_visit, visited}
 use Rattle.feed_link.specs.Openings.Wanted.{LogOf}
+use Rattle.file_reader.specs.Ends.{HasReadFront}
 use Rattle.tick_units.specs.declared.marks.Plan.{Plan}
 use Rattle.tick_units.specs.Log.{bad_line, bad_at_end}
 use Rattle.radio_engine.specs.Endings.{status_of, status_line, ending_at}
 use Rattle.radio_engine.specs.Opening.{CannotOpen}
-use Rattle.radio_engine.specs.Reading.{HasReadOf, Cause}
+use Rattle.radio_engine.specs.Reading.{ReadsLines}
 use Rattle.radio_engine.specs.Text.{log_text}
 use Rattle.radio_engine.specs.Writing.{WritesAll, WritesFront, Answers}
 use Rattle.radio_engine.specs.declared.ending.status.Status.{Status}
@@ -23,10 +24,8 @@ most_of_a_log = 2 ^ 30
 -- the reading ended by itself: the lines of the answers are written, and then the status line, of which a write may fail
 pub record EndsByCause (plan : Plan) (file file_now : SourceState) (out out_now : SinkState) (result : Status) : Type 0 where
   pub bytes : List ℕ
-  pub extra : List ℕ
-  pub read : HasReadOf most_of_a_log file file_now bytes extra
   pub due : Reach
-  pub cause : Cause most_of_a_log due (bad_line bytes) file file_now bytes extra
+  pub read : ReadsLines due most_of_a_log file file_now bytes (bad_line bytes)
   pub between : SinkState
   pub lines : WritesAll out between (log_text plan bytes)
   pub written : Answers (status_of (ending_at (Feed 0) due)) result between out_now (status_line (ending_at (Feed 0) due))
@@ -34,8 +33,7 @@ pub record EndsByCause (plan : Plan) (file file_now : SourceState) (out out_now 
 -- a write failed in these lines, and nothing was read or written after it
 pub record EndsByWriting (plan : Plan) (file file_now : SourceState) (out out_now : SinkState) (result : Status) : Type 0 where
   pub bytes : List ℕ
-  pub read : HasReadOf most_of_a_log file file_now bytes []
-  pub no_fault : file_now.faults ≡ file.faults
+  pub read : HasReadFront most_of_a_log file file_now bytes
   pub answer : result ≡ WriteFault
   pub written : WritesFront out out_now (log_text plan bytes)
 

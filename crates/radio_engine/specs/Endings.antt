@@ -1,9 +1,10 @@
 -- How a command ends: its status with the number of it, and the status line. The numbers and lines are this project's own.
 use Rattle.std.specs.Prelude.{ℕ, List, ◌++◌, codes, decimal}
+use Rattle.file_reader.specs.declared.reader.FileEnd.TheVariants as file
 use Rattle.radio_engine.specs.declared.ending.Ending.{Ending}
 use Rattle.radio_engine.specs.declared.ending.Ending.TheVariants.{Whole, WrongWords, NotOpened, NotRead, WrongLine, Full, NoMemory, Long}
 use Rattle.radio_engine.specs.declared.reading.Reach.{Reach}
-use Rattle.radio_engine.specs.declared.reading.Reach.TheVariants.{ToEnd, ToFault, ToBadLine, ToLimit}
+use Rattle.radio_engine.specs.declared.reading.Reach.TheVariants.{AtEnd, AtBadLine}
 use Rattle.radio_engine.specs.declared.ending.status.Status.{Status}
 use Rattle.radio_engine.specs.declared.ending.status.Status.TheVariants.{Done, Usage, OpenFault, Station, ReadFault, BadLine, JournalFull, LinkFault, WriteFault, Memory, TooLong}
 use Rattle.radio_engine.specs.declared.ending.subject.Subject.{Subject}
@@ -61,7 +62,7 @@ status_line (Long what) = codes "status 10 long " ++ name_of what ++ codes "\n"
 
 -- how a command ends that has read a file so far
 abbrev pub ending_at : Subject → Reach → Ending
-ending_at what ToEnd = Whole
-ending_at what ToFault = NotRead what
-ending_at what (ToBadLine line) = WrongLine what line
-ending_at what ToLimit = Long what
+ending_at what (AtEnd file.Whole) = Whole
+ending_at what (AtEnd file.Fault) = NotRead what
+ending_at what (AtEnd file.TooLong) = Long what
+ending_at what (AtBadLine line) = WrongLine what line

@@ -1,26 +1,23 @@
--- Scaffolding: what private functions keep of a station file, and what they say of one opening alone.
-use Rattle.std.specs.Prelude.{ℕ, ◌⊎◌, None, Some, List, [], ◌∷◌, take, Result, MatchResult}
+-- Scaffolding: what private functions say of one opening alone.
+use Rattle.std.specs.Prelude.{ℕ, ◌⊎◌, None, Some, List, [], ◌∷◌, Result, MatchResult}
 use Rattle.feed_link.specs.Told.{SourceState, SinkState}
 use Rattle.feed_link.specs.Openings.{OutsideState, MakesOpenings, log_visit}
 use Rattle.feed_link.specs.Openings.Wanted.{LogOf}
-use Rattle.file_reader.specs.declared.end.FileEnd.{FileEnd}
+use Rattle.file_reader.specs.Ends.{EndsReading}
+use Rattle.file_reader.specs.declared.reader.FileEnd.{FileEnd}
 use Rattle.station_config.specs.Station.{StationFields}
 use Rattle.radio_engine.specs.Opening.{CannotOpen}
 use Rattle.radio_engine.specs.Replaying.{Replays}
-use Rattle.radio_engine.specs.StationFile.{HasLoaded}
+use Rattle.radio_engine.specs.StationFile.{most_of_a_station}
 use Rattle.radio_engine.specs.declared.ending.status.Status.{Status}
 use Rattle.radio_engine.specs.declared.ending.subject.Subject.TheVariants.{Script}
-use Rattle.radio_engine.specs.declared.station_file.text.StationText.{StationText}
-
-abbrev pub bytes_of : StationText → List ℕ
-bytes_of t = take t.length t.text.items
 
 -- the station file was opened once, read and given back
 pub record OpensStation (name : List ℕ) (outside outside_now : OutsideState) (end : FileEnd) (bytes : List ℕ) : Type 0 where
   pub opened : SourceState
   pub back : SourceState
   pub opens : MakesOpenings (LogOf name ∷ []) outside outside_now (log_visit name opened back ∷ []) None
-  pub loaded : HasLoaded opened back end bytes
+  pub read : EndsReading end most_of_a_station opened back bytes
 
 -- or it couldn't be opened
 abbrev pub TriesStation : {E : Type 0} → List ℕ → OutsideState → OutsideState → List ℕ → Result FileEnd E → Type 0

@@ -4,6 +4,8 @@ use Rattle.feed_link.specs.Faults.{Rose}
 use Rattle.feed_link.specs.Told.{SourceState, SinkState}
 use Rattle.feed_link.specs.Openings.{Opening, OutsideState, Wanted, MakesOpenings, log_visit, visited}
 use Rattle.feed_link.specs.Openings.Wanted.{LogOf}
+use Rattle.file_reader.specs.Ends.{HasReadFront}
+use Rattle.file_reader.specs.declared.reader.FileEnd.TheVariants.{Whole, Fault, TooLong}
 use Rattle.script_line.specs.declared.line.ScriptLine.{ScriptLine}
 use Rattle.script_player.specs.Replay.{is_full, page_after}
 use Rattle.script_player.specs.Texts.{replay_text}
@@ -11,7 +13,7 @@ use Rattle.station_config.specs.Station.{StationFields}
 use Rattle.tick_units.specs.Log.{has_tail}
 use Rattle.radio_engine.specs.Endings.{status_of, status_line, ending_at}
 use Rattle.radio_engine.specs.Opening.{CannotOpen}
-use Rattle.radio_engine.specs.Reading.{HasReadOf, Cause}
+use Rattle.radio_engine.specs.Reading.{ReadsLines}
 use Rattle.radio_engine.specs.Script.{HasLines}
 use Rattle.radio_engine.specs.StationFile.{IsStation, HasStation, EndsAtStation}
 use Rattle.radio_engine.specs.Text.{page_text}
@@ -22,7 +24,7 @@ use Rattle.radio_engine.specs.declared.ending.status.Status.{Status}
 use Rattle.radio_engine.specs.declared.ending.status.Status.TheVariants.{WriteFault}
 use Rattle.radio_engine.specs.declared.ending.subject.Subject.TheVariants.{Script, Station}
 use Rattle.radio_engine.specs.declared.reading.Reach.{Reach}
-use Rattle.radio_engine.specs.declared.reading.Reach.TheVariants.{ToEnd, ToFault, ToBadLine, ToLimit}
+use Rattle.radio_engine.specs.declared.reading.Reach.TheVariants.{AtEnd, AtBadLine}
 
 -- a script has at most 2^26 bytes
 abbrev pub most_of_a_script : ℕ
@@ -31,24 +33,21 @@ most_of_a_script = 2 ^ 26
 -- how a command ends that has played a script so far, where entries were lost or not: of two causes the one with the least
 -- number is told
 abbrev pub replay_ending : Reach → Bool → ℕ → Ending
-replay_ending ToFault lost limit = ending_at Script ToFault
-replay_ending (ToBadLine line) lost limit = ending_at Script (ToBadLine line)
-replay_ending ToEnd true limit = Full limit
-replay_ending ToEnd false limit = ending_at Script ToEnd
-replay_ending ToLimit true limit = Full limit
-replay_ending ToLimit false limit = ending_at Script ToLimit
+replay_ending reach false limit = ending_at Script reach
+replay_ending (AtEnd Whole) true limit = Full limit
+replay_ending (AtEnd Fault) true limit = ending_at Script (AtEnd Fault)
+replay_ending (AtEnd TooLong) true limit = Full limit
+replay_ending (AtBadLine line) true limit = ending_at Script (AtBadLine line)
 
 -- the reading ended by itself: what the lines give is written, and then the page of the entries kept and the status line, of
 -- which a write may fail
 pub record EndsPlaying (station : StationFields) (limit : ℕ) (file file_now : SourceState) (out out_now : SinkState) (result : Status) : Type 0 where
   pub bytes : List ℕ
-  pub extra : List ℕ
-  pub read : HasReadOf most_of_a_script file file_now bytes extra
   pub lines : List ScriptLine
   pub bad : Option ℕ
   pub lawful : HasLines station bytes lines bad
   pub reach : Reach
-  pub cause : Cause most_of_a_script reach bad file file_now bytes extra
+  pub read : ReadsLines reach most_of_a_script file file_now bytes bad
   pub due : Ending
   pub due_is : due ≡ replay_ending reach (is_full station limit lines) limit
   pub between : SinkState
@@ -60,8 +59,7 @@ pub record EndsPlaying (station : StationFields) (limit : ℕ) (file file_now : 
 pub record StopsPlaying (station : StationFields) (limit : ℕ) (file file_now : SourceState) (out out_now : SinkState) (result : Status) : Type 0 where
   pub bytes : List ℕ
   pub behind : List ℕ
-  pub read : HasReadOf most_of_a_script file file_now (bytes ++ behind) []
-  pub no_fault : file_now.faults ≡ file.faults
+  pub read : HasReadFront most_of_a_script file file_now (bytes ++ behind)
   pub lines : List ScriptLine
   pub lawful : HasLines station bytes lines None
   pub answer : result ≡ WriteFault

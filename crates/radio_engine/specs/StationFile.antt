@@ -2,9 +2,9 @@
 use Rattle.std.specs.Prelude.{◌≡◌, ℕ, ◌⊎◌, ◌^◌, IsSome, Some, None, List, [], ◌∷◌, ◌++◌, codes, decimal}
 use Rattle.feed_link.specs.Told.{SourceState, SinkState}
 use Rattle.feed_link.specs.Openings.{OutsideState, Wanted, MakesOpenings, log_visit}
-use Rattle.file_reader.specs.Reading.{EndsReading}
-use Rattle.file_reader.specs.declared.end.FileEnd.{FileEnd}
-use Rattle.file_reader.specs.declared.end.FileEnd.TheVariants as file
+use Rattle.file_reader.specs.Ends.{EndsReading}
+use Rattle.file_reader.specs.declared.reader.FileEnd.{FileEnd}
+use Rattle.file_reader.specs.declared.reader.FileEnd.TheVariants as file
 use Rattle.station_config.specs.Faults.{Says, Refuses as RefusesStation}
 use Rattle.station_config.specs.Station.{StationFields}
 use Rattle.station_config.specs.declared.fault.StationFault.{StationFault}
@@ -21,10 +21,6 @@ use Rattle.radio_engine.specs.declared.station_file.obstacle.Obstacle.TheVariant
 -- a station file has at most 2^16 bytes
 abbrev pub most_of_a_station : ℕ
 most_of_a_station = 2 ^ 16
-
--- these bytes were read of a station file, and the reading ended so
-abbrev pub HasLoaded : SourceState → SourceState → FileEnd → List ℕ → Type 0
-HasLoaded file file_now end bytes = (extra : List ℕ) × EndsReading most_of_a_station end file file_now bytes extra
 
 -- the status line of a station with a fault
 abbrev pub many_line : List ℕ → ℕ → List ℕ
@@ -70,7 +66,7 @@ pub record EndsAtStation (needed : List Wanted) (name : List ℕ) (outside outsi
   pub opens : MakesOpenings needed outside outside_now (log_visit name opened back ∷ []) None
   pub end : FileEnd
   pub bytes : List ℕ
-  pub loaded : HasLoaded opened back end bytes
+  pub read : EndsReading end most_of_a_station opened back bytes
   pub due : Obstacle
   pub cause : IsObstacle end bytes due
   pub written : Answers (status_at due) result out out_now (line_at due)
@@ -78,7 +74,7 @@ pub record EndsAtStation (needed : List Wanted) (name : List ℕ) (outside outsi
 -- the station file was read to its end, and this is the station that it says
 pub record HasStation (opened back : SourceState) (of : StationFields) : Type 0 where
   pub bytes : List ℕ
-  pub loaded : HasLoaded opened back file.Whole bytes
+  pub read : EndsReading file.Whole most_of_a_station opened back bytes
   pub says : Says bytes of
 
 -- a file that says a station, and that told its bytes before and after

@@ -2,15 +2,20 @@
 -- it has given for them, and for their first bad line.
 use Rattle.std.specs.Prelude.{◌≡◌, ℕ, ◌≤◌, Option, None, Some, List, [], ◌++◌, take, Result, MatchResult}
 use Rattle.feed_link.specs.Told.{SourceState, SinkState}
-use Rattle.journal_entry.specs.Writing.{line_room}
-use Rattle.radio_engine.specs.Reading.{HasReadOf, Cause}
+use Rattle.file_reader.specs.declared.reader.FileEnd.TheVariants.{Whole, Fault, TooLong}
+use Rattle.file_reader.specs.Ends.{HasReadFront}
+use Rattle.radio_engine.specs.Reading.{ReadsLines}
 use Rattle.radio_engine.specs.Writing.{WritesAll, WritesFront}
 use Rattle.radio_engine.specs.declared.reading.Gives.{Gives}
 use Rattle.radio_engine.specs.declared.reading.Gives.TheVariants.{Nothing, Text, Bad}
 use Rattle.radio_engine.specs.declared.reading.Reach.{Reach}
-use Rattle.radio_engine.specs.declared.reading.Reach.TheVariants.{ToEnd, ToFault, ToBadLine, ToLimit}
+use Rattle.radio_engine.specs.declared.reading.Reach.TheVariants.{AtEnd, AtBadLine}
 use Rattle.radio_engine.specs.declared.reading.Taken.{Taken}
 use Rattle.radio_engine.specs.declared.reading.Taken.TheVariants as taken
+
+-- the room of a line
+abbrev pub line_room : ℕ
+line_room = 256
 
 abbrev pub Holds : Type 1
 Holds = List ℕ → List ℕ → Option ℕ → Type 0
@@ -39,10 +44,10 @@ IsGiven taken.Stopped gives line out out_now = (bad_of gives ≡ None) × Writes
 
 -- how far a reading came that came to the end of a file with this bad line, if any
 abbrev pub EndsAt : Reach → Option ℕ → Type 0
-EndsAt ToEnd bad = bad ≡ None
-EndsAt ToFault bad = ⊥
-EndsAt (ToBadLine line) bad = bad ≡ Some line
-EndsAt ToLimit bad = ⊥
+EndsAt (AtEnd Whole) bad = bad ≡ None
+EndsAt (AtEnd Fault) bad = ⊥
+EndsAt (AtEnd TooLong) bad = ⊥
+EndsAt (AtBadLine line) bad = bad ≡ Some line
 
 -- all of a piece was taken, or its bytes up to a bad line, and the text of them is written since the start; or a write of it failed
 pub record TakesAll (holds : Holds) (start out : SinkState) (bytes : List ℕ) : Type 0 where
@@ -76,13 +81,11 @@ TakesPiece holds taken.Stopped start out bytes = Stops holds start out bytes
 pub record EndsItself (holds : Holds) (limit : ℕ) (file file_now : SourceState) (out out_now : SinkState) (reach : Reach) : Type 0 where
   pub front : List ℕ
   pub behind : List ℕ
-  pub extra : List ℕ
   pub text : List ℕ
   pub bad : Option ℕ
-  pub read : HasReadOf limit file file_now (front ++ behind) extra
   pub held : holds front text bad
   pub none_behind : bad ≡ None → behind ≡ []
-  pub cause : Cause limit reach bad file file_now (front ++ behind) extra
+  pub read : ReadsLines reach limit file file_now (front ++ behind) bad
   pub written : WritesAll out out_now text
 
 -- a write failed in the text of the bytes taken
@@ -90,8 +93,7 @@ pub record EndsStopped (holds : Holds) (limit : ℕ) (file file_now : SourceStat
   pub front : List ℕ
   pub behind : List ℕ
   pub text : List ℕ
-  pub read : HasReadOf limit file file_now (front ++ behind) []
-  pub no_fault : file_now.faults ≡ file.faults
+  pub read : HasReadFront limit file file_now (front ++ behind)
   pub held : holds front text None
   pub written : WritesFront out out_now text
 

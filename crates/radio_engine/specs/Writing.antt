@@ -2,8 +2,8 @@
 use Rattle.std.specs.Prelude.{◌≡◌, ℕ, ◌⊎◌, List, ◌++◌}
 use Rattle.feed_link.specs.Faults.{Rose}
 use Rattle.feed_link.specs.Told.{SinkState, Adds}
-use Rattle.radio_engine.specs.declared.status.Status.{Status}
-use Rattle.radio_engine.specs.declared.status.Status.TheVariants.{WriteFault}
+use Rattle.radio_engine.specs.declared.ending.status.Status.{Status}
+use Rattle.radio_engine.specs.declared.ending.status.Status.TheVariants.{WriteFault}
 
 -- a text is a front of another
 abbrev pub IsFrontOf : List ℕ → List ℕ → Type 0

@@ -1,25 +1,17 @@
 //! What the station does: the one call that the program makes, from its words to its status.
 #![tactic(auto)]
 
-mod decoder;
-mod decoding;
+mod decode;
 mod ending;
-mod file;
-mod loading;
-mod obstacle;
 mod rack;
 mod reading;
 mod replay;
-mod replayer;
-mod station;
-mod station_text;
-mod status;
-mod text;
-mod writing;
+mod run;
+mod station_file;
 
+pub use ending::status::Status;
 pub use rack::put_in_rack;
-pub use station::run_station;
-pub use status::Status;
+pub use run::{end_without_memory, run_station};
 
 #[cfg(test)]
 mod fault_tests;

@@ -7,18 +7,19 @@ use crate::ending::Ending;
 use crate::ending::subject::Subject;
 use crate::ending::writing::write_all;
 use feed_link::{Failed, Sink};
-use journal_entry::LINE_ROOM;
+use file_reader::FileEnd;
+
+// The room of a line.
+pub const LINE_ROOM: usize = 256;
 
 // A line that is written, in its room.
 pub type Line = [u8; LINE_ROOM];
 
-// How far the reading of a file came: to its end, to a read that failed, to a bad line, or to the limit of its bytes.
+// How far the reading of a file of lines came: until its reading ended, or to a bad line.
 #[derive(Clone, Copy, Debug)]
 pub enum Reach {
-    ToEnd,
-    ToFault,
-    ToBadLine(u64),
-    ToLimit,
+    AtEnd(FileEnd),
+    AtBadLine(u64),
 }
 
 // How a command ends that has read a file so far.
@@ -26,10 +27,10 @@ pub fn ending_at(subject: Subject, reach: Reach) -> Ending
     ensures { result ≡ ending_at subject reach }
 {
     match reach {
-        Reach::ToEnd => Ending::Whole,
-        Reach::ToFault => Ending::NotRead(subject),
-        Reach::ToBadLine(line) => Ending::WrongLine(subject, line),
-        Reach::ToLimit => Ending::Long(subject),
+        Reach::AtEnd(FileEnd::Whole) => Ending::Whole,
+        Reach::AtEnd(FileEnd::Fault) => Ending::NotRead(subject),
+        Reach::AtEnd(FileEnd::TooLong) => Ending::Long(subject),
+        Reach::AtBadLine(line) => Ending::WrongLine(subject, line),
     }
 }
 

@@ -2,8 +2,8 @@
 ghost use Rattle.std.specs.Prelude.{◌≡◌, ◌≤◌, ◌^◌, ◌⊎◌, ℕ, [], Some, None, IfOk, MatchResult};
 ghost use Rattle.feed_link.specs.Openings.{MakesOpenings};
 ghost use Rattle.feed_link.specs.Openings.Wanted.{LogOf};
-ghost use Rattle.file_reader.specs.declared.end.FileEnd.TheVariants.{Whole};
-ghost use Rattle.radio_engine.specs.Keeping.{TriesScript, bytes_of};
+ghost use Rattle.file_reader.specs.declared.reader.FileEnd.TheVariants.{Whole};
+ghost use Rattle.radio_engine.specs.Keeping.{TriesScript};
 ghost use Rattle.radio_engine.specs.Playing.{IsPlayedBy};
 ghost use Rattle.radio_engine.specs.Replaying.{Replays, RunsReplay, replay_ending};
 ghost use Rattle.radio_engine.specs.Run.{Lacks};
@@ -21,8 +21,7 @@ use crate::ending::subject::Subject;
 use crate::ending::writing::finish;
 use crate::reading::{Reach, ending_at};
 use crate::station_file::obstacle::{Obstacle, finish_at};
-use crate::station_file::text::StationText;
-use crate::station_file::{judge, open_station};
+use crate::station_file::{self, judge, open_station};
 use feed_link::{Failed, Outside, Sink, Source};
 use file_reader::FileEnd;
 use radio_receiver::Receiver;
@@ -35,8 +34,7 @@ fn replay_ending(reach: Reach, lost: bool, limit: u32) -> Ending
     ensures { result ≡ replay_ending reach lost limit }
 {
     match reach {
-        Reach::ToEnd if lost => Ending::Full(limit),
-        Reach::ToLimit if lost => Ending::Full(limit),
+        Reach::AtEnd(FileEnd::Whole | FileEnd::TooLong) if lost => Ending::Full(limit),
         reach => ending_at(Subject::Script, reach),
     }
 }
@@ -139,13 +137,13 @@ pub fn run_replay<O: Outside, K: Sink>(
     ensures { Lacks (O.state outside.old) (O.state outside.new) (K.state out.old) (K.state out.new) result
         ⊎ RunsReplay station.now script.now limit (O.state outside.old) (O.state outside.new) (K.state out.old) (K.state out.new) result }
 {
-    let Ok(mut text) = StationText::new(alloc) else {
+    let Ok(mut text) = Vec::with_capacity(alloc, station_file::LIMIT) else {
         return finish(Ending::NoMemory, out);
     };
     let Ok(end) = open_station(station, &mut text, outside) else {
         return finish(Ending::NotOpened(Subject::Station), out);
     };
-    match prepare(alloc, end, text.bytes(), rack, limit) {
+    match prepare(alloc, end, text.as_slice(), rack, limit) {
         Ok(player) => open_and_play(script, player, limit, outside, out),
         Err(obstacle) => finish_at(&obstacle, out),
     }

@@ -2,7 +2,10 @@
 ghost use Rattle.std.specs.Prelude.{◌≡◌, ◌≤◌, ◌^◌, ◌⊎◌, map};
 ghost use Rattle.command_words.specs.Commands.{Asked, AskFor};
 ghost use Rattle.feed_link.specs.Faults.{Rose};
+ghost use Rattle.radio_engine.specs.Endings.{status_of, status_line};
 ghost use Rattle.radio_engine.specs.Run.{Refuses, Lacks, Runs, IsFaultless};
+ghost use Rattle.radio_engine.specs.Writing.{Answers};
+ghost use Rattle.radio_engine.specs.declared.ending.Ending.TheVariants.{NoMemory};
 ghost use Rattle.script_player.specs.Standing.{IsRack};
 
 use crate::decode::open_and_decode;

@@ -1,52 +1,38 @@
 //! The station file: it is opened, read whole and given back, and its station is judged.
-ghost use Rattle.std.specs.Prelude.{◌≡◌, MatchResult};
-ghost use Rattle.file_reader.specs.declared.end.FileEnd.TheVariants.{Whole};
-ghost use Rattle.radio_engine.specs.Keeping.{bytes_of, TriesStation};
-ghost use Rattle.radio_engine.specs.StationFile.{IsObstacle, HasLoaded};
+ghost use Rattle.std.specs.Prelude.{◌≡◌, ◌≤◌, [], MatchResult, vec_capacity};
+ghost use Rattle.file_reader.specs.declared.reader.FileEnd.TheVariants.{Whole};
+ghost use Rattle.radio_engine.specs.Keeping.{TriesStation};
+ghost use Rattle.radio_engine.specs.StationFile.{IsObstacle};
 ghost use Rattle.station_config.specs.Faults.{Says};
 
 pub mod obstacle;
-pub mod text;
 
 use crate::ending::Ending;
 use crate::ending::subject::Subject;
-use feed_link::{Failed, Outside, Source};
-use file_reader::{FileEnd, FileReader, Pulled};
+use feed_link::{Failed, Outside};
+use file_reader::{FileEnd, read_whole};
 use obstacle::Obstacle;
 use station_config::{Station, StationFault, read_station};
 use std::alloc::Global;
-use text::{LIMIT, StationText};
 
-// Reads a station file whole: how the reading ended.
-fn load<S: Source>(file: &mut S, text: &mut StationText) -> FileEnd
-    requires { text.old.length ≡ 0 }
-    ensures number { S.opening file.new ≡ S.opening file.old }
-    ensures loaded { HasLoaded (S.state file.old) (S.state file.new) result (bytes_of text.new) }
-{
-    let mut reader = FileReader::new(LIMIT);
-    'pieces: loop {
-        match reader.pull(file) {
-            Pulled::Bytes(piece) => text.add(piece),
-            Pulled::End => return FileEnd::Whole,
-            Pulled::Fault => return FileEnd::Fault,
-            Pulled::TooLong => return FileEnd::TooLong,
-        }
-    }
-}
+// The most bytes of a station file.
+pub const LIMIT: usize = 1 << 16;
 
-// Opens a station file, reads it whole and gives it back: how the reading ended, or that the opening failed.
+// Opens a station file, reads it whole into a text for which there is room, and gives it back: how the reading ended, or that the
+// opening failed.
 pub fn open_station<O: Outside>(
     name: &str,
-    text: &mut StationText,
+    text: &mut Vec<u8>,
     outside: &mut O,
 ) -> Result<FileEnd, Failed>
-    requires { text.old.length ≡ 0 }
-    ensures { TriesStation name.now (O.state outside.old) (O.state outside.new) (bytes_of text.new) result }
+    requires empty { text.old.items ≡ [] }
+    requires room { 65536 ≤ vec_capacity text.old }
+    ensures { TriesStation name.now (O.state outside.old) (O.state outside.new) text.new.items result }
 {
     let Ok(mut file) = outside.open_log(name) else {
         return Err(Failed);
     };
-    let end = load(&mut file, text);
+    let end = read_whole(&mut file, LIMIT, text);
     outside.give_back_log(file);
     Ok(end)
 }

@@ -1,6 +1,6 @@
 //! The line of a page, and the status line behind it.
 ghost use Rattle.std.specs.Prelude.{◌≡◌, ◌≤◌, ◌++◌, take};
-ghost use Rattle.journal_entry.specs.Writing.{line_room};
+ghost use Rattle.radio_engine.specs.Taking.{line_room};
 ghost use Rattle.radio_engine.specs.Endings.{status_of, status_line};
 ghost use Rattle.radio_engine.specs.Text.{page_text};
 ghost use Rattle.radio_engine.specs.Writing.{Answers};
@@ -8,10 +8,10 @@ ghost use Rattle.radio_engine.specs.Writing.{Answers};
 use super::Ending;
 use super::status::Status;
 use super::writing::{finish, write_all};
-use crate::reading::Line;
+use crate::reading::{LINE_ROOM, Line};
 use clock_page::Page;
 use feed_link::{Failed, Sink};
-use journal_entry::LINE_ROOM;
+
 use system_fold::page_text;
 
 // Writes the line of a page at the front of `line`. The answer is its number of bytes.

@@ -9,11 +9,11 @@ use arrayvec::ArrayVec;
 use itoa::Buffer;
 
 // A status line that names no key of a station file, with its line feed.
-pub type Line = ArrayVec<u8, 64>;
+pub type Line = ArrayVec<u8, 80>;
 
 // Adds a text to a line.
 fn add(line: &mut Line, text: &[u8])
-    requires { array_vec_len line.old + length text.now ≤ 64 }
+    requires { array_vec_len line.old + length text.now ≤ 80 }
     ensures { line.new.items ≡ line.old.items ++ text.now }
 {
     let _ = line.try_extend_from_slice(text);
@@ -21,7 +21,7 @@ fn add(line: &mut Line, text: &[u8])
 
 // Adds a number in decimal to a line.
 fn add_number(line: &mut Line, number: u64)
-    requires { array_vec_len line.old + 20 ≤ 64 }
+    requires { array_vec_len line.old + 20 ≤ 80 }
     ensures text { line.new.items ≡ line.old.items ++ decimal number }
     ensures short { array_vec_len line.new ≤ array_vec_len line.old + 20 }
 {
@@ -31,9 +31,9 @@ fn add_number(line: &mut Line, number: u64)
 
 // A line of these two texts.
 fn joined(first: &[u8], second: &[u8]) -> Line
-    requires { length first.now + length second.now ≤ 20 }
+    requires { length first.now + length second.now ≤ 30 }
     ensures text { result.items ≡ first.now ++ second.now }
-    ensures short { array_vec_len result ≤ 20 }
+    ensures short { array_vec_len result ≤ 30 }
 {
     let mut line = Line::new();
     add(&mut line, first);
@@ -43,9 +43,9 @@ fn joined(first: &[u8], second: &[u8]) -> Line
 
 // A text, then a word and a number.
 fn counted(front: &[u8], word: &[u8], number: u32) -> Line
-    requires { length front.now + length word.now ≤ 20 }
+    requires { length front.now + length word.now ≤ 30 }
     ensures text { result.items ≡ front.now ++ word.now ++ decimal number }
-    ensures short { array_vec_len result ≤ 40 }
+    ensures short { array_vec_len result ≤ 50 }
 {
     let mut line = joined(front, word);
     add_number(&mut line, u64::from(number));
@@ -56,7 +56,7 @@ fn counted(front: &[u8], word: &[u8], number: u32) -> Line
 fn named(front: &[u8], subject: Subject) -> Line
     requires { length front.now ≤ 15 }
     ensures text { result.items ≡ front.now ++ name_of subject }
-    ensures short { array_vec_len result ≤ 40 }
+    ensures short { array_vec_len result ≤ 50 }
 {
     match subject {
         Subject::Station => joined(front, b"station"),
@@ -71,7 +71,7 @@ fn named(front: &[u8], subject: Subject) -> Line
 fn placed(front: &[u8], subject: Subject) -> Line
     requires { length front.now ≤ 15 }
     ensures text { result.items ≡ front.now ++ place_of subject }
-    ensures short { array_vec_len result ≤ 40 }
+    ensures short { array_vec_len result ≤ 50 }
 {
     match subject {
         Subject::Feed(number) => counted(front, b"line ", number),
@@ -91,7 +91,7 @@ fn ended(line: Line) -> Line
 
 // A line that ends with a number.
 fn numbered(line: Line, number: u64) -> Line
-    requires { array_vec_len line ≤ 40 }
+    requires { array_vec_len line ≤ 50 }
     ensures { result.items ≡ line.items ++ codes " " ++ decimal number ++ codes "\n" }
 {
     let mut line = line;

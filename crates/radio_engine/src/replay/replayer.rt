@@ -1,8 +1,7 @@
 //! The lines of a script are cut out of its bytes and played, one after the other.
 ghost use Rattle.std.specs.Prelude.{◌≡◌, ◌+◌, ◌<◌, ◌≤◌, ◌^◌, ◌++◌, ◌∷◌, ℕ, List, [], None, Some, length, take, MatchResult};
 ghost use Rattle.feed_link.specs.Told.{SinkState};
-ghost use Rattle.file_reader.specs.Reading.{room_of};
-ghost use Rattle.journal_entry.specs.Writing.{line_room};
+ghost use Rattle.radio_engine.specs.Taking.{line_room};
 ghost use Rattle.radio_engine.specs.Playing.{IsPlayedBy, IsPlayedLine, PlaysNext};
 ghost use Rattle.radio_engine.specs.Reading.{bad_in_the_end};
 ghost use Rattle.radio_engine.specs.Taking.{Fits, given, bad_of, EndsAt, TakesPiece, EndsTaking};
@@ -12,10 +11,10 @@ ghost use Rattle.script_line.specs.declared.line.ScriptLine.{ScriptLine};
 ghost use Rattle.script_player.specs.Standing.{HasPlayed, IsReady};
 ghost use Rattle.station_config.specs.Station.{StationFields};
 
-use crate::reading::{Gives, Line, Reach, Taken, Took, write_given};
+use crate::reading::{Gives, LINE_ROOM, Line, Reach, Taken, Took, write_given};
 use feed_link::{Failed, Sink, Source};
-use file_reader::{FileReader, Pulled};
-use journal_entry::LINE_ROOM;
+use file_reader::{FileEnd, FileReader, Pulled};
+
 use radio_receiver::Receiver;
 use script_line::{Cut, LineCutter, read_line};
 use script_player::{BoxedReceiver, NotLawful, Player, write_outcome};
@@ -125,9 +124,9 @@ impl Replayer<BoxedReceiver> {
             EndsAt result (bad_in_the_end None bytes) }
     {
         if self.cutter.has_tail() {
-            Reach::ToBadLine(self.lines + 1)
+            Reach::AtBadLine(self.lines + 1)
         } else {
-            Reach::ToEnd
+            Reach::AtEnd(FileEnd::Whole)
         }
     }
 }
@@ -170,14 +169,14 @@ pub fn read_script<S: Source, K: Sink>(
     let mut reader = FileReader::new(LIMIT);
     'pieces: loop {
         match reader.pull(script) {
-            Pulled::Bytes(piece) => match play_piece(replayer, piece, out) {
+            Pulled::Piece => match play_piece(replayer, reader.piece(), out) {
                 Taken::All => {}
-                Taken::Bad(number) => return Ok(Reach::ToBadLine(number)),
+                Taken::Bad(number) => return Ok(Reach::AtBadLine(number)),
                 Taken::Stopped => return Err(Failed),
             },
-            Pulled::End => return Ok(replayer.at_end()),
-            Pulled::Fault => return Ok(Reach::ToFault),
-            Pulled::TooLong => return Ok(Reach::ToLimit),
+            Pulled::Ended(FileEnd::Whole) => return Ok(replayer.at_end()),
+            Pulled::Ended(FileEnd::Fault) => return Ok(Reach::AtEnd(FileEnd::Fault)),
+            Pulled::Ended(FileEnd::TooLong) => return Ok(Reach::AtEnd(FileEnd::TooLong)),
         }
     }
 }

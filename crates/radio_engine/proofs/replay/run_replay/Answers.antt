@@ -1,19 +1,19 @@
-use Rattle.std.proofs.Common.{ℕ, List, inl, inr, subst}
-use Rattle.radio_engine.specs.Loading.{IsObstacle, bytes_of}
-use Rattle.radio_engine.proofs.LoadingLaws.{no_bad, told_by}
+use Rattle.std.proofs.Common.{ℕ, List, inr, subst}
+use Rattle.file_reader.specs.declared.reader.FileEnd.{FileEnd}
+use Rattle.station_config.specs.Faults.{Says}
+use Rattle.radio_engine.specs.Keeping.{OpensStation}
+use Rattle.radio_engine.specs.StationFile.{IsObstacle}
+use Rattle.radio_engine.proofs.ReplayRunLaws.{ends_at, script_tried}
+use Rattle.radio_engine.proofs.StationFileLaws.{told_by}
 use Rattle.radio_engine.proofs.replay.run_replay.Goals as goal
+
+pub returns-in-Ok-prepare : goal.returns-in-Ok-prepare
+returns-in-Ok-prepare g c =
+    let judged = c.in-Ok-prepare.ensures.judged in
+    let opens = subst (λ (end : FileEnd). OpensStation c.args.station.now (g.O.Outside.state c.args.outside.now) (g.O.Outside.state c.open_station.new.outside) end c.open_station.new.text.items) judged.0 c.in-Ok-open_station.ensures in
+    inr (script_tried c.args.station.now c.args.script.now c.args.limit _ _ _ _ _ _ _ judged.1.0 opens (subst (λ (b : List ℕ). Says b judged.1.0) c.as_slice.ensures.value judged.1.1) (c.open_and_play.ensures judged.1.0 judged.1.2))
 
 pub returns : goal.returns
 returns g c =
-    let reach = c.in-Ok-open_station.reach in
-    let due = c.in-Err.obstacle in
-    let opens = c.in-Ok-open_station.ensures in
-    let cause = subst (λ (b : List ℕ). IsObstacle reach b due) c.bytes.ensures (c.in-Err.ensures.judged (no_bad opens.opened opens.back reach _ opens.loaded)) in
-    inr (inr (inl (record {
-      reach = reach;
-      bytes = bytes_of c.open_station.new.text;
-      opens = opens;
-      due = due;
-      cause = cause;
-      written = c.finish_at.ensures (told_by reach _ due cause);
-    })))
+    let cause = subst (λ (b : List ℕ). IsObstacle c.in-Ok-open_station.end b c.in-Err.obstacle) c.as_slice.ensures.value c.in-Err.ensures.judged in
+    inr (ends_at c.args.station.now c.args.script.now c.args.limit _ _ _ _ _ c.in-Ok-open_station.end _ c.in-Err.obstacle c.in-Ok-open_station.ensures cause (c.finish_at.ensures (told_by c.in-Ok-open_station.end _ c.in-Err.obstacle cause)))

@@ -1,7 +1,7 @@
 use Rattle.std.proofs.Common.{◌++◌, take, drop, ap, sym, ◌∙◌, append_assoc}
 use Rattle.std.proofs.lemmas.List.{take-append-drop}
 use Rattle.radio_engine.proofs.WritingLaws.{writes_more}
-use Rattle.radio_engine.proofs.writing.write_all.Goals as goal
+use Rattle.radio_engine.proofs.ending.writing.write_all.Goals as goal
 
 pub rest-preserved : goal.rest-preserved
 rest-preserved g c =

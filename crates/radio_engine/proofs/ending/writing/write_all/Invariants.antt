@@ -1,6 +1,6 @@
 use Rattle.std.proofs.Common.{◌≡◌, ℕ, List, ◌++◌, length}
 use Rattle.radio_engine.specs.Writing.{WritesAll}
-use Rattle.radio_engine.proofs.writing.write_all.Given as goal
+use Rattle.radio_engine.proofs.ending.writing.write_all.Given as goal
 
 -- what was written so far is the front of the text
 abbrev pub invariant-rest : goal.invariant-rest

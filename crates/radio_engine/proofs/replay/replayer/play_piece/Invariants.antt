@@ -1,6 +1,6 @@
 use Rattle.std.proofs.Common.{◌≡◌, ◌+◌, ◌≤◌, ℕ, List, None, ◌++◌, length}
 use Rattle.feed_link.specs.Told.{SinkState}
-use Rattle.journal_entry.specs.Writing.{line_room}
+use Rattle.radio_engine.specs.Taking.{line_room}
 use Rattle.script_player.specs.Standing.{IsReady}
 use Rattle.station_config.specs.Station.{StationFields}
 use Rattle.radio_engine.specs.Playing.{IsPlayedBy}

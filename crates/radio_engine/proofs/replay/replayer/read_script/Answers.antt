@@ -1,75 +1,66 @@
-use Rattle.std.proofs.Common.{◌≡◌, length, take, refl, ◌∙◌, arith}
-use Rattle.std.proofs.lemmas.List.{length-take}
-use Rattle.radio_engine.proofs.ReachLaws.{ends_by_fault, ends_at_end, ends_too_long, ends_bad, ends_stopped, progress_on}
+use Rattle.std.proofs.Common.{◌≡◌, ◌^◌, ℕ, List, [], ◌++◌, length, refl, sym, ap, ◌∙◌, subst, arith}
+use Rattle.feed_link.proofs.ToldLaws.{Adds-none}
+use Rattle.file_reader.specs.Ends.{HasReadFront, EndsReading}
+use Rattle.file_reader.specs.Reader.{piece_of}
+use Rattle.file_reader.specs.declared.reader.FileEnd.TheVariants.{Whole, Fault, TooLong}
+use Rattle.radio_engine.specs.Taking.{TakesAll, MeetsBad, Stops}
+use Rattle.radio_engine.proofs.ReachLaws.{ends_whole, ends_fault, ends_long, ends_bad, ends_stopped}
 use Rattle.radio_engine.proofs.replay.replayer.read_script.Goals as goal
 
-pub returns-then-count-eq0-clause-ends : goal.returns-then-count-eq0-clause-ends
-returns-then-count-eq0-clause-ends g c = λ station limit most held.
-    let p = c.pieces.invariant.progress reading most held in
-    let size = c.pieces.invariant.size in
-    let room = c.min-room.ensures in
-    let bytes = rw c.if-count-eq0.true at c.in-Ok.ensures.bytes in
-    ends_at_end _ reading _ _ _ _ _ _ p c.at_end.result (c.at_end.ensures reading p.bytes p.text p.held) bytes.0 (bytes.1 refl (omega arith)) c.in-Ok.ensures.cause.kept
-
-pub returns-in-Bad-clause-ends : goal.returns-in-Bad-clause-ends
-returns-in-Bad-clause-ends g c = λ station limit most held.
-    let p = c.pieces.invariant.progress reading most held in
-    let len = length-take c.in-Ok.count c.read_piece.new.piece in
-    let within = c.in-Ok.ensures.within in
-    let room = c.min-room.ensures in
-    ends_bad _ reading _ _ _ _ _ _ p _ (take c.in-Ok.count c.read_piece.new.piece) _ c.in-Bad.number c.in-Ok.ensures.bytes.0 (omega arith) c.in-Ok.ensures.cause.kept
-    (c.in-Bad.ensures.takes reading p.bytes p.text _ p.held p.written)
-
-pub returns-in-Stopped-clause-ends : goal.returns-in-Stopped-clause-ends
-returns-in-Stopped-clause-ends g c = λ station limit most held.
-    let p = c.pieces.invariant.progress reading most held in
-    let len = length-take c.in-Ok.count c.read_piece.new.piece in
-    let within = c.in-Ok.ensures.within in
-    let room = c.min-room.ensures in
-    ends_stopped _ reading _ _ _ _ _ _ p _ (take c.in-Ok.count c.read_piece.new.piece) _ c.in-Ok.ensures.bytes.0 (omega arith) c.in-Ok.ensures.cause.kept
-    (c.in-Stopped.ensures.takes reading p.bytes p.text _ p.held p.written)
+pub pieces-init : goal.pieces-init
+pieces-init g c = record {
+  number = refl;
+  limit = c.new-reader.ensures.limit;
+  ready = c.requires.ready;
+  lines = (let room = c.new-reader.ensures.room in let none = c.requires.none in omega arith);
+  so_far = λ station limit h. ([], c.new-reader.ensures.start _, record { text = []; held = h; written = (Adds-none _, refl) });
+}
 
 pub pieces-preserved : goal.pieces-preserved
 pieces-preserved g c = record {
-  size = c.read_piece.auto.piece ∙ c.pieces.invariant.size;
-  number = c.in-Ok.ensures.number ∙ c.pieces.invariant.number;
-  within = (let h = c.in-Ok.ensures.within in let room = c.min-room.ensures in let lt = c.pieces-test.true in omega arith);
+  number = c.pull.ensures.number ∙ c.pieces.invariant.number;
+  limit = c.pull.ensures.limit ∙ c.pieces.invariant.limit;
   ready = c.in-All.ensures.ready;
-  taken = (let h = c.pieces.invariant.taken in let k = c.in-All.ensures.taken in let len = length-take c.in-Ok.count c.read_piece.new.piece in omega arith);
-  progress = λ station limit most held.
-      let p = c.pieces.invariant.progress reading most held in
-      let len = length-take c.in-Ok.count c.read_piece.new.piece in
-      let within = c.in-Ok.ensures.within in
-      let room = c.min-room.ensures in
-      let size = c.pieces.invariant.size in
-      progress_on _ reading _ _ _ _ _ _ p _ (take c.in-Ok.count c.read_piece.new.piece) _ c.in-Ok.count (omega arith) (omega arith) c.in-Ok.ensures.bytes.0 c.in-Ok.ensures.cause.kept
-      (c.in-All.ensures.takes reading p.bytes p.text _ p.held p.written);
+  lines = (let h = c.pieces.invariant.lines in let k = c.in-All.ensures.taken in let room = c.in-Piece.ensures.room refl in
+      let len = ap (λ (b : List ℕ). length b) c.piece.ensures.value in omega arith);
+  so_far = λ station limit h.
+      let p = c.pieces.invariant.so_far station limit h in
+      let pulled = c.in-Piece.ensures.gives _ p.0 p.1 in
+      (p.0 ++ c.piece.result.now, rw c.piece.ensures.value pulled, c.in-All.ensures.takes station limit p.0 p.2.text _ p.2.held p.2.written);
 }
 
-pub returns-in-Ok-read_piece-clause-ends : goal.returns-in-Ok-read_piece-clause-ends
-returns-in-Ok-read_piece-clause-ends g c = λ station limit most held.
-    let p = c.pieces.invariant.progress reading most held in
-    let count = c.in-Ok-read_piece.field-0 in
-    let within = c.in-Ok-read_piece.ensures.within in
-    let some = c.in-Ok-read_piece.field-0-test.1 in
-    let size = c.pieces.invariant.size in
-    let full = c.pieces-test.false in
-    let one : length (take count c.read_piece-2.new.piece) ≡ 1 = omega (arith, length-take count c.read_piece-2.new.piece) in
-    ends_too_long _ reading _ _ _ _ _ _ p (take count c.read_piece-2.new.piece) c.in-Ok-read_piece.ensures.bytes.0 one (omega arith) c.in-Ok-read_piece.ensures.cause.kept
+pub returns-in-Bad-clause-ends : goal.returns-in-Bad-clause-ends
+returns-in-Bad-clause-ends g c = λ station limit h.
+    let p = c.pieces.invariant.so_far station limit h in
+    let pulled = c.in-Piece.ensures.gives _ p.0 p.1 in
+    let same = c.pull.ensures.limit ∙ c.pieces.invariant.limit in
+    ends_bad _ (2 ^ 26) _ _ _ _ (p.0 ++ c.piece.result.now) c.in-Bad.number (c.in-Bad.ensures.takes station limit p.0 p.2.text _ p.2.held p.2.written)
+    (subst (λ (b : List ℕ). HasReadFront (2 ^ 26) (g.S.Source.state c.args.script.now) (g.S.Source.state c.pull.new.file) (p.0 ++ b)) (sym c.piece.ensures.value)
+    (subst (λ (n : ℕ). HasReadFront n (g.S.Source.state c.args.script.now) (g.S.Source.state c.pull.new.file) (p.0 ++ piece_of c.pull.new.self)) same pulled.front))
 
-pub returns-in_default-clause-ends : goal.returns-in_default-clause-ends
-returns-in_default-clause-ends g c = λ station limit most held.
-    let p = c.pieces.invariant.progress reading most held in
-    ends_by_fault _ reading _ _ _ _ _ _ p c.in_default.ensures.bytes c.in_default.ensures.cause.rose
+pub returns-in-Stopped-clause-ends : goal.returns-in-Stopped-clause-ends
+returns-in-Stopped-clause-ends g c = λ station limit h.
+    let p = c.pieces.invariant.so_far station limit h in
+    let pulled = c.in-Piece.ensures.gives _ p.0 p.1 in
+    let same = c.pull.ensures.limit ∙ c.pieces.invariant.limit in
+    ends_stopped _ (2 ^ 26) _ _ _ _ (p.0 ++ c.piece.result.now) (c.in-Stopped.ensures.takes station limit p.0 p.2.text _ p.2.held p.2.written)
+    (subst (λ (b : List ℕ). HasReadFront (2 ^ 26) (g.S.Source.state c.args.script.now) (g.S.Source.state c.pull.new.file) (p.0 ++ b)) (sym c.piece.ensures.value)
+    (subst (λ (n : ℕ). HasReadFront n (g.S.Source.state c.args.script.now) (g.S.Source.state c.pull.new.file) (p.0 ++ piece_of c.pull.new.self)) same pulled.front))
 
-pub returns-in-Ok-eq0-clause-ends : goal.returns-in-Ok-eq0-clause-ends
-returns-in-Ok-eq0-clause-ends g c = λ station limit most held.
-    let p = c.pieces.invariant.progress reading most held in
-    let size = c.pieces.invariant.size in
-    let bytes = rw c.in-Ok-eq0.field-0-test at c.in-Ok-eq0.ensures.bytes in
-    ends_at_end _ reading _ _ _ _ _ _ p c.at_end-in-Ok-eq0.result (c.at_end-in-Ok-eq0.ensures reading p.bytes p.text p.held) bytes.0 (bytes.1 refl (omega arith)) c.in-Ok-eq0.ensures.cause.kept
+pub returns-in-Ended-Whole-clause-ends : goal.returns-in-Ended-Whole-clause-ends
+returns-in-Ended-Whole-clause-ends g c = λ station limit h.
+    let p = c.pieces.invariant.so_far station limit h in
+    let same = c.pull.ensures.limit ∙ c.pieces.invariant.limit in
+    ends_whole _ (2 ^ 26) _ _ _ _ p.0 c.at_end.result p.2 (subst (λ (n : ℕ). EndsReading Whole n (g.S.Source.state c.args.script.now) (g.S.Source.state c.pull.new.file) p.0) same (rw c.in-Ended-Whole.field-0-is at (c.in-Ended-Whole.ensures.gives _ p.0 p.1))) (c.at_end.ensures station limit p.0 p.2.text p.2.held)
 
-pub returns-in-Err-clause-ends : goal.returns-in-Err-clause-ends
-returns-in-Err-clause-ends g c = λ station limit most held.
-    let p = c.pieces.invariant.progress reading most held in
-    ends_by_fault _ reading _ _ _ _ _ _ p c.in-Err.ensures.bytes c.in-Err.ensures.cause.rose
+pub returns-in-Ended-Fault-clause-ends : goal.returns-in-Ended-Fault-clause-ends
+returns-in-Ended-Fault-clause-ends g c = λ station limit h.
+    let p = c.pieces.invariant.so_far station limit h in
+    let same = c.pull.ensures.limit ∙ c.pieces.invariant.limit in
+    ends_fault _ (2 ^ 26) _ _ _ _ p.0 p.2 (subst (λ (n : ℕ). EndsReading Fault n (g.S.Source.state c.args.script.now) (g.S.Source.state c.pull.new.file) p.0) same (rw c.in-Ended-Fault.field-0-is at (c.in-Ended-Fault.ensures.gives _ p.0 p.1)))
+
+pub returns-in-Ended-TooLong-clause-ends : goal.returns-in-Ended-TooLong-clause-ends
+returns-in-Ended-TooLong-clause-ends g c = λ station limit h.
+    let p = c.pieces.invariant.so_far station limit h in
+    let same = c.pull.ensures.limit ∙ c.pieces.invariant.limit in
+    ends_long _ (2 ^ 26) _ _ _ _ p.0 p.2 (subst (λ (n : ℕ). EndsReading TooLong n (g.S.Source.state c.args.script.now) (g.S.Source.state c.pull.new.file) p.0) same (rw c.in-Ended-TooLong.field-0-is at (c.in-Ended-TooLong.ensures.gives _ p.0 p.1)))

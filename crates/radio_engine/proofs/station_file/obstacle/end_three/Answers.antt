@@ -1,6 +1,6 @@
-use Rattle.radio_engine.specs.declared.status.Status.TheVariants.{Station}
+use Rattle.radio_engine.specs.declared.ending.status.Status.TheVariants.{Station}
 use Rattle.radio_engine.proofs.WritingLaws.{answers_more, answers_front}
-use Rattle.radio_engine.proofs.obstacle.end_three.Goals as goal
+use Rattle.radio_engine.proofs.station_file.obstacle.end_three.Goals as goal
 
 pub returns-in-Ok : goal.returns-in-Ok
 returns-in-Ok g c = answers_more Station _ _ _ _ c.args.first.now _ c.in-Ok.ensures.ok c.end_two.ensures

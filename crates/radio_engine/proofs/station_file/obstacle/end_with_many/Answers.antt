@@ -1,8 +1,8 @@
 use Rattle.std.proofs.Common.{◌≡◌, ℕ, List, ◌++◌, subst}
 use Rattle.std.specs.Prelude.{codes, decimal}
 use Rattle.radio_engine.specs.Writing.{Answers}
-use Rattle.radio_engine.specs.declared.status.Status.TheVariants.{Station}
-use Rattle.radio_engine.proofs.obstacle.end_with_many.Goals as goal
+use Rattle.radio_engine.specs.declared.ending.status.Status.TheVariants.{Station}
+use Rattle.radio_engine.proofs.station_file.obstacle.end_with_many.Goals as goal
 
 pub returns : goal.returns
 returns g c =

@@ -1,9 +1,9 @@
 use Rattle.std.proofs.Common.{ℕ, List, subst}
 use Rattle.radio_engine.specs.Endings.{status_of, status_line}
-use Rattle.radio_engine.specs.Replaying.{page_text}
+use Rattle.radio_engine.specs.Text.{page_text}
 use Rattle.radio_engine.specs.Writing.{WritesAll, WritesFront}
 use Rattle.radio_engine.proofs.WritingLaws.{answers_more, answers_front}
-use Rattle.radio_engine.proofs.replay.finish_page.Goals as goal
+use Rattle.radio_engine.proofs.ending.page.finish_page.Goals as goal
 
 pub returns-in-Ok : goal.returns-in-Ok
 returns-in-Ok g c = answers_more (status_of c.args.ending) _ _ _ _ (page_text c.args.page.now) (status_line c.args.ending)
