@@ -1,5 +1,5 @@
 // Files in memory, read piece by piece, with expected values counted by hand.
-ghost use Rattle.std.specs.Prelude.{◌≡◌, ◌≤◌, ℕ, Some, drop, vec_len};
+ghost use Rattle.feed_link.specs.Memory.{sure_state};
 
 use super::*;
 use feed_link::{Failed, MemorySource, Source, SureSource};
@@ -63,21 +63,17 @@ fn a_read_that_fails_ends_the_reading(rt: HostRuntime) -> Result<(), Fail> {
 // A file that gives at most two bytes a call.
 #[derive(Drop)]
 struct Slow {
-    text: Vec<u8>,
-    at: usize,
-    ghost within: { at ≤ vec_len text },
+    file: SureSource,
 }
 
 impl Source for Slow {
-    ghost state = { λ s. record { left = Some (drop s.at s.text.items); faults = 0 } };
+    ghost state = { λ s. sure_state s.file };
 
     ghost opening = { λ s. 0 };
 
     fn read(&mut self, piece: &mut [u8]) -> Result<usize, Failed> {
-        let count = piece.len().min(self.text.len() - self.at).min(2);
-        piece[..count].copy_from_slice(&self.text[self.at..self.at + count]);
-        self.at += count;
-        Ok(count)
+        let most = piece.len().min(2);
+        self.file.read(&mut piece[..most])
     }
 }
 
@@ -89,7 +85,9 @@ fn a_file_that_comes_in_small_parts_is_read_whole(rt: HostRuntime) -> Result<(),
         (5, b"abcde".as_slice(), FileEnd::TooLong),
     ] {
         let text = Vec::from_slice(rt.alloc(), b"abcdefg")?;
-        let mut file = Slow { text, at: 0 };
+        let mut file = Slow {
+            file: SureSource::new(text),
+        };
         let mut read = Vec::with_capacity(rt.alloc(), limit)?;
         assert_eq!(rt; read_whole(&mut file, limit, &mut read), end);
         assert_eq!(rt; read.as_slice(), want);
