@@ -1,0 +1,2 @@
+pub mod PullLaws
+pub mod WholeLaws

@@ -1,0 +1,3 @@
+pub mod DueLaws
+pub mod RiseLaws
+pub mod StepLaws
