@@ -1,3 +1,4 @@
+pub mod DecodingLaws
 pub mod EmptyRack
 pub mod GoodLogLaws
 pub mod GoodScriptLaws

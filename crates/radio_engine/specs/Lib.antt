@@ -14,4 +14,5 @@ pub mod Replaying
 pub mod Racks
 pub mod Keeping
 pub mod Taking
+pub mod LogTaking
 pub mod Playing

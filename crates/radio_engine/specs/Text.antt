@@ -1,19 +1,13 @@
 -- The lines that a command writes: an entry a line, and a page. The forms are this project's own.
 use Rattle.std.specs.Prelude.{ℕ, List, ◌++◌, codes}
-use Rattle.std.specs.List.{flat_map}
 use Rattle.clock_page.specs.Page.{PageFields}
-use Rattle.journal_entry.specs.Texts.{text_of}
-use Rattle.journal_entry.specs.declared.entry.Entry.{Entry}
-use Rattle.log_decoder.specs.Due.{due_log}
+use Rattle.log_decoder.specs.Due.{due_log, lines_of_entries}
 use Rattle.system_fold.specs.PageText.{page_line}
 use Rattle.tick_units.specs.declared.marks.Plan.{Plan}
 
-abbrev pub entry_line : Entry → List ℕ
-entry_line entry = text_of entry ++ codes "\n"
-
 -- the lines of a decoded log: those of the entries that it is due as feed 0, without a path delay
 abbrev pub log_text : Plan → List ℕ → List ℕ
-log_text plan bytes = flat_map entry_line (due_log 0 plan 0 bytes)
+log_text plan bytes = lines_of_entries (due_log 0 plan 0 bytes)
 
 -- the line of a page
 unfoldable pub page_text : PageFields → List ℕ

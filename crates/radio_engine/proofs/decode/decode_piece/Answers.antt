@@ -1,0 +1,40 @@
+use Rattle.std.proofs.Common.{rules, refl}
+use Rattle.radio_engine.specs.Taking.{given, bad_of}
+use Rattle.radio_engine.proofs.TakingLaws.{taken_on, taken_bad, taken_stopped, taken_whole, none_of}
+use Rattle.radio_engine.proofs.decode.decode_piece.Goals as goal
+
+pub rest-init : goal.rest-init
+rest-init g c = record {
+  size = search rules;
+  ready = c.requires;
+  so_far = λ plan bytes text start held written. record { front = bytes; is = refl; text = text; held = held; written = written };
+}
+
+pub returns-in-Stopped-clause-takes : goal.returns-in-Stopped-clause-takes
+returns-in-Stopped-clause-takes g c = λ plan bytes text start held written.
+    let h = c.rest.invariant.so_far plan bytes text start held written in
+    let took = c.take_line-took.result in
+    taken_stopped start _ _ c.rest.rest.now _ h _ _ took.count (given took.gives c.take_line-took.new.line) (bad_of took.gives)
+    (c.take_line-took.ensures.holds plan h.front h.text h.held) c.in-Stopped.ensures.0 c.in-Stopped.ensures.1
+
+pub returns-in-Bad-clause-takes : goal.returns-in-Bad-clause-takes
+returns-in-Bad-clause-takes g c = λ plan bytes text start held written.
+    let h = c.rest.invariant.so_far plan bytes text start held written in
+    let took = c.take_line-took.result in
+    taken_bad start _ _ c.rest.rest.now _ h _ _ took.count c.in-Bad.number (given took.gives c.take_line-took.new.line) (bad_of took.gives)
+    (c.take_line-took.ensures.holds plan h.front h.text h.held) c.in-Bad.ensures.0 c.in-Bad.ensures.1
+
+pub rest-preserved : goal.rest-preserved
+rest-preserved g c = record {
+  size = c.take_line-took.array_long;
+  ready = c.take_line-took.ensures.ready;
+  so_far = λ plan bytes text start held written.
+      let h = c.rest.invariant.so_far plan bytes text start held written in
+      let took = c.take_line-took.result in
+      rw c.split_at.ensures.back (taken_on start _ _ c.rest.rest.now _ h _ _ took.count (given took.gives c.take_line-took.new.line) (bad_of took.gives)
+      (c.take_line-took.ensures.holds plan h.front h.text h.held) c.in-All.ensures.0 c.in-All.ensures.1);
+}
+
+pub returns-clause-takes : goal.returns-clause-takes
+returns-clause-takes g c = λ plan bytes text start held written.
+    taken_whole _ start _ _ c.rest.rest.now (c.rest.invariant.so_far plan bytes text start held written) (none_of c.rest.rest.now c.rest-test.ensures)
