@@ -4,6 +4,7 @@
 
 ghost use Rattle.std.specs.Prelude.{◌≡◌, ◌⊎◌, IfOk, OnErr, drop, map};
 ghost use Rattle.std.specs.Process.{exit_status};
+ghost use Rattle.std.specs.String.{string_bytes};
 ghost use Rattle.std.specs.Vec.Iter.{into_iter_items};
 ghost use Rattle.command_words.specs.Commands.{Asked, AskFor};
 ghost use Rattle.feed_link.specs.Faults.{Rose};
@@ -84,7 +85,7 @@ fn behind_the_name(alloc: Global, all: Args) -> Result<Vec<String>, AllocError>
 
 // Words as their texts.
 fn texts_of<'a>(alloc: Global, words: &'a [String]) -> Result<Vec<&'a str>, AllocError>
-    ensures { IfOk result (λ texts. map (λ t. t.now) texts.items ≡ words.now) }
+    ensures { IfOk result (λ texts. map (λ t. t.now) texts.items ≡ map (λ w. string_bytes w) words.now) }
 {
     let mut texts = Vec::new(alloc);
     for word in words {
@@ -100,13 +101,13 @@ fn run_words<O: Outside, K: Sink>(
     outside: &mut O,
     out: &mut K,
 ) -> Status
-    ensures refused { ((asked : Asked) → AskFor words.now asked → ⊥) →
+    ensures refused { ((asked : Asked) → AskFor (map (λ w. string_bytes w) words.now) asked → ⊥) →
         Refuses (O.state outside.old) (O.state outside.new) (K.state out.old) (K.state out.new) result
         ⊎ Lacks (O.state outside.old) (O.state outside.new) (K.state out.old) (K.state out.new) result }
-    ensures runs { (asked : Asked) → AskFor words.now asked →
+    ensures runs { (asked : Asked) → AskFor (map (λ w. string_bytes w) words.now) asked →
         Lacks (O.state outside.old) (O.state outside.new) (K.state out.old) (K.state out.new) result
         ⊎ Runs asked (O.state outside.old) (O.state outside.new) (K.state out.old) (K.state out.new) result }
-    ensures complete { (asked : Asked) → AskFor words.now asked →
+    ensures complete { (asked : Asked) → AskFor (map (λ w. string_bytes w) words.now) asked →
         IsFaultless asked (O.state outside.old) (O.state outside.new) → (Rose (K.state out.old).faults (K.state out.new).faults → ⊥) →
         result ≡ Status.Done }
 {
@@ -123,13 +124,13 @@ fn run<O: Outside, K: Sink>(
     outside: &mut O,
     out: &mut K,
 ) -> Result<Status, AllocError>
-    ensures refused { ((asked : Asked) → AskFor words.now asked → ⊥) → IfOk result (λ status.
+    ensures refused { ((asked : Asked) → AskFor (map (λ w. string_bytes w) words.now) asked → ⊥) → IfOk result (λ status.
         Refuses (O.state outside.old) (O.state outside.new) (K.state out.old) (K.state out.new) status
         ⊎ Lacks (O.state outside.old) (O.state outside.new) (K.state out.old) (K.state out.new) status) }
-    ensures runs { (asked : Asked) → AskFor words.now asked → IfOk result (λ status.
+    ensures runs { (asked : Asked) → AskFor (map (λ w. string_bytes w) words.now) asked → IfOk result (λ status.
         Lacks (O.state outside.old) (O.state outside.new) (K.state out.old) (K.state out.new) status
         ⊎ Runs asked (O.state outside.old) (O.state outside.new) (K.state out.old) (K.state out.new) status) }
-    ensures complete { (asked : Asked) → AskFor words.now asked →
+    ensures complete { (asked : Asked) → AskFor (map (λ w. string_bytes w) words.now) asked →
         IsFaultless asked (O.state outside.old) (O.state outside.new) → (Rose (K.state out.old).faults (K.state out.new).faults → ⊥) →
         IfOk result (λ status. status ≡ Status.Done) }
     ensures outside_kept { OnErr result (O.state outside.new ≡ O.state outside.old) }
