@@ -1,6 +1,7 @@
--- What the fakes in memory tell.
-use Rattle.std.specs.Prelude.{Some, drop}
+-- What the fakes in memory tell, and their calls.
+use Rattle.std.specs.Prelude.{ℕ, Some, drop, vec_capacity}
 use Rattle.feed_link.specs.Told.{SourceState, SinkState}
+use Rattle.feed_link.specs.declared.calls.Calls.{Calls}
 use Rattle.feed_link.specs.declared.memory_source.MemorySource.{MemorySource}
 use Rattle.feed_link.specs.declared.sure_source.SureSource.{SureSource}
 use Rattle.feed_link.specs.declared.memory_sink.MemorySink.{MemorySink}
@@ -13,3 +14,13 @@ sure_state s = record { left = Some (drop s.at s.text.items); faults = 0 }
 
 abbrev pub sink_state : MemorySink → SinkState
 sink_state s = record { held = Some s.bytes.items; faults = s.faults }
+
+abbrev pub source_calls : MemorySource → Calls
+source_calls s = s.calls
+
+abbrev pub sink_calls : MemorySink → Calls
+sink_calls s = s.calls
+
+-- how many bytes it can hold without asking for memory
+abbrev pub sink_room : MemorySink → ℕ
+sink_room s = vec_capacity s.bytes

@@ -1,8 +1,8 @@
-ghost use Rattle.std.specs.Prelude.{◌≡◌, IfOk};
+// The fakes in memory, and the host's files.
+ghost use Rattle.std.specs.Prelude.{◌≡◌};
 
 use super::*;
 use std::alloc::Global;
-use std::io::{self, ErrorKind, Read, Write};
 use std::test::Fail;
 
 // What a read gives, and the piece after it.
@@ -86,62 +86,37 @@ fn an_outside_in_memory_hands_each_log_out_once(rt: HostRuntime) -> Result<(), F
 }
 
 #[test]
+fn the_first_log_of_a_name_is_opened_first(rt: HostRuntime) -> Result<(), Fail> {
+    let mut logs = Vec::new(rt.alloc());
+    for (name, text) in [("b", "0"), ("a", "1"), ("a", "2"), ("c", "3"), ("a", "4")] {
+        let text = Vec::from_slice(rt.alloc(), text.as_bytes())?;
+        let log = MemorySource::new(text, Vec::new(rt.alloc()));
+        logs.push(NamedLog::new(String::from_str(rt.alloc(), name)?, log))?;
+    }
+    let mut outside = MemoryOutside::new(rt.alloc(), logs, Vec::new(rt.alloc()), 8, 8)?;
+    for want in [Ok(b'1'), Ok(b'2'), Ok(b'4'), Err(Failed)] {
+        assert_eq!(rt; first_byte(&mut outside, "a"), want);
+    }
+    assert_eq!(rt; first_byte(&mut outside, "c"), Ok(b'3'));
+    Ok(())
+}
+
+#[test]
+fn a_read_may_be_of_more_than_512_bytes(rt: HostRuntime) -> Result<(), Fail> {
+    let mut piece = [0u8; 700];
+    let mut source = SureSource::new(vec![in rt.alloc(); 7u8; 600]?);
+    assert_eq!(rt; source.read(&mut piece), Ok(600));
+    assert_eq!(rt; (piece[599], piece[600]), (7, 0));
+    assert_eq!(rt; source.read(&mut piece), Ok(0));
+    Ok(())
+}
+
+#[test]
 fn an_opening_fails_at_its_number(rt: HostRuntime) -> Result<(), Fail> {
     let mut outside = two_logs(rt.alloc(), 1)?;
     assert_eq!(rt; first_byte(&mut outside, "a"), Err(Failed));
     assert_eq!(rt; first_byte(&mut outside, "a"), Ok(b'1'));
     Ok(())
-}
-
-// A stream that is interrupted at its first call, goes on at its second, and fails from the third on.
-#[derive(Drop)]
-struct Shaky {
-    calls: u8,
-}
-
-impl Shaky {
-    fn answer(&mut self) -> io::Result<usize>
-        ensures { IfOk result (λ n. n ≡ 0) }
-    {
-        self.calls = self.calls.saturating_add(1);
-        match self.calls {
-            1 => Err(io::Error::from(ErrorKind::Interrupted)),
-            2 => Ok(0),
-            _ => Err(io::Error::from(ErrorKind::Other)),
-        }
-    }
-}
-
-impl Read for Shaky {
-    fn read(&mut self, _: &mut [u8]) -> io::Result<usize> {
-        self.answer()
-    }
-}
-
-impl Write for Shaky {
-    fn write(&mut self, _: &[u8]) -> io::Result<usize> {
-        self.answer()
-    }
-
-    fn flush(&mut self) -> io::Result<()> {
-        Ok(())
-    }
-}
-
-#[test]
-fn a_file_is_read_on_after_an_interruption(rt: HostRuntime) {
-    let mut source = FileSource::new(Shaky { calls: 0 });
-    assert_eq!(rt; read_three(&mut source).0, Ok(0));
-    assert_eq!(rt; read_three(&mut source).0, Err(Failed));
-}
-
-#[test]
-fn a_write_of_nothing_is_a_fault(rt: HostRuntime) {
-    let mut sink = StreamSink::new(Shaky { calls: 0 });
-    assert_eq!(rt; sink.write(b"a"), Err(Failed));
-    let mut sink = StreamSink::new(Shaky { calls: 0 });
-    assert_eq!(rt; sink.write(b""), Ok(0));
-    assert_eq!(rt; sink.write(b"a"), Err(Failed));
 }
 
 #[test]

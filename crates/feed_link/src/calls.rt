@@ -1,0 +1,29 @@
+// The calls of a fake: how many there were, and which of them fail.
+ghost use Rattle.std.specs.Prelude.{◌≡◌};
+
+// Contracts count them from 1. The count stands still at the greatest number of 64 bits.
+#[derive(Drop)]
+pub struct Calls {
+    made: u64,
+    fails: Vec<u64>,
+}
+
+impl Calls {
+    ghost use Rattle.feed_link.specs.Calls.{AreStated, IsCalled, fails_next};
+
+    // None was made yet, and those of these numbers fail.
+    pub fn new(fails: Vec<u64>) -> Calls
+        ensures { AreStated result fails.items }
+    {
+        Calls { made: 0, fails }
+    }
+
+    // One more call is made. Whether it fails.
+    pub fn next_fails(&mut self) -> bool
+        ensures made { IsCalled self.old self.new }
+        ensures fails { result ≡ fails_next self.old }
+    {
+        self.made = self.made.saturating_add(1);
+        self.fails.contains(&self.made)
+    }
+}
