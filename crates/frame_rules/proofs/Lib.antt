@@ -1,5 +1,6 @@
 pub mod Sums
 pub mod FirstLaws
+pub mod LeastLaws
 pub mod Meanings
 pub mod HighBits
 pub mod Template

@@ -9,14 +9,14 @@ use Rattle.tick_units.specs.declared.marks.Mark.{Mark}
 use Rattle.tick_units.specs.declared.marks.Plan.{Plan}
 use Rattle.minute_pair.specs.declared.keeper.SegmentKeeper.{SegmentKeeper}
 use Rattle.minute_pair.specs.Keeping.{Heard}
-use Rattle.minute_pair.specs.Plans.{HasRead}
+use Rattle.minute_pair.specs.Plans.{IsFrameOfPlan}
 use Rattle.minute_pair.proofs.Pieces.{cut_boundary, cut_goes_on, segments_close, segments_open, segments_same}
 
 -- whether the next mark begins a minute, by what the code tests: the plan and the last mark of the piece
 pub boundary_is : (k : SegmentKeeper) (plan : Plan) (marks : List Mark) (mark : Mark) (p : Plan) (before : Option Mark) (is_it : Bool) → (h : Heard k plan marks) → p ≡ plan → before ≡ last_or None h.current → is_it ≡ is_boundary p before mark → is_boundary plan (last_or None marks) mark ≡ is_it
 boundary_is k plan marks mark p before is_it h plan_is last e = sym (e ∙ ap (λ (q : Plan). is_boundary q before mark) plan_is ∙ ap (λ (o : Option Mark). is_boundary plan o mark) (last ∙ h.ends))
 
-pub heard_added : (k now : SegmentKeeper) (plan : Plan) (mark : Mark) (marks : List Mark) → is_boundary plan (last_or None marks) mark ≡ false → (h : Heard k plan marks) → HasRead now.frame plan (h.current ++ mark ∷ []) → now.is_open ≡ k.is_open → Heard now plan (marks ++ mark ∷ [])
+pub heard_added : (k now : SegmentKeeper) (plan : Plan) (mark : Mark) (marks : List Mark) → is_boundary plan (last_or None marks) mark ≡ false → (h : Heard k plan marks) → IsFrameOfPlan now.frame plan (h.current ++ mark ∷ []) → now.is_open ≡ k.is_open → Heard now plan (marks ++ mark ∷ [])
 heard_added k now plan mark marks b h read same = record {
   done = h.done;
   current = h.current ++ mark ∷ [];
@@ -26,7 +26,7 @@ heard_added k now plan mark marks b h read same = record {
   read = read;
 }
 
-pub heard_begun : (k now : SegmentKeeper) (plan : Plan) (mark : Mark) (marks : List Mark) → is_boundary plan (last_or None marks) mark ≡ true → Heard k plan marks → HasRead now.frame plan (mark ∷ []) → now.is_open ≡ true → Heard now plan (marks ++ mark ∷ [])
+pub heard_begun : (k now : SegmentKeeper) (plan : Plan) (mark : Mark) (marks : List Mark) → is_boundary plan (last_or None marks) mark ≡ true → Heard k plan marks → IsFrameOfPlan now.frame plan (mark ∷ []) → now.is_open ≡ true → Heard now plan (marks ++ mark ∷ [])
 heard_begun k now plan mark marks b h read opens = record {
   done = h.done ++ h.current ∷ [];
   current = mark ∷ [];

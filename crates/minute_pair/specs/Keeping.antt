@@ -5,7 +5,7 @@ use Rattle.minute_pair.specs.Segments.{Segment, cut, segments_of}
 use Rattle.tick_units.specs.declared.marks.Mark.{Mark}
 use Rattle.tick_units.specs.declared.marks.Plan.{Plan}
 use Rattle.minute_pair.specs.Answers.{judged, has_leap_second}
-use Rattle.minute_pair.specs.Plans.{HasRead}
+use Rattle.minute_pair.specs.Plans.{IsFrameOfPlan}
 use Rattle.minute_pair.specs.declared.keeper.SegmentKeeper.{SegmentKeeper}
 use Rattle.minute_pair.specs.declared.keeper.Closed.{Closed}
 
@@ -17,7 +17,7 @@ pub record Heard (k : SegmentKeeper) (plan : Plan) (marks : List Mark) : Type 0 
   pub pieces : cut plan None marks ≡ done ++ current ∷ []
   pub ends : last_or None current ≡ last_or None marks
   pub opened : k.is_open ≡ nat_lt 0 (length done)
-  pub read : HasRead k.frame plan current
+  pub read : IsFrameOfPlan k.frame plan current
 
 -- a mark closes a segment
 pub record Closes (plan : Plan) (marks : List Mark) (mark : Mark) (closed : Closed) : Type 0 where

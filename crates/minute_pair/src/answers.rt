@@ -37,7 +37,7 @@ fn lasts(seconds: u64, apart: u64) -> bool
 }
 
 // The leap second that both announce.
-fn leap_of_both(was: u64, is: u64) -> u64
+pub fn leap_of_both(was: u64, is: u64) -> u64
     ensures { result ≡ agreed_leap was is }
 {
     if was == is { is } else { 0 }

@@ -3,7 +3,7 @@ ghost use Rattle.tick_units.specs.Marks.{is_between};
 ghost use Rattle.minute_pair.specs.Segments.{is_boundary, segments_of};
 ghost use Rattle.tick_units.specs.declared.marks.Mark.{Mark};
 ghost use Rattle.tick_units.specs.declared.marks.Plan.{Plan};
-ghost use Rattle.minute_pair.specs.Plans.{HasRead};
+ghost use Rattle.minute_pair.specs.Plans.{IsFrameOfPlan};
 ghost use Rattle.minute_pair.specs.Years.{SaysYears};
 ghost use Rattle.minute_pair.specs.Keeping.{Heard, Closes};
 
@@ -66,7 +66,7 @@ impl SegmentKeeper {
 
     // Begins a segment.
     fn begin(&mut self, mark: Mark)
-        ensures frame { (plan : Plan) (marks : List Mark) → HasRead self.old.frame plan marks → HasRead self.new.frame plan (mark ∷ []) }
+        ensures frame { (plan : Plan) (marks : List Mark) → IsFrameOfPlan self.old.frame plan marks → IsFrameOfPlan self.new.frame plan (mark ∷ []) }
         ensures opened { self.new.is_open ≡ true }
     {
         let mut frame = Frame::new(self.frame.plan());

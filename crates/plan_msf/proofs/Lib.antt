@@ -1,3 +1,4 @@
+pub mod LeastRule
 pub mod ReadBack
 pub mod RoundTrip
 pub mod Validity

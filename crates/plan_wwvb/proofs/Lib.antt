@@ -1,3 +1,4 @@
+pub mod LeastRule
 pub mod MarkerLaws
 pub mod ReadBack
 pub mod RoundTrip

@@ -2,7 +2,7 @@
 use Rattle.std.specs.Prelude.{List}
 use Rattle.tick_units.specs.declared.marks.Mark.{Mark}
 use Rattle.frame_rules.specs.Words.{HasAdded}
-use Rattle.plan_dcf.specs.declared.frame.Frame.{Frame}
+use Rattle.frame_rules.specs.declared.frame.Frame.{Frame}
 
-pub record HasRead (frame : Frame) (marks : List Mark) : Type 0 where
-  pub added : HasAdded frame.words marks
+pub record IsFrameOf {C : Type 0} (frame : Frame C) (marks : List Mark) : Type 0 where
+  pub words : HasAdded frame.words marks
