@@ -1,3 +1,4 @@
+-- The lemmas of this crate.
 pub mod Sums
 pub mod FirstLaws
 pub mod LeastLaws

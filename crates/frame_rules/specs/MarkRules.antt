@@ -22,7 +22,7 @@ abbrev pub breaks_length : List Mark → Bool
 breaks_length marks = not (length marks == 60)
 
 -- marks that may stand for a spelling: their spacing is lawful, so is each width, and they are as many as its symbols
-pub record Fits (is_spaced : Bool) (marks : List Mark) (symbols : List Symbol) : Type 0 where
+pub record MayStandFor (is_spaced : Bool) (marks : List Mark) (symbols : List Symbol) : Type 0 where
   pub spacing : IsTrue is_spaced
   pub width : IsFalse (breaks_width marks)
   pub count : length marks ≡ length symbols

@@ -3,7 +3,7 @@ ghost use Rattle.std.specs.Prelude.{◌≡◌, None, Some, IfOk, IfErr, min, Lis
 ghost use Rattle.std.specs.List.{last_or};
 ghost use Rattle.tick_units.specs.declared.marks.Mark.{Mark};
 ghost use Rattle.frame_rules.specs.First.{IsLeastBroken};
-ghost use Rattle.frame_rules.specs.Frames.{IsFrameOf};
+ghost use Rattle.frame_rules.specs.Frames.{HasMarks};
 
 use crate::mark_words::MarkWords;
 use crate::places::Places;
@@ -48,7 +48,7 @@ impl<C: CodePlan> Frame<C> {
     /// No mark yet.
     #[inline]
     pub fn new() -> Frame<C>
-        ensures { IsFrameOf result [] }
+        ensures { HasMarks result [] }
     {
         Frame {
             words: MarkWords::new(),
@@ -59,7 +59,7 @@ impl<C: CodePlan> Frame<C> {
     /// Reads the next mark.
     #[inline]
     pub fn add(&mut self, mark: Mark)
-        ensures { (marks : List Mark) → IsFrameOf self.old marks → IsFrameOf self.new (marks ++ mark ∷ []) }
+        ensures { (marks : List Mark) → HasMarks self.old marks → HasMarks self.new (marks ++ mark ∷ []) }
     {
         self.words.add(mark);
     }
@@ -67,7 +67,7 @@ impl<C: CodePlan> Frame<C> {
     /// The last mark.
     #[inline]
     pub fn last(&self) -> Option<Mark>
-        ensures { (marks : List Mark) → IsFrameOf self.now marks → result ≡ last_or None marks }
+        ensures { (marks : List Mark) → HasMarks self.now marks → result ≡ last_or None marks }
     {
         self.words.last()
     }
@@ -75,16 +75,16 @@ impl<C: CodePlan> Frame<C> {
     /// How many marks there are, where 61 stands for any number from 61 on.
     #[inline]
     pub fn count(&self) -> usize
-        ensures { (marks : List Mark) → IsFrameOf self.now marks → result ≡ min (length marks) 61 }
+        ensures { (marks : List Mark) → HasMarks self.now marks → result ≡ min (length marks) 61 }
     {
         self.words.count()
     }
 
     /// What the marks say, closed by a mark that starts at this moment; or the least number of a rule that they break.
     pub fn close(&self, at: Local) -> Result<Coded, Broken>
-        ensures ok { (marks : List Mark) → IsFrameOf self.now marks → IfOk result (λ c. (C.first marks at ≡ None) × (c ≡ C.coded marks)) }
-        ensures err { (marks : List Mark) → IsFrameOf self.now marks → IfErr result (λ broken. C.first marks at ≡ Some broken.rule) }
-        ensures least { (marks : List Mark) → IsFrameOf self.now marks → IfErr result (λ broken. IsLeastBroken (C.rules marks at) broken.rule) }
+        ensures ok { (marks : List Mark) → HasMarks self.now marks → IfOk result (λ c. (C.first marks at ≡ None) × (c ≡ C.coded marks)) }
+        ensures err { (marks : List Mark) → HasMarks self.now marks → IfErr result (λ broken. C.first marks at ≡ Some broken.rule) }
+        ensures least { (marks : List Mark) → HasMarks self.now marks → IfErr result (λ broken. IsLeastBroken (C.rules marks at) broken.rule) }
         ensures holds { IfOk result C.holds }
     {
         C::judge(&self.words, at)

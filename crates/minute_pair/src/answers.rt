@@ -1,3 +1,4 @@
+//! The answer to a closed segment, by what stands before it.
 ghost use Rattle.std.specs.Prelude.{◌≡◌, ◌+◌, ◌-◌, ◌*◌, ◌<◌, ◌^◌, IfOk};
 ghost use Rattle.minute_pair.specs.Answers.{is_apart, agreed_leap};
 ghost use Rattle.minute_pair.specs.Pairing.{answer_by, both_by, before_of_closed};

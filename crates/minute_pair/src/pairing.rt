@@ -1,3 +1,4 @@
+//! Marks in, answers out: each closed segment and the one before it.
 ghost use Rattle.std.specs.Prelude.{◌≡◌, ◌++◌, ◌∷◌, [], List, IfSome};
 ghost use Rattle.std.specs.Option.{option_to_list};
 ghost use Rattle.minute_pair.specs.Segments.{segments_of};

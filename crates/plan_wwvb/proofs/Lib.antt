@@ -1,3 +1,4 @@
+-- The lemmas of this crate.
 pub mod LeastRule
 pub mod MarkerLaws
 pub mod ReadBack

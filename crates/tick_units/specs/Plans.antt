@@ -1,5 +1,5 @@
 -- What stands for a code plan: its word, which is this project's own, and its reference ID (RFC 5905, section 7.3).
-use Rattle.std.specs.Prelude.{ℕ, ◌+◌, ◌*◌, Option, List, [], ◌∷◌, find, codes}
+use Rattle.std.specs.Prelude.{ℕ, Option, List, [], ◌∷◌, find, codes}
 use Rattle.std.specs.Str.{bytes_eq}
 use Rattle.tick_units.specs.declared.marks.Plan.{Plan}
 use Rattle.tick_units.specs.declared.marks.Plan.TheVariants.{Dcf, Msf, Wwvb}

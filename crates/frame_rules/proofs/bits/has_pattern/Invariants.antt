@@ -1,3 +1,4 @@
+-- The invariants of the loop of `bits::has_pattern`.
 use Rattle.std.proofs.Common.{◌≡◌, ◌+◌, List, drop}
 use Rattle.frame_rules.specs.Fields.{has_pattern}
 use Rattle.tick_units.specs.declared.marks.Mark.{Mark}

@@ -1,3 +1,4 @@
+-- The invariants of the loop of `bits::is_odd_over`.
 use Rattle.std.proofs.Common.{◌≡◌, ◌+◌, ◌-◌, ◌≤◌, List, count_by}
 use Rattle.std.specs.List.{range_with_len}
 use Rattle.frame_rules.specs.Fields.{is_set}

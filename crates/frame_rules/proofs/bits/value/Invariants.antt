@@ -1,3 +1,4 @@
+-- The invariants of the loop of `bits::value`.
 use Rattle.std.proofs.Common.{◌≡◌, ◌+◌, ◌*◌, ◌≤◌, List, drop, sum}
 use Rattle.frame_rules.specs.Fields.{value}
 use Rattle.tick_units.specs.declared.marks.Mark.{Mark}

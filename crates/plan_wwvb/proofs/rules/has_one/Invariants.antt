@@ -1,3 +1,4 @@
+-- The invariants of the loop of `rules::has_one`.
 use Rattle.std.proofs.Common.{◌≡◌, ℕ, IsTrue, List, drop, nat_lt}
 use Rattle.std.specs.List.{list_all, list_any}
 use Rattle.frame_rules.specs.Fields.{is_one, is_set}

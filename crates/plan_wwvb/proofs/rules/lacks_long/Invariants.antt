@@ -1,3 +1,4 @@
+-- The invariants of the loop of `rules::lacks_long`.
 use Rattle.std.proofs.Common.{◌≡◌, ℕ, not, IsTrue, List, drop, nat_lt}
 use Rattle.std.specs.List.{list_all, list_any}
 use Rattle.frame_rules.specs.Fields.{is_set}
