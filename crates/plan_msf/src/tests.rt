@@ -226,18 +226,22 @@ fn turn(marks: &mut [Mark; 61], ones: &Ones) {
     }
 }
 
-// Where a segment breaks two neighbouring rules, the lesser is named.
-#[test]
-fn of_two_rules_the_lesser_is_named(rt: HostRuntime) -> Result<(), Fail> {
-    for (i, (changed, rule)) in BREAKS.iter().enumerate() {
+fn lesser_is_named(rt: &impl Abort, breaks: &[(Ones, u8)]) -> Result<(), Fail> {
+    for (i, (changed, rule)) in breaks.iter().enumerate() {
         let mut marks = frame(NEW_YEAR, *changed)?;
         assert_eq!(rt; read_closed(&marks[..60])?, broken(*rule));
-        if let Some((next, _)) = BREAKS.get(i + 1) {
+        if let Some((next, _)) = breaks.get(i + 1) {
             turn(&mut marks, next);
             assert_eq!(rt; read_closed(&marks[..60])?, broken(*rule));
         }
     }
     Ok(())
+}
+
+// Where a segment breaks two neighbouring rules, the lesser is named.
+#[test]
+fn of_two_rules_the_lesser_is_named(rt: HostRuntime) -> Result<(), Fail> {
+    lesser_is_named(&rt, &BREAKS)
 }
 
 // A day that its month doesn't have, in a year that is none, and on another weekday.

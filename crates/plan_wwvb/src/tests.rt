@@ -193,18 +193,22 @@ fn turn(marks: &mut [Mark; 61], places: &[usize]) {
     }
 }
 
-// Where a segment breaks two neighbouring rules, the lesser is named.
-#[test]
-fn of_two_rules_the_lesser_is_named(rt: HostRuntime) -> Result<(), Fail> {
-    for (i, (places, rule)) in BREAKS.iter().enumerate() {
+fn lesser_is_named(rt: &impl Abort, breaks: &[(&[usize], u8)]) -> Result<(), Fail> {
+    for (i, (places, rule)) in breaks.iter().enumerate() {
         let mut marks = frame(&NEW_YEAR, places)?;
         assert_eq!(rt; read_closed(&marks[..60])?, broken(*rule));
-        if let Some((next, _)) = BREAKS.get(i + 1) {
+        if let Some((next, _)) = breaks.get(i + 1) {
             turn(&mut marks, next);
             assert_eq!(rt; read_closed(&marks[..60])?, broken(*rule));
         }
     }
     Ok(())
+}
+
+// Where a segment breaks two neighbouring rules, the lesser is named.
+#[test]
+fn of_two_rules_the_lesser_is_named(rt: HostRuntime) -> Result<(), Fail> {
+    lesser_is_named(&rt, &BREAKS)
 }
 
 // A frame with a reserved place that is 1 and a marker that is wanting, with a mark too few, then an odd width too, then a
