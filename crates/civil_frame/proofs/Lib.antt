@@ -1,2 +1,3 @@
+-- The lemmas of this crate.
 pub mod NamedMinute
 pub mod Says

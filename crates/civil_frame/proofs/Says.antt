@@ -1,12 +1,12 @@
 -- The rules on the numbers of a frame that says a minute of a civil date: none of them is broken.
 use Rattle.std.proofs.Common.{◌≡◌, ℕ, ◌+◌, ◌*◌, ◌/◌, ◌%◌, ◌<◌, ◌≤◌, true, false, ◌||◌, ◌==◌, nat_lt, refl, sym, ap, ◌∙◌, arith}
 use Rattle.std.proofs.lemmas.Bool.Decides.{nat_tests}
-use Rattle.tick_units.specs.Rules.{is_out_of}
+use Rattle.frame_rules.specs.Rules.{is_out_of}
 use Rattle.civil_minute.specs.Dates.{is_date, day_number, second_of, weekday_of, weekday_of_day}
 use Rattle.civil_minute.specs.Seconds.{Shows}
 use Rattle.civil_minute.specs.declared.seconds.CivilMinute.{CivilMinute}
 use Rattle.civil_minute.proofs.Bounds.{date_bounds, second_of-day}
-use Rattle.frame_rules.specs.Numbers.{number_of}
+use Rattle.frame_rules.specs.Numbers.{both_digits}
 use Rattle.frame_rules.specs.declared.numbers.Number.{Number}
 use Rattle.frame_rules.proofs.Meanings.{is_out_of-within, and_false, test_true, test_false}
 use Rattle.civil_frame.specs.Ranges.{breaks_minute_range, breaks_hour_range, breaks_day_range, breaks_weekday_range, breaks_month_range, breaks_year_range}
@@ -19,13 +19,13 @@ pub record HasDigits (n : Number) (number : ℕ) : Type 0 where
   pub tens : n.tens ≡ 10 * (number / 10)
   pub ones : n.ones ≡ number % 10
 
-pub number_is : (n : Number) (number : ℕ) → HasDigits n number → number_of n ≡ number
+pub number_is : (n : Number) (number : ℕ) → HasDigits n number → both_digits n ≡ number
 number_is n number h = omega (arith, h.tens, h.ones)
 
-pub within : (least most : ℕ) (n : Number) (number : ℕ) → HasDigits n number → least ≤ number → number ≤ most → is_out_of least most n.ones (number_of n) ≡ false
+pub within : (least most : ℕ) (n : Number) (number : ℕ) → HasDigits n number → least ≤ number → number ≤ most → is_out_of least most n.ones (both_digits n) ≡ false
 within least most n number h low high =
     let same = number_is n number h in
-    is_out_of-within least most n.ones (number_of n) (omega (arith, h.ones)) (omega arith) (omega arith)
+    is_out_of-within least most n.ones (both_digits n) (omega (arith, h.ones)) (omega arith) (omega arith)
 
 -- a year of two digits
 digits_within : (ones tens : ℕ) → ones ≤ 9 → tens ≤ 90 → (nat_lt 9 ones || nat_lt 90 tens) ≡ false
@@ -34,7 +34,7 @@ digits_within ones tens h k = grind (arith, nat_tests)
 pub year_within : (year : Number) (number : ℕ) → HasDigits year (number % 100) → breaks_year_range year ≡ false
 year_within year number h = digits_within year.ones year.tens (omega (arith, h.ones)) (omega (arith, h.tens))
 
-pub year_is : (year : Number) (number : ℕ) → HasDigits year (number % 100) → 2000 ≤ number → number < 2100 → 2000 + number_of year ≡ number
+pub year_is : (year : Number) (number : ℕ) → HasDigits year (number % 100) → 2000 ≤ number → number < 2100 → 2000 + both_digits year ≡ number
 year_is year number h from below = let same = number_is year (number % 100) h in omega arith
 
 -- the numbers of the frame are those of a civil minute, and this weekday
@@ -66,13 +66,13 @@ day_same : (y m d year month day : ℕ) → y ≡ year → m ≡ month → d ≡
 day_same y m d year month day e f g = rw (e, f, g) refl
 
 module _ (said : CivilTime) (civil : CivilMinute) (weekday second : ℕ) (h : Says said civil weekday second) where
-  year_same : 2000 + number_of said.year ≡ civil.year
+  year_same : 2000 + both_digits said.year ≡ civil.year
   year_same = year_is said.year civil.year h.numbers.year h.from h.below
 
-  month_same : number_of said.month ≡ civil.month
+  month_same : both_digits said.month ≡ civil.month
   month_same = number_is said.month civil.month h.numbers.month
 
-  day_is : number_of said.day ≡ civil.day
+  day_is : both_digits said.day ≡ civil.day
   day_is = number_is said.day civil.day h.numbers.day
 
   -- the clock's second is that of the civil minute
@@ -82,16 +82,16 @@ module _ (said : CivilTime) (civil : CivilMinute) (weekday second : ℕ) (h : Sa
   pub local_start-said : local_start said ≡ second
   unfolding local_start
   local_start-said =
-      second_same (2000 + number_of said.year) (number_of said.month) (number_of said.day) (number_of said.time.hour) (number_of said.time.minute) civil.year civil.month civil.day civil.hour civil.minute year_same month_same day_is (number_is said.time.hour civil.hour h.numbers.hour) (number_is said.time.minute civil.minute h.numbers.minute) ∙ second_is
+      second_same (2000 + both_digits said.year) (both_digits said.month) (both_digits said.day) (both_digits said.time.hour) (both_digits said.time.minute) civil.year civil.month civil.day civil.hour civil.minute year_same month_same day_is (number_is said.time.hour civil.hour h.numbers.hour) (number_is said.time.minute civil.minute h.numbers.minute) ∙ second_is
 
   has_date-said : has_date said ≡ true
-  has_date-said = is_date_same (2000 + number_of said.year) (number_of said.month) (number_of said.day) civil.year civil.month civil.day year_same month_same day_is ∙ h.shows.date
+  has_date-said = is_date_same (2000 + both_digits said.year) (both_digits said.month) (both_digits said.day) civil.year civil.month civil.day year_same month_same day_is ∙ h.shows.date
 
   weekday-said : (said.weekday % 7 == weekday_of_date said % 7) ≡ true
   weekday-said =
       let day = second_of-day civil.year civil.month civil.day civil.hour civil.minute h.shows.hour h.shows.minute in
       let shown = ap (λ s. s / 86400) second_is in
-      let same = day_same (2000 + number_of said.year) (number_of said.month) (number_of said.day) civil.year civil.month civil.day year_same month_same day_is in
+      let same = day_same (2000 + both_digits said.year) (both_digits said.month) (both_digits said.day) civil.year civil.month civil.day year_same month_same day_is in
       test_true (said.weekday % 7) (weekday_of_date said % 7) (ap (λ d. d % 7) h.numbers.days ∙ h.week ∙ ap (λ d. weekday_of_day d % 7) (sym shown ∙ day ∙ sym same))
 
   pub minute_range : breaks_minute_range said.time ≡ false

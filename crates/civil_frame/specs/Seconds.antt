@@ -3,12 +3,12 @@
 use Rattle.std.specs.Prelude.{◌≡◌, ◌≢◌, ℕ, ◌+◌, ◌-◌, ◌*◌, ◌%◌, ◌<◌, ◌≤◌, Bool}
 use Rattle.tick_units.specs.declared.verdicts.Coded.{Coded}
 use Rattle.civil_minute.specs.Dates.{second_of}
-use Rattle.frame_rules.specs.Numbers.{number_of}
+use Rattle.frame_rules.specs.Numbers.{both_digits}
 use Rattle.civil_frame.specs.declared.civil_time.CivilTime.{CivilTime}
 
 -- the second at which a clock of UTC shows what is said
 unfoldable pub local_start : CivilTime → ℕ
-local_start civil = second_of (2000 + number_of civil.year) (number_of civil.month) (number_of civil.day) (number_of civil.time.hour) (number_of civil.time.minute)
+local_start civil = second_of (2000 + both_digits civil.year) (both_digits civil.month) (both_digits civil.day) (both_digits civil.time.hour) (both_digits civil.time.minute)
 
 -- the absolute second at which the minute begins that is said
 unfoldable pub minute_start : CivilTime → ℕ

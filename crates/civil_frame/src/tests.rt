@@ -1,3 +1,4 @@
+//! Tests of the ranges of a date and a time, and of the second that they name.
 use super::*;
 use frame_rules::Number;
 use tick_units::Coded;

@@ -1,5 +1,7 @@
+-- The lemmas of this crate.
 pub mod Sums
 pub mod FirstLaws
+pub mod LeastLaws
 pub mod Meanings
 pub mod HighBits
 pub mod Template

@@ -4,5 +4,5 @@ use Rattle.std.specs.Prelude.{ℕ, ◌+◌}
 use Rattle.frame_rules.specs.declared.numbers.Number.{Number}
 
 -- the sum of all weights whose bit is 1
-abbrev pub number_of : Number → ℕ
-number_of n = n.tens + n.ones
+abbrev pub both_digits : Number → ℕ
+both_digits n = n.tens + n.ones

@@ -3,6 +3,7 @@
 #![tactic(auto)]
 
 mod bits;
+mod frame;
 mod mark_words;
 mod numbers;
 mod place_bits;
@@ -12,6 +13,7 @@ mod segment;
 mod spelling;
 
 pub use bits::{Bit, has_pattern, is_odd_over, value};
+pub use frame::{CodePlan, Frame};
 pub use mark_words::MarkWords;
 pub use numbers::{Number, is_out_of};
 pub use places::{KEPT_PLACES, Places};

@@ -1,7 +1,7 @@
 //! Numbers of two digits.
 ghost use Rattle.std.specs.Prelude.{◌≡◌, ◌^◌, ◌<◌};
-ghost use Rattle.tick_units.specs.Rules.{is_out_of};
-ghost use Rattle.frame_rules.specs.Numbers.{number_of};
+ghost use Rattle.frame_rules.specs.Rules.{is_out_of};
+ghost use Rattle.frame_rules.specs.Numbers.{both_digits};
 
 /// A number of two digits as the places of a frame say it: the sum of the weights of its tens, as 10, 20, 40 and 80, and
 /// that of its ones, 1, 2, 4 and 8.
@@ -14,7 +14,7 @@ pub struct Number {
 impl Number {
     /// Both together.
     pub fn get(self) -> u32
-        ensures value { result ≡ number_of self }
+        ensures value { result ≡ both_digits self }
         ensures small { result < 2 ^ 17 }
     {
         u32::from(self.tens) + u32::from(self.ones)
@@ -22,7 +22,7 @@ impl Number {
 
     /// Whether its ones digit is above 9, or it isn't from `least` to `most`.
     pub fn is_out_of(self, least: u32, most: u32) -> bool
-        ensures { result ≡ is_out_of least most self.ones (number_of self) }
+        ensures { result ≡ is_out_of least most self.ones (both_digits self) }
     {
         is_out_of(least, most, self.ones, self.get())
     }

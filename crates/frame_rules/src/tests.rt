@@ -1,3 +1,4 @@
+//! Tests of bits, values, parities, numbers and the rules on marks.
 use super::*;
 use std::test::Fail;
 use tick_units::{Local, Mark, Symbol};

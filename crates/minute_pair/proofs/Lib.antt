@@ -1,4 +1,5 @@
+-- The lemmas of this crate.
 pub mod Pieces
-pub mod HeardLaws
+pub mod KeptLaws
 pub mod Growth
 pub mod PairingLaws

@@ -1,7 +1,8 @@
--- What a pairing stands for: the marks that it has heard.
+-- Scaffolding, which contracts use: what the fields of a pairing stand for, the marks that it has heard; and the answer by
+-- these fields.
 use Rattle.std.specs.Prelude.{◌≡◌, ℕ, ◌-◌, ◌&&◌, ◌||◌, ◌==◌, nat_le, Option, None, Some, Result, Ok, Err, List, if◌then◌else◌}
 use Rattle.std.specs.List.{last_or}
-use Rattle.tick_units.specs.Segments.{Segment, segments_of}
+use Rattle.minute_pair.specs.Segments.{Segment, segments_of}
 use Rattle.tick_units.specs.declared.marks.Mark.{Mark}
 use Rattle.tick_units.specs.declared.marks.Plan.{Plan}
 use Rattle.tick_units.specs.declared.verdicts.Broken.{Broken}
@@ -9,7 +10,7 @@ use Rattle.tick_units.specs.declared.verdicts.Coded.{Coded}
 use Rattle.tick_units.specs.declared.verdicts.Kind.{Kind}
 use Rattle.tick_units.specs.declared.verdicts.Kind.TheVariants.{Verdict, Lone, Differs, Refused}
 use Rattle.minute_pair.specs.Answers.{judged, is_apart, agreed_leap}
-use Rattle.minute_pair.specs.Keeping.{Heard}
+use Rattle.minute_pair.specs.Keeping.{HasKept}
 use Rattle.minute_pair.specs.declared.answers.Before.{Before}
 use Rattle.minute_pair.specs.declared.answers.Before.TheVariants.{Nothing, Valid}
 use Rattle.minute_pair.specs.declared.keeper.Closed.{Closed}
@@ -46,5 +47,5 @@ answer_by before closed = judged_kind before closed closed.judged
 
 -- the pairing has heard these marks of a plan: it keeps their last segment as far as it needs it
 pub record HasPaired (p : Pairing) (plan : Plan) (marks : List Mark) : Type 0 where
-  pub heard : Heard p.keeper plan marks
+  pub heard : HasKept p.keeper plan marks
   pub before : p.before ≡ before_of plan (last_or None (segments_of plan marks))

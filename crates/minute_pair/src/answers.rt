@@ -1,3 +1,4 @@
+//! The answer to a closed segment, by what stands before it.
 ghost use Rattle.std.specs.Prelude.{◌≡◌, ◌+◌, ◌-◌, ◌*◌, ◌<◌, ◌^◌, IfOk};
 ghost use Rattle.minute_pair.specs.Answers.{is_apart, agreed_leap};
 ghost use Rattle.minute_pair.specs.Pairing.{answer_by, both_by, before_of_closed};
@@ -37,7 +38,7 @@ fn lasts(seconds: u64, apart: u64) -> bool
 }
 
 // The leap second that both announce.
-fn leap_of_both(was: u64, is: u64) -> u64
+pub fn leap_of_both(was: u64, is: u64) -> u64
     ensures { result ≡ agreed_leap was is }
 {
     if was == is { is } else { 0 }

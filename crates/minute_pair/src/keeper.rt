@@ -1,11 +1,12 @@
+//! Cuts marks into segments, and judges each that closes.
 ghost use Rattle.std.specs.Prelude.{◌≡◌, ◌+◌, ◌<◌, ◌^◌, true, ◌++◌, ◌∷◌, [], List, MatchOption, IfOk, IfSome};
 ghost use Rattle.tick_units.specs.Marks.{is_between};
-ghost use Rattle.tick_units.specs.Segments.{is_boundary, segments_of};
+ghost use Rattle.minute_pair.specs.Segments.{is_boundary, segments_of};
 ghost use Rattle.tick_units.specs.declared.marks.Mark.{Mark};
 ghost use Rattle.tick_units.specs.declared.marks.Plan.{Plan};
-ghost use Rattle.minute_pair.specs.Plans.{HasRead};
+ghost use Rattle.minute_pair.specs.PlanFrames.{HasMarksOf};
 ghost use Rattle.minute_pair.specs.Years.{SaysYears};
-ghost use Rattle.minute_pair.specs.Keeping.{Heard, Closes};
+ghost use Rattle.minute_pair.specs.Keeping.{HasKept, Closes};
 
 use crate::plans::Frame;
 use tick_units::{Broken, Coded, Local, Mark, Plan, Symbol};
@@ -56,7 +57,7 @@ fn is_boundary(plan: Plan, before: &Option<Mark>, mark: &Mark) -> bool
 impl SegmentKeeper {
     // A keeper that has heard no mark.
     pub fn new(plan: Plan) -> SegmentKeeper
-        ensures { Heard result plan [] }
+        ensures { HasKept result plan [] }
     {
         SegmentKeeper {
             frame: Frame::new(plan),
@@ -66,7 +67,7 @@ impl SegmentKeeper {
 
     // Begins a segment.
     fn begin(&mut self, mark: Mark)
-        ensures frame { (plan : Plan) (marks : List Mark) → HasRead self.old.frame plan marks → HasRead self.new.frame plan (mark ∷ []) }
+        ensures frame { (plan : Plan) (marks : List Mark) → HasMarksOf self.old.frame plan marks → HasMarksOf self.new.frame plan (mark ∷ []) }
         ensures opened { self.new.is_open ≡ true }
     {
         let mut frame = Frame::new(self.frame.plan());
@@ -77,8 +78,8 @@ impl SegmentKeeper {
 
     // Hears the next mark: the segment that it closes, if it closes one.
     pub fn hear(&mut self, mark: Mark) -> Option<Closed>
-        ensures heard { (plan : Plan) (marks : List Mark) → Heard self.old plan marks → Heard self.new plan (marks ++ mark ∷ []) }
-        ensures closed { (plan : Plan) (marks : List Mark) → Heard self.old plan marks → MatchOption result
+        ensures heard { (plan : Plan) (marks : List Mark) → HasKept self.old plan marks → HasKept self.new plan (marks ++ mark ∷ []) }
+        ensures closed { (plan : Plan) (marks : List Mark) → HasKept self.old plan marks → MatchOption result
             (segments_of plan (marks ++ mark ∷ []) ≡ segments_of plan marks)
             (λ closed. Closes plan marks mark closed) }
         ensures years { IfSome result (λ closed. IfOk closed.judged (λ coded. SaysYears coded)) }

@@ -1,9 +1,10 @@
+//! The frame of any of the three plans.
 ghost use Rattle.std.specs.Prelude.{◌≡◌, ℕ, IfOk, List, [], ◌∷◌, ◌++◌, None};
 ghost use Rattle.std.specs.List.{last_or};
 ghost use Rattle.tick_units.specs.declared.marks.Mark.{Mark};
 ghost use Rattle.tick_units.specs.declared.marks.Plan.{Plan};
 ghost use Rattle.minute_pair.specs.Answers.{judged, has_leap_second};
-ghost use Rattle.minute_pair.specs.Plans.{HasRead};
+ghost use Rattle.minute_pair.specs.PlanFrames.{HasMarksOf};
 ghost use Rattle.minute_pair.specs.Years.{SaysYears};
 
 use tick_units::{Broken, Coded, Local, Mark, Plan};
@@ -19,7 +20,7 @@ pub enum Frame {
 impl Frame {
     // A plan's frame that has read no mark.
     pub fn new(plan: Plan) -> Frame
-        ensures { HasRead result plan [] }
+        ensures { HasMarksOf result plan [] }
     {
         match plan {
             Plan::Dcf => Frame::OfDcf(plan_dcf::Frame::new()),
@@ -31,7 +32,7 @@ impl Frame {
     // Its plan.
     #[inline]
     pub fn plan(&self) -> Plan
-        ensures { (plan : Plan) (marks : List Mark) → HasRead self.now plan marks → result ≡ plan }
+        ensures { (plan : Plan) (marks : List Mark) → HasMarksOf self.now plan marks → result ≡ plan }
     {
         match self {
             Frame::OfDcf(_) => Plan::Dcf,
@@ -43,7 +44,7 @@ impl Frame {
     // Reads the next mark.
     #[inline]
     pub fn add(&mut self, mark: Mark)
-        ensures { (plan : Plan) (marks : List Mark) → HasRead self.old plan marks → HasRead self.new plan (marks ++ mark ∷ []) }
+        ensures { (plan : Plan) (marks : List Mark) → HasMarksOf self.old plan marks → HasMarksOf self.new plan (marks ++ mark ∷ []) }
     {
         match self {
             Frame::OfDcf(frame) => frame.add(mark),
@@ -55,7 +56,7 @@ impl Frame {
     // The last mark.
     #[inline]
     pub fn last(&self) -> Option<Mark>
-        ensures { (plan : Plan) (marks : List Mark) → HasRead self.now plan marks → result ≡ last_or None marks }
+        ensures { (plan : Plan) (marks : List Mark) → HasMarksOf self.now plan marks → result ≡ last_or None marks }
     {
         match self {
             Frame::OfDcf(frame) => frame.last(),
@@ -66,7 +67,7 @@ impl Frame {
 
     // Whether the marks have the 60th of a minute with a leap second.
     pub fn has_leap(&self) -> bool
-        ensures { (plan : Plan) (marks : List Mark) (close : ℕ) → HasRead self.now plan marks → result ≡ has_leap_second plan (record { marks = marks; close = close }) }
+        ensures { (plan : Plan) (marks : List Mark) (close : ℕ) → HasMarksOf self.now plan marks → result ≡ has_leap_second plan (record { marks = marks; close = close }) }
     {
         match self {
             Frame::OfDcf(frame) => frame.count() == 60,
@@ -77,7 +78,7 @@ impl Frame {
 
     // What the marks say by the plan, or the least rule that they break.
     pub fn close(&self, at: Local) -> Result<Coded, Broken>
-        ensures judged { (plan : Plan) (marks : List Mark) → HasRead self.now plan marks → result ≡ judged plan (record { marks = marks; close = at }) }
+        ensures judged { (plan : Plan) (marks : List Mark) → HasMarksOf self.now plan marks → result ≡ judged plan (record { marks = marks; close = at }) }
         ensures years { IfOk result (λ coded. SaysYears coded) }
     {
         match self {

@@ -1,3 +1,4 @@
+//! Tests of boundaries, and of segments that are too long or have a gap.
 use super::*;
 use std::test::Fail;
 use tick_units::{Heard, Kind, Local, Mark, Plan, Symbol};

@@ -1,9 +1,9 @@
 -- How DCF77 spells a minute (PTB): the civil time of the minute that begins after the frame, the lowest bits first, with
 -- even parities. What the code carries besides is left 0.
 use Rattle.std.specs.Prelude.{◌≡◌, ◌⊎◌, ℕ, zero, suc, ◌/◌, ◌%◌, ◌≤◌, not, ◌==◌, IsTrue, List, [], ◌∷◌, ◌++◌, slice_index_or, replicate, count_by, if◌then◌else◌}
-use Rattle.tick_units.specs.Digits.{bit_symbol}
-use Rattle.tick_units.specs.Fields.{is_one, symbols_of}
-use Rattle.tick_units.specs.Rules.{starts_of, are_spaced}
+use Rattle.frame_rules.specs.Digits.{bit_symbol}
+use Rattle.frame_rules.specs.Fields.{is_one, symbols_of}
+use Rattle.frame_rules.specs.Rules.{starts_of, are_spaced}
 use Rattle.tick_units.specs.declared.marks.Mark.{Mark}
 use Rattle.tick_units.specs.declared.marks.Symbol.{Symbol}
 use Rattle.tick_units.specs.declared.marks.Symbol.TheVariants.{Zero, One}
@@ -12,7 +12,7 @@ use Rattle.civil_minute.specs.Dates.{weekday_of, midnight_from}
 use Rattle.civil_minute.specs.Months.{begins_month}
 use Rattle.civil_minute.specs.Seconds.{civil_of}
 use Rattle.civil_minute.specs.declared.seconds.CivilMinute.{CivilMinute}
-use Rattle.frame_rules.specs.MarkRules.{Fits}
+use Rattle.frame_rules.specs.MarkRules.{MayStandFor}
 use Rattle.civil_frame.specs.Seconds.{local_second, IsInCentury}
 use Rattle.plan_dcf.specs.Fields.{hours_ahead}
 
@@ -63,5 +63,5 @@ IsPassedOver place = (1 ≤ place) × (place ≤ 16)
 
 -- lawful marks that agree with these symbols in their number and at each place that isn't passed over
 pub record Agrees (marks : List Mark) (symbols : List Symbol) : Type 0 where
-  pub shape : Fits (are_spaced (starts_of marks)) marks symbols
+  pub shape : MayStandFor (are_spaced (starts_of marks)) marks symbols
   pub places : (place : ℕ) → ¬ (IsPassedOver place) → slice_index_or (symbols_of marks) place Zero ≡ slice_index_or symbols place Zero

@@ -1,37 +1,55 @@
-//! What a segment comes to.
-ghost use Rattle.std.specs.Prelude.{◌≡◌, None, Some, IfOk, IfErr, List};
-ghost use Rattle.tick_units.specs.declared.marks.Mark.{Mark};
+//! DCF77 as a code plan: what a segment comes to.
+ghost use Rattle.std.specs.Prelude.{◌≡◌, None, Some, IfOk, IfErr};
+ghost use Rattle.frame_rules.specs.First.{IsLeastBroken};
 ghost use Rattle.civil_frame.specs.Seconds.{IsDated};
 ghost use Rattle.plan_dcf.specs.Fields.{coded};
-ghost use Rattle.plan_dcf.specs.Rules.{first};
+ghost use Rattle.plan_dcf.specs.Rules.{first, rules};
 
 use crate::dates::coded;
 use crate::fields::said;
 use crate::rules::first_broken_rule;
-use frame_rules::{Places, Segment};
+use frame_rules::{CodePlan, Places, Segment};
 use tick_units::{Broken, Coded, Local, Mark};
 
-// What a segment comes to, however its marks are kept.
-pub(crate) fn judge<P: Places>(segment: &P) -> Result<Coded, Broken>
-    ensures ok { (marks : List Mark) → P.stands_for segment.now marks → IfOk result (λ c. (first marks ≡ None) × (c ≡ coded marks)) }
-    ensures err { (marks : List Mark) → P.stands_for segment.now marks → IfErr result (λ broken. first marks ≡ Some broken.rule) }
-    ensures dated { IfOk result (λ c. IsDated 3155666400 6311433600 c) }
-{
-    let civil = said(segment);
-    match first_broken_rule(segment, &civil) {
-        Some(rule) => Err(Broken { rule }),
-        None => Ok(coded(segment, &civil)),
+/// The code plan of DCF77.
+#[derive(Clone, Copy, Debug)]
+pub struct Dcf;
+
+/// A segment of DCF77 that is read mark by mark. It keeps a few numbers, however many marks it hears.
+pub type Frame = frame_rules::Frame<Dcf>;
+
+impl CodePlan for Dcf {
+    ghost use Rattle.civil_frame.specs.Seconds.{IsDated};
+    ghost use Rattle.plan_dcf.specs.Fields.{coded};
+    ghost use Rattle.plan_dcf.specs.Rules.{first, rules};
+
+    ghost rules = { λ marks close. rules marks };
+
+    ghost first = { λ marks close. first marks };
+
+    ghost coded = { coded };
+
+    // In German time it is a minute of the years 2000 to 2099.
+    ghost holds = { IsDated 3155666400 6311433600 };
+
+    fn judge<P: Places>(segment: &P, _close: Local) -> Result<Coded, Broken> {
+        let civil = said(segment);
+        match first_broken_rule(segment, &civil) {
+            Some(rule) => Err(Broken { rule }),
+            None => Ok(coded(segment, &civil)),
+        }
     }
 }
 
 /// The minute that a segment says, which begins at the mark that closes it; or the least number of a rule that the
 /// segment breaks. In DCF77 no rule speaks of the closing mark.
-pub fn read(segment: &[Mark], _close: Local) -> Result<Coded, Broken>
+pub fn read(segment: &[Mark], close: Local) -> Result<Coded, Broken>
     ensures ok { IfOk result (λ c. (first segment.now ≡ None) × (c ≡ coded segment.now)) }
     ensures err { IfErr result (λ broken. first segment.now ≡ Some broken.rule) }
+    ensures least { IfErr result (λ broken. IsLeastBroken (rules segment.now) broken.rule) }
 
     // In German time it is a minute of the years 2000 to 2099.
     ensures dated { IfOk result (λ c. IsDated 3155666400 6311433600 c) }
 {
-    judge(&Segment { marks: segment })
+    Dcf::judge(&Segment { marks: segment }, close)
 }

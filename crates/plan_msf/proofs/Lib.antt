@@ -1,3 +1,5 @@
+-- The lemmas of this crate.
+pub mod LeastRule
 pub mod ReadBack
 pub mod RoundTrip
 pub mod Validity

@@ -1,9 +1,9 @@
 -- How MSF spells a minute (NPL): the civil time of the minute that begins after the frame, the highest bits first, with odd
 -- parities. What the code carries besides is left 0.
 use Rattle.std.specs.Prelude.{◌≡◌, ℕ, ◌%◌, ◌≤◌, Bool, false, true, ◌==◌, List, [], ◌∷◌, ◌++◌, replicate, slice_index_or, count_by}
-use Rattle.tick_units.specs.Digits.{high_bits_of, high_digits_of}
-use Rattle.tick_units.specs.Fields.{has_a, has_b, is_set}
-use Rattle.tick_units.specs.Rules.{are_spaced_to}
+use Rattle.frame_rules.specs.Digits.{high_bits_of, high_digits_of}
+use Rattle.frame_rules.specs.Fields.{has_a, has_b, is_set}
+use Rattle.frame_rules.specs.Rules.{are_spaced_to}
 use Rattle.tick_units.specs.declared.marks.Mark.{Mark}
 use Rattle.tick_units.specs.declared.marks.Symbol.{Symbol}
 use Rattle.tick_units.specs.declared.marks.Symbol.TheVariants.{Zero, One, Both, Long}
@@ -11,7 +11,7 @@ use Rattle.tick_units.specs.declared.verdicts.Coded.{Coded}
 use Rattle.civil_minute.specs.Dates.{weekday_of}
 use Rattle.civil_minute.specs.Seconds.{civil_of}
 use Rattle.civil_minute.specs.declared.seconds.CivilMinute.{CivilMinute}
-use Rattle.frame_rules.specs.MarkRules.{Fits}
+use Rattle.frame_rules.specs.MarkRules.{MayStandFor}
 use Rattle.civil_frame.specs.Seconds.{local_second, IsInCentury}
 use Rattle.plan_msf.specs.Fields.{hours_ahead}
 
@@ -53,6 +53,6 @@ spelt c = frame_of c.summer (civil_of (local_second hours_ahead c)) (weekday_of 
 -- lawful marks that agree with these symbols in their number and in each bit that isn't passed over: bits A from place 17
 -- on, and bits B of places 54 to 58
 pub record Agrees (marks : List Mark) (close : ℕ) (symbols : List Symbol) : Type 0 where
-  pub shape : Fits (are_spaced_to marks close) marks symbols
+  pub shape : MayStandFor (are_spaced_to marks close) marks symbols
   pub bits_a : (place : ℕ) → 17 ≤ place → is_set has_a marks place ≡ has_a (slice_index_or symbols place Zero)
   pub bits_b : (place : ℕ) → 54 ≤ place → place ≤ 58 → is_set has_b marks place ≡ has_b (slice_index_or symbols place Zero)

@@ -1,21 +1,21 @@
+//! Frames of MSF that are read, refused and spelt.
 ghost use Rattle.std.specs.Prelude.{◌≡◌};
 ghost use Rattle.plan_msf.specs.Spelling.{IsSpellable};
 
 use super::*;
-use crate::frame_tests::read_both;
 use std::process::Abort;
 use std::test::Fail;
 use tick_units::{Broken, Coded, Local, Mark, Symbol};
 
 // The places whose bit A is 1, and those whose bit B is.
 #[derive(Clone, Copy)]
-pub struct Ones {
-    pub a: &'static [usize],
-    pub b: &'static [usize],
+struct Ones {
+    a: &'static [usize],
+    b: &'static [usize],
 }
 
 // From Python's datetime. Thursday 2026-01-01, 12:00 GMT.
-pub const NEW_YEAR: Ones = Ones {
+const NEW_YEAR: Ones = Ones {
     a: &[19, 22, 23, 29, 35, 36, 40, 43, 53, 54, 55, 56, 57, 58],
     b: &[55, 57],
 };
@@ -62,7 +62,7 @@ const LAST: Ones = Ones {
 
 const NONE: Ones = Ones { a: &[], b: &[] };
 
-pub fn symbol(a: bool, b: bool) -> Symbol {
+fn symbol(a: bool, b: bool) -> Symbol {
     match (a, b) {
         (false, false) => Symbol::Zero,
         (true, false) => Symbol::One,
@@ -88,9 +88,9 @@ fn frame(ones: Ones, changed: Ones) -> Result<[Mark; 61], Fail> {
     Ok(marks)
 }
 
-// What a segment comes to, read from a slice and mark by mark.
+// What a segment comes to that is closed a minute behind its first mark.
 fn read_closed(segment: &[Mark]) -> Result<Result<Coded, Broken>, Fail> {
-    read_both(segment, Local::new(62_000_000).ok_or("close")?)
+    Ok(read(segment, Local::new(62_000_000).ok_or("close")?))
 }
 
 fn minute(minute: u64, summer: bool) -> Result<Coded, Broken> {
@@ -181,26 +181,93 @@ fn each_rule_is_broken_alone(rt: HostRuntime) -> Result<(), Fail> {
     Ok(())
 }
 
+// Changes of the frame of NEW_YEAR, each of which breaks the rule beside it alone. The rules 40 and 41, and 41 and 42, are
+// never broken at once: a rule on a date counts as unbroken where no date is said.
+const BREAKS: [(Ones, u8); 11] = [
+    (Ones { a: &[52], b: &[] }, 30),
+    (Ones { a: &[17], b: &[] }, 31),
+    (Ones { a: &[25], b: &[] }, 32),
+    (Ones { a: &[], b: &[56] }, 33),
+    (Ones { a: &[39], b: &[] }, 34),
+    (
+        Ones {
+            a: &[48, 50],
+            b: &[],
+        },
+        35,
+    ),
+    (Ones { a: &[41], b: &[57] }, 36),
+    (
+        Ones {
+            a: &[32, 34],
+            b: &[],
+        },
+        37,
+    ),
+    (
+        Ones {
+            a: &[37, 38],
+            b: &[],
+        },
+        38,
+    ),
+    (Ones { a: &[29], b: &[55] }, 39),
+    (Ones { a: &[21], b: &[54] }, 40),
+];
+
+// Turns these bits.
+fn turn(marks: &mut [Mark; 61], ones: &Ones) {
+    for (place, mark) in marks.iter_mut().enumerate() {
+        let a = ones.a.contains(&place) != matches!(mark.symbol, Symbol::One | Symbol::Both);
+        let b = ones.b.contains(&place) != matches!(mark.symbol, Symbol::OnlyB | Symbol::Both);
+        if place > 0 {
+            mark.symbol = symbol(a, b);
+        }
+    }
+}
+
+fn lesser_is_named(rt: &impl Abort, breaks: &[(Ones, u8)]) -> Result<(), Fail> {
+    for (i, (changed, rule)) in breaks.iter().enumerate() {
+        let mut marks = frame(NEW_YEAR, *changed)?;
+        assert_eq!(rt; read_closed(&marks[..60])?, broken(*rule));
+        if let Some((next, _)) = breaks.get(i + 1) {
+            turn(&mut marks, next);
+            assert_eq!(rt; read_closed(&marks[..60])?, broken(*rule));
+        }
+    }
+    Ok(())
+}
+
+// Where a segment breaks two neighbouring rules, the lesser is named.
 #[test]
-fn the_least_broken_rule_is_named(rt: HostRuntime) -> Result<(), Fail> {
+fn of_two_rules_the_lesser_is_named(rt: HostRuntime) -> Result<(), Fail> {
+    lesser_is_named(&rt, &BREAKS)
+}
+
+// A day that its month doesn't have, in a year that is none, and on another weekday.
+#[test]
+fn a_date_is_judged_where_there_is_one(rt: HostRuntime) -> Result<(), Fail> {
     let rows = [
-        (&[17, 52][..], &[][..], 30),
-        (&[36], &[54, 56], 31),
-        (&[37, 38, 41], &[57], 36),
-        (&[17, 28, 29, 30, 31, 35], &[54, 55], 40),
+        (&[17, 28, 29, 30, 31, 35][..], &[54, 55][..], 40),
         (&[28, 29, 30, 32, 36], &[56], 41),
     ];
     for (a, b, rule) in rows {
         let marks = frame(NEW_YEAR, Ones { a, b })?;
         assert_eq!(rt; read_closed(&marks[..60])?, broken(rule));
     }
+    Ok(())
+}
+
+// A frame without its identifier, with a mark too few, then an odd width too, then a closing mark that is late too.
+#[test]
+fn spacing_comes_before_width_and_width_before_length(rt: HostRuntime) -> Result<(), Fail> {
     let mut marks = frame(NEW_YEAR, Ones { a: &[52], b: &[] })?;
-    assert_eq!(rt; read_closed(&marks[..59])?, broken(1));
     let close = Local::new(61_000_000).ok_or("close")?;
-    assert_eq!(rt; read_both(&marks[..59], close)?, broken(3));
+    assert_eq!(rt; read(&marks[..59], close), broken(3));
     marks[3].symbol = Symbol::Odd;
-    assert_eq!(rt; read_both(&marks[..59], close)?, broken(2));
     assert_eq!(rt; read_closed(&marks[..60])?, broken(2));
+    assert_eq!(rt; read(&marks[..59], close), broken(2));
+    assert_eq!(rt; read_closed(&marks[..59])?, broken(1));
     Ok(())
 }
 
@@ -216,11 +283,11 @@ fn marks_are_counted_and_spaced(rt: HostRuntime) -> Result<(), Fail> {
     ];
     for (close, wanted) in rows {
         let close = Local::new(close).ok_or("close")?;
-        assert_eq!(rt; read_both(&marks[..60], close)?, wanted);
+        assert_eq!(rt; read(&marks[..60], close), wanted);
     }
     let close = Local::new(63_000_000).ok_or("close")?;
-    assert_eq!(rt; read_both(&marks, close)?, broken(3));
-    assert_eq!(rt; read_both(&[], close)?, broken(3));
+    assert_eq!(rt; read(&marks, close), broken(3));
+    assert_eq!(rt; read(&[], close), broken(3));
     marks[1].at = Local::new(3_100_001).ok_or("start")?;
     assert_eq!(rt; read_closed(&marks[..60])?, broken(1));
     Ok(())

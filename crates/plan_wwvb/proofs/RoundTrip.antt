@@ -4,9 +4,9 @@ use Rattle.std.proofs.lemmas.Bool.Decides.{nat_tests}
 use Rattle.std.proofs.lemmas.List.{length-map}
 use Rattle.std.specs.Prelude.{if◌then◌else◌}
 use Rattle.std.specs.List.{list_any, range_with_len}
-use Rattle.tick_units.specs.Fields.{is_one, is_set, has_pattern, symbols_of}
+use Rattle.frame_rules.specs.Fields.{is_one, is_set, has_pattern, symbols_of}
 use Rattle.tick_units.specs.Marks.{is_long}
-use Rattle.tick_units.specs.Rules.{are_spaced_to}
+use Rattle.frame_rules.specs.Rules.{are_spaced_to}
 use Rattle.tick_units.specs.declared.marks.Mark.{Mark}
 use Rattle.tick_units.specs.declared.marks.Symbol.TheVariants.{Zero}
 use Rattle.tick_units.specs.declared.verdicts.Coded.{Coded}
@@ -15,7 +15,7 @@ use Rattle.civil_minute.specs.Months.{begins_month, month_after}
 use Rattle.civil_minute.specs.Seconds.{civil_of, day_of_year_of}
 use Rattle.civil_minute.specs.declared.seconds.CivilMinute.{CivilMinute}
 use Rattle.civil_minute.proofs.MonthEnds.{month_after-begun}
-use Rattle.frame_rules.specs.Numbers.{number_of}
+use Rattle.frame_rules.specs.Numbers.{both_digits}
 use Rattle.frame_rules.proofs.Meanings.{is_out_of-within, and_false, test_true, test_false}
 use Rattle.civil_frame.proofs.Says.{number_is, within, year_within, year_is}
 use Rattle.frame_rules.proofs.Template.{template, symbols_of-template}
@@ -65,7 +65,7 @@ numbers_of c civil day marks close h =
     let spelt = HasNumbers-spelt leap civil day frame (symbols_of-template (frame_of leap civil day)) (omega arith) (omega arith) (omega (arith, h.most, year_length-most civil.year)) in
     subst (λ s. HasNumbers s civil day) (sym (said-same marks frame (read_as c civil day marks close h))) spelt
 
-year_same : (c : Coded) (civil : CivilMinute) (day : ℕ) (marks : List Mark) (close : ℕ) → IsFrameOf c civil day marks close → 2000 + number_of (said marks).year ≡ civil.year
+year_same : (c : Coded) (civil : CivilMinute) (day : ℕ) (marks : List Mark) (close : ℕ) → IsFrameOf c civil day marks close → 2000 + both_digits (said marks).year ≡ civil.year
 year_same c civil day marks close h = year_is (said marks).year civil.year (numbers_of c civil day marks close h).year h.from h.below
 
 day_same : (c : Coded) (civil : CivilMinute) (day : ℕ) (marks : List Mark) (close : ℕ) → IsFrameOf c civil day marks close → day_of_year (said marks) ≡ day
@@ -88,7 +88,7 @@ sent_start_is c civil day marks close h =
     let minute = minute_is c civil day marks close h in
     let place = day_place c civil day marks close h in
     let whole : second_of civil.year 1 1 civil.hour civil.minute + 86400 * (day - 1) ≡ sent_second c = omega (arith, h.least, h.spellable.minute.whole, h.spellable.minute.from) in
-    sent_same (2000 + number_of (said marks).year) (number_of (said marks).time.hour) (number_of (said marks).time.minute) (day_of_year (said marks)) civil.year civil.hour civil.minute day (year_same c civil day marks close h) (number_is (said marks).time.hour civil.hour numbers.hour) (number_is (said marks).time.minute civil.minute numbers.minute) (day_same c civil day marks close h) ∙ whole
+    sent_same (2000 + both_digits (said marks).year) (both_digits (said marks).time.hour) (both_digits (said marks).time.minute) (day_of_year (said marks)) civil.year civil.hour civil.minute day (year_same c civil day marks close h) (number_is (said marks).time.hour civil.hour numbers.hour) (number_is (said marks).time.minute civil.minute numbers.minute) (day_same c civil day marks close h) ∙ whole
 
 -- the leap second, in a frame that is sent at a second
 leap_is : (c : Coded) → IsSpellable c → (if not (c.leap_at == 0) then month_after (sent_second c) else 0) ≡ c.leap_at
@@ -137,9 +137,9 @@ IsValid-spelt c civil day marks close h =
     let sent = sent_start_is c civil day marks close h in
     let year = year_same c civil day marks close h in
     let same = day_same c civil day marks close h in
-    let length_is : year_length (2000 + number_of (said marks).year) ≡ year_length civil.year = ap year_length year in
+    let length_is : year_length (2000 + both_digits (said marks).year) ≡ year_length civil.year = ap year_length year in
     let tens : nat_lt 90 (said marks).day.tens ≡ false = grind (arith, nat_tests, numbers.days.tens) in
-    let days = is_out_of-within 1 (year_length (2000 + number_of (said marks).year)) (said marks).day.ones (day_of_year (said marks)) (omega (arith, numbers.days.ones)) (omega (arith, same, h.least)) (omega (arith, same, h.most, length_is)) in
+    let days = is_out_of-within 1 (year_length (2000 + both_digits (said marks).year)) (said marks).day.ones (day_of_year (said marks)) (omega (arith, numbers.days.ones)) (omega (arith, same, h.least)) (omega (arith, same, h.most, length_is)) in
     record {
       spacing = rw h.marks_agree.shape.spacing refl;
       width = h.marks_agree.shape.width;

@@ -2,12 +2,12 @@
 -- segment is sent, so the mark after the segment begins the minute after that one.
 use Rattle.std.specs.Prelude.{ℕ, ◌+◌, ◌-◌, ◌*◌, Bool, false, ◌==◌, List, [], ◌∷◌, if◌then◌else◌}
 use Rattle.std.specs.List.{list_any}
-use Rattle.tick_units.specs.Fields.{is_one, is_set, value}
+use Rattle.frame_rules.specs.Fields.{is_one, is_set, value}
 use Rattle.tick_units.specs.declared.marks.Mark.{Mark}
 use Rattle.tick_units.specs.declared.verdicts.Coded.{Coded}
 use Rattle.civil_minute.specs.Dates.{second_of}
 use Rattle.civil_minute.specs.Months.{month_after}
-use Rattle.frame_rules.specs.Numbers.{number_of}
+use Rattle.frame_rules.specs.Numbers.{both_digits}
 use Rattle.plan_wwvb.specs.declared.fields.OrdinalTime.{OrdinalTime}
 
 -- the places that are markers
@@ -39,11 +39,11 @@ said marks = record {
 
 -- the day of the year, from 1
 abbrev pub day_of_year : OrdinalTime → ℕ
-day_of_year ordinal = ordinal.hundreds + number_of ordinal.day
+day_of_year ordinal = ordinal.hundreds + both_digits ordinal.day
 
 -- the absolute second at which the minute begins that is said, which is the one in which the segment is sent
 unfoldable pub sent_start : OrdinalTime → ℕ
-sent_start ordinal = second_of (2000 + number_of ordinal.year) 1 1 (number_of ordinal.time.hour) (number_of ordinal.time.minute) + 86400 * (day_of_year ordinal - 1)
+sent_start ordinal = second_of (2000 + both_digits ordinal.year) 1 1 (both_digits ordinal.time.hour) (both_digits ordinal.time.minute) + 86400 * (day_of_year ordinal - 1)
 
 -- an announced leap second ends where the next month begins; 0 stands for none
 abbrev pub leap_end : List Mark → ℕ

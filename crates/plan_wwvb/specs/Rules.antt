@@ -3,15 +3,15 @@
 -- project's.
 use Rattle.std.specs.Prelude.{ℕ, ◌+◌, Bool, true, false, not, ◌&&◌, ◌||◌, nat_lt, Option, List, [], ◌∷◌, length}
 use Rattle.std.specs.List.{list_any, range_with_len}
-use Rattle.tick_units.specs.Fields.{is_one, is_set, has_pattern}
+use Rattle.frame_rules.specs.Fields.{is_one, is_set, has_pattern}
 use Rattle.tick_units.specs.Marks.{is_long}
-use Rattle.tick_units.specs.Rules.{is_out_of}
+use Rattle.frame_rules.specs.Rules.{is_out_of}
 use Rattle.tick_units.specs.declared.marks.Mark.{Mark}
 use Rattle.civil_minute.specs.Dates.{year_length}
 use Rattle.civil_minute.specs.Months.{begins_month}
 use Rattle.frame_rules.specs.First.{first_broken}
 use Rattle.frame_rules.specs.MarkRules.{breaks_spacing_to, breaks_width, breaks_length}
-use Rattle.frame_rules.specs.Numbers.{number_of}
+use Rattle.frame_rules.specs.Numbers.{both_digits}
 use Rattle.frame_rules.specs.declared.rules.Rule.{Rule}
 use Rattle.civil_frame.specs.Ranges.{breaks_minute_range, breaks_hour_range, breaks_year_range}
 use Rattle.plan_wwvb.specs.Fields.{marker_places, is_marker_place, zero_places, announces_leap, said, day_of_year, sent_start}
@@ -38,7 +38,7 @@ breaks_dut_sign marks = not (has_pattern is_one marks 36 (true ∷ false ∷ tru
 
 -- the tens or the ones digit is above 9, or the year has no such day
 abbrev pub breaks_day_of_year : OrdinalTime → Bool
-breaks_day_of_year ordinal = nat_lt 90 ordinal.day.tens || is_out_of 1 (year_length (2000 + number_of ordinal.year)) ordinal.day.ones (day_of_year ordinal)
+breaks_day_of_year ordinal = nat_lt 90 ordinal.day.tens || is_out_of 1 (year_length (2000 + both_digits ordinal.year)) ordinal.day.ones (day_of_year ordinal)
 
 -- a minute of a day of a year is said; the rule below counts as unbroken where none is
 unfoldable pub names_minute : OrdinalTime → Bool

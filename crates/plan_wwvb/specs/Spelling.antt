@@ -1,10 +1,10 @@
 -- How WWVB spells a minute (NIST SP 432): UTC of the minute in which the frame is sent, which is the one before, the highest
 -- bits first. Each ten seconds end with a marker. What the code carries besides is left 0, and DUT1 is plus.
 use Rattle.std.specs.Prelude.{◌≡◌, ◌⊎◌, ℕ, ◌-◌, ◌/◌, ◌%◌, ◌<◌, Bool, false, true, not, ◌||◌, ◌==◌, IsTrue, IsFalse, List, [], ◌∷◌, ◌++◌, replicate, slice_index_or}
-use Rattle.tick_units.specs.Digits.{bit_symbol, high_bits_of}
-use Rattle.tick_units.specs.Fields.{is_one, is_set, has_pattern, symbols_of}
+use Rattle.frame_rules.specs.Digits.{bit_symbol, high_bits_of}
+use Rattle.frame_rules.specs.Fields.{is_one, is_set, has_pattern, symbols_of}
 use Rattle.tick_units.specs.Marks.{is_between, is_long}
-use Rattle.tick_units.specs.Rules.{are_spaced_to}
+use Rattle.frame_rules.specs.Rules.{are_spaced_to}
 use Rattle.tick_units.specs.declared.marks.Mark.{Mark}
 use Rattle.tick_units.specs.declared.marks.Symbol.{Symbol}
 use Rattle.tick_units.specs.declared.marks.Symbol.TheVariants.{Zero, One, Long}
@@ -12,7 +12,7 @@ use Rattle.tick_units.specs.declared.verdicts.Coded.{Coded}
 use Rattle.civil_minute.specs.Months.{month_after}
 use Rattle.civil_minute.specs.Seconds.{civil_of, day_of_year_of}
 use Rattle.civil_minute.specs.declared.seconds.CivilMinute.{CivilMinute}
-use Rattle.frame_rules.specs.MarkRules.{Fits}
+use Rattle.frame_rules.specs.MarkRules.{MayStandFor}
 use Rattle.civil_frame.specs.Seconds.{IsInCentury}
 
 -- the second at which the frame begins that is sent before the minute
@@ -61,7 +61,7 @@ is_free place = is_between 36 38 place || is_between 40 43 place || place == 55 
 -- lawful marks that agree with these symbols in their number and at each place that isn't free, and have a sign of DUT1 and
 -- no Long at those that are
 pub record Agrees (marks : List Mark) (close : ℕ) (symbols : List Symbol) : Type 0 where
-  pub shape : Fits (are_spaced_to marks close) marks symbols
+  pub shape : MayStandFor (are_spaced_to marks close) marks symbols
   pub places : (place : ℕ) → IsFalse (is_free place) → slice_index_or (symbols_of marks) place Zero ≡ slice_index_or symbols place Zero
   pub not_long : (place : ℕ) → IsTrue (is_free place) → IsFalse (is_set is_long marks place)
   pub sign : IsTrue (has_pattern is_one marks 36 (true ∷ false ∷ true ∷ []) || has_pattern is_one marks 36 (false ∷ true ∷ false ∷ []))

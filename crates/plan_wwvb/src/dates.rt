@@ -2,7 +2,7 @@
 ghost use Rattle.std.specs.Prelude.{◌≡◌, ◌<◌, ◌≤◌, List, IsTrue, IfSome, Some, None, if◌then◌else◌};
 ghost use Rattle.tick_units.specs.declared.marks.Mark.{Mark};
 ghost use Rattle.civil_frame.specs.Seconds.{IsDated};
-ghost use Rattle.frame_rules.specs.Numbers.{number_of};
+ghost use Rattle.frame_rules.specs.Numbers.{both_digits};
 ghost use Rattle.plan_wwvb.specs.Fields.{said, sent_start, coded};
 ghost use Rattle.plan_wwvb.specs.Rules.{names_minute, breaks_leap_minute};
 
@@ -18,7 +18,7 @@ const MINUTE: u64 = 60;
 // Whether a minute of a day of a year is said.
 #[tactic(auto, unfolding(crate::specs::Rules::names_minute))]
 fn names_minute(ordinal: &OrdinalTime) -> bool
-    requires { number_of ordinal.now.year < 1000 }
+    requires { both_digits ordinal.now.year < 1000 }
     ensures { result ≡ names_minute ordinal.now }
 {
     !(ordinal.time.breaks_minute_range()
@@ -30,7 +30,7 @@ fn names_minute(ordinal: &OrdinalTime) -> bool
 // The absolute second at which the minute begins in which the segment is sent, where it says one.
 #[tactic(auto, unfolding(crate::specs::Rules::names_minute, crate::specs::Fields::sent_start))]
 fn sent_start(ordinal: &OrdinalTime) -> Option<u64>
-    requires { number_of ordinal.now.year < 1000 }
+    requires { both_digits ordinal.now.year < 1000 }
     ensures value { result
         ≡ (if names_minute ordinal.now then Some (sent_start ordinal.now) else None) }
     ensures century { IfSome result (λ second. (3155673600 ≤ second) × (second < 6311433600)) }
@@ -47,7 +47,7 @@ fn sent_start(ordinal: &OrdinalTime) -> Option<u64>
 // A leap second is announced in the last minute of a month.
 pub(crate) fn breaks_leap_minute<P: Places>(segment: &P, ordinal: &OrdinalTime) -> bool
     requires read { (marks : List Mark) → P.stands_for segment.now marks → ordinal.now ≡ said marks }
-    requires year { number_of ordinal.now.year < 1000 }
+    requires year { both_digits ordinal.now.year < 1000 }
     ensures { (marks : List Mark) → P.stands_for segment.now marks → result ≡ breaks_leap_minute marks }
 {
     match sent_start(ordinal) {
@@ -60,7 +60,7 @@ pub(crate) fn breaks_leap_minute<P: Places>(segment: &P, ordinal: &OrdinalTime) 
 #[tactic(auto, unfolding(crate::specs::Fields::coded))]
 pub(crate) fn coded<P: Places>(segment: &P, ordinal: &OrdinalTime) -> Coded
     requires read { (marks : List Mark) → P.stands_for segment.now marks → ordinal.now ≡ said marks }
-    requires year { number_of ordinal.now.year < 1000 }
+    requires year { both_digits ordinal.now.year < 1000 }
     requires named { IsTrue (names_minute ordinal.now) }
     ensures value { (marks : List Mark) → P.stands_for segment.now marks → result ≡ coded marks }
     ensures dated { IsDated 3155673660 6311433660 result }

@@ -1,7 +1,7 @@
 //! What the places of a WWVB segment say.
 ghost use Rattle.std.specs.Prelude.{◌≡◌, ◌<◌, List};
 ghost use Rattle.tick_units.specs.declared.marks.Mark.{Mark};
-ghost use Rattle.frame_rules.specs.Numbers.{number_of};
+ghost use Rattle.frame_rules.specs.Numbers.{both_digits};
 ghost use Rattle.plan_wwvb.specs.Fields.{announces_leap, said, day_of_year};
 
 use civil_frame::TimeOfDay;
@@ -41,7 +41,7 @@ pub(crate) fn announces_leap<P: Places>(segment: &P) -> bool
 #[tactic(auto, unfolding(crate::specs::Fields::said))]
 pub(crate) fn said<P: Places>(segment: &P) -> OrdinalTime
     ensures value { (marks : List Mark) → P.stands_for segment.now marks → result ≡ said marks }
-    ensures year { number_of result.year < 1000 }
+    ensures year { both_digits result.year < 1000 }
 {
     OrdinalTime {
         time: TimeOfDay {

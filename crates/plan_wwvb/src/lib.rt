@@ -20,16 +20,12 @@
 
 mod dates;
 mod fields;
-mod frame;
 mod reading;
 mod rules;
 mod spelling;
 
-pub use frame::Frame;
-pub use reading::read;
+pub use reading::{Frame, Wwvb, read};
 pub use spelling::spell;
 
-#[cfg(test)]
-mod frame_tests;
 #[cfg(test)]
 mod tests;

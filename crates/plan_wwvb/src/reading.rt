@@ -1,26 +1,43 @@
-//! What a segment comes to.
-ghost use Rattle.std.specs.Prelude.{◌≡◌, None, Some, IfOk, IfErr, List};
-ghost use Rattle.tick_units.specs.declared.marks.Mark.{Mark};
+//! WWVB as a code plan: what a segment comes to.
+ghost use Rattle.std.specs.Prelude.{◌≡◌, None, Some, IfOk, IfErr};
+ghost use Rattle.frame_rules.specs.First.{IsLeastBroken};
 ghost use Rattle.civil_frame.specs.Seconds.{IsDated};
 ghost use Rattle.plan_wwvb.specs.Fields.{coded};
-ghost use Rattle.plan_wwvb.specs.Rules.{first};
+ghost use Rattle.plan_wwvb.specs.Rules.{first, rules};
 
 use crate::dates::coded;
 use crate::fields::said;
 use crate::rules::first_broken_rule;
-use frame_rules::{Places, Segment};
+use frame_rules::{CodePlan, Places, Segment};
 use tick_units::{Broken, Coded, Local, Mark};
 
-// What a segment comes to, however its marks are kept.
-pub(crate) fn judge<P: Places>(segment: &P, close: Local) -> Result<Coded, Broken>
-    ensures ok { (marks : List Mark) → P.stands_for segment.now marks → IfOk result (λ c. (first marks close ≡ None) × (c ≡ coded marks)) }
-    ensures err { (marks : List Mark) → P.stands_for segment.now marks → IfErr result (λ broken. first marks close ≡ Some broken.rule) }
-    ensures dated { IfOk result (λ c. IsDated 3155673660 6311433660 c) }
-{
-    let ordinal = said(segment);
-    match first_broken_rule(segment, close, &ordinal) {
-        Some(rule) => Err(Broken { rule }),
-        None => Ok(coded(segment, &ordinal)),
+/// The code plan of WWVB.
+#[derive(Clone, Copy, Debug)]
+pub struct Wwvb;
+
+/// A segment of WWVB that is read mark by mark. It keeps a few numbers, however many marks it hears.
+pub type Frame = frame_rules::Frame<Wwvb>;
+
+impl CodePlan for Wwvb {
+    ghost use Rattle.civil_frame.specs.Seconds.{IsDated};
+    ghost use Rattle.plan_wwvb.specs.Fields.{coded};
+    ghost use Rattle.plan_wwvb.specs.Rules.{first, rules};
+
+    ghost rules = { λ marks close. rules marks close };
+
+    ghost first = { λ marks close. first marks close };
+
+    ghost coded = { coded };
+
+    // The minute before it is one of the years 2000 to 2099.
+    ghost holds = { IsDated 3155673660 6311433660 };
+
+    fn judge<P: Places>(segment: &P, close: Local) -> Result<Coded, Broken> {
+        let ordinal = said(segment);
+        match first_broken_rule(segment, close, &ordinal) {
+            Some(rule) => Err(Broken { rule }),
+            None => Ok(coded(segment, &ordinal)),
+        }
     }
 }
 
@@ -29,9 +46,10 @@ pub(crate) fn judge<P: Places>(segment: &P, close: Local) -> Result<Coded, Broke
 pub fn read(segment: &[Mark], close: Local) -> Result<Coded, Broken>
     ensures ok { IfOk result (λ c. (first segment.now close ≡ None) × (c ≡ coded segment.now)) }
     ensures err { IfErr result (λ broken. first segment.now close ≡ Some broken.rule) }
+    ensures least { IfErr result (λ broken. IsLeastBroken (rules segment.now close) broken.rule) }
 
     // The minute before it is one of the years 2000 to 2099.
     ensures dated { IfOk result (λ c. IsDated 3155673660 6311433660 c) }
 {
-    judge(&Segment { marks: segment }, close)
+    Wwvb::judge(&Segment { marks: segment }, close)
 }

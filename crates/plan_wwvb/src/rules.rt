@@ -1,10 +1,10 @@
 //! The rules of WWVB, each a test of a whole segment that is true where the rule is broken.
 ghost use Rattle.std.specs.Prelude.{◌≡◌, ◌<◌, ◌&&◌, not, nat_lt, None, List, IsTrue};
 ghost use Rattle.std.specs.List.{list_all, list_any};
-ghost use Rattle.tick_units.specs.Fields.{is_one, is_set};
+ghost use Rattle.frame_rules.specs.Fields.{is_one, is_set};
 ghost use Rattle.tick_units.specs.Marks.{is_long};
 ghost use Rattle.tick_units.specs.declared.marks.Mark.{Mark};
-ghost use Rattle.frame_rules.specs.Numbers.{number_of};
+ghost use Rattle.frame_rules.specs.Numbers.{both_digits};
 ghost use Rattle.plan_wwvb.specs.Fields.{is_marker_place, said};
 ghost use Rattle.plan_wwvb.specs.Rules.{lacks_marker, has_stray_marker, breaks_markers, breaks_reserved, breaks_dut_sign, breaks_day_of_year, names_minute, first};
 
@@ -109,7 +109,7 @@ fn breaks_dut_sign<P: Places>(segment: &P) -> bool
 
 // The tens or the ones digit is above 9, or the year has no such day.
 pub(crate) fn breaks_day_of_year(ordinal: &OrdinalTime) -> bool
-    requires { number_of ordinal.now.year < 1000 }
+    requires { both_digits ordinal.now.year < 1000 }
     ensures { result ≡ breaks_day_of_year ordinal.now }
 {
     let days = year_length(ordinal.year.get());
@@ -124,7 +124,7 @@ pub(crate) fn first_broken_rule<P: Places>(
     ordinal: &OrdinalTime,
 ) -> Option<u8>
     requires read { (marks : List Mark) → P.stands_for segment.now marks → ordinal.now ≡ said marks }
-    requires year { number_of ordinal.now.year < 1000 }
+    requires year { both_digits ordinal.now.year < 1000 }
     ensures first { (marks : List Mark) → P.stands_for segment.now marks → result ≡ first marks close }
     ensures named { result ≡ None → IsTrue (names_minute ordinal.now) }
 {

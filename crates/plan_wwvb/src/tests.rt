@@ -1,14 +1,14 @@
+//! Frames of WWVB that are read, refused and spelt.
 ghost use Rattle.std.specs.Prelude.{◌≡◌, false};
 ghost use Rattle.plan_wwvb.specs.Spelling.{IsSpellable};
 
 use super::*;
-use crate::frame_tests::read_both;
 use std::process::Abort;
 use std::test::Fail;
 use tick_units::{Broken, Coded, Local, Mark, Symbol};
 
 // The places that are 1, from Python's datetime. Thursday 2026-01-01, 12:00, DUT1 above 0.
-pub const NEW_YEAR: [usize; 8] = [13, 17, 33, 36, 38, 47, 51, 52];
+const NEW_YEAR: [usize; 8] = [13, 17, 33, 36, 38, 47, 51, 52];
 
 // 2000-01-01 00:00 and 2099-12-31 23:59.
 const FIRST: [usize; 3] = [33, 36, 38];
@@ -37,7 +37,7 @@ const LAST_MINUTE: [usize; 18] = [
 
 const JUNE: [usize; 16] = [1, 6, 7, 13, 16, 17, 18, 23, 25, 33, 36, 38, 48, 51, 53, 56];
 
-pub const MARKERS: [usize; 7] = [0, 9, 19, 29, 39, 49, 59];
+const MARKERS: [usize; 7] = [0, 9, 19, 29, 39, 49, 59];
 
 // Marks a second apart with the markers, of which these are One, but for those that are changed.
 fn frame(ones: &[usize], changed: &[usize]) -> Result<[Mark; 61], Fail> {
@@ -56,9 +56,9 @@ fn frame(ones: &[usize], changed: &[usize]) -> Result<[Mark; 61], Fail> {
     Ok(marks)
 }
 
-// What a segment comes to, read from a slice and mark by mark.
+// What a segment comes to that is closed a minute behind its first mark.
 fn read_closed(segment: &[Mark]) -> Result<Result<Coded, Broken>, Fail> {
-    read_both(segment, Local::new(62_000_000).ok_or("close")?)
+    Ok(read(segment, Local::new(62_000_000).ok_or("close")?))
 }
 
 fn minute(minute: u64, leap_at: u64) -> Result<Coded, Broken> {
@@ -140,6 +140,14 @@ fn a_common_year_has_365_days(rt: HostRuntime) -> Result<(), Fail> {
     Ok(())
 }
 
+// The last minute of 2017, if it had a day 366, with a leap second announced.
+#[test]
+fn a_date_is_judged_where_there_is_one(rt: HostRuntime) -> Result<(), Fail> {
+    let marks = frame(&LAST_MINUTE, &[53, 56])?;
+    assert_eq!(rt; read_closed(&marks[..60])?, broken(56));
+    Ok(())
+}
+
 // The leap second would lengthen the minute that says it.
 #[test]
 fn no_leap_second_is_announced_in_the_last_minute(rt: HostRuntime) -> Result<(), Fail> {
@@ -163,29 +171,59 @@ fn markers_are_long_and_no_other_place(rt: HostRuntime) -> Result<(), Fail> {
     Ok(())
 }
 
-#[test]
-fn the_least_broken_rule_is_named(rt: HostRuntime) -> Result<(), Fail> {
-    let rows = [
-        (&[4, 36][..], 51),
-        (&[5, 7, 38], 52),
-        (&[5, 7, 12], 53),
-        (&[12, 45], 54),
-        (&[33, 50], 55),
-    ];
-    for (places, rule) in rows {
-        let marks = frame(&NEW_YEAR, places)?;
-        assert_eq!(rt; read_closed(&marks[..60])?, broken(rule));
+// Changes of the frame of NEW_YEAR, each of which breaks the rule beside it alone. The rules 56 and 58 are never broken at
+// once: a rule on a date counts as unbroken where no date is said.
+const BREAKS: [(&[usize], u8); 6] = [
+    (&[4], 51),
+    (&[38], 52),
+    (&[5, 7], 53),
+    (&[12], 54),
+    (&[50], 55),
+    (&[33], 56),
+];
+
+fn turn(marks: &mut [Mark; 61], places: &[usize]) {
+    for (place, mark) in marks.iter_mut().enumerate() {
+        if places.contains(&place) {
+            mark.symbol = match mark.symbol {
+                Symbol::One => Symbol::Zero,
+                _ => Symbol::One,
+            };
+        }
     }
-    let marks = frame(&LAST_MINUTE, &[53, 56])?;
-    assert_eq!(rt; read_closed(&marks[..60])?, broken(56));
+}
+
+fn lesser_is_named(rt: &impl Abort, breaks: &[(&[usize], u8)]) -> Result<(), Fail> {
+    for (i, (places, rule)) in breaks.iter().enumerate() {
+        let mut marks = frame(&NEW_YEAR, places)?;
+        assert_eq!(rt; read_closed(&marks[..60])?, broken(*rule));
+        if let Some((next, _)) = breaks.get(i + 1) {
+            turn(&mut marks, next);
+            assert_eq!(rt; read_closed(&marks[..60])?, broken(*rule));
+        }
+    }
+    Ok(())
+}
+
+// Where a segment breaks two neighbouring rules, the lesser is named.
+#[test]
+fn of_two_rules_the_lesser_is_named(rt: HostRuntime) -> Result<(), Fail> {
+    lesser_is_named(&rt, &BREAKS)
+}
+
+// A frame with a reserved place that is 1 and a marker that is wanting, with a mark too few, then an odd width too, then a
+// closing mark that is late too.
+#[test]
+fn spacing_comes_before_width_and_width_before_length(rt: HostRuntime) -> Result<(), Fail> {
     let mut marks = frame(&NEW_YEAR, &[4])?;
     marks[9].symbol = Symbol::One;
     assert_eq!(rt; read_closed(&marks[..60])?, broken(50));
-    assert_eq!(rt; read_closed(&marks[..59])?, broken(1));
     let close = Local::new(61_000_000).ok_or("close")?;
-    assert_eq!(rt; read_both(&marks[..59], close)?, broken(3));
+    assert_eq!(rt; read(&marks[..59], close), broken(3));
     marks[3].symbol = Symbol::Odd;
-    assert_eq!(rt; read_both(&marks[..59], close)?, broken(2));
+    assert_eq!(rt; read_closed(&marks[..60])?, broken(2));
+    assert_eq!(rt; read(&marks[..59], close), broken(2));
+    assert_eq!(rt; read_closed(&marks[..59])?, broken(1));
     Ok(())
 }
 
@@ -201,11 +239,11 @@ fn marks_are_counted_and_spaced(rt: HostRuntime) -> Result<(), Fail> {
     ];
     for (close, wanted) in rows {
         let close = Local::new(close).ok_or("close")?;
-        assert_eq!(rt; read_both(&marks[..60], close)?, wanted);
+        assert_eq!(rt; read(&marks[..60], close), wanted);
     }
     let close = Local::new(63_000_000).ok_or("close")?;
-    assert_eq!(rt; read_both(&marks, close)?, broken(3));
-    assert_eq!(rt; read_both(&[], close)?, broken(3));
+    assert_eq!(rt; read(&marks, close), broken(3));
+    assert_eq!(rt; read(&[], close), broken(3));
     marks[1].at = Local::new(3_100_001).ok_or("start")?;
     assert_eq!(rt; read_closed(&marks[..60])?, broken(1));
     Ok(())

@@ -1,5 +1,5 @@
--- What is kept of an unfinished line, and the text that it stands for. A line is its start in decimal, one space and its
--- width in decimal; the format is this project's own.
+-- Scaffolding, which contracts use: what is kept of an unfinished line, and the text that it stands for. A line is its start in
+-- decimal, one space and its width in decimal; the format is this project's own.
 use Rattle.std.specs.Prelude.{◌≡◌, ℕ, ◌==◌, None, List, [], ◌∷◌, ◌++◌, length, decimal, if◌then◌else◌}
 use Rattle.tick_units.specs.Log.{reduction_of}
 use Rattle.pulse_log.specs.declared.line.Line.{Line}

@@ -1,3 +1,4 @@
+//! A line of a log, taken byte by byte.
 ghost use Rattle.std.specs.Prelude.{◌≡◌, ℕ, ◌+◌, ◌<◌, ◌≤◌, ◌^◌, List, ◌∷◌, [], ◌++◌};
 
 use tick_units::{Local, Reduction};

@@ -1,3 +1,4 @@
+//! The reader of a log: bytes in, reductions out, or the first bad line.
 ghost use Rattle.std.specs.Prelude.{◌≡◌, true, ℕ, ◌+◌, ◌<◌, ◌≤◌, ◌^◌, length, take, IfSome};
 
 use crate::line::Line;

@@ -1,3 +1,4 @@
+//! Tests of lines, of their faults, and of logs in pieces.
 use super::*;
 use std::alloc::{AllocError, Global};
 use std::test::Fail;

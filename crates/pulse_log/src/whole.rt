@@ -1,3 +1,4 @@
+//! The fast way for a line that lies whole in what was read.
 ghost use Rattle.std.specs.Prelude.{◌≡◌, ◌+◌, ◌<◌, ◌≤◌, ◌^◌, ◌∷◌, ◌++◌, [], length, take, decimal, IfSome};
 ghost use Rattle.pulse_log.specs.Writing.{line_of};
 

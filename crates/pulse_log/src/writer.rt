@@ -1,3 +1,4 @@
+//! The line of a reduction, written.
 ghost use Rattle.std.specs.Prelude.{◌≡◌, ℕ, ◌+◌, ◌≤◌, ◌∷◌, ◌++◌, [], length, take, drop};
 ghost use Rattle.pulse_log.specs.Writing.{line_of, IsTheLine};
 

@@ -1,4 +1,5 @@
--- What a marker and the pairing behind it stand for: what their receiver has heard.
+-- Scaffolding, which contracts use: what a marker and the pairing behind it stand for, which is all that their receiver has
+-- heard.
 use Rattle.std.specs.Prelude.{◌≡◌}
 use Rattle.tick_units.specs.Marks.{marks_of}
 use Rattle.tick_units.specs.declared.marks.Plan.{Plan}

@@ -1,3 +1,4 @@
+-- Read Histories (what a receiver answers), and Answers and Years of `minute_pair`. Chains is scaffolding.
 pub mod Histories
 pub mod Chains
 pub use Rattle.minute_pair.specs.Answers

@@ -1,3 +1,4 @@
+//! A marker and a pairing behind it, with a path delay.
 ghost use Rattle.std.specs.Prelude.{◌≡◌, ◌+◌, ◌++◌, ◌-◌, ◌==◌, IfSome};
 ghost use Rattle.std.specs.Option.{option_to_list};
 ghost use Rattle.tick_units.specs.declared.marks.Plan.{Plan};

@@ -6,7 +6,9 @@ mod receiver;
 mod receivers;
 
 pub use receiver::Receiver;
-pub use receivers::{DcfReceiver, MsfReceiver, WwvbReceiver};
+pub use receivers::{
+    DcfPlan, DcfReceiver, MsfPlan, MsfReceiver, OfPlan, PlanReceiver, WwvbPlan, WwvbReceiver,
+};
 
 #[cfg(test)]
 mod tests;

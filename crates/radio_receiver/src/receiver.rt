@@ -1,3 +1,4 @@
+//! What every receiver does.
 ghost use Rattle.std.specs.Prelude.{◌≡◌, ℕ, ◌+◌, ◌++◌, ◌≤◌, ◌==◌, IfSome};
 ghost use Rattle.std.specs.Option.{option_to_list};
 ghost use Rattle.minute_pair.specs.Years.{BelievesYears};

@@ -1,125 +1,105 @@
+//! Receivers of each code plan: a chain, and behind a name the plan that it is of.
 ghost use Rattle.std.specs.Prelude.{◌≡◌};
-ghost use Rattle.tick_units.specs.declared.marks.Plan.TheVariants.{Dcf, Msf, Wwvb};
 ghost use Rattle.radio_receiver.specs.Histories.{blank_of};
 
 use crate::chain::Chain;
 use crate::receiver::Receiver;
+use std::marker::PhantomData;
 use tick_units::{Heard, Plan, Reduction};
 
-/// A receiver of DCF77 (PTB, 77.5 kHz).
+/// The code plan of a receiver's type.
+pub trait OfPlan: Drop {
+    ghost use Rattle.std.specs.Prelude.{◌≡◌};
+    ghost use Rattle.tick_units.specs.declared.marks.Plan.{Plan};
+
+    /// The plan.
+    ghost which: { Plan };
+
+    /// The plan.
+    fn plan() -> Plan
+        ensures { result ≡ which };
+}
+
+/// DCF77 (PTB, 77.5 kHz).
 #[derive(Drop)]
-pub struct DcfReceiver {
-    chain: Chain,
-}
+pub struct DcfPlan;
 
-impl DcfReceiver {
-    /// A blank receiver without a path delay.
-    pub fn new() -> DcfReceiver
-        ensures stands { ⟦<DcfReceiver as Receiver>⟧.stands_for result (blank_of Dcf) }
-        ensures least { ⟦<DcfReceiver as Receiver>⟧.least_start result ≡ 0 }
-    {
-        DcfReceiver {
-            chain: Chain::new(Plan::Dcf),
-        }
-    }
-}
+/// MSF (NPL, 60 kHz).
+#[derive(Drop)]
+pub struct MsfPlan;
 
-impl Receiver for DcfReceiver {
+/// WWVB (NIST, 60 kHz).
+#[derive(Drop)]
+pub struct WwvbPlan;
+
+impl OfPlan for DcfPlan {
     ghost use Rattle.tick_units.specs.declared.marks.Plan.TheVariants.{Dcf};
-    ghost use Rattle.radio_receiver.specs.Chains.{Receives};
 
-    ghost stands_for = { λ receiver h. Receives Dcf receiver.chain h };
+    ghost which = { Dcf };
 
-    ghost least_start = { λ receiver. receiver.chain.least_start };
-
-    fn plan(&self) -> Plan {
+    fn plan() -> Plan {
         Plan::Dcf
     }
-
-    fn fit(&mut self, delay_us: u32) {
-        self.chain.fit(delay_us);
-    }
-
-    fn hear(&mut self, reduction: Reduction) -> Option<Heard> {
-        self.chain.hear(reduction)
-    }
-
-    fn blank(&self) -> bool {
-        self.chain.is_blank()
-    }
 }
 
-/// A receiver of MSF (NPL, 60 kHz).
-#[derive(Drop)]
-pub struct MsfReceiver {
-    chain: Chain,
-}
-
-impl MsfReceiver {
-    /// A blank receiver without a path delay.
-    pub fn new() -> MsfReceiver
-        ensures stands { ⟦<MsfReceiver as Receiver>⟧.stands_for result (blank_of Msf) }
-        ensures least { ⟦<MsfReceiver as Receiver>⟧.least_start result ≡ 0 }
-    {
-        MsfReceiver {
-            chain: Chain::new(Plan::Msf),
-        }
-    }
-}
-
-impl Receiver for MsfReceiver {
+impl OfPlan for MsfPlan {
     ghost use Rattle.tick_units.specs.declared.marks.Plan.TheVariants.{Msf};
-    ghost use Rattle.radio_receiver.specs.Chains.{Receives};
 
-    ghost stands_for = { λ receiver h. Receives Msf receiver.chain h };
+    ghost which = { Msf };
 
-    ghost least_start = { λ receiver. receiver.chain.least_start };
-
-    fn plan(&self) -> Plan {
+    fn plan() -> Plan {
         Plan::Msf
     }
+}
 
-    fn fit(&mut self, delay_us: u32) {
-        self.chain.fit(delay_us);
-    }
+impl OfPlan for WwvbPlan {
+    ghost use Rattle.tick_units.specs.declared.marks.Plan.TheVariants.{Wwvb};
 
-    fn hear(&mut self, reduction: Reduction) -> Option<Heard> {
-        self.chain.hear(reduction)
-    }
+    ghost which = { Wwvb };
 
-    fn blank(&self) -> bool {
-        self.chain.is_blank()
+    fn plan() -> Plan {
+        Plan::Wwvb
     }
 }
 
-/// A receiver of WWVB (NIST, 60 kHz).
+/// A receiver of a plan.
 #[derive(Drop)]
-pub struct WwvbReceiver {
+pub struct PlanReceiver<P> {
     chain: Chain,
+    plan: PhantomData<P>,
 }
 
-impl WwvbReceiver {
+/// A receiver of DCF77.
+pub type DcfReceiver = PlanReceiver<DcfPlan>;
+
+/// A receiver of MSF.
+pub type MsfReceiver = PlanReceiver<MsfPlan>;
+
+/// A receiver of WWVB.
+pub type WwvbReceiver = PlanReceiver<WwvbPlan>;
+
+impl<P: OfPlan> PlanReceiver<P> {
     /// A blank receiver without a path delay.
-    pub fn new() -> WwvbReceiver
-        ensures stands { ⟦<WwvbReceiver as Receiver>⟧.stands_for result (blank_of Wwvb) }
-        ensures least { ⟦<WwvbReceiver as Receiver>⟧.least_start result ≡ 0 }
+    pub fn new() -> PlanReceiver<P>
+        ensures stands { ⟦<PlanReceiver<P> as Receiver>⟧.stands_for result (blank_of P.which) }
+        ensures least { ⟦<PlanReceiver<P> as Receiver>⟧.least_start result ≡ 0 }
     {
-        WwvbReceiver {
-            chain: Chain::new(Plan::Wwvb),
+        PlanReceiver {
+            chain: Chain::new(P::plan()),
+            plan: PhantomData,
         }
     }
 }
 
-impl Receiver for WwvbReceiver {
-    ghost use Rattle.tick_units.specs.declared.marks.Plan.TheVariants.{Wwvb};
+impl<P: OfPlan> Receiver for PlanReceiver<P> {
     ghost use Rattle.radio_receiver.specs.Chains.{Receives};
 
-    ghost stands_for = { λ receiver h. Receives Wwvb receiver.chain h };
+    ghost stands_for = { λ receiver h. Receives P.which receiver.chain h };
 
     ghost least_start = { λ receiver. receiver.chain.least_start };
 
     fn plan(&self) -> Plan {
-        Plan::Wwvb
+        P::plan()
     }
 
     fn fit(&mut self, delay_us: u32) {

@@ -1,3 +1,4 @@
+//! Tests of receivers: each plan, its path delay, its boundaries, and leap seconds.
 ghost use Rattle.std.specs.Prelude.{◌≡◌, ◌≤◌};
 
 use crate::{DcfReceiver, MsfReceiver, Receiver, WwvbReceiver};

@@ -1,3 +1,4 @@
+//! What is held back of an MSF second until the next reduction.
 ghost use Rattle.std.specs.Prelude.{◌≡◌};
 ghost use Rattle.second_marks.specs.Held.{held_after, mark_before};
 

@@ -1,3 +1,4 @@
+//! A marker: reductions in, marks out.
 ghost use Rattle.std.specs.Prelude.{◌≡◌, ◌++◌, ◌∷◌, [], List};
 ghost use Rattle.std.specs.Option.{option_to_list};
 ghost use Rattle.tick_units.specs.Marks.{marks_of};

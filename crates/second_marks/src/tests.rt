@@ -1,3 +1,4 @@
+//! Tests of marks, by the classes and the two parts of an MSF second.
 use super::*;
 use std::test::Fail;
 use tick_units::{Local, Mark, Plan, Reduction, Symbol};

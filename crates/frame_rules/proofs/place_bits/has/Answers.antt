@@ -1,3 +1,4 @@
+-- What the proof of `place_bits::has` needs to be told.
 use Rattle.std.proofs.Common.{ap, ◌∙◌, ◌/◌, ◌%◌, ◌^◌, ◌==◌}
 use Rattle.frame_rules.proofs.WordLaws.{word_at}
 use Rattle.frame_rules.proofs.place_bits.has.Goals as goal

@@ -1,3 +1,4 @@
+-- The invariants of the loop of `segment::breaks_spacing_to`.
 use Rattle.std.proofs.Common.{◌≡◌, length}
 use Rattle.frame_rules.specs.MarkRules.{breaks_spacing_to}
 use Rattle.frame_rules.proofs.segment.breaks_spacing_to.Given as goal

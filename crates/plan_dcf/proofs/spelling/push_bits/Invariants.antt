@@ -1,3 +1,4 @@
+-- The invariants of the loop of `spelling::push_bits`.
 use Rattle.std.proofs.Common.{◌≡◌, ◌+◌, ◌-◌, ◌++◌, length}
 use Rattle.plan_dcf.specs.Spelling.{bits_of}
 use Rattle.plan_dcf.proofs.spelling.push_bits.Given as goal

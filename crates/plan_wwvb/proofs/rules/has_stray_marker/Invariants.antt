@@ -1,3 +1,4 @@
+-- The invariants of the loop of `rules::has_stray_marker`.
 use Rattle.std.proofs.Common.{◌≡◌, ◌-◌, ◌||◌, List, drop}
 use Rattle.std.specs.List.{list_any, range_with_len}
 use Rattle.tick_units.specs.declared.marks.Mark.{Mark}

@@ -1,3 +1,4 @@
+-- What the proof of `whole::number_in_front` needs to be told.
 use Rattle.std.proofs.Common.{take, arith}
 use Rattle.std.proofs.lemmas.List.{length-take}
 use Rattle.pulse_log.proofs.NumberLaws.{small, one_more, in_front, is_some}

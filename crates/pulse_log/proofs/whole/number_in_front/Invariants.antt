@@ -1,3 +1,4 @@
+-- The invariants of the loop of `whole::number_in_front`.
 use Rattle.pulse_log.proofs.NumberLaws.{SpellsSoFar}
 use Rattle.pulse_log.proofs.whole.number_in_front.Given as goal
 

@@ -1,3 +1,4 @@
+-- The invariants of the loop of `tests::last_answer`.
 use Rattle.std.proofs.Common.{◌≤◌}
 use Rattle.radio_receiver.proofs.tests.last_answer.Given as goal
 

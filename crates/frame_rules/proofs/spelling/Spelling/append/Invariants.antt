@@ -1,3 +1,4 @@
+-- The invariants of the loop of `spelling::Spelling::append`.
 use Rattle.std.proofs.Common.{◌≡◌, ◌+◌, ◌++◌, length, take}
 use Rattle.frame_rules.proofs.spelling.Spelling.append.Given as goal
 

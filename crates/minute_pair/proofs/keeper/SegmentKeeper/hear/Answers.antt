@@ -1,5 +1,6 @@
+-- What the proof of `keeper::SegmentKeeper::hear` needs to be told.
 use Rattle.std.proofs.Common.{true, false, refl}
-use Rattle.minute_pair.proofs.HeardLaws.{boundary_is, heard_added, heard_begun, same_added, same_opened, segments_closed}
+use Rattle.minute_pair.proofs.KeptLaws.{boundary_is, heard_added, heard_begun, same_added, same_opened, segments_closed}
 use Rattle.minute_pair.proofs.keeper.SegmentKeeper.hear.Goals as goal
 
 pub returns-then-not-is_boundary-clause-heard : goal.returns-then-not-is_boundary-clause-heard

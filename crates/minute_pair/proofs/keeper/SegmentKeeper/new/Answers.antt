@@ -1,3 +1,4 @@
+-- What the proof of `keeper::SegmentKeeper::new` needs to be told.
 use Rattle.std.proofs.Common.{[], refl}
 use Rattle.minute_pair.proofs.keeper.SegmentKeeper.new.Goals as goal
 

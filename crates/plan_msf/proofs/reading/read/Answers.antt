@@ -1,0 +1,6 @@
+-- What the proof of `reading::read` needs to be told.
+use Rattle.std.proofs.Common.{refl}
+use Rattle.plan_msf.proofs.reading.read.Goals as goal
+
+pub returns-clause-least : goal.returns-clause-least
+returns-clause-least c = c.judge.ensures.least c.args.segment.now refl

@@ -1,0 +1,8 @@
+-- What the proof of `reading::WwvbCodePlan::judge` needs to be told.
+use Rattle.std.proofs.Common.{rules, ◌≡◌, Some}
+use Rattle.plan_wwvb.specs.Rules.{first}
+use Rattle.plan_wwvb.proofs.LeastRule.{first_is_least}
+use Rattle.plan_wwvb.proofs.reading.WwvbCodePlan.judge.Goals as goal
+
+pub returns-in-Some-clause-least : goal.returns-in-Some-clause-least
+returns-in-Some-clause-least g c = λ marks stands. let e : first marks c.args.close ≡ Some c.in-Some.rule = search rules in first_is_least marks c.args.close c.in-Some.rule e
