@@ -104,17 +104,17 @@ pub record HasRadios {B : Type 0} (stands : B → History → Type 0) (radios : 
 
 -- a station with one radio more, and with one server more
 abbrev pub with_radio : StationFields → RadioFields → StationFields
-with_radio station fields = record { holdover = station.holdover; start = station.start; radios = station.radios ++ fields ∷ []; servers = station.servers; links = station.links }
+with_radio station fields = record station { radios = station.radios ++ fields ∷ [] }
 
 abbrev pub with_server : StationFields → ServerFields → StationFields
-with_server station fields = record { holdover = station.holdover; start = station.start; radios = station.radios; servers = station.servers ++ fields ∷ []; links = station.links }
+with_server station fields = record station { servers = station.servers ++ fields ∷ [] }
 
 -- a station with the first of its radios alone, and with the first of its servers alone
 abbrev pub first_radios : ℕ → StationFields → StationFields
-first_radios n station = record { holdover = station.holdover; start = station.start; radios = take n station.radios; servers = station.servers; links = station.links }
+first_radios n station = record station { radios = take n station.radios }
 
 abbrev pub first_servers : ℕ → StationFields → StationFields
-first_servers n station = record { holdover = station.holdover; start = station.start; radios = station.radios; servers = take n station.servers; links = station.links }
+first_servers n station = record station { servers = take n station.servers }
 
 -- each receiver can hear what its radio may hear next
 pub record AreReady {B : Type 0} (least_start : B → ℕ) (radios : Radios B) : Type 0 where

@@ -77,7 +77,7 @@ pub stands-step : (old : FoldFields) (n : ℕ) (taken : List Feed) (leaps : Leap
     → ((settings : SettingsFields) (journal : List Entry) → old.feeds ≡ feeds_of settings journal → taken ≡ feeds_of settings (journal ++ e ∷ []))
     → ((journal : List Entry) → KeepsLeaps old.leaps journal → KeepsLeaps leaps (journal ++ e ∷ []))
     → (settings : SettingsFields) (journal : List Entry) → StandsFor old settings journal
-    → StandsFor (record { holdover = old.holdover; feeds = refill n old.feeds taken; leaps = leaps; length = old.length + 1 }) settings (journal ++ e ∷ [])
+    → StandsFor (record old { feeds = refill n old.feeds taken; leaps = leaps; length = old.length + 1 }) settings (journal ++ e ∷ [])
 stands-step old n taken leaps e same lawful takes steps settings journal h = stands-push old _ settings journal e h lawful refl feeds (steps journal h.leaps) refl
   where
     long : length taken ≡ n

@@ -1,6 +1,7 @@
 pub mod Feeds
 pub mod Fields
 pub mod Fit
+pub mod Inputs
 pub mod Journal
 pub mod Leaps
 pub mod Page

@@ -12,6 +12,7 @@ use Rattle.system_fold.specs.Samples.{samples_of}
 use Rattle.system_fold.specs.Selecting.{candidate_of}
 use Rattle.system_fold.specs.Settings.{SettingsFields, AreLawful, IsJournal}
 use Rattle.system_fold.specs.declared.feed.Feed.{Feed}
+use Rattle.system_fold.specs.declared.fold.FoldState.TheInside.{Inside}
 use Rattle.system_fold.specs.declared.leaps.Leaps.{Leaps}
 use Rattle.system_fold.specs.declared.leaps.Word.{Word}
 use Rattle.system_fold.specs.declared.settings.SourceKind.{SourceKind}
@@ -38,6 +39,9 @@ pub record FoldFields : Type 0 where
   pub feeds : List Feed
   pub leaps : Leaps
   pub length : ℕ
+
+abbrev pub kept_by : Inside → FoldFields
+kept_by fold = record { holdover = fold.holdover; feeds = fold.feeds.items; leaps = fold.leaps; length = fold.length }
 
 -- a fold stands for lawful settings and a journal of lawful entries
 pub record StandsFor (fold : FoldFields) (settings : SettingsFields) (journal : List Entry) : Type 0 where

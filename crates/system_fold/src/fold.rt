@@ -8,8 +8,9 @@ ghost use Rattle.system_fold.specs.Standing.{StandsFor, blank, feeds_of};
 
 use crate::feed::Feed;
 use crate::fit::find_fit;
+use crate::inputs::PageInputs;
 use crate::leaps::Leaps;
-use crate::page::{Occasion, page_within};
+use crate::page::page_within;
 use crate::source::Source;
 use crate::{Settings, SourceKind};
 use arrayvec::ArrayVec;
@@ -32,13 +33,13 @@ pub struct FoldState {
 }
 
 impl Model for FoldState {
-    ghost use Rattle.system_fold.specs.Standing.{FoldFields, IsFold};
+    ghost use Rattle.system_fold.specs.Standing.{FoldFields, IsFold, kept_by};
 
     ghost Value = { FoldFields };
 
-    ghost view = { λ s. record { holdover = s.holdover; feeds = s.feeds.items; leaps = s.leaps; length = s.length } };
+    ghost view = { kept_by };
 
-    ghost invariant = { λ s. IsFold (record { holdover = s.holdover; feeds = s.feeds.items; leaps = s.leaps; length = s.length }) s.fit.items s.sweep };
+    ghost invariant = { λ s. IsFold (kept_by s) s.fit.items s.sweep };
 }
 
 // Of each feed what it is, and no sample.
@@ -112,12 +113,12 @@ impl FoldState {
     pub fn page(&self) -> Page
         ensures { (settings : SettingsFields) (journal : List Entry) → StandsFor self.now settings journal → result ≡ page_of settings journal }
     {
-        let occasion = Occasion {
+        let inputs = PageInputs {
             length: self.length,
             moment: self.leaps.latest,
             holdover: self.holdover,
             armed: self.leaps.armed(),
         };
-        page_within(&occasion, self.fit.as_slice(), &self.sweep.chime())
+        page_within(&inputs, self.fit.as_slice(), &self.sweep.chime())
     }
 }

@@ -96,23 +96,23 @@ pub fn survivors_in(chime: &Chime, fit: &[Source], now: Local) -> Survivors
 fn source_at(fit: &[Source], feed: u32) -> Option<Source>
     ensures { result ≡ find (λ s. s.feed == feed) fit.now }
 {
-    let mut rest = fit;
-    'sources: while let [source, more @ ..] = rest {
+    let mut further = fit;
+    'sources: while let [source, more @ ..] = further {
         if source.feed == feed {
             return Some(*source);
         }
-        rest = more;
+        further = more;
     }
     None
 }
 
 /// The sources of survivors, in their order.
-pub fn sources_at(fit: &[Source], rest: &[Survivor]) -> ArrayVec<Source, 16>
-    requires { length rest.now ≤ 16 }
-    ensures { result.items ≡ selecting.sources_at fit.now rest.now }
+pub fn sources_at(fit: &[Source], survivors: &[Survivor]) -> ArrayVec<Source, 16>
+    requires { length survivors.now ≤ 16 }
+    ensures { result.items ≡ selecting.sources_at fit.now survivors.now }
 {
     let mut left = ArrayVec::new();
-    for survivor in rest {
+    for survivor in survivors {
         push_some(&mut left, source_at(fit, survivor.feed));
     }
     left
