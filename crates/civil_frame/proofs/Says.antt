@@ -1,7 +1,7 @@
 -- The rules on the numbers of a frame that says a minute of a civil date: none of them is broken.
 use Rattle.std.proofs.Common.{◌≡◌, ℕ, ◌+◌, ◌*◌, ◌/◌, ◌%◌, ◌<◌, ◌≤◌, true, false, ◌||◌, ◌==◌, nat_lt, refl, sym, ap, ◌∙◌, arith}
 use Rattle.std.proofs.lemmas.Bool.Decides.{nat_tests}
-use Rattle.tick_units.specs.Rules.{is_out_of}
+use Rattle.frame_rules.specs.Rules.{is_out_of}
 use Rattle.civil_minute.specs.Dates.{is_date, day_number, second_of, weekday_of, weekday_of_day}
 use Rattle.civil_minute.specs.Seconds.{Shows}
 use Rattle.civil_minute.specs.declared.seconds.CivilMinute.{CivilMinute}

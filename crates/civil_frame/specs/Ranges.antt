@@ -1,7 +1,7 @@
 -- The ranges of the numbers of a civil date and time, by the calendar and the 24-hour clock of ISO 8601. Each rule is a test
 -- that is true where the rule is broken.
 use Rattle.std.specs.Prelude.{Bool, ◌||◌, ◌==◌, nat_lt}
-use Rattle.tick_units.specs.Rules.{is_out_of}
+use Rattle.frame_rules.specs.Rules.{is_out_of}
 use Rattle.frame_rules.specs.Numbers.{number_of}
 use Rattle.frame_rules.specs.declared.numbers.Number.{Number}
 use Rattle.civil_frame.specs.declared.civil_time.CivilTime.{CivilTime}

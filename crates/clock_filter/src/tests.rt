@@ -192,7 +192,7 @@ fn the_later_of_equal_delays_comes_first(rt: HostRuntime) -> Result<(), Fail> {
     Ok(())
 }
 
-// A server's own delay and dispersion are part of the way to its reference clock.
+// A server's own delay and dispersion are part of its distance.
 #[test]
 fn an_exchange_with_a_server(rt: HostRuntime) -> Result<(), Fail> {
     let mut filter = Filter::new();

@@ -27,9 +27,9 @@ pub struct Page {
     pub anchor: Local,
     /// The moment from which on the page isn't synchronised, in microseconds.
     pub until: u64,
-    /// The way to the reference clock and back.
+    /// The round-trip delay to the reference clock.
     pub root_delay: Short,
-    /// The dispersion on the way to the reference clock, at the anchor.
+    /// The dispersion of the time that comes from the reference clock, at the anchor.
     pub root_disp: Short,
     /// When the reference clock was last heard.
     pub reftime: Stamp,

@@ -3,4 +3,4 @@ use Rattle.feed_link.specs.Openings.{OutsideState}
 use Rattle.feed_link.specs.declared.memory_outside.MemoryOutside.{MemoryOutside}
 
 abbrev pub outside_state : MemoryOutside → OutsideState
-outside_state s = record { openings = s.ledger; faults = s.faults }
+outside_state s = record { openings = s.ledger.openings; room = s.ledger.room; faults = s.faults }

@@ -1,6 +1,7 @@
--- What a source has left and what a sink holds, where they tell it, and how often they have failed. What is told after a
--- call was told before it too. The rules of the calls are those of Rust's `Read` and `Write`.
+-- What a source has left, what a sink holds and what befell a link, where they tell it, and how often they have failed. What
+-- is told after a call was told before it too. The rules of the calls are those of Rust's `Read` and `Write`.
 use Rattle.std.specs.Prelude.{◌≡◌, ℕ, ◌<◌, Option, None, Some, List, [], ◌++◌, length, take, Result, MatchResult}
+use Rattle.feed_link.specs.declared.outside.Address.{Address}
 
 -- a source at one moment: the bytes that are left, where they are known, and its count of faults
 pub record SourceState : Type 0 where
@@ -12,17 +13,31 @@ pub record SinkState : Type 0 where
   pub held : Option (List ℕ)
   pub faults : ℕ
 
+-- what befell a link: a datagram came, with its sender, its moment and its bytes; nothing came for a while; nothing will come
+-- any more; it told a moment; a datagram was sent, with its receiver and its bytes. Moments are in microseconds.
+pub data LinkEvent : Type 0 where
+  Datagram : Address → ℕ → List ℕ → LinkEvent
+  Quiet : LinkEvent
+  End : LinkEvent
+  Moment : ℕ → LinkEvent
+  Sent : Address → List ℕ → LinkEvent
+
+-- a link at one moment: its events so far, where they are known, and its count of faults
+pub record LinkState : Type 0 where
+  pub events : Option (List LinkEvent)
+  pub faults : ℕ
+
 -- the bytes left were these bytes and those left now
 abbrev pub Takes : Option (List ℕ) → Option (List ℕ) → List ℕ → Type 0
 Takes before None bytes = Unit {0}
 Takes None (Some now) bytes = ⊥
 Takes (Some before) (Some now) bytes = before ≡ bytes ++ now
 
--- the bytes held are those held before and these bytes
-abbrev pub Adds : Option (List ℕ) → Option (List ℕ) → List ℕ → Type 0
-Adds before None bytes = Unit {0}
-Adds None (Some now) bytes = ⊥
-Adds (Some before) (Some now) bytes = now ≡ before ++ bytes
+-- what is told now is what was told before and these at its end
+abbrev pub Adds : {T : Type 0} → Option (List T) → Option (List T) → List T → Type 0
+Adds before None more = Unit {0}
+Adds None (Some now) more = ⊥
+Adds (Some before) (Some now) more = now ≡ before ++ more
 
 -- no byte is left
 abbrev pub NoneLeft : Option (List ℕ) → Type 0

@@ -26,7 +26,7 @@ where
 {
     type Log = FileSource<R::File>;
 
-    ghost state = { λ s. record { openings = None; faults = s.faults } };
+    ghost state = { λ s. record { openings = None; room = record { openings = 0; names = 0 }; faults = s.faults } };
 
     fn open_log(&mut self, name: &str) -> Result<FileSource<R::File>, Failed> {
         match fs::open(self.rt, name) {

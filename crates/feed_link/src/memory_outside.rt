@@ -93,7 +93,7 @@ impl MemoryOutside {
         openings: usize,
         names: usize,
     ) -> Result<MemoryOutside, FakeOpen>
-        ensures { IfOk result (λ outside. outside_state outside ≡ record { openings = Some []; faults = 0 }) }
+        ensures { IfOk result (λ outside. outside_state outside ≡ record { openings = Some []; room = record { openings = openings; names = names }; faults = 0 }) }
     {
         let mut places = Vec::with_capacity(alloc, logs.len())?;
         for NamedLog { name, log } in logs {
@@ -113,7 +113,7 @@ impl MemoryOutside {
 impl Outside for MemoryOutside {
     type Log = MemorySource;
 
-    ghost state = { λ s. record { openings = s.ledger; faults = s.faults } };
+    ghost state = { λ s. record { openings = s.ledger.openings; room = s.ledger.room; faults = s.faults } };
 
     fn open_log(&mut self, name: &str) -> Result<MemorySource, Failed> {
         self.calls = self.calls.saturating_add(1);

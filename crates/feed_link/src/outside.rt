@@ -1,7 +1,9 @@
-ghost use Rattle.std.specs.Prelude.{◌≡◌, ℕ, ◌<◌, ◌≤◌, Some, None, length, IfOk, MatchResult};
+ghost use Rattle.std.specs.Prelude.{◌≡◌, ℕ, ◌<◌, ◌≤◌, ◌∷◌, [], length, IfOk, MatchResult};
 ghost use Rattle.feed_link.specs.Faults.{HasCause};
 ghost use Rattle.feed_link.specs.Told.{SourceState, SinkState, Reads, Writes};
-ghost use Rattle.feed_link.specs.Openings.{OutsideState, Grows, IsNext, IsOut, GivesBack};
+ghost use Rattle.feed_link.specs.Openings.{OutsideState, GrowsBy, IsNext, IsOut, GivesBack, answered, failed};
+ghost use Rattle.feed_link.specs.Openings.Wanted.{LogOf};
+ghost use Rattle.feed_link.specs.Openings.State.{OfLog};
 
 /// A call of the outside failed. The count of faults of the object that was called has risen.
 #[derive(Clone, Copy, Debug, PartialEq, Eq)]
@@ -45,22 +47,21 @@ pub trait Sink {
 
 /// What a station opens, and gives back.
 pub trait Outside {
-    type Log: Source;
+    type Log: Source + Drop;
 
-    /// What it tells: its openings in order, and how often it has failed.
+    /// What it tells: its openings in order, its room for them, and how often it has failed.
     ghost state: { Self → OutsideState };
 
     /// Opens the log of this name.
     fn open_log(&mut self, name: &str) -> Result<Self::Log, Failed>
         ensures opened { MatchResult result
-            (λ log. Grows (state self.old).openings (state self.new).openings (record { name = name.now; opened = Some (Self.Log.state log); back = None }))
-            (λ _. Grows (state self.old).openings (state self.new).openings (record { name = name.now; opened = None; back = None })) }
+            (λ log. GrowsBy (state self.old) (state self.new) (answered (LogOf name.now) (OfLog (Self.Log.state log)) ∷ []))
+            (λ _. GrowsBy (state self.old) (state self.new) (failed (LogOf name.now) ∷ [])) }
         ensures number { IfOk result (λ log. IsNext (state self.old).openings (Self.Log.opening log)) }
         ensures cause { HasCause (state self.old).faults (state self.new).faults result };
 
     /// Takes back a log that it opened.
     fn give_back_log(&mut self, log: Self::Log)
         requires { IsOut (state self.old).openings (Self.Log.opening log) }
-        ensures back { GivesBack (state self.old).openings (state self.new).openings (Self.Log.opening log) (Self.Log.state log) }
-        ensures faults { (state self.new).faults ≡ (state self.old).faults };
+        ensures { GivesBack (state self.old) (state self.new) (Self.Log.opening log) (OfLog (Self.Log.state log)) };
 }

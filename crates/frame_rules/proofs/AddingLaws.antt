@@ -3,9 +3,9 @@ use Rattle.std.proofs.Common.{◌≡◌, ℕ, ◌+◌, ◌<◌, ◌≤◌, Bool,
 use Rattle.std.specs.List.{last_or}
 use Rattle.std.proofs.lemmas.List.{length-append, take_all, take-append-le, drop-append-le, drop_all}
 use Rattle.std.proofs.lemmas.List.Folds.{list_any-append}
-use Rattle.tick_units.specs.Fields.{has_a, has_b}
+use Rattle.frame_rules.specs.Fields.{has_a, has_b}
 use Rattle.tick_units.specs.Marks.{is_between, is_long}
-use Rattle.tick_units.specs.Rules.{starts_of, are_spaced, is_odd, has_odd_symbol}
+use Rattle.frame_rules.specs.Rules.{starts_of, are_spaced, is_odd, has_odd_symbol}
 use Rattle.tick_units.specs.declared.marks.Mark.{Mark}
 use Rattle.tick_units.specs.declared.marks.Symbol.{Symbol}
 use Rattle.frame_rules.specs.MarkRules.{breaks_spacing, breaks_spacing_to, breaks_width}

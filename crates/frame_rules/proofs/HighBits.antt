@@ -1,7 +1,7 @@
 -- What the bits of a spelling are worth that has the highest first.
 use Rattle.std.proofs.Common.{◌≡◌, ℕ, zero, suc, ◌+◌, ◌*◌, ◌/◌, ◌%◌, ◌<◌, ◌==◌, Bool, true, false, refl, arith}
 use Rattle.std.specs.Prelude.{if◌then◌else◌}
-use Rattle.tick_units.specs.Digits.{bit_symbol}
+use Rattle.frame_rules.specs.Digits.{bit_symbol}
 use Rattle.tick_units.specs.declared.marks.Symbol.{Symbol}
 use Rattle.tick_units.specs.declared.marks.Symbol.TheVariants.{Zero, One}
 

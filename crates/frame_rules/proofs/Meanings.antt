@@ -2,7 +2,7 @@
 use Rattle.std.proofs.Common.{◌≡◌, ℕ, ◌≤◌, Bool, true, false, ◌&&◌, ◌==◌, not, Some, None, refl, arith}
 use Rattle.std.proofs.lemmas.Bool.Decides.{nat_tests}
 use Rattle.std.specs.Prelude.{if◌then◌else◌}
-use Rattle.tick_units.specs.Rules.{is_out_of}
+use Rattle.frame_rules.specs.Rules.{is_out_of}
 
 pub found_is : (test : Bool) (wanted found : ℕ) → Some found ≡ (if test then Some wanted else None) → (test ≡ true) × (found ≡ wanted)
 found_is true wanted found e = (refl, cc)

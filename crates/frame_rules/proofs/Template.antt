@@ -1,8 +1,8 @@
 -- Marks that have given symbols.
 use Rattle.std.proofs.Common.{◌≡◌, ℕ, List, [], ◌∷◌, get_or, Bool, refl, ap}
 use Rattle.std.specs.List.{list_any}
-use Rattle.tick_units.specs.Fields.{symbols_of, is_set}
-use Rattle.tick_units.specs.Rules.{is_odd, has_odd_symbol}
+use Rattle.frame_rules.specs.Fields.{symbols_of, is_set}
+use Rattle.frame_rules.specs.Rules.{is_odd, has_odd_symbol}
 use Rattle.tick_units.specs.declared.marks.Mark.{Mark}
 use Rattle.tick_units.specs.declared.marks.Symbol.{Symbol}
 use Rattle.tick_units.specs.declared.marks.Symbol.TheVariants.{Zero}

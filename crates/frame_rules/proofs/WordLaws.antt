@@ -6,7 +6,7 @@ use Rattle.std.proofs.lemmas.List.{get_or-take}
 use Rattle.std.proofs.lemmas.Nat.{or_comm, or_shifted, shl_whole}
 use Rattle.std.proofs.lemmas.Nat.Bits.{bit_at-zero, bit_at_lowest, bit_at-suc}
 use Rattle.std.proofs.Math.Nat.{pow-suc}
-use Rattle.tick_units.specs.Fields.{is_one, has_a, has_b, is_set, symbols_of}
+use Rattle.frame_rules.specs.Fields.{is_one, has_a, has_b, is_set, symbols_of}
 use Rattle.tick_units.specs.declared.marks.Mark.{Mark}
 use Rattle.tick_units.specs.declared.marks.Symbol.{Symbol}
 use Rattle.tick_units.specs.declared.marks.Symbol.TheVariants.{Zero, One, OnlyB, Both, Long, Odd}

@@ -1,6 +1,6 @@
 -- Which bit of a symbol the readers of the three plans look at (PTB on DCF77, NPL on MSF, NIST SP 432 on WWVB).
 use Rattle.std.specs.Prelude.{Bool}
-use Rattle.tick_units.specs.Fields.{is_one, has_a, has_b}
+use Rattle.frame_rules.specs.Fields.{is_one, has_a, has_b}
 use Rattle.tick_units.specs.declared.marks.Symbol.{Symbol}
 use Rattle.frame_rules.specs.declared.bits.Bit.{Bit}
 use Rattle.frame_rules.specs.declared.bits.Bit.TheVariants.{Only, A, B}

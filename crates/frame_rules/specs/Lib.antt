@@ -1,5 +1,10 @@
-pub mod Bits
-pub mod First
+-- Read Fields (bits, weights, counts of a segment's places), Rules and MarkRules (what breaks a rule) and First (which rule is
+-- named); Numbers, Digits and Bits are small words of theirs. Words is scaffolding.
+pub mod Fields
+pub mod Rules
 pub mod MarkRules
+pub mod First
 pub mod Numbers
+pub mod Digits
+pub mod Bits
 pub mod Words

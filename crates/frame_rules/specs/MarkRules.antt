@@ -1,7 +1,7 @@
 -- The rules on the marks of a segment, which the three code plans share. Each is a test of the whole segment that is true
 -- where the rule is broken. The bounds in microseconds are this project's own.
 use Rattle.std.specs.Prelude.{ℕ, Bool, not, ◌==◌, IsTrue, IsFalse, ◌≡◌, List, length}
-use Rattle.tick_units.specs.Rules.{starts_of, are_spaced, are_spaced_to, has_odd_symbol}
+use Rattle.frame_rules.specs.Rules.{starts_of, are_spaced, are_spaced_to, has_odd_symbol}
 use Rattle.tick_units.specs.declared.marks.Mark.{Mark}
 use Rattle.tick_units.specs.declared.marks.Symbol.{Symbol}
 

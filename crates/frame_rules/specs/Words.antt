@@ -2,7 +2,7 @@
 -- long as a minute, so the bits of 61 places are kept, and of the marks behind them what a rule on all marks asks.
 use Rattle.std.specs.Prelude.{◌≡◌, ℕ, ◌+◌, ◌*◌, Bool, true, min, Option, Some, None, List, [], ◌∷◌, length, take, drop, if◌then◌else◌}
 use Rattle.std.specs.List.{last_or, list_any}
-use Rattle.tick_units.specs.Fields.{has_a, has_b}
+use Rattle.frame_rules.specs.Fields.{has_a, has_b}
 use Rattle.tick_units.specs.Marks.{is_between, is_long}
 use Rattle.tick_units.specs.declared.marks.Mark.{Mark}
 use Rattle.tick_units.specs.declared.marks.Symbol.{Symbol}

@@ -1,8 +1,8 @@
 //! Bits of places, and what they add up to. Places count from 0.
 ghost use Rattle.std.specs.Prelude.{◌≡◌, ◌+◌, ◌<◌, ◌≤◌, List, length, sum};
 ghost use Rattle.tick_units.specs.Marks.{is_long};
-ghost use Rattle.tick_units.specs.Rules.{is_odd};
-ghost use Rattle.tick_units.specs.Fields.{value, is_odd_over, has_pattern};
+ghost use Rattle.frame_rules.specs.Rules.{is_odd};
+ghost use Rattle.frame_rules.specs.Fields.{value, is_odd_over, has_pattern};
 ghost use Rattle.tick_units.specs.declared.marks.Mark.{Mark};
 ghost use Rattle.frame_rules.specs.Bits.{has_bit};
 

@@ -1,6 +1,6 @@
 //! Numbers of two digits.
 ghost use Rattle.std.specs.Prelude.{◌≡◌, ◌^◌, ◌<◌};
-ghost use Rattle.tick_units.specs.Rules.{is_out_of};
+ghost use Rattle.frame_rules.specs.Rules.{is_out_of};
 ghost use Rattle.frame_rules.specs.Numbers.{number_of};
 
 /// A number of two digits as the places of a frame say it: the sum of the weights of its tens, as 10, 20, 40 and 80, and

@@ -1,6 +1,6 @@
 //! The bits of the places of a segment as numbers.
 ghost use Rattle.std.specs.Prelude.{◌≡◌, ◌<◌, false, min, Bool, List, [], ◌∷◌, ◌++◌, length, take, drop};
-ghost use Rattle.tick_units.specs.Fields.{is_set};
+ghost use Rattle.frame_rules.specs.Fields.{is_set};
 ghost use Rattle.tick_units.specs.Marks.{is_long};
 ghost use Rattle.tick_units.specs.declared.marks.Mark.{Mark};
 ghost use Rattle.tick_units.specs.declared.marks.Symbol.{Symbol};

@@ -1,6 +1,6 @@
 //! What the rules of the code plans ask of a segment.
 ghost use Rattle.std.specs.Prelude.{◌≡◌, ◌<◌, min, List, length, drop};
-ghost use Rattle.tick_units.specs.Fields.{is_set};
+ghost use Rattle.frame_rules.specs.Fields.{is_set};
 ghost use Rattle.tick_units.specs.Marks.{is_long};
 ghost use Rattle.tick_units.specs.declared.marks.Mark.{Mark};
 ghost use Rattle.frame_rules.specs.Bits.{has_bit};

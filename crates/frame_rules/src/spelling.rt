@@ -1,6 +1,6 @@
 //! The symbols of a frame, written one after another.
 ghost use Rattle.std.specs.Prelude.{◌≡◌, ◌+◌, ◌<◌, ◌≤◌, List, [], ◌∷◌, ◌++◌, length, take, drop};
-ghost use Rattle.tick_units.specs.Digits.{bit_symbol, high_bits_of, high_digits_of};
+ghost use Rattle.frame_rules.specs.Digits.{bit_symbol, high_bits_of, high_digits_of};
 
 use std::marker::Model;
 use tick_units::Symbol;

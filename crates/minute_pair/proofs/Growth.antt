@@ -3,7 +3,7 @@ use Rattle.std.proofs.Common.{◌≡◌, true, None, List, [], ◌∷◌, ◌++�
 use Rattle.std.specs.List.{last_or}
 use Rattle.std.proofs.lemmas.Bool.{cases_Bool}
 use Rattle.std.proofs.lemmas.List.{append-nil}
-use Rattle.tick_units.specs.Segments.{Segment, is_boundary, cut, segments_of}
+use Rattle.minute_pair.specs.Segments.{Segment, is_boundary, cut, segments_of}
 use Rattle.tick_units.specs.declared.marks.Mark.{Mark}
 use Rattle.tick_units.specs.declared.marks.Plan.{Plan}
 use Rattle.minute_pair.proofs.Pieces.{cut_boundary, cut_goes_on, segments_close, segments_open, segments_same}

@@ -1,7 +1,7 @@
 -- The pieces and segments of marks, with one more mark.
 use Rattle.std.proofs.Common.{◌≡◌, ℕ, true, false, cond, Option, Some, None, List, [], ◌∷◌, ◌++◌, drop, refl, ap, sym, ◌∙◌, append_assoc}
 use Rattle.std.specs.List.{onto_first, last_or}
-use Rattle.tick_units.specs.Segments.{is_boundary, cut, closed, start_of, segments_of}
+use Rattle.minute_pair.specs.Segments.{is_boundary, cut, closed, start_of, segments_of}
 use Rattle.tick_units.specs.declared.marks.Mark.{Mark}
 use Rattle.tick_units.specs.declared.marks.Plan.{Plan}
 

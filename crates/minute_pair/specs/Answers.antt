@@ -1,7 +1,7 @@
 -- What each segment of a log comes to, by itself and by the one just before it. That two frames in a row have to agree is
 -- this project's own rule; what a frame says is told by the code plans.
 use Rattle.std.specs.Prelude.{ℕ, ◌+◌, ◌-◌, ◌*◌, Bool, false, ◌&&◌, ◌||◌, ◌==◌, nat_le, Option, None, Some, Result, Ok, Err, List, [], ◌∷◌, length, if◌then◌else◌}
-use Rattle.tick_units.specs.Segments.{Segment}
+use Rattle.minute_pair.specs.Segments.{Segment}
 use Rattle.tick_units.specs.declared.marks.Plan.{Plan}
 use Rattle.tick_units.specs.declared.marks.Plan.TheVariants.{Dcf, Msf, Wwvb}
 use Rattle.tick_units.specs.declared.verdicts.Broken.{Broken}

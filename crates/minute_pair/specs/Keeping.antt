@@ -1,7 +1,7 @@
 -- What the keeper of segments stands for: its plan and the marks that it has heard.
 use Rattle.std.specs.Prelude.{◌≡◌, nat_lt, None, List, [], ◌∷◌, ◌++◌, length}
 use Rattle.std.specs.List.{last_or}
-use Rattle.tick_units.specs.Segments.{Segment, cut, segments_of}
+use Rattle.minute_pair.specs.Segments.{Segment, cut, segments_of}
 use Rattle.tick_units.specs.declared.marks.Mark.{Mark}
 use Rattle.tick_units.specs.declared.marks.Plan.{Plan}
 use Rattle.minute_pair.specs.Answers.{judged, has_leap_second}

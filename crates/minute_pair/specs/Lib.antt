@@ -1,5 +1,8 @@
+-- Read Segments (the minutes of a list of marks), Answers (what each comes to) and Years. Plans, Keeping and Pairing are
+-- scaffolding.
+pub mod Segments
 pub mod Answers
+pub mod Years
+pub mod Plans
 pub mod Keeping
 pub mod Pairing
-pub mod Plans
-pub mod Years

@@ -1,7 +1,7 @@
 -- What a pairing stands for: the marks that it has heard.
 use Rattle.std.specs.Prelude.{◌≡◌, ℕ, ◌-◌, ◌&&◌, ◌||◌, ◌==◌, nat_le, Option, None, Some, Result, Ok, Err, List, if◌then◌else◌}
 use Rattle.std.specs.List.{last_or}
-use Rattle.tick_units.specs.Segments.{Segment, segments_of}
+use Rattle.minute_pair.specs.Segments.{Segment, segments_of}
 use Rattle.tick_units.specs.declared.marks.Mark.{Mark}
 use Rattle.tick_units.specs.declared.marks.Plan.{Plan}
 use Rattle.tick_units.specs.declared.verdicts.Broken.{Broken}

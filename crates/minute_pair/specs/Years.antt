@@ -1,13 +1,12 @@
--- In which years minutes lie. Two-digit years are 2000 to 2099 in all three plans, and a clock is at most two hours ahead of
--- UTC; a day before and two behind are left as room.
+-- That minutes lie in the years that seconds are told in.
 use Rattle.std.specs.Prelude.{◌≢◌, ℕ, ◌<◌, ◌≤◌}
+use Rattle.tick_units.specs.Years.{first_told, end_of_told}
 use Rattle.tick_units.specs.declared.verdicts.Coded.{Coded}
 use Rattle.tick_units.specs.declared.verdicts.Kind.{Kind}
 use Rattle.tick_units.specs.declared.verdicts.Kind.TheVariants.{Verdict, Lone, Differs, Refused}
 
--- from 1999-12-31 on, and before 2100-01-03
 abbrev pub IsInYears : ℕ → Type 0
-IsInYears second = (3155587200 ≤ second) × (second < 6311606400)
+IsInYears second = (first_told ≤ second) × (second < end_of_told)
 
 -- a minute, and its leap second where it has one
 pub record HasYears (second leap_at : ℕ) : Type 0 where

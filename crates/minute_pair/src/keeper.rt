@@ -1,6 +1,6 @@
 ghost use Rattle.std.specs.Prelude.{◌≡◌, ◌+◌, ◌<◌, ◌^◌, true, ◌++◌, ◌∷◌, [], List, MatchOption, IfOk, IfSome};
 ghost use Rattle.tick_units.specs.Marks.{is_between};
-ghost use Rattle.tick_units.specs.Segments.{is_boundary, segments_of};
+ghost use Rattle.minute_pair.specs.Segments.{is_boundary, segments_of};
 ghost use Rattle.tick_units.specs.declared.marks.Mark.{Mark};
 ghost use Rattle.tick_units.specs.declared.marks.Plan.{Plan};
 ghost use Rattle.minute_pair.specs.Plans.{HasRead};

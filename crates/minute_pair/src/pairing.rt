@@ -1,6 +1,6 @@
 ghost use Rattle.std.specs.Prelude.{◌≡◌, ◌++◌, ◌∷◌, [], List, IfSome};
 ghost use Rattle.std.specs.Option.{option_to_list};
-ghost use Rattle.tick_units.specs.Segments.{segments_of};
+ghost use Rattle.minute_pair.specs.Segments.{segments_of};
 ghost use Rattle.tick_units.specs.declared.marks.Mark.{Mark};
 ghost use Rattle.tick_units.specs.declared.marks.Plan.{Plan};
 ghost use Rattle.minute_pair.specs.Answers.{answers};

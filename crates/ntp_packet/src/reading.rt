@@ -1,3 +1,4 @@
+//! Reads a header from bytes.
 ghost use Rattle.std.specs.Prelude.{◌≡◌, ◌≤◌, ◌+◌, ◌↔◌, length, IsSome, IfSome};
 ghost use Rattle.byteorder.specs.Endian.{big_from};
 ghost use Rattle.ntp_packet.specs.Layout.{Fits, fields};

@@ -1,7 +1,7 @@
 -- The rule on the leap minute, of a segment that says a minute.
 use Rattle.std.proofs.Common.{◌≡◌, ℕ, Bool, true, not, ◌&&◌, ◌||◌, ◌==◌, List, length, refl}
 use Rattle.std.specs.Bool.{beq}
-use Rattle.tick_units.specs.Fields.{is_one, is_set}
+use Rattle.frame_rules.specs.Fields.{is_one, is_set}
 use Rattle.tick_units.specs.declared.marks.Mark.{Mark}
 use Rattle.civil_minute.specs.Months.{begins_month}
 use Rattle.civil_frame.specs.CivilDates.{names_minute}

@@ -3,8 +3,8 @@ use Rattle.std.proofs.Common.{◌≡◌, ℕ, zero, suc, ◌+◌, ◌-◌, ◌/�
 use Rattle.std.specs.Prelude.{if◌then◌else◌}
 use Rattle.std.specs.List.{list_any, range_with_len}
 use Rattle.std.proofs.lemmas.List.Sums.{sum_by-cons}
-use Rattle.tick_units.specs.Fields.{is_one, is_set, bit_at, value, is_odd_over, symbols_of}
-use Rattle.tick_units.specs.Rules.{is_odd, has_odd_symbol}
+use Rattle.frame_rules.specs.Fields.{is_one, is_set, bit_at, value, is_odd_over, symbols_of}
+use Rattle.frame_rules.specs.Rules.{is_odd, has_odd_symbol}
 use Rattle.tick_units.specs.declared.marks.Mark.{Mark}
 use Rattle.tick_units.specs.declared.marks.Symbol.TheVariants.{Zero}
 use Rattle.tick_units.specs.declared.verdicts.Coded.{Coded}

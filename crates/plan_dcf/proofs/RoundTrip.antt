@@ -4,8 +4,8 @@ use Rattle.std.specs.Prelude.{if◌then◌else◌}
 use Rattle.std.specs.Bool.{beq}
 use Rattle.std.proofs.lemmas.List.{length-map}
 use Rattle.std.proofs.lemmas.Bool.{cases_eq}
-use Rattle.tick_units.specs.Fields.{symbols_of}
-use Rattle.tick_units.specs.Rules.{starts_of, are_spaced}
+use Rattle.frame_rules.specs.Fields.{symbols_of}
+use Rattle.frame_rules.specs.Rules.{starts_of, are_spaced}
 use Rattle.tick_units.specs.declared.marks.Mark.{Mark}
 use Rattle.tick_units.specs.declared.marks.Symbol.TheVariants.{Zero}
 use Rattle.tick_units.specs.declared.verdicts.Coded.{Coded}

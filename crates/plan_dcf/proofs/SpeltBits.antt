@@ -1,6 +1,6 @@
 -- What the bits of a spelling are worth, and that their parities are even.
 use Rattle.std.proofs.Common.{◌≡◌, ℕ, ◌+◌, ◌*◌, ◌/◌, ◌%◌, ◌<◌, ◌==◌, false, refl, arith}
-use Rattle.tick_units.specs.Fields.{is_one}
+use Rattle.frame_rules.specs.Fields.{is_one}
 use Rattle.frame_rules.proofs.HighBits.{Tells, worth, bit_worth}
 
 tells_one : Tells is_one

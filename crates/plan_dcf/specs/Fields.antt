@@ -1,7 +1,7 @@
 -- What a DCF77 segment says, by the places and weights of PTB's description of the code. It is German civil time of the
 -- minute that begins at the mark after the segment.
 use Rattle.std.specs.Prelude.{ℕ, Bool, ◌&&◌, List, [], ◌∷◌, if◌then◌else◌}
-use Rattle.tick_units.specs.Fields.{is_one, is_set, value}
+use Rattle.frame_rules.specs.Fields.{is_one, is_set, value}
 use Rattle.tick_units.specs.declared.marks.Mark.{Mark}
 use Rattle.tick_units.specs.declared.verdicts.Coded.{Coded}
 use Rattle.civil_minute.specs.Dates.{midnight_from}

@@ -2,7 +2,7 @@
 -- code is PTB's, the numbers and the bounds are this project's.
 use Rattle.std.specs.Prelude.{ℕ, Bool, not, ◌&&◌, ◌||◌, ◌==◌, Option, List, [], ◌∷◌, length}
 use Rattle.std.specs.Bool.{beq}
-use Rattle.tick_units.specs.Fields.{is_one, is_set, is_odd_over}
+use Rattle.frame_rules.specs.Fields.{is_one, is_set, is_odd_over}
 use Rattle.tick_units.specs.declared.marks.Mark.{Mark}
 use Rattle.civil_minute.specs.Months.{begins_month}
 use Rattle.frame_rules.specs.First.{first_broken}

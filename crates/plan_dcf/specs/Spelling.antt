@@ -1,9 +1,9 @@
 -- How DCF77 spells a minute (PTB): the civil time of the minute that begins after the frame, the lowest bits first, with
 -- even parities. What the code carries besides is left 0.
 use Rattle.std.specs.Prelude.{◌≡◌, ◌⊎◌, ℕ, zero, suc, ◌/◌, ◌%◌, ◌≤◌, not, ◌==◌, IsTrue, List, [], ◌∷◌, ◌++◌, slice_index_or, replicate, count_by, if◌then◌else◌}
-use Rattle.tick_units.specs.Digits.{bit_symbol}
-use Rattle.tick_units.specs.Fields.{is_one, symbols_of}
-use Rattle.tick_units.specs.Rules.{starts_of, are_spaced}
+use Rattle.frame_rules.specs.Digits.{bit_symbol}
+use Rattle.frame_rules.specs.Fields.{is_one, symbols_of}
+use Rattle.frame_rules.specs.Rules.{starts_of, are_spaced}
 use Rattle.tick_units.specs.declared.marks.Mark.{Mark}
 use Rattle.tick_units.specs.declared.marks.Symbol.{Symbol}
 use Rattle.tick_units.specs.declared.marks.Symbol.TheVariants.{Zero, One}

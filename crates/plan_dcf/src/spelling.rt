@@ -1,7 +1,7 @@
 //! How DCF77 spells a minute.
 ghost use Rattle.std.specs.Prelude.{◌≡◌, ℕ, ◌+◌, ◌<◌, ◌≤◌, IsTrue, None, List, [], ◌∷◌, ◌++◌, length, drop};
-ghost use Rattle.tick_units.specs.Fields.{symbols_of};
-ghost use Rattle.tick_units.specs.Rules.{starts_of, are_spaced};
+ghost use Rattle.frame_rules.specs.Fields.{symbols_of};
+ghost use Rattle.frame_rules.specs.Rules.{starts_of, are_spaced};
 ghost use Rattle.tick_units.specs.declared.marks.Mark.{Mark};
 ghost use Rattle.plan_dcf.specs.Fields.{coded};
 ghost use Rattle.plan_dcf.specs.Rules.{first};

@@ -4,9 +4,9 @@ use Rattle.std.specs.Prelude.{if◌then◌else◌}
 use Rattle.std.specs.List.{range_with_len}
 use Rattle.std.proofs.lemmas.Bool.Decides.{nat_tests}
 use Rattle.std.proofs.lemmas.List.Sums.{sum_by-cons}
-use Rattle.tick_units.specs.Digits.{high_bits_of}
-use Rattle.tick_units.specs.Fields.{has_a, has_b, is_set, bit_at, ones, value, has_pattern, symbols_of}
-use Rattle.tick_units.specs.Rules.{is_odd, has_odd_symbol}
+use Rattle.frame_rules.specs.Digits.{high_bits_of}
+use Rattle.frame_rules.specs.Fields.{has_a, has_b, is_set, bit_at, ones, value, has_pattern, symbols_of}
+use Rattle.frame_rules.specs.Rules.{is_odd, has_odd_symbol}
 use Rattle.tick_units.specs.declared.marks.Mark.{Mark}
 use Rattle.civil_minute.specs.declared.seconds.CivilMinute.{CivilMinute}
 use Rattle.frame_rules.proofs.BitSymbols.{is_odd-bit_symbol}

@@ -1,8 +1,8 @@
 -- A segment that has the symbols of a spelling, and lawful spacing, is valid and says what was spelt.
 use Rattle.std.proofs.Common.{◌≡◌, ℕ, ◌%◌, ◌<◌, ◌≤◌, Bool, true, None, List, length, get_or, refl, sym, ap, subst, ◌∙◌, arith}
 use Rattle.std.proofs.lemmas.List.{length-map}
-use Rattle.tick_units.specs.Fields.{has_a, has_b, symbols_of}
-use Rattle.tick_units.specs.Rules.{are_spaced_to}
+use Rattle.frame_rules.specs.Fields.{has_a, has_b, symbols_of}
+use Rattle.frame_rules.specs.Rules.{are_spaced_to}
 use Rattle.tick_units.specs.declared.marks.Mark.{Mark}
 use Rattle.tick_units.specs.declared.marks.Symbol.TheVariants.{Zero}
 use Rattle.tick_units.specs.declared.verdicts.Coded.{Coded}

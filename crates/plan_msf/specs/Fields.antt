@@ -1,7 +1,7 @@
 -- What an MSF segment says, by the places and weights of NPL's description of the code. It is UK civil time of the minute
 -- that begins at the mark after the segment. Each second has two bits, A and B.
 use Rattle.std.specs.Prelude.{ℕ, Bool, List, [], ◌∷◌, if◌then◌else◌}
-use Rattle.tick_units.specs.Fields.{has_a, has_b, is_set, value}
+use Rattle.frame_rules.specs.Fields.{has_a, has_b, is_set, value}
 use Rattle.tick_units.specs.declared.marks.Mark.{Mark}
 use Rattle.tick_units.specs.declared.verdicts.Coded.{Coded}
 use Rattle.civil_frame.specs.Seconds.{minute_start}

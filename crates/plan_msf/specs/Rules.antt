@@ -1,7 +1,7 @@
 -- The rules of MSF. Each is a test of the whole segment, and of the start of the mark that closes it, that is true where the
 -- rule is broken; what it wants of the code is NPL's, the numbers and the bounds are this project's.
 use Rattle.std.specs.Prelude.{ℕ, ◌+◌, ◌%◌, Bool, true, false, not, ◌==◌, Option, List, [], ◌∷◌}
-use Rattle.tick_units.specs.Fields.{has_a, has_b, bit_at, ones, has_pattern}
+use Rattle.frame_rules.specs.Fields.{has_a, has_b, bit_at, ones, has_pattern}
 use Rattle.tick_units.specs.declared.marks.Mark.{Mark}
 use Rattle.frame_rules.specs.First.{first_broken}
 use Rattle.frame_rules.specs.MarkRules.{breaks_spacing_to, breaks_width, breaks_length}

@@ -1,9 +1,9 @@
 -- How MSF spells a minute (NPL): the civil time of the minute that begins after the frame, the highest bits first, with odd
 -- parities. What the code carries besides is left 0.
 use Rattle.std.specs.Prelude.{◌≡◌, ℕ, ◌%◌, ◌≤◌, Bool, false, true, ◌==◌, List, [], ◌∷◌, ◌++◌, replicate, slice_index_or, count_by}
-use Rattle.tick_units.specs.Digits.{high_bits_of, high_digits_of}
-use Rattle.tick_units.specs.Fields.{has_a, has_b, is_set}
-use Rattle.tick_units.specs.Rules.{are_spaced_to}
+use Rattle.frame_rules.specs.Digits.{high_bits_of, high_digits_of}
+use Rattle.frame_rules.specs.Fields.{has_a, has_b, is_set}
+use Rattle.frame_rules.specs.Rules.{are_spaced_to}
 use Rattle.tick_units.specs.declared.marks.Mark.{Mark}
 use Rattle.tick_units.specs.declared.marks.Symbol.{Symbol}
 use Rattle.tick_units.specs.declared.marks.Symbol.TheVariants.{Zero, One, Both, Long}

@@ -1,8 +1,8 @@
 //! How MSF spells a minute.
 ghost use Rattle.std.specs.Prelude.{◌≡◌, ℕ, ◌%◌, ◌<◌, IsTrue, None, List, ◌∷◌, ◌++◌, replicate, length, drop};
-ghost use Rattle.tick_units.specs.Digits.{high_bits_of};
-ghost use Rattle.tick_units.specs.Fields.{symbols_of};
-ghost use Rattle.tick_units.specs.Rules.{are_spaced_to};
+ghost use Rattle.frame_rules.specs.Digits.{high_bits_of};
+ghost use Rattle.frame_rules.specs.Fields.{symbols_of};
+ghost use Rattle.frame_rules.specs.Rules.{are_spaced_to};
 ghost use Rattle.tick_units.specs.declared.marks.Mark.{Mark};
 ghost use Rattle.plan_msf.specs.Fields.{coded};
 ghost use Rattle.plan_msf.specs.Rules.{first};

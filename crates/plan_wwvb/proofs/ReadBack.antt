@@ -3,9 +3,9 @@ use Rattle.std.proofs.Common.{◌≡◌, ℕ, zero, suc, ◌+◌, ◌*◌, ◌/�
 use Rattle.std.proofs.lemmas.Bool.{cases_eq}
 use Rattle.std.proofs.lemmas.Bool.Decides.{nat_tests}
 use Rattle.std.specs.List.{list_any, range_with_len}
-use Rattle.tick_units.specs.Fields.{is_one, is_set, value, has_pattern, symbols_of}
+use Rattle.frame_rules.specs.Fields.{is_one, is_set, value, has_pattern, symbols_of}
 use Rattle.tick_units.specs.Marks.{is_long}
-use Rattle.tick_units.specs.Rules.{has_odd_symbol}
+use Rattle.frame_rules.specs.Rules.{has_odd_symbol}
 use Rattle.tick_units.specs.declared.marks.Mark.{Mark}
 use Rattle.tick_units.specs.declared.marks.Symbol.{Symbol}
 use Rattle.tick_units.specs.declared.marks.Symbol.TheVariants.{Zero}

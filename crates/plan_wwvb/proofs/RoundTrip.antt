@@ -4,9 +4,9 @@ use Rattle.std.proofs.lemmas.Bool.Decides.{nat_tests}
 use Rattle.std.proofs.lemmas.List.{length-map}
 use Rattle.std.specs.Prelude.{if◌then◌else◌}
 use Rattle.std.specs.List.{list_any, range_with_len}
-use Rattle.tick_units.specs.Fields.{is_one, is_set, has_pattern, symbols_of}
+use Rattle.frame_rules.specs.Fields.{is_one, is_set, has_pattern, symbols_of}
 use Rattle.tick_units.specs.Marks.{is_long}
-use Rattle.tick_units.specs.Rules.{are_spaced_to}
+use Rattle.frame_rules.specs.Rules.{are_spaced_to}
 use Rattle.tick_units.specs.declared.marks.Mark.{Mark}
 use Rattle.tick_units.specs.declared.marks.Symbol.TheVariants.{Zero}
 use Rattle.tick_units.specs.declared.verdicts.Coded.{Coded}

@@ -2,7 +2,7 @@
 -- segment is sent, so the mark after the segment begins the minute after that one.
 use Rattle.std.specs.Prelude.{ℕ, ◌+◌, ◌-◌, ◌*◌, Bool, false, ◌==◌, List, [], ◌∷◌, if◌then◌else◌}
 use Rattle.std.specs.List.{list_any}
-use Rattle.tick_units.specs.Fields.{is_one, is_set, value}
+use Rattle.frame_rules.specs.Fields.{is_one, is_set, value}
 use Rattle.tick_units.specs.declared.marks.Mark.{Mark}
 use Rattle.tick_units.specs.declared.verdicts.Coded.{Coded}
 use Rattle.civil_minute.specs.Dates.{second_of}

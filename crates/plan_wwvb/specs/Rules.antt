@@ -3,9 +3,9 @@
 -- project's.
 use Rattle.std.specs.Prelude.{ℕ, ◌+◌, Bool, true, false, not, ◌&&◌, ◌||◌, nat_lt, Option, List, [], ◌∷◌, length}
 use Rattle.std.specs.List.{list_any, range_with_len}
-use Rattle.tick_units.specs.Fields.{is_one, is_set, has_pattern}
+use Rattle.frame_rules.specs.Fields.{is_one, is_set, has_pattern}
 use Rattle.tick_units.specs.Marks.{is_long}
-use Rattle.tick_units.specs.Rules.{is_out_of}
+use Rattle.frame_rules.specs.Rules.{is_out_of}
 use Rattle.tick_units.specs.declared.marks.Mark.{Mark}
 use Rattle.civil_minute.specs.Dates.{year_length}
 use Rattle.civil_minute.specs.Months.{begins_month}

@@ -1,10 +1,10 @@
 -- How WWVB spells a minute (NIST SP 432): UTC of the minute in which the frame is sent, which is the one before, the highest
 -- bits first. Each ten seconds end with a marker. What the code carries besides is left 0, and DUT1 is plus.
 use Rattle.std.specs.Prelude.{◌≡◌, ◌⊎◌, ℕ, ◌-◌, ◌/◌, ◌%◌, ◌<◌, Bool, false, true, not, ◌||◌, ◌==◌, IsTrue, IsFalse, List, [], ◌∷◌, ◌++◌, replicate, slice_index_or}
-use Rattle.tick_units.specs.Digits.{bit_symbol, high_bits_of}
-use Rattle.tick_units.specs.Fields.{is_one, is_set, has_pattern, symbols_of}
+use Rattle.frame_rules.specs.Digits.{bit_symbol, high_bits_of}
+use Rattle.frame_rules.specs.Fields.{is_one, is_set, has_pattern, symbols_of}
 use Rattle.tick_units.specs.Marks.{is_between, is_long}
-use Rattle.tick_units.specs.Rules.{are_spaced_to}
+use Rattle.frame_rules.specs.Rules.{are_spaced_to}
 use Rattle.tick_units.specs.declared.marks.Mark.{Mark}
 use Rattle.tick_units.specs.declared.marks.Symbol.{Symbol}
 use Rattle.tick_units.specs.declared.marks.Symbol.TheVariants.{Zero, One, Long}

@@ -1,7 +1,7 @@
 //! The rules of WWVB, each a test of a whole segment that is true where the rule is broken.
 ghost use Rattle.std.specs.Prelude.{◌≡◌, ◌<◌, ◌&&◌, not, nat_lt, None, List, IsTrue};
 ghost use Rattle.std.specs.List.{list_all, list_any};
-ghost use Rattle.tick_units.specs.Fields.{is_one, is_set};
+ghost use Rattle.frame_rules.specs.Fields.{is_one, is_set};
 ghost use Rattle.tick_units.specs.Marks.{is_long};
 ghost use Rattle.tick_units.specs.declared.marks.Mark.{Mark};
 ghost use Rattle.frame_rules.specs.Numbers.{number_of};

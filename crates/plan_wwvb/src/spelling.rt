@@ -1,7 +1,7 @@
 //! How WWVB spells a minute.
 ghost use Rattle.std.specs.Prelude.{◌≡◌, ℕ, IsTrue, None, List, ◌++◌, length, drop};
-ghost use Rattle.tick_units.specs.Fields.{symbols_of};
-ghost use Rattle.tick_units.specs.Rules.{are_spaced_to};
+ghost use Rattle.frame_rules.specs.Fields.{symbols_of};
+ghost use Rattle.frame_rules.specs.Rules.{are_spaced_to};
 ghost use Rattle.tick_units.specs.declared.marks.Mark.{Mark};
 ghost use Rattle.plan_wwvb.specs.Fields.{coded};
 ghost use Rattle.plan_wwvb.specs.Rules.{first};

@@ -3,7 +3,7 @@
 use Rattle.std.specs.Prelude.{ℕ, ◌+◌, ◌-◌, Bool, true, false, Option, None, Some, List, [], ◌∷◌, ◌++◌, map}
 use Rattle.std.specs.List.{last_or}
 use Rattle.tick_units.specs.Marks.{marks_of}
-use Rattle.tick_units.specs.Segments.{segments_of}
+use Rattle.minute_pair.specs.Segments.{segments_of}
 use Rattle.tick_units.specs.declared.marks.Plan.{Plan}
 use Rattle.tick_units.specs.declared.marks.Reduction.{Reduction}
 use Rattle.tick_units.specs.declared.verdicts.Heard.{Heard}

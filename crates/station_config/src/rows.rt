@@ -57,22 +57,11 @@ fn text<'a>(table: &'a Table, key: &str) -> Option<&'a str>
     if text.is_empty() { None } else { Some(text) }
 }
 
-fn plan_named(word: &str) -> Option<Plan>
-    ensures { result ≡ plan_in (string word.now) }
-{
-    match word {
-        "dcf" => Some(Plan::Dcf),
-        "msf" => Some(Plan::Msf),
-        "wwvb" => Some(Plan::Wwvb),
-        _ => None,
-    }
-}
-
 fn plan(table: &Table) -> Option<Plan>
     requires { IsSome (get_member (codes "plan") (table_view table.now)) }
     ensures { IsRead plan Dcf plan_in (get_member (codes "plan") (table_view table.now)) result }
 {
-    plan_named(value_at(table, "plan")?.as_str()?)
+    Plan::of_word(value_at(table, "plan")?.as_str()?)
 }
 
 fn ip(table: &Table) -> Option<u32>

@@ -7,7 +7,7 @@ ghost use Rattle.system_fold.specs.Settings.{AreLawful, IsJournal, IsKept};
 use crate::{Settings, SourceKind, page_by_steps, page_from_scratch, page_text};
 use clock_page::Page;
 use feed_link::Address;
-use journal_entry::{Entry, What, read_entry};
+use journal_entry::{Entry, LINE_ROOM, What, read_entry};
 use std::test::Fail;
 use tick_units::{Kind, Plan, Sample, Span};
 
@@ -128,7 +128,7 @@ pub fn page_after(settings: &Settings, journal: &[Entry]) -> Result<Page, Fail> 
 
 /// The line of a page.
 pub fn line_of(rt: &HostRuntime, page: &Page) -> Result<String, Fail> {
-    let mut out = [0; 256];
+    let mut out = [0; LINE_ROOM];
     let length = page_text(page, &mut out);
     Ok(String::from_utf8(out[..length].to_vec(rt.alloc())?)?)
 }

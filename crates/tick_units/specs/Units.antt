@@ -44,3 +44,7 @@ to_short (negsuc n) = 0
 -- a span since 1900 as a stamp of 64 bits, which wraps after each era of 2^32 s
 abbrev pub stamp_of : ℤ → ℕ
 stamp_of z = unsigned_abs (int_rem_euclid z (pos (2 ^ 64)))
+
+-- the least dispersion of a source, 5 ms (MINDISP of RFC 5905, section 11), in units of 2^-32 s, rounded up
+abbrev pub least_dispersion : ℕ
+least_dispersion = 21474837

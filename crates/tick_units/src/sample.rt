@@ -1,3 +1,4 @@
+//! Samples of the time.
 use crate::{Short, Span};
 
 /// What one exchange with a server, or one minute of a radio, says of the time (RFC 5905, section 8).

@@ -1,3 +1,4 @@
+//! Signed lengths of time.
 ghost use Rattle.std.specs.Prelude.{◌≡◌, pos, ◌-ℤ◌, ◌*◌, ◌^◌, ◌<◌, ◌≤◌, unsigned_abs, IfSome, IfNone};
 ghost use Rattle.std.specs.Int.{int_min, int_max};
 ghost use Rattle.tick_units.specs.Units.{floor_div, ceil_div, square};

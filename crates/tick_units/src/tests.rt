@@ -1,4 +1,8 @@
-use crate::{Local, Short, Span, Stamp, isqrt, local_span, phi, stamp_of, to_short};
+//! Tests of units, against values from outside.
+use crate::{
+    END_OF_TOLD, FIRST_TOLD, LEAST_DISPERSION, Local, Plan, Short, Span, Stamp, is_told, isqrt,
+    local_span, phi, stamp_of, to_short,
+};
 use std::test::Fail;
 
 // A second has 2^32 units, so 500 microseconds have 0x20c49b and a part of one.
@@ -99,4 +103,46 @@ fn spans_are_reckoned_with(rt: HostRuntime) {
     assert_eq!(rt; (-five).halved_down(1).get(), -3);
     assert_eq!(rt; (-five).halved_up(1).get(), -2);
     assert_eq!(rt; Span::from(Short(3)).get(), 3 * 65_536);
+}
+
+// The letters of RFC 5905, section 7.3, figure 12, as ASCII has them.
+#[test]
+fn plans_have_words_and_letters(rt: HostRuntime) {
+    for (plan, word, letters) in [
+        (Plan::Dcf, "dcf", [68, 67, 70, 0]),
+        (Plan::Msf, "msf", [77, 83, 70, 0]),
+        (Plan::Wwvb, "wwvb", [87, 87, 86, 66]),
+    ] {
+        assert_eq!(rt; plan.word(), word);
+        assert_eq!(rt; Plan::of_word(word), Some(plan));
+        assert_eq!(rt;
+            plan.reference_id(),
+            u32::from_be_bytes(letters),
+            "of {word}"
+        );
+    }
+    for word in ["", "DCF", "dcf77", "dc", "wwv", "wwvb ", "gps"] {
+        assert_eq!(rt; Plan::of_word(word), None, "of {word}");
+    }
+}
+
+// RFC 5905, figure 4, has the last day of 1999; from 2000 on, 100 years have 36525 days.
+#[test]
+fn seconds_are_told_in_a_century(rt: HostRuntime) {
+    assert_eq!(rt; FIRST_TOLD, 3_155_587_200);
+    assert_eq!(rt; END_OF_TOLD, FIRST_TOLD + (1 + 36_525 + 2) * 86_400);
+    for (second, told) in [
+        (0, false),
+        (FIRST_TOLD - 1, false),
+        (FIRST_TOLD, true),
+        (END_OF_TOLD - 1, true),
+        (END_OF_TOLD, false),
+    ] {
+        assert_eq!(rt; is_told(second), told, "at {second}");
+    }
+}
+
+#[test]
+fn the_least_dispersion_is_5_ms(rt: HostRuntime) {
+    assert_eq!(rt; LEAST_DISPERSION, (5u64 << 32).div_ceil(1000));
 }

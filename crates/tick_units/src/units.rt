@@ -1,8 +1,13 @@
+//! Quotients of units: which way each is rounded.
 ghost use Rattle.std.specs.Prelude.{◌≡◌, ◌<◌, ◌^◌, pos, ◌≤ℤ◌};
 ghost use Rattle.tick_units.specs.Units as units;
 ghost use Rattle.tick_units.specs.Units.{IsRoot};
 
 use crate::{Local, Short, Span, Stamp};
+
+/// The least dispersion that a source counts as having, 5 ms in units of 2^-32 s, rounded up (MINDISP of RFC 5905, section
+/// 11).
+pub const LEAST_DISPERSION: u64 = 21_474_837;
 
 /// The span of a moment of the host's counter, rounded down.
 pub fn local_span(moment: Local) -> Span

@@ -1,7 +1,5 @@
-use Rattle.std.proofs.Common.{ℕ, sym, subst}
-use Rattle.feed_link.specs.Openings.{IsNext}
 use Rattle.feed_link.proofs.OpeningLaws.{out_after}
 use Rattle.feed_link.proofs.tests.first_byte.Goals as goal
 
 pub give_back_log-requires : goal.give_back_log-requires
-give_back_log-requires c = out_after _ _ _ _ _ c.in_ok-log.ensures.opened (subst (λ (n : ℕ). IsNext c.args.outside.now.ledger n) (sym c.read_three-count.ensures) c.in_ok-log.ensures.number)
+give_back_log-requires c = out_after _ _ _ _ _ _ c.in_ok-log.ensures.opened c.in_ok-log.ensures.number c.read_three-count.ensures

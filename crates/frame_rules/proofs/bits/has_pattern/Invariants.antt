@@ -1,5 +1,5 @@
 use Rattle.std.proofs.Common.{◌≡◌, ◌+◌, List, drop}
-use Rattle.tick_units.specs.Fields.{has_pattern}
+use Rattle.frame_rules.specs.Fields.{has_pattern}
 use Rattle.tick_units.specs.declared.marks.Mark.{Mark}
 use Rattle.frame_rules.specs.Bits.{has_bit}
 use Rattle.frame_rules.proofs.bits.has_pattern.Given as goal

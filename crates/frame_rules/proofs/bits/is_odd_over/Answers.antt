@@ -1,5 +1,5 @@
 use Rattle.std.proofs.Common.{◌≤◌, sym, arith}
-use Rattle.tick_units.specs.Fields.{is_set}
+use Rattle.frame_rules.specs.Fields.{is_set}
 use Rattle.frame_rules.specs.Bits.{has_bit}
 use Rattle.frame_rules.proofs.Sums.{ones_set, ones_unset}
 use Rattle.frame_rules.proofs.bits.is_odd_over.Goals as goal

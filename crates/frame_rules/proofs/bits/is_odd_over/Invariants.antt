@@ -1,6 +1,6 @@
 use Rattle.std.proofs.Common.{◌≡◌, ◌+◌, ◌-◌, ◌≤◌, List, count_by}
 use Rattle.std.specs.List.{range_with_len}
-use Rattle.tick_units.specs.Fields.{is_set}
+use Rattle.frame_rules.specs.Fields.{is_set}
 use Rattle.tick_units.specs.declared.marks.Mark.{Mark}
 use Rattle.frame_rules.specs.Bits.{has_bit}
 use Rattle.frame_rules.proofs.bits.is_odd_over.Given as goal

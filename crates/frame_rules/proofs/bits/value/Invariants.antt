@@ -1,5 +1,5 @@
 use Rattle.std.proofs.Common.{◌≡◌, ◌+◌, ◌*◌, ◌≤◌, List, drop, sum}
-use Rattle.tick_units.specs.Fields.{value}
+use Rattle.frame_rules.specs.Fields.{value}
 use Rattle.tick_units.specs.declared.marks.Mark.{Mark}
 use Rattle.frame_rules.specs.Bits.{has_bit}
 use Rattle.frame_rules.proofs.bits.value.Given as goal

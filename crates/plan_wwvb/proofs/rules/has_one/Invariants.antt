@@ -1,6 +1,6 @@
 use Rattle.std.proofs.Common.{◌≡◌, ℕ, IsTrue, List, drop, nat_lt}
 use Rattle.std.specs.List.{list_all, list_any}
-use Rattle.tick_units.specs.Fields.{is_one, is_set}
+use Rattle.frame_rules.specs.Fields.{is_one, is_set}
 use Rattle.tick_units.specs.declared.marks.Mark.{Mark}
 use Rattle.plan_wwvb.proofs.rules.has_one.Given as goal
 

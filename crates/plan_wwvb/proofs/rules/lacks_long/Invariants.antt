@@ -1,6 +1,6 @@
 use Rattle.std.proofs.Common.{◌≡◌, ℕ, not, IsTrue, List, drop, nat_lt}
 use Rattle.std.specs.List.{list_all, list_any}
-use Rattle.tick_units.specs.Fields.{is_set}
+use Rattle.frame_rules.specs.Fields.{is_set}
 use Rattle.tick_units.specs.Marks.{is_long}
 use Rattle.tick_units.specs.declared.marks.Mark.{Mark}
 use Rattle.plan_wwvb.proofs.rules.lacks_long.Given as goal

@@ -1,5 +1,5 @@
 use Rattle.std.proofs.Common.{not, refl, sym, ap, ◌∙◌}
-use Rattle.tick_units.specs.Fields.{has_a, has_b}
+use Rattle.frame_rules.specs.Fields.{has_a, has_b}
 use Rattle.frame_rules.proofs.WordLaws.{only_with_a, only_without_a}
 use Rattle.frame_rules.proofs.place_bits.PlaceBits.is_set.Goals as goal
 

@@ -1,5 +1,5 @@
 use Rattle.std.proofs.Common.{◌≡◌, ◌+◌, ◌≤◌, ◌++◌, length}
-use Rattle.tick_units.specs.Digits.{high_bits_of}
+use Rattle.frame_rules.specs.Digits.{high_bits_of}
 use Rattle.frame_rules.proofs.spelling.Spelling.push_high_bits.Given as goal
 
 -- what is written, with the bits that are left, is the same throughout

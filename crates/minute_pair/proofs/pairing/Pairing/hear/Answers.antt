@@ -1,5 +1,5 @@
 use Rattle.std.proofs.Common.{ap, ◌∙◌}
-use Rattle.tick_units.specs.Segments.{segments_of}
+use Rattle.minute_pair.specs.Segments.{segments_of}
 use Rattle.minute_pair.specs.Pairing.{answer_by}
 use Rattle.minute_pair.specs.declared.answers.Before.{Before}
 use Rattle.minute_pair.proofs.PairingLaws.{answers_closed, before_closed}
