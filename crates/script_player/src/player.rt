@@ -12,7 +12,7 @@ use crate::servers::Servers;
 use crate::{BoxedReceiver, NotLawful, Outcome};
 use clock_page::Page;
 use radio_receiver::Receiver;
-use reply_core::reply;
+use reply_core::reply_packet;
 use script_line::{Datagram, ScriptLine};
 use station_config::Station;
 use std::alloc::{AllocError, Global};
@@ -146,9 +146,8 @@ impl Player<BoxedReceiver> {
     {
         let mut room = [0; 1024];
         let length = datagram.write(&mut room);
-        let mut answer = [0; 48];
-        match reply(&self.page(), &room[..length], arrived, sent, &mut answer) {
-            Ok(()) => Outcome::Replied(answer),
+        match reply_packet(&self.page(), &room[..length], arrived, sent) {
+            Ok(packet) => Outcome::Replied(packet),
             Err(why) => Outcome::Dropped(why),
         }
     }

@@ -59,7 +59,7 @@ pub fn write_outcome(outcome: &Outcome, out: &mut [u8; LINE_ROOM]) -> usize
         Outcome::Nothing => 0,
         Outcome::Kept(entry) => write_kept(entry, out),
         Outcome::Asked(bytes) => write_bytes(b"asked ", bytes, out),
-        Outcome::Replied(bytes) => write_bytes(b"reply ", bytes, out),
+        Outcome::Replied(packet) => write_bytes(b"reply ", &packet.bytes, out),
         Outcome::Dropped(Dropped::Short) => write_word(b"drop short", out),
         Outcome::Dropped(Dropped::Version) => write_word(b"drop version", out),
         Outcome::Dropped(Dropped::Mode) => write_word(b"drop mode", out),

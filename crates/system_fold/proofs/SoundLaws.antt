@@ -7,6 +7,7 @@ use Rattle.std.proofs.lemmas.List.Elements.{All-head, All-tail, All-cons, All-ni
 use Rattle.tick_units.specs.Samples.{IsLength}
 use Rattle.tick_units.specs.Samples.{IsLawful as IsLawfulSample}
 use Rattle.tick_units.specs.Units.{local_span}
+use Rattle.tick_units.specs.Years.{first_told}
 use Rattle.tick_units.specs.declared.verdicts.Kind.TheVariants.{Verdict, Lone, Differs, Refused}
 use Rattle.clock_filter.specs.Bounds.{AreLawful}
 use Rattle.clock_filter.specs.Held.{last_eight}
@@ -28,7 +29,7 @@ use Rattle.system_fold.specs.declared.settings.SourceKind.TheVariants.{Leap as L
 use Rattle.system_fold.proofs.SourceLaws.{eight-again}
 
 -- the span of a moment is less than that of any second that is told
-span-below : (at second : ℕ) → at < 2 ^ 50 → 3155587200 ≤ second → local_span at ≤ second * 2 ^ 32
+span-below : (at second : ℕ) → at < 2 ^ 50 → first_told ≤ second → local_span at ≤ second * 2 ^ 32
 span-below at second moment least = omega arith
 
 radio-offset : (at second : ℕ) → at < 2 ^ 50 → IsTold second → IsLength (pos (second * 2 ^ 32) -ℤ pos (local_span at))

@@ -3,9 +3,8 @@
 use Rattle.std.specs.Prelude.{ℕ, ◌+◌, true, Option, None, Some, List, [], ◌∷◌, map, ℤ, pos, ◌+ℤ◌}
 use Rattle.std.specs.Int.{int_max}
 use Rattle.tick_units.specs.Orders.{greatest}
-use Rattle.tick_units.specs.Units.{local_span, stamp_of, to_short}
-use Rattle.tick_units.specs.declared.marks.Plan.{Plan}
-use Rattle.tick_units.specs.declared.marks.Plan.TheVariants.{Dcf, Msf, Wwvb}
+use Rattle.tick_units.specs.Plans.{reference_id_of}
+use Rattle.tick_units.specs.Units.{least_dispersion, local_span, stamp_of, to_short}
 use Rattle.clock_filter.specs.Distance.{root_delay_of, root_dispersion_of}
 use Rattle.clock_filter.specs.declared.figures.Figures.{Figures}
 use Rattle.clock_page.specs.Page.{PageFields, unsynchronised}
@@ -17,15 +16,9 @@ use Rattle.system_fold.specs.declared.settings.SourceKind.TheVariants.{Radio, Se
 use Rattle.system_fold.specs.declared.settings.SourceKind.TheVariants.{Leap as LeapFile}
 use Rattle.system_fold.specs.declared.source.Source.{Source}
 
--- letters for a radio, with a zero behind three of them (RFC 5905, section 7.3)
-abbrev pub radio_id : Plan → ℕ
-radio_id Dcf = 0x44434600
-radio_id Msf = 0x4d534600
-radio_id Wwvb = 0x57575642
-
--- these, and for a server the IPv4 address that its best sample has
+-- the letters of a radio's plan, and for a server the IPv4 address that its best sample has
 abbrev pub reference_id : SourceKind → Figures → ℕ
-reference_id (Radio plan) figures = radio_id plan
+reference_id (Radio plan) figures = reference_id_of plan
 reference_id (Server address) figures = figures.address
 reference_id LeapFile figures = 0
 
@@ -50,7 +43,7 @@ page_from inputs (peer ∷ others) offset = record {
   anchor = inputs.moment;
   until = until_of inputs (fresh_of (peer ∷ others));
   root_delay = record { 0 = to_short (root_delay_of peer.figures) };
-  root_disp = record { 0 = to_short (int_max (pos 21474837) (root_dispersion_of inputs.moment peer.figures)) };
+  root_disp = record { 0 = to_short (int_max (pos least_dispersion) (root_dispersion_of inputs.moment peer.figures)) };
   reftime = record { 0 = stamp_of (offset +ℤ pos (local_span (fresh_of (peer ∷ others)))) };
   leap_at = leap_second inputs.armed;
 }

@@ -24,19 +24,14 @@ use clock_filter::{root_delay, root_dispersion};
 use clock_page::Page;
 use cluster_core::{Survivors, cluster, combine};
 use select_core::Chime;
-use tick_units::{Local, Plan, Short, Span, Stamp, local_span, stamp_of, to_short};
-
-// The least root dispersion, 5 ms (MINDISP of RFC 5905).
-const MIN_DISPERSION: u64 = 21_474_837;
+use tick_units::{LEAST_DISPERSION, Local, Short, Span, Stamp, local_span, stamp_of, to_short};
 
 // The reference ID of a source: the letters of a radio, the IPv4 address of a server.
 fn reference_id(source: &Source) -> u32
     ensures { result ≡ pages.reference_id source.now.kind source.now.figures }
 {
     match source.kind {
-        SourceKind::Radio(Plan::Dcf) => u32::from_be_bytes(*b"DCF\0"),
-        SourceKind::Radio(Plan::Msf) => u32::from_be_bytes(*b"MSF\0"),
-        SourceKind::Radio(Plan::Wwvb) => u32::from_be_bytes(*b"WWVB"),
+        SourceKind::Radio(plan) => plan.reference_id(),
         SourceKind::Server(_) => source.figures.address,
         SourceKind::Leap => 0,
     }
@@ -64,9 +59,9 @@ fn root_delay_of(peer: &Source, now: Local) -> Short
 // The root dispersion of a page whose system peer this is.
 fn root_disp_of(peer: &Source, now: Local) -> Short
     requires { IsFit now peer.now }
-    ensures { result.0 ≡ units.to_short (int_max (pos 21474837) (root_dispersion_of now peer.now.figures)) }
+    ensures { result.0 ≡ units.to_short (int_max (pos units.least_dispersion) (root_dispersion_of now peer.now.figures)) }
 {
-    to_short(Span::from(MIN_DISPERSION).max(root_dispersion(&peer.figures, now)))
+    to_short(Span::from(LEAST_DISPERSION).max(root_dispersion(&peer.figures, now)))
 }
 
 /// The page of the sources that are left, the first of which is the system peer, and of their mean offset.
