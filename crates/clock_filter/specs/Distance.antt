@@ -2,20 +2,20 @@
 -- has 65536 units. That a source farther than 1 s away, or of stratum 15, isn't fit is this project's own.
 use Rattle.std.specs.Prelude.{ℕ, ◌-◌, ◌*◌, ◌^◌, Bool, ◌&&◌, nat_lt, ℤ, pos, ◌+ℤ◌, int_le}
 use Rattle.std.specs.Int.{int_max}
-use Rattle.tick_units.specs.Units.{phi, ceil_div, root}
+use Rattle.tick_units.specs.Units.{phi, ceil_div, least_dispersion, root}
 use Rattle.clock_filter.specs.declared.figures.Figures.{Figures}
 
--- the way to the reference clock and back
+-- the round-trip delay to the reference clock
 abbrev pub root_delay_of : Figures → ℤ
 root_delay_of f = pos (f.root_delay.0 * 65536) +ℤ f.delay
 
--- the dispersion on the way to the reference clock, the drift of the host's counter since the best sample, and the jitter
+-- the dispersion that the source tells of itself and that of its samples, the drift of the host's counter since the best sample, and the jitter
 abbrev pub root_dispersion_of : ℕ → Figures → ℤ
 root_dispersion_of now f = ((pos (f.root_disp.0 * 65536) +ℤ f.dispersion) +ℤ pos (phi (now - f.taken_at))) +ℤ pos (root f.jitter2)
 
--- half of the way, which counts as at least 5 ms (MINDISP), rounded up, and that dispersion
+-- half of the round-trip delay, which counts as at least 5 ms, rounded up, and that dispersion
 abbrev pub distance_of : ℕ → Figures → ℤ
-distance_of now f = ceil_div (int_max (pos 21474837) (root_delay_of f)) 2 +ℤ root_dispersion_of now f
+distance_of now f = ceil_div (int_max (pos least_dispersion) (root_delay_of f)) 2 +ℤ root_dispersion_of now f
 
 -- a source that may be selected
 abbrev pub is_fit_at : ℕ → Figures → Bool

@@ -1,28 +1,26 @@
+//! How far a source may be from the truth.
 ghost use Rattle.std.specs.Prelude.{◌≡◌, ◌≤◌, ◌^◌, pos, ◌≤ℤ◌, unsigned_abs};
 ghost use Rattle.std.specs.Int.{int_max};
-ghost use Rattle.tick_units.specs.Units.{ceil_div};
+ghost use Rattle.tick_units.specs.Units.{ceil_div, least_dispersion};
 ghost use Rattle.clock_filter.specs.Distance.{root_delay_of, root_dispersion_of, distance_of, is_fit_at};
 
 use crate::Figures;
-use tick_units::{Local, Span, isqrt, phi};
+use tick_units::{LEAST_DISPERSION, Local, Span, isqrt, phi};
 
-// MINDISP of RFC 5905, 5 ms: what a way to the reference clock counts as at least.
-const MIN_DISPERSION: u64 = 21_474_837;
-
-// Half of the way, rounded up.
-fn half_of_way(f: &Figures) -> Span
+// Half of the round-trip delay, which counts as at least 5 ms, rounded up.
+fn half_of_delay(f: &Figures) -> Span
     requires { unsigned_abs f.now.delay ≤ 2 ^ 68 }
-    ensures value { result ≡ ceil_div (int_max (pos 21474837) (root_delay_of f.now)) 2 }
+    ensures value { result ≡ ceil_div (int_max (pos least_dispersion) (root_delay_of f.now)) 2 }
     ensures small { unsigned_abs result ≤ 2 ^ 68 }
     ensures least { pos 1 ≤ℤ result }
 {
-    Span::from(MIN_DISPERSION).max(root_delay(f)).halved_up(1)
+    Span::from(LEAST_DISPERSION).max(root_delay(f)).halved_up(1)
 }
 
 // The first stratum that is too far from a reference clock.
 const TOO_FAR: u8 = 15;
 
-/// The way from the host to the source's reference clock and back.
+/// The round-trip delay from the host to the source's reference clock.
 pub fn root_delay(f: &Figures) -> Span
     requires { unsigned_abs f.now.delay ≤ 2 ^ 68 }
     ensures value { result ≡ root_delay_of f.now }
@@ -31,7 +29,7 @@ pub fn root_delay(f: &Figures) -> Span
     Span::from(f.root_delay) + f.delay
 }
 
-/// How far the source's reference clock and the host may have drifted apart at a moment, the way between them left out: the
+/// How far the source's reference clock and the host may have drifted apart at a moment, the round-trip delay left out: the
 /// root dispersion and the jitter.
 pub fn root_dispersion(f: &Figures, now: Local) -> Span
     requires moment { f.now.newest ≤ now }
@@ -54,7 +52,7 @@ pub fn distance(f: &Figures, now: Local) -> Span
     ensures value { result ≡ distance_of now f.now }
     ensures least { pos 0 ≤ℤ f.now.dispersion → pos 1 ≤ℤ result }
 {
-    half_of_way(f) + root_dispersion(f, now)
+    half_of_delay(f) + root_dispersion(f, now)
 }
 
 /// Whether the source may be selected at a moment: its distance is at most 1 s and its stratum below 15.

@@ -1,3 +1,4 @@
+//! What the samples of a source say of the time.
 ghost use Rattle.std.specs.Prelude.{◌≡◌, ◌<◌, ◌≤◌, ◌^◌, ◌∷◌, max, length, pos, ◌+ℤ◌, ◌≤ℤ◌, unsigned_abs, slice_get, IfSome};
 ghost use Rattle.std.specs.Int.{int_min};
 ghost use Rattle.tick_units.specs.Units as units;
@@ -14,7 +15,7 @@ const STAGES: usize = 8;
 pub struct Figures {
     /// What is to be added to the host's counter to give the time since 1900, by the best sample: the one of least delay.
     pub offset: Span,
-    /// The best sample's way to the server and back.
+    /// The best sample's round-trip delay.
     pub delay: Span,
     /// How far the offset may be from the truth at `newest`, the delay and the server's own part left out; at most 16 s.
     pub dispersion: Span,
@@ -28,7 +29,7 @@ pub struct Figures {
     pub stratum: u8,
     /// The server's IPv4 address, and 0 of a radio.
     pub address: u32,
-    /// The server's own way to its reference clock and back.
+    /// The server's own round-trip delay to its reference clock.
     pub root_delay: Short,
     /// The server's own dispersion.
     pub root_disp: Short,

@@ -1,3 +1,4 @@
+//! Samples of a source and what they say, on numbers that can be reckoned by hand.
 use crate::{Figures, Filter, distance, is_fit, root_delay, root_dispersion};
 use std::test::Fail;
 use tick_units::{Local, Sample, Short, Span, local_span};
@@ -192,7 +193,7 @@ fn the_later_of_equal_delays_comes_first(rt: HostRuntime) -> Result<(), Fail> {
     Ok(())
 }
 
-// A server's own delay and dispersion are part of the way to its reference clock.
+// A server's own delay and dispersion are part of its distance.
 #[test]
 fn an_exchange_with_a_server(rt: HostRuntime) -> Result<(), Fail> {
     let mut filter = Filter::new();

@@ -20,18 +20,26 @@ pub record PageFields : Type 0 where
   pub reftime : Stamp
   pub leap_at : ℕ
 
--- the page of so many entries at a moment, where nothing tells the time: the reference ID is `INIT`, the root dispersion 16 s
+-- the reference ID of a server that isn't synchronised, `INIT`
+abbrev pub init_id : ℕ
+init_id = 0x494e4954
+
+-- the root dispersion where nothing is known, 16 s (MAXDISP)
+abbrev pub unknown_dispersion : ℕ
+unknown_dispersion = 0x00100000
+
+-- the page of so many entries at a moment, where nothing tells the time
 abbrev pub unsynchronised : ℕ → ℕ → PageFields
 unsynchronised length anchor = record {
   length = length;
   sync = false;
   stratum = 0;
-  refid = 0x494e4954;
+  refid = init_id;
   offset = pos 0;
   anchor = anchor;
   until = 0;
   root_delay = record { 0 = 0 };
-  root_disp = record { 0 = 0x00100000 };
+  root_disp = record { 0 = unknown_dispersion };
   reftime = record { 0 = 0 };
   leap_at = 0;
 }

@@ -1,3 +1,4 @@
+//! The page: what it says, and the page where nothing tells the time.
 ghost use Rattle.std.specs.Prelude.{◌≡◌};
 ghost use Rattle.clock_page.specs.Page.{unsynchronised};
 
@@ -27,9 +28,9 @@ pub struct Page {
     pub anchor: Local,
     /// The moment from which on the page isn't synchronised, in microseconds.
     pub until: u64,
-    /// The way to the reference clock and back.
+    /// The round-trip delay to the reference clock.
     pub root_delay: Short,
-    /// The dispersion on the way to the reference clock, at the anchor.
+    /// The dispersion of the time that comes from the reference clock, at the anchor.
     pub root_disp: Short,
     /// When the reference clock was last heard.
     pub reftime: Stamp,
@@ -42,7 +43,7 @@ impl Model for Page {
 
     ghost Value = { PageFields };
 
-    ghost use Rattle.clock_page.specs.Inside.{said_by, inside_of};
+    ghost use Rattle.clock_page.specs.KeptPage.{said_by, inside_of};
 
     ghost view = { said_by };
 

@@ -14,7 +14,7 @@ use Rattle.cluster_core.specs.declared.survivor.Survivor.{Survivor}
 
 -- the sum of the offsets' distances from a base, each times its weight
 abbrev pub weighted_from : ℤ → List Survivor → ℤ
-weighted_from base rest = fold (λ sum x. sum +ℤ pos (weight x) *ℤ (x.offset -ℤ base)) (pos 0) rest
+weighted_from base survivors = fold (λ sum x. sum +ℤ pos (weight x) *ℤ (x.offset -ℤ base)) (pos 0) survivors
 
 -- the quotient q that rounds down has n * q ≤ z < n * q + n
 floor_div-parts : (z : ℤ) (n : ℕ) → 0 < n → (up (floor_div z n) * n + down z ≤ down (floor_div z n) * n + up z) × (down (floor_div z n) * n + up z < up (floor_div z n) * n + down z + n)
@@ -61,10 +61,10 @@ weighted-shift w o b [] s t n h = h
 weighted-shift w o b (x ∷ xs) s t n h = weighted-shift w o b xs (s +ℤ pos (w x) *ℤ o x) (t +ℤ pos (w x) *ℤ (o x -ℤ b)) (n + w x) (term_more s t (o x) b n (w x) h)
 
 -- the mean, reckoned from a base
-pub mean-from : (base : ℤ) (rest : List Survivor) → 0 < sum_by weight rest → base +ℤ floor_div (weighted_from base rest) (sum_by weight rest) ≡ mean rest
-mean-from base rest some =
-    sym (floor_div-shift (weighted_from base rest) base (sum_by weight rest) some)
-    ∙ ap (λ (z : ℤ). floor_div z (sum_by weight rest)) (sym (weighted-shift weight (λ (x : Survivor). x.offset) base rest (pos 0) (pos 0) 0 (none base)))
+pub mean-from : (base : ℤ) (survivors : List Survivor) → 0 < sum_by weight survivors → base +ℤ floor_div (weighted_from base survivors) (sum_by weight survivors) ≡ mean survivors
+mean-from base survivors some =
+    sym (floor_div-shift (weighted_from base survivors) base (sum_by weight survivors) some)
+    ∙ ap (λ (z : ℤ). floor_div z (sum_by weight survivors)) (sym (weighted-shift weight (λ (x : Survivor). x.offset) base survivors (pos 0) (pos 0) 0 (none base)))
   where
     none : (b : ℤ) → pos 0 ≡ pos 0 +ℤ pos 0 *ℤ b
     none b = let m = product_is (pos 0) b in omega (arith, ints)
@@ -74,7 +74,7 @@ term-least : (sum z : ℤ) (w : ℕ) → pos 0 ≤ℤ sum → pos 0 ≤ℤ z →
 term-least sum (pos n) w least above = omega (arith, ints)
 term-least sum (negsuc n) w least above = absurd (omega (arith, ints))
 
-weighted-least : (low : ℤ) (rest : List Survivor) (sum : ℤ) → pos 0 ≤ℤ sum → All (λ x. low ≤ℤ x.offset) rest → pos 0 ≤ℤ fold (λ sum x. sum +ℤ pos (weight x) *ℤ (x.offset -ℤ low)) sum rest
+weighted-least : (low : ℤ) (survivors : List Survivor) (sum : ℤ) → pos 0 ≤ℤ sum → All (λ x. low ≤ℤ x.offset) survivors → pos 0 ≤ℤ fold (λ sum x. sum +ℤ pos (weight x) *ℤ (x.offset -ℤ low)) sum survivors
 weighted-least low [] sum least all = least
 weighted-least low (x ∷ xs) sum least all =
     let above = All-head (λ y. low ≤ℤ y.offset) x xs all in
@@ -85,7 +85,7 @@ term-most sum (pos zero) w most below = omega (arith, ints)
 term-most sum (pos (suc n)) w most below = absurd (omega (arith, ints))
 term-most sum (negsuc n) w most below = omega (arith, ints)
 
-weighted-most : (high : ℤ) (rest : List Survivor) (sum : ℤ) → sum ≤ℤ pos 0 → All (λ x. x.offset ≤ℤ high) rest → fold (λ sum x. sum +ℤ pos (weight x) *ℤ (x.offset -ℤ high)) sum rest ≤ℤ pos 0
+weighted-most : (high : ℤ) (survivors : List Survivor) (sum : ℤ) → sum ≤ℤ pos 0 → All (λ x. x.offset ≤ℤ high) survivors → fold (λ sum x. sum +ℤ pos (weight x) *ℤ (x.offset -ℤ high)) sum survivors ≤ℤ pos 0
 weighted-most high [] sum most all = most
 weighted-most high (x ∷ xs) sum most all =
     let below = All-head (λ y. y.offset ≤ℤ high) x xs all in
@@ -101,18 +101,18 @@ floor-most (pos (suc a)) n some most = absurd (omega (arith, ints))
 floor-most (negsuc a) n some most = omega (arith, ints)
 
 -- the mean is no less than the least offset, and no greater than the greatest
-pub mean-least : (low : ℤ) (rest : List Survivor) → 0 < sum_by weight rest → All (λ x. low ≤ℤ x.offset) rest → low ≤ℤ mean rest
-mean-least low rest some all =
-    let above = floor-least (weighted_from low rest) (sum_by weight rest) some (weighted-least low rest (pos 0) (omega (arith, ints)) all) in
-    subst (λ z. low ≤ℤ z) (mean-from low rest some) (least-by low (floor_div (weighted_from low rest) (sum_by weight rest)) above)
+pub mean-least : (low : ℤ) (survivors : List Survivor) → 0 < sum_by weight survivors → All (λ x. low ≤ℤ x.offset) survivors → low ≤ℤ mean survivors
+mean-least low survivors some all =
+    let above = floor-least (weighted_from low survivors) (sum_by weight survivors) some (weighted-least low survivors (pos 0) (omega (arith, ints)) all) in
+    subst (λ z. low ≤ℤ z) (mean-from low survivors some) (least-by low (floor_div (weighted_from low survivors) (sum_by weight survivors)) above)
   where
     least-by : (x y : ℤ) → pos 0 ≤ℤ y → x ≤ℤ (x +ℤ y)
     least-by x y above = omega (arith, ints)
 
-pub mean-most : (high : ℤ) (rest : List Survivor) → 0 < sum_by weight rest → All (λ x. x.offset ≤ℤ high) rest → mean rest ≤ℤ high
-mean-most high rest some all =
-    let below = floor-most (weighted_from high rest) (sum_by weight rest) some (weighted-most high rest (pos 0) (omega (arith, ints)) all) in
-    subst (λ z. z ≤ℤ high) (mean-from high rest some) (most-by high (floor_div (weighted_from high rest) (sum_by weight rest)) below)
+pub mean-most : (high : ℤ) (survivors : List Survivor) → 0 < sum_by weight survivors → All (λ x. x.offset ≤ℤ high) survivors → mean survivors ≤ℤ high
+mean-most high survivors some all =
+    let below = floor-most (weighted_from high survivors) (sum_by weight survivors) some (weighted-most high survivors (pos 0) (omega (arith, ints)) all) in
+    subst (λ z. z ≤ℤ high) (mean-from high survivors some) (most-by high (floor_div (weighted_from high survivors) (sum_by weight survivors)) below)
   where
     most-by : (x y : ℤ) → y ≤ℤ pos 0 → (x +ℤ y) ≤ℤ x
     most-by x y below = omega (arith, ints)
@@ -127,11 +127,11 @@ span-most z small = omega (arith, ints)
 span-small : (z : ℤ) → neg_ℤ (pos (2 ^ 70 - 1)) ≤ℤ z → z ≤ℤ pos (2 ^ 70 - 1) → unsigned_abs z < 2 ^ 70
 span-small z least most = omega (arith, ints)
 
-pub mean-small : (rest : List Survivor) → 0 < sum_by weight rest → All (λ x. unsigned_abs x.offset < 2 ^ 70) rest → unsigned_abs (mean rest) < 2 ^ 70
-mean-small rest some spans =
-    span-small (mean rest)
-    (mean-least (neg_ℤ (pos (2 ^ 70 - 1))) rest some (All-weaker (λ x. unsigned_abs x.offset < 2 ^ 70) (λ x. neg_ℤ (pos (2 ^ 70 - 1)) ≤ℤ x.offset) (λ x small. span-least x.offset small) rest spans))
-    (mean-most (pos (2 ^ 70 - 1)) rest some (All-weaker (λ x. unsigned_abs x.offset < 2 ^ 70) (λ x. x.offset ≤ℤ pos (2 ^ 70 - 1)) (λ x small. span-most x.offset small) rest spans))
+pub mean-small : (survivors : List Survivor) → 0 < sum_by weight survivors → All (λ x. unsigned_abs x.offset < 2 ^ 70) survivors → unsigned_abs (mean survivors) < 2 ^ 70
+mean-small survivors some spans =
+    span-small (mean survivors)
+    (mean-least (neg_ℤ (pos (2 ^ 70 - 1))) survivors some (All-weaker (λ x. unsigned_abs x.offset < 2 ^ 70) (λ x. neg_ℤ (pos (2 ^ 70 - 1)) ≤ℤ x.offset) (λ x small. span-least x.offset small) survivors spans))
+    (mean-most (pos (2 ^ 70 - 1)) survivors some (All-weaker (λ x. unsigned_abs x.offset < 2 ^ 70) (λ x. x.offset ≤ℤ pos (2 ^ 70 - 1)) (λ x small. span-most x.offset small) survivors spans))
 
 -- offsets between two bounds are as near as these
 between : (low high x y : ℤ) → unsigned_abs (high -ℤ low) ≤ 2 ^ 33 → low ≤ℤ x → x ≤ℤ high → low ≤ℤ y → y ≤ℤ high → unsigned_abs (x -ℤ y) ≤ 2 ^ 33
@@ -176,7 +176,7 @@ summed-by base seen count sum sum_now weights w z x before weighs lies summed so
     subst (λ s. AreSummed base (seen ++ x ∷ []) (count + 1) s (weights + w)) (sym is) (subst (λ n. AreSummed base (seen ++ x ∷ []) (count + 1) (sum +ℤ pos (weight x) *ℤ (x.offset -ℤ base)) (weights + n)) (sym weighs) more)
 
 -- the mean from those sums
-pub mean-by : (base : ℤ) (rest : List Survivor) (count : ℕ) (sum q : ℤ) (weights : ℕ) → AreSummed base rest count sum weights → 0 < count → q ≡ floor_div sum weights → base +ℤ q ≡ mean rest
-mean-by base rest count sum q weights sums members is =
-    let some : 0 < sum_by weight rest = subst (λ n. 0 < n) sums.weighed (omega (arith, sums.some)) in
-    ap (λ z. base +ℤ z) (is ∙ ap (λ z. floor_div z weights) sums.summed ∙ ap (λ n. floor_div (weighted_from base rest) n) sums.weighed) ∙ mean-from base rest some
+pub mean-by : (base : ℤ) (survivors : List Survivor) (count : ℕ) (sum q : ℤ) (weights : ℕ) → AreSummed base survivors count sum weights → 0 < count → q ≡ floor_div sum weights → base +ℤ q ≡ mean survivors
+mean-by base survivors count sum q weights sums members is =
+    let some : 0 < sum_by weight survivors = subst (λ n. 0 < n) sums.weighed (omega (arith, sums.some)) in
+    ap (λ z. base +ℤ z) (is ∙ ap (λ z. floor_div z weights) sums.summed ∙ ap (λ n. floor_div (weighted_from base survivors) n) sums.weighed) ∙ mean-from base survivors some

@@ -35,24 +35,24 @@ pub record Discards (all left : List Survivor) : Type 0 where
   pub greatest : All (λ x. selection_jitter all x ≤ selection_jitter all discarded) all
   pub last : All (λ x. selection_jitter all x < selection_jitter all discarded) back
 
--- one after another is discarded, until those that are left are at rest
+-- one after another is discarded, until those that are left are at left
 pub data Settles : List Survivor → List Survivor → Type 0 where
   stays : (all : List Survivor) → is_at_rest all ≡ true → Settles all all
-  goes_on : (all left rest : List Survivor) → is_at_rest all ≡ false → Discards all left → Settles left rest → Settles all rest
+  goes_on : (all fewer left : List Survivor) → is_at_rest all ≡ false → Discards all fewer → Settles fewer left → Settles all left
 
 -- that, from the survivors in order on
 abbrev pub Clusters : List Survivor → List Survivor → Type 0
-Clusters survivors rest = Settles (in_order may_precede survivors) rest
+Clusters survivors left = Settles (in_order may_precede survivors) left
 
 -- of a list without the last of its items of the greatest number: the first goes that is above all behind it
 abbrev pub without_greatest : (Survivor → ℕ) → List Survivor → List Survivor
 without_greatest number [] = []
 without_greatest number (x ∷ xs) = if list_all (λ y. nat_lt (number y) (number x)) xs then xs else x ∷ without_greatest number xs
 
-abbrev pub rest_within : ℕ → List Survivor → List Survivor
-rest_within zero all = all
-rest_within (suc steps) all = if is_at_rest all then all else rest_within steps (without_greatest (selection_jitter all) all)
+abbrev pub left_within : ℕ → List Survivor → List Survivor
+left_within zero all = all
+left_within (suc steps) all = if is_at_rest all then all else left_within steps (without_greatest (selection_jitter all) all)
 
 -- the one list that survivors settle to
-abbrev pub rest_of : List Survivor → List Survivor
-rest_of survivors = rest_within (length survivors) (in_order may_precede survivors)
+abbrev pub survivors_left : List Survivor → List Survivor
+survivors_left survivors = left_within (length survivors) (in_order may_precede survivors)

@@ -9,4 +9,4 @@ weight x = 2 ^ 62 / unsigned_abs x.distance
 
 -- the sum of the offsets times their weights, by the sum of the weights, rounded down
 abbrev pub mean : List Survivor → ℤ
-mean rest = floor_div (fold (λ sum x. sum +ℤ pos (weight x) *ℤ x.offset) (pos 0) rest) (sum_by weight rest)
+mean survivors = floor_div (fold (λ sum x. sum +ℤ pos (weight x) *ℤ x.offset) (pos 0) survivors) (sum_by weight survivors)

@@ -1,7 +1,8 @@
+//! Discards survivors until those that are left agree.
 ghost use Rattle.std.specs.Prelude.{◌≡◌, ◌<◌, ◌≤◌, true, false, All, Contains, List, length, nat_lt, IfSome, IfNone};
 ghost use Rattle.std.specs.List.{list_all};
-ghost use Rattle.cluster_core.specs.Bounds.{IsMeasured, AreNear};
-ghost use Rattle.cluster_core.specs.Clusters.{Clusters, IsWorst, Settles, greatest_jitter, is_at_rest, rest_of, selection_jitter};
+ghost use Rattle.cluster_core.specs.Bounds.{IsWeighable, AreNear};
+ghost use Rattle.cluster_core.specs.Clusters.{Clusters, IsWorst, Settles, greatest_jitter, is_at_rest, selection_jitter, survivors_left};
 ghost use Rattle.cluster_core.specs.declared.survivor.Survivor.{Survivor};
 
 use crate::ordering::ordered;
@@ -76,11 +77,11 @@ fn to_discard(all: &[Survivor]) -> Option<usize>
 }
 
 // Discards one after another, until those that are left are at rest.
-fn settle(rest: &mut ArrayVec<Survivor, 16>)
-    ensures { Settles rest.old.items rest.new.items }
+fn settle(left: &mut ArrayVec<Survivor, 16>)
+    ensures { Settles left.old.items left.new.items }
 {
-    while let Some(place) = to_discard(rest.as_slice()) {
-        rest.remove(place);
+    while let Some(place) = to_discard(left.as_slice()) {
+        left.remove(place);
     }
 }
 
@@ -88,14 +89,14 @@ fn settle(rest: &mut ArrayVec<Survivor, 16>)
 /// those that agree least with the others, until three are left or the others agree as well as each does with itself.
 pub fn cluster(s: &mut Survivors)
     ensures clusters { Clusters s.old s.new }
-    ensures only { (rest : List Survivor) → Clusters s.old rest → rest ≡ s.new }
-    ensures rest { s.new ≡ rest_of s.old }
+    ensures only { (left : List Survivor) → Clusters s.old left → left ≡ s.new }
+    ensures left { s.new ≡ survivors_left s.old }
     ensures members { All (Contains s.old) s.new }
     ensures some { 0 < length s.old → 0 < length s.new }
-    ensures measured { All IsMeasured s.old → All IsMeasured s.new }
+    ensures measured { All IsWeighable s.old → All IsWeighable s.new }
     ensures near { AreNear s.old → AreNear s.new }
 {
-    let mut rest = ordered(s.as_slice());
-    settle(&mut rest);
-    *s = Survivors::of(rest);
+    let mut left = ordered(s.as_slice());
+    settle(&mut left);
+    *s = Survivors::of(left);
 }

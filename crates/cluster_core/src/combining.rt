@@ -1,6 +1,7 @@
+//! The mean of the offsets by weight.
 ghost use Rattle.std.specs.Prelude.{◌≡◌, ◌+◌, ◌*◌, ◌<◌, ◌≤◌, ◌^◌, ℤ, pos, ◌+ℤ◌, ◌-ℤ◌, ◌*ℤ◌, ◌≤ℤ◌, unsigned_abs, All, length, sum_by};
 ghost use Rattle.tick_units.specs.Units.{floor_div};
-ghost use Rattle.cluster_core.specs.Bounds.{IsMeasured, AreNear};
+ghost use Rattle.cluster_core.specs.Bounds.{IsWeighable, AreNear};
 ghost use Rattle.cluster_core.specs.Mean as means;
 
 use crate::{Survivor, Survivors};
@@ -59,7 +60,7 @@ impl WeightedSum {
 
 // The weight of a survivor: the nearer, the more.
 fn weight_of(x: &Survivor) -> u64
-    requires { IsMeasured x.now }
+    requires { IsWeighable x.now }
     ensures value { result ≡ means.weight x.now }
     ensures some { 0 < result }
     ensures most { result ≤ 2 ^ 62 }
@@ -79,19 +80,19 @@ fn apart(x: &Survivor, base: Span) -> Span
 }
 
 // The mean of the distances from a base by weight, rounded down.
-fn mean_apart(base: Span, rest: &[Survivor]) -> Span
-    requires some { 0 < length rest.now }
-    requires few { length rest.now ≤ 16 }
-    requires measured { All IsMeasured rest.now }
-    requires near { All (λ x. unsigned_abs (x.offset -ℤ base) ≤ 2 ^ 33) rest.now }
-    ensures value { base +ℤ result ≡ means.mean rest.now }
+fn mean_apart(base: Span, survivors: &[Survivor]) -> Span
+    requires some { 0 < length survivors.now }
+    requires few { length survivors.now ≤ 16 }
+    requires measured { All IsWeighable survivors.now }
+    requires near { All (λ x. unsigned_abs (x.offset -ℤ base) ≤ 2 ^ 33) survivors.now }
+    ensures value { base +ℤ result ≡ means.mean survivors.now }
     ensures small { unsigned_abs result ≤ 2 ^ 33 }
-    ensures weighs { 0 < sum_by means.weight rest.now }
-    ensures offsets { All (λ x. unsigned_abs x.offset < 2 ^ 70) rest.now }
+    ensures weighs { 0 < sum_by means.weight survivors.now }
+    ensures offsets { All (λ x. unsigned_abs x.offset < 2 ^ 70) survivors.now }
 {
     let mut sum = WeightedSum::new();
     let mut weights = 0;
-    for x in rest {
+    for x in survivors {
         let weight = weight_of(x);
         sum = sum.with(weight, apart(x, base));
         weights += u128::from(weight);
@@ -103,13 +104,13 @@ fn mean_apart(base: Span, rest: &[Survivor]) -> Span
 /// by its distance, rounded down.
 pub fn combine(s: &Survivors) -> Span
     requires some { 0 < length s.now }
-    requires measured { All IsMeasured s.now }
+    requires measured { All IsWeighable s.now }
     requires near { AreNear s.now }
     ensures mean { result ≡ means.mean s.now }
     ensures least { (low : ℤ) → All (λ x. low ≤ℤ x.offset) s.now → low ≤ℤ result }
     ensures most { (high : ℤ) → All (λ x. x.offset ≤ℤ high) s.now → result ≤ℤ high }
 {
-    let rest = s.as_slice();
-    let base = rest[0].offset;
-    base + mean_apart(base, rest)
+    let survivors = s.as_slice();
+    let base = survivors[0].offset;
+    base + mean_apart(base, survivors)
 }

@@ -1,5 +1,6 @@
+//! Which survivors are left, and their mean, on small numbers that can be reckoned by hand.
 ghost use Rattle.std.specs.Prelude.{◌≡◌, ◌<◌, ◌≤◌, ◌^◌, All, length, pos, neg_ℤ, ◌≤ℤ◌};
-ghost use Rattle.cluster_core.specs.Bounds.{AreNear, IsMeasured};
+ghost use Rattle.cluster_core.specs.Bounds.{AreNear, IsWeighable};
 
 use crate::{Survivor, Survivors, cluster, combine};
 use std::process::Abort;
@@ -16,7 +17,7 @@ struct Part {
 }
 
 fn survivor_of(feed: u32, part: Part) -> Survivor
-    ensures measured { IsMeasured result }
+    ensures measured { IsWeighable result }
     ensures low { neg_ℤ (pos (2 ^ 31)) ≤ℤ result.offset }
     ensures high { result.offset ≤ℤ pos (2 ^ 31) }
 {
@@ -33,7 +34,7 @@ fn survivor_of(feed: u32, part: Part) -> Survivor
 fn survivors_of(parts: &[Part]) -> Survivors
     requires { length parts.now ≤ 16 }
     ensures count { length result ≡ length parts.now }
-    ensures measured { All IsMeasured result }
+    ensures measured { All IsWeighable result }
     ensures near { AreNear result }
 {
     let mut survivors = Survivors::new();
@@ -93,6 +94,17 @@ fn the_farthest_of_four_is_discarded(rt: HostRuntime) -> Result<(), Fail> {
         let near = of_a_radio(0, jitter2);
         let four = [near, near, near, of_a_radio(40, jitter2)];
         check(&rt, &four, &[0, 1, 2, 3], 10)?;
+    }
+    Ok(())
+}
+
+// The greatest selection jitter is that of the one at 25: its squared differences from the others sum up to 1601, a third of
+// which is 533 2/3, and that counts as 533.
+#[test]
+fn a_selection_jitter_is_rounded_down(rt: HostRuntime) -> Result<(), Fail> {
+    for (jitter2, feeds, mean) in [(533, [0, 1, 2].as_slice(), 2), (534, &[0, 1, 2, 3], 7)] {
+        let four = [0, 1, 5, 25].map(|offset| of_a_radio(offset, jitter2));
+        check(&rt, &four, feeds, mean)?;
     }
     Ok(())
 }
@@ -164,6 +176,12 @@ fn the_nearer_weighs_more(rt: HostRuntime) -> Result<(), Fail> {
         2_147_287_047,
     )?;
     check(&rt, &[at(8, -7)], &[0], -7)
+}
+
+// With 2^61 or 2^63 in place of 2^62 the mean would be -9.
+#[test]
+fn weights_are_rounded_down(rt: HostRuntime) -> Result<(), Fail> {
+    check(&rt, &[at(2, -11), at(4, -4), at(8, -12)], &[0, 1, 2], -10)
 }
 
 #[test]

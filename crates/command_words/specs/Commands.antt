@@ -2,8 +2,8 @@
 use Rattle.std.specs.Prelude.{◌≡◌, ℕ, ◌≤◌, ◌&&◌, Bool, true, Option, None, Some, List, [], ◌∷◌, codes, decimal}
 use Rattle.std.specs.List.{list_all, list_any}
 use Rattle.std.specs.Str.{bytes_eq}
+use Rattle.tick_units.specs.Plans.{word_of}
 use Rattle.tick_units.specs.declared.marks.Plan.{Plan}
-use Rattle.tick_units.specs.declared.marks.Plan.TheVariants.{Dcf, Msf, Wwvb}
 use Rattle.command_words.specs.CommandLine.{Text, Given, Line, words_of, command_words, options, value_of, is_value, IsOnce}
 use Rattle.command_words.specs.declared.commands.Command.{Command}
 use Rattle.command_words.specs.declared.commands.Command.TheVariants.{Decode, Replay}
@@ -26,11 +26,6 @@ abbrev pub row_of : Asked → List Text
 row_of (decode plan log) = codes "plan" ∷ codes "log" ∷ []
 row_of (replay station script limit) = codes "station" ∷ codes "script" ∷ codes "limit" ∷ []
 
-abbrev pub plan_word : Plan → Text
-plan_word Dcf = codes "dcf"
-plan_word Msf = codes "msf"
-plan_word Wwvb = codes "wwvb"
-
 -- a number in a range, in decimal without sign and without leading zeros; or the default where none is given
 abbrev pub IsNumber : ℕ → ℕ → ℕ → Option Text → ℕ → Type 0
 IsNumber default least most None n = n ≡ default
@@ -42,7 +37,7 @@ IsLimit = IsNumber 1048576 1 4194304
 
 -- by the values that the options' names have
 abbrev pub Says : (Text → Option Text) → Asked → Type 0
-Says value (decode plan log) = (value (codes "plan") ≡ Some (plan_word plan)) × (value (codes "log") ≡ Some log)
+Says value (decode plan log) = (value (codes "plan") ≡ Some (word_of plan)) × (value (codes "log") ≡ Some log)
 Says value (replay station script limit) = (value (codes "station") ≡ Some station) × (value (codes "script") ≡ Some script) × IsLimit (value (codes "limit")) limit
 
 -- an option is one of a row's, and its value may be one

@@ -1,10 +1,11 @@
+//! The values of a command's options.
 ghost use Rattle.std.specs.Prelude.{◌≡◌, ℕ, IfSome, Some, map, option_map, codes, List};
 ghost use Rattle.std.specs.List.{list_all, list_any};
 ghost use Rattle.std.specs.Str.{bytes_eq};
 ghost use Rattle.clap.specs.Words.{first_of, rows_of, found_of};
 ghost use Rattle.tick_units.specs.declared.marks.Plan.{Plan};
 ghost use Rattle.command_words.specs.CommandLine.{is_value};
-ghost use Rattle.command_words.specs.Commands.{Asked, asked, name_of, plan_word, IsLimit, decode, replay};
+ghost use Rattle.command_words.specs.Commands.{Asked, asked, name_of, IsLimit, decode, replay};
 ghost use Rattle.command_words.specs.Matches.{text_of, may_have, has_only, Fit, AreFor};
 
 use crate::commands::Command;
@@ -71,18 +72,6 @@ fn has_only(matches: &ArgMatches<'_>, row: &[&str]) -> bool
     may_all_have(matches, row, &OPTIONS)
 }
 
-fn plan(word: &str) -> Option<Plan>
-    ensures named { IfSome result (λ p. word.now ≡ plan_word p) }
-    ensures every { (p : Plan) → word.now ≡ plan_word p → result ≡ Some p }
-{
-    match word {
-        "dcf" => Some(Plan::Dcf),
-        "msf" => Some(Plan::Msf),
-        "wwvb" => Some(Plan::Wwvb),
-        _ => None,
-    }
-}
-
 fn limit(given: Option<&str>) -> Option<u32>
     ensures said { IfSome result (λ n. IsLimit (text_of given.entry) n) }
     ensures every { (n : ℕ) → IsLimit (text_of given.entry) n → result ≡ Some n }
@@ -106,7 +95,7 @@ fn decode<'a>(matches: &ArgMatches<'a>) -> Option<Command<'a>>
         return None;
     }
     Some(Command::Decode {
-        plan: plan(value(matches, "plan")?)?,
+        plan: Plan::of_word(value(matches, "plan")?)?,
         log: value(matches, "log")?,
     })
 }

@@ -2,16 +2,17 @@
 -- project's own.
 use Rattle.std.specs.Prelude.{◌≢◌, ℕ, ◌<◌, ◌≤◌, ⊤}
 use Rattle.tick_units.specs.Samples.{IsLawful as IsLawfulSample}
+use Rattle.tick_units.specs.Years.{end_of_told, first_told}
 use Rattle.tick_units.specs.declared.verdicts.Kind.{Kind}
 use Rattle.tick_units.specs.declared.verdicts.Kind.TheVariants.{Verdict, Lone, Differs, Refused}
 use Rattle.journal_entry.specs.declared.entry.Entry.{Entry}
 use Rattle.journal_entry.specs.declared.entry.What.{What}
 use Rattle.journal_entry.specs.declared.entry.What.TheVariants.{Heard, Sample, Declined, Notice}
 
--- from 1999-12-31 00:00 UTC up to 2100-01-03 00:00 UTC
+-- a second of the years that seconds are told in, 1999-12-31 00:00 UTC up to 2100-01-03 00:00 UTC
 pub record IsTold (second : ℕ) : Type 0 where
-  pub least : 3155587200 ≤ second
-  pub below : second < 6311606400
+  pub least : first_told ≤ second
+  pub below : second < end_of_told
 
 -- a minute that was told: its second, and the end of an announced leap second, 0 where none is announced
 pub record IsLawfulVerdict (second leap_at : ℕ) : Type 0 where
@@ -28,7 +29,7 @@ abbrev pub IsLawfulWhat : What → Type 0
 IsLawfulWhat (Heard kind) = IsLawfulKind kind
 IsLawfulWhat (Sample s) = IsLawfulSample s
 IsLawfulWhat (Declined code) = ⊤
-IsLawfulWhat (Notice leap_at) = leap_at < 6311606400
+IsLawfulWhat (Notice leap_at) = leap_at < end_of_told
 
 -- of a station with so many sources
 pub record IsLawful (sources : ℕ) (e : Entry) : Type 0 where

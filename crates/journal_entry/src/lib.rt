@@ -11,7 +11,7 @@ mod writer;
 pub use entry::{Entry, What};
 pub use read::read_entry;
 pub use write::write_entry;
-pub use writer::TextWriter;
+pub use writer::{LINE_ROOM, TextWriter};
 
 #[cfg(test)]
 mod tests;

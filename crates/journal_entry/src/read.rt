@@ -1,3 +1,4 @@
+//! Reads an entry from its text.
 ghost use Rattle.std.specs.Prelude.{◌≡◌, IfSome, Some};
 ghost use Rattle.journal_entry.specs.Entries.{IsSample, IsWhat};
 ghost use Rattle.journal_entry.specs.Texts.{IsTextOf, sample_fields, what_fields};
@@ -7,7 +8,7 @@ ghost use Rattle.journal_entry.specs.declared.entry.What as what;
 ghost use Rattle.tick_units.specs.declared.sample.Sample as sample;
 
 use crate::fields::Fields;
-use crate::{Entry, What, words, write_entry};
+use crate::{Entry, LINE_ROOM, What, words, write_entry};
 use tick_units::{Kind, Sample, Short};
 
 /// The entry whose text this is, and `None` where it is no entry's.
@@ -16,7 +17,7 @@ pub fn read_entry(text: &[u8]) -> Option<Entry>
     ensures every { (e : entry.Entry) → IsTextOf text.now e → result ≡ Some e }
 {
     let entry = candidate(text)?;
-    let mut again = [0; 256];
+    let mut again = [0; LINE_ROOM];
     let length = write_entry(&entry, &mut again);
     if &again[..length] == text {
         Some(entry)

@@ -1,4 +1,5 @@
-use crate::{Entry, What, read_entry, write_entry};
+//! Entries and their texts.
+use crate::{Entry, LINE_ROOM, What, read_entry, write_entry};
 use std::process::Abort;
 use std::test::Fail;
 use tick_units::{Kind, Local, Sample, Short, Span};
@@ -10,7 +11,7 @@ fn entry(feed: u32, at: u64, what: What) -> Result<Entry, Fail> {
 
 // The one text of an entry, written and read; what lies behind it in its room stays.
 fn is_the_text(rt: &impl Abort, text: &str, entry: &Entry) {
-    let mut out = [b'#'; 256];
+    let mut out = [b'#'; LINE_ROOM];
     let length = write_entry(entry, &mut out);
     assert_eq!(rt; &out[..length], text.as_bytes());
     assert!(rt; out[length..].iter().all(|byte| *byte == b'#'));

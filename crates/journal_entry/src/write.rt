@@ -1,16 +1,17 @@
+//! Writes the text of an entry.
 ghost use Rattle.std.specs.Prelude.{◌≡◌, ◌+◌, ◌≤◌, length, take, drop};
 ghost use Rattle.journal_entry.specs.Entries.{IsEntry, IsKind, IsSample, IsWhat};
 ghost use Rattle.journal_entry.specs.Texts.{kind_fields, what_fields, text_of};
-ghost use Rattle.journal_entry.specs.Writing.{AddsFields};
+ghost use Rattle.journal_entry.specs.Writing.{AddsFields, HasRoom, written};
 
-use crate::writer::TextWriter;
+use crate::writer::{LINE_ROOM, TextWriter};
 use crate::{Entry, What, words};
 use itoa::Buffer;
 use tick_units::{Kind, Sample};
 
 /// Writes the text of an entry at the front of `out`, without a line feed, and leaves the rest as it was. The answer is the
 /// number of bytes written, at most 141.
-pub fn write_entry(e: &Entry, out: &mut [u8; 256]) -> usize
+pub fn write_entry(e: &Entry, out: &mut [u8; LINE_ROOM]) -> usize
     ensures text { take result out.new ≡ text_of e.now }
     ensures rest { drop result out.new ≡ drop result out.old }
     ensures length { result ≡ length (text_of e.now) }
@@ -26,9 +27,9 @@ pub fn write_entry(e: &Entry, out: &mut [u8; 256]) -> usize
 
 // Writes what an entry tells.
 fn write_what(what: &What, text: &mut TextWriter<'_>)
-    requires { text.old.length + 114 ≤ 256 }
+    requires { HasRoom text.old 114 }
     ensures text { AddsFields text.old text.new (what_fields what.now) }
-    ensures short { text.new.length ≤ text.old.length + 114 }
+    ensures short { written text.new ≤ written text.old + 114 }
     ensures what { IsWhat what.now }
 {
     match what {
@@ -47,9 +48,9 @@ fn write_what(what: &What, text: &mut TextWriter<'_>)
 
 // Writes what a closed minute comes to.
 fn write_kind(kind: &Kind, text: &mut TextWriter<'_>)
-    requires { text.old.length + 71 ≤ 256 }
+    requires { HasRoom text.old 71 }
     ensures text { AddsFields text.old text.new (kind_fields kind.now) }
-    ensures short { text.new.length ≤ text.old.length + 71 }
+    ensures short { written text.new ≤ written text.old + 71 }
     ensures kind { IsKind kind.now }
 {
     match kind {
@@ -77,9 +78,9 @@ fn write_kind(kind: &Kind, text: &mut TextWriter<'_>)
 
 // Writes a sample.
 fn write_sample(sample: &Sample, text: &mut TextWriter<'_>)
-    requires { text.old.length + 114 ≤ 256 }
+    requires { HasRoom text.old 114 }
     ensures text { AddsFields text.old text.new (what_fields (What.Sample sample.now)) }
-    ensures short { text.new.length ≤ text.old.length + 114 }
+    ensures short { written text.new ≤ written text.old + 114 }
     ensures sample { IsSample sample.now }
 {
     text.field(words::SAMPLE);

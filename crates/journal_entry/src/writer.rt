@@ -1,38 +1,40 @@
+//! The writer of a text in its room.
 ghost use Rattle.std.specs.Prelude.{◌≤◌};
+ghost use Rattle.journal_entry.specs.declared.writer.TheConstants.{LINE_ROOM};
 
 use hex::encode_to_slice;
 use itoa::{Buffer, Integer};
 use tick_units::{Local, Span, Stamp};
 
-// The room for a text.
-const ROOM: usize = 256;
+/// The room for the text of a line, in bytes.
+pub const LINE_ROOM: usize = 256;
 
 /// Writes the fields of a text at the front of its room.
 #[derive(Drop)]
 pub struct TextWriter<'a> {
-    out: &'a mut [u8; ROOM],
+    out: &'a mut [u8; LINE_ROOM],
     length: usize,
-    ghost within: { length ≤ 256 },
+    ghost within: { length ≤ LINE_ROOM },
 }
 
 impl<'a> TextWriter<'a> {
     ghost use Rattle.std.specs.Prelude.{◌≡◌, ◌+◌, ◌^◌, ◌<◌, ◌≤◌, ◌∷◌, length, unsigned_abs};
     ghost use Rattle.std.specs.Fmt.{decimal, signed_decimal};
     ghost use Rattle.journal_entry.specs.Texts.{address_text, stamp_text};
-    ghost use Rattle.journal_entry.specs.Writing.{Adds};
+    ghost use Rattle.journal_entry.specs.Writing.{Adds, HasRoom, room_name, room_of, written};
 
     /// The writer of no text.
-    pub fn new(out: &'a mut [u8; ROOM]) -> TextWriter<'a>
-        ensures room { result.out.ghost_name ≡ out.entry.ghost_name }
-        ensures length { result.length ≡ 0 }
-        ensures same { result.out.now ≡ out.old }
+    pub fn new(out: &'a mut [u8; LINE_ROOM]) -> TextWriter<'a>
+        ensures room { room_name result ≡ out.entry.ghost_name }
+        ensures length { written result ≡ 0 }
+        ensures same { room_of result ≡ out.old }
     {
         TextWriter { out, length: 0 }
     }
 
     /// The number of bytes written.
     pub fn len(&self) -> usize
-        ensures { result ≡ self.now.length }
+        ensures { result ≡ written self.now }
     {
         self.length
     }
@@ -40,7 +42,7 @@ impl<'a> TextWriter<'a> {
     /// Adds a piece of text.
     #[tactic(auto, using(std::proofs::lemmas::Slice::overwrites))]
     pub fn add(&mut self, piece: &[u8])
-        requires { self.old.length + length piece.now ≤ 256 }
+        requires { HasRoom self.old (length piece.now) }
         ensures { Adds self.old self.new piece.now }
     {
         let end = self.length + piece.len();
@@ -52,7 +54,7 @@ impl<'a> TextWriter<'a> {
     /// Adds a space and a field.
     #[tactic(auto, using(crate::proofs::WritingLaws::adds_both))]
     pub fn field(&mut self, field: &[u8])
-        requires { self.old.length + 1 + length field.now ≤ 256 }
+        requires { HasRoom self.old (1 + length field.now) }
         ensures { Adds self.old self.new (32 ∷ field.now) }
     {
         self.add(b" ");
@@ -61,9 +63,9 @@ impl<'a> TextWriter<'a> {
 
     /// Adds a space and a number in decimal.
     pub fn number<I: Integer>(&mut self, number: I)
-        requires { self.old.length + 1 + I.MAX_STR_LEN ≤ 256 }
+        requires { HasRoom self.old (1 + I.MAX_STR_LEN) }
         ensures text { Adds self.old self.new (32 ∷ I.text number) }
-        ensures short { self.new.length ≤ self.old.length + 1 + I.MAX_STR_LEN }
+        ensures short { written self.new ≤ written self.old + 1 + I.MAX_STR_LEN }
     {
         let mut buffer = Buffer::new();
         self.field(buffer.format(number).as_bytes());
@@ -71,9 +73,9 @@ impl<'a> TextWriter<'a> {
 
     /// Adds a space and a moment's number of microseconds in decimal.
     pub fn moment(&mut self, at: Local)
-        requires { self.old.length + 21 ≤ 256 }
+        requires { HasRoom self.old 21 }
         ensures text { Adds self.old self.new (32 ∷ decimal at) }
-        ensures short { self.new.length ≤ self.old.length + 17 }
+        ensures short { written self.new ≤ written self.old + 17 }
         ensures small { at < 2 ^ 50 }
     {
         self.number(at.get());
@@ -81,9 +83,9 @@ impl<'a> TextWriter<'a> {
 
     /// Adds a space and a span's number of units in decimal, with a sign where it is negative.
     pub fn span(&mut self, span: Span)
-        requires { self.old.length + 41 ≤ 256 }
+        requires { HasRoom self.old 41 }
         ensures text { Adds self.old self.new (32 ∷ signed_decimal span) }
-        ensures short { self.new.length ≤ self.old.length + 24 }
+        ensures short { written self.new ≤ written self.old + 24 }
         ensures small { unsigned_abs span < 2 ^ 70 }
     {
         self.number(span.get());
@@ -91,9 +93,9 @@ impl<'a> TextWriter<'a> {
 
     /// Adds a space and the four bytes of an address, each in two hexadecimal digits.
     pub fn address(&mut self, address: u32)
-        requires { self.old.length + 9 ≤ 256 }
+        requires { HasRoom self.old 9 }
         ensures text { Adds self.old self.new (32 ∷ address_text address) }
-        ensures short { self.new.length ≤ self.old.length + 9 }
+        ensures short { written self.new ≤ written self.old + 9 }
     {
         let mut digits = [0; 8];
         let _ = encode_to_slice(address.to_be_bytes(), &mut digits);
@@ -102,9 +104,9 @@ impl<'a> TextWriter<'a> {
 
     /// Adds a space and the eight bytes of a stamp, each in two hexadecimal digits.
     pub fn stamp(&mut self, stamp: Stamp)
-        requires { self.old.length + 17 ≤ 256 }
+        requires { HasRoom self.old 17 }
         ensures text { Adds self.old self.new (32 ∷ stamp_text stamp.0) }
-        ensures short { self.new.length ≤ self.old.length + 17 }
+        ensures short { written self.new ≤ written self.old + 17 }
         ensures small { stamp.0 < 2 ^ 64 }
     {
         let mut sixteen = [0; 16];

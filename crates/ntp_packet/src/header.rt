@@ -1,3 +1,4 @@
+//! The fields of a header.
 use tick_units::{Short, Stamp};
 
 /// The fields of a packet's header, in the order in which they stand on the wire.
@@ -9,15 +10,16 @@ pub struct Header {
     pub version: u8,
     /// The mode, 0 to 7: 3 is a client's, 4 a server's.
     pub mode: u8,
-    /// How many servers lie between this one and its reference clock, which has stratum 0.
+    /// The sender's stratum: 1 where its own clock is set by a reference clock, and one more than that of the server that it
+    /// takes its time from where it isn't. 0 where it isn't synchronised, or says nothing of it.
     pub stratum: u8,
     /// The interval between polls, in log2 seconds.
     pub poll: i8,
     /// The precision of the sender's clock, in log2 seconds.
     pub precision: i8,
-    /// The way to the reference clock and back.
+    /// The round-trip delay to the reference clock.
     pub root_delay: Short,
-    /// The dispersion on the way to the reference clock.
+    /// The dispersion of the time that comes from the reference clock.
     pub root_disp: Short,
     /// What the sender takes its time from: four letters, or an IPv4 address.
     pub refid: u32,

@@ -1,12 +1,14 @@
-//! The header of an NTP packet, read from bytes and written to them (RFC 5905, section 7.3).
+//! The header of an NTP packet, read from bytes and written to them (RFC 5905, section 7.3), and the protocol's numbers.
 #![tactic(auto)]
 
 mod header;
+mod protocol;
 mod reading;
 #[cfg(test)]
 mod tests;
 mod writing;
 
 pub use header::Header;
+pub use protocol::{CLIENT, PRECISION, PRECISION_UNITS, SERVER, VERSION};
 pub use reading::read;
 pub use writing::write;

@@ -1,3 +1,4 @@
+//! Headers that were dissected by hand, and their bytes.
 use crate::{Header, read, write};
 use std::process::Abort;
 use tick_units::{Short, Stamp};

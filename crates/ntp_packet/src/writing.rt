@@ -1,3 +1,4 @@
+//! Writes the bytes of a header.
 ghost use Rattle.std.specs.Prelude.{◌≡◌, ◌≤◌, ◌<◌, ◌+◌, ◌^◌, ◌++◌, take};
 ghost use Rattle.byteorder.specs.Endian.{big_bytes};
 ghost use Rattle.ntp_packet.specs.Layout.{fields, layout};

@@ -6,6 +6,7 @@ use Rattle.std.specs.Int.{int_max}
 use Rattle.tick_units.specs.Units.{floor_div, local_span, phi}
 use Rattle.tick_units.specs.declared.sample.Sample.{Sample}
 use Rattle.tick_units.specs.declared.stamp.Stamp.{Stamp}
+use Rattle.ntp_packet.specs.Protocol.{client_mode, latest_version, own_precision, own_precision_units}
 use Rattle.ntp_packet.specs.declared.header.Header.{Header}
 use Rattle.feed_link.specs.declared.outside.Address.{Address}
 
@@ -13,15 +14,15 @@ use Rattle.feed_link.specs.declared.outside.Address.{Address}
 abbrev pub request_stamp : ℕ → Stamp
 request_stamp moment = record { 0 = 2 ^ 63 + local_span moment }
 
--- a request of version 4: the client's mode is 3, its poll 6 and its precision -20
+-- a request of the latest version in a client's mode; its poll is 6
 abbrev pub request_header : ℕ → Header
 request_header moment = record {
   leap = 0;
-  version = 4;
-  mode = 3;
+  version = latest_version;
+  mode = client_mode;
   stratum = 0;
   poll = pos 6;
-  precision = negsuc 19;
+  precision = own_precision;
   root_delay = record { 0 = 0 };
   root_disp = record { 0 = 0 };
   refid = 0;
@@ -43,9 +44,9 @@ span_of stamp = pos (unwrapped_second (stamp.0 / 2 ^ 32) * 2 ^ 32 + stamp.0 % 2 
 abbrev pub offset_of : (sent received answered arrived : ℤ) → ℤ
 offset_of sent received answered arrived = floor_div ((received -ℤ sent) +ℤ (answered -ℤ arrived)) 2
 
--- the way there and back without the server's own time, and at least the clock's own precision
+-- the round-trip delay, without the time that the server took, and at least the clock's own precision
 abbrev pub delay_of : (sent received answered arrived : ℤ) → ℤ
-delay_of sent received answered arrived = int_max ((arrived -ℤ sent) -ℤ (answered -ℤ received)) (pos 4096)
+delay_of sent received answered arrived = int_max ((arrived -ℤ sent) -ℤ (answered -ℤ received)) (pos own_precision_units)
 
 -- 2^p s for the server's precision p, which counts as at least -32 and at most 4
 abbrev pub precision_units : ℤ → ℕ
@@ -54,7 +55,7 @@ precision_units (negsuc p) = 2 ^ (31 - p)
 
 -- both precisions, and the drift of the host's counter over so many microseconds
 abbrev pub dispersion_of : ℤ → ℕ → ℤ
-dispersion_of precision waited = pos (4096 + precision_units precision + phi waited)
+dispersion_of precision waited = pos (own_precision_units + precision_units precision + phi waited)
 
 -- what an answer of a server says that arrived at a moment, to the request asked at another
 abbrev pub sample_of : Address → (asked at : ℕ) → Header → Sample

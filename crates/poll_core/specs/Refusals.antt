@@ -5,6 +5,7 @@ use Rattle.std.specs.List.{range_with_len}
 use Rattle.std.specs.Option.{option_map}
 use Rattle.tick_units.specs.declared.stamp.Stamp.{Stamp}
 use Rattle.ntp_packet.specs.Layout.{fields}
+use Rattle.ntp_packet.specs.Protocol.{latest_version, server_mode}
 use Rattle.ntp_packet.specs.declared.header.Header.{Header}
 use Rattle.feed_link.specs.declared.outside.Address.{Address}
 use Rattle.poll_core.specs.Formulas.{request_stamp}
@@ -50,8 +51,8 @@ datagram_rows server asked from bytes =
 -- rows 4 to 7: whether it is the answer to the request with this transmit timestamp
 abbrev pub exchange_rows : Stamp → Option Stamp → Header → List Row
 exchange_rows asked accepted h =
-    row (h.version == 0 || nat_lt 4 h.version) (Version h.version)
-    ∷ row (not (h.mode == 4)) (Mode h.mode)
+    row (h.version == 0 || nat_lt latest_version h.version) (Version h.version)
+    ∷ row (not (h.mode == server_mode)) (Mode h.mode)
     ∷ row (not (h.origin.0 == asked.0)) (Bogus h.origin asked)
     ∷ row (is_last_accepted accepted h.transmit) (Duplicate h.transmit)
     ∷ []

@@ -1,15 +1,10 @@
+//! The checks of an answer, in the order of their numbers.
 ghost use Rattle.std.specs.Prelude.{◌≡◌, None, Some, MatchResult};
 ghost use Rattle.poll_core.specs.Refusals.{exchange_rows, server_rows, first_refusal};
 
 use crate::PollRefusal;
-use ntp_packet::Header;
+use ntp_packet::{Header, SERVER, VERSION};
 use tick_units::Stamp;
-
-// The latest version of the protocol (RFC 5905, section 7.3).
-const VERSION: u8 = 4;
-
-// The mode of a server.
-const SERVER: u8 = 4;
 
 // The leap indicator of a clock that isn't synchronised.
 const NOT_SYNCHRONISED: u8 = 3;

@@ -1,3 +1,4 @@
+//! What an exchange says of the time.
 ghost use Rattle.std.specs.Prelude.{◌≡◌, ◌<◌, ◌≤◌, ◌+◌, ◌*◌, ◌/◌, ◌%◌, ◌^◌, pos, unsigned_abs};
 ghost use Rattle.civil_minute.specs.Eras.{Unwraps};
 ghost use Rattle.tick_units.specs.Units.{local_span};
@@ -6,11 +7,8 @@ ghost use Rattle.poll_core.specs.Formulas.{span_of, precision_units, sample_of};
 
 use civil_minute::unwrap_era;
 use feed_link::Address;
-use ntp_packet::Header;
+use ntp_packet::{Header, PRECISION_UNITS};
 use tick_units::{Local, Sample, Span, Stamp, local_span, phi};
-
-// The precision of the host's clock, 2^-20 s, in units of 2^-32 s.
-const OWN_PRECISION: u64 = 1 << 12;
 
 // A server's precision in log2 seconds counts as 2^4 s at most.
 const MOST_PRECISION: u32 = 36;
@@ -63,8 +61,8 @@ impl Exchange {
         let answered = span_of(header.transmit);
         Sample {
             offset: ((received - sent) + (answered - arrived)).halved_down(1),
-            delay: ((arrived - sent) - (answered - received)).max(Span::from(OWN_PRECISION)),
-            dispersion: Span::from(OWN_PRECISION + precision_units(header.precision))
+            delay: ((arrived - sent) - (answered - received)).max(Span::from(PRECISION_UNITS)),
+            dispersion: Span::from(PRECISION_UNITS + precision_units(header.precision))
                 + phi(at.get() - self.asked.get()),
             stratum: header.stratum,
             address: server.ip,

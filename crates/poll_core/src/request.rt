@@ -1,21 +1,13 @@
+//! The request of a poller.
 ghost use Rattle.std.specs.Prelude.{◌≡◌, ◌<◌};
 ghost use Rattle.ntp_packet.specs.Layout.{layout};
 ghost use Rattle.poll_core.specs.Formulas.{request_stamp, request_header};
 
-use ntp_packet::{Header, write};
+use ntp_packet::{CLIENT, Header, PRECISION, VERSION, write};
 use tick_units::{Local, Short, Stamp, local_span};
-
-// The version of the protocol that a request has (RFC 5905, section 7.3).
-const VERSION: u8 = 4;
-
-// The mode of a client.
-const CLIENT: u8 = 3;
 
 // The interval between polls that a request states, in log2 seconds.
 const POLL: i8 = 6;
-
-// The precision of the host's counter, about a microsecond, in log2 seconds.
-const PRECISION: i8 = -20;
 
 // The transmit timestamp of the request made at a moment. Its highest bit is 1, so it is never 0.
 pub fn stamp(moment: Local) -> Stamp

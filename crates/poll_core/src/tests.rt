@@ -1,3 +1,4 @@
+//! Exchanges with a server, right ones and refused ones.
 ghost use Rattle.std.specs.Prelude.{◌≡◌, IfOk};
 ghost use Rattle.poll_core.specs.Polling.{asked_at};
 
@@ -238,6 +239,48 @@ fn an_answer_with_each_fault(rt: HostRuntime) -> Result<(), Fail> {
         answered(SERVER, &nothing)?,
         Err(PollRefusal::Version { version: 0 })
     );
+    Ok(())
+}
+
+// Each answer has the faults of two numbers that follow one another, and the lesser one counts.
+#[test]
+fn of_two_faults_the_lesser_number_counts(rt: HostRuntime) -> Result<(), Fail> {
+    let mut of_a_client = with(0, &[0x23]);
+    of_a_client[31] = 1;
+    let mut of_stratum_0 = with(RECEIVE, &[0; 8]);
+    of_stratum_0[STRATUM] = 0;
+    let mut with_no_stamp = with(TRANSMIT, &[0; 8]);
+    with_no_stamp[ROOT_DISP + 1] = 0x10;
+    for (bytes, refusal) in [
+        (of_a_client, PollRefusal::Mode { mode: 3 }),
+        (of_stratum_0, unsynchronised(0, 0)),
+        (with_no_stamp, PollRefusal::ZeroStamp),
+    ] {
+        let (found, _) = refused(SERVER, &bytes)?;
+        assert_eq!(rt; found, refusal);
+    }
+    Ok(())
+}
+
+// The same of an answer that was accepted before: first it answers another request, then its clock isn't synchronised.
+#[test]
+fn a_duplicate_with_another_fault(rt: HostRuntime) -> Result<(), Fail> {
+    let mut poll = asked(moment(1_000_000)?);
+    let first = poll.answer(moment(1_010_000)?, SERVER, &ANSWER);
+    assert!(rt; first.is_ok());
+    let _other = poll.ask(moment(2_000_000)?);
+    let second = poll.answer(moment(2_000_000)?, SERVER, &ANSWER);
+    let bogus = PollRefusal::Bogus {
+        origin: Stamp(0x8000_0001_0000_0000),
+        asked: Stamp(0x8000_0002_0000_0000),
+    };
+    assert_eq!(rt; second, Err(bogus));
+    let _same = poll.ask(moment(1_000_000)?);
+    let third = poll.answer(moment(1_010_000)?, SERVER, &with(0, &[0xe4]));
+    let duplicate = PollRefusal::Duplicate {
+        transmit: Stamp(0xed00_e131_0020_c49b),
+    };
+    assert_eq!(rt; third, Err(duplicate));
     Ok(())
 }
 

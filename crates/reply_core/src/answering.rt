@@ -1,21 +1,11 @@
-ghost use Rattle.std.specs.Prelude.{◌≡◌, ◌<◌, ◌≤◌, IfErr, OnOk, OnErr, length};
+//! The answer to a datagram.
+ghost use Rattle.std.specs.Prelude.{◌≡◌, ◌<◌, ◌≤◌, IfErr, IfOk, OnOk, OnErr, length};
 ghost use Rattle.reply_core.specs.Reply.{answer, header_of, request_of, root_disp_at};
 
-use crate::Dropped;
+use crate::{Dropped, REPLY_LENGTH, ReplyPacket};
 use clock_page::{INIT, Page, UNKNOWN_DISPERSION};
-use ntp_packet::{Header, read, write};
+use ntp_packet::{CLIENT, Header, PRECISION, SERVER, VERSION, read, write};
 use tick_units::{Local, Short, Span, Stamp, phi, to_short};
-
-// The latest version of the protocol (RFC 5905, section 7.3).
-const VERSION: u8 = 4;
-
-// The mode of a client, and that of a server.
-const CLIENT: u8 = 3;
-
-const SERVER: u8 = 4;
-
-// The precision of the host's counter, about a microsecond, in log2 seconds.
-const PRECISION: i8 = -20;
 
 // The request in a datagram.
 fn request_in(datagram: &[u8]) -> Result<Header, Dropped>
@@ -84,7 +74,7 @@ pub fn reply(
     datagram: &[u8],
     arrived: Local,
     sent: Local,
-    out: &mut [u8; 48],
+    out: &mut [u8; REPLY_LENGTH],
 ) -> Result<(), Dropped>
     requires { arrived ≤ sent }
     ensures answered { OnOk result (answer page.now datagram.now arrived sent ≡ Ok out.new) }
@@ -95,4 +85,25 @@ pub fn reply(
     let request = request_in(datagram)?;
     write(&header(page, &request, arrived, sent), out);
     Ok(())
+}
+
+/// The answer to a datagram, as `reply` writes it.
+///
+/// # Errors
+/// A datagram that is no request of a client is dropped.
+pub fn reply_packet(
+    page: &Page,
+    datagram: &[u8],
+    arrived: Local,
+    sent: Local,
+) -> Result<ReplyPacket, Dropped>
+    requires { arrived ≤ sent }
+    ensures answered { IfOk result (λ packet. answer page.now datagram.now arrived sent ≡ Ok packet.bytes) }
+    ensures dropped { IfErr result (λ why. answer page.now datagram.now arrived sent ≡ Err why) }
+{
+    let mut bytes = [0; REPLY_LENGTH];
+    match reply(page, datagram, arrived, sent, &mut bytes) {
+        Ok(()) => Ok(ReplyPacket { bytes }),
+        Err(why) => Err(why),
+    }
 }

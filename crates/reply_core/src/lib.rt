@@ -3,8 +3,10 @@
 
 mod answering;
 mod dropped;
+mod packet;
 #[cfg(test)]
 mod tests;
 
-pub use answering::reply;
+pub use answering::{reply, reply_packet};
 pub use dropped::Dropped;
+pub use packet::{REPLY_LENGTH, ReplyPacket};

@@ -7,7 +7,7 @@ use Rattle.std.specs.Option.{option_map}
 use Rattle.radio_receiver.specs.Histories.{History, with_delay}
 use Rattle.poll_core.specs.Polling.{HasPolled}
 use Rattle.station_config.specs.Station.{IsStation, RadioFields, ServerFields, StationFields, is_same_plan, plan_count}
-use Rattle.script_player.specs.Standing.{AreFour, HasFitted, HasPolling, HasRadio, HasRadios, HasServer, HasTaken, IsSpare, first_radios, first_servers, left_of, with_radio}
+use Rattle.script_player.specs.KeptPlayer.{AreFour, HasFitted, HasPolling, HasRadio, HasRadios, HasServer, HasPicked, IsSpare, first_radios, first_servers, left_of, with_radio}
 use Rattle.script_player.specs.declared.rack.Spare.{Spare}
 use Rattle.script_player.specs.declared.radio.Radio.{Radio}
 use Rattle.script_player.specs.declared.radios.Radios.{Radios}
@@ -39,7 +39,7 @@ slice_get-push-front xs x y j within e = by (slice_get-push-cases xs x y j e)
 
 -- one radio more
 pub adds : {B : Type 0} (stands : B → History → Type 0) (old new : Radios B) (station : StationFields) (fields : RadioFields) (radio : Radio B) (left : List (Spare B)) (receiver : B) →
-    HasTaken stands old.left.items left fields.plan receiver → radio.plan ≡ fields.plan → radio.delay_us ≡ fields.delay → radio.least ≡ 0 →
+    HasPicked stands old.left.items left fields.plan receiver → radio.plan ≡ fields.plan → radio.delay_us ≡ fields.delay → radio.least ≡ 0 →
     ((h : History) → stands receiver h → stands radio.receiver (with_delay h fields.delay)) →
     new.fitted.items ≡ old.fitted.items ++ radio ∷ [] → new.left.items ≡ left →
     HasRadios stands old station [] → HasRadios stands new (with_radio station fields) []
@@ -86,7 +86,7 @@ starts stands radios station none four = record {
 pub goes-on : {B : Type 0} (stands : B → History → Type 0) (radios : Radios B) (station : StationFields) (n : ℕ) (fields : RadioFields) → slice_get station.radios n ≡ Some fields →
     HasRadios stands radios (with_radio (first_radios n station) fields) [] → HasRadios stands radios (first_radios (n + 1) station) []
 goes-on stands radios station n fields at h =
-    subst (λ rs. HasRadios stands radios (record { holdover = station.holdover; start = station.start; radios = rs; servers = station.servers; links = station.links }) []) (sym (take-slice_get station.radios n fields at)) h
+    subst (λ rs. HasRadios stands radios (record station { radios = rs }) []) (sym (take-slice_get station.radios n fields at)) h
 
 count_by-take : {X : Type 0} (p : X → Bool) (xs : List X) (n : ℕ) (x : X) → slice_get xs n ≡ Some x → p x ≡ true → count_by p (take n xs) < count_by p xs
 count_by-take p [] n x e passes = absurd (cc)
@@ -116,7 +116,7 @@ pub polling-push : (servers : List Server) (station : StationFields) (n : ℕ) (
     server.address ≡ fields.address → HasPolled server.poll fields.address [] → server.last ≡ 0 →
     HasPolling servers (first_servers n station) [] → HasPolling (servers ++ server ∷ []) (first_servers (n + 1) station) []
 polling-push servers station n server fields at address polled last h =
-    subst (λ ss. HasPolling (servers ++ server ∷ []) (record { holdover = station.holdover; start = station.start; radios = station.radios; servers = ss; links = station.links }) []) (sym (take-slice_get station.servers n fields at)) (record {
+    subst (λ ss. HasPolling (servers ++ server ∷ []) (record station { servers = ss }) []) (sym (take-slice_get station.servers n fields at)) (record {
       count = length_push servers server ∙ ap (λ k. k + 1) h.count ∙ sym (length_push (take n station.servers) fields);
       each = λ place s f at_p here_p. by place s f here_p (slice_get-push-cases servers server s place at_p);
     })
@@ -150,10 +150,10 @@ some-at {X} {Y} f None ys i e within = absurd (by (slice_get_cases ys i).1)
 -- all radios are the station's
 pub all-radios : {B : Type 0} (stands : B → History → Type 0) (radios : Radios B) (station : StationFields) (n : ℕ) → n ≡ length station.radios → HasRadios stands radios (first_radios n station) [] → HasRadios stands radios station []
 all-radios stands radios station n all h =
-    subst (λ rs. HasRadios stands radios (record { holdover = station.holdover; start = station.start; radios = rs; servers = station.servers; links = station.links }) [])
+    subst (λ rs. HasRadios stands radios (record station { radios = rs }) [])
     (take_all n station.radios (omega arith)) h
 
 pub all-servers : (servers : List Server) (station : StationFields) (n : ℕ) → n ≡ length station.servers → HasPolling servers (first_servers n station) [] → HasPolling servers station []
 all-servers servers station n all h =
-    subst (λ ss. HasPolling servers (record { holdover = station.holdover; start = station.start; radios = station.radios; servers = ss; links = station.links }) [])
+    subst (λ ss. HasPolling servers (record station { servers = ss }) [])
     (take_all n station.servers (omega arith)) h

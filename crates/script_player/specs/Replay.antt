@@ -186,7 +186,7 @@ outcome_of_due limit before None = Nothing
 outcome_of_due limit before (Some e) = if nat_lt (length before) limit then Kept e else Nothing
 
 abbrev pub outcome_of_request : Result (List ℕ) WhyDropped → Outcome
-outcome_of_request (Ok bytes) = Replied bytes
+outcome_of_request (Ok bytes) = Replied (record { bytes = bytes })
 outcome_of_request (Err why) = Dropped why
 
 -- what a lawful line gives behind these lines

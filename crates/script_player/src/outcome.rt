@@ -1,5 +1,6 @@
+//! What a line of a script gives.
 use journal_entry::Entry;
-use reply_core::Dropped as WhyDropped;
+use reply_core::{Dropped as WhyDropped, ReplyPacket};
 
 /// What a line of a script gives.
 #[derive(Clone, Copy, Debug, PartialEq, Eq)]
@@ -10,8 +11,8 @@ pub enum Outcome {
     Kept(Entry),
     /// The server of the feed is asked by these bytes.
     Asked([u8; 48]),
-    /// The client is answered by these bytes.
-    Replied([u8; 48]),
+    /// The client is answered by this packet.
+    Replied(ReplyPacket),
     /// The client isn't answered.
     Dropped(WhyDropped),
 }

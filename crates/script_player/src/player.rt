@@ -1,3 +1,4 @@
+//! A station in the middle of a script.
 ghost use Rattle.std.specs.Prelude.{◌≡◌, ◌≤◌, ◌+◌, ◌^◌, [], ℕ, List, Ok, IfOk, vec_len, length};
 ghost use Rattle.station_config.specs.Station.{StationFields};
 ghost use Rattle.script_line.specs.Texts.{IsLine};
@@ -12,7 +13,7 @@ use crate::servers::Servers;
 use crate::{BoxedReceiver, NotLawful, Outcome};
 use clock_page::Page;
 use radio_receiver::Receiver;
-use reply_core::reply;
+use reply_core::reply_packet;
 use script_line::{Datagram, ScriptLine};
 use station_config::Station;
 use std::alloc::{AllocError, Global};
@@ -31,7 +32,7 @@ pub struct Player<B: Drop> {
 }
 
 impl Player<BoxedReceiver> {
-    ghost use Rattle.script_player.specs.Standing.{HasPlayed, IsRack, IsReady, Plays};
+    ghost use Rattle.script_player.specs.KeptPlayer.{HasPlayed, IsRack, IsReady, Plays};
 
     /// A station that has played no line yet, and that keeps at most so many entries, up to 4194304. Of each plan the first
     /// four blank receivers of the rack are used, in its order; the others are dropped.
@@ -146,9 +147,8 @@ impl Player<BoxedReceiver> {
     {
         let mut room = [0; 1024];
         let length = datagram.write(&mut room);
-        let mut answer = [0; 48];
-        match reply(&self.page(), &room[..length], arrived, sent, &mut answer) {
-            Ok(()) => Outcome::Replied(answer),
+        match reply_packet(&self.page(), &room[..length], arrived, sent) {
+            Ok(packet) => Outcome::Replied(packet),
             Err(why) => Outcome::Dropped(why),
         }
     }

@@ -1,10 +1,11 @@
 // What lines give behind the lines before them, and the page that is kept of them.
 ghost use Rattle.std.specs.Prelude.{◌≡◌, ◌≤◌, ◌^◌, ◌++◌, ◌∷◌, [], List, OnOk};
 ghost use Rattle.radio_receiver.specs.Histories.{History, blank_of};
-ghost use Rattle.script_player.specs.Standing.{AreOf, IsRack, IsReady};
+ghost use Rattle.script_player.specs.KeptPlayer.{AreOf, IsRack, IsReady};
 
 use crate::{BoxedReceiver, NotLawful, Player, write_outcome};
 use clock_page::Page;
+use journal_entry::LINE_ROOM;
 use radio_receiver::{DcfReceiver, MsfReceiver, Receiver, WwvbReceiver};
 use script_line::read_line;
 use station_config::read_station;
@@ -88,7 +89,7 @@ fn play_lines(
         let line = read_line(words.as_bytes()).ok_or("no line of a script")?;
         match player.play(&line) {
             Ok(outcome) => {
-                let mut room = [0; 256];
+                let mut room = [0; LINE_ROOM];
                 let length = write_outcome(&outcome, &mut room);
                 text.extend_from_slice(room.get(..length).ok_or("too long")?)?;
             }

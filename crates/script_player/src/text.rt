@@ -1,14 +1,15 @@
+//! Writes what a line of a script gives.
 ghost use Rattle.std.specs.Prelude.{◌≡◌, ◌+◌, ◌≤◌, ◌++◌, ◌∷◌, [], length, take, drop};
 ghost use Rattle.hex.specs.Hex.{encode_lower};
 ghost use Rattle.script_player.specs.Texts.{outcome_text};
 
 use crate::Outcome;
 use hex::encode_to_slice;
-use journal_entry::{Entry, TextWriter, write_entry};
+use journal_entry::{Entry, LINE_ROOM, TextWriter, write_entry};
 use reply_core::Dropped;
 
 // Writes a word and a line feed.
-fn write_word(word: &[u8], out: &mut [u8; 256]) -> usize
+fn write_word(word: &[u8], out: &mut [u8; LINE_ROOM]) -> usize
     requires { length word.now ≤ 20 }
     ensures text { take result out.new ≡ word.now ++ 10 ∷ [] }
     ensures rest { drop result out.new ≡ drop result out.old }
@@ -22,7 +23,7 @@ fn write_word(word: &[u8], out: &mut [u8; 256]) -> usize
 
 // Writes a word with its space, the bytes in hexadecimal digits, and a line feed.
 #[tactic(auto, using(crate::proofs::TextLaws::drop_on))]
-fn write_bytes(word: &[u8], bytes: &[u8; 48], out: &mut [u8; 256]) -> usize
+fn write_bytes(word: &[u8], bytes: &[u8; 48], out: &mut [u8; LINE_ROOM]) -> usize
     requires { length word.now ≤ 20 }
     ensures text { take result out.new ≡ word.now ++ encode_lower bytes.now ++ 10 ∷ [] }
     ensures rest { drop result out.new ≡ drop result out.old }
@@ -38,7 +39,7 @@ fn write_bytes(word: &[u8], bytes: &[u8; 48], out: &mut [u8; 256]) -> usize
 }
 
 // Writes an entry and a line feed.
-fn write_kept(e: &Entry, out: &mut [u8; 256]) -> usize
+fn write_kept(e: &Entry, out: &mut [u8; LINE_ROOM]) -> usize
     ensures text { take result out.new ≡ outcome_text (Outcome.Kept e.now) }
     ensures rest { drop result out.new ≡ drop result out.old }
     ensures length { result ≡ length (outcome_text (Outcome.Kept e.now)) }
@@ -50,7 +51,7 @@ fn write_kept(e: &Entry, out: &mut [u8; 256]) -> usize
 
 /// Writes the line that a line of a script gives, with its line feed, at the front of `out`, and leaves the rest as it was. The
 /// answer is the number of bytes written, 0 where nothing is told.
-pub fn write_outcome(outcome: &Outcome, out: &mut [u8; 256]) -> usize
+pub fn write_outcome(outcome: &Outcome, out: &mut [u8; LINE_ROOM]) -> usize
     ensures text { take result out.new ≡ outcome_text outcome.now }
     ensures rest { drop result out.new ≡ drop result out.old }
     ensures length { result ≡ length (outcome_text outcome.now) }
@@ -59,7 +60,7 @@ pub fn write_outcome(outcome: &Outcome, out: &mut [u8; 256]) -> usize
         Outcome::Nothing => 0,
         Outcome::Kept(entry) => write_kept(entry, out),
         Outcome::Asked(bytes) => write_bytes(b"asked ", bytes, out),
-        Outcome::Replied(bytes) => write_bytes(b"reply ", bytes, out),
+        Outcome::Replied(packet) => write_bytes(b"reply ", &packet.bytes, out),
         Outcome::Dropped(Dropped::Short) => write_word(b"drop short", out),
         Outcome::Dropped(Dropped::Version) => write_word(b"drop version", out),
         Outcome::Dropped(Dropped::Mode) => write_word(b"drop mode", out),

@@ -1,3 +1,4 @@
+//! A sweep whose candidates come in each order.
 ghost use Rattle.std.specs.Prelude.{◌≤◌, length, IsTrue};
 ghost use Rattle.select_core.specs.Selection.{are_measured, is_measured};
 
@@ -44,6 +45,22 @@ fn three_in_each_order(rt: HostRuntime) -> Result<(), Fail> {
     assert_eq!(rt;
         in_each_order(&a, &touching, &bridge),
         [between(5, 15, 1)?; 6]
+    );
+    Ok(())
+}
+
+// The first two touch at 10, and the second and the third share 15 to 20; and the same downward.
+#[test]
+fn touching_in_each_order(rt: HostRuntime) -> Result<(), Fail> {
+    let upward = [source(0, 5, 5)?, source(1, 15, 5)?, source(2, 20, 5)?];
+    assert_eq!(rt;
+        in_each_order(&upward[0], &upward[1], &upward[2]),
+        [between(10, 20, 1)?; 6]
+    );
+    let downward = [source(0, -5, 5)?, source(1, -15, 5)?, source(2, -20, 5)?];
+    assert_eq!(rt;
+        in_each_order(&downward[0], &downward[1], &downward[2]),
+        [between(-20, -10, 1)?; 6]
     );
     Ok(())
 }

@@ -1,3 +1,4 @@
+//! Intervals of a few sources, on small numbers that can be reckoned by hand.
 ghost use Rattle.std.specs.Prelude.{◌≤◌, ◌^◌, IfOk, IsTrue, unsigned_abs};
 ghost use Rattle.select_core.specs.Selection.{is_measured};
 
@@ -109,6 +110,17 @@ fn two_of_five_stand_outside(rt: HostRuntime) -> Result<(), Fail> {
 fn one_point_is_no_interval(rt: HostRuntime) -> Result<(), Fail> {
     let sources = [source(0, 5, 5)?, source(1, 15, 5)?, source(2, 10, 5)?];
     assert_eq!(rt; select(&sources), between(5, 15, 1)?);
+    Ok(())
+}
+
+// The interval of the second begins where that of the first ends, and all that the second and the third share lies beyond: the
+// end where the first two touch counts.
+#[test]
+fn where_two_touch_an_interval_may_begin_or_end(rt: HostRuntime) -> Result<(), Fail> {
+    let upward = [source(0, 5, 5)?, source(1, 15, 5)?, source(2, 20, 5)?];
+    assert_eq!(rt; select(&upward), between(10, 20, 1)?);
+    let downward = [source(0, -5, 5)?, source(1, -15, 5)?, source(2, -20, 5)?];
+    assert_eq!(rt; select(&downward), between(-20, -10, 1)?);
     Ok(())
 }
 

@@ -5,9 +5,7 @@ use Rattle.toml.specs.Data.{Data, Members}
 use Rattle.toml.specs.View.{items_view}
 use Rattle.toml.specs.declared.value.Value.{Value}
 use Rattle.station_config.specs.Faults.{Count as Limit, Fault, bad_in, bad_range, is_wrong, key_in, keys_at, missing_in, missing_key, sheets, too_many, unknown_in, unknown_key}
-use Rattle.station_config.specs.Inside.{radio_kept, server_fields}
 use Rattle.station_config.specs.Rows.{Form, Row, Text, tables_from}
-use Rattle.station_config.specs.Station.{StationFields}
 use Rattle.station_config.specs.Values.{read_or}
 use Rattle.station_config.specs.declared.keys.Check.{Check}
 use Rattle.station_config.specs.declared.keys.Check.TheVariants.{Unknown, Missing}
@@ -18,7 +16,6 @@ use Rattle.station_config.specs.declared.items.Obstacle.{Obstacle}
 use Rattle.station_config.specs.declared.items.Obstacle.TheVariants as obstacle
 use Rattle.station_config.specs.declared.rows.Misread.{Misread}
 use Rattle.station_config.specs.declared.rows.Misread.TheVariants as misread
-use Rattle.station_config.specs.declared.station.Parts.{Parts}
 
 abbrev pub spot_text : Spot → Text
 spot_text s = key_in s.part s.place s.key.now
@@ -60,10 +57,6 @@ IsFirstObstacle faults (obstacle.Unknown spot) = slice_get faults 0 ≡ Some (un
 IsFirstObstacle faults (obstacle.Missing spot) = slice_get faults 0 ≡ Some (missing_key (spot_text spot))
 IsFirstObstacle faults (obstacle.Range spot) = slice_get faults 0 ≡ Some (bad_range (spot_text spot))
 IsFirstObstacle faults (obstacle.TooMany key count) = slice_get faults 0 ≡ Some (too_many key.now count)
-
--- what was read, before it is a station
-abbrev pub parts_fields : Parts → StationFields
-parts_fields p = record { holdover = p.holdover; start = p.start; radios = map radio_kept p.radios.items; servers = map server_fields p.servers.items; links = p.links.items }
 
 abbrev pub count_seen : Count → Limit
 count_seen c = record { key = c.key.now; count = c.count; most = c.most }

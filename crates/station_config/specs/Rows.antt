@@ -1,11 +1,10 @@
 -- The keys of a station file, table by table, with what may stand at each (a TOML document of this project's own).
-use Rattle.std.specs.Prelude.{ℕ, ◌^◌, ◌&&◌, ◌==◌, ◌+◌, ◌++◌, Bool, List, [], ◌∷◌, Option, None, Some, pos, codes, nat_le, nat_lt, length, is_some, find, if◌then◌else◌}
+use Rattle.std.specs.Prelude.{ℕ, ◌^◌, ◌&&◌, ◌==◌, ◌+◌, ◌++◌, Bool, List, [], ◌∷◌, Option, None, Some, pos, codes, nat_le, nat_lt, length, is_some, if◌then◌else◌}
 use Rattle.std.specs.List.{before_first, after_first}
 use Rattle.std.specs.Int.{w32, from_be_bytes}
-use Rattle.std.specs.Str.{bytes_eq}
 use Rattle.tick_units.specs.Log.{number_of}
+use Rattle.tick_units.specs.Plans.{plan_of}
 use Rattle.tick_units.specs.declared.marks.Plan.{Plan}
-use Rattle.tick_units.specs.declared.marks.Plan.TheVariants.{Dcf, Msf, Wwvb}
 use Rattle.toml.specs.Data.{Data, Items, Members, array, integer, item, no_items, string, table}
 use Rattle.toml.specs.Text.{are_tables}
 
@@ -24,17 +23,9 @@ abbrev pub text_in : Data → Option Text
 text_in (string s) = if nat_lt 0 (length s) then Some s else None
 text_in _ = None
 
-abbrev pub plan_word : Plan → Text
-plan_word Dcf = codes "dcf"
-plan_word Msf = codes "msf"
-plan_word Wwvb = codes "wwvb"
-
-abbrev pub plans : List Plan
-plans = Dcf ∷ Msf ∷ Wwvb ∷ []
-
 -- a plan by its word
 abbrev pub plan_in : Data → Option Plan
-plan_in (string s) = find (λ p. bytes_eq s (plan_word p)) plans
+plan_in (string s) = plan_of s
 plan_in _ = None
 
 -- a number from 0 to 255 in decimal, without leading zeros

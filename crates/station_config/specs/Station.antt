@@ -4,6 +4,7 @@ use Rattle.feed_link.specs.declared.outside.Address.{Address}
 use Rattle.system_fold.specs.Settings.{SettingsFields}
 use Rattle.system_fold.specs.declared.settings.SourceKind.{SourceKind}
 use Rattle.system_fold.specs.declared.settings.SourceKind.TheVariants.{Radio, Server}
+use Rattle.station_config.specs.declared.station.TopNumbers.{TopNumbers}
 use Rattle.tick_units.specs.declared.marks.Plan.{Plan}
 use Rattle.tick_units.specs.declared.marks.Plan.TheVariants.{Dcf, Msf, Wwvb}
 
@@ -18,10 +19,10 @@ pub record ServerFields : Type 0 where
   pub address : Address
   pub polls : ℕ
 
--- a station: its holdover and its first moment in microseconds, and the ports that it serves on
+-- a station: the numbers of its top table, which are its holdover and its first moment in microseconds, its radios and servers,
+-- and the ports that it serves on
 pub record StationFields : Type 0 where
-  pub holdover : ℕ
-  pub start : ℕ
+  pub top : TopNumbers
   pub radios : List RadioFields
   pub servers : List ServerFields
   pub links : List ℕ
@@ -42,9 +43,9 @@ pub record IsStation (station : StationFields) : Type 0 where
   pub plans : (plan : Plan) → plan_count plan station.radios ≤ 4
   pub ports : length station.links ≤ 8
   pub delays : All (λ r. r.delay ≤ 100000) station.radios
-  pub least_holdover : 1000000 ≤ station.holdover
-  pub most_holdover : station.holdover ≤ 86400000000
-  pub latest_start : station.start ≤ 2 ^ 49
+  pub least_holdover : 1000000 ≤ station.top.holdover
+  pub most_holdover : station.top.holdover ≤ 86400000000
+  pub latest_start : station.top.start ≤ 2 ^ 49
 
 abbrev pub kind_of_radio : RadioFields → SourceKind
 kind_of_radio r = Radio r.plan
@@ -54,4 +55,4 @@ kind_of_server s = Server s.address
 
 -- the feeds of a station are its radios in order, and then its servers
 abbrev pub settings_of : StationFields → SettingsFields
-settings_of station = record { holdover = station.holdover; sources = map kind_of_radio station.radios ++ map kind_of_server station.servers }
+settings_of station = record { holdover = station.top.holdover; sources = map kind_of_radio station.radios ++ map kind_of_server station.servers }

@@ -4,6 +4,7 @@ use Rattle.tick_units.specs.declared.marks.Plan.TheVariants.{Dcf}
 use Rattle.toml.specs.Data.{Data, Members, get_member}
 use Rattle.station_config.specs.Rows.{Form, whole, Need, preset, Row, whole_in, text_in, plan_in, address_in, tables_in, holdover_row, link_row, radio_row, server_row, start_row, delay_row, log_row, plan_row, address_row, polls_row, port_row}
 use Rattle.station_config.specs.Station.{RadioFields, ServerFields, StationFields}
+use Rattle.station_config.specs.declared.station.TopNumbers.{TopNumbers}
 
 -- what is read of the value at a key; the default where there is no value, and where the value is a fault
 abbrev pub read_or : {X : Type 0} → X → (Data → Option X) → Option Data → X
@@ -40,10 +41,15 @@ server_of members = record {
 }
 
 -- the holdover of a station is in microseconds, and that of its file in seconds
-abbrev pub station_of : Members → StationFields
-station_of members = record {
+abbrev pub top_of : Members → TopNumbers
+top_of members = record {
   holdover = 1000000 * number_at holdover_row members;
   start = number_at start_row members;
+}
+
+abbrev pub station_of : Members → StationFields
+station_of members = record {
+  top = top_of members;
   radios = map (λ t. radio_of t.1) (tables_at radio_row members);
   servers = map (λ t. server_of t.1) (tables_at server_row members);
   links = map (λ t. number_at port_row t.1) (tables_at link_row members);

@@ -1,25 +1,26 @@
+//! The station of a document, or what stands against it.
 ghost use Rattle.std.specs.Prelude.{◌≡◌, ◌≤◌, ◌^◌, [], Some, IfOk, IfErr, slice_get};
 ghost use Rattle.toml.specs.Data.{get_member};
 ghost use Rattle.toml.specs.View.{items_view, table_view};
-ghost use Rattle.station_config.specs.Rows.{tables_from, top_rows, holdover_row, link_row, radio_row, server_row, start_row, whole_in};
-ghost use Rattle.station_config.specs.Values.{number_at, station_of, tables_at};
+ghost use Rattle.station_config.specs.Rows.{tables_from, top_rows, link_row, radio_row, server_row, start_row, whole_in};
+ghost use Rattle.station_config.specs.Values.{station_of, tables_at, top_of};
 ghost use Rattle.station_config.specs.Faults.{bad_in, faults_of, keys_at, missing_in, sheets_of};
-ghost use Rattle.station_config.specs.Finding.{IsFirstObstacle, IsMisreadAt, IsRead, parts_fields};
+ghost use Rattle.station_config.specs.Finding.{IsFirstObstacle, IsMisreadAt, IsRead};
+ghost use Rattle.station_config.specs.KeptStation.{parts_fields};
 
 use crate::counts::excess;
 use crate::items::{Obstacle, read_links, read_radios, read_servers};
 use crate::keys::{Check, Part, Spot, first_at, tables};
 use crate::rows::number;
-use crate::station::{Parts, Station};
+use crate::station::{Parts, Station, TopNumbers};
 use std::alloc::Global;
 use tick_units::Local;
 use toml::{Table, Value};
 
-// The values of the top table, and the arrays whose tables aren't read yet.
+// The numbers of the top table, and the arrays whose tables aren't read yet.
 #[derive(Clone, Copy, Debug)]
 pub struct Top<'a> {
-    pub holdover: u64,
-    pub start: Local,
+    pub numbers: TopNumbers,
     pub radios: &'a [Value],
     pub servers: &'a [Value],
     pub links: &'a [Value],
@@ -34,12 +35,10 @@ fn start(table: &Table) -> Option<Local>
 
 // The top table, or the first of its keys whose value isn't of its type and range.
 fn read_top<'a>(table: &'a Table) -> Result<Top<'a>, &'static str>
-    ensures holdover { IfOk result (λ t. t.holdover ≡ number_at holdover_row (table_view table.now)) }
-    ensures start { IfOk result (λ t. t.start ≡ number_at start_row (table_view table.now)) }
+    ensures numbers { IfOk result (λ t. t.numbers ≡ top_of (table_view table.now)) }
     ensures radios { IfOk result (λ t. tables_from 0 (items_view t.radios.now) ≡ tables_at radio_row (table_view table.now)) }
     ensures servers { IfOk result (λ t. tables_from 0 (items_view t.servers.now) ≡ tables_at server_row (table_view table.now)) }
     ensures links { IfOk result (λ t. tables_from 0 (items_view t.links.now) ≡ tables_at link_row (table_view table.now)) }
-    ensures most { IfOk result (λ t. t.holdover ≤ 86400) }
     ensures good { IfOk result (λ _. bad_in top_rows (table_view table.now) ≡ []) }
     ensures bad { IfErr result (λ k. slice_get (bad_in top_rows (table_view table.now)) 0 ≡ Some k.now) }
 {
@@ -49,8 +48,10 @@ fn read_top<'a>(table: &'a Table) -> Result<Top<'a>, &'static str>
     let servers = tables(table, "server").ok_or("server")?;
     let start = start(table).ok_or("start")?;
     Ok(Top {
-        holdover,
-        start,
+        numbers: TopNumbers {
+            holdover: 1_000_000 * holdover,
+            start,
+        },
         radios,
         servers,
         links,
@@ -78,8 +79,7 @@ fn read_parts(alloc: Global, table: &Table) -> Result<Parts, Obstacle<'static>>
     let servers = read_servers(alloc, top.servers)?;
     let links = read_links(alloc, top.links)?;
     Ok(Parts {
-        holdover: 1_000_000 * top.holdover,
-        start: top.start,
+        top: top.numbers,
         radios,
         servers,
         links,

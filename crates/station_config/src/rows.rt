@@ -1,3 +1,4 @@
+//! The values at the keys of a table.
 ghost use Rattle.std.specs.Prelude.{◌≡◌, ◌≤◌, Some, None, IfOk, IfErr, IfSome, IsSome, [], option_map, codes};
 ghost use Rattle.tick_units.specs.declared.marks.Plan.TheVariants.{Dcf};
 ghost use Rattle.toml.specs.Data.{get_member, string};
@@ -6,7 +7,7 @@ ghost use Rattle.station_config.specs.Rows.{whole_in, text_in, plan_in, address_
 ghost use Rattle.station_config.specs.Values.{number_at, radio_of, server_of};
 ghost use Rattle.station_config.specs.Faults.{bad_in, missing_in};
 ghost use Rattle.station_config.specs.Finding.{IsRead, IsMisread};
-ghost use Rattle.station_config.specs.Inside.{radio_kept, server_fields};
+ghost use Rattle.station_config.specs.KeptStation.{radio_kept, server_fields};
 
 use crate::address::address;
 use crate::keys::value_at;
@@ -57,22 +58,11 @@ fn text<'a>(table: &'a Table, key: &str) -> Option<&'a str>
     if text.is_empty() { None } else { Some(text) }
 }
 
-fn plan_named(word: &str) -> Option<Plan>
-    ensures { result ≡ plan_in (string word.now) }
-{
-    match word {
-        "dcf" => Some(Plan::Dcf),
-        "msf" => Some(Plan::Msf),
-        "wwvb" => Some(Plan::Wwvb),
-        _ => None,
-    }
-}
-
 fn plan(table: &Table) -> Option<Plan>
     requires { IsSome (get_member (codes "plan") (table_view table.now)) }
     ensures { IsRead plan Dcf plan_in (get_member (codes "plan") (table_view table.now)) result }
 {
-    plan_named(value_at(table, "plan")?.as_str()?)
+    Plan::of_word(value_at(table, "plan")?.as_str()?)
 }
 
 fn ip(table: &Table) -> Option<u32>

@@ -1,9 +1,9 @@
+//! A station, and what was read of its file.
 ghost use Rattle.std.specs.Prelude.{◌≡◌, ◌≤◌, ◌+◌, ◌++◌, option_map, length, map};
 ghost use Rattle.std.specs.List.{slice_get};
 ghost use Rattle.system_fold.specs.Settings.{AreLawful};
 ghost use Rattle.station_config.specs.Station.{IsStation, kind_of_radio, kind_of_server, settings_of};
-ghost use Rattle.station_config.specs.Inside.{radio_given, radio_kept, server_fields};
-ghost use Rattle.station_config.specs.Finding.{parts_fields};
+ghost use Rattle.station_config.specs.KeptStation.{parts_fields, radio_given, radio_kept, server_fields};
 
 use feed_link::Address;
 use std::marker::Model;
@@ -45,11 +45,19 @@ pub struct Radio {
     pub delay: u32,
 }
 
-// What was read of a station file: the holdover in microseconds, the first moment, the rows, and the ports of the links.
+/// The numbers of a station file's top table.
+#[derive(Clone, Copy, Debug)]
+pub struct TopNumbers {
+    /// For how long the time is trusted after the last sample, 1000000 to 86400000000 microseconds.
+    pub holdover: u64,
+    /// The first moment of the links, at most 2^49 microseconds.
+    pub start: Local,
+}
+
+// What was read of a station file: the numbers of its top table, the rows, and the ports of the links.
 #[derive(Debug, Drop)]
 pub struct Parts {
-    pub holdover: u64,
-    pub start: Local,
+    pub top: TopNumbers,
     pub radios: Vec<Radio>,
     pub servers: Vec<ServerRow>,
     pub links: Vec<u16>,
@@ -58,7 +66,7 @@ pub struct Parts {
 // The feeds of the radios.
 fn add_radios(settings: &mut Settings, radios: &[Radio])
     requires { length settings.old.sources + length radios.now ≤ 16 }
-    ensures { settings.new ≡ record { holdover = settings.old.holdover; sources = settings.old.sources ++ map (λ r. kind_of_radio (radio_kept r)) radios.now } }
+    ensures { settings.new ≡ record settings.old { sources = settings.old.sources ++ map (λ r. kind_of_radio (radio_kept r)) radios.now } }
 {
     for radio in radios {
         settings.add(SourceKind::Radio(radio.plan));
@@ -68,7 +76,7 @@ fn add_radios(settings: &mut Settings, radios: &[Radio])
 // The feeds of the servers.
 fn add_servers(settings: &mut Settings, servers: &[ServerRow])
     requires { length settings.old.sources + length servers.now ≤ 16 }
-    ensures { settings.new ≡ record { holdover = settings.old.holdover; sources = settings.old.sources ++ map (λ s. kind_of_server (server_fields s)) servers.now } }
+    ensures { settings.new ≡ record settings.old { sources = settings.old.sources ++ map (λ s. kind_of_server (server_fields s)) servers.now } }
 {
     for server in servers {
         settings.add(SourceKind::Server(server.address));
@@ -79,21 +87,18 @@ fn add_servers(settings: &mut Settings, servers: &[ServerRow])
 #[derive(Drop)]
 pub struct Station {
     settings: Settings,
-    start: Local,
-    radios: Vec<Radio>,
-    servers: Vec<ServerRow>,
-    links: Vec<u16>,
+    parts: Parts,
 }
 
 impl Model for Station {
     ghost use Rattle.station_config.specs.Station.{StationFields};
-    ghost use Rattle.station_config.specs.Inside.{IsInside, station_from};
+    ghost use Rattle.station_config.specs.KeptStation.{IsInside, parts_fields};
 
     ghost Value = { StationFields };
 
-    ghost view = { λ s. station_from s.settings s.start s.radios.items s.servers.items s.links.items };
+    ghost view = { λ s. parts_fields s.parts };
 
-    ghost invariant = { λ s. IsInside s.settings (station_from s.settings s.start s.radios.items s.servers.items s.links.items) };
+    ghost invariant = { λ s. IsInside s.settings (parts_fields s.parts) };
 }
 
 impl Station {
@@ -102,16 +107,10 @@ impl Station {
         requires { IsStation (parts_fields parts) }
         ensures { result ≡ parts_fields parts }
     {
-        let mut settings = Settings::new(parts.holdover);
+        let mut settings = Settings::new(parts.top.holdover);
         add_radios(&mut settings, parts.radios.as_slice());
         add_servers(&mut settings, parts.servers.as_slice());
-        Station {
-            settings,
-            start: parts.start,
-            radios: parts.radios,
-            servers: parts.servers,
-            links: parts.links,
-        }
+        Station { settings, parts }
     }
 
     /// What a page of the station's feeds is reckoned by: its holdover, and its radios and then its servers as sources.
@@ -125,10 +124,10 @@ impl Station {
 
     /// The first moment of its links, at most 2^49 microseconds.
     pub fn start(&self) -> Local
-        ensures value { result ≡ self.now.start }
+        ensures value { result ≡ self.now.top.start }
         ensures bounds { IsStation self.now }
     {
-        self.start
+        self.parts.top.start
     }
 
     /// The number of its radios.
@@ -136,7 +135,7 @@ impl Station {
         ensures value { result ≡ length self.now.radios }
         ensures bounds { IsStation self.now }
     {
-        self.radios.len()
+        self.parts.radios.len()
     }
 
     /// The number of its servers.
@@ -144,7 +143,7 @@ impl Station {
         ensures value { result ≡ length self.now.servers }
         ensures bounds { IsStation self.now }
     {
-        self.servers.len()
+        self.parts.servers.len()
     }
 
     /// The number of the links that it serves on.
@@ -152,14 +151,14 @@ impl Station {
         ensures value { result ≡ length self.now.links }
         ensures bounds { IsStation self.now }
     {
-        self.links.len()
+        self.parts.links.len()
     }
 
     /// The radio at a place, from 0. `None` exactly where the place isn't below the number of radios.
     pub fn radio(&self, i: usize) -> Option<RadioRow<'_>>
         ensures { option_map radio_given result ≡ slice_get self.now.radios i }
     {
-        match self.radios.get(i) {
+        match self.parts.radios.get(i) {
             Some(radio) => Some(RadioRow {
                 plan: radio.plan,
                 log: radio.log.as_str(),
@@ -173,14 +172,14 @@ impl Station {
     pub fn server(&self, i: usize) -> Option<ServerRow>
         ensures { option_map server_fields result ≡ slice_get self.now.servers i }
     {
-        self.servers.get(i).copied()
+        self.parts.servers.get(i).copied()
     }
 
     /// The link at a place, from 0. `None` exactly where the place isn't below the number of links.
     pub fn link(&self, i: usize) -> Option<LinkRow>
         ensures { option_map (λ l. l.port) result ≡ slice_get self.now.links i }
     {
-        match self.links.get(i) {
+        match self.parts.links.get(i) {
             Some(port) => Some(LinkRow { port: *port }),
             None => None,
         }

@@ -1,3 +1,4 @@
+//! Station files, lawful ones and faulty ones, and what each comes to.
 use crate::{KeyText, Station, StationFault, read_station};
 use std::alloc::Global;
 use std::test::Fail;
@@ -162,18 +163,10 @@ radio = [{log = "a", plan = "dcf"}, {log = "b", plan = "msf", delay = 7}] -> 120
 link = [{}] -> missing link.0.port
 "#;
 
-fn plan_word(plan: Plan) -> &'static str {
-    match plan {
-        Plan::Dcf => "dcf",
-        Plan::Msf => "msf",
-        Plan::Wwvb => "wwvb",
-    }
-}
-
 fn radio_text(alloc: Global, station: &Station, i: usize) -> Result<String, Fail> {
     match station.radio(i) {
         Some(radio) => {
-            let plan = plan_word(radio.plan);
+            let plan = radio.plan.word();
             let log = radio.log;
             let delay = radio.delay;
             Ok(format!(in alloc; " {plan} {log} {delay}")?)

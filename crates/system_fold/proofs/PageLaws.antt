@@ -10,30 +10,31 @@ use Rattle.cluster_core.specs.Bounds.{AreNear}
 use Rattle.cluster_core.specs.declared.survivor.Survivor.{Survivor}
 use Rattle.select_core.specs.Selection.{chime_of, is_in}
 use Rattle.select_core.specs.declared.chime.Chime.{Chime}
-use Rattle.cluster_core.specs.Clusters.{rest_of}
+use Rattle.cluster_core.specs.Clusters.{survivors_left}
 use Rattle.cluster_core.specs.Mean.{mean}
 use Rattle.clock_page.specs.Page.{unsynchronised}
 use Rattle.system_fold.specs.Fields.{page_from}
 use Rattle.system_fold.specs.Fit.{IsFit}
 use Rattle.system_fold.specs.Fit.{fit_feeds}
-use Rattle.system_fold.specs.Journal.{now_of}
+use Rattle.system_fold.specs.Inputs.{inputs_of}
 use Rattle.system_fold.specs.Leaps.{armed_of}
 use Rattle.system_fold.specs.Page.{page_by, page_of}
 use Rattle.system_fold.specs.Settings.{SettingsFields}
-use Rattle.system_fold.specs.Standing.{FoldFields, StandsFor}
+use Rattle.system_fold.specs.KeptFold.{FoldFields, StandsForJournal}
 use Rattle.system_fold.proofs.SourceLaws.{fit-feeds}
 use Rattle.journal_entry.specs.declared.entry.Entry.{Entry}
 use Rattle.system_fold.specs.Surviving.{IsLong}
+use Rattle.system_fold.specs.declared.inputs.PageInputs.{PageInputs}
 use Rattle.system_fold.specs.declared.leaps.Leap.{Leap}
 use Rattle.system_fold.specs.Selecting.{candidate_of, survivor_of, survivors_in, sources_at}
 use Rattle.system_fold.specs.declared.source.Source.{Source}
 
 -- one survivor more
-pub sources-more : (fit : List Source) (rest : List Survivor) (i : ℕ) (x : Survivor) → i < length rest → x ≡ get_or rest i x → sources_at fit (take (i + 1) rest) ≡ sources_at fit (take i rest) ++ cons_option (find (λ (s : Source). s.feed == x.feed) fit) []
-sources-more fit rest i x below here =
-    ap (sources_at fit) (take_more rest i x below)
-    ∙ filter_map-append (λ (y : Survivor). find (λ (s : Source). s.feed == y.feed) fit) (take i rest) (get_or rest i x ∷ [])
-    ∙ ap (λ (y : Survivor). sources_at fit (take i rest) ++ cons_option (find (λ (s : Source). s.feed == y.feed) fit) []) (sym here)
+pub sources-more : (fit : List Source) (survivors : List Survivor) (i : ℕ) (x : Survivor) → i < length survivors → x ≡ get_or survivors i x → sources_at fit (take (i + 1) survivors) ≡ sources_at fit (take i survivors) ++ cons_option (find (λ (s : Source). s.feed == x.feed) fit) []
+sources-more fit survivors i x below here =
+    ap (sources_at fit) (take_more survivors i x below)
+    ∙ filter_map-append (λ (y : Survivor). find (λ (s : Source). s.feed == y.feed) fit) (take i survivors) (get_or survivors i x ∷ [])
+    ∙ ap (λ (y : Survivor). sources_at fit (take i survivors) ++ cons_option (find (λ (s : Source). s.feed == y.feed) fit) []) (sym here)
 
 find-all : (P : Source → Type 0) (p : Source → Bool) (xs : List Source) → All P xs → IfSome (find p xs) P
 find-all P p [] all = tt
@@ -44,7 +45,7 @@ find-all P p (x ∷ xs) all = by_test (p x) (find-all P p xs (All-tail P x xs al
     by_test false further = further
 
 -- what holds of all sources holds of those of survivors
-pub sources-all : (P : Source → Type 0) (fit : List Source) (rest : List Survivor) → All P fit → All P (sources_at fit rest)
+pub sources-all : (P : Source → Type 0) (fit : List Source) (survivors : List Survivor) → All P fit → All P (sources_at fit survivors)
 sources-all P fit [] all = All-nil P
 sources-all P fit (x ∷ xs) all = by_found (find (λ s. s.feed == x.feed) fit) (find-all P (λ s. s.feed == x.feed) fit all) (sources-all P fit xs all)
   where
@@ -81,8 +82,8 @@ survivors-long chime now fit all =
     (All-weaker (IsFit now) (λ s. IsLength s.figures.offset) (λ s h. h.measured.offset) _ (All-filter (λ (s : Source). is_in chime s.figures.offset) (IsFit now) fit all))
 
 -- the first of the sources that are left is fit
-pub peer-fit : (now : ℕ) (fit left : List Source) (rest : List Survivor) (peer : Source) → All (IsFit now) fit → left ≡ sources_at fit rest → 0 < length left → peer ≡ get_or left 0 peer → IsFit now peer
-peer-fit now fit left rest peer all is some here = subst (IsFit now) (sym here) (subst (All (IsFit now)) (sym is) (sources-all (IsFit now) fit rest all) 0 peer some)
+pub peer-fit : (now : ℕ) (fit left : List Source) (survivors : List Survivor) (peer : Source) → All (IsFit now) fit → left ≡ sources_at fit survivors → 0 < length left → peer ≡ get_or left 0 peer → IsFit now peer
+peer-fit now fit left survivors peer all is some here = subst (IsFit now) (sym here) (subst (All (IsFit now)) (sym is) (sources-all (IsFit now) fit survivors all) 0 peer some)
 
 -- between bounds of lengths
 pub length-between : (z : ℤ) → pos 0 ≤ℤ z → z ≤ℤ pos (2 ^ 66 - 1) → IsLength z
@@ -101,15 +102,19 @@ pub nil-below : {X : Type 0} (xs : List X) → length xs < 1 → xs ≡ []
 nil-below [] below = refl
 nil-below (x ∷ xs) below = absurd (omega arith)
 
+-- the page inputs by what is kept
+abbrev pub inputs_by : FoldFields → Option Leap → PageInputs
+inputs_by fold armed = record { length = fold.length; moment = fold.leaps.latest; holdover = fold.holdover; armed = armed }
+
 -- nothing tells the time where no source is left
-pub page-empty : (length now holdover : ℕ) (armed : Option Leap) (left : List Source) (offset : ℤ) → left ≡ [] → page_from length now holdover armed left offset ≡ unsynchronised length now
+pub page-empty : (inputs : PageInputs) (left : List Source) (offset : ℤ) → left ≡ [] → page_from inputs left offset ≡ unsynchronised inputs.length inputs.moment
 unfolding page_from
-page-empty length now holdover armed left offset none = ap (λ (xs : List Source). page_from length now holdover armed xs offset) none
+page-empty inputs left offset none = ap (λ (xs : List Source). page_from inputs xs offset) none
 
 -- and where they don't agree
-pub page-none : (length now holdover : ℕ) (armed : Option Leap) (fit : List Source) → chime_of (map (candidate_of now) fit) ≡ None → page_by length now holdover armed fit ≡ unsynchronised length now
+pub page-none : (inputs : PageInputs) (fit : List Source) → chime_of (map (candidate_of inputs.moment) fit) ≡ None → page_by inputs fit ≡ unsynchronised inputs.length inputs.moment
 unfolding page_by page_from
-page-none length now holdover armed fit none = ap (λ (o : Option Chime). page_from length now holdover armed (sources_at fit (rest_of (survivors_in o now fit))) (mean (rest_of (survivors_in o now fit)))) none
+page-none inputs fit none = ap (λ (o : Option Chime). page_from inputs (sources_at fit (survivors_left (survivors_in o inputs.moment fit))) (mean (survivors_left (survivors_in o inputs.moment fit)))) none
 
 near-empty : AreNear []
 near-empty = record { low = pos 0; high = pos 0; apart = omega (arith, ints); from = All-nil (λ (x : Survivor). pos 0 ≤ℤ x.offset); upto = All-nil (λ (x : Survivor). x.offset ≤ℤ pos 0) }
@@ -131,13 +136,14 @@ chosen-near chime now fit survivors is narrow = subst AreNear (sym is) (by_chose
 pub left-long : (chime : Chime) (now : ℕ) (fit : List Source) (survivors left : List Survivor) → survivors ≡ survivors_in (Some chime) now fit → All (IsFit now) fit → All (Contains survivors) left → All IsLong left
 left-long chime now fit survivors left is all members = All-weaker (Contains survivors) IsLong (λ x h. All-contains IsLong survivors x (subst (All IsLong) (sym is) (survivors-long chime now fit all)) h) left members
 
+-- the inputs by what is kept are those of the journal
+inputs-stand : (fold : FoldFields) (armed : Option Leap) (settings : SettingsFields) (journal : List Entry) → StandsForJournal fold settings journal → armed ≡ armed_of journal → inputs_by fold armed ≡ inputs_of settings journal
+inputs-stand fold armed settings journal h armed_is = λ i. record { length = h.length i; moment = h.leaps.now i; holdover = h.holdover i; armed = armed_is i }
+
 -- the page by what is kept is the page of the journal
-pub page-stands : (fold : FoldFields) (armed : Option Leap) (fit : List Source) (settings : SettingsFields) (journal : List Entry) → StandsFor fold settings journal → armed ≡ armed_of journal → fit ≡ fit_feeds fold.leaps.cut fold.leaps.latest fold.feeds
-    → page_by fold.length fold.leaps.latest fold.holdover armed fit ≡ page_of settings journal
+pub page-stands : (fold : FoldFields) (armed : Option Leap) (fit : List Source) (settings : SettingsFields) (journal : List Entry) → StandsForJournal fold settings journal → armed ≡ armed_of journal → fit ≡ fit_feeds fold.leaps.cut fold.leaps.latest fold.feeds
+    → page_by (inputs_by fold armed) fit ≡ page_of settings journal
 unfolding page_of
 page-stands fold armed fit settings journal h armed_is fit_is =
-    ap (λ (n : ℕ). page_by n fold.leaps.latest fold.holdover armed fit) h.length
-    ∙ ap (λ (n : ℕ). page_by (length journal) n fold.holdover armed fit) h.leaps.now
-    ∙ ap (λ (n : ℕ). page_by (length journal) (now_of journal) n armed fit) h.holdover
-    ∙ ap (λ (a : Option Leap). page_by (length journal) (now_of journal) settings.holdover a fit) armed_is
-    ∙ ap (page_by (length journal) (now_of journal) settings.holdover (armed_of journal)) (fit_is ∙ fit-feeds fold settings journal h)
+    ap (λ (inputs : PageInputs). page_by inputs fit) (inputs-stand fold armed settings journal h armed_is)
+    ∙ ap (page_by (inputs_of settings journal)) (fit_is ∙ fit-feeds fold settings journal h)

@@ -11,7 +11,7 @@ use Rattle.system_fold.specs.Feeds.{with_sample}
 use Rattle.system_fold.specs.Leaps.{word_in, verdict_in, word_of, words_of, last_verdict, passed, cut_of}
 use Rattle.system_fold.specs.Samples.{taken_in, samples_of}
 use Rattle.system_fold.specs.Settings.{SettingsFields, AreLawful, IsJournal}
-use Rattle.system_fold.specs.Standing.{StandsFor, FoldFields, KeepsLeaps, feeds_of, or_older}
+use Rattle.system_fold.specs.KeptFold.{StandsForJournal, FoldFields, KeepsLeaps, feeds_of, or_older}
 use Rattle.system_fold.specs.declared.feed.Feed.{Feed}
 use Rattle.system_fold.specs.declared.leaps.Verdict.{Verdict}
 use Rattle.system_fold.specs.declared.leaps.Word.{Word}
@@ -73,15 +73,18 @@ pub samples-other : (kind : SourceKind) (feed : ℕ) (journal : List Entry) (e :
 samples-other kind feed journal e other = samples-push kind feed journal e ∙ ap (λ (b : Bool). cond b (with_sample (samples_of kind feed journal) (taken_in kind e)) (samples_of kind feed journal)) other
 
 -- one feed more whose samples were looked for
-pub feeds-more : (holdover : ℕ) (kinds : List SourceKind) (journal : List Entry) (i : ℕ) (d : SourceKind) → i < length kinds →
-    feeds_of (record { holdover = holdover; sources = take (i + 1) kinds }) journal
-    ≡ feeds_of (record { holdover = holdover; sources = take i kinds }) journal ++ record { kind = get_or kinds i d; filter = last_eight (samples_of (get_or kinds i d) i journal) } ∷ []
-feeds-more holdover kinds journal i d below =
+pub feeds-more : (settings : SettingsFields) (journal : List Entry) (i : ℕ) (d : SourceKind) → i < length settings.sources →
+    feeds_of (record settings { sources = take (i + 1) settings.sources }) journal
+    ≡ feeds_of (record settings { sources = take i settings.sources }) journal ++ record { kind = get_or settings.sources i d; filter = last_eight (samples_of (get_or settings.sources i d) i journal) } ∷ []
+feeds-more settings journal i d below =
     ap (λ (ks : List SourceKind). map kept (enumerate_from 0 ks)) (take_more kinds i d below)
     ∙ ap (map kept) (enumerate-append 0 (take i kinds) (get_or kinds i d ∷ []))
     ∙ map-append kept (enumerate_from 0 (take i kinds)) ((0 + length (take i kinds), get_or kinds i d) ∷ [])
     ∙ ap (λ (n : ℕ). map kept (enumerate_from 0 (take i kinds)) ++ kept (n, get_or kinds i d) ∷ []) place
   where
+    kinds : List SourceKind
+    kinds = settings.sources
+
     kept : ℕ × SourceKind → Feed
     kept k = record { kind = k.1; filter = last_eight (samples_of k.1 k.0 journal) }
 
@@ -90,17 +93,17 @@ feeds-more holdover kinds journal i d below =
 
 -- what a journal comes to stands for it
 pub stands-whole : (fold : FoldFields) (settings : SettingsFields) (journal : List Entry) → AreLawful settings → length settings.sources ≤ 16 → IsJournal settings journal → fold.holdover ≡ settings.holdover → fold.feeds ≡ feeds_of settings journal → KeepsLeaps fold.leaps journal → fold.length ≡ length journal
-    → StandsFor fold settings journal
+    → StandsForJournal fold settings journal
 stands-whole fold settings journal lawful few entries holdover feeds leaps length = record { lawful = lawful; few = few; entries = entries; holdover = holdover; feeds = feeds; leaps = leaps; length = length }
 
-pub feeds-push-more : (holdover : ℕ) (seen kinds : List SourceKind) (journal : List Entry) (i : ℕ) (d : SourceKind) (feeds more : List Feed) (feed : Feed) → i < length seen → seen ≡ kinds
-    → feeds ≡ feeds_of (record { holdover = holdover; sources = take i kinds }) journal
+pub feeds-push-more : (settings : SettingsFields) (seen : List SourceKind) (journal : List Entry) (i : ℕ) (d : SourceKind) (feeds more : List Feed) (feed : Feed) → i < length seen → seen ≡ settings.sources
+    → feeds ≡ feeds_of (record settings { sources = take i settings.sources }) journal
     → feed ≡ record { kind = get_or seen i d; filter = last_eight (samples_of (get_or seen i d) i journal) }
     → more ≡ feeds ++ feed ∷ []
-    → more ≡ feeds_of (record { holdover = holdover; sources = take (i + 1) kinds }) journal
-feeds-push-more holdover seen kinds journal i d feeds more feed below same was is longer =
+    → more ≡ feeds_of (record settings { sources = take (i + 1) settings.sources }) journal
+feeds-push-more settings seen journal i d feeds more feed below same was is longer =
     longer
     ∙ ap (λ (fs : List Feed). fs ++ feed ∷ []) was
-    ∙ ap (λ (f : Feed). feeds_of (record { holdover = holdover; sources = take i kinds }) journal ++ f ∷ []) is
-    ∙ ap (λ (ks : List SourceKind). feeds_of (record { holdover = holdover; sources = take i kinds }) journal ++ record { kind = get_or ks i d; filter = last_eight (samples_of (get_or ks i d) i journal) } ∷ []) same
-    ∙ sym (feeds-more holdover kinds journal i d (subst (λ (ks : List SourceKind). i < length ks) same below))
+    ∙ ap (λ (f : Feed). feeds_of (record settings { sources = take i settings.sources }) journal ++ f ∷ []) is
+    ∙ ap (λ (ks : List SourceKind). feeds_of (record settings { sources = take i settings.sources }) journal ++ record { kind = get_or ks i d; filter = last_eight (samples_of (get_or ks i d) i journal) } ∷ []) same
+    ∙ sym (feeds-more settings journal i d (subst (λ (ks : List SourceKind). i < length ks) same below))

@@ -7,6 +7,7 @@ use Rattle.std.proofs.lemmas.List.Elements.{All-head, All-tail, All-cons, All-ni
 use Rattle.tick_units.specs.Samples.{IsLength}
 use Rattle.tick_units.specs.Samples.{IsLawful as IsLawfulSample}
 use Rattle.tick_units.specs.Units.{local_span}
+use Rattle.tick_units.specs.Years.{first_told}
 use Rattle.tick_units.specs.declared.verdicts.Kind.TheVariants.{Verdict, Lone, Differs, Refused}
 use Rattle.clock_filter.specs.Bounds.{AreLawful}
 use Rattle.clock_filter.specs.Held.{last_eight}
@@ -20,7 +21,7 @@ use Rattle.system_fold.specs.Fit.{IsSound}
 use Rattle.system_fold.specs.Journal.{now_of}
 use Rattle.system_fold.specs.Samples.{radio_sample, sample_in, taken_in, samples_of}
 use Rattle.system_fold.specs.Settings.{SettingsFields, IsKept, IsJournal}
-use Rattle.system_fold.specs.Standing.{StandsFor, FoldFields}
+use Rattle.system_fold.specs.KeptFold.{StandsForJournal, FoldFields}
 use Rattle.system_fold.specs.declared.feed.Feed.{Feed}
 use Rattle.system_fold.specs.declared.settings.SourceKind.{SourceKind}
 use Rattle.system_fold.specs.declared.settings.SourceKind.TheVariants.{Radio, Server}
@@ -28,7 +29,7 @@ use Rattle.system_fold.specs.declared.settings.SourceKind.TheVariants.{Leap as L
 use Rattle.system_fold.proofs.SourceLaws.{eight-again}
 
 -- the span of a moment is less than that of any second that is told
-span-below : (at second : ℕ) → at < 2 ^ 50 → 3155587200 ≤ second → local_span at ≤ second * 2 ^ 32
+span-below : (at second : ℕ) → at < 2 ^ 50 → first_told ≤ second → local_span at ≤ second * 2 ^ 32
 span-below at second moment least = omega arith
 
 radio-offset : (at second : ℕ) → at < 2 ^ 50 → IsTold second → IsLength (pos (second * 2 ^ 32) -ℤ pos (local_span at))
@@ -110,7 +111,7 @@ sound-from settings journal a [] all = All-nil (IsSound (now_of journal))
 sound-from settings journal a (kind ∷ kinds) all = All-cons (IsSound (now_of journal)) (record { kind = kind; filter = last_eight (samples_of kind a journal) }) _ (one-sound settings journal a kind all) (sound-from settings journal (a + 1) kinds all)
 
 -- what a fold keeps of its feeds
-pub sound-feeds : (fold : FoldFields) (settings : SettingsFields) (journal : List Entry) → StandsFor fold settings journal → All (IsSound fold.leaps.latest) fold.feeds
+pub sound-feeds : (fold : FoldFields) (settings : SettingsFields) (journal : List Entry) → StandsForJournal fold settings journal → All (IsSound fold.leaps.latest) fold.feeds
 sound-feeds fold settings journal h =
     subst (λ (n : ℕ). All (IsSound n) fold.feeds) (sym h.leaps.now)
     (subst (λ (fs : List Feed). All (IsSound (now_of journal)) fs) (sym h.feeds) (sound-from settings journal 0 settings.sources h.entries))

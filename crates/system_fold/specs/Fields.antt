@@ -1,36 +1,26 @@
 -- The fields of a page, from the sources that are left and their mean offset (RFC 5905, section 11.2.3, and section 9.2 for
 -- what a server tells of itself).
-use Rattle.std.specs.Prelude.{ℕ, ◌+◌, min, true, Option, None, Some, List, [], ◌∷◌, map, ℤ, pos, ◌+ℤ◌}
+use Rattle.std.specs.Prelude.{ℕ, ◌+◌, true, Option, None, Some, List, [], ◌∷◌, map, ℤ, pos, ◌+ℤ◌}
 use Rattle.std.specs.Int.{int_max}
 use Rattle.tick_units.specs.Orders.{greatest}
-use Rattle.tick_units.specs.Units.{local_span, stamp_of, to_short}
-use Rattle.tick_units.specs.declared.marks.Plan.{Plan}
-use Rattle.tick_units.specs.declared.marks.Plan.TheVariants.{Dcf, Msf, Wwvb}
+use Rattle.tick_units.specs.Plans.{reference_id_of}
+use Rattle.tick_units.specs.Units.{least_dispersion, local_span, stamp_of, to_short}
 use Rattle.clock_filter.specs.Distance.{root_delay_of, root_dispersion_of}
 use Rattle.clock_filter.specs.declared.figures.Figures.{Figures}
 use Rattle.clock_page.specs.Page.{PageFields, unsynchronised}
+use Rattle.system_fold.specs.Inputs.{until_of}
+use Rattle.system_fold.specs.declared.inputs.PageInputs.{PageInputs}
 use Rattle.system_fold.specs.declared.leaps.Leap.{Leap}
 use Rattle.system_fold.specs.declared.settings.SourceKind.{SourceKind}
 use Rattle.system_fold.specs.declared.settings.SourceKind.TheVariants.{Radio, Server}
 use Rattle.system_fold.specs.declared.settings.SourceKind.TheVariants.{Leap as LeapFile}
 use Rattle.system_fold.specs.declared.source.Source.{Source}
 
--- letters for a radio, with a zero behind three of them (RFC 5905, section 7.3)
-abbrev pub radio_id : Plan → ℕ
-radio_id Dcf = 0x44434600
-radio_id Msf = 0x4d534600
-radio_id Wwvb = 0x57575642
-
--- these, and for a server the IPv4 address that its best sample has
+-- the letters of a radio's plan, and for a server the IPv4 address that its best sample has
 abbrev pub reference_id : SourceKind → Figures → ℕ
-reference_id (Radio plan) figures = radio_id plan
+reference_id (Radio plan) figures = reference_id_of plan
 reference_id (Server address) figures = figures.address
 reference_id LeapFile figures = 0
-
--- the moment at which a page ends: after the holdover, or where the next leap second comes if that is sooner
-abbrev pub until_leap : Option Leap → ℕ → ℕ
-until_leap None until = until
-until_leap (Some leap) until = min leap.moment until
 
 abbrev pub leap_second : Option Leap → ℕ
 leap_second None = 0
@@ -42,18 +32,18 @@ fresh_of sources = greatest (map (λ s. s.figures.newest) sources)
 
 -- the page of the sources that are left, the first of which is the system peer, and of their mean offset; where none is left
 -- nothing tells the time
-unfoldable pub page_from : ℕ → ℕ → ℕ → Option Leap → List Source → ℤ → PageFields
-page_from length now holdover armed [] offset = unsynchronised length now
-page_from length now holdover armed (peer ∷ others) offset = record {
-  length = length;
+unfoldable pub page_from : PageInputs → List Source → ℤ → PageFields
+page_from inputs [] offset = unsynchronised inputs.length inputs.moment
+page_from inputs (peer ∷ others) offset = record {
+  length = inputs.length;
   sync = true;
   stratum = peer.figures.stratum + 1;
   refid = reference_id peer.kind peer.figures;
   offset = offset;
-  anchor = now;
-  until = until_leap armed (fresh_of (peer ∷ others) + holdover);
+  anchor = inputs.moment;
+  until = until_of inputs (fresh_of (peer ∷ others));
   root_delay = record { 0 = to_short (root_delay_of peer.figures) };
-  root_disp = record { 0 = to_short (int_max (pos 21474837) (root_dispersion_of now peer.figures)) };
+  root_disp = record { 0 = to_short (int_max (pos least_dispersion) (root_dispersion_of inputs.moment peer.figures)) };
   reftime = record { 0 = stamp_of (offset +ℤ pos (local_span (fresh_of (peer ∷ others)))) };
-  leap_at = leap_second armed;
+  leap_at = leap_second inputs.armed;
 }

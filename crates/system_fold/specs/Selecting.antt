@@ -30,4 +30,4 @@ survivors_of now fit = survivors_in (chime_of (map (candidate_of now) fit)) now 
 
 -- the sources of survivors, in their order
 abbrev pub sources_at : List Source → List Survivor → List Source
-sources_at fit rest = filter_map (λ x. find (λ s. s.feed == x.feed) fit) rest
+sources_at fit survivors = filter_map (λ x. find (λ s. s.feed == x.feed) fit) survivors

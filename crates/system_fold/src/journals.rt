@@ -7,9 +7,9 @@ ghost use Rattle.system_fold.specs.Settings.{AreLawful, IsJournal, IsKept};
 use crate::{Settings, SourceKind, page_by_steps, page_from_scratch, page_text};
 use clock_page::Page;
 use feed_link::Address;
-use journal_entry::{Entry, What, read_entry};
+use journal_entry::{Entry, LINE_ROOM, What, read_entry};
 use std::test::Fail;
-use tick_units::{Kind, Plan, Sample, Span};
+use tick_units::{END_OF_TOLD, Kind, Plan, Sample, Span, is_told};
 
 pub const DCF: SourceKind = SourceKind::Radio(Plan::Dcf);
 
@@ -24,22 +24,22 @@ pub const SERVER: SourceKind = SourceKind::Server(Address {
 
 pub const LEAP: SourceKind = SourceKind::Leap;
 
-fn is_told(second: u64) -> bool
+fn may_be_told(second: u64) -> bool
     ensures { result ≡ true → IsTold second }
 {
-    3_155_587_200 <= second && second < 6_311_606_400
+    is_told(second)
 }
 
 fn is_lawful_verdict(second: u64, leap_at: u64) -> bool
     ensures { result ≡ true → IsLawfulVerdict second leap_at }
 {
     if leap_at == 0 {
-        return is_told(second);
+        return may_be_told(second);
     }
-    if !is_told(leap_at) {
+    if !may_be_told(leap_at) {
         return false;
     }
-    is_told(second)
+    may_be_told(second)
 }
 
 fn is_lawful_kind(kind: &Kind) -> bool
@@ -77,7 +77,7 @@ fn is_lawful_what(what: &What) -> bool
         What::Heard(kind) => is_lawful_kind(kind),
         What::Sample(sample) => is_lawful_sample(sample),
         What::Declined(_) => true,
-        What::Notice(leap_at) => *leap_at < 6_311_606_400,
+        What::Notice(leap_at) => *leap_at < END_OF_TOLD,
     }
 }
 
@@ -128,7 +128,7 @@ pub fn page_after(settings: &Settings, journal: &[Entry]) -> Result<Page, Fail> 
 
 /// The line of a page.
 pub fn line_of(rt: &HostRuntime, page: &Page) -> Result<String, Fail> {
-    let mut out = [0; 256];
+    let mut out = [0; LINE_ROOM];
     let length = page_text(page, &mut out);
     Ok(String::from_utf8(out[..length].to_vec(rt.alloc())?)?)
 }

@@ -1,8 +1,9 @@
+//! Pages of odd journals that speak of leap seconds.
 use crate::journals::{DCF, LEAP, MSF, Odd, SERVER, is_the_page};
 use std::test::Fail;
 
-// The leap second of these ends at 3692217600, which is the moment 362000000 where a radio announces it.
-const LEAPS: [Odd<'static>; 15] = [
+// The leap second of these ends at 3692217600, 2017-01-01 00:00, which is the moment 362000000 where a radio announces it.
+const LEAPS: [Odd<'static>; 18] = [
     Odd {
         why: "a leap second passes while its radio is silent",
         kinds: &[DCF, SERVER],
@@ -14,6 +15,18 @@ const LEAPS: [Odd<'static>; 15] = [
             "1 362000000 declined 3",
         ],
         line: "page 5 0 0 494e4954 0 362000000 0 0 1048576 0000000000000000 0",
+    },
+    Odd {
+        why: "a microsecond before it",
+        kinds: &[DCF, SERVER],
+        entries: &[
+            "0 122000000 verdict 3692217360 3692217600",
+            "0 182000000 verdict 3692217420 3692217600",
+            "0 242000000 verdict 3692217480 3692217600",
+            "0 302000000 verdict 3692217540 3692217600",
+            "1 361999999 declined 3",
+        ],
+        line: "page 5 1 1 44434600 15857952286937448448 361999999 362000000 0 61601 dc12c4c400000000 3692217600",
     },
     Odd {
         why: "a word is gone before the leap second passes",
@@ -148,6 +161,30 @@ const LEAPS: [Odd<'static>; 15] = [
             "0 303000000 notice 3692217540",
         ],
         line: "page 5 0 0 494e4954 0 303000000 0 0 1048576 0000000000000000 0",
+    },
+    Odd {
+        why: "a notice is dated anew by the verdict that makes its leap second pass",
+        kinds: &[LEAP, DCF],
+        entries: &[
+            "1 122000000 verdict 3692217360 0",
+            "1 182000000 verdict 3692217420 0",
+            "1 242000000 verdict 3692217480 0",
+            "1 302000000 verdict 3692217540 0",
+            "0 303000000 notice 3692217600",
+            "1 361500000 verdict 3692217600 0",
+        ],
+        line: "page 6 0 0 494e4954 0 361500000 0 0 1048576 0000000000000000 0",
+    },
+    Odd {
+        why: "a leap second from before the counter's begin counts as one at its begin",
+        kinds: &[DCF],
+        entries: &[
+            "0 122000000 verdict 3692217360 3692217000",
+            "0 182000000 verdict 3692217420 3692217000",
+            "0 242000000 verdict 3692217480 3692217000",
+            "0 302000000 verdict 3692217540 3692217000",
+        ],
+        line: "page 4 1 1 44434600 15857952286937448448 302000000 902000000 0 61542 dc12c4c400000000 0",
     },
     Odd {
         why: "a verdict of a server dates a notice and is no sample",

@@ -4,6 +4,7 @@
 mod feed;
 mod fit;
 mod fold;
+mod inputs;
 #[cfg(test)]
 mod journals;
 mod leaps;

@@ -8,14 +8,15 @@ ghost use Rattle.system_fold.specs.Leaps as words;
 ghost use Rattle.system_fold.specs.Page.{page_of};
 ghost use Rattle.system_fold.specs.Samples.{samples_of};
 ghost use Rattle.system_fold.specs.Settings.{AreLawful, IsJournal};
-ghost use Rattle.system_fold.specs.Standing as standing;
-ghost use Rattle.system_fold.specs.Standing.{KeepsLeaps, or_older};
+ghost use Rattle.system_fold.specs.KeptFold as standing;
+ghost use Rattle.system_fold.specs.KeptFold.{KeepsLeaps, or_older};
 
 use crate::feed::Feed;
 use crate::fit::fit_sources;
+use crate::inputs::PageInputs;
 use crate::leaps::{Leaps, Verdict, Word, last_passed, verdict_said, word_said};
 use crate::moments::{beginning, later};
-use crate::page::{Occasion, page_by};
+use crate::page::page_by;
 use crate::{Settings, SourceKind};
 use arrayvec::ArrayVec;
 use clock_page::Page;
@@ -152,7 +153,7 @@ pub fn page_from_scratch(settings: &Settings, journal: &[Entry]) -> Page
     ensures { result ≡ page_of settings.now journal.now }
 {
     let leaps = leaps_of(journal);
-    let occasion = Occasion {
+    let inputs = PageInputs {
         length: journal.len() as u64,
         moment: leaps.latest,
         holdover: settings.holdover(),
@@ -160,5 +161,5 @@ pub fn page_from_scratch(settings: &Settings, journal: &[Entry]) -> Page
     };
     let feeds = feeds_of(settings, journal);
     let fit = fit_sources(feeds.as_slice(), leaps.cut, leaps.latest);
-    page_by(&occasion, fit.as_slice())
+    page_by(&inputs, fit.as_slice())
 }

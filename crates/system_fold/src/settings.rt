@@ -1,3 +1,4 @@
+//! What a page is reckoned by besides the journal.
 ghost use Rattle.std.specs.Prelude.{◌≡◌, ◌++◌, ◌∷◌, [], ◌<◌, ◌≤◌, length};
 ghost use Rattle.system_fold.specs.Settings.{SettingsFields};
 
@@ -57,7 +58,7 @@ impl Settings {
     /// Adds the feed of the next number.
     pub fn add(&mut self, kind: SourceKind)
         requires { length self.old.sources < 16 }
-        ensures { self.new ≡ record { holdover = self.old.holdover; sources = self.old.sources ++ kind ∷ [] } }
+        ensures { self.new ≡ record self.old { sources = self.old.sources ++ kind ∷ [] } }
     {
         self.sources.push(kind);
     }

@@ -1,5 +1,7 @@
+//! The samples of a source, and what they say.
 ghost use Rattle.std.specs.Prelude.{◌≡◌, ◌<◌, ◌≤◌};
 ghost use Rattle.journal_entry.specs.Lawful.{IsLawfulWhat};
+ghost use Rattle.tick_units.specs.Years.{end_of_told};
 ghost use Rattle.system_fold.specs.Samples as samples;
 
 use crate::SourceKind;
@@ -43,7 +45,7 @@ impl Default for Source {
 
 // The sample of a radio that tells that a second began at a moment.
 fn radio_sample(at: Local, second: u64) -> Sample
-    requires { second < 6311606400 }
+    requires { second < end_of_told }
     ensures { result ≡ samples.radio_sample at second }
 {
     Sample {

@@ -1,20 +1,9 @@
+//! Pages of odd journals of radios and servers, none of which speaks of a leap second.
 use crate::journals::{DCF, MSF, Odd, SERVER, WWVB, is_the_page};
 use std::test::Fail;
 
-// None of these speaks of a leap second.
-const SOURCES: [Odd<'static>; 9] = [
-    Odd {
-        why: "a microsecond before it",
-        kinds: &[DCF, SERVER],
-        entries: &[
-            "0 122000000 verdict 3692217360 3692217600",
-            "0 182000000 verdict 3692217420 3692217600",
-            "0 242000000 verdict 3692217480 3692217600",
-            "0 302000000 verdict 3692217540 3692217600",
-            "1 361999999 declined 3",
-        ],
-        line: "page 5 1 1 44434600 15857952286937448448 361999999 362000000 0 61601 dc12c4c400000000 3692217600",
-    },
+// Second 3692217060 is 2016-12-31 23:51.
+const SOURCES: [Odd<'static>; 11] = [
     Odd {
         why: "nine samples of one radio",
         kinds: &[DCF],
@@ -119,6 +108,46 @@ const SOURCES: [Odd<'static>; 9] = [
             "1 302000000 verdict 3692217240 0",
         ],
         line: "page 9 1 1 57575642 15857950998447256943 302000000 902000000 0 61542 dc12c397fffff56f 0",
+    },
+    Odd {
+        why: "the newest sample is of a server, and the system peer is a radio",
+        kinds: &[SERVER, WWVB],
+        entries: &[
+            "0 390000000 sample 15857950998447260648 40802189 8837 2 0a000001 256 512",
+            "0 391000000 sample 15857950998447257648 40802188 8837 2 0a000001 256 512",
+            "0 392000000 sample 15857950998447262648 50000000 8837 2 0a000001 256 512",
+            "0 393000000 sample 15857950998447255648 30000000 8837 2 0a000001 256 512",
+            "0 394000000 sample 15857950998447264648 60000000 8837 2 0a000001 256 512",
+            "1 122000000 verdict 3692217060 0",
+            "1 182000000 verdict 3692217120 0",
+            "1 242000000 verdict 3692217180 0",
+            "1 302000000 verdict 3692217240 0",
+        ],
+        line: "page 9 1 1 57575642 15857950998447256941 394000000 994000000 0 61633 dc12c3f3fffff56d 0",
+    },
+    Odd {
+        why: "a dispersion of one unit more than a radio's makes a root dispersion of one unit more",
+        kinds: &[DCF, SERVER],
+        entries: &[
+            "0 122000000 verdict 3692217060 0",
+            "0 182000000 verdict 3692217120 0",
+            "0 241999839 verdict 3692217180 0",
+            "0 302000000 verdict 3692217240 0",
+            "1 303950811 declined 3",
+        ],
+        line: "page 5 1 1 44434600 15857950998447259648 303950811 902000000 0 61550 dc12c39800000000 0",
+    },
+    Odd {
+        why: "and a dispersion of one unit less makes one of one unit less",
+        kinds: &[DCF, SERVER],
+        entries: &[
+            "0 122000000 verdict 3692217060 0",
+            "0 182000000 verdict 3692217120 0",
+            "0 241999839 verdict 3692217180 0",
+            "0 302000000 verdict 3692217240 0",
+            "1 303950826 declined 3",
+        ],
+        line: "page 5 1 1 44434600 15857950998447259648 303950826 902000000 0 61551 dc12c39800000000 0",
     },
     Odd {
         why: "a server of stratum 15",

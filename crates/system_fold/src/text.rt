@@ -1,14 +1,14 @@
 //! The line that tells a page.
 ghost use Rattle.std.specs.Prelude.{◌≡◌, ◌+◌, ◌≤◌, length, take, drop};
-ghost use Rattle.journal_entry.specs.Writing.{AddsFields};
+ghost use Rattle.journal_entry.specs.Writing.{AddsFields, HasRoom, written};
 ghost use Rattle.system_fold.specs.PageText.{page_fields, page_line};
 
 use clock_page::Page;
-use journal_entry::TextWriter;
+use journal_entry::{LINE_ROOM, TextWriter};
 
 /// Writes the line of a page at the front of `out`, without a line feed, and leaves the rest as it was. The answer is the
 /// number of bytes written, at most 161.
-pub fn page_text(p: &Page, out: &mut [u8; 256]) -> usize
+pub fn page_text(p: &Page, out: &mut [u8; LINE_ROOM]) -> usize
     ensures text { take result out.new ≡ page_line p.now }
     ensures rest { drop result out.new ≡ drop result out.old }
     ensures length { result ≡ length (page_line p.now) }
@@ -22,9 +22,9 @@ pub fn page_text(p: &Page, out: &mut [u8; 256]) -> usize
 
 // Writes the fields of a page.
 fn write_fields(p: &Page, text: &mut TextWriter<'_>)
-    requires { text.old.length + 189 ≤ 256 }
+    requires { HasRoom text.old 189 }
     ensures text { AddsFields text.old text.new (page_fields p.now) }
-    ensures short { text.new.length ≤ text.old.length + 157 }
+    ensures short { written text.new ≤ written text.old + 157 }
 {
     text.number(p.length);
     text.number(u8::from(p.sync));

@@ -1,5 +1,6 @@
+-- What the search leaves open of `clustering::cluster`.
 use Rattle.std.proofs.Common.{List, sym, ap, ◌∙◌, subst}
-use Rattle.cluster_core.specs.Bounds.{IsMeasured}
+use Rattle.cluster_core.specs.Bounds.{IsWeighable}
 use Rattle.cluster_core.specs.Clusters.{Clusters, Settles, may_precede}
 use Rattle.tick_units.specs.Orders.{in_order}
 use Rattle.cluster_core.specs.declared.survivor.Survivor.{Survivor}
@@ -9,17 +10,17 @@ use Rattle.cluster_core.proofs.clustering.cluster.Goals as goal
 -- what is left are the clusters of what was there
 left : (c : goal.After-of) → Clusters c.args.s.now c.of.result
 left c =
-    let first = c.ordered-rest.ensures ∙ ap (in_order may_precede) c.as_slice.ensures.value in
-    subst (Settles (in_order may_precede c.args.s.now)) (sym c.of.ensures) (subst (λ (all : List Survivor). Settles all c.settle.new.rest.items) first c.settle.ensures)
+    let first = c.ordered-left.ensures ∙ ap (in_order may_precede) c.as_slice.ensures.value in
+    subst (Settles (in_order may_precede c.args.s.now)) (sym c.of.ensures) (subst (λ (all : List Survivor). Settles all c.settle.new.left.items) first c.settle.ensures)
 
 pub returns-clause-clusters : goal.returns-clause-clusters
 returns-clause-clusters c = left c
 
 pub returns-clause-only : goal.returns-clause-only
-returns-clause-only c = λ rest h. clusters-is c.args.s.now rest h ∙ sym (clusters-is c.args.s.now c.of.result (left c))
+returns-clause-only c = λ others h. clusters-is c.args.s.now others h ∙ sym (clusters-is c.args.s.now c.of.result (left c))
 
-pub returns-clause-rest : goal.returns-clause-rest
-returns-clause-rest c = clusters-is c.args.s.now c.of.result (left c)
+pub returns-clause-left : goal.returns-clause-left
+returns-clause-left c = clusters-is c.args.s.now c.of.result (left c)
 
 pub returns-clause-members : goal.returns-clause-members
 returns-clause-members c = clusters-members c.args.s.now c.of.result (left c)
@@ -28,7 +29,7 @@ pub returns-clause-some : goal.returns-clause-some
 returns-clause-some c = clusters-some c.args.s.now c.of.result (left c)
 
 pub returns-clause-measured : goal.returns-clause-measured
-returns-clause-measured c = clusters-all IsMeasured c.args.s.now c.of.result (left c)
+returns-clause-measured c = clusters-all IsWeighable c.args.s.now c.of.result (left c)
 
 pub returns-clause-near : goal.returns-clause-near
 returns-clause-near c = clusters-near c.args.s.now c.of.result (left c)

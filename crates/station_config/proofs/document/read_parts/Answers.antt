@@ -1,4 +1,5 @@
-use Rattle.std.proofs.Common.{◌∙◌, ◌*◌, sym, ap, map, subst}
+-- What the search leaves open of `document::read_parts`.
+use Rattle.std.proofs.Common.{◌∙◌, sym, ap, map, subst}
 use Rattle.std.proofs.lemmas.Result.{err_from_is_err_and}
 use Rattle.toml.specs.View.{table_view}
 use Rattle.station_config.specs.Faults.{bad_in, keys_at, missing_in, sheets}
@@ -50,7 +51,7 @@ returns-clause-said c =
     let radios = c.in_ok-radios.ensures.read.rows ∙ ap (map (λ t. radio_of t.1)) c.in-Ok.ensures.radios in
     let servers = c.in_ok-servers.ensures.read.rows ∙ ap (map (λ t. server_of t.1)) c.in-Ok.ensures.servers in
     let links = c.in_ok-links.ensures.read.rows ∙ ap (map (λ t. number_at port_row t.1)) c.in-Ok.ensures.links in
-    λ i. record { holdover = 1000000 * c.in-Ok.ensures.holdover i; start = c.in-Ok.ensures.start i; radios = radios i; servers = servers i; links = links i }
+    λ i. record { top = c.in-Ok.ensures.numbers i; radios = radios i; servers = servers i; links = links i }
 
 pub returns-clause-good : goal.returns-clause-good
 returns-clause-good c =

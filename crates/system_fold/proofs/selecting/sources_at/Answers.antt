@@ -1,3 +1,4 @@
+-- What the search leaves open of `selecting::sources_at`.
 use Rattle.std.proofs.Common.{◌≤◌, ◌+◌, ◌∙◌, [], ◌++◌, ap, sym, arith, List, length, take}
 use Rattle.std.specs.Prelude.{Option}
 use Rattle.std.specs.List.{cons_option}
@@ -10,8 +11,8 @@ pub loop-survivor-preserved : goal.loop-survivor-preserved
 loop-survivor-preserved c = (
   c.push_some.ensures.items
       ∙ ap (λ (xs : List Source). xs ++ cons_option c.source_at.result []) c.loop-survivor.invariant.0
-      ∙ ap (λ (o : Option Source). sources_at c.args.fit.now (take c.loop-survivor.survivor-index c.args.rest.now) ++ cons_option o []) c.source_at.ensures
-      ∙ sym (sources-more c.args.fit.now c.args.rest.now c.loop-survivor.survivor-index c.survivor-item.result c.loop-survivor-test.true c.survivor-item.is),
+      ∙ ap (λ (o : Option Source). sources_at c.args.fit.now (take c.loop-survivor.survivor-index c.args.survivors.now) ++ cons_option o []) c.source_at.ensures
+      ∙ sym (sources-more c.args.fit.now c.args.survivors.now c.loop-survivor.survivor-index c.survivor-item.result c.loop-survivor-test.true c.survivor-item.is),
   few,
 )
   where

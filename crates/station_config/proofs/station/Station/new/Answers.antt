@@ -1,6 +1,5 @@
-use Rattle.std.proofs.Common.{◌∙◌, ap, map, subst, sym}
-use Rattle.station_config.specs.Inside.{radio_kept, server_fields}
-use Rattle.station_config.specs.Station.{IsStation}
+-- What the search leaves open of `station::Station::new`.
+use Rattle.std.proofs.Common.{◌∙◌, ap}
 use Rattle.station_config.proofs.Feeds.{sources_are}
 use Rattle.station_config.proofs.station.Station.new.Goals as goal
 
@@ -9,7 +8,5 @@ invariant_of-result c =
     let settings = c.add_servers.new.settings in
     let p = sources_are c.new-settings.result.sources c.add_radios.new.settings.sources settings.sources c.as_slice.result.now c.args.parts.radios.items c.as_slice-2.result.now c.args.parts.servers.items
     (ap (λ s. s.sources) c.new-settings.ensures) (ap (λ s. s.sources) c.add_radios.ensures) c.as_slice.ensures.value (ap (λ s. s.sources) c.add_servers.ensures) c.as_slice-2.ensures.value in
-    let parts = c.args.parts in
     let holdover = ap (λ s. s.holdover) c.add_servers.ensures ∙ ap (λ s. s.holdover) c.add_radios.ensures ∙ ap (λ s. s.holdover) c.new-settings.ensures in
-    let bounds = subst (λ h. IsStation (record { holdover = h; start = parts.start; radios = map radio_kept parts.radios.items; servers = map server_fields parts.servers.items; links = parts.links.items })) (sym holdover) c.requires in
-    record { same = λ i. record { holdover = settings.holdover; sources = p i }; bounds = bounds }
+    record { same = λ i. record { holdover = holdover i; sources = p i }; bounds = c.requires }

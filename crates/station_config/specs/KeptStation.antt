@@ -1,7 +1,8 @@
--- What a station keeps, and what its clauses see of it.
-use Rattle.std.specs.Prelude.{◌≡◌, ℕ, List, map, string_bytes}
+-- Scaffolding: what a station keeps, and what its clauses see of it.
+use Rattle.std.specs.Prelude.{◌≡◌, map, string_bytes}
 use Rattle.system_fold.specs.Settings.{SettingsFields}
 use Rattle.station_config.specs.Station.{IsStation, RadioFields, ServerFields, StationFields, settings_of}
+use Rattle.station_config.specs.declared.station.Parts.{Parts}
 use Rattle.station_config.specs.declared.station.Radio.{Radio}
 use Rattle.station_config.specs.declared.station.RadioRow.{RadioRow}
 use Rattle.station_config.specs.declared.station.ServerRow.{ServerRow}
@@ -16,14 +17,13 @@ radio_given r = record { plan = r.plan; log = r.log.now; delay = r.delay }
 abbrev pub server_fields : ServerRow → ServerFields
 server_fields s = record { address = s.address; polls = s.polls }
 
--- a station of these settings, start and rows
-abbrev pub station_from : SettingsFields → ℕ → List Radio → List ServerRow → List ℕ → StationFields
-station_from settings start radios servers links = record {
-  holdover = settings.holdover;
-  start = start;
-  radios = map radio_kept radios;
-  servers = map server_fields servers;
-  links = links;
+-- the station of what was read
+abbrev pub parts_fields : Parts → StationFields
+parts_fields p = record {
+  top = p.top;
+  radios = map radio_kept p.radios.items;
+  servers = map server_fields p.servers.items;
+  links = p.links.items;
 }
 
 -- the settings are those of the station, and it is within its bounds

@@ -1,0 +1,33 @@
+-- The page inputs: what a page is made by besides the sources that are left, and the moment at which it ends. All of it is this
+-- project's own.
+use Rattle.std.specs.Prelude.{ℕ, ◌+◌, ◌≤◌, min, Option, None, Some, List, length}
+use Rattle.journal_entry.specs.declared.entry.Entry.{Entry}
+use Rattle.system_fold.specs.Journal.{now_of}
+use Rattle.system_fold.specs.Leaps.{armed_of}
+use Rattle.system_fold.specs.Settings.{SettingsFields}
+use Rattle.system_fold.specs.declared.inputs.PageInputs.{PageInputs}
+use Rattle.system_fold.specs.declared.leaps.Leap.{Leap}
+
+-- those of a journal: how many entries it has, the greatest of their moments, for how long the time is trusted after the newest
+-- sample, and the leap second that is still to come
+abbrev pub inputs_of : SettingsFields → List Entry → PageInputs
+inputs_of settings journal = record {
+  length = length journal;
+  moment = now_of journal;
+  holdover = settings.holdover;
+  armed = armed_of journal;
+}
+
+-- a moment, or that of the next leap second if it is sooner
+abbrev pub until_leap : Option Leap → ℕ → ℕ
+until_leap None moment = moment
+until_leap (Some leap) moment = min leap.moment moment
+
+-- the moment at which a page ends whose newest sample was taken at `fresh`: after the holdover, or where the next leap second
+-- comes if that is sooner
+abbrev pub until_of : PageInputs → ℕ → ℕ
+until_of inputs fresh = until_leap inputs.armed (fresh + inputs.holdover)
+
+-- they are from lawful settings: the holdover is at most a day
+pub record AreBounded (inputs : PageInputs) : Type 0 where
+  pub holdover : inputs.holdover ≤ 86400000000
