@@ -5,7 +5,7 @@ use Rattle.std.proofs.lemmas.List.{map-append}
 use Rattle.std.proofs.lemmas.List.Concat.{flat_map-append}
 use Rattle.tick_units.specs.Log.{pulses}
 use Rattle.tick_units.specs.Marks.{marks_of}
-use Rattle.tick_units.specs.Segments.{Segment, segments_of}
+use Rattle.minute_pair.specs.Segments.{Segment, segments_of}
 use Rattle.tick_units.specs.declared.marks.Mark.{Mark}
 use Rattle.tick_units.specs.declared.marks.Plan.{Plan}
 use Rattle.tick_units.specs.declared.marks.Reduction.{Reduction}

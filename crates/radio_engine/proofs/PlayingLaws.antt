@@ -9,7 +9,7 @@ use Rattle.script_line.specs.declared.cutter.Cut.TheVariants.{More, Line, TooLon
 use Rattle.script_line.specs.declared.cutter.LineCutter.{LineCutter}
 use Rattle.script_line.specs.declared.cutter.Taken.{Taken}
 use Rattle.script_line.specs.declared.line.ScriptLine.{ScriptLine}
-use Rattle.script_player.specs.Standing.{HasPlayed}
+use Rattle.script_player.specs.KeptPlayer.{HasPlayed}
 use Rattle.script_player.specs.Texts.{replay_text}
 use Rattle.station_config.specs.Station.{StationFields}
 use Rattle.radio_engine.specs.Playing.{IsPlayedBy, IsPlayedLine}

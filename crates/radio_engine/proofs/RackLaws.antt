@@ -7,7 +7,7 @@ use Rattle.tick_units.specs.declared.marks.Reduction.{Reduction}
 use Rattle.tick_units.specs.declared.marks.Plan.TheVariants.{Dcf, Msf, Wwvb}
 use Rattle.radio_receiver.specs.Histories.{History, blank_of, is_blank, with_delay}
 use Rattle.station_config.specs.Station.{is_same_plan}
-use Rattle.script_player.specs.Standing.{AreOf, IsRack, is_blank_of}
+use Rattle.script_player.specs.KeptPlayer.{AreOf, IsRack, is_blank_of}
 use Rattle.radio_engine.specs.Racks.{HasOfEach, with_one}
 
 count_by-push : {X : Type 0} (p : X → Bool) (xs : List X) (x : X) → count_by p (xs ++ x ∷ []) ≡ count_by p xs + cond (p x) 1 0

@@ -6,7 +6,7 @@ use Rattle.clock_page.specs.Page.{PageFields}
 use Rattle.radio_receiver.specs.Histories.{History}
 use Rattle.script_line.specs.declared.line.ScriptLine.{ScriptLine}
 use Rattle.script_player.specs.Replay.{is_full, page_after}
-use Rattle.script_player.specs.Standing.{HasPlayed}
+use Rattle.script_player.specs.KeptPlayer.{HasPlayed}
 use Rattle.script_player.specs.Texts.{replay_text}
 use Rattle.station_config.specs.Station.{StationFields}
 use Rattle.radio_engine.specs.Endings.{status_of, status_line}

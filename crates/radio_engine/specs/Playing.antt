@@ -5,7 +5,7 @@ use Rattle.script_line.specs.Cutting.{HasTaken}
 use Rattle.script_line.specs.declared.line.ScriptLine.{ScriptLine}
 use Rattle.script_line.specs.Texts.{IsTextOf}
 use Rattle.script_player.specs.Replay.{is_lawful, outcome}
-use Rattle.script_player.specs.Standing.{HasPlayed}
+use Rattle.script_player.specs.KeptPlayer.{HasPlayed}
 use Rattle.script_player.specs.Texts.{outcome_text, replay_text}
 use Rattle.script_player.specs.declared.outcome.NotLawful.{NotLawful}
 use Rattle.script_player.specs.declared.player.Player.{Player}

@@ -4,6 +4,7 @@ use Rattle.std.specs.Prelude.{◌≡◌, ℕ, ◌≤◌, Option, None, Some, Lis
 use Rattle.feed_link.specs.Told.{SourceState, SinkState}
 use Rattle.file_reader.specs.declared.reader.FileEnd.TheVariants.{Whole, Fault, TooLong}
 use Rattle.file_reader.specs.Ends.{HasReadFront}
+use Rattle.journal_entry.specs.declared.writer.TheConstants.{LINE_ROOM}
 use Rattle.radio_engine.specs.Reading.{ReadsLines}
 use Rattle.radio_engine.specs.Writing.{WritesAll, WritesFront}
 use Rattle.radio_engine.specs.declared.reading.Gives.{Gives}
@@ -12,10 +13,6 @@ use Rattle.radio_engine.specs.declared.reading.Reach.{Reach}
 use Rattle.radio_engine.specs.declared.reading.Reach.TheVariants.{AtEnd, AtBadLine}
 use Rattle.radio_engine.specs.declared.reading.Taken.{Taken}
 use Rattle.radio_engine.specs.declared.reading.Taken.TheVariants as taken
-
--- the room of a line
-abbrev pub line_room : ℕ
-line_room = 256
 
 abbrev pub Holds : Type 1
 Holds = List ℕ → List ℕ → Option ℕ → Type 0
@@ -33,7 +30,7 @@ bad_of (Bad number) = Some number
 
 abbrev pub Fits : Gives → Type 0
 Fits Nothing = Unit {0}
-Fits (Text length) = length ≤ line_room
+Fits (Text length) = length ≤ LINE_ROOM
 Fits (Bad number) = Unit {0}
 
 -- the text that bytes give was written, or a write of it failed; or they have a bad line, and give no text

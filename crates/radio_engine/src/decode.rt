@@ -1,5 +1,6 @@
 //! `decode`: a log is decoded, and a line is written for each entry that it is due.
 ghost use Rattle.std.specs.Prelude.{◌≡◌, ◌<◌, ◌≤◌, ◌^◌, ◌++◌, ℕ, List, [], None, length, take};
+ghost use Rattle.journal_entry.specs.declared.writer.TheConstants.{LINE_ROOM};
 ghost use Rattle.feed_link.specs.Told.{SinkState};
 ghost use Rattle.log_decoder.specs.Decoding.{HasDecoded, IsReady};
 ghost use Rattle.log_decoder.specs.Due.{entry_line};
@@ -7,9 +8,9 @@ ghost use Rattle.radio_engine.specs.Decoding.{Decodes, RunsDecode};
 ghost use Rattle.radio_engine.specs.LogTaking.{IsDecodedBy, IsFound};
 ghost use Rattle.radio_receiver.specs.Histories.{blank_of};
 ghost use Rattle.radio_engine.specs.Reading.{bad_in_the_end};
-ghost use Rattle.radio_engine.specs.Taking.{Fits, line_room, given, bad_of, EndsAt, TakesPiece, EndsTaking};
+ghost use Rattle.radio_engine.specs.Taking.{Fits, given, bad_of, EndsAt, TakesPiece, EndsTaking};
 ghost use Rattle.radio_engine.specs.Writing.{WritesAll};
-ghost use Rattle.script_player.specs.Standing.{IsRack};
+ghost use Rattle.script_player.specs.KeptPlayer.{IsRack};
 ghost use Rattle.tick_units.specs.declared.marks.Plan.{Plan};
 
 use crate::ending::Ending;
@@ -17,10 +18,10 @@ use crate::ending::status::Status;
 use crate::ending::subject::Subject;
 use crate::ending::writing::finish;
 use crate::rack::first_of;
-use crate::reading::{Gives, LINE_ROOM, Line, Reach, Taken, Took, ending_at, write_given};
+use crate::reading::{Gives, Line, Reach, Taken, Took, ending_at, write_given};
 use feed_link::{Failed, Outside, Sink, Source};
 use file_reader::{FileEnd, FileReader, Pulled};
-use journal_entry::{Entry, write_entry};
+use journal_entry::{Entry, LINE_ROOM, write_entry};
 use log_decoder::LogDecoder;
 use pulse_log::BadLine;
 use radio_receiver::Receiver;
@@ -33,7 +34,7 @@ const LIMIT: usize = 1 << 30;
 // Writes the line of an entry at the front of `line`. The answer is its number of bytes.
 fn write_entry_line(entry: &Entry, line: &mut Line) -> usize
     ensures text { take result line.new ≡ entry_line entry.now }
-    ensures within { result ≤ line_room }
+    ensures within { result ≤ LINE_ROOM }
 {
     let end = write_entry(entry, line);
     line[end] = b'\n';

@@ -3,7 +3,7 @@ ghost use Rattle.std.specs.Prelude.{◌≡◌, ℕ, [], true, OnOk};
 ghost use Rattle.tick_units.specs.declared.marks.Plan.TheVariants.{Dcf, Msf, Wwvb};
 ghost use Rattle.radio_receiver.specs.Histories.{History, blank_of, with_delay};
 ghost use Rattle.radio_engine.specs.Racks.{HasOfEach, with_one};
-ghost use Rattle.script_player.specs.Standing.{IsRack, is_blank_of};
+ghost use Rattle.script_player.specs.KeptPlayer.{IsRack, is_blank_of};
 ghost use Rattle.station_config.specs.Station.{is_same_plan};
 
 use radio_receiver::Receiver;

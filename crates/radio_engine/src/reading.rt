@@ -8,9 +8,7 @@ use crate::ending::subject::Subject;
 use crate::ending::writing::write_all;
 use feed_link::{Failed, Sink};
 use file_reader::FileEnd;
-
-// The room of a line.
-pub const LINE_ROOM: usize = 256;
+use journal_entry::LINE_ROOM;
 
 // A line that is written, in its room.
 pub type Line = [u8; LINE_ROOM];

@@ -8,7 +8,7 @@ ghost use Rattle.radio_engine.specs.Playing.{IsPlayedBy};
 ghost use Rattle.radio_engine.specs.Replaying.{Replays, RunsReplay, replay_ending};
 ghost use Rattle.radio_engine.specs.Run.{Lacks};
 ghost use Rattle.radio_engine.specs.StationFile.{IsObstacle};
-ghost use Rattle.script_player.specs.Standing.{HasPlayed, IsRack, IsReady};
+ghost use Rattle.script_player.specs.KeptPlayer.{HasPlayed, IsRack, IsReady};
 ghost use Rattle.station_config.specs.Faults.{Says};
 ghost use Rattle.station_config.specs.Station.{StationFields};
 

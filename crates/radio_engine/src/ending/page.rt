@@ -1,6 +1,6 @@
 //! The line of a page, and the status line behind it.
 ghost use Rattle.std.specs.Prelude.{◌≡◌, ◌≤◌, ◌++◌, take};
-ghost use Rattle.radio_engine.specs.Taking.{line_room};
+ghost use Rattle.journal_entry.specs.declared.writer.TheConstants.{LINE_ROOM};
 ghost use Rattle.radio_engine.specs.Endings.{status_of, status_line};
 ghost use Rattle.radio_engine.specs.Text.{page_text};
 ghost use Rattle.radio_engine.specs.Writing.{Answers};
@@ -8,7 +8,8 @@ ghost use Rattle.radio_engine.specs.Writing.{Answers};
 use super::Ending;
 use super::status::Status;
 use super::writing::{finish, write_all};
-use crate::reading::{LINE_ROOM, Line};
+use crate::reading::Line;
+use journal_entry::LINE_ROOM;
 use clock_page::Page;
 use feed_link::{Failed, Sink};
 
@@ -18,7 +19,7 @@ use system_fold::page_text;
 #[tactic(auto, unfolding(crate::specs::Text::page_text))]
 fn write_page_line(page: &Page, line: &mut Line) -> usize
     ensures text { take result line.new ≡ page_text page.now }
-    ensures within { result ≤ line_room }
+    ensures within { result ≤ LINE_ROOM }
 {
     let end = page_text(page, line);
     line[end] = b'\n';

@@ -1,19 +1,20 @@
 //! The lines of a script are cut out of its bytes and played, one after the other.
 ghost use Rattle.std.specs.Prelude.{◌≡◌, ◌+◌, ◌<◌, ◌≤◌, ◌^◌, ◌++◌, ◌∷◌, ℕ, List, [], None, Some, length, take, MatchResult};
+ghost use Rattle.journal_entry.specs.declared.writer.TheConstants.{LINE_ROOM};
 ghost use Rattle.feed_link.specs.Told.{SinkState};
-ghost use Rattle.radio_engine.specs.Taking.{line_room};
 ghost use Rattle.radio_engine.specs.Playing.{IsPlayedBy, IsPlayedLine, PlaysNext};
 ghost use Rattle.radio_engine.specs.Reading.{bad_in_the_end};
 ghost use Rattle.radio_engine.specs.Taking.{Fits, given, bad_of, EndsAt, TakesPiece, EndsTaking};
 ghost use Rattle.radio_engine.specs.Writing.{WritesAll};
 ghost use Rattle.script_line.specs.Cutting.{line_in};
 ghost use Rattle.script_line.specs.declared.line.ScriptLine.{ScriptLine};
-ghost use Rattle.script_player.specs.Standing.{HasPlayed, IsReady};
+ghost use Rattle.script_player.specs.KeptPlayer.{HasPlayed, IsReady};
 ghost use Rattle.station_config.specs.Station.{StationFields};
 
-use crate::reading::{Gives, LINE_ROOM, Line, Reach, Taken, Took, write_given};
+use crate::reading::{Gives, Line, Reach, Taken, Took, write_given};
 use feed_link::{Failed, Sink, Source};
 use file_reader::{FileEnd, FileReader, Pulled};
+use journal_entry::LINE_ROOM;
 
 use radio_receiver::Receiver;
 use script_line::{Cut, LineCutter, read_line};
@@ -38,7 +39,7 @@ fn play_text(
 ) -> Result<usize, NotLawful>
     requires ready { IsReady (λ b. least_start b) player.old }
     ensures ready { IsReady (λ b. least_start b) player.new }
-    ensures fits { MatchResult result (λ length. length ≤ line_room) (λ _. Unit {0}) }
+    ensures fits { MatchResult result (λ length. length ≤ LINE_ROOM) (λ _. Unit {0}) }
     ensures plays { (station : StationFields) (limit : ℕ) (before : List ScriptLine) → HasPlayed (λ b h. stands_for b h) player.old station limit before →
         PlaysNext (λ b h. stands_for b h) player.new station limit before text.now line.new result }
 {

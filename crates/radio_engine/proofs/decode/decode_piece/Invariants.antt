@@ -1,6 +1,6 @@
 use Rattle.std.proofs.Common.{◌≡◌, ℕ, List, None, ◌++◌, length}
 use Rattle.feed_link.specs.Told.{SinkState}
-use Rattle.radio_engine.specs.Taking.{line_room}
+use Rattle.journal_entry.specs.declared.writer.TheConstants.{LINE_ROOM}
 use Rattle.log_decoder.specs.Decoding.{IsReady}
 use Rattle.tick_units.specs.declared.marks.Plan.{Plan}
 use Rattle.radio_engine.specs.LogTaking.{IsDecodedBy}
@@ -11,7 +11,7 @@ use Rattle.radio_engine.proofs.decode.decode_piece.Given as goal
 -- the bytes of the piece up to the rest are taken, and their text is written
 abbrev pub invariant-rest : goal.invariant-rest
 invariant-rest g l = record {
-  size : length l.line ≡ line_room;
+  size : length l.line ≡ LINE_ROOM;
   ready : IsReady (λ b. (goal.Receiver-dyn g (b.vtable, b.value)).least_start b.value) l.decoder;
   so_far : (plan : Plan) (bytes text : List ℕ) (start : SinkState) →
       IsDecodedBy (λ b h. (goal.Receiver-dyn g (b.vtable, b.value)).stands_for b.value h) l.fn.decoder plan bytes text None →

@@ -1,7 +1,7 @@
 use Rattle.std.proofs.Common.{◌≡◌, ◌≤◌, List, [], ◌∷◌, ◌++◌, reverse, ap, sym, ◌∙◌, subst, rules, arith}
 use Rattle.std.proofs.lemmas.List.{reverse-append, reverse-reverse}
 use Rattle.std.specs.List.{count_by}
-use Rattle.script_player.specs.Standing.{AreOf, is_blank_of}
+use Rattle.script_player.specs.KeptPlayer.{AreOf, is_blank_of}
 use Rattle.radio_engine.proofs.RackLaws.{undelayed_blank, left_behind, none_left}
 use Rattle.radio_engine.proofs.rack.first_of.Goals as goal
 

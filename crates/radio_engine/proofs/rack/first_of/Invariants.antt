@@ -1,7 +1,7 @@
 use Rattle.std.proofs.Common.{◌≡◌, ◌≤◌, List, reverse, vec_len}
 use Rattle.std.specs.List.{count_by}
 use Rattle.radio_receiver.specs.Histories.{History}
-use Rattle.script_player.specs.Standing.{AreOf, is_blank_of}
+use Rattle.script_player.specs.KeptPlayer.{AreOf, is_blank_of}
 use Rattle.radio_engine.proofs.rack.first_of.Given as goal
 
 -- those that are left, the first one last, and one of them is blank and of the plan

@@ -1,6 +1,6 @@
 use Rattle.std.proofs.Common.{◌≡◌, ◌+◌, ◌≤◌, ◌^◌, ℕ, List, None, []}
 use Rattle.file_reader.specs.Reader.{HasPulled, limit_of, room_of}
-use Rattle.script_player.specs.Standing.{IsReady}
+use Rattle.script_player.specs.KeptPlayer.{IsReady}
 use Rattle.station_config.specs.Station.{StationFields}
 use Rattle.radio_engine.specs.Playing.{IsPlayedBy}
 use Rattle.radio_engine.specs.Taking.{TakesAll}
