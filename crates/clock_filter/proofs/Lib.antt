@@ -1,3 +1,4 @@
+-- Lemmas that several proofs of this crate use.
 pub mod FigureLaws
 pub mod HeldLaws
 pub mod KnownLaws

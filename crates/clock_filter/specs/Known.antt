@@ -1,4 +1,4 @@
--- What a filter has ready of its samples.
+-- Scaffolding: what a filter has ready of its samples.
 use Rattle.std.specs.Prelude.{◌≡◌, ℕ, ◌≤◌, ◌^◌, nat_le, Option, List, IfSome, filter}
 use Rattle.tick_units.specs.Orders.{in_order}
 use Rattle.clock_filter.specs.Figures.{figures_of}

@@ -1,3 +1,4 @@
+//! What the samples of a source say of the time.
 ghost use Rattle.std.specs.Prelude.{◌≡◌, ◌<◌, ◌≤◌, ◌^◌, ◌∷◌, max, length, pos, ◌+ℤ◌, ◌≤ℤ◌, unsigned_abs, slice_get, IfSome};
 ghost use Rattle.std.specs.Int.{int_min};
 ghost use Rattle.tick_units.specs.Units as units;

@@ -1,3 +1,4 @@
+//! The clock filter of a source: its last eight samples.
 ghost use Rattle.std.specs.Prelude.{◌≡◌, ◌≤◌, ◌^◌, List, [], ◌∷◌, ◌++◌, length, IfSome};
 ghost use Rattle.clock_filter.specs.Bounds.{AreLawful, IsMeasured, IsTimely};
 ghost use Rattle.clock_filter.specs.Figures as figures;

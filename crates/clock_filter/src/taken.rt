@@ -1,3 +1,4 @@
+//! A sample and its moment.
 use tick_units::{Local, Sample, Short, Span};
 
 /// A sample of a source, and the moment when it was taken.

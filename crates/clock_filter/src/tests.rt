@@ -1,3 +1,4 @@
+//! Samples of a source and what they say, on numbers that can be reckoned by hand.
 use crate::{Figures, Filter, distance, is_fit, root_delay, root_dispersion};
 use std::test::Fail;
 use tick_units::{Local, Sample, Short, Span, local_span};

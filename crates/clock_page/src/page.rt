@@ -1,3 +1,4 @@
+//! The page: what it says, and the page where nothing tells the time.
 ghost use Rattle.std.specs.Prelude.{◌≡◌};
 ghost use Rattle.clock_page.specs.Page.{unsynchronised};
 
@@ -42,7 +43,7 @@ impl Model for Page {
 
     ghost Value = { PageFields };
 
-    ghost use Rattle.clock_page.specs.Inside.{said_by, inside_of};
+    ghost use Rattle.clock_page.specs.KeptPage.{said_by, inside_of};
 
     ghost view = { said_by };
 

@@ -1,3 +1,4 @@
+//! Pages, their words, and what they say of a moment.
 ghost use Rattle.std.specs.Prelude.{pos, ◌≤ℤ◌};
 
 use crate::Page;

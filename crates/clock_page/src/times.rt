@@ -1,3 +1,4 @@
+//! What a page says of a moment of the host's counter.
 ghost use Rattle.std.specs.Prelude.{◌≡◌, pos};
 ghost use Rattle.clock_page.specs.Times as times;
 ghost use Rattle.clock_page.specs.Times.{leap_indicator, leap_is_near, second_at};

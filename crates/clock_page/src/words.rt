@@ -1,3 +1,4 @@
+//! The ten words of a page, and the page of ten words.
 ghost use Rattle.std.specs.Prelude.{◌≡◌, ◌+◌, ◌*◌, ◌/◌, ◌%◌, ◌^◌, ◌<◌, ◌≤◌, pos, IfSome, IfNone};
 ghost use Rattle.std.specs.Int.{from_bool};
 ghost use Rattle.clock_page.specs.Page.{AreWords, IsPage, PageFields, words};

@@ -1,3 +1,4 @@
+-- Lemmas that several proofs of this crate use.
 pub mod ClusterLaws
 pub mod MeanLaws
 pub mod SettlingLaws

@@ -3,7 +3,7 @@
 use Rattle.std.specs.Prelude.{◌^◌, ◌<◌, ◌≤◌, List, All, ℤ, pos, ◌-ℤ◌, ◌≤ℤ◌, unsigned_abs}
 use Rattle.cluster_core.specs.declared.survivor.Survivor.{Survivor}
 
-pub record IsMeasured (x : Survivor) : Type 0 where
+pub record IsWeighable (x : Survivor) : Type 0 where
   pub least : pos 1 ≤ℤ x.distance
   pub most : x.distance ≤ℤ pos (2 ^ 32)
   pub jitter : x.jitter2 < 2 ^ 84

@@ -1,3 +1,5 @@
+-- Read Clusters (which survivors are left), then Mean (their mean offset). Bounds says what holds of sources that a majority agrees
+-- with.
 pub mod Bounds
 pub mod Clusters
 pub mod Mean

@@ -1,6 +1,7 @@
+//! Discards survivors until those that are left agree.
 ghost use Rattle.std.specs.Prelude.{◌≡◌, ◌<◌, ◌≤◌, true, false, All, Contains, List, length, nat_lt, IfSome, IfNone};
 ghost use Rattle.std.specs.List.{list_all};
-ghost use Rattle.cluster_core.specs.Bounds.{IsMeasured, AreNear};
+ghost use Rattle.cluster_core.specs.Bounds.{IsWeighable, AreNear};
 ghost use Rattle.cluster_core.specs.Clusters.{Clusters, IsWorst, Settles, greatest_jitter, is_at_rest, selection_jitter, survivors_left};
 ghost use Rattle.cluster_core.specs.declared.survivor.Survivor.{Survivor};
 
@@ -92,7 +93,7 @@ pub fn cluster(s: &mut Survivors)
     ensures left { s.new ≡ survivors_left s.old }
     ensures members { All (Contains s.old) s.new }
     ensures some { 0 < length s.old → 0 < length s.new }
-    ensures measured { All IsMeasured s.old → All IsMeasured s.new }
+    ensures measured { All IsWeighable s.old → All IsWeighable s.new }
     ensures near { AreNear s.old → AreNear s.new }
 {
     let mut left = ordered(s.as_slice());

@@ -1,6 +1,7 @@
+//! The mean of the offsets by weight.
 ghost use Rattle.std.specs.Prelude.{◌≡◌, ◌+◌, ◌*◌, ◌<◌, ◌≤◌, ◌^◌, ℤ, pos, ◌+ℤ◌, ◌-ℤ◌, ◌*ℤ◌, ◌≤ℤ◌, unsigned_abs, All, length, sum_by};
 ghost use Rattle.tick_units.specs.Units.{floor_div};
-ghost use Rattle.cluster_core.specs.Bounds.{IsMeasured, AreNear};
+ghost use Rattle.cluster_core.specs.Bounds.{IsWeighable, AreNear};
 ghost use Rattle.cluster_core.specs.Mean as means;
 
 use crate::{Survivor, Survivors};
@@ -59,7 +60,7 @@ impl WeightedSum {
 
 // The weight of a survivor: the nearer, the more.
 fn weight_of(x: &Survivor) -> u64
-    requires { IsMeasured x.now }
+    requires { IsWeighable x.now }
     ensures value { result ≡ means.weight x.now }
     ensures some { 0 < result }
     ensures most { result ≤ 2 ^ 62 }
@@ -82,7 +83,7 @@ fn apart(x: &Survivor, base: Span) -> Span
 fn mean_apart(base: Span, survivors: &[Survivor]) -> Span
     requires some { 0 < length survivors.now }
     requires few { length survivors.now ≤ 16 }
-    requires measured { All IsMeasured survivors.now }
+    requires measured { All IsWeighable survivors.now }
     requires near { All (λ x. unsigned_abs (x.offset -ℤ base) ≤ 2 ^ 33) survivors.now }
     ensures value { base +ℤ result ≡ means.mean survivors.now }
     ensures small { unsigned_abs result ≤ 2 ^ 33 }
@@ -103,7 +104,7 @@ fn mean_apart(base: Span, survivors: &[Survivor]) -> Span
 /// by its distance, rounded down.
 pub fn combine(s: &Survivors) -> Span
     requires some { 0 < length s.now }
-    requires measured { All IsMeasured s.now }
+    requires measured { All IsWeighable s.now }
     requires near { AreNear s.now }
     ensures mean { result ≡ means.mean s.now }
     ensures least { (low : ℤ) → All (λ x. low ≤ℤ x.offset) s.now → low ≤ℤ result }

@@ -1,3 +1,4 @@
+//! What clustering is told of a source.
 use tick_units::Span;
 
 /// A source that agrees with enough others.

@@ -1,3 +1,4 @@
+//! A list of at most 16 survivors.
 ghost use Rattle.std.specs.Prelude.{◌≡◌, ◌<◌, ◌≤◌, ◌==◌, [], ◌∷◌, ◌++◌, length, slice_get};
 
 use crate::Survivor;

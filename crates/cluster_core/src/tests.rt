@@ -1,6 +1,6 @@
 //! Which survivors are left, and their mean, on small numbers that can be reckoned by hand.
 ghost use Rattle.std.specs.Prelude.{◌≡◌, ◌<◌, ◌≤◌, ◌^◌, All, length, pos, neg_ℤ, ◌≤ℤ◌};
-ghost use Rattle.cluster_core.specs.Bounds.{AreNear, IsMeasured};
+ghost use Rattle.cluster_core.specs.Bounds.{AreNear, IsWeighable};
 
 use crate::{Survivor, Survivors, cluster, combine};
 use std::process::Abort;
@@ -17,7 +17,7 @@ struct Part {
 }
 
 fn survivor_of(feed: u32, part: Part) -> Survivor
-    ensures measured { IsMeasured result }
+    ensures measured { IsWeighable result }
     ensures low { neg_ℤ (pos (2 ^ 31)) ≤ℤ result.offset }
     ensures high { result.offset ≤ℤ pos (2 ^ 31) }
 {
@@ -34,7 +34,7 @@ fn survivor_of(feed: u32, part: Part) -> Survivor
 fn survivors_of(parts: &[Part]) -> Survivors
     requires { length parts.now ≤ 16 }
     ensures count { length result ≡ length parts.now }
-    ensures measured { All IsMeasured result }
+    ensures measured { All IsWeighable result }
     ensures near { AreNear result }
 {
     let mut survivors = Survivors::new();

@@ -1,3 +1,4 @@
+//! The command that `clap` reads the words by.
 ghost use Rattle.std.specs.Prelude.{◌≡◌, IfOk, false, fold};
 ghost use Rattle.clap.specs.Words.{app_of, rule_of, with_rule};
 ghost use Rattle.command_words.specs.Matches.{app, option_rule};

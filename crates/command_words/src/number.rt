@@ -1,3 +1,4 @@
+//! Reads a number in decimal.
 ghost use Rattle.std.specs.Prelude.{◌≡◌, ℕ, ◌<◌, ◌^◌, IfSome, Some, decimal};
 ghost use Rattle.command_words.specs.Numbers.{is_plain};
 

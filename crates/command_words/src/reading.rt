@@ -1,3 +1,4 @@
+//! Reads the words of a command line.
 ghost use Rattle.std.specs.Prelude.{◌≡◌, map, IfOk, IfErr};
 ghost use Rattle.command_words.specs.Commands.{Asked, asked, AskFor};
 

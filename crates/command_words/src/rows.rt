@@ -1,3 +1,4 @@
+//! The values of a command's options.
 ghost use Rattle.std.specs.Prelude.{◌≡◌, ℕ, IfSome, Some, map, option_map, codes, List};
 ghost use Rattle.std.specs.List.{list_all, list_any};
 ghost use Rattle.std.specs.Str.{bytes_eq};

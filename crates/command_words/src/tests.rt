@@ -1,3 +1,4 @@
+//! Command lines, lawful ones and refused ones.
 use crate::{Command, WordsFault, read_words};
 use std::test::Fail;
 use tick_units::Plan;

@@ -1,3 +1,4 @@
+-- Lemmas that several proofs of this crate use.
 pub mod AddressLaws
 pub mod DigitLaws
 pub mod FieldLaws

@@ -1,3 +1,5 @@
+-- Read Entries (what an entry is), then Texts (its one text), then Lawful (the entries that receivers and pollers make), then Writing
+-- (how a text grows in its room). Reading is scaffolding.
 pub mod Entries
 pub mod Lawful
 pub mod Reading

@@ -1,4 +1,4 @@
--- What is left of a text while its fields are read.
+-- Scaffolding: what is left of a text while its fields are read.
 use Rattle.std.specs.Prelude.{◌≡◌, ℕ, Bool, ◌==◌, List, drop}
 use Rattle.std.specs.List.{list_any}
 use Rattle.journal_entry.specs.Texts.{spaced}

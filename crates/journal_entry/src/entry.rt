@@ -1,3 +1,4 @@
+//! An entry of a journal.
 use tick_units::{Kind, Local, Sample};
 
 /// One line of the journal: what a feed told, and when.

@@ -1,3 +1,4 @@
+//! The fields of a text, read loosely.
 ghost use Rattle.std.specs.Prelude.{◌≡◌, ◌<◌, ◌^◌, ◌==◌, ◌∷◌, ℕ, ℤ, List, Some, false, decimal, unsigned_abs, pos};
 ghost use Rattle.std.specs.Fmt.{signed_decimal};
 ghost use Rattle.std.specs.List.{position};

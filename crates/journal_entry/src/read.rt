@@ -1,3 +1,4 @@
+//! Reads an entry from its text.
 ghost use Rattle.std.specs.Prelude.{◌≡◌, IfSome, Some};
 ghost use Rattle.journal_entry.specs.Entries.{IsSample, IsWhat};
 ghost use Rattle.journal_entry.specs.Texts.{IsTextOf, sample_fields, what_fields};

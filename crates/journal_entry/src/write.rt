@@ -1,3 +1,4 @@
+//! Writes the text of an entry.
 ghost use Rattle.std.specs.Prelude.{◌≡◌, ◌+◌, ◌≤◌, length, take, drop};
 ghost use Rattle.journal_entry.specs.Entries.{IsEntry, IsKind, IsSample, IsWhat};
 ghost use Rattle.journal_entry.specs.Texts.{kind_fields, what_fields, text_of};

@@ -1,3 +1,4 @@
+//! The writer of a text in its room.
 ghost use Rattle.std.specs.Prelude.{◌≤◌};
 ghost use Rattle.journal_entry.specs.declared.writer.TheConstants.{LINE_ROOM};
 

@@ -3,12 +3,12 @@ use Rattle.std.proofs.Common.{◌≡◌, ◌+◌, ◌*◌, ◌/◌, ◌%◌, ◌
 use Rattle.std.specs.Int.{w8}
 use Rattle.std.proofs.lemmas.Int.{to_z-of_z}
 use Rattle.byteorder.specs.Numbers.{big_number-reads_back}
-use Rattle.ntp_packet.specs.Layout.{Fits, layout, fields}
+use Rattle.ntp_packet.specs.Layout.{IsHeader, layout, fields}
 use Rattle.ntp_packet.specs.declared.header.Header.{Header}
 
 -- each field is in the range of its type, and the three parts of the first byte fit there
 pub record InRange (h : Header) : Type 0 where
-  pub first : Fits h
+  pub first : IsHeader h
   pub poll : FitsSigned w8 h.poll
   pub precision : FitsSigned w8 h.precision
   pub root_delay : h.root_delay.0 < 2 ^ 32

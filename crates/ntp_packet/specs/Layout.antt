@@ -5,7 +5,7 @@ use Rattle.byteorder.specs.Endian.{big_bytes, big_from}
 use Rattle.ntp_packet.specs.declared.header.Header.{Header}
 
 -- the leap indicator has two bits, the version and the mode have three each
-pub record Fits (h : Header) : Type 0 where
+pub record IsHeader (h : Header) : Type 0 where
   pub leap : h.leap < 4
   pub version : h.version < 8
   pub mode : h.mode < 8

@@ -1,7 +1,7 @@
 //! Reads a header from bytes.
 ghost use Rattle.std.specs.Prelude.{◌≡◌, ◌≤◌, ◌+◌, ◌↔◌, length, IsSome, IfSome};
 ghost use Rattle.byteorder.specs.Endian.{big_from};
-ghost use Rattle.ntp_packet.specs.Layout.{Fits, fields};
+ghost use Rattle.ntp_packet.specs.Layout.{IsHeader, fields};
 
 use crate::Header;
 use byteorder::{BigEndian, ByteOrder};
@@ -27,7 +27,7 @@ fn u64_at(bytes: &[u8], place: usize) -> u64
 pub fn read(bytes: &[u8]) -> Option<Header>
     ensures whole { IsSome result ↔ (48 ≤ length bytes.now) }
     ensures fields { IfSome result (λ h. h ≡ fields bytes.now) }
-    ensures fits { IfSome result Fits }
+    ensures fits { IfSome result IsHeader }
 {
     if bytes.len() < 48 {
         return None;

@@ -1,3 +1,4 @@
+//! The checks of an answer, in the order of their numbers.
 ghost use Rattle.std.specs.Prelude.{◌≡◌, None, Some, MatchResult};
 ghost use Rattle.poll_core.specs.Refusals.{exchange_rows, server_rows, first_refusal};
 

@@ -1,3 +1,4 @@
+//! What an exchange says of the time.
 ghost use Rattle.std.specs.Prelude.{◌≡◌, ◌<◌, ◌≤◌, ◌+◌, ◌*◌, ◌/◌, ◌%◌, ◌^◌, pos, unsigned_abs};
 ghost use Rattle.civil_minute.specs.Eras.{Unwraps};
 ghost use Rattle.tick_units.specs.Units.{local_span};

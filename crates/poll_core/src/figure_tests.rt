@@ -1,3 +1,4 @@
+//! Figures of exchanges at the bounds of their fields.
 use crate::tests::{
     DELAY, DISPERSION, OFFSET, RECEIVE, ROOT_DISP, SERVER, TRANSMIT, answered, sample, with,
 };

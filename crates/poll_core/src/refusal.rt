@@ -1,3 +1,4 @@
+//! Why an answer is refused, and the number of each reason.
 ghost use Rattle.std.specs.Prelude.{◌≡◌};
 ghost use Rattle.poll_core.specs.Refusals.{code_of, TableIsByNumber};
 

@@ -1,3 +1,4 @@
+//! The request of a poller.
 ghost use Rattle.std.specs.Prelude.{◌≡◌, ◌<◌};
 ghost use Rattle.ntp_packet.specs.Layout.{layout};
 ghost use Rattle.poll_core.specs.Formulas.{request_stamp, request_header};

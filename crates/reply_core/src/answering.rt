@@ -1,3 +1,4 @@
+//! The answer to a datagram.
 ghost use Rattle.std.specs.Prelude.{◌≡◌, ◌<◌, ◌≤◌, IfErr, IfOk, OnOk, OnErr, length};
 ghost use Rattle.reply_core.specs.Reply.{answer, header_of, request_of, root_disp_at};
 

@@ -1,3 +1,4 @@
+//! Requests and their answers, byte by byte.
 ghost use Rattle.std.specs.Prelude.{◌≡◌, ◌≤◌, IfOk};
 
 use crate::{Dropped, reply, reply_packet};

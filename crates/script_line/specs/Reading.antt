@@ -1,4 +1,4 @@
--- What is left of a line while its fields are read.
+-- Scaffolding: what is left of a line while its fields are read.
 use Rattle.std.specs.Prelude.{◌≡◌, ℕ, ◌≤◌, List, length, take, decimal}
 use Rattle.std.specs.Str.Parse.{AllDigits, digits_value}
 use Rattle.journal_entry.specs.Texts.{spaced}
@@ -7,13 +7,13 @@ use Rattle.script_line.specs.declared.line.ScriptLine.{ScriptLine}
 use Rattle.script_line.specs.declared.number.Number.{Number}
 
 -- these fields are left, each behind a space
-pub record HasFields (rest : List ℕ) (fields : List (List ℕ)) : Type 0 where
+pub record HasSpaced (rest : List ℕ) (fields : List (List ℕ)) : Type 0 where
   pub is : rest ≡ spaced fields
 
 -- the fields that are left are those of this line, which is in range
 pub record IsOfFields (rest : List ℕ) (line : ScriptLine) : Type 0 where
   pub lawful : IsLine line
-  pub fields : HasFields rest (fields_of line)
+  pub fields : HasSpaced rest (fields_of line)
 
 -- so many bytes of a text are digits, and say this value
 pub record SaysSoFar (text : List ℕ) (count value : ℕ) : Type 0 where

@@ -1,3 +1,4 @@
+//! Cuts the bytes of a script into lines.
 ghost use Rattle.std.specs.Prelude.{◌≡◌, ◌==◌, ◌+◌, ◌<◌, ◌≤◌, ℕ, List, [], ◌++◌, nat_lt, length, take};
 ghost use Rattle.std.specs.List.{position};
 ghost use Rattle.tick_units.specs.Log.{has_tail};

@@ -1,3 +1,4 @@
+//! A datagram in hexadecimal digits.
 ghost use Rattle.std.specs.Prelude.{◌≡◌, ℕ, List, IfSome, Some, length, take, drop};
 ghost use Rattle.std.specs.List.{list_all};
 ghost use Rattle.script_line.specs.Datagrams as datagrams;

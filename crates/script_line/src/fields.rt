@@ -1,7 +1,8 @@
+//! The fields of a line of a script.
 ghost use Rattle.std.specs.Prelude.{◌≡◌, ◌<◌, ◌≤◌, ◌^◌, ◌∷◌, [], ℕ, nat_eq, length, List, IfSome, Some, decimal};
 ghost use Rattle.hex.specs.Hex.{encode_lower};
 ghost use Rattle.script_line.specs.Datagrams.{IsDatagram};
-ghost use Rattle.script_line.specs.Reading.{HasFields};
+ghost use Rattle.script_line.specs.Reading.{HasSpaced};
 
 use crate::Datagram;
 use crate::number::first_number;
@@ -43,9 +44,9 @@ impl<'a> Fields<'a> {
     fn next_number(&mut self, most: u64) -> Option<u64>
         requires { most < 2 ^ 60 }
         ensures number { IfSome result (λ n. (n ≤ most)
-            × ((fields : List (List ℕ)) → HasFields self.new fields → HasFields self.old (decimal n ∷ fields))) }
-        ensures every { (n : ℕ) (fields : List (List ℕ)) → n ≤ most → HasFields self.old (decimal n ∷ fields) →
-            (result ≡ Some n) × HasFields self.new fields }
+            × ((fields : List (List ℕ)) → HasSpaced self.new fields → HasSpaced self.old (decimal n ∷ fields))) }
+        ensures every { (n : ℕ) (fields : List (List ℕ)) → n ≤ most → HasSpaced self.old (decimal n ∷ fields) →
+            (result ≡ Some n) × HasSpaced self.new fields }
     {
         let [b' ', digits @ ..] = self.rest else {
             return None;
@@ -58,9 +59,9 @@ impl<'a> Fields<'a> {
     // The next field as the number of a feed.
     pub fn next_feed(&mut self) -> Option<u32>
         ensures number { IfSome result (λ n. (n < 2 ^ 32)
-            × ((fields : List (List ℕ)) → HasFields self.new fields → HasFields self.old (decimal n ∷ fields))) }
-        ensures every { (n : ℕ) (fields : List (List ℕ)) → n < 2 ^ 32 → HasFields self.old (decimal n ∷ fields) →
-            (result ≡ Some n) × HasFields self.new fields }
+            × ((fields : List (List ℕ)) → HasSpaced self.new fields → HasSpaced self.old (decimal n ∷ fields))) }
+        ensures every { (n : ℕ) (fields : List (List ℕ)) → n < 2 ^ 32 → HasSpaced self.old (decimal n ∷ fields) →
+            (result ≡ Some n) × HasSpaced self.new fields }
     {
         let number = self.next_number(u64::from(u32::MAX))?;
         Some(number as u32)
@@ -69,9 +70,9 @@ impl<'a> Fields<'a> {
     // The next field as a moment.
     pub fn next_moment(&mut self) -> Option<Local>
         ensures moment { IfSome result (λ n. (n < 2 ^ 50)
-            × ((fields : List (List ℕ)) → HasFields self.new fields → HasFields self.old (decimal n ∷ fields))) }
-        ensures every { (n : ℕ) (fields : List (List ℕ)) → n < 2 ^ 50 → HasFields self.old (decimal n ∷ fields) →
-            (result ≡ Some n) × HasFields self.new fields }
+            × ((fields : List (List ℕ)) → HasSpaced self.new fields → HasSpaced self.old (decimal n ∷ fields))) }
+        ensures every { (n : ℕ) (fields : List (List ℕ)) → n < 2 ^ 50 → HasSpaced self.old (decimal n ∷ fields) →
+            (result ≡ Some n) × HasSpaced self.new fields }
     {
         Local::new(self.next_number(LAST)?)
     }
@@ -79,9 +80,9 @@ impl<'a> Fields<'a> {
     // The next field as the width of a reduction.
     pub fn next_width(&mut self) -> Option<u32>
         ensures width { IfSome result (λ n. (1 ≤ n) × (n ≤ 2000000)
-            × ((fields : List (List ℕ)) → HasFields self.new fields → HasFields self.old (decimal n ∷ fields))) }
-        ensures every { (n : ℕ) (fields : List (List ℕ)) → 1 ≤ n → n ≤ 2000000 → HasFields self.old (decimal n ∷ fields) →
-            (result ≡ Some n) × HasFields self.new fields }
+            × ((fields : List (List ℕ)) → HasSpaced self.new fields → HasSpaced self.old (decimal n ∷ fields))) }
+        ensures every { (n : ℕ) (fields : List (List ℕ)) → 1 ≤ n → n ≤ 2000000 → HasSpaced self.old (decimal n ∷ fields) →
+            (result ≡ Some n) × HasSpaced self.new fields }
     {
         let width = self.next_number(WIDEST)?;
         if width == 0 {
@@ -93,9 +94,9 @@ impl<'a> Fields<'a> {
     // The next field as the number of a connection.
     pub fn next_connection(&mut self) -> Option<u8>
         ensures number { IfSome result (λ n. (n < 8)
-            × ((fields : List (List ℕ)) → HasFields self.new fields → HasFields self.old (decimal n ∷ fields))) }
-        ensures every { (n : ℕ) (fields : List (List ℕ)) → n < 8 → HasFields self.old (decimal n ∷ fields) →
-            (result ≡ Some n) × HasFields self.new fields }
+            × ((fields : List (List ℕ)) → HasSpaced self.new fields → HasSpaced self.old (decimal n ∷ fields))) }
+        ensures every { (n : ℕ) (fields : List (List ℕ)) → n < 8 → HasSpaced self.old (decimal n ∷ fields) →
+            (result ≡ Some n) × HasSpaced self.new fields }
     {
         let number = self.next_number(LAST_CONNECTION)?;
         Some(number as u8)
@@ -103,8 +104,8 @@ impl<'a> Fields<'a> {
 
     // The one field that is left as a datagram.
     pub fn datagram(&self) -> Option<Datagram<'a>>
-        ensures datagram { IfSome result (λ bytes. IsDatagram bytes × HasFields self.now (encode_lower bytes ∷ [])) }
-        ensures every { (bytes : List ℕ) → IsDatagram bytes → HasFields self.now (encode_lower bytes ∷ []) → result ≡ Some bytes }
+        ensures datagram { IfSome result (λ bytes. IsDatagram bytes × HasSpaced self.now (encode_lower bytes ∷ [])) }
+        ensures every { (bytes : List ℕ) → IsDatagram bytes → HasSpaced self.now (encode_lower bytes ∷ []) → result ≡ Some bytes }
     {
         let [b' ', digits @ ..] = self.rest else {
             return None;

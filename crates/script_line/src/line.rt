@@ -1,3 +1,4 @@
+//! A line of a script.
 use crate::Datagram;
 use tick_units::{Local, Reduction};
 

@@ -1,3 +1,4 @@
+//! Reads the number that a text begins with.
 ghost use Rattle.std.specs.Prelude.{◌≡◌, ℕ, ◌++◌, ◌≢◌, ◌<◌, ◌≤◌, ◌^◌, List, IfNone, IfSome, Some, decimal, length, take};
 ghost use Rattle.journal_entry.specs.Texts.{spaced};
 ghost use Rattle.script_line.specs.Reading.{BeginsWith, SaysSoFar};

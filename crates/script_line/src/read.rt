@@ -1,3 +1,4 @@
+//! Reads a line of a script from its text.
 ghost use Rattle.std.specs.Prelude.{◌≡◌, ℕ, List, IfSome, Some, codes};
 ghost use Rattle.script_line.specs.Reading.{IsOfFields};
 ghost use Rattle.script_line.specs.Texts.{IsTextOf, word_of};

@@ -1,3 +1,4 @@
+//! Lines of scripts and their texts, and how a script is cut.
 ghost use Rattle.std.specs.Prelude.{◌<◌};
 
 use crate::{Cut, Datagram, LineCutter, ScriptLine, read_line};

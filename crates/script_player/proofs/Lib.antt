@@ -1,3 +1,4 @@
+-- Lemmas that several proofs of this crate use.
 mod LineLaws
 mod ListLaws
 mod MadeRacks

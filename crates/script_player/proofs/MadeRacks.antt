@@ -4,7 +4,7 @@ use Rattle.std.specs.List.{count_by}
 use Rattle.tick_units.specs.declared.marks.Plan.{Plan}
 use Rattle.tick_units.specs.declared.marks.Plan.TheVariants.{Dcf, Msf, Wwvb}
 use Rattle.radio_receiver.specs.Histories.{History, blank_of}
-use Rattle.script_player.specs.Standing.{AreOf, IsRack, is_blank_of}
+use Rattle.script_player.specs.KeptPlayer.{AreOf, IsRack, is_blank_of}
 
 pub are_of_push : {B : Type 0} (stands : B → History → Type 0) (rack : List B) (histories : List History) (b : B) (h : History) → AreOf stands rack histories → stands b h → AreOf stands (rack ++ b ∷ []) (histories ++ h ∷ [])
 are_of_push stands [] [] b h are is = (is, tt)

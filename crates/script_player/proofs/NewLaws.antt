@@ -7,7 +7,7 @@ use Rattle.std.specs.Option.{option_map}
 use Rattle.radio_receiver.specs.Histories.{History, with_delay}
 use Rattle.poll_core.specs.Polling.{HasPolled}
 use Rattle.station_config.specs.Station.{IsStation, RadioFields, ServerFields, StationFields, is_same_plan, plan_count}
-use Rattle.script_player.specs.Standing.{AreFour, HasFitted, HasPolling, HasRadio, HasRadios, HasServer, HasTaken, IsSpare, first_radios, first_servers, left_of, with_radio}
+use Rattle.script_player.specs.KeptPlayer.{AreFour, HasFitted, HasPolling, HasRadio, HasRadios, HasServer, HasPicked, IsSpare, first_radios, first_servers, left_of, with_radio}
 use Rattle.script_player.specs.declared.rack.Spare.{Spare}
 use Rattle.script_player.specs.declared.radio.Radio.{Radio}
 use Rattle.script_player.specs.declared.radios.Radios.{Radios}
@@ -39,7 +39,7 @@ slice_get-push-front xs x y j within e = by (slice_get-push-cases xs x y j e)
 
 -- one radio more
 pub adds : {B : Type 0} (stands : B → History → Type 0) (old new : Radios B) (station : StationFields) (fields : RadioFields) (radio : Radio B) (left : List (Spare B)) (receiver : B) →
-    HasTaken stands old.left.items left fields.plan receiver → radio.plan ≡ fields.plan → radio.delay_us ≡ fields.delay → radio.least ≡ 0 →
+    HasPicked stands old.left.items left fields.plan receiver → radio.plan ≡ fields.plan → radio.delay_us ≡ fields.delay → radio.least ≡ 0 →
     ((h : History) → stands receiver h → stands radio.receiver (with_delay h fields.delay)) →
     new.fitted.items ≡ old.fitted.items ++ radio ∷ [] → new.left.items ≡ left →
     HasRadios stands old station [] → HasRadios stands new (with_radio station fields) []

@@ -13,7 +13,7 @@ use Rattle.script_line.specs.declared.line.ScriptLine.{ScriptLine}
 use Rattle.script_line.specs.declared.line.ScriptLine.TheVariants.{Pulse, Ask, Answer, Swap, Request}
 use Rattle.script_player.specs.Keeping.{JournalFields}
 use Rattle.script_player.specs.Replay.{due, due_to, is_lawful, may_hear, may_poll, may_swap, outcome, outcome_of_due, radio_of, server_of}
-use Rattle.script_player.specs.Standing.{HasAnswered, HasGiven, HasHeardPulse, HasKept, HasPlayed, HasRadios, HasServers}
+use Rattle.script_player.specs.KeptPlayer.{HasAnswered, HasGiven, HasHeardPulse, HasKept, HasPlayed, HasRadios, HasServers}
 use Rattle.script_player.specs.declared.outcome.Outcome.{Outcome}
 use Rattle.script_player.specs.declared.outcome.Outcome.TheVariants.{Nothing, Asked}
 use Rattle.script_player.specs.declared.player.Player.{Player}

@@ -16,7 +16,7 @@ use Rattle.station_config.specs.Station.{RadioFields, StationFields, is_same_pla
 use Rattle.script_line.specs.declared.line.ScriptLine.{ScriptLine}
 use Rattle.script_line.specs.declared.line.ScriptLine.TheVariants.{Pulse, Swap}
 use Rattle.script_player.specs.Replay.{due_of_radio, entry_heard, fitted, history_of, is_plan_of, is_swap_for, is_swap_of, may_hear, may_swap, pulse_in, pulses_of, radio_of}
-use Rattle.script_player.specs.Standing.{HasFitted, HasHeardPulse, HasRadio, HasRadios, HasTaken, IsSpare, left_of, one_of}
+use Rattle.script_player.specs.KeptPlayer.{HasFitted, HasHeardPulse, HasRadio, HasRadios, HasPicked, IsSpare, left_of, one_of}
 use Rattle.script_player.specs.declared.rack.Spare.{Spare}
 use Rattle.script_player.specs.declared.radio.Radio.{Radio}
 use Rattle.script_player.specs.declared.radios.Radios.{Radios}
@@ -207,7 +207,7 @@ swaps-not stands old new station lines feed radio at none same left h =
 
 -- the next receiver of the radio's plan is fitted
 pub swaps : {B : Type 0} (stands : B → History → Type 0) (old new : Radios B) (station : StationFields) (lines : List ScriptLine) (feed : ℕ) (radio after : Radio B) (left : List (Spare B)) (receiver : B) →
-    slice_get old.fitted.items feed ≡ Some radio → HasTaken stands old.left.items left radio.plan receiver →
+    slice_get old.fitted.items feed ≡ Some radio → HasPicked stands old.left.items left radio.plan receiver →
     after.plan ≡ radio.plan → after.delay_us ≡ radio.delay_us → after.least ≡ radio.least →
     ((h : History) → stands receiver h → stands after.receiver (with_delay h radio.delay_us)) →
     new.fitted.items ≡ slice_set old.fitted.items feed after → new.left.items ≡ left →

@@ -14,7 +14,7 @@ use Rattle.station_config.specs.Station.{ServerFields, StationFields}
 use Rattle.script_line.specs.declared.line.ScriptLine.{ScriptLine}
 use Rattle.script_line.specs.declared.line.ScriptLine.TheVariants.{Ask, Answer}
 use Rattle.script_player.specs.Replay.{due_of_server, event_in, events_of, last_moment, may_poll, moment_in, server_of, what_answered}
-use Rattle.script_player.specs.Standing.{HasAnswered, HasPolling, HasServer, HasServers}
+use Rattle.script_player.specs.KeptPlayer.{HasAnswered, HasPolling, HasServer, HasServers}
 use Rattle.script_player.specs.declared.server.Server.{Server}
 use Rattle.script_player.specs.declared.servers.Servers.{Servers}
 use Rattle.script_player.proofs.ListLaws.{filter_map-none, filter_map-some, last_or-push, slice_set-cases}

@@ -1,8 +1,8 @@
--- What is kept of the journal.
+-- Scaffolding: what a player keeps of the journal.
 use Rattle.std.specs.Prelude.{◌≡◌, ℕ, ◌≤◌, ◌^◌, Bool, List, length}
 use Rattle.journal_entry.specs.declared.entry.Entry.{Entry}
 use Rattle.system_fold.specs.Settings.{SettingsFields}
-use Rattle.system_fold.specs.Standing.{FoldFields, StandsFor}
+use Rattle.system_fold.specs.KeptFold.{FoldFields, StandsForJournal}
 
 -- the fold of the entries kept, their number, the most that are kept, and whether one was dropped
 pub record JournalFields : Type 0 where
@@ -15,7 +15,7 @@ pub record JournalFields : Type 0 where
 pub record IsKeeping (fold : FoldFields) (count limit : ℕ) : Type 0 where
   pub settings : SettingsFields
   pub journal : List Entry
-  pub stands : StandsFor fold settings journal
+  pub stands : StandsForJournal fold settings journal
   pub count_is : count ≡ length journal
   pub within : count ≤ limit
   pub most : limit ≤ 2 ^ 22

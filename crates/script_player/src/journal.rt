@@ -1,3 +1,4 @@
+//! What is kept of the journal of a station in a script.
 ghost use Rattle.std.specs.Prelude.{◌≡◌, ◌≤◌, ◌^◌, ◌++◌, ◌∷◌, [], ℕ, List, Some, length, take, nat_lt};
 ghost use Rattle.journal_entry.specs.Lawful.{IsLawful};
 ghost use Rattle.journal_entry.specs.declared.entry.Entry.{Entry};
@@ -31,7 +32,7 @@ impl Model for Journal {
 
 impl Journal {
     ghost use Rattle.script_player.specs.Replay.{outcome_of_due};
-    ghost use Rattle.script_player.specs.Standing.{HasKept};
+    ghost use Rattle.script_player.specs.KeptPlayer.{HasKept};
 
     // The empty journal.
     pub fn new(settings: &Settings, limit: u32) -> Journal

@@ -1,3 +1,4 @@
+//! What a line of a script gives.
 use journal_entry::Entry;
 use reply_core::{Dropped as WhyDropped, ReplyPacket};
 

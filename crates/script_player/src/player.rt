@@ -1,3 +1,4 @@
+//! A station in the middle of a script.
 ghost use Rattle.std.specs.Prelude.{◌≡◌, ◌≤◌, ◌+◌, ◌^◌, [], ℕ, List, Ok, IfOk, vec_len, length};
 ghost use Rattle.station_config.specs.Station.{StationFields};
 ghost use Rattle.script_line.specs.Texts.{IsLine};
@@ -31,7 +32,7 @@ pub struct Player<B: Drop> {
 }
 
 impl Player<BoxedReceiver> {
-    ghost use Rattle.script_player.specs.Standing.{HasPlayed, IsRack, IsReady, Plays};
+    ghost use Rattle.script_player.specs.KeptPlayer.{HasPlayed, IsRack, IsReady, Plays};
 
     /// A station that has played no line yet, and that keeps at most so many entries, up to 4194304. Of each plan the first
     /// four blank receivers of the rack are used, in its order; the others are dropped.

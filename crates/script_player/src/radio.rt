@@ -1,3 +1,4 @@
+//! A radio of the station, with its receiver.
 ghost use Rattle.std.specs.Prelude.{◌≡◌, ◌≤◌, ◌+◌, ◌++◌, IfSome};
 ghost use Rattle.std.specs.Option.{option_to_list};
 ghost use Rattle.minute_pair.specs.Years.{BelievesYears};

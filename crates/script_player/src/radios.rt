@@ -1,3 +1,4 @@
+//! The radios of the station.
 ghost use Rattle.std.specs.Prelude.{◌≡◌, ◌≤◌, ◌+◌, ◌++◌, ◌∷◌, [], List, IfOk, OnOk, IfSome, vec_len};
 ghost use Rattle.minute_pair.specs.Years.{BelievesYears};
 ghost use Rattle.journal_entry.specs.Lawful.{IsLawful};
@@ -6,7 +7,7 @@ ghost use Rattle.script_line.specs.declared.line.ScriptLine.{ScriptLine};
 ghost use Rattle.script_line.specs.declared.line.ScriptLine.TheVariants.{Pulse, Swap};
 ghost use Rattle.script_player.specs.Replay as replay;
 ghost use Rattle.script_player.specs.Replay.{may_hear, may_swap, radio_of};
-ghost use Rattle.script_player.specs.Standing.{AreReady, Gives, HasHeardPulse, HasRadios, IsRack, left_of, with_radio};
+ghost use Rattle.script_player.specs.KeptPlayer.{AreReady, Gives, HasHeardPulse, HasRadios, IsRack, left_of, with_radio};
 
 use crate::rack::{Spare, four_of_each, take_of};
 use crate::radio::Radio;

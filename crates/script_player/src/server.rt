@@ -1,3 +1,4 @@
+//! A server of the station, with its poller.
 ghost use Rattle.std.specs.Prelude.{◌≡◌, ◌≤◌, ◌++◌, ◌∷◌, [], List, None};
 ghost use Rattle.std.specs.Option.{ForSome};
 ghost use Rattle.poll_core.specs.Formulas.{request_header};

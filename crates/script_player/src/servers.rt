@@ -1,3 +1,4 @@
+//! The servers of the station.
 ghost use Rattle.std.specs.Prelude.{◌≡◌, ◌<◌, ◌+◌, ◌++◌, ◌∷◌, [], List, IfOk, OnOk, length, vec_len};
 ghost use Rattle.poll_core.specs.Formulas.{request_header};
 ghost use Rattle.ntp_packet.specs.Layout.{layout};
@@ -6,7 +7,7 @@ ghost use Rattle.station_config.specs.Station.{StationFields};
 ghost use Rattle.script_line.specs.declared.line.ScriptLine.{ScriptLine};
 ghost use Rattle.script_line.specs.declared.line.ScriptLine.TheVariants.{Ask, Answer};
 ghost use Rattle.script_player.specs.Replay.{may_poll, server_of};
-ghost use Rattle.script_player.specs.Standing.{Gives, HasAnswered, HasServers, IsTimely};
+ghost use Rattle.script_player.specs.KeptPlayer.{Gives, HasAnswered, HasServers, IsTimely};
 
 use crate::NotLawful;
 use crate::server::Server;

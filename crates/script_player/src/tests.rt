@@ -1,7 +1,7 @@
 // What lines give behind the lines before them, and the page that is kept of them.
 ghost use Rattle.std.specs.Prelude.{◌≡◌, ◌≤◌, ◌^◌, ◌++◌, ◌∷◌, [], List, OnOk};
 ghost use Rattle.radio_receiver.specs.Histories.{History, blank_of};
-ghost use Rattle.script_player.specs.Standing.{AreOf, IsRack, IsReady};
+ghost use Rattle.script_player.specs.KeptPlayer.{AreOf, IsRack, IsReady};
 
 use crate::{BoxedReceiver, NotLawful, Player, write_outcome};
 use clock_page::Page;

@@ -1,3 +1,4 @@
+//! Writes what a line of a script gives.
 ghost use Rattle.std.specs.Prelude.{◌≡◌, ◌+◌, ◌≤◌, ◌++◌, ◌∷◌, [], length, take, drop};
 ghost use Rattle.hex.specs.Hex.{encode_lower};
 ghost use Rattle.script_player.specs.Texts.{outcome_text};

@@ -1,3 +1,4 @@
+-- Lemmas that several proofs of this crate use.
 pub mod AlikeLaws
 pub mod ChimeLaws
 pub mod EdgeLaws

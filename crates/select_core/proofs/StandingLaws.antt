@@ -11,9 +11,9 @@ use Rattle.std.proofs.lemmas.List.Quantifiers.{all_pairs_push, all_pairs_remove}
 use Rattle.std.proofs.lemmas.List.Sorted.{length_permutation, sum_by-IsPermutation}
 use Rattle.std.proofs.lemmas.List.Sums.{count_by-le-length, get_or-le-sum_by, length-filter, sum_by-cons, sum_by-remove, sum_by_push}
 use Rattle.select_core.specs.Ends.{ends_of, is_before, lower_end, upper_end}
-use Rattle.select_core.specs.Inside.{IsKept}
+use Rattle.select_core.specs.KeptSweep.{IsKept}
 use Rattle.select_core.specs.Selection.{are_measured, is_measured}
-use Rattle.select_core.specs.Standing.{others, with_candidate}
+use Rattle.select_core.specs.Sweeping.{others, with_candidate}
 use Rattle.select_core.specs.declared.chime.Candidate.{Candidate}
 use Rattle.select_core.specs.declared.ends.End.{End}
 use Rattle.select_core.proofs.AlikeLaws.{length-alike}

@@ -11,7 +11,7 @@ use Rattle.std.proofs.lemmas.List.Elements.{filter-append, filter_agree}
 use Rattle.std.proofs.lemmas.List.Sums.{sum_by-append, sum_by-cons}
 use Rattle.tick_units.specs.Orders.{best}
 use Rattle.select_core.specs.Ends.{begins, begun, edge, ended, ends_of, is_open, is_sooner, lower_end, upper_end}
-use Rattle.select_core.specs.Inside.{IsKept}
+use Rattle.select_core.specs.KeptSweep.{IsKept}
 use Rattle.select_core.specs.Selection.{are_measured, contains, cover, high_of, is_held, is_measured, low_of, lower, upper}
 use Rattle.select_core.specs.declared.chime.Candidate.{Candidate}
 use Rattle.select_core.specs.declared.ends.End.{End}

@@ -1,4 +1,6 @@
+-- Read Selection (the interval that enough sources agree on), then Sweeping (the candidates while sources come and go). Ends says the
+-- same interval by the ends that are gone over once; KeptSweep is scaffolding.
 pub mod Ends
-pub mod Inside
+pub mod KeptSweep
 pub mod Selection
-pub mod Standing
+pub mod Sweeping

@@ -1,3 +1,4 @@
+//! What selection is told of a source, and the interval that it finds.
 ghost use Rattle.std.specs.Prelude.{◌≡◌, IsTrue};
 ghost use Rattle.select_core.specs.Selection as selection;
 ghost use Rattle.select_core.specs.Selection.{contains, is_measured, is_within, is_in};

@@ -1,3 +1,4 @@
+//! The ends of intervals in order, and what lies open between them.
 ghost use Rattle.std.specs.Prelude.{◌≡◌, ◌+◌, ◌-◌, ◌<◌, ◌≤◌, List, [], ◌∷◌, length, reverse, slice_index_or, Contains, IsTrue, true, false};
 ghost use Rattle.std.specs.List.Sorted.{IsPartitionPoint, IsPermutation};
 ghost use Rattle.select_core.specs.Ends as ends;

@@ -1,3 +1,4 @@
+//! The interval that enough sources agree on, from a list of them.
 ghost use Rattle.std.specs.Prelude.{◌≡◌, ◌≤◌, ◌≤ℤ◌, ◌-ℤ◌, ◌^◌, pos, int_lt, length, Option, IsTrue, IfSome};
 ghost use Rattle.tick_units.specs.Orders.{better};
 ghost use Rattle.select_core.specs.Selection.{are_measured, chime_allowing, chime_of, cover, high_of, is_held, low_of, outside, serves};

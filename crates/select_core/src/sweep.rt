@@ -1,7 +1,8 @@
+//! The interval that enough sources agree on, while sources come and go.
 ghost use Rattle.std.specs.Prelude.{◌≡◌, ◌+◌, ◌<◌, ◌≤◌, ◌≤ℤ◌, ◌-ℤ◌, ◌^◌, ◌≢◌, pos, List, [], length, slice_index_or, All, IsTrue, IfSome, IfNone};
 ghost use Rattle.std.specs.List.Sorted.{IsPermutation};
 ghost use Rattle.select_core.specs.Selection.{chime_allowing, chime_of, high_of, is_measured, low_of};
-ghost use Rattle.select_core.specs.Standing.{others, with_candidate};
+ghost use Rattle.select_core.specs.Sweeping.{others, with_candidate};
 ghost use Rattle.select_core.specs.declared.chime.Candidate.{Candidate};
 
 use crate::ends::{End, Ends, Side};
@@ -21,7 +22,7 @@ pub struct Sweep {
 
 impl Model for Sweep {
     ghost use Rattle.std.specs.Prelude.{List};
-    ghost use Rattle.select_core.specs.Inside.{IsKept};
+    ghost use Rattle.select_core.specs.KeptSweep.{IsKept};
     ghost use Rattle.select_core.specs.declared.chime.Candidate.{Candidate};
 
     ghost Value = { List Candidate };

@@ -1,7 +1,7 @@
 -- The sources of a station's settings, radios first.
 use Rattle.std.proofs.Common.{◌≡◌, ◌∙◌, List, [], ◌∷◌, ◌++◌, refl, ap, map}
 use Rattle.system_fold.specs.declared.settings.SourceKind.{SourceKind}
-use Rattle.station_config.specs.Inside.{radio_kept, server_fields}
+use Rattle.station_config.specs.KeptStation.{radio_kept, server_fields}
 use Rattle.station_config.specs.Station.{kind_of_radio, kind_of_server}
 use Rattle.station_config.specs.declared.station.Radio.{Radio}
 use Rattle.station_config.specs.declared.station.ServerRow.{ServerRow}

@@ -1,3 +1,4 @@
+-- Lemmas that several proofs of this crate use.
 pub mod Bounds
 pub mod Feeds
 pub mod Firsts

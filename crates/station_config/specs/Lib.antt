@@ -1,6 +1,8 @@
+-- Read Station (what a station is), then Rows (the keys of its file and what may stand at each), then Values (the station that a
+-- document says), then Faults (the faults of a document, in their order). Finding and KeptStation are scaffolding.
 pub mod Faults
 pub mod Finding
-pub mod Inside
+pub mod KeptStation
 pub mod Rows
 pub mod Station
 pub mod Values

@@ -1,3 +1,4 @@
+//! Reads an IPv4 address.
 ghost use Rattle.std.specs.Prelude.{◌≡◌};
 ghost use Rattle.std.specs.Str.{all_ascii_digits};
 ghost use Rattle.tick_units.specs.Log.{is_number};

@@ -1,8 +1,9 @@
+//! How many rows a station has, and how many it may have.
 ghost use Rattle.std.specs.Prelude.{◌≡◌, find, map, nat_lt, option_map};
 ghost use Rattle.station_config.specs.Station.{is_same_plan, plan_count};
 ghost use Rattle.station_config.specs.Faults.{counts_of};
 ghost use Rattle.station_config.specs.Finding.{count_seen};
-ghost use Rattle.station_config.specs.Inside.{parts_fields, radio_kept};
+ghost use Rattle.station_config.specs.KeptStation.{parts_fields, radio_kept};
 
 use crate::station::{Parts, Radio};
 use tick_units::Plan;

@@ -1,3 +1,4 @@
+//! The station of a document, or what stands against it.
 ghost use Rattle.std.specs.Prelude.{◌≡◌, ◌≤◌, ◌^◌, [], Some, IfOk, IfErr, slice_get};
 ghost use Rattle.toml.specs.Data.{get_member};
 ghost use Rattle.toml.specs.View.{items_view, table_view};
@@ -5,7 +6,7 @@ ghost use Rattle.station_config.specs.Rows.{tables_from, top_rows, link_row, rad
 ghost use Rattle.station_config.specs.Values.{station_of, tables_at, top_of};
 ghost use Rattle.station_config.specs.Faults.{bad_in, faults_of, keys_at, missing_in, sheets_of};
 ghost use Rattle.station_config.specs.Finding.{IsFirstObstacle, IsMisreadAt, IsRead};
-ghost use Rattle.station_config.specs.Inside.{parts_fields};
+ghost use Rattle.station_config.specs.KeptStation.{parts_fields};
 
 use crate::counts::excess;
 use crate::items::{Obstacle, read_links, read_radios, read_servers};

@@ -1,3 +1,4 @@
+//! The faults of a station file, each with its key.
 ghost use Rattle.std.specs.Prelude.{◌≡◌, string_bytes};
 
 use std::marker::Model;

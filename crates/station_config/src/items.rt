@@ -1,10 +1,11 @@
+//! The rows of the arrays of a station file.
 ghost use Rattle.std.specs.Prelude.{◌≡◌, ◌++◌, List, [], IfOk, IfErr, map};
 ghost use Rattle.toml.specs.View.{view, items_view};
 ghost use Rattle.station_config.specs.Rows.{Text, table_at, tables_from, port_row};
 ghost use Rattle.station_config.specs.Values.{number_at, radio_of, server_of};
 ghost use Rattle.station_config.specs.Faults.{bad_in, key_in, keys_at, missing_in, sheets};
 ghost use Rattle.station_config.specs.Finding.{Adds, IsMisread, IsMisreadAt};
-ghost use Rattle.station_config.specs.Inside.{radio_kept, server_fields};
+ghost use Rattle.station_config.specs.KeptStation.{radio_kept, server_fields};
 
 use crate::keys::{Part, Spot};
 use crate::rows::{Misread, link, radio, server};

@@ -1,3 +1,4 @@
+//! The keys of a station file: unknown ones and missing ones.
 ghost use Rattle.std.specs.Prelude.{◌≡◌, [], Some, None, map, filter, is_none, is_some, option_map, slice_get};
 ghost use Rattle.std.specs.List.{list_any};
 ghost use Rattle.std.specs.Str.{bytes_eq};

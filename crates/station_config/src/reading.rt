@@ -1,3 +1,4 @@
+//! Reads a station from the text of its file.
 ghost use Rattle.std.specs.Prelude.{◌≡◌, List, IfOk, IfErr};
 ghost use Rattle.station_config.specs.Faults.{Fault, Says, Refuses, IsFirst};
 ghost use Rattle.station_config.specs.Finding.{IsFirstObstacle, spot_text};

@@ -1,3 +1,4 @@
+//! The values at the keys of a table.
 ghost use Rattle.std.specs.Prelude.{◌≡◌, ◌≤◌, Some, None, IfOk, IfErr, IfSome, IsSome, [], option_map, codes};
 ghost use Rattle.tick_units.specs.declared.marks.Plan.TheVariants.{Dcf};
 ghost use Rattle.toml.specs.Data.{get_member, string};
@@ -6,7 +7,7 @@ ghost use Rattle.station_config.specs.Rows.{whole_in, text_in, plan_in, address_
 ghost use Rattle.station_config.specs.Values.{number_at, radio_of, server_of};
 ghost use Rattle.station_config.specs.Faults.{bad_in, missing_in};
 ghost use Rattle.station_config.specs.Finding.{IsRead, IsMisread};
-ghost use Rattle.station_config.specs.Inside.{radio_kept, server_fields};
+ghost use Rattle.station_config.specs.KeptStation.{radio_kept, server_fields};
 
 use crate::address::address;
 use crate::keys::value_at;

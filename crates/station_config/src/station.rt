@@ -1,8 +1,9 @@
+//! A station, and what was read of its file.
 ghost use Rattle.std.specs.Prelude.{◌≡◌, ◌≤◌, ◌+◌, ◌++◌, option_map, length, map};
 ghost use Rattle.std.specs.List.{slice_get};
 ghost use Rattle.system_fold.specs.Settings.{AreLawful};
 ghost use Rattle.station_config.specs.Station.{IsStation, kind_of_radio, kind_of_server, settings_of};
-ghost use Rattle.station_config.specs.Inside.{parts_fields, radio_given, radio_kept, server_fields};
+ghost use Rattle.station_config.specs.KeptStation.{parts_fields, radio_given, radio_kept, server_fields};
 
 use feed_link::Address;
 use std::marker::Model;
@@ -91,7 +92,7 @@ pub struct Station {
 
 impl Model for Station {
     ghost use Rattle.station_config.specs.Station.{StationFields};
-    ghost use Rattle.station_config.specs.Inside.{IsInside, parts_fields};
+    ghost use Rattle.station_config.specs.KeptStation.{IsInside, parts_fields};
 
     ghost Value = { StationFields };
 

@@ -1,3 +1,4 @@
+//! Station files, lawful ones and faulty ones, and what each comes to.
 use crate::{KeyText, Station, StationFault, read_station};
 use std::alloc::Global;
 use std::test::Fail;

@@ -11,7 +11,7 @@ use Rattle.journal_entry.specs.declared.entry.Entry.{Entry}
 use Rattle.system_fold.specs.Feeds.{with_sample}
 use Rattle.system_fold.specs.Samples.{taken_in, samples_of}
 use Rattle.system_fold.specs.Settings.{SettingsFields}
-use Rattle.system_fold.specs.Standing.{feeds_of}
+use Rattle.system_fold.specs.KeptFold.{feeds_of}
 use Rattle.system_fold.specs.declared.feed.Feed.{Feed}
 use Rattle.system_fold.specs.declared.settings.SourceKind.{SourceKind}
 

@@ -9,7 +9,7 @@ use Rattle.std.proofs.lemmas.Bool.Decides.{nat_tests}
 use Rattle.tick_units.specs.Orders.{greatest, better, best}
 use Rattle.system_fold.specs.Journal.{now_of, prefixes}
 use Rattle.system_fold.specs.Leaps.{word_in, verdict_in, word_of, words_of, last_verdict, leap_of, passed_by, passed_among, ahead_of, armed_among, passed, cut_of}
-use Rattle.system_fold.specs.Standing.{KeepsLeaps, best_with, or_older, words_with, StepsLeaps}
+use Rattle.system_fold.specs.KeptFold.{KeepsLeaps, best_with, or_older, words_with, StepsLeaps}
 use Rattle.journal_entry.specs.declared.entry.Entry.{Entry}
 use Rattle.system_fold.specs.declared.leaps.Leaps.{Leaps}
 use Rattle.system_fold.specs.declared.leaps.Word.{Word}

@@ -1,3 +1,4 @@
+-- Lemmas that several proofs of this crate use.
 pub mod LeapLaws
 pub mod FeedLaws
 pub mod StandingLaws

@@ -20,7 +20,7 @@ use Rattle.system_fold.specs.Inputs.{inputs_of}
 use Rattle.system_fold.specs.Leaps.{armed_of}
 use Rattle.system_fold.specs.Page.{page_by, page_of}
 use Rattle.system_fold.specs.Settings.{SettingsFields}
-use Rattle.system_fold.specs.Standing.{FoldFields, StandsFor}
+use Rattle.system_fold.specs.KeptFold.{FoldFields, StandsForJournal}
 use Rattle.system_fold.proofs.SourceLaws.{fit-feeds}
 use Rattle.journal_entry.specs.declared.entry.Entry.{Entry}
 use Rattle.system_fold.specs.Surviving.{IsLong}
@@ -137,11 +137,11 @@ pub left-long : (chime : Chime) (now : ℕ) (fit : List Source) (survivors left 
 left-long chime now fit survivors left is all members = All-weaker (Contains survivors) IsLong (λ x h. All-contains IsLong survivors x (subst (All IsLong) (sym is) (survivors-long chime now fit all)) h) left members
 
 -- the inputs by what is kept are those of the journal
-inputs-stand : (fold : FoldFields) (armed : Option Leap) (settings : SettingsFields) (journal : List Entry) → StandsFor fold settings journal → armed ≡ armed_of journal → inputs_by fold armed ≡ inputs_of settings journal
+inputs-stand : (fold : FoldFields) (armed : Option Leap) (settings : SettingsFields) (journal : List Entry) → StandsForJournal fold settings journal → armed ≡ armed_of journal → inputs_by fold armed ≡ inputs_of settings journal
 inputs-stand fold armed settings journal h armed_is = λ i. record { length = h.length i; moment = h.leaps.now i; holdover = h.holdover i; armed = armed_is i }
 
 -- the page by what is kept is the page of the journal
-pub page-stands : (fold : FoldFields) (armed : Option Leap) (fit : List Source) (settings : SettingsFields) (journal : List Entry) → StandsFor fold settings journal → armed ≡ armed_of journal → fit ≡ fit_feeds fold.leaps.cut fold.leaps.latest fold.feeds
+pub page-stands : (fold : FoldFields) (armed : Option Leap) (fit : List Source) (settings : SettingsFields) (journal : List Entry) → StandsForJournal fold settings journal → armed ≡ armed_of journal → fit ≡ fit_feeds fold.leaps.cut fold.leaps.latest fold.feeds
     → page_by (inputs_by fold armed) fit ≡ page_of settings journal
 unfolding page_of
 page-stands fold armed fit settings journal h armed_is fit_is =

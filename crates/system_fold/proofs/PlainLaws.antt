@@ -11,7 +11,7 @@ use Rattle.system_fold.specs.Feeds.{with_sample}
 use Rattle.system_fold.specs.Leaps.{word_in, verdict_in, word_of, words_of, last_verdict, passed, cut_of}
 use Rattle.system_fold.specs.Samples.{taken_in, samples_of}
 use Rattle.system_fold.specs.Settings.{SettingsFields, AreLawful, IsJournal}
-use Rattle.system_fold.specs.Standing.{StandsFor, FoldFields, KeepsLeaps, feeds_of, or_older}
+use Rattle.system_fold.specs.KeptFold.{StandsForJournal, FoldFields, KeepsLeaps, feeds_of, or_older}
 use Rattle.system_fold.specs.declared.feed.Feed.{Feed}
 use Rattle.system_fold.specs.declared.leaps.Verdict.{Verdict}
 use Rattle.system_fold.specs.declared.leaps.Word.{Word}
@@ -93,7 +93,7 @@ feeds-more settings journal i d below =
 
 -- what a journal comes to stands for it
 pub stands-whole : (fold : FoldFields) (settings : SettingsFields) (journal : List Entry) → AreLawful settings → length settings.sources ≤ 16 → IsJournal settings journal → fold.holdover ≡ settings.holdover → fold.feeds ≡ feeds_of settings journal → KeepsLeaps fold.leaps journal → fold.length ≡ length journal
-    → StandsFor fold settings journal
+    → StandsForJournal fold settings journal
 stands-whole fold settings journal lawful few entries holdover feeds leaps length = record { lawful = lawful; few = few; entries = entries; holdover = holdover; feeds = feeds; leaps = leaps; length = length }
 
 pub feeds-push-more : (settings : SettingsFields) (seen : List SourceKind) (journal : List Entry) (i : ℕ) (d : SourceKind) (feeds more : List Feed) (feed : Feed) → i < length seen → seen ≡ settings.sources

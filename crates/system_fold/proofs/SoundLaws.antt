@@ -21,7 +21,7 @@ use Rattle.system_fold.specs.Fit.{IsSound}
 use Rattle.system_fold.specs.Journal.{now_of}
 use Rattle.system_fold.specs.Samples.{radio_sample, sample_in, taken_in, samples_of}
 use Rattle.system_fold.specs.Settings.{SettingsFields, IsKept, IsJournal}
-use Rattle.system_fold.specs.Standing.{StandsFor, FoldFields}
+use Rattle.system_fold.specs.KeptFold.{StandsForJournal, FoldFields}
 use Rattle.system_fold.specs.declared.feed.Feed.{Feed}
 use Rattle.system_fold.specs.declared.settings.SourceKind.{SourceKind}
 use Rattle.system_fold.specs.declared.settings.SourceKind.TheVariants.{Radio, Server}
@@ -111,7 +111,7 @@ sound-from settings journal a [] all = All-nil (IsSound (now_of journal))
 sound-from settings journal a (kind ∷ kinds) all = All-cons (IsSound (now_of journal)) (record { kind = kind; filter = last_eight (samples_of kind a journal) }) _ (one-sound settings journal a kind all) (sound-from settings journal (a + 1) kinds all)
 
 -- what a fold keeps of its feeds
-pub sound-feeds : (fold : FoldFields) (settings : SettingsFields) (journal : List Entry) → StandsFor fold settings journal → All (IsSound fold.leaps.latest) fold.feeds
+pub sound-feeds : (fold : FoldFields) (settings : SettingsFields) (journal : List Entry) → StandsForJournal fold settings journal → All (IsSound fold.leaps.latest) fold.feeds
 sound-feeds fold settings journal h =
     subst (λ (n : ℕ). All (IsSound n) fold.feeds) (sym h.leaps.now)
     (subst (λ (fs : List Feed). All (IsSound (now_of journal)) fs) (sym h.feeds) (sound-from settings journal 0 settings.sources h.entries))

@@ -16,7 +16,7 @@ use Rattle.system_fold.specs.Leaps.{cut_of}
 use Rattle.system_fold.specs.Samples.{samples_of}
 use Rattle.system_fold.specs.Settings.{SettingsFields}
 use Rattle.system_fold.specs.Sources.{source_of, fit_sources}
-use Rattle.system_fold.specs.Standing.{StandsFor, FoldFields, feeds_of}
+use Rattle.system_fold.specs.KeptFold.{StandsForJournal, FoldFields, feeds_of}
 use Rattle.system_fold.specs.declared.feed.Feed.{Feed}
 use Rattle.system_fold.specs.declared.settings.SourceKind.{SourceKind}
 use Rattle.system_fold.specs.declared.source.Source.{Source}
@@ -53,7 +53,7 @@ fit-from journal a (kind ∷ kinds) =
     ∙ sym (filter-some (now_of journal) (source_of journal a kind) (filter_map (λ (k : ℕ × SourceKind). source_of journal k.0 k.1) (enumerate_from (a + 1) kinds)))
 
 -- the fit ones of what is kept are those of the journal
-pub fit-feeds : (fold : FoldFields) (settings : SettingsFields) (journal : List Entry) → StandsFor fold settings journal → fit_feeds fold.leaps.cut fold.leaps.latest fold.feeds ≡ fit_sources settings journal
+pub fit-feeds : (fold : FoldFields) (settings : SettingsFields) (journal : List Entry) → StandsForJournal fold settings journal → fit_feeds fold.leaps.cut fold.leaps.latest fold.feeds ≡ fit_sources settings journal
 fit-feeds fold settings journal h =
     ap (λ (fs : List Feed). fit_feeds fold.leaps.cut fold.leaps.latest fs) h.feeds
     ∙ ap (λ (n : ℕ). fit_feeds n fold.leaps.latest (feeds_of settings journal)) h.leaps.cut

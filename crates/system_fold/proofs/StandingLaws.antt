@@ -9,7 +9,7 @@ use Rattle.journal_entry.specs.Lawful.{IsLawful}
 use Rattle.journal_entry.specs.declared.entry.Entry.{Entry}
 use Rattle.select_core.specs.declared.chime.Candidate.{Candidate}
 use Rattle.system_fold.specs.Settings.{SettingsFields, AreLawful, IsJournal, IsKept}
-use Rattle.system_fold.specs.Standing.{StandsFor, FoldFields, IsFold, KeepsLeaps, blank, feeds_of}
+use Rattle.system_fold.specs.KeptFold.{StandsForJournal, FoldFields, IsFold, KeepsLeaps, blank, feeds_of}
 use Rattle.system_fold.specs.declared.feed.Feed.{Feed}
 use Rattle.system_fold.specs.declared.leaps.Leaps.{Leaps}
 use Rattle.system_fold.specs.declared.source.Source.{Source}
@@ -30,7 +30,7 @@ enumerated-same {X} {Y} f a (x ∷ xs) = ap (λ (ys : List Y). f x ∷ ys) (enum
 pub feeds-nil : (settings : SettingsFields) → feeds_of settings [] ≡ map blank settings.sources
 feeds-nil settings = enumerated-same blank 0 settings.sources
 
-pub few_of : (fold : FoldFields) (settings : SettingsFields) (journal : List Entry) → StandsFor fold settings journal → length fold.feeds ≤ 16
+pub few_of : (fold : FoldFields) (settings : SettingsFields) (journal : List Entry) → StandsForJournal fold settings journal → length fold.feeds ≤ 16
 few_of fold settings journal h =
     let same : length fold.feeds ≡ length settings.sources = ap (λ (fs : List Feed). length fs) h.feeds ∙ feeds-length settings journal in
     subst (λ (n : ℕ). n ≤ 16) (sym same) h.few
@@ -40,7 +40,7 @@ few fold fit sweep h = few_of fold h.settings h.journal h.stands
 
 -- the state of the empty journal
 pub stands-nil : (fold : FoldFields) (settings : SettingsFields) → AreLawful settings → length settings.sources ≤ 16 → fold.holdover ≡ settings.holdover → fold.feeds ≡ map blank settings.sources → KeepsLeaps fold.leaps [] → fold.length ≡ 0
-    → StandsFor fold settings []
+    → StandsForJournal fold settings []
 stands-nil fold settings lawful few holdover feeds leaps length = record {
   lawful = lawful;
   few = few;
@@ -52,9 +52,9 @@ stands-nil fold settings lawful few holdover feeds leaps length = record {
 }
 
 -- one entry more
-pub stands-push : (old new : FoldFields) (settings : SettingsFields) (journal : List Entry) (e : Entry) → StandsFor old settings journal → IsKept (length old.feeds) e → new.holdover ≡ old.holdover
+pub stands-push : (old new : FoldFields) (settings : SettingsFields) (journal : List Entry) (e : Entry) → StandsForJournal old settings journal → IsKept (length old.feeds) e → new.holdover ≡ old.holdover
     → new.feeds ≡ feeds_of settings (journal ++ e ∷ []) → KeepsLeaps new.leaps (journal ++ e ∷ []) → new.length ≡ old.length + 1
-    → StandsFor new settings (journal ++ e ∷ [])
+    → StandsForJournal new settings (journal ++ e ∷ [])
 stands-push old new settings journal e h lawful holdover feeds leaps longer = record {
   lawful = h.lawful;
   few = h.few;
@@ -76,8 +76,8 @@ refill-same {X} n xs ws same = subst (λ (k : ℕ). take k (ws ++ drop (length w
 pub stands-step : (old : FoldFields) (n : ℕ) (taken : List Feed) (leaps : Leaps) (e : Entry) → n ≡ length old.feeds → IsKept (length old.feeds) e
     → ((settings : SettingsFields) (journal : List Entry) → old.feeds ≡ feeds_of settings journal → taken ≡ feeds_of settings (journal ++ e ∷ []))
     → ((journal : List Entry) → KeepsLeaps old.leaps journal → KeepsLeaps leaps (journal ++ e ∷ []))
-    → (settings : SettingsFields) (journal : List Entry) → StandsFor old settings journal
-    → StandsFor (record old { feeds = refill n old.feeds taken; leaps = leaps; length = old.length + 1 }) settings (journal ++ e ∷ [])
+    → (settings : SettingsFields) (journal : List Entry) → StandsForJournal old settings journal
+    → StandsForJournal (record old { feeds = refill n old.feeds taken; leaps = leaps; length = old.length + 1 }) settings (journal ++ e ∷ [])
 stands-step old n taken leaps e same lawful takes steps settings journal h = stands-push old _ settings journal e h lawful refl feeds (steps journal h.leaps) refl
   where
     long : length taken ≡ n
@@ -87,7 +87,7 @@ stands-step old n taken leaps e same lawful takes steps settings journal h = sta
     feeds = refill-same n old.feeds taken long ∙ takes settings journal h.feeds
 
 -- the next entry is of one of the feeds
-pub kept-at : (fold : FoldFields) (settings : SettingsFields) (before journal : List Entry) (i : ℕ) (e : Entry) → StandsFor fold settings before → IsJournal settings journal → i < length journal → e ≡ get_or journal i e → IsLawful (length fold.feeds) e
+pub kept-at : (fold : FoldFields) (settings : SettingsFields) (before journal : List Entry) (i : ℕ) (e : Entry) → StandsForJournal fold settings before → IsJournal settings journal → i < length journal → e ≡ get_or journal i e → IsLawful (length fold.feeds) e
 kept-at fold settings before journal i e h all below here = subst (λ (n : ℕ). IsLawful n e) (sym same) kept.lawful
   where
     same : length fold.feeds ≡ length settings.sources

@@ -12,13 +12,13 @@ use Rattle.clock_filter.specs.Figures.{figures_of}
 use Rattle.clock_filter.specs.Held.{held}
 use Rattle.clock_filter.specs.declared.figures.Figures.{Figures}
 use Rattle.journal_entry.specs.declared.entry.Entry.{Entry}
-use Rattle.select_core.specs.Standing.{others}
+use Rattle.select_core.specs.Sweeping.{others}
 use Rattle.select_core.specs.declared.chime.Candidate.{Candidate}
 use Rattle.select_core.proofs.StandingLaws.{others-all}
 use Rattle.system_fold.specs.Fit.{AreFew, AreFit, IsFit, fit_feeds, fit_source, from_feed, if_fit}
 use Rattle.system_fold.specs.Selecting.{candidate_of}
 use Rattle.system_fold.specs.Settings.{SettingsFields}
-use Rattle.system_fold.specs.Standing.{FoldFields, StandsFor, blank}
+use Rattle.system_fold.specs.KeptFold.{FoldFields, StandsForJournal, blank}
 use Rattle.system_fold.specs.declared.feed.Feed.{Feed}
 use Rattle.system_fold.specs.declared.settings.SourceKind.{SourceKind}
 use Rattle.system_fold.specs.declared.source.Source.{Source}
@@ -162,6 +162,6 @@ pub none-standing : (now : ℕ) (fit : List Source) (sweep : List Candidate) →
 none-standing now fit sweep none same = same ∙ ap (map (candidate_of now)) (sym none)
 
 -- a journal and a longer one have as many feeds
-pub stands-same : (old new : FoldFields) (settings : SettingsFields) (journal longer : List Entry) → StandsFor old settings journal → StandsFor new settings longer → length new.feeds ≡ length old.feeds
+pub stands-same : (old new : FoldFields) (settings : SettingsFields) (journal longer : List Entry) → StandsForJournal old settings journal → StandsForJournal new settings longer → length new.feeds ≡ length old.feeds
 stands-same old new settings journal longer before after =
     ap (λ (fs : List Feed). length fs) after.feeds ∙ feeds-length settings longer ∙ sym (feeds-length settings journal) ∙ sym (ap (λ (fs : List Feed). length fs) before.feeds)

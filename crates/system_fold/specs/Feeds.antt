@@ -1,4 +1,4 @@
--- One sample more, if there is one.
+-- Scaffolding: one sample more, if there is one.
 use Rattle.std.specs.Prelude.{Option, None, Some, List, [], ◌∷◌, ◌++◌}
 use Rattle.clock_filter.specs.declared.taken.Taken.{Taken}
 

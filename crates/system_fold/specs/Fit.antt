@@ -1,4 +1,4 @@
--- The sources that are fit, as they come out of what is kept of the feeds.
+-- Scaffolding: the sources that are fit, as they come out of what is kept of the feeds.
 use Rattle.std.specs.Prelude.{◌≡◌, ℕ, ◌-◌, ◌^◌, ◌≤◌, ◌<◌, nat_le, Option, None, Some, List, All, filter, length, pos, ◌≤ℤ◌, if◌then◌else◌}
 use Rattle.std.specs.List.{filter_map, enumerate_from}
 use Rattle.std.specs.Option.{option_map}

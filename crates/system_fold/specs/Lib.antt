@@ -1,8 +1,12 @@
+-- Read Page (the page of a journal), and then what it is made of: Settings and Inputs; Journal, Samples and Leaps (what a journal says);
+-- Sources and Selecting (which sources agree); Fields (the fields of the page); PageText (its line). Feeds, Fit, Surviving and KeptFold
+-- are scaffolding.
 pub mod Feeds
 pub mod Fields
 pub mod Fit
 pub mod Inputs
 pub mod Journal
+pub mod KeptFold
 pub mod Leaps
 pub mod Page
 pub mod PageText
@@ -10,5 +14,4 @@ pub mod Samples
 pub mod Selecting
 pub mod Settings
 pub mod Sources
-pub mod Standing
 pub mod Surviving

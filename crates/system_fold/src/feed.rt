@@ -1,3 +1,4 @@
+//! What is kept of a feed.
 ghost use Rattle.std.specs.Prelude.{◌≡◌, ◌<◌, ◌++◌, ◌∷◌, [], List, Option};
 ghost use Rattle.clock_filter.specs.Held as filters;
 ghost use Rattle.clock_filter.specs.declared.taken.Taken.{Taken};

@@ -3,7 +3,7 @@ ghost use Rattle.std.specs.Prelude.{◌≡◌, ◌≤◌, ◌<◌, ◌^◌, ◌+
 ghost use Rattle.std.specs.List.{cons_option};
 ghost use Rattle.std.specs.Option.{option_map};
 ghost use Rattle.arrayvec.specs.ArrayVec.{array_vec_len};
-ghost use Rattle.select_core.specs.Standing.{others};
+ghost use Rattle.select_core.specs.Sweeping.{others};
 ghost use Rattle.system_fold.specs.Fit as fit;
 ghost use Rattle.system_fold.specs.Fit.{AreFew, AreFit, IsFit, IsSound, fit_feeds};
 ghost use Rattle.system_fold.specs.Selecting as selecting;

@@ -1,10 +1,11 @@
+//! What is kept of a journal, entry by entry.
 ghost use Rattle.std.specs.Prelude.{◌≡◌, ◌<◌, ◌≤◌, ◌^◌, ◌++◌, ◌∷◌, [], List, length, map};
 ghost use Rattle.arrayvec.specs.ArrayVec.{array_vec_len};
 ghost use Rattle.journal_entry.specs.Lawful.{IsLawful, IsLawfulWhat};
 ghost use Rattle.journal_entry.specs.declared.entry.Entry.{Entry};
 ghost use Rattle.system_fold.specs.Page.{page_of};
 ghost use Rattle.system_fold.specs.Settings.{AreLawful, SettingsFields};
-ghost use Rattle.system_fold.specs.Standing.{StandsFor, blank, feeds_of};
+ghost use Rattle.system_fold.specs.KeptFold.{StandsForJournal, blank, feeds_of};
 
 use crate::feed::Feed;
 use crate::fit::find_fit;
@@ -33,7 +34,7 @@ pub struct FoldState {
 }
 
 impl Model for FoldState {
-    ghost use Rattle.system_fold.specs.Standing.{FoldFields, IsFold, kept_by};
+    ghost use Rattle.system_fold.specs.KeptFold.{FoldFields, IsFold, kept_by};
 
     ghost Value = { FoldFields };
 
@@ -78,7 +79,7 @@ impl FoldState {
     /// The state of the empty journal.
     pub fn new(settings: &Settings) -> FoldState
         requires { AreLawful settings.now }
-        ensures { StandsFor result settings.now [] }
+        ensures { StandsForJournal result settings.now [] }
     {
         FoldState {
             holdover: settings.holdover(),
@@ -94,8 +95,8 @@ impl FoldState {
     pub fn step(&mut self, e: &Entry)
         requires lawful { IsLawful (length self.old.feeds) e.now }
         requires room { self.old.length < 2 ^ 22 }
-        ensures { (settings : SettingsFields) (journal : List Entry) → StandsFor self.old settings journal →
-            StandsFor self.new settings (journal ++ e.now ∷ []) }
+        ensures { (settings : SettingsFields) (journal : List Entry) → StandsForJournal self.old settings journal →
+            StandsForJournal self.new settings (journal ++ e.now ∷ []) }
     {
         self.leaps.step(e);
         take_sample(self.feeds.as_mut_slice(), e, self.leaps.cut);
@@ -111,7 +112,7 @@ impl FoldState {
 
     /// The page of the journal.
     pub fn page(&self) -> Page
-        ensures { (settings : SettingsFields) (journal : List Entry) → StandsFor self.now settings journal → result ≡ page_of settings journal }
+        ensures { (settings : SettingsFields) (journal : List Entry) → StandsForJournal self.now settings journal → result ≡ page_of settings journal }
     {
         let inputs = PageInputs {
             length: self.length,

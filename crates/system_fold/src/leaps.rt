@@ -1,6 +1,7 @@
+//! What the feeds of a journal say of leap seconds.
 ghost use Rattle.std.specs.Prelude.{◌≡◌, ◌<◌, ◌+◌, ◌-◌, ◌*◌, ◌^◌, ◌++◌, ◌∷◌, [], List, length, max, nat_lt};
 ghost use Rattle.system_fold.specs.Leaps.{word_in, verdict_in, leap_of, passed_by, passed_among, ahead_of, armed_among, armed_of};
-ghost use Rattle.system_fold.specs.Standing.{KeepsLeaps, best_with, or_older, words_with};
+ghost use Rattle.system_fold.specs.KeptFold.{KeepsLeaps, best_with, or_older, words_with};
 ghost use Rattle.journal_entry.specs.declared.entry.Entry.{Entry};
 
 use crate::moments::{beginning, later};

@@ -1,3 +1,4 @@
+//! Moments of the host's counter: the first one, and the later of two.
 ghost use Rattle.std.specs.Prelude.{◌≡◌, ◌<◌, ◌^◌, max};
 
 use tick_units::Local;

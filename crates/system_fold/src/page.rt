@@ -4,7 +4,7 @@ ghost use Rattle.std.specs.Int.{int_max};
 ghost use Rattle.tick_units.specs.Samples.{IsLength};
 ghost use Rattle.tick_units.specs.Units as units;
 ghost use Rattle.clock_filter.specs.Distance.{root_delay_of, root_dispersion_of};
-ghost use Rattle.cluster_core.specs.Bounds.{AreNear, IsMeasured};
+ghost use Rattle.cluster_core.specs.Bounds.{AreNear, IsWeighable};
 ghost use Rattle.cluster_core.specs.Mean.{mean};
 ghost use Rattle.select_core.specs.Selection.{chime_of};
 ghost use Rattle.system_fold.specs.Fit.{IsFit};
@@ -92,7 +92,7 @@ pub fn page_from(inputs: &PageInputs, peer: &Source, others: &[Source], offset: 
 fn page_of_survivors(inputs: &PageInputs, fit: &[Source], survivors: &Survivors) -> Page
     requires inputs { AreBounded inputs.now }
     requires fit { All (IsFit inputs.now.moment) fit.now }
-    requires measured { All IsMeasured survivors.now }
+    requires measured { All IsWeighable survivors.now }
     requires near { AreNear survivors.now }
     requires long { All IsLong survivors.now }
     ensures { result ≡ pages.page_from inputs.now (selecting.sources_at fit.now survivors.now) (mean survivors.now) }

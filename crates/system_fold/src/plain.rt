@@ -8,8 +8,8 @@ ghost use Rattle.system_fold.specs.Leaps as words;
 ghost use Rattle.system_fold.specs.Page.{page_of};
 ghost use Rattle.system_fold.specs.Samples.{samples_of};
 ghost use Rattle.system_fold.specs.Settings.{AreLawful, IsJournal};
-ghost use Rattle.system_fold.specs.Standing as standing;
-ghost use Rattle.system_fold.specs.Standing.{KeepsLeaps, or_older};
+ghost use Rattle.system_fold.specs.KeptFold as standing;
+ghost use Rattle.system_fold.specs.KeptFold.{KeepsLeaps, or_older};
 
 use crate::feed::Feed;
 use crate::fit::fit_sources;

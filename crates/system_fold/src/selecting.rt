@@ -1,6 +1,6 @@
 //! The sources that agree.
 ghost use Rattle.std.specs.Prelude.{◌≡◌, ◌≤◌, ◌<◌, ◌^◌, ◌-ℤ◌, ◌≤ℤ◌, ◌==◌, ◌+◌, ◌++◌, ◌∷◌, [], Some, pos, List, All, find, length, map, IsTrue, IfSome};
-ghost use Rattle.cluster_core.specs.Bounds.{IsMeasured};
+ghost use Rattle.cluster_core.specs.Bounds.{IsWeighable};
 ghost use Rattle.select_core.specs.Selection.{are_measured, chime_of, is_in, is_measured};
 ghost use Rattle.system_fold.specs.Fit.{IsFit};
 ghost use Rattle.system_fold.specs.Selecting as selecting;
@@ -54,7 +54,7 @@ pub fn agreed(fit: &[Source], now: Local) -> Option<Chime>
 fn survivor_of(source: &Source, now: Local) -> Survivor
     requires { IsFit now source.now }
     ensures value { result ≡ selecting.survivor_of now source.now }
-    ensures measured { IsMeasured result }
+    ensures measured { IsWeighable result }
 {
     Survivor {
         feed: source.feed,
@@ -70,7 +70,7 @@ fn add_if_in(survivors: &mut Survivors, chime: &Chime, source: &Source, now: Loc
     requires room { length survivors.old < 16 }
     requires fit { IsFit now source.now }
     ensures value { survivors.new ≡ survivors.old ++ selecting.survivors_in (Some chime.now) now (source.now ∷ []) }
-    ensures measured { All IsMeasured survivors.old → All IsMeasured survivors.new }
+    ensures measured { All IsWeighable survivors.old → All IsWeighable survivors.new }
     ensures few { length survivors.new ≤ length survivors.old + 1 }
 {
     if chime.holds(source.figures.offset) {
@@ -83,7 +83,7 @@ pub fn survivors_in(chime: &Chime, fit: &[Source], now: Local) -> Survivors
     requires few { length fit.now ≤ 16 }
     requires fit { All (IsFit now) fit.now }
     ensures value { result ≡ selecting.survivors_in (Some chime.now) now fit.now }
-    ensures measured { All IsMeasured result }
+    ensures measured { All IsWeighable result }
 {
     let mut survivors = Survivors::new();
     for source in fit {

@@ -1,3 +1,4 @@
+//! What a page is reckoned by besides the journal.
 ghost use Rattle.std.specs.Prelude.{◌≡◌, ◌++◌, ◌∷◌, [], ◌<◌, ◌≤◌, length};
 ghost use Rattle.system_fold.specs.Settings.{SettingsFields};
 

@@ -1,3 +1,4 @@
+//! The samples of a source, and what they say.
 ghost use Rattle.std.specs.Prelude.{◌≡◌, ◌<◌, ◌≤◌};
 ghost use Rattle.journal_entry.specs.Lawful.{IsLawfulWhat};
 ghost use Rattle.tick_units.specs.Years.{end_of_told};

@@ -1,3 +1,4 @@
+//! Pages of usual journals.
 ghost use Rattle.std.specs.Prelude.{◌<◌};
 
 use crate::Settings;

@@ -1,3 +1,4 @@
+-- What the search leaves open of `figures::dispersion_of`.
 use Rattle.std.proofs.Common.{◌≡◌, ◌+◌, ◌<◌, ◌^◌, ◌+ℤ◌, unsigned_abs, arith, sym, ◌∙◌, ap, subst}
 use Rattle.tick_units.specs.Units.{ceil_div}
 use Rattle.clock_filter.specs.Figures.{staged}

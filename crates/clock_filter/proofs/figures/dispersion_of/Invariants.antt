@@ -1,3 +1,4 @@
+-- What stays true in the loops of `figures::dispersion_of`.
 use Rattle.std.proofs.Common.{◌≡◌}
 use Rattle.clock_filter.specs.Figures as figures
 use Rattle.clock_filter.proofs.StageLaws.{Within}

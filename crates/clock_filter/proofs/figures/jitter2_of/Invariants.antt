@@ -1,3 +1,4 @@
+-- What stays true in the loops of `figures::jitter2_of`.
 use Rattle.std.proofs.Common.{◌≡◌, ◌≤◌, ◌*◌, ◌^◌, take, sum_by}
 use Rattle.tick_units.specs.Units.{square}
 use Rattle.clock_filter.proofs.figures.jitter2_of.Given as goal

@@ -1,3 +1,4 @@
+-- What stays true in the loops of `figures::newest_of`.
 use Rattle.std.proofs.Common.{◌≡◌, ◌∷◌, take}
 use Rattle.clock_filter.specs.Figures as figures
 use Rattle.clock_filter.proofs.figures.newest_of.Given as goal

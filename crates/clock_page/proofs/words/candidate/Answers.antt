@@ -1,3 +1,4 @@
+-- What the search leaves open of `words::candidate`.
 use Rattle.std.proofs.Common.{◌/◌, ◌%◌, ◌^◌, ◌≤◌, true, slice_index, Some, sym, ap, ◌∙◌, arith}
 use Rattle.clock_page.specs.Page.{unsynchronised}
 use Rattle.clock_page.proofs.PageLaws.{anchor-below, high-below, synced-page, unsynced-page}

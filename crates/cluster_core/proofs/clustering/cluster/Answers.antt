@@ -1,5 +1,6 @@
+-- What the search leaves open of `clustering::cluster`.
 use Rattle.std.proofs.Common.{List, sym, ap, ◌∙◌, subst}
-use Rattle.cluster_core.specs.Bounds.{IsMeasured}
+use Rattle.cluster_core.specs.Bounds.{IsWeighable}
 use Rattle.cluster_core.specs.Clusters.{Clusters, Settles, may_precede}
 use Rattle.tick_units.specs.Orders.{in_order}
 use Rattle.cluster_core.specs.declared.survivor.Survivor.{Survivor}
@@ -28,7 +29,7 @@ pub returns-clause-some : goal.returns-clause-some
 returns-clause-some c = clusters-some c.args.s.now c.of.result (left c)
 
 pub returns-clause-measured : goal.returns-clause-measured
-returns-clause-measured c = clusters-all IsMeasured c.args.s.now c.of.result (left c)
+returns-clause-measured c = clusters-all IsWeighable c.args.s.now c.of.result (left c)
 
 pub returns-clause-near : goal.returns-clause-near
 returns-clause-near c = clusters-near c.args.s.now c.of.result (left c)

@@ -1,3 +1,4 @@
+-- What stays true in the loops of `clustering::selection_jitter_of`.
 use Rattle.std.proofs.Common.{◌≡◌, ◌≤◌, ◌*◌, ◌^◌, take, sum_by}
 use Rattle.tick_units.specs.Units.{square}
 use Rattle.cluster_core.proofs.clustering.selection_jitter_of.Given as goal

@@ -1,3 +1,4 @@
+-- What the search leaves open of `clustering::settle`.
 use Rattle.std.proofs.Common.{◌≡◌, List, false, true, sym, subst}
 use Rattle.cluster_core.specs.Clusters.{Discards, is_at_rest, IsWorst}
 use Rattle.cluster_core.specs.Clusters.Settles.{stays, goes_on}

@@ -1,3 +1,4 @@
+-- What stays true in the loops of `clustering::settle`.
 use Rattle.std.proofs.Common.{List}
 use Rattle.arrayvec.specs.ArrayVec.{array_vec_len}
 use Rattle.cluster_core.specs.Clusters.{Settles}

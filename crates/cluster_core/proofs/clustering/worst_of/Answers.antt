@@ -1,3 +1,4 @@
+-- What the search leaves open of `clustering::worst_of`.
 use Rattle.std.proofs.Common.{arith}
 use Rattle.cluster_core.proofs.WorstLaws.{worst-is}
 use Rattle.cluster_core.proofs.clustering.worst_of.Goals as goal

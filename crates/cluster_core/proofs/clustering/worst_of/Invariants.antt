@@ -1,3 +1,4 @@
+-- What stays true in the loops of `clustering::worst_of`.
 use Rattle.cluster_core.specs.Clusters.{selection_jitter}
 use Rattle.cluster_core.proofs.WorstLaws.{IsWorstSoFar}
 use Rattle.cluster_core.proofs.clustering.worst_of.Given as goal

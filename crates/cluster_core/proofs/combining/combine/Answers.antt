@@ -1,3 +1,4 @@
+-- What the search leaves open of `combining::combine`.
 use Rattle.std.proofs.Common.{◌<◌, ◌^◌, ◌≤ℤ◌, length, unsigned_abs, List, sym, ◌∙◌, subst}
 use Rattle.std.specs.Prelude.{All}
 use Rattle.cluster_core.specs.Bounds.{AreNear}

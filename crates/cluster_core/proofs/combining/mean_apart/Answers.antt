@@ -1,3 +1,4 @@
+-- What the search leaves open of `combining::mean_apart`.
 use Rattle.std.proofs.Common.{◌≡◌, ◌+◌, ◌-ℤ◌, ◌≤◌, ◌^◌, List, [], ◌∷◌, ◌++◌, sym, ap, ◌∙◌, subst, take, unsigned_abs, arith}
 use Rattle.std.proofs.lemmas.List.{take_all, take_more}
 use Rattle.cluster_core.specs.declared.survivor.Survivor.{Survivor}

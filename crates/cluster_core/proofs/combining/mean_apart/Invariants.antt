@@ -1,3 +1,4 @@
+-- What stays true in the loops of `combining::mean_apart`.
 use Rattle.std.proofs.Common.{take}
 use Rattle.cluster_core.proofs.MeanLaws.{AreSummed}
 use Rattle.cluster_core.proofs.combining.mean_apart.Given as goal

@@ -1,3 +1,4 @@
+-- What the search leaves open of `tests::survivors_of`.
 use Rattle.std.proofs.Common.{◌^◌, pos, lit≤}
 use Rattle.std.specs.Prelude.{neg_ℤ}
 use Rattle.cluster_core.proofs.tests.survivors_of.Goals as goal

@@ -1,3 +1,4 @@
+-- What the search leaves open of `grammar::with_options`.
 use Rattle.std.proofs.Common.{◌∙◌, ap₂, sym}
 use Rattle.clap.specs.Words.{app_of, with_rule}
 use Rattle.std.proofs.lemmas.List.Sums.{fold_more}

@@ -1,3 +1,4 @@
+-- What stays true in the loops of `grammar::with_options`.
 use Rattle.std.proofs.Common.{◌≡◌, fold, take}
 use Rattle.clap.specs.Words.{app_of, with_rule}
 use Rattle.command_words.specs.Matches.{option_rule}

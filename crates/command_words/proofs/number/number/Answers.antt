@@ -1,3 +1,4 @@
+-- What the search leaves open of `number::number`.
 use Rattle.std.proofs.Common.{◌≡◌, Ok, rules}
 use Rattle.command_words.proofs.NumberLaws.{plain_of, read, said}
 use Rattle.command_words.proofs.number.number.Goals as goal

@@ -1,3 +1,4 @@
+-- What the search leaves open of `reading::read_words`.
 use Rattle.std.proofs.Common.{rules, ◌≡◌, ◌∙◌, ℕ, List, sym, ap, subst, inl, inr, map, option_map, true, false, [], Bool, None, is_some}
 use Rattle.std.proofs.lemmas.Bool.{true≢false}
 use Rattle.std.proofs.lemmas.Option.{same_Some}

@@ -1,3 +1,4 @@
+-- What the search leaves open of `rows::may_have`.
 use Rattle.std.proofs.Common.{rules}
 use Rattle.command_words.proofs.RowLaws.{may_have_some}
 use Rattle.command_words.proofs.rows.may_have.Goals as goal

@@ -1,3 +1,4 @@
+-- What the search leaves open of `rows::value`.
 use Rattle.std.proofs.Common.{◌∙◌}
 use Rattle.clap.specs.Words.{found_of}
 use Rattle.clap.proofs.WalkLemmas.{first_value-rows}

@@ -1,3 +1,4 @@
+-- What the search leaves open of `fields::span_of`.
 use Rattle.std.proofs.Common.{rules}
 use Rattle.journal_entry.proofs.DigitLaws.{signed_behind}
 use Rattle.journal_entry.proofs.fields.span_of.Goals as goal

@@ -1,3 +1,4 @@
+-- What stays true in the loops of `fields::value_of`.
 use Rattle.std.proofs.Common.{◌≡◌, ◌<◌, ◌^◌, take}
 use Rattle.std.specs.Str.Parse.{digits_value}
 use Rattle.journal_entry.proofs.fields.value_of.Given as goal

@@ -1,3 +1,4 @@
+-- What the search leaves open of `read::candidate`.
 use Rattle.std.proofs.Common.{◌≡◌, ◌∷◌, Some, decimal, ◌∙◌}
 use Rattle.journal_entry.specs.Reading.{HasFields}
 use Rattle.journal_entry.specs.Texts.{what_fields}

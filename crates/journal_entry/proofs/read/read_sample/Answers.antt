@@ -1,3 +1,4 @@
+-- What the search leaves open of `read::read_sample`.
 use Rattle.std.proofs.Common.{[], ◌∷◌, decimal}
 use Rattle.std.specs.Fmt.{signed_decimal}
 use Rattle.journal_entry.specs.Texts.{address_text}

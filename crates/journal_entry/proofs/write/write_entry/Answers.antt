@@ -1,3 +1,4 @@
+-- What the search leaves open of `write::write_entry`.
 use Rattle.std.proofs.Common.{◌≡◌, drop, rules}
 use Rattle.journal_entry.proofs.WritingLaws.{adds_both}
 use Rattle.journal_entry.proofs.write.write_entry.Goals as goal

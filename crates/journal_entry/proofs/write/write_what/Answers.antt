@@ -1,3 +1,4 @@
+-- What the search leaves open of `write::write_what`.
 use Rattle.journal_entry.proofs.WritingLaws.{adds_last, adds_then}
 use Rattle.journal_entry.proofs.write.write_what.Goals as goal
 

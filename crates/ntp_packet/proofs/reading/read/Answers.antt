@@ -1,3 +1,4 @@
+-- What the search leaves open of `reading::read`.
 use Rattle.std.proofs.Common.{◌≡◌, ◌/◌, ◌%◌, ◌∙◌, slice_index, bit_and, w8, to_z, of_z, rules}
 use Rattle.std.proofs.lemmas.Int.{to_z-of_z}
 use Rattle.std.proofs.lemmas.Nat.{and_mask}

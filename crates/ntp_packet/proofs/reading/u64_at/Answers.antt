@@ -1,3 +1,4 @@
+-- What the search leaves open of `reading::u64_at`.
 use Rattle.std.proofs.Common.{◌∙◌}
 use Rattle.ntp_packet.proofs.Pieces.{number_at}
 use Rattle.ntp_packet.proofs.reading.u64_at.Goals as goal

@@ -1,3 +1,4 @@
+-- What the search leaves open of `writing::put_u64`.
 use Rattle.std.proofs.Common.{arith, refl}
 use Rattle.byteorder.specs.Endian.{big_bytes}
 use Rattle.ntp_packet.proofs.Pieces.{front_more}

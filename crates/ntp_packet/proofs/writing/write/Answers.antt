@@ -1,3 +1,4 @@
+-- What the search leaves open of `writing::write`.
 use Rattle.std.proofs.Common.{◌≡◌, ℕ, List, [], ◌∷◌, ◌++◌, sym, ap, ◌∙◌, arith, rules}
 use Rattle.std.specs.Int.{w8, cast_unsigned}
 use Rattle.std.proofs.lemmas.Int.{to_z-of_z}

@@ -1,3 +1,4 @@
+-- What the search leaves open of `exchange::precision_units`.
 use Rattle.std.proofs.Common.{◌≤◌, ◌^◌, arith}
 use Rattle.poll_core.proofs.Lengths.{power-most}
 use Rattle.poll_core.proofs.exchange.precision_units.Goals as goal

@@ -1,3 +1,4 @@
+-- What the search leaves open of `datagram::decode`.
 use Rattle.std.proofs.Common.{length}
 use Rattle.script_line.proofs.DatagramLaws.{decodes}
 use Rattle.script_line.proofs.datagram.decode.Goals as goal

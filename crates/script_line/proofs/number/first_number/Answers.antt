@@ -1,3 +1,4 @@
+-- What the search leaves open of `number::first_number`.
 use Rattle.std.proofs.Common.{rules, ◌≡◌, ◌+◌, ◌*◌, ◌<◌, ap, subst, length, get_or, sym, ◌∙◌, arith}
 use Rattle.std.specs.Char.{digit_value}
 use Rattle.script_line.specs.Reading.{SaysSoFar}

@@ -1,3 +1,4 @@
+-- What stays true in the loops of `number::first_number`.
 use Rattle.std.proofs.Common.{◌≤◌}
 use Rattle.script_line.specs.Reading.{SaysSoFar}
 use Rattle.script_line.proofs.number.first_number.Given as goal

@@ -1,3 +1,4 @@
+-- What the search leaves open of `number::number_of`.
 use Rattle.std.proofs.Common.{◌≡◌, subst, refl, take, decimal, arith}
 use Rattle.script_line.proofs.NumberLaws.{is_text, not_empty, not_padded}
 use Rattle.script_line.proofs.number.number_of.Goals as goal

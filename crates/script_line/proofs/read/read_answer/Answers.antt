@@ -1,3 +1,4 @@
+-- What the search leaves open of `read::read_answer`.
 use Rattle.std.proofs.Common.{◌≡◌, [], ◌∷◌, Some, decimal, refl}
 use Rattle.hex.specs.Hex.{encode_lower}
 use Rattle.script_line.specs.declared.line.ScriptLine.TheVariants.{Answer}

@@ -1,3 +1,4 @@
+-- What the search leaves open of `read::read_ask`.
 use Rattle.std.proofs.Common.{◌≡◌, [], ◌∷◌, Some, decimal, refl}
 use Rattle.script_line.proofs.FieldLaws.{no_fields, left_over}
 use Rattle.script_line.specs.declared.line.ScriptLine.TheVariants.{Ask}

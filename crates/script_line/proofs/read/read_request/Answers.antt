@@ -1,3 +1,4 @@
+-- What the search leaves open of `read::read_request`.
 use Rattle.std.proofs.Common.{◌≡◌, ◌<◌, ◌≤◌, ◌^◌, [], ◌∷◌, Some, decimal, refl, arith}
 use Rattle.hex.specs.Hex.{encode_lower}
 use Rattle.script_line.specs.declared.line.ScriptLine.TheVariants.{Request}

@@ -1,3 +1,4 @@
+-- What the search leaves open of `read::read_swap`.
 use Rattle.std.proofs.Common.{◌≡◌, [], Some, refl}
 use Rattle.script_line.proofs.FieldLaws.{no_fields, left_over}
 use Rattle.script_line.specs.declared.line.ScriptLine.TheVariants.{Swap}

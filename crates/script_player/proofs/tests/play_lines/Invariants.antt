@@ -1,4 +1,5 @@
-use Rattle.script_player.specs.Standing.{IsReady}
+-- What stays true in the loops of `tests::play_lines`.
+use Rattle.script_player.specs.KeptPlayer.{IsReady}
 use Rattle.script_player.proofs.tests.play_lines.Given as goal
 
 abbrev pub invariant-loop-words : goal.invariant-loop-words

@@ -1,3 +1,4 @@
+-- What the search leaves open of `intersection::chime_allowing`.
 use Rattle.std.proofs.Common.{sym, ◌∙◌}
 use Rattle.select_core.proofs.NarrowLaws.{chime-narrow}
 use Rattle.select_core.proofs.intersection.chime_allowing.Goals as goal

@@ -1,3 +1,4 @@
+-- What the search leaves open of `intersection::low_allowing`.
 use Rattle.std.proofs.Common.{sym, ap, ◌∙◌}
 use Rattle.std.specs.Prelude.{int_lt}
 use Rattle.select_core.specs.Selection.{is_held, lower}

@@ -1,3 +1,4 @@
+-- What stays true in the loops of `intersection::low_allowing`.
 use Rattle.std.proofs.Common.{◌≡◌, take, map}
 use Rattle.std.specs.Prelude.{filter}
 use Rattle.select_core.specs.Selection.{is_held, least, lower}

@@ -1,3 +1,4 @@
+-- What stays true in the loops of `intersection::outside`.
 use Rattle.std.proofs.Common.{◌≡◌, ◌≤◌, take}
 use Rattle.select_core.specs.Selection as selection
 use Rattle.select_core.proofs.intersection.outside.Given as goal

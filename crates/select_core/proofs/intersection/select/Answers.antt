@@ -1,3 +1,4 @@
+-- What the search leaves open of `intersection::select`.
 use Rattle.std.proofs.Common.{sym, ◌∙◌, ◌-◌, arith, length}
 use Rattle.select_core.specs.Selection.{chime_allowing}
 use Rattle.select_core.proofs.SelectionLaws.{first-none, first-nowhere, first-some, half-none}

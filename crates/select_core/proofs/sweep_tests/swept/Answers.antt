@@ -1,3 +1,4 @@
+-- What the search leaves open of `sweep_tests::swept`.
 use Rattle.std.proofs.Common.{ap, arith, length}
 use Rattle.select_core.proofs.StandingLaws.{others-few, with-few}
 use Rattle.select_core.proofs.sweep_tests.swept.Goals as goal

@@ -1,3 +1,4 @@
+-- What stays true in the loops of `sweep_tests::swept`.
 use Rattle.std.proofs.Common.{◌≤◌, length}
 use Rattle.select_core.proofs.sweep_tests.swept.Given as goal
 

@@ -1,3 +1,4 @@
+-- What stays true in the loops of `address::are_digits`.
 use Rattle.std.proofs.Common.{◌≡◌, drop}
 use Rattle.std.specs.Str.{all_ascii_digits}
 use Rattle.station_config.proofs.address.are_digits.Given as goal

@@ -1,3 +1,4 @@
+-- What the search leaves open of `address::octet`.
 use Rattle.std.proofs.Common.{◌∙◌, sym, ap}
 use Rattle.tick_units.specs.Log.{is_number}
 use Rattle.station_config.proofs.Octets.{octet_parsed}

@@ -1,3 +1,4 @@
+-- What stays true in the loops of `counts::first_over`.
 use Rattle.std.proofs.Common.{◌≡◌, drop, find, map, nat_lt}
 use Rattle.station_config.specs.Finding.{count_seen}
 use Rattle.station_config.proofs.counts.first_over.Given as goal

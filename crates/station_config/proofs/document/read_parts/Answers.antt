@@ -1,3 +1,4 @@
+-- What the search leaves open of `document::read_parts`.
 use Rattle.std.proofs.Common.{◌∙◌, sym, ap, map, subst}
 use Rattle.std.proofs.lemmas.Result.{err_from_is_err_and}
 use Rattle.toml.specs.View.{table_view}

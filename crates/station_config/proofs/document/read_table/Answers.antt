@@ -1,3 +1,4 @@
+-- What the search leaves open of `document::read_table`.
 use Rattle.std.proofs.Common.{◌∙◌, sym, ap, filter, find, map, nat_lt, Bool, slice_get, subst}
 use Rattle.toml.specs.View.{table_view}
 use Rattle.station_config.specs.Faults.{Count, counts_of, excess_of, too_many}

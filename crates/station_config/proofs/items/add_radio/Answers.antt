@@ -1,3 +1,4 @@
+-- What the search leaves open of `items::add_radio`.
 use Rattle.std.proofs.Common.{[], sym, subst}
 use Rattle.toml.specs.View.{table_view, view}
 use Rattle.station_config.specs.Faults.{bad_in, keys_at, sheets}

@@ -1,3 +1,4 @@
+-- What stays true in the loops of `items::read_links`.
 use Rattle.std.proofs.Common.{drop}
 use Rattle.toml.specs.View.{items_view}
 use Rattle.station_config.specs.Rows.{port_row, tables_from}

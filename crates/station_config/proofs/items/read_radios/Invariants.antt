@@ -1,6 +1,7 @@
+-- What stays true in the loops of `items::read_radios`.
 use Rattle.std.proofs.Common.{drop, map}
 use Rattle.toml.specs.View.{items_view}
-use Rattle.station_config.specs.Inside.{radio_kept}
+use Rattle.station_config.specs.KeptStation.{radio_kept}
 use Rattle.station_config.specs.Rows.{tables_from}
 use Rattle.station_config.specs.Values.{radio_of}
 use Rattle.station_config.specs.declared.keys.Part.TheVariants as part

@@ -1,7 +1,8 @@
+-- What the search leaves open of `items::read_servers`.
 use Rattle.std.proofs.Common.{◌≡◌, ◌∙◌, ◌+◌, ◌++◌, sym, ap, drop, map, subst}
 use Rattle.std.proofs.lemmas.Result.{err_from_is_err_and}
 use Rattle.toml.specs.View.{items_view, view}
-use Rattle.station_config.specs.Inside.{server_fields}
+use Rattle.station_config.specs.KeptStation.{server_fields}
 use Rattle.station_config.specs.Rows.{table_at, tables_from}
 use Rattle.station_config.specs.Values.{server_of}
 use Rattle.station_config.specs.declared.keys.Part.TheVariants as part

@@ -1,6 +1,7 @@
+-- What stays true in the loops of `items::read_servers`.
 use Rattle.std.proofs.Common.{drop, map}
 use Rattle.toml.specs.View.{items_view}
-use Rattle.station_config.specs.Inside.{server_fields}
+use Rattle.station_config.specs.KeptStation.{server_fields}
 use Rattle.station_config.specs.Rows.{tables_from}
 use Rattle.station_config.specs.Values.{server_of}
 use Rattle.station_config.specs.declared.keys.Part.TheVariants as part

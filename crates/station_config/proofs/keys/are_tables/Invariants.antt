@@ -1,3 +1,4 @@
+-- What stays true in the loops of `keys::are_tables`.
 use Rattle.std.proofs.Common.{◌≡◌, drop}
 use Rattle.toml.specs.Text.{are_tables}
 use Rattle.toml.specs.View.{items_view}

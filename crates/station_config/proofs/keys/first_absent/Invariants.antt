@@ -1,3 +1,4 @@
+-- What stays true in the loops of `keys::first_absent`.
 use Rattle.std.proofs.Common.{◌≡◌, drop, filter, is_none, map}
 use Rattle.toml.specs.Data.{get_member}
 use Rattle.toml.specs.View.{table_view}

@@ -1,3 +1,4 @@
+-- What the search leaves open of `keys::first_in_arrays`.
 use Rattle.std.proofs.Common.{◌∙◌, ◌++◌, sym, ap, slice_get}
 use Rattle.toml.specs.View.{table_view}
 use Rattle.station_config.specs.Finding.{keys_for, spot_text}

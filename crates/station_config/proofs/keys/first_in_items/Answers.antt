@@ -1,3 +1,4 @@
+-- What the search leaves open of `keys::first_in_items`.
 use Rattle.std.proofs.Common.{◌≡◌, ◌∙◌, ◌+◌, ◌++◌, sym, ap, drop, get_or, slice_get}
 use Rattle.toml.specs.View.{view, items_view}
 use Rattle.station_config.specs.Faults.{keys_at, sheets}

@@ -1,3 +1,4 @@
+-- What stays true in the loops of `keys::first_in_items`.
 use Rattle.std.proofs.Common.{◌≡◌, drop}
 use Rattle.toml.specs.View.{items_view}
 use Rattle.station_config.specs.Faults.{keys_at, sheets}

@@ -1,3 +1,4 @@
+-- What stays true in the loops of `keys::first_unknown`.
 use Rattle.std.proofs.Common.{◌≡◌, filter, not}
 use Rattle.toml.specs.View.{members_view}
 use Rattle.station_config.specs.Faults.{is_known, keys_of, rows_of}

@@ -1,3 +1,4 @@
+-- What the search leaves open of `keys::is_known`.
 use Rattle.std.proofs.Common.{◌∙◌, sym, ap}
 use Rattle.std.specs.List.{list_any}
 use Rattle.std.specs.Str.{bytes_eq}

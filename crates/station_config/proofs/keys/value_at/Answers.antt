@@ -1,3 +1,4 @@
+-- What the search leaves open of `keys::value_at`.
 use Rattle.toml.proofs.Views.{table_get}
 use Rattle.station_config.proofs.keys.value_at.Goals as goal
 

@@ -1,3 +1,4 @@
+-- What the search leaves open of `reading::read_station`.
 use Rattle.toml.specs.View.{table_view}
 use Rattle.station_config.specs.Faults.{faults_of}
 use Rattle.station_config.proofs.Orders.{refuses}

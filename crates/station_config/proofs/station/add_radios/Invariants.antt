@@ -1,5 +1,6 @@
+-- What stays true in the loops of `station::add_radios`.
 use Rattle.std.proofs.Common.{◌≡◌, ◌++◌, map, take}
-use Rattle.station_config.specs.Inside.{radio_kept}
+use Rattle.station_config.specs.KeptStation.{radio_kept}
 use Rattle.station_config.specs.Station.{kind_of_radio}
 use Rattle.station_config.proofs.station.add_radios.Given as goal
 

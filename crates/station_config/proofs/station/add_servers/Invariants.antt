@@ -1,5 +1,6 @@
+-- What stays true in the loops of `station::add_servers`.
 use Rattle.std.proofs.Common.{◌≡◌, ◌++◌, map, take}
-use Rattle.station_config.specs.Inside.{server_fields}
+use Rattle.station_config.specs.KeptStation.{server_fields}
 use Rattle.station_config.specs.Station.{kind_of_server}
 use Rattle.station_config.proofs.station.add_servers.Given as goal
 

@@ -1,3 +1,4 @@
+-- What the search leaves open of `fit::find_fit`.
 use Rattle.std.proofs.Common.{length}
 use Rattle.system_fold.proofs.FitLaws.{fit-none, fit-push}
 use Rattle.system_fold.proofs.SweepLaws.{room-next, standing-all, standing-first, standing-next}

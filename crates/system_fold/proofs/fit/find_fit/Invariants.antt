@@ -1,3 +1,4 @@
+-- What stays true in the loops of `fit::find_fit`.
 use Rattle.std.proofs.Common.{◌≡◌, ◌++◌, map, take}
 use Rattle.system_fold.specs.Fit.{AreFit, from_feed}
 use Rattle.system_fold.specs.Selecting.{candidate_of}

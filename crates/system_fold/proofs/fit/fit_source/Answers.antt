@@ -1,3 +1,4 @@
+-- What the search leaves open of `fit::fit_source`.
 use Rattle.std.proofs.Common.{◌∙◌, sym}
 use Rattle.system_fold.proofs.FitLaws.{newest-by, fit-by}
 use Rattle.system_fold.proofs.fit.fit_source.Goals as goal

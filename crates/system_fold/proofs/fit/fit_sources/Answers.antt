@@ -1,3 +1,4 @@
+-- What the search leaves open of `fit::fit_sources`.
 use Rattle.system_fold.proofs.FitLaws.{fit-push}
 use Rattle.system_fold.proofs.fit.fit_sources.Goals as goal
 

@@ -1,3 +1,4 @@
+-- What stays true in the loops of `fit::fit_sources`.
 use Rattle.std.proofs.Common.{take}
 use Rattle.system_fold.specs.Fit.{AreFit}
 use Rattle.system_fold.proofs.fit.fit_sources.Given as goal

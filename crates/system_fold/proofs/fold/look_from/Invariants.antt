@@ -1,3 +1,4 @@
+-- What stays true in the loops of `fold::look_from`.
 use Rattle.std.proofs.Common.{◌≡◌}
 use Rattle.system_fold.proofs.fold.look_from.Given as goal
 

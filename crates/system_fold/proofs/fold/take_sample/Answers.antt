@@ -1,3 +1,4 @@
+-- What the search leaves open of `fold::take_sample`.
 use Rattle.std.proofs.Common.{◌≡◌, ◌<◌, ℕ, ◌∙◌, ap, length, subst, List, get_or}
 use Rattle.system_fold.specs.declared.feed.Feed.{Feed}
 use Rattle.system_fold.proofs.FeedLaws.{feeds-taken}

@@ -1,3 +1,4 @@
+-- What the search leaves open of `journals::is_journal`.
 use Rattle.std.proofs.Common.{ℕ, length, arith, subst}
 use Rattle.system_fold.specs.Settings.{IsKept}
 use Rattle.system_fold.proofs.StandingLaws.{all-more, all-seen}

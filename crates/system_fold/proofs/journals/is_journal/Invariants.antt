@@ -1,3 +1,4 @@
+-- What stays true in the loops of `journals::is_journal`.
 use Rattle.std.proofs.Common.{length, take}
 use Rattle.std.specs.Prelude.{All}
 use Rattle.system_fold.specs.Settings.{IsKept}

@@ -1,3 +1,4 @@
+-- What stays true in the loops of `leaps::last_passed`.
 use Rattle.std.proofs.Common.{◌≡◌, take}
 use Rattle.system_fold.specs.Leaps.{passed_among}
 use Rattle.system_fold.proofs.leaps.last_passed.Given as goal

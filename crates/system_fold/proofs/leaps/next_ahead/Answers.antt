@@ -1,7 +1,8 @@
+-- What the search leaves open of `leaps::next_ahead`.
 use Rattle.std.proofs.Common.{◌∙◌, ap, sym, rules}
 use Rattle.std.specs.Prelude.{Option, nat_lt}
 use Rattle.system_fold.specs.Leaps.{ahead_of, leap_of}
-use Rattle.system_fold.specs.Standing.{best_with}
+use Rattle.system_fold.specs.KeptFold.{best_with}
 use Rattle.system_fold.specs.declared.leaps.Leap.{Leap}
 use Rattle.system_fold.proofs.LeapLaws.{armed-more}
 use Rattle.system_fold.proofs.leaps.next_ahead.Goals as goal

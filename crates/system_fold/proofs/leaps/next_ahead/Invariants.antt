@@ -1,3 +1,4 @@
+-- What stays true in the loops of `leaps::next_ahead`.
 use Rattle.std.proofs.Common.{◌≡◌, take}
 use Rattle.system_fold.specs.Leaps.{armed_among}
 use Rattle.system_fold.proofs.leaps.next_ahead.Given as goal

@@ -1,3 +1,4 @@
+-- What stays true in the loops of `page::fresh`.
 use Rattle.std.proofs.Common.{◌≡◌, ◌∷◌, take}
 use Rattle.system_fold.specs.Fields.{fresh_of}
 use Rattle.system_fold.proofs.page.fresh.Given as goal

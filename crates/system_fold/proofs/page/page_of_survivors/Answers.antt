@@ -1,3 +1,4 @@
+-- What the search leaves open of `page::page_of_survivors`.
 use Rattle.std.proofs.Common.{◌∙◌, sym, ap, pos, ◌^◌, ◌-◌}
 use Rattle.system_fold.specs.Selecting.{sources_at}
 use Rattle.system_fold.proofs.PageLaws.{peer-fit, length-between, long-least, long-most, nil-below, page-empty}

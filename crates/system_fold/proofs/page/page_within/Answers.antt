@@ -1,3 +1,4 @@
+-- What the search leaves open of `page::page_within`.
 use Rattle.std.proofs.Common.{◌∙◌, sym, subst, ◌^◌, pos, ◌-ℤ◌, ◌≤ℤ◌}
 use Rattle.std.specs.Prelude.{Option, IfSome}
 use Rattle.select_core.specs.declared.chime.Chime.{Chime}

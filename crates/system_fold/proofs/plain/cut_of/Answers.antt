@@ -1,3 +1,4 @@
+-- What the search leaves open of `plain::cut_of`.
 use Rattle.system_fold.proofs.PlainLaws.{cut-more}
 use Rattle.system_fold.proofs.plain.cut_of.Goals as goal
 

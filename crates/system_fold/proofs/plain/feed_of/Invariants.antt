@@ -1,3 +1,4 @@
+-- What stays true in the loops of `plain::feed_of`.
 use Rattle.std.proofs.Common.{◌≡◌, take}
 use Rattle.clock_filter.specs.Held.{StandsFor}
 use Rattle.system_fold.specs.Samples.{samples_of}

@@ -1,3 +1,4 @@
+-- What the search leaves open of `plain::feeds_of`.
 use Rattle.std.proofs.Common.{arith}
 use Rattle.system_fold.proofs.PlainLaws.{feeds-push-more}
 use Rattle.system_fold.proofs.plain.feeds_of.Goals as goal

@@ -1,5 +1,6 @@
+-- What stays true in the loops of `plain::feeds_of`.
 use Rattle.std.proofs.Common.{◌≡◌, ◌≤◌, length, take}
-use Rattle.system_fold.specs.Standing.{feeds_of}
+use Rattle.system_fold.specs.KeptFold.{feeds_of}
 use Rattle.system_fold.proofs.plain.feeds_of.Given as goal
 
 abbrev pub invariant-loop-number : goal.invariant-loop-number

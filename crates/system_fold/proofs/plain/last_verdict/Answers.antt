@@ -1,3 +1,4 @@
+-- What the search leaves open of `plain::last_verdict`.
 use Rattle.system_fold.proofs.PlainLaws.{verdict-more}
 use Rattle.system_fold.proofs.plain.last_verdict.Goals as goal
 

@@ -1,3 +1,4 @@
+-- What stays true in the loops of `plain::last_verdict`.
 use Rattle.std.proofs.Common.{◌≡◌, take}
 use Rattle.system_fold.specs.Leaps.{last_verdict}
 use Rattle.system_fold.proofs.plain.last_verdict.Given as goal

@@ -1,3 +1,4 @@
+-- What stays true in the loops of `plain::now_of`.
 use Rattle.std.proofs.Common.{◌≡◌, take}
 use Rattle.system_fold.specs.Journal.{now_of}
 use Rattle.system_fold.proofs.plain.now_of.Given as goal

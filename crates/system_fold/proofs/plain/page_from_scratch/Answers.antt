@@ -1,3 +1,4 @@
+-- What the search leaves open of `plain::page_from_scratch`.
 use Rattle.std.proofs.Common.{◌∙◌, sym, ap, subst, refl, length, List}
 use Rattle.std.specs.Prelude.{All}
 use Rattle.system_fold.specs.Fit.{IsSound, fit_feeds}

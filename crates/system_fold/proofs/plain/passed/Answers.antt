@@ -1,3 +1,4 @@
+-- What the search leaves open of `plain::passed`.
 use Rattle.std.proofs.Common.{ℕ, List, ap, ◌∙◌}
 use Rattle.std.specs.Prelude.{Option}
 use Rattle.system_fold.specs.Journal.{now_of}

@@ -1,3 +1,4 @@
+-- What the search leaves open of `plain::take_own`.
 use Rattle.std.proofs.Common.{List, sym, subst, rules}
 use Rattle.clock_filter.specs.Held.{StandsFor}
 use Rattle.clock_filter.specs.declared.taken.Taken.{Taken}

@@ -1,3 +1,4 @@
+-- What the search leaves open of `plain::word_of`.
 use Rattle.system_fold.proofs.PlainLaws.{word-more}
 use Rattle.system_fold.proofs.plain.word_of.Goals as goal
 

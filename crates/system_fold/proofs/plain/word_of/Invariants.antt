@@ -1,3 +1,4 @@
+-- What stays true in the loops of `plain::word_of`.
 use Rattle.std.proofs.Common.{◌≡◌, take}
 use Rattle.system_fold.specs.Leaps.{word_of}
 use Rattle.system_fold.proofs.plain.word_of.Given as goal

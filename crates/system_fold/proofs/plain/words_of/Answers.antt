@@ -1,3 +1,4 @@
+-- What the search leaves open of `plain::words_of`.
 use Rattle.std.proofs.Common.{◌∙◌, arith}
 use Rattle.std.proofs.lemmas.List.{length-set}
 use Rattle.system_fold.proofs.PlainLaws.{words-all, words-more}

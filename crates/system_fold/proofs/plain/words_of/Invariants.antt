@@ -1,3 +1,4 @@
+-- What stays true in the loops of `plain::words_of`.
 use Rattle.std.proofs.Common.{◌≡◌, length, take, map}
 use Rattle.std.specs.List.{range_with_len}
 use Rattle.system_fold.specs.Leaps.{word_of}

@@ -1,3 +1,4 @@
+-- What stays true in the loops of `selecting::candidates_of`.
 use Rattle.std.proofs.Common.{◌≡◌, take, map}
 use Rattle.std.specs.Prelude.{IsTrue}
 use Rattle.select_core.specs.Selection.{are_measured}

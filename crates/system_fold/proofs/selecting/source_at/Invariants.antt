@@ -1,3 +1,4 @@
+-- What stays true in the loops of `selecting::source_at`.
 use Rattle.std.proofs.Common.{◌≡◌, length}
 use Rattle.std.specs.Prelude.{find, ◌==◌}
 use Rattle.system_fold.specs.declared.source.Source.{Source}

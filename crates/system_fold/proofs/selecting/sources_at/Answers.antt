@@ -1,3 +1,4 @@
+-- What the search leaves open of `selecting::sources_at`.
 use Rattle.std.proofs.Common.{◌≤◌, ◌+◌, ◌∙◌, [], ◌++◌, ap, sym, arith, List, length, take}
 use Rattle.std.specs.Prelude.{Option}
 use Rattle.std.specs.List.{cons_option}

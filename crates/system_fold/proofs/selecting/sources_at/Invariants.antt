@@ -1,3 +1,4 @@
+-- What stays true in the loops of `selecting::sources_at`.
 use Rattle.std.proofs.Common.{◌≡◌, ◌≤◌, take, length}
 use Rattle.system_fold.specs.Selecting.{sources_at}
 use Rattle.system_fold.proofs.selecting.sources_at.Given as goal

@@ -1,3 +1,4 @@
+-- What stays true in the loops of `selecting::survivors_in`.
 use Rattle.std.proofs.Common.{take}
 use Rattle.system_fold.specs.Surviving.{AreSurvivors}
 use Rattle.system_fold.proofs.selecting.survivors_in.Given as goal

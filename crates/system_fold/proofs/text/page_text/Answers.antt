@@ -1,3 +1,4 @@
+-- What the search leaves open of `text::page_text`.
 use Rattle.std.proofs.Common.{◌≡◌, drop, rules}
 use Rattle.journal_entry.proofs.WritingLaws.{adds_both}
 use Rattle.system_fold.proofs.text.page_text.Goals as goal

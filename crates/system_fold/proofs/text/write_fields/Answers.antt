@@ -1,3 +1,4 @@
+-- What the search leaves open of `text::write_fields`.
 use Rattle.std.proofs.Common.{◌≤◌, ◌∷◌, ℕ, arith, decimal, length, subst, sym}
 use Rattle.clock_page.specs.Page.{PageFields}
 use Rattle.journal_entry.specs.Writing.{Adds, AddsFields}

@@ -1,3 +1,4 @@
+-- What the search leaves open of `whole::page_by_steps`.
 use Rattle.std.proofs.Common.{take}
 use Rattle.system_fold.proofs.StandingLaws.{kept-at}
 use Rattle.system_fold.proofs.whole.page_by_steps.Goals as goal

@@ -1,3 +1,4 @@
+-- What the search leaves open of `filter::Filter::figures`.
 use Rattle.std.proofs.Common.{◌∙◌}
 use Rattle.clock_filter.proofs.KnownLaws.{known_timely, known_measured}
 use Rattle.clock_filter.proofs.filter.Filter.figures.Goals as goal

@@ -1,3 +1,4 @@
+-- What the search leaves open of `page::Page::to_words`.
 use Rattle.std.proofs.Common.{◌≡◌, ◌+◌, ◌*◌, ◌/◌, ◌^◌, ◌<ℤ◌, pos, [], ◌∷◌, ap, ◌∙◌, subst, arith, unsigned_abs}
 use Rattle.std.specs.Int.{from_bool}
 use Rattle.std.proofs.lemmas.Int.{ints}

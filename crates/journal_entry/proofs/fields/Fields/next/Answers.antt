@@ -1,3 +1,4 @@
+-- What the search leaves open of `fields::Fields::next`.
 use Rattle.std.proofs.Common.{ℕ, List, sym, subst, ◌∙◌, ◌∷◌}
 use Rattle.journal_entry.specs.Reading.{HasFields}
 use Rattle.journal_entry.proofs.FieldLaws.{ends_at, ends_last}

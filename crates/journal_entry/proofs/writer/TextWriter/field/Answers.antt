@@ -1,3 +1,4 @@
+-- What the search leaves open of `writer::TextWriter::field`.
 use Rattle.std.proofs.Common.{[], ◌∷◌}
 use Rattle.journal_entry.proofs.WritingLaws.{adds_both}
 use Rattle.journal_entry.proofs.writer.TextWriter.field.Goals as goal

@@ -1,3 +1,4 @@
+-- What the search leaves open of `writer::TextWriter::moment`.
 use Rattle.std.proofs.Common.{arith}
 use Rattle.journal_entry.proofs.LengthLaws.{moment_length}
 use Rattle.journal_entry.proofs.writer.TextWriter.moment.Goals as goal

@@ -1,3 +1,4 @@
+-- What the search leaves open of `writer::TextWriter::span`.
 use Rattle.std.proofs.Common.{◌<◌, ◌^◌, ◌∷◌, unsigned_abs, subst, rules, arith}
 use Rattle.std.specs.Fmt.{signed_decimal}
 use Rattle.journal_entry.specs.Writing.{Adds}

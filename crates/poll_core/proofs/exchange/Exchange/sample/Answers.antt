@@ -1,3 +1,4 @@
+-- What the search leaves open of `exchange::Exchange::sample`.
 use Rattle.std.proofs.Common.{rules, arith, sym, subst}
 use Rattle.tick_units.specs.Samples.{IsLawful}
 use Rattle.poll_core.proofs.Lengths.{sample_of-is_lawful}

@@ -1,3 +1,4 @@
+-- What the search leaves open of `cutter::LineCutter::take`.
 use Rattle.std.proofs.Common.{ℕ, List, ◌++◌, take, refl, ap, sym, ◌∙◌}
 use Rattle.script_line.proofs.CuttingLaws.{takes_all, takes_line, takes_too_much, too_much_of_line, too_much_of_piece}
 use Rattle.script_line.proofs.cutter.LineCutter.take.Goals as goal

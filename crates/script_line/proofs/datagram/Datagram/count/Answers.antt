@@ -1,3 +1,4 @@
+-- What the search leaves open of `datagram::Datagram::count`.
 use Rattle.std.proofs.Common.{length, ap, ◌∙◌}
 use Rattle.script_line.proofs.DatagramLaws.{half_is}
 use Rattle.script_line.proofs.datagram.Datagram.count.Goals as goal

@@ -1,3 +1,4 @@
+-- What the search leaves open of `datagram::Datagram::new`.
 use Rattle.std.proofs.Common.{Some, sym, ◌∙◌}
 use Rattle.std.proofs.lemmas.Bool.{both_ways}
 use Rattle.script_line.proofs.DatagramLaws.{text_of_digits, digits_of_text, said_is}

@@ -1,3 +1,4 @@
+-- What the search leaves open of `journal::Journal::new`.
 use Rattle.std.proofs.Common.{◌∙◌, length, ap}
 use Rattle.std.proofs.lemmas.List.{length-map}
 use Rattle.std.specs.List.{enumerate_from}

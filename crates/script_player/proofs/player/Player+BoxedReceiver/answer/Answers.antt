@@ -1,6 +1,7 @@
+-- What the search leaves open of `player::Player+BoxedReceiver::answer`.
 use Rattle.std.proofs.Common.{◌≡◌, take, refl, subst}
 use Rattle.std.proofs.lemmas.Result.{err_from_is_err_and}
-use Rattle.script_player.specs.Standing.{HasAnswered}
+use Rattle.script_player.specs.KeptPlayer.{HasAnswered}
 use Rattle.script_player.proofs.PlayerLaws.{answers-server, still-servers}
 use Rattle.script_player.proofs.player.Player+BoxedReceiver.answer.Goals as goal
 

@@ -1,6 +1,7 @@
+-- What the search leaves open of `player::Player+BoxedReceiver::hear`.
 use Rattle.std.proofs.Common.{refl, subst}
 use Rattle.std.proofs.lemmas.Result.{err_from_is_err_and}
-use Rattle.script_player.specs.Standing.{HasHeardPulse}
+use Rattle.script_player.specs.KeptPlayer.{HasHeardPulse}
 use Rattle.script_player.proofs.PlayerLaws.{hears-entry, hears-none, still}
 use Rattle.script_player.proofs.player.Player+BoxedReceiver.hear.Goals as goal
 

@@ -1,3 +1,4 @@
+-- What the search leaves open of `player::Player+BoxedReceiver::play`.
 use Rattle.script_player.proofs.PlayerLaws.{requests}
 use Rattle.script_player.proofs.player.Player+BoxedReceiver.play.Goals as goal
 

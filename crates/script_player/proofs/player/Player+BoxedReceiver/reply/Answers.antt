@@ -1,3 +1,4 @@
+-- What the search leaves open of `player::Player+BoxedReceiver::reply`.
 use Rattle.std.proofs.Common.{◌≡◌, Ok, take, sym, ap, subst}
 use Rattle.reply_core.specs.Reply.{answer}
 use Rattle.script_player.specs.Replay.{outcome_of_request}

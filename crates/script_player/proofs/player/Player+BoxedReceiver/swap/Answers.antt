@@ -1,3 +1,4 @@
+-- What the search leaves open of `player::Player+BoxedReceiver::swap`.
 use Rattle.std.proofs.Common.{refl}
 use Rattle.std.proofs.lemmas.Result.{err_from_is_err_and}
 use Rattle.script_player.proofs.PlayerLaws.{still, swaps-radio}

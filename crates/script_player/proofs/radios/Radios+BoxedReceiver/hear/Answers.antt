@@ -1,3 +1,4 @@
+-- What the search leaves open of `radios::Radios+BoxedReceiver::hear`.
 use Rattle.std.proofs.Common.{◌≡◌, ◌≤◌, length, refl, subst, arith}
 use Rattle.std.proofs.lemmas.Option.{slice_get_read}
 use Rattle.script_player.proofs.RadioLaws.{hears, hears-not}

@@ -1,9 +1,10 @@
+-- What the search leaves open of `radios::Radios+BoxedReceiver::new`.
 use Rattle.std.proofs.Common.{◌≡◌, ◌∙◌, ◌≤◌, Some, All, refl, sym, ap, subst, arith, rules}
 use Rattle.std.proofs.lemmas.List.Elements.{All-nil}
 use Rattle.std.specs.List.{slice_get}
 use Rattle.std.specs.Option.{option_map}
-use Rattle.station_config.specs.Inside.{radio_given}
-use Rattle.script_player.specs.Standing.{first_radios}
+use Rattle.station_config.specs.KeptStation.{radio_given}
+use Rattle.script_player.specs.KeptPlayer.{first_radios}
 use Rattle.script_player.proofs.NewLaws.{all-radios, goes-on, some-at, some-left, starts}
 use Rattle.script_player.proofs.RackLaws.{All-at}
 use Rattle.script_player.proofs.radios.Radios+BoxedReceiver.new.Goals as goal

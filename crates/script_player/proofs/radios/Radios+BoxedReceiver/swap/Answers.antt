@@ -1,6 +1,7 @@
+-- What the search leaves open of `radios::Radios+BoxedReceiver::swap`.
 use Rattle.std.proofs.Common.{◌≡◌, length, refl, subst, ap, arith}
 use Rattle.std.proofs.lemmas.Option.{slice_get_read}
-use Rattle.script_player.specs.Standing.{HasTaken}
+use Rattle.script_player.specs.KeptPlayer.{HasPicked}
 use Rattle.script_player.proofs.RadioLaws.{swaps, swaps-not}
 use Rattle.script_player.proofs.radios.Radios+BoxedReceiver.swap.Goals as goal
 
@@ -16,6 +17,6 @@ returns-clause-swapped g c station lines h =
     let before = slice_get_read radios.items (length radios.items) c.args.feed c.index.result.now refl (omega (arith, radios.ok.0)) c.index.ensures in
     let at = slice_get_read radios.items (length radios.items) c.args.feed c.index_mut.result.now refl (omega (arith, radios.ok.0)) c.index_mut.ensures.value in
     let same : c.index.result.now ≡ c.index_mut.result.now = cc in
-    let taken = subst (λ r. HasTaken (λ b h. (goal.Receiver-dyn g (b.vtable, b.value)).stands_for b.value h) c.args.self.now.left.items c.take_of.new.spares.items r.plan c.in-Some.receiver) same c.in-Some.ensures.taken in
+    let taken = subst (λ r. HasPicked (λ b h. (goal.Receiver-dyn g (b.vtable, b.value)).stands_for b.value h) c.args.self.now.left.items c.take_of.new.spares.items r.plan c.in-Some.receiver) same c.in-Some.ensures.taken in
     swaps (λ b h. (goal.Receiver-dyn g (b.vtable, b.value)).stands_for b.value h) c.args.self.now _ station lines c.args.feed c.index_mut.result.now c.swap.new.self c.take_of.new.spares.items c.in-Some.receiver
     at taken c.swap.ensures.plan c.swap.ensures.delay c.swap.ensures.least c.swap.ensures.fitted refl refl h

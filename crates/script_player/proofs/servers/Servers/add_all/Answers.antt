@@ -1,9 +1,10 @@
+-- What the search leaves open of `servers::Servers::add_all`.
 use Rattle.std.proofs.Common.{◌≡◌, ◌∙◌, ◌+◌, [], Some, sym, ap, subst, arith, rules}
 use Rattle.std.specs.List.{slice_get}
 use Rattle.std.specs.Option.{option_map}
-use Rattle.station_config.specs.Inside.{server_fields}
+use Rattle.station_config.specs.KeptStation.{server_fields}
 use Rattle.poll_core.specs.Polling.{HasPolled}
-use Rattle.script_player.specs.Standing.{HasPolling, first_servers}
+use Rattle.script_player.specs.KeptPlayer.{HasPolling, first_servers}
 use Rattle.script_player.proofs.NewLaws.{all-servers, polling-none, polling-push, some-at}
 use Rattle.script_player.proofs.servers.Servers.add_all.Goals as goal
 

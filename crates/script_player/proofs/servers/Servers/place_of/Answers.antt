@@ -1,3 +1,4 @@
+-- What the search leaves open of `servers::Servers::place_of`.
 use Rattle.std.proofs.Common.{◌≡◌, ◌+◌, ◌≤◌, ◌∙◌, length, refl, ap, subst, arith}
 use Rattle.std.proofs.lemmas.Option.{slice_get_read}
 use Rattle.script_player.proofs.ServerLaws.{polls, polls-late}

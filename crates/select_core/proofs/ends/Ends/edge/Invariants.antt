@@ -1,3 +1,4 @@
+-- What stays true in the loops of `ends::Ends::edge`.
 use Rattle.std.proofs.Common.{◌≡◌, ◌+◌, drop}
 use Rattle.select_core.specs.Ends.{on_the_way}
 use Rattle.select_core.proofs.EdgeLaws.{walk}

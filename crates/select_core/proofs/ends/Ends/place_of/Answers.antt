@@ -1,3 +1,4 @@
+-- What the search leaves open of `ends::Ends::place_of`.
 use Rattle.std.proofs.Common.{◌≡◌, sym, ◌∙◌, subst, rules}
 use Rattle.std.specs.List.Sorted.{IsPartitionPoint}
 use Rattle.std.specs.Prelude.{true, false, List}

@@ -1,3 +1,4 @@
+-- What the search leaves open of `ends::Ends::remove`.
 use Rattle.std.proofs.Common.{◌≡◌, ◌<◌, ℕ, length, get_or, sym, subst, arith}
 use Rattle.std.specs.List.Sorted.{IsPartitionPoint, IsPermutation}
 use Rattle.std.specs.Prelude.{true, false, List, ◌∷◌, Contains}

@@ -1,3 +1,4 @@
+-- What the search leaves open of `sweep::Sweep::chime`.
 use Rattle.std.proofs.Common.{◌-◌, sym, ap, ◌∙◌, arith, length}
 use Rattle.select_core.specs.Selection.{chime_allowing}
 use Rattle.select_core.proofs.ChimeLaws.{chime-permutation}

@@ -1,3 +1,4 @@
+-- What stays true in the loops of `sweep::Sweep::chime`.
 use Rattle.std.proofs.Common.{◌≡◌, ◌-◌, length}
 use Rattle.std.specs.Prelude.{slice_get}
 use Rattle.std.specs.List.{filter_map, range_with_len}

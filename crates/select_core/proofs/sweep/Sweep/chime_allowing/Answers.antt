@@ -1,3 +1,4 @@
+-- What the search leaves open of `sweep::Sweep::chime_allowing`.
 use Rattle.std.proofs.Common.{true, sym, ◌∙◌, subst}
 use Rattle.std.specs.Prelude.{◌≡◌, List}
 use Rattle.select_core.specs.Selection.{are_measured, serves}

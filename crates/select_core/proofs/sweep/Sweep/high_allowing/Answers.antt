@@ -1,7 +1,8 @@
+-- What the search leaves open of `sweep::Sweep::high_allowing`.
 use Rattle.std.proofs.Common.{◌-◌, ℕ, ap, ◌∙◌, subst, length}
 use Rattle.std.specs.Prelude.{List}
 use Rattle.select_core.specs.Ends.{edge}
-use Rattle.select_core.specs.Inside.{IsKept}
+use Rattle.select_core.specs.KeptSweep.{IsKept}
 use Rattle.select_core.specs.declared.chime.Candidate.{Candidate}
 use Rattle.select_core.specs.declared.ends.Side.TheVariants.{Upper}
 use Rattle.select_core.proofs.SweepLaws.{edge-high}

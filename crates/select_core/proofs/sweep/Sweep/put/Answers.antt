@@ -1,7 +1,8 @@
+-- What the search leaves open of `sweep::Sweep::put`.
 use Rattle.std.proofs.Common.{◌∙◌, sym, ap, subst, length, arith}
 use Rattle.std.specs.Prelude.{List, ◌∷◌}
 use Rattle.std.specs.List.Sorted.{IsPermutation}
-use Rattle.select_core.specs.Inside.{IsKept}
+use Rattle.select_core.specs.KeptSweep.{IsKept}
 use Rattle.select_core.specs.declared.chime.Candidate.{Candidate}
 use Rattle.select_core.specs.declared.ends.End.{End}
 use Rattle.select_core.proofs.StandingLaws.{kept-push, length-ends, length-with}

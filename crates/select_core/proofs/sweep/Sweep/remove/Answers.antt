@@ -1,8 +1,9 @@
+-- What the search leaves open of `sweep::Sweep::remove`.
 use Rattle.std.proofs.Common.{◌<◌, ◌∙◌, sym, ap, subst, length, get_or}
 use Rattle.std.specs.Prelude.{List, ◌∷◌, All, ◌≢◌, Contains}
 use Rattle.std.specs.List.Sorted.{IsPermutation}
-use Rattle.select_core.specs.Inside.{IsKept}
-use Rattle.select_core.specs.Standing.{others}
+use Rattle.select_core.specs.KeptSweep.{IsKept}
+use Rattle.select_core.specs.Sweeping.{others}
 use Rattle.select_core.specs.declared.chime.Candidate.{Candidate}
 use Rattle.select_core.specs.declared.ends.End.{End}
 use Rattle.select_core.proofs.StandingLaws.{has-lower, has-upper, kept-remove, others-all, others-remove}

@@ -1,3 +1,4 @@
+-- What the search leaves open of `station::Station::new`.
 use Rattle.std.proofs.Common.{◌∙◌, ap}
 use Rattle.station_config.proofs.Feeds.{sources_are}
 use Rattle.station_config.proofs.station.Station.new.Goals as goal

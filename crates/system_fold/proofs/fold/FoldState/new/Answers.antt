@@ -1,6 +1,7 @@
+-- What the search leaves open of `fold::FoldState::new`.
 use Rattle.std.proofs.Common.{◌≤◌, [], ◌∙◌, ap, refl, length, subst, List}
 use Rattle.std.specs.Prelude.{map}
-use Rattle.system_fold.specs.Standing.{blank}
+use Rattle.system_fold.specs.KeptFold.{blank}
 use Rattle.system_fold.specs.declared.settings.SourceKind.{SourceKind}
 use Rattle.system_fold.proofs.StandingLaws.{stands-nil}
 use Rattle.system_fold.proofs.SweepLaws.{blank-fit, none-standing}

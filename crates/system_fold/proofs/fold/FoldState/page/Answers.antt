@@ -1,9 +1,10 @@
+-- What the search leaves open of `fold::FoldState::page`.
 use Rattle.std.proofs.Common.{◌∙◌, sym, ap, subst, map}
 use Rattle.std.specs.Prelude.{All}
 use Rattle.select_core.specs.Selection.{chime_of}
 use Rattle.system_fold.specs.Fit.{IsFit}
 use Rattle.system_fold.specs.Selecting.{candidate_of}
-use Rattle.system_fold.specs.Standing.{StandsFor, FoldFields}
+use Rattle.system_fold.specs.KeptFold.{StandsForJournal, FoldFields}
 use Rattle.system_fold.proofs.PageLaws.{page-stands}
 use Rattle.system_fold.proofs.fold.FoldState.page.Goals as goal
 
@@ -15,5 +16,5 @@ page_within-requires-clause-chime c = c.chime.ensures.chime ∙ ap chime_of (c.s
 
 pub returns : goal.returns
 returns c = λ settings journal h.
-    let stands = subst (λ (f : FoldFields). StandsFor f settings journal) (sym c.self.view_is) h in
+    let stands = subst (λ (f : FoldFields). StandsForJournal f settings journal) (sym c.self.view_is) h in
     c.page_within.ensures ∙ page-stands _ c.armed.result _ settings journal stands (c.armed.ensures journal stands.leaps) (c.as_slice.ensures.value ∙ c.self.invariant.sources.value)

@@ -1,8 +1,9 @@
+-- What the search leaves open of `fold::FoldState::step`.
 use Rattle.std.proofs.Common.{◌++◌, ◌∷◌, [], ◌∙◌, refl, ap, length, subst, sym, List, arith}
 use Rattle.std.specs.Prelude.{All}
 use Rattle.journal_entry.specs.Lawful.{IsLawful}
 use Rattle.system_fold.specs.Fit.{AreFit, IsSound}
-use Rattle.system_fold.specs.Standing.{StandsFor, FoldFields, kept_by}
+use Rattle.system_fold.specs.KeptFold.{StandsForJournal, FoldFields, kept_by}
 use Rattle.system_fold.specs.declared.feed.Feed.{Feed}
 use Rattle.system_fold.proofs.SoundLaws.{sound-feeds}
 use Rattle.system_fold.proofs.StandingLaws.{few, stands-step}
@@ -32,4 +33,4 @@ invariant_of-self c = record {
 }
 
 pub returns : goal.returns
-returns c = λ settings journal h. stands-step (kept_by c.self.inside) _ c.take_sample.new.feeds c.step.new.self c.args.e.now refl (record { lawful = subst (λ (f : FoldFields). IsLawful (length f.feeds) c.args.e.now) (sym c.self.view_is) c.requires.lawful; moment = c.step.ensures.moment }) (λ settings journal same. c.take_sample.ensures settings journal (c.as_mut_slice.ensures.value ∙ same)) c.step.ensures.leaps settings journal (subst (λ (f : FoldFields). StandsFor f settings journal) (sym c.self.view_is) h)
+returns c = λ settings journal h. stands-step (kept_by c.self.inside) _ c.take_sample.new.feeds c.step.new.self c.args.e.now refl (record { lawful = subst (λ (f : FoldFields). IsLawful (length f.feeds) c.args.e.now) (sym c.self.view_is) c.requires.lawful; moment = c.step.ensures.moment }) (λ settings journal same. c.take_sample.ensures settings journal (c.as_mut_slice.ensures.value ∙ same)) c.step.ensures.leaps settings journal (subst (λ (f : FoldFields). StandsForJournal f settings journal) (sym c.self.view_is) h)

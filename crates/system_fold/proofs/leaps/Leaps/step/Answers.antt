@@ -1,6 +1,7 @@
+-- What the search leaves open of `leaps::Leaps::step`.
 use Rattle.std.proofs.Common.{ℕ, max, ap, ◌∙◌}
 use Rattle.system_fold.specs.Leaps.{verdict_in}
-use Rattle.system_fold.specs.Standing.{or_older}
+use Rattle.system_fold.specs.KeptFold.{or_older}
 use Rattle.system_fold.specs.declared.leaps.Leaps.{Leaps}
 use Rattle.system_fold.proofs.LeapLaws.{stands_push}
 use Rattle.system_fold.proofs.leaps.Leaps.step.Goals as goal

@@ -1,4 +1,4 @@
--- A page as its fields stand in the program, and back.
+-- Scaffolding: a page as its fields stand in the program, and back.
 use Rattle.clock_page.specs.Page.{PageFields}
 use Rattle.clock_page.specs.declared.page.Page.TheInside.{Inside}
 

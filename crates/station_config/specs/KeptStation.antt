@@ -1,4 +1,4 @@
--- What a station keeps, and what its clauses see of it.
+-- Scaffolding: what a station keeps, and what its clauses see of it.
 use Rattle.std.specs.Prelude.{◌≡◌, map, string_bytes}
 use Rattle.system_fold.specs.Settings.{SettingsFields}
 use Rattle.station_config.specs.Station.{IsStation, RadioFields, ServerFields, StationFields, settings_of}

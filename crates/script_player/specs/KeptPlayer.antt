@@ -1,4 +1,4 @@
--- What a player keeps, against the definitions on all the lines before.
+-- Scaffolding: what a player keeps, against the definitions on all the lines before.
 use Rattle.std.specs.Prelude.{◌≡◌, ℕ, ◌+◌, ◌≤◌, ◌&&◌, ◌++◌, Bool, true, false, nat_lt, Option, Some, Result, Ok, Err, List, [], ◌∷◌, All, length, take, if◌then◌else◌}
 use Rattle.std.specs.List.{count_by, slice_get}
 use Rattle.tick_units.specs.declared.marks.Plan.{Plan}
@@ -7,7 +7,7 @@ use Rattle.journal_entry.specs.declared.entry.Entry.{Entry}
 use Rattle.radio_receiver.specs.Histories.{History, is_blank, least_after}
 use Rattle.poll_core.specs.Polling.{HasPolled}
 use Rattle.system_fold.specs.Settings.{SettingsFields}
-use Rattle.system_fold.specs.Standing.{StandsFor}
+use Rattle.system_fold.specs.KeptFold.{StandsForJournal}
 use Rattle.station_config.specs.Station.{RadioFields, ServerFields, StationFields, is_same_plan, settings_of}
 use Rattle.script_line.specs.declared.line.ScriptLine.{ScriptLine}
 use Rattle.script_line.specs.declared.line.ScriptLine.TheVariants.{Pulse, Answer}
@@ -73,7 +73,7 @@ abbrev pub one_of : Plan → Plan → ℕ
 one_of plan other = if is_same_plan plan other then 1 else 0
 
 -- of the receivers that were left one of a plan was taken
-pub record HasTaken {B : Type 0} (stands : B → History → Type 0) (old new : List (Spare B)) (plan : Plan) (receiver : B) : Type 0 where
+pub record HasPicked {B : Type 0} (stands : B → History → Type 0) (old new : List (Spare B)) (plan : Plan) (receiver : B) : Type 0 where
   pub receiver_is : All (IsSpare stands) old → IsBlankOf stands plan receiver
   pub others : All (IsSpare stands) old → All (IsSpare stands) new
   pub count : (p : Plan) → left_of p old ≡ left_of p new + one_of p plan
@@ -153,7 +153,7 @@ pub record HasAnswered (servers : Servers) (station : StationFields) (lines : Li
 -- of the entries that were due the first are kept, up to the limit
 pub record HasKept (journal : JournalFields) (settings : SettingsFields) (limit : ℕ) (entries : List Entry) : Type 0 where
   pub limit_is : journal.limit ≡ limit
-  pub fold : StandsFor journal.fold settings (take limit entries)
+  pub fold : StandsForJournal journal.fold settings (take limit entries)
   pub count : journal.count ≡ length (take limit entries)
   pub full : journal.is_full ≡ nat_lt limit (length entries)
 

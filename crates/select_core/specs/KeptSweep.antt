@@ -1,4 +1,4 @@
--- What a sweep keeps of its candidates and their ends.
+-- Scaffolding: what a sweep keeps of its candidates and their ends.
 use Rattle.std.specs.Prelude.{◌≢◌, List, IsTrue}
 use Rattle.std.specs.List.{AllPairs}
 use Rattle.select_core.specs.Ends.{AreAlike, ends_of}

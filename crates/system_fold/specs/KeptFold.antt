@@ -1,4 +1,4 @@
--- What is kept of a journal, against the definitions on the whole of it.
+-- Scaffolding: what a fold keeps of a journal, against the definitions on the whole of it.
 use Rattle.std.specs.Prelude.{◌≡◌, ℕ, ◌≤◌, Bool, max, Option, None, Some, List, [], length, map, slice_set}
 use Rattle.std.specs.List.{enumerate_from}
 use Rattle.tick_units.specs.Orders.{better}
@@ -44,7 +44,7 @@ abbrev pub kept_by : Inside → FoldFields
 kept_by fold = record { holdover = fold.holdover; feeds = fold.feeds.items; leaps = fold.leaps; length = fold.length }
 
 -- a fold stands for lawful settings and a journal of lawful entries
-pub record StandsFor (fold : FoldFields) (settings : SettingsFields) (journal : List Entry) : Type 0 where
+pub record StandsForJournal (fold : FoldFields) (settings : SettingsFields) (journal : List Entry) : Type 0 where
   pub lawful : AreLawful settings
   pub few : length settings.sources ≤ 16
   pub entries : IsJournal settings journal
@@ -57,7 +57,7 @@ pub record StandsFor (fold : FoldFields) (settings : SettingsFields) (journal : 
 pub record IsFold (fold : FoldFields) (fit : List Source) (sweep : List Candidate) : Type 0 where
   pub settings : SettingsFields
   pub journal : List Entry
-  pub stands : StandsFor fold settings journal
+  pub stands : StandsForJournal fold settings journal
   pub sources : AreFit fold.leaps.cut fold.leaps.latest fold.feeds fit
   pub candidates : sweep ≡ map (candidate_of fold.leaps.latest) fit
 
