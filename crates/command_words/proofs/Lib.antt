@@ -5,7 +5,6 @@ mod LexerLaws
 mod LineLaws
 mod Meets
 mod Names
-mod NumberLaws
 mod PartLaws
 mod Parts
 mod Readings

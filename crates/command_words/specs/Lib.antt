@@ -1,6 +1,5 @@
 -- Read Commands (the commands, and the words that ask for them), then CommandLine (how options and command words stand in a line).
--- Numbers and Matches serve the reading of the words by `clap`.
+-- Matches serves the reading of the words by `clap`.
 pub mod CommandLine
 pub mod Commands
 pub mod Matches
-pub mod Numbers

@@ -3,7 +3,6 @@
 
 mod commands;
 mod grammar;
-mod number;
 mod reading;
 mod rows;
 

@@ -10,8 +10,8 @@ ghost use Rattle.command_words.specs.Matches.{text_of, may_have, has_only, Fit, 
 
 use crate::commands::Command;
 use crate::grammar::OPTIONS;
-use crate::number::number;
 use clap::ArgMatches;
+use decimal_text::whole_number;
 use tick_units::Plan;
 
 // The options of each command.
@@ -79,8 +79,8 @@ fn limit(given: Option<&str>) -> Option<u32>
     let Some(text) = given else {
         return Some(LIMIT);
     };
-    let entries = number(text)?;
-    if 1 <= entries && entries <= MOST {
+    let entries = whole_number(text.as_bytes(), MOST)?;
+    if 1 <= entries {
         Some(entries as u32)
     } else {
         None

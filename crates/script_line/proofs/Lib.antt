@@ -3,4 +3,3 @@ pub mod CuttingLaws
 pub mod DatagramLaws
 pub mod FieldLaws
 pub mod LineLaws
-pub mod NumberLaws

@@ -1,11 +1,13 @@
 //! The fields of a line of a script.
-ghost use Rattle.std.specs.Prelude.{◌≡◌, ◌<◌, ◌≤◌, ◌^◌, ◌∷◌, [], ℕ, nat_eq, length, List, IfSome, Some, decimal};
+ghost use Rattle.std.specs.Prelude.{◌≡◌, ◌<◌, ◌≤◌, ◌^◌, ◌∷◌, ◌++◌, [], ℕ, nat_eq, length, List, IfSome, Some, decimal};
+ghost use Rattle.decimal_text.specs.Numbers.{BeginsWith};
 ghost use Rattle.hex.specs.Hex.{encode_lower};
+ghost use Rattle.journal_entry.specs.Texts.{spaced};
 ghost use Rattle.script_line.specs.Datagrams.{IsDatagram};
 ghost use Rattle.script_line.specs.Reading.{HasSpaced};
 
 use crate::Datagram;
-use crate::number::first_number;
+use decimal_text::{Number, first_number};
 use std::marker::Model;
 use tick_units::Local;
 
@@ -17,6 +19,16 @@ const WIDEST: u64 = 2_000_000;
 
 // The greatest number of a connection.
 const LAST_CONNECTION: u64 = 7;
+
+// The number that a text begins with, where it is at most so great, and fields stand behind it, each behind a space.
+fn number_before(text: &[u8], most: u64) -> Option<Number>
+    requires { most < 2 ^ 60 }
+    ensures number { IfSome result (λ number. BeginsWith text.now most number) }
+    ensures every { (n : ℕ) (fields : List (List ℕ)) → n ≤ most → text.now ≡ decimal n ++ spaced fields →
+        result ≡ Some (record { value = n; length = length (decimal n) }) }
+{
+    first_number(text, most)
+}
 
 // The fields of a line that aren't read yet, each with a space before it.
 #[derive(Drop)]
@@ -51,7 +63,7 @@ impl<'a> Fields<'a> {
         let [b' ', digits @ ..] = self.rest else {
             return None;
         };
-        let number = first_number(digits, most)?;
+        let number = number_before(digits, most)?;
         self.rest = &digits[number.length..];
         Some(number.value)
     }

@@ -5,7 +5,6 @@ mod cutter;
 mod datagram;
 mod fields;
 mod line;
-mod number;
 mod read;
 
 pub use cutter::{Cut, LineCutter, Taken};

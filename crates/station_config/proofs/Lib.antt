@@ -2,6 +2,5 @@
 pub mod Bounds
 pub mod Feeds
 pub mod Firsts
-pub mod Octets
 pub mod Orders
 pub mod Walks

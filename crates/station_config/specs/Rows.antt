@@ -2,6 +2,7 @@
 use Rattle.std.specs.Prelude.{ℕ, ◌^◌, ◌&&◌, ◌==◌, ◌+◌, ◌++◌, Bool, List, [], ◌∷◌, Option, None, Some, pos, codes, nat_le, nat_lt, length, is_some, if◌then◌else◌}
 use Rattle.std.specs.List.{before_first, after_first}
 use Rattle.std.specs.Int.{w32, from_be_bytes}
+use Rattle.decimal_text.specs.Numbers.{at_most}
 use Rattle.tick_units.specs.Log.{number_of}
 use Rattle.tick_units.specs.Plans.{plan_of}
 use Rattle.tick_units.specs.declared.marks.Plan.{Plan}
@@ -29,12 +30,8 @@ plan_in (string s) = plan_of s
 plan_in _ = None
 
 -- a number from 0 to 255 in decimal, without leading zeros
-abbrev pub octet_or_none : Option ℕ → Option ℕ
-octet_or_none None = None
-octet_or_none (Some n) = if nat_le n 255 then Some n else None
-
 abbrev pub octet_of : Text → Option ℕ
-octet_of text = octet_or_none (number_of text)
+octet_of text = at_most 255 (number_of text)
 
 -- the IPv4 address of four such numbers, its bytes in network order
 abbrev pub four_of : Option ℕ → Option ℕ → Option ℕ → Option ℕ → Option ℕ

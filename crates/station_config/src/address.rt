@@ -1,36 +1,15 @@
 //! Reads an IPv4 address.
 ghost use Rattle.std.specs.Prelude.{◌≡◌};
-ghost use Rattle.std.specs.Str.{all_ascii_digits};
-ghost use Rattle.tick_units.specs.Log.{is_number};
 ghost use Rattle.station_config.specs.Rows.{octet_of, four_of, before_dot, after_dot, address_of};
 
-fn are_digits(text: &[u8]) -> bool
-    ensures { result ≡ all_ascii_digits text.now }
-{
-    for byte in text {
-        if !byte.is_ascii_digit() {
-            return false;
-        }
-    }
-    true
-}
-
-// Whether a text is a number in decimal, without a sign and without leading zeros.
-fn is_number(text: &[u8]) -> bool
-    ensures { result ≡ is_number text.now }
-{
-    are_digits(text) && 0 < text.len() && (text[0] != b'0' || text.len() == 1)
-}
+use decimal_text::whole_number;
 
 // The number that a text is, from 0 to 255.
 fn octet(text: &str) -> Option<u8>
     ensures { result ≡ octet_of text.now }
 {
-    if is_number(text.as_bytes()) {
-        text.parse::<u8>().ok()
-    } else {
-        None
-    }
+    let number = whole_number(text.as_bytes(), 255)?;
+    Some(number as u8)
 }
 
 // The parts of a text before and behind its first dot; all of it and nothing where it has none.

@@ -1,23 +1,26 @@
 //! Reads the number that a text begins with.
 ghost use Rattle.std.specs.Prelude.{◌≡◌, ℕ, ◌++◌, ◌≢◌, ◌<◌, ◌≤◌, ◌^◌, List, IfNone, IfSome, Some, decimal, length, take};
-ghost use Rattle.journal_entry.specs.Texts.{spaced};
-ghost use Rattle.script_line.specs.Reading.{BeginsWith, SaysSoFar};
+ghost use Rattle.decimal_text.specs.Numbers.{BeginsWith, EndsNumber};
+ghost use Rattle.decimal_text.specs.Reading.{SaysSoFar};
 
 // No number but 0 begins with it.
 const ZERO: u8 = b'0';
 
-// A number in decimal without leading zeros, and how many digits it has.
-#[derive(Clone, Copy)]
+/// A number in decimal without leading zeros, and how many digits it has.
+#[derive(Clone, Copy, Debug, PartialEq, Eq)]
 pub struct Number {
+    /// Its value.
     pub value: u64,
+    /// How many digits it has.
     pub length: usize,
 }
 
-// The number that a text begins with, where it is at most so great.
+/// The number that a text begins with, up to the first byte that is no digit. `None` where there is none: where the text begins
+/// with no digit, with a zero before other digits, or with a number that is greater than `most`.
 pub fn first_number(text: &[u8], most: u64) -> Option<Number>
     requires { most < 2 ^ 60 }
     ensures number { IfSome result (λ number. BeginsWith text.now most number) }
-    ensures every { (n : ℕ) (fields : List (List ℕ)) → n ≤ most → text.now ≡ decimal n ++ spaced fields →
+    ensures every { (n : ℕ) (rest : List ℕ) → n ≤ most → EndsNumber rest → text.now ≡ decimal n ++ rest →
         result ≡ Some (record { value = n; length = length (decimal n) }) }
 {
     let mut value = 0;

@@ -1,8 +1,8 @@
 -- What the search leaves open of `number::number_of`.
 use Rattle.std.proofs.Common.{◌≡◌, subst, refl, take, decimal, arith}
-use Rattle.script_line.proofs.NumberLaws.{is_text, not_empty, not_padded}
-use Rattle.script_line.proofs.number.number_of.Goals as goal
-use Rattle.script_line.proofs.number.number_of.Goals.{else-count-gt1-via-then-count-gt1+else-text-eq-ZERO, else-count-gt1-via-else-count-gt1}
+use Rattle.decimal_text.proofs.NumberLaws.{is_text, not_empty, not_padded}
+use Rattle.decimal_text.proofs.number.number_of.Goals as goal
+use Rattle.decimal_text.proofs.number.number_of.Goals.{else-count-gt1-via-then-count-gt1+else-text-eq-ZERO, else-count-gt1-via-else-count-gt1}
 
 pub returns-then-count-eq0-clause-none : goal.returns-then-count-eq0-clause-none
 returns-then-count-eq0-clause-none c = λ e.

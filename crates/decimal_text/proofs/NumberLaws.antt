@@ -1,6 +1,7 @@
 -- The number that a text begins with.
 use Rattle.std.proofs.Common.{◌≡◌, ℕ, zero, suc, ◌+◌, ◌*◌, ◌^◌, ◌<◌, ◌≤◌, List, [], ◌∷◌, ◌++◌, length, get_or, take, decimal, refl, ap, subst, sym, add-one, ◌∙◌, arith}
-use Rattle.std.specs.Prelude.{◌≢◌, Option, Some, None, IfSome, IfNone}
+use Rattle.std.specs.Prelude.{◌≢◌, ◌||◌, nat_lt, IsTrue, Option, Some, None, IfSome, IfNone}
+use Rattle.std.proofs.lemmas.Bool.Decides.{nat_tests}
 use Rattle.std.specs.Char.{digit_value}
 use Rattle.std.specs.Str.Parse.{AllDigits, digits_value}
 use Rattle.std.proofs.lemmas.List.{length-append, length-take-le, get_or-take, take-append-le}
@@ -10,9 +11,9 @@ use Rattle.std.proofs.lemmas.Fmt.{decimal_digit, decimal_nonempty, first_decimal
 use Rattle.std.proofs.lemmas.Int.Digits.{digits_value_more}
 use Rattle.std.proofs.lemmas.Str.{digit_value_digit}
 use Rattle.std.proofs.lemmas.Str.Parse.{IsNumeralModel, numerals_by_value, tells_digits, digit_at, digits_value-take-le}
-use Rattle.journal_entry.specs.Texts.{spaced}
-use Rattle.script_line.specs.Reading.{SaysSoFar}
-use Rattle.script_line.specs.declared.number.Number.{Number}
+use Rattle.decimal_text.specs.Numbers.{EndsNumber}
+use Rattle.decimal_text.specs.Reading.{SaysSoFar}
+use Rattle.decimal_text.specs.declared.number.Number.{Number}
 
 own : IsNumeralModel (AllDigits 10) (digits_value 10)
 own = numerals_by_value (AllDigits 10) tells_digits
@@ -65,55 +66,59 @@ says_more text i value h within digit =
 pub says_nothing : (text : List ℕ) → SaysSoFar text 0 0
 says_nothing text = record { digits = tt; says = refl }
 
--- behind the digits of a number stands a space or nothing
-past : (n i : ℕ) (fields : List (List ℕ)) → AllDigits 10 (take i (decimal n ++ spaced fields)) → i ≤ length (decimal n ++ spaced fields) → length (decimal n) < i → ⊥
-past n i [] all within beyond = omega (arith, length-append (decimal n) (spaced []))
-past n i (field ∷ fields) all within beyond =
-    let text = decimal n ++ spaced (field ∷ fields) in
+-- a byte that is no digit
+no_digit : (byte : ℕ) → IsTrue (nat_lt byte 48 || nat_lt 57 byte) → 48 ≤ byte → byte ≤ 57 → ⊥
+no_digit byte other least most = grind (arith, nat_tests)
+
+-- behind the digits of a number stands no digit, or nothing
+past : (n i : ℕ) (rest : List ℕ) → EndsNumber rest → AllDigits 10 (take i (decimal n ++ rest)) → i ≤ length (decimal n ++ rest) → length (decimal n) < i → ⊥
+past n i [] ends all within beyond = omega (arith, length-append (decimal n) [])
+past n i (byte ∷ more) ends all within beyond =
+    let text = decimal n ++ byte ∷ more in
     let len = length-take-le i text within in
     let digit = digit_at (take i text) (length (decimal n)) all (omega arith) in
     let here = get_or-take i text (length (decimal n)) 0 beyond in
-    let space = get_or-append_seam (decimal n) 32 (field ++ spaced fields) 0 in
-    omega arith
+    let other = get_or-append_seam (decimal n) byte more 0 in
+    no_digit byte ends (omega arith) (omega arith)
 
-not_past : (text : List ℕ) (n i : ℕ) (fields : List (List ℕ)) → text ≡ decimal n ++ spaced fields → AllDigits 10 (take i text) → i ≤ length text → length (decimal n) < i → ⊥
-not_past text n i fields e all within beyond =
-    past n i fields (subst (λ (t : List ℕ). AllDigits 10 (take i t)) e all) (subst (λ (t : List ℕ). i ≤ length t) e within) beyond
+not_past : (text : List ℕ) (n i : ℕ) (rest : List ℕ) → EndsNumber rest → text ≡ decimal n ++ rest → AllDigits 10 (take i text) → i ≤ length text → length (decimal n) < i → ⊥
+not_past text n i rest ends e all within beyond =
+    past n i rest ends (subst (λ (t : List ℕ). AllDigits 10 (take i t)) e all) (subst (λ (t : List ℕ). i ≤ length t) e within) beyond
 
 -- so the digits end where the number does
-pub ends_at : (text : List ℕ) (n i value : ℕ) (fields : List (List ℕ)) → n < 2 ^ 60 → text ≡ decimal n ++ spaced fields → SaysSoFar text i value → i ≤ length text →
+pub ends_at : (text : List ℕ) (n i value : ℕ) (rest : List ℕ) → EndsNumber rest → n < 2 ^ 60 → text ≡ decimal n ++ rest → SaysSoFar text i value → i ≤ length text →
     (i < length text → digit_value (get_or text i 0) < 10 → ⊥) → (i ≡ length (decimal n)) × (take i text ≡ decimal n) × (value ≡ n)
-ends_at text n i value fields small e h within stop =
-    let all = ap length e ∙ length-append (decimal n) (spaced fields) in
+ends_at text n i value rest ends small e h within stop =
+    let all = ap length e ∙ length-append (decimal n) (rest) in
     let not_before : i < length (decimal n) → ⊥ = λ before. stop (omega arith) (
     let digit = digit_at (decimal n) i (digits_decimal own n (omega arith)) before in
-    let here : get_or text i 0 ≡ get_or (decimal n) i 0 = ap (λ (t : List ℕ). get_or t i 0) e ∙ get_or_append_left (decimal n) (spaced fields) 0 i before in
+    let here : get_or text i 0 ≡ get_or (decimal n) i 0 = ap (λ (t : List ℕ). get_or t i 0) e ∙ get_or_append_left (decimal n) (rest) 0 i before in
     let value = digit_value_digit (get_or (decimal n) i 0) digit in
     subst (λ b. digit_value b < 10) (sym here) (omega arith)) in
-    let not_beyond = not_past text n i fields e h.digits within in
+    let not_beyond = not_past text n i rest ends e h.digits within in
     let is : i ≡ length (decimal n) = omega arith in
-    let same : take i text ≡ decimal n = ap (λ k. take k text) is ∙ ap (take (length (decimal n))) e ∙ take-append_seam (decimal n) (spaced fields) in
+    let same : take i text ≡ decimal n = ap (λ k. take k text) is ∙ ap (take (length (decimal n))) e ∙ take-append_seam (decimal n) (rest) in
     (is, same, h.says ∙ ap (digits_value 10) same ∙ digits_value-decimal own n (omega arith))
 
 -- and the first of them say no more than it
-pub most_said : (text : List ℕ) (n i value : ℕ) (fields : List (List ℕ)) → n < 2 ^ 60 → text ≡ decimal n ++ spaced fields → SaysSoFar text i value → i ≤ length text → value ≤ n
-most_said text n i value fields small e h within =
-    let not_beyond = not_past text n i fields e h.digits within in
+pub most_said : (text : List ℕ) (n i value : ℕ) (rest : List ℕ) → EndsNumber rest → n < 2 ^ 60 → text ≡ decimal n ++ rest → SaysSoFar text i value → i ≤ length text → value ≤ n
+most_said text n i value rest ends small e h within =
+    let not_beyond = not_past text n i rest ends e h.digits within in
     let short : i ≤ length (decimal n) = omega arith in
-    let same : take i text ≡ take i (decimal n) = ap (take i) e ∙ take-append-le i (decimal n) (spaced fields) short in
+    let same : take i text ≡ take i (decimal n) = ap (take i) e ∙ take-append-le i (decimal n) (rest) short in
     let is = h.says ∙ ap (digits_value 10) same in
     let most = digits_value-take-le 10 (decimal n) i (omega arith) in
     let whole = digits_value-decimal own n (omega arith) in
     omega arith
 
 -- a number was found among these digits, and was that of the text
-pub found : (result : Option Number) (text : List ℕ) (n i value : ℕ) (fields : List (List ℕ)) → n < 2 ^ 60 → text ≡ decimal n ++ spaced fields → SaysSoFar text i value → i ≤ length text →
+pub found : (result : Option Number) (text : List ℕ) (n i value : ℕ) (rest : List ℕ) → EndsNumber rest → n < 2 ^ 60 → text ≡ decimal n ++ rest → SaysSoFar text i value → i ≤ length text →
     (i < length text → digit_value (get_or text i 0) < 10 → ⊥) →
     IfSome result (λ number. (number.value ≡ value) × (number.length ≡ i) × (take i text ≡ decimal value)) → IfNone result (take i text ≢ decimal value) →
     result ≡ Some (record { value = n; length = length (decimal n) })
-found (Some number) text n i value fields small e h within stop some none =
-    let end = ends_at text n i value fields small e h within stop in
+found (Some number) text n i value rest ends small e h within stop some none =
+    let end = ends_at text n i value rest ends small e h within stop in
     λ j. Some (record { value = (some.0 ∙ end.2) j; length = (some.1 ∙ end.0) j })
-found None text n i value fields small e h within stop some none =
-    let end = ends_at text n i value fields small e h within stop in
+found None text n i value rest ends small e h within stop some none =
+    let end = ends_at text n i value rest ends small e h within stop in
     absurd (none (end.1 ∙ ap decimal (sym end.2)))

@@ -1,7 +1,7 @@
 -- What stays true in the loops of `number::first_number`.
 use Rattle.std.proofs.Common.{◌≤◌}
-use Rattle.script_line.specs.Reading.{SaysSoFar}
-use Rattle.script_line.proofs.number.first_number.Given as goal
+use Rattle.decimal_text.specs.Reading.{SaysSoFar}
+use Rattle.decimal_text.proofs.number.first_number.Given as goal
 
 abbrev pub invariant-loop-count : goal.invariant-loop-count
 invariant-loop-count l = record {
