@@ -1,3 +1,4 @@
+// The host's files, and the outside that opens them.
 ghost use Rattle.std.specs.Prelude.{◌≡◌, None};
 
 use crate::{Failed, FileSource, Outside};

@@ -1,3 +1,4 @@
+// The traits of what a station meets outside.
 ghost use Rattle.std.specs.Prelude.{◌≡◌, ℕ, ◌<◌, ◌≤◌, ◌∷◌, [], length, IfOk, MatchResult};
 ghost use Rattle.feed_link.specs.Faults.{HasCause};
 ghost use Rattle.feed_link.specs.Told.{SourceState, SinkState, Reads, Writes};

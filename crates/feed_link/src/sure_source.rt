@@ -1,3 +1,4 @@
+// A log in memory that never fails.
 ghost use Rattle.std.specs.Prelude.{◌≡◌, ℕ, ◌≤◌, Some, drop, length, vec_len};
 
 use crate::{Failed, Source};

@@ -28,13 +28,13 @@ pub struct Step {
 /// Decodes the log of a radio with a receiver of type `B`.
 #[derive(Drop)]
 pub struct LogDecoder<B: Drop> {
-    reader: LineReader,
-    receiver: B,
-    feed: u32,
+    pub(crate) reader: LineReader,
+    pub(crate) receiver: B,
+    pub(crate) feed: u32,
 }
 
 // An answer as an entry of a feed.
-fn entry_of(feed: u32, heard: Heard) -> Entry
+pub fn entry_of(feed: u32, heard: Heard) -> Entry
     ensures { result ≡ entry_of feed heard }
 {
     Entry {

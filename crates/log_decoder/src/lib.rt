@@ -2,6 +2,7 @@
 #![tactic(auto)]
 
 mod decoder;
+mod direct;
 
 pub use decoder::{BoxedReceiver, LogDecoder, Step};
 

@@ -1,0 +1,96 @@
+// The decoder over a receiver whose type is known: its calls can be inlined, where those of a boxed receiver cost some forty
+// instructions more a line. Boxed receivers are of no type that has the trait, so they have methods of their own.
+ghost use Rattle.std.specs.Prelude.{◌≡◌, ◌+◌, ◌++◌, ◌<◌, ◌≤◌, ℕ, List, [], length, map, take, None, Some, MatchResult};
+ghost use Rattle.std.specs.Option.{option_to_list};
+ghost use Rattle.tick_units.specs.Log.{bad_at_end, pulses};
+ghost use Rattle.tick_units.specs.declared.marks.Plan.{Plan};
+ghost use Rattle.radio_receiver.specs.Histories.{History, answers_of, least_after, with_reduction};
+ghost use Rattle.log_decoder.specs.Due.{entry_of};
+ghost use Rattle.log_decoder.specs.Decoding.{HasDecoded, IsReady, DecodesFront, history_of};
+ghost use Rattle.log_decoder.specs.Steps.{IsFound, MayHear, HearsLine};
+
+use crate::decoder::{LogDecoder, Step, entry_of};
+use journal_entry::Entry;
+use pulse_log::{BadLine, LineReader};
+use radio_receiver::Receiver;
+use tick_units::Reduction;
+
+impl<R: Receiver> LogDecoder<R> {
+    /// A decoder for this feed that has taken no byte, with a receiver that has heard nothing.
+    pub fn direct(feed: u32, receiver: R) -> LogDecoder<R>
+        requires { R.least_start receiver ≡ 0 }
+        ensures ready { IsReady (λ r. R.least_start r) result }
+        ensures start { (plan : Plan) (delay : ℕ) → R.stands_for receiver (record { plan = plan; delay = delay; reductions = [] }) →
+            HasDecoded (λ r h. R.stands_for r h) result feed plan delay [] }
+    {
+        LogDecoder {
+            reader: LineReader::new(),
+            receiver,
+            feed,
+        }
+    }
+
+    /// Takes bytes as `take` does.
+    pub fn take_direct(&mut self, bytes: &[u8]) -> Step
+        requires some { 0 < length bytes.now }
+        requires ready { IsReady (λ r. R.least_start r) self.old }
+        ensures some { 0 < result.count }
+        ensures within { result.count ≤ length bytes.now }
+        ensures ready { IsReady (λ r. R.least_start r) self.new }
+        ensures taken { (feed : ℕ) (plan : Plan) (delay : ℕ) (before : List ℕ) → HasDecoded (λ r h. R.stands_for r h) self.old feed plan delay before →
+            DecodesFront (λ r h. R.stands_for r h) self.new feed plan delay before (take result.count bytes.now) result.found }
+    {
+        let front = self.reader.take_line(bytes);
+        Step {
+            count: front.count,
+            found: self.hear_found(front.found),
+        }
+    }
+
+    /// The log has ended.
+    ///
+    /// # Errors
+    ///
+    /// `BadLine` where one was answered, or where bytes stand after the last line feed.
+    pub fn finish_direct(&self) -> Result<(), BadLine>
+        ensures { (feed : ℕ) (plan : Plan) (delay : ℕ) (bytes : List ℕ) → HasDecoded (λ r h. R.stands_for r h) self.now feed plan delay bytes → MatchResult result
+            (λ _. bad_at_end bytes ≡ None)
+            (λ bad. bad_at_end bytes ≡ Some bad.line) }
+    {
+        self.reader.finish()
+    }
+
+    // Hears what a line says that the reader has taken.
+    fn hear_found(
+        &mut self,
+        found: Result<Option<Reduction>, BadLine>,
+    ) -> Result<Option<Entry>, BadLine>
+        requires { MayHear (R.least_start self.old.receiver) found }
+        ensures reader { self.new.reader ≡ self.old.reader }
+        ensures feed { self.new.feed ≡ self.old.feed }
+        ensures heard { (plan : Plan) (delay : ℕ) (before longer : List ℕ) → IsFound before longer found → R.stands_for self.old.receiver (history_of plan delay before) →
+            HearsLine (λ r h. R.stands_for r h) self.new.receiver self.old.feed plan delay before longer result }
+        ensures least { (before longer : List ℕ) → IsFound before longer found → R.least_start self.old.receiver ≤ least_after (pulses before) →
+            R.least_start self.new.receiver ≤ least_after (pulses longer) }
+    {
+        match found {
+            Ok(None) => Ok(None),
+            Ok(Some(reduction)) => Ok(self.hear_one(reduction)),
+            Err(bad) => Err(bad),
+        }
+    }
+
+    // Hears the reduction of a line: the entry of the minute that it completes, if it completes one.
+    fn hear_one(&mut self, reduction: Reduction) -> Option<Entry>
+        requires { R.least_start self.old.receiver ≤ reduction.at }
+        ensures reader { self.new.reader ≡ self.old.reader }
+        ensures feed { self.new.feed ≡ self.old.feed }
+        ensures heard { (h : History) → R.stands_for self.old.receiver h → R.stands_for self.new.receiver (with_reduction h reduction) }
+        ensures answered { (h : History) → R.stands_for self.old.receiver h →
+            map (entry_of self.old.feed) (answers_of (with_reduction h reduction)) ≡ map (entry_of self.old.feed) (answers_of h) ++ option_to_list result }
+        ensures least { R.least_start self.new.receiver ≡ reduction.at + 1 }
+    {
+        let heard = self.receiver.hear(reduction)?;
+        Some(entry_of(self.feed, heard))
+    }
+}
