@@ -79,6 +79,9 @@ ends 1 'status 1 usage'
 ends 1 'status 1 usage' replay --station examples/station.toml --script examples/exchange.script --limit 0
 
 ends 1 'status 1 usage' decode --plan dcf --log "$(printf 'no\377utf8')"
+# Nine words: the last of them is read too.
+ends 6 'status 6 full 2' --limit 2 --station examples/station.toml --script examples/exchange.script -- replay
+ends 1 'status 1 usage' --limit 2 --station examples/station.toml --script examples/exchange.script -- replay decode
 
 # How it ends.
 ends 2 'status 2 open feed 0' decode --plan dcf --log nosuch
@@ -96,6 +99,31 @@ ends 6 'status 6 full 2' replay --station examples/station.toml --script example
 wrote 'page 2 '
 printf '1000000 100000\n2000000 10' > "$work/log"
 ends 5 'status 5 line 0 2' decode --plan dcf --log "$work/log"
+# A station file of one byte more than 65536, all of it a comment.
+{ printf '#'; head -c 65536 /dev/zero | tr '\0' ' '; } > "$work/station"
+ends 10 'status 10 long station' replay --station "$work/station" --script examples/exchange.script
+# Standard streams that are closed: nothing is written to the file that is opened next, and the text can't be taken.
+checked=$((checked + 1))
+./radio_ntpd decode --plan dcf --log examples/dcf77-hour.log >&-
+[ $? = 8 ] || { echo 'examples: a closed standard output does not end with 8' >&2; bad=1; }
+./radio_ntpd decode --plan dcf --log examples/dcf77-hour.log > "$work/out" <&- 2>&-
+if [ $? != 0 ] || [ "$(tail -n 1 "$work/out")" != 'status 0' ]; then
+    echo 'examples: with a closed standard input and error a log is not decoded' >&2
+    bad=1
+fi
+# Memory that runs out, at some limit between none at all and enough.
+checked=$((checked + 1))
+limit=0
+while [ "$limit" -lt 4000 ]; do
+    (ulimit -d "$limit" && exec ./radio_ntpd replay --station examples/station.toml --script examples/exchange.script) > "$work/out" 2> /dev/null
+    told=$?
+    [ "$told" = 9 ] && break
+    limit=$((limit + 4))
+done
+if [ "$told" != 9 ] || [ "$(cat "$work/out")" != 'status 9 memory' ]; then
+    echo "examples: want of memory ends with $told and '$(tail -n 1 "$work/out")'" >&2
+    bad=1
+fi
 if [ -e /dev/full ]; then
     ./radio_ntpd decode --plan dcf --log examples/dcf77-hour.log > /dev/full
     [ $? = 8 ] || { echo 'examples: a full disk does not end with 8' >&2; bad=1; }

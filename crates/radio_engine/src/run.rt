@@ -66,7 +66,7 @@ pub fn run_station<O: Outside, K: Sink>(
         result ≡ Status.Done }
 {
     match read_words(alloc, words) {
-        Ok(Command::Decode { plan, log }) => open_and_decode(plan, log, rack, outside, out),
+        Ok(Command::Decode { plan, log }) => open_and_decode(plan, log, outside, out),
         Ok(
             Command::Replay {
                 station,

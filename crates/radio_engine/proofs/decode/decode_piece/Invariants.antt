@@ -12,11 +12,11 @@ use Rattle.radio_engine.proofs.decode.decode_piece.Given as goal
 abbrev pub invariant-rest : goal.invariant-rest
 invariant-rest g l = record {
   size : length l.line ≡ LINE_ROOM;
-  ready : IsReady (λ b. (goal.Receiver-dyn g (b.vtable, b.value)).least_start b.value) l.decoder;
+  ready : IsReady (λ r. g.R.Receiver.least_start r) l.decoder;
   so_far : (plan : Plan) (bytes text : List ℕ) (start : SinkState) →
-      IsDecodedBy (λ b h. (goal.Receiver-dyn g (b.vtable, b.value)).stands_for b.value h) l.fn.decoder plan bytes text None →
+      IsDecodedBy (λ r h. g.R.Receiver.stands_for r h) l.fn.decoder plan bytes text None →
       WritesAll start (g.K.Sink.state l.fn.out) text →
-      IsTakenSoFar (IsDecodedBy (λ b h. (goal.Receiver-dyn g (b.vtable, b.value)).stands_for b.value h) l.decoder plan) start (g.K.Sink.state l.out) (bytes ++ l.fn.piece) l.rest;
+      IsTakenSoFar (IsDecodedBy (λ r h. g.R.Receiver.stands_for r h) l.decoder plan) start (g.K.Sink.state l.out) (bytes ++ l.fn.piece) l.rest;
 }
 
 abbrev pub decreases-rest : goal.decreases-rest

@@ -14,5 +14,5 @@ returns g c =
       opened = was;
       back = is;
       opens = opened_once _ _ _ (log_visit c.args.name.now was is) _ _ c.in-Ok.ensures.opened c.in-Ok.ensures.number c.in-Ok.ensures.cause.kept c.decode-status.ensures.number c.give_back_log.ensures;
-      decodes = c.decode-status.ensures.decodes c.args.plan c.first_of-receiver.ensures.blank;
+      decodes = c.decode-status.ensures.decodes;
     })

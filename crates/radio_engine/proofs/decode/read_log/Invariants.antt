@@ -11,10 +11,10 @@ abbrev pub invariant-pieces : goal.invariant-pieces
 invariant-pieces g l = record {
   number : g.S.Source.opening l.log ≡ g.S.Source.opening l.fn.log;
   limit : limit_of l.reader ≡ 2 ^ 30;
-  ready : IsReady (λ b. (goal.Receiver-dyn g (b.vtable, b.value)).least_start b.value) l.decoder;
-  so_far : (plan : Plan) → IsDecodedBy (λ b h. (goal.Receiver-dyn g (b.vtable, b.value)).stands_for b.value h) l.fn.decoder plan [] [] None →
+  ready : IsReady (λ r. g.R.Receiver.least_start r) l.decoder;
+  so_far : (plan : Plan) → IsDecodedBy (λ r h. g.R.Receiver.stands_for r h) l.fn.decoder plan [] [] None →
       (bytes : List ℕ) × HasPulled l.reader (g.S.Source.state l.fn.log) (g.S.Source.state l.log) bytes
-      × TakesAll (IsDecodedBy (λ b h. (goal.Receiver-dyn g (b.vtable, b.value)).stands_for b.value h) l.decoder plan) (g.K.Sink.state l.fn.out) (g.K.Sink.state l.out) bytes;
+      × TakesAll (IsDecodedBy (λ r h. g.R.Receiver.stands_for r h) l.decoder plan) (g.K.Sink.state l.fn.out) (g.K.Sink.state l.out) bytes;
 }
 
 abbrev pub decreases-pieces : goal.decreases-pieces
