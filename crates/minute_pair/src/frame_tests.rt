@@ -45,9 +45,7 @@ fn start_of(place: usize, moved: u64) -> Result<Local, Fail> {
     Ok(Local::new(1_900_000 + 1_000_000 * (place % 100) as u64 + moved % 1_000_000).ok_or("start")?)
 }
 
-type Marks = [Mark; 70];
-
-fn seventy(symbols: &[Symbol; 70]) -> Result<Marks, Fail> {
+fn seventy(symbols: &[Symbol; 70]) -> Result<[Mark; 70], Fail> {
     let mut marks = [Mark {
         at: Local::new(0).ok_or("start")?,
         symbol: Symbol::Zero,
@@ -89,10 +87,10 @@ fn agree_on_fronts<C: CodePlan>(marks: &[Mark]) -> Result<(), Fail> {
 }
 
 // Each symbol at each place, within a minute and behind it.
-fn agree_on_symbols<C: CodePlan>(marks: &Marks) -> Result<(), Fail> {
+fn agree_on_symbols<C: CodePlan>(symbols: &[Symbol; 70]) -> Result<(), Fail> {
     for place in 0..70 {
         for symbol in SYMBOLS {
-            let mut changed = *marks;
+            let mut changed = seventy(symbols)?;
             changed[place].symbol = symbol;
             agree_on_fronts::<C>(&changed)?;
         }
@@ -101,10 +99,10 @@ fn agree_on_symbols<C: CodePlan>(marks: &Marks) -> Result<(), Fail> {
 }
 
 // Each mark too early, too late, and just in time.
-fn agree_on_starts<C: CodePlan>(marks: &Marks) -> Result<(), Fail> {
+fn agree_on_starts<C: CodePlan>(symbols: &[Symbol; 70]) -> Result<(), Fail> {
     for place in 0..70 {
         for moved in [0u64, 199_999, 200_000, 200_001, 300_000] {
-            let mut changed = *marks;
+            let mut changed = seventy(symbols)?;
             changed[place].at = start_of(place, moved)?;
             agree_on_fronts::<C>(&changed)?;
         }
@@ -113,7 +111,8 @@ fn agree_on_starts<C: CodePlan>(marks: &Marks) -> Result<(), Fail> {
 }
 
 // Segments of each length, closed too early, too late, and just in time.
-fn agree_on_lengths<C: CodePlan>(marks: &Marks) -> Result<(), Fail> {
+fn agree_on_lengths<C: CodePlan>(symbols: &[Symbol; 70]) -> Result<(), Fail> {
+    let marks = seventy(symbols)?;
     for count in 0..71 {
         for moved in [0u64, 199_999, 200_000, 200_001, 300_000] {
             let _ = read_both::<C>(&marks[..count], start_of(count, moved)?)?;
@@ -123,7 +122,7 @@ fn agree_on_lengths<C: CodePlan>(marks: &Marks) -> Result<(), Fail> {
 }
 
 // Seventy marks are refused by their length; by an odd width, or by their spacing, wherever they are.
-fn refuse_a_long_segment<C: CodePlan>(rt: &impl Abort, marks: &Marks) -> Result<(), Fail> {
+fn refuse_a_long_segment<C: CodePlan>(rt: &impl Abort, symbols: &[Symbol; 70]) -> Result<(), Fail> {
     let rows = [
         (70, 70, 3),
         (64, 70, 2),
@@ -134,7 +133,7 @@ fn refuse_a_long_segment<C: CodePlan>(rt: &impl Abort, marks: &Marks) -> Result<
         (70, 2, 1),
     ];
     for (odd, late, rule) in rows {
-        let mut marks = *marks;
+        let mut marks = seventy(symbols)?;
         if odd < 70 {
             marks[odd].symbol = Symbol::Odd;
         }
@@ -148,11 +147,10 @@ fn refuse_a_long_segment<C: CodePlan>(rt: &impl Abort, marks: &Marks) -> Result<
 }
 
 fn agree<C: CodePlan>(rt: &impl Abort, symbols: &[Symbol; 70]) -> Result<(), Fail> {
-    let marks = seventy(symbols)?;
-    agree_on_symbols::<C>(&marks)?;
-    agree_on_starts::<C>(&marks)?;
-    agree_on_lengths::<C>(&marks)?;
-    refuse_a_long_segment::<C>(rt, &marks)
+    agree_on_symbols::<C>(symbols)?;
+    agree_on_starts::<C>(symbols)?;
+    agree_on_lengths::<C>(symbols)?;
+    refuse_a_long_segment::<C>(rt, symbols)
 }
 
 fn symbols_by(plan: Plan) -> [Symbol; 70] {
