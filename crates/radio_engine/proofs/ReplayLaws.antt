@@ -7,7 +7,6 @@ use Rattle.radio_receiver.specs.Histories.{History}
 use Rattle.script_line.specs.declared.line.ScriptLine.{ScriptLine}
 use Rattle.script_player.specs.Replay.{is_full, page_after}
 use Rattle.script_player.specs.KeptPlayer.{HasPlayed}
-use Rattle.script_player.specs.Texts.{replay_text}
 use Rattle.station_config.specs.Station.{StationFields}
 use Rattle.radio_engine.specs.Endings.{status_of, status_line}
 use Rattle.radio_engine.specs.Playing.{IsPlayedBy}
@@ -22,7 +21,6 @@ use Rattle.radio_engine.specs.declared.replay.replayer.Replayer.{Replayer}
 use Rattle.radio_engine.specs.declared.ending.status.Status.{Status}
 use Rattle.radio_engine.specs.declared.ending.status.Status.TheVariants.{WriteFault}
 use Rattle.radio_engine.proofs.ScriptLaws.{bad_stays}
-use Rattle.radio_engine.proofs.WritingLaws.{answers_more}
 
 -- bytes behind a bad line change neither that line nor the lines before it
 lines_stay : (of : StationFields) (lines : List ScriptLine) (front behind : List ℕ) (bad : Option ℕ) → HasLines of front lines bad → (bad ≡ None → behind ≡ []) → HasLines of (front ++ behind) lines bad

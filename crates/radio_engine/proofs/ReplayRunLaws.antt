@@ -1,5 +1,5 @@
 -- How a command to replay ends that has opened its station.
-use Rattle.std.proofs.Common.{◌≡◌, ℕ, Some, None, List, [], ◌∷◌, refl, inl, inr}
+use Rattle.std.proofs.Common.{ℕ, Some, None, List, [], ◌∷◌, refl, inl, inr}
 use Rattle.feed_link.specs.Told.{SinkState}
 use Rattle.feed_link.specs.Openings.{OutsideState, MakesOpenings}
 use Rattle.feed_link.specs.Openings.Wanted.{LogOf}

@@ -1,12 +1,12 @@
 -- A command without a fault is done, and one that opened nothing is none.
-use Rattle.std.proofs.Common.{◌≡◌, ℕ, ◌≤◌, ◌^◌, ◌⊎◌, Option, Some, None, List, [], ◌∷◌, ◌++◌, length, map, ap, sym, ◌∙◌, subst, inl, inr, arith}
+use Rattle.std.proofs.Common.{◌≡◌, ℕ, ◌≤◌, ◌^◌, ◌⊎◌, Option, Some, None, List, [], ◌∷◌, ◌++◌, length, ap, sym, ◌∙◌, subst, inl, inr, arith}
 use Rattle.std.proofs.lemmas.List.{length-append}
 use Rattle.command_words.specs.Commands.{Asked, AskFor, IsLimit}
 use Rattle.command_words.specs.Commands.Asked.{decode, replay}
 use Rattle.feed_link.specs.Faults.{Rose}
 use Rattle.feed_link.specs.Told.{SinkState}
 use Rattle.feed_link.specs.Openings.{Opening, OutsideState, log_visit, visited}
-use Rattle.radio_engine.specs.Run.{Lacks, Runs, IsFaultless}
+use Rattle.radio_engine.specs.Run.{Lacks, Runs, IsFaultless, IsRun}
 use Rattle.radio_engine.specs.declared.ending.status.Status.{Status}
 use Rattle.radio_engine.specs.declared.ending.status.Status.TheVariants.{Done}
 use Rattle.radio_engine.proofs.GoodLogLaws.{log_done}
@@ -37,3 +37,12 @@ limit_by (Some text) n h = h.2
 -- the limit that words ask for
 pub limit_of : (words : List (List ℕ)) (a b : List ℕ) (n : ℕ) → AskFor words (replay a b n) → n ≤ 2 ^ 22
 limit_of words a b n h = limit_by _ n h.says.2
+
+-- nothing was opened, since no memory was found
+pub run_unbegun : (words : List (List ℕ)) (outside outside_now : OutsideState) (out out_now : SinkState) (result : Status) → Lacks outside outside_now out out_now result →
+    IsRun words outside outside_now out out_now result
+run_unbegun words outside outside_now out out_now result lacks = record {
+  refused = λ none. inr lacks;
+  runs = λ asked h. inl lacks;
+  complete = λ asked h good no_write. runs_done asked outside outside_now out out_now result good no_write (inl lacks);
+}

@@ -1,5 +1,5 @@
 -- An opening that a command needs, and that fails.
-use Rattle.std.specs.Prelude.{◌≡◌, Some, List}
+use Rattle.std.specs.Prelude.{Some, List}
 use Rattle.feed_link.specs.Told.{SinkState}
 use Rattle.feed_link.specs.Openings.{OutsideState, Wanted, Visit, MakesOpenings}
 use Rattle.radio_engine.specs.Endings.{status_of, status_line}

@@ -1,7 +1,8 @@
 -- What the program does: each command that words may ask for, what becomes of it, and when nothing has a fault.
 use Rattle.std.specs.Prelude.{◌≡◌, ℕ, ◌⊎◌, List}
-use Rattle.command_words.specs.Commands.{Asked}
+use Rattle.command_words.specs.Commands.{Asked, AskFor}
 use Rattle.command_words.specs.Commands.Asked.{decode, replay}
+use Rattle.feed_link.specs.Faults.{Rose}
 use Rattle.feed_link.specs.Told.{SinkState}
 use Rattle.feed_link.specs.Openings.{OutsideState}
 use Rattle.radio_engine.specs.Decoding.{RunsDecode, HasGoodLog}
@@ -11,6 +12,7 @@ use Rattle.radio_engine.specs.Writing.{Answers}
 use Rattle.radio_engine.specs.declared.ending.Ending.{Ending}
 use Rattle.radio_engine.specs.declared.ending.Ending.TheVariants.{WrongWords, NoMemory}
 use Rattle.radio_engine.specs.declared.ending.status.Status.{Status}
+use Rattle.radio_engine.specs.declared.ending.status.Status.TheVariants.{Done}
 
 -- nothing is opened, and the status line alone is written
 pub record EndsUnopened (ending : Ending) (outside outside_now : OutsideState) (out out_now : SinkState) (result : Status) : Type 0 where
@@ -34,3 +36,9 @@ Runs (replay station script limit) outside outside_now out out_now result = Runs
 abbrev pub IsFaultless : Asked → OutsideState → OutsideState → Type 0
 IsFaultless (decode plan log) outside outside_now = HasGoodLog log outside outside_now
 IsFaultless (replay station script limit) outside outside_now = HasGoodScript station script limit outside outside_now
+
+-- all that the one call promises of these words: `run_station` says it clause by clause, and who hands its words on says it so
+pub record IsRun (words : List (List ℕ)) (outside outside_now : OutsideState) (out out_now : SinkState) (result : Status) : Type 0 where
+  pub refused : ((asked : Asked) → AskFor words asked → ⊥) → Refuses outside outside_now out out_now result ⊎ Lacks outside outside_now out out_now result
+  pub runs : (asked : Asked) → AskFor words asked → Lacks outside outside_now out out_now result ⊎ Runs asked outside outside_now out out_now result
+  pub complete : (asked : Asked) → AskFor words asked → IsFaultless asked outside outside_now → (Rose out.faults out_now.faults → ⊥) → result ≡ Done

@@ -51,11 +51,7 @@ fn give_found(found: Result<Option<Entry>, BadLine>, line: &mut Line) -> Gives
 }
 
 // Takes bytes up to the next entry, whose line is then the front of `line`, up to a bad line, or all of them.
-fn take_line<R: Receiver>(
-    decoder: &mut LogDecoder<R>,
-    bytes: &[u8],
-    line: &mut Line,
-) -> Took
+fn take_line<R: Receiver>(decoder: &mut LogDecoder<R>, bytes: &[u8], line: &mut Line) -> Took
     requires some { 0 < length bytes.now }
     requires ready { IsReady (λ r. R.least_start r) decoder.old }
     ensures some { 0 < result.count }

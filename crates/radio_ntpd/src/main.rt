@@ -2,14 +2,12 @@
 //! call that does all, and ends with that call's status.
 #![tactic(auto)]
 
-ghost use Rattle.std.specs.Prelude.{◌≡◌, ◌⊎◌, IfOk, OnErr, drop, map};
+ghost use Rattle.std.specs.Prelude.{◌≡◌, IfOk, MatchResult, drop, map};
 ghost use Rattle.std.specs.Process.{exit_status};
 ghost use Rattle.std.specs.String.{string_bytes};
 ghost use Rattle.std.specs.Vec.Iter.{into_iter_items};
-ghost use Rattle.command_words.specs.Commands.{Asked, AskFor};
-ghost use Rattle.feed_link.specs.Faults.{Rose};
 ghost use Rattle.radio_engine.specs.Endings.{number_of};
-ghost use Rattle.radio_engine.specs.Run.{Refuses, Lacks, Runs, IsFaultless};
+ghost use Rattle.radio_engine.specs.Run.{IsRun};
 
 use feed_link::{HostOutside, Outside, Sink, StreamSink};
 use radio_engine::{Status, end_without_memory, put_in_rack, run_station};
@@ -74,13 +72,29 @@ fn words(rt: &HostRuntime) -> Result<Vec<String>, AllocError> {
 fn behind_the_name(alloc: Global, all: Args) -> Result<Vec<String>, AllocError>
     ensures { IfOk result (λ words. words.items ≡ drop 1 (into_iter_items all)) }
 {
-    let mut all = all;
-    let _ = all.next();
+    let words = listed(alloc, all)?;
+    Ok(without_first(words))
+}
+
+// All that the host gives.
+fn listed(alloc: Global, all: Args) -> Result<Vec<String>, AllocError>
+    ensures { IfOk result (λ words. words.items ≡ into_iter_items all) }
+{
     let mut words = Vec::new(alloc);
     for word in all {
         words.push(word)?;
     }
     Ok(words)
+}
+
+fn without_first(words: Vec<String>) -> Vec<String>
+    ensures { result.items ≡ drop 1 words.items }
+{
+    let mut words = words;
+    if !words.is_empty() {
+        words.remove(0);
+    }
+    words
 }
 
 // Words as their texts.
@@ -101,15 +115,7 @@ fn run_words<O: Outside, K: Sink>(
     outside: &mut O,
     out: &mut K,
 ) -> Status
-    ensures refused { ((asked : Asked) → AskFor (map (λ w. string_bytes w) words.now) asked → ⊥) →
-        Refuses (O.state outside.old) (O.state outside.new) (K.state out.old) (K.state out.new) result
-        ⊎ Lacks (O.state outside.old) (O.state outside.new) (K.state out.old) (K.state out.new) result }
-    ensures runs { (asked : Asked) → AskFor (map (λ w. string_bytes w) words.now) asked →
-        Lacks (O.state outside.old) (O.state outside.new) (K.state out.old) (K.state out.new) result
-        ⊎ Runs asked (O.state outside.old) (O.state outside.new) (K.state out.old) (K.state out.new) result }
-    ensures complete { (asked : Asked) → AskFor (map (λ w. string_bytes w) words.now) asked →
-        IsFaultless asked (O.state outside.old) (O.state outside.new) → (Rose (K.state out.old).faults (K.state out.new).faults → ⊥) →
-        result ≡ Status.Done }
+    ensures { IsRun (map (λ w. string_bytes w) words.now) (O.state outside.old) (O.state outside.new) (K.state out.old) (K.state out.new) result }
 {
     match run(alloc, words, outside, out) {
         Ok(status) => status,
@@ -124,17 +130,9 @@ fn run<O: Outside, K: Sink>(
     outside: &mut O,
     out: &mut K,
 ) -> Result<Status, AllocError>
-    ensures refused { ((asked : Asked) → AskFor (map (λ w. string_bytes w) words.now) asked → ⊥) → IfOk result (λ status.
-        Refuses (O.state outside.old) (O.state outside.new) (K.state out.old) (K.state out.new) status
-        ⊎ Lacks (O.state outside.old) (O.state outside.new) (K.state out.old) (K.state out.new) status) }
-    ensures runs { (asked : Asked) → AskFor (map (λ w. string_bytes w) words.now) asked → IfOk result (λ status.
-        Lacks (O.state outside.old) (O.state outside.new) (K.state out.old) (K.state out.new) status
-        ⊎ Runs asked (O.state outside.old) (O.state outside.new) (K.state out.old) (K.state out.new) status) }
-    ensures complete { (asked : Asked) → AskFor (map (λ w. string_bytes w) words.now) asked →
-        IsFaultless asked (O.state outside.old) (O.state outside.new) → (Rose (K.state out.old).faults (K.state out.new).faults → ⊥) →
-        IfOk result (λ status. status ≡ Status.Done) }
-    ensures outside_kept { OnErr result (O.state outside.new ≡ O.state outside.old) }
-    ensures out_kept { OnErr result (K.state out.new ≡ K.state out.old) }
+    ensures { MatchResult result
+        (λ status. IsRun (map (λ w. string_bytes w) words.now) (O.state outside.old) (O.state outside.new) (K.state out.old) (K.state out.new) status)
+        (λ _. (O.state outside.new ≡ O.state outside.old) × (K.state out.new ≡ K.state out.old)) }
 {
     let texts = texts_of(alloc, words)?;
     let mut rack: Vec<Box<dyn Receiver + Send>> = Vec::new(alloc);

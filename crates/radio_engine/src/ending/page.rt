@@ -9,10 +9,9 @@ use super::Ending;
 use super::status::Status;
 use super::writing::{finish, write_all};
 use crate::reading::Line;
-use journal_entry::LINE_ROOM;
 use clock_page::Page;
 use feed_link::{Failed, Sink};
-
+use journal_entry::LINE_ROOM;
 use system_fold::page_text;
 
 // Writes the line of a page at the front of `line`. The answer is its number of bytes.

@@ -15,7 +15,6 @@ use crate::reading::{Gives, Line, Reach, Taken, Took, write_given};
 use feed_link::{Failed, Sink, Source};
 use file_reader::{FileEnd, FileReader, Pulled};
 use journal_entry::LINE_ROOM;
-
 use radio_receiver::Receiver;
 use script_line::{Cut, LineCutter, read_line};
 use script_player::{BoxedReceiver, NotLawful, Player, write_outcome};

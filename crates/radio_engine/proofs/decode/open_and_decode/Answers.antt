@@ -1,4 +1,4 @@
-use Rattle.std.proofs.Common.{◌∙◌, inr}
+use Rattle.std.proofs.Common.{inr}
 use Rattle.feed_link.specs.Openings.{log_visit}
 use Rattle.feed_link.proofs.OpeningLaws.{opened_once, out_after}
 use Rattle.radio_engine.proofs.decode.open_and_decode.Goals as goal

@@ -1,7 +1,6 @@
-use Rattle.std.proofs.Common.{ℕ, inl, inr, sym, ◌∙◌, subst}
+use Rattle.std.proofs.Common.{inr}
 use Rattle.feed_link.specs.Openings.{log_visit}
-use Rattle.feed_link.specs.Openings.Wanted.{LogOf}
-use Rattle.feed_link.proofs.OpeningLaws.{opened_once, opening_failed, out_after}
+use Rattle.feed_link.proofs.OpeningLaws.{opened_once, out_after}
 use Rattle.radio_engine.proofs.replay.open_and_play.Goals as goal
 
 pub give_back_log-requires : goal.give_back_log-requires

@@ -1,6 +1,6 @@
-use Rattle.std.proofs.Common.{ℕ, ◌⊎◌, inl, inr, sym, subst}
+use Rattle.std.proofs.Common.{ℕ, ◌⊎◌, inr, subst}
 use Rattle.command_words.specs.Commands.{Asked}
-use Rattle.command_words.specs.Commands.Asked.{decode, replay}
+use Rattle.command_words.specs.Commands.Asked.{replay}
 use Rattle.radio_engine.specs.Run.{Lacks, Runs}
 use Rattle.radio_engine.proofs.RunLaws.{runs_done, untouched, limit_of}
 use Rattle.radio_engine.proofs.run.run_station.Goals as goal

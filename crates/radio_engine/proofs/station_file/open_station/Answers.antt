@@ -1,6 +1,5 @@
-use Rattle.std.proofs.Common.{ℕ, sym, ◌∙◌, subst}
 use Rattle.feed_link.specs.Openings.{log_visit}
-use Rattle.feed_link.proofs.OpeningLaws.{opened_once, opening_failed, out_after}
+use Rattle.feed_link.proofs.OpeningLaws.{opened_once, out_after}
 use Rattle.radio_engine.proofs.station_file.open_station.Goals as goal
 
 pub give_back_log-requires : goal.give_back_log-requires

@@ -1,9 +1,8 @@
-use Rattle.std.proofs.Common.{◌≡◌, ◌^◌, ℕ, List, [], ◌++◌, length, refl, sym, ap, ◌∙◌, subst, arith}
+use Rattle.std.proofs.Common.{◌^◌, ℕ, List, [], ◌++◌, length, refl, sym, ap, ◌∙◌, subst, arith}
 use Rattle.feed_link.proofs.ToldLaws.{Adds-none}
 use Rattle.file_reader.specs.Ends.{HasReadFront, EndsReading}
 use Rattle.file_reader.specs.Reader.{piece_of}
 use Rattle.file_reader.specs.declared.reader.FileEnd.TheVariants.{Whole, Fault, TooLong}
-use Rattle.radio_engine.specs.Taking.{TakesAll, MeetsBad, Stops}
 use Rattle.radio_engine.proofs.ReachLaws.{ends_whole, ends_fault, ends_long, ends_bad, ends_stopped}
 use Rattle.radio_engine.proofs.replay.replayer.read_script.Goals as goal
 
