@@ -111,13 +111,14 @@ if [ $? != 0 ] || [ "$(tail -n 1 "$work/out")" != 'status 0' ]; then
     echo 'examples: with a closed standard input and error a log is not decoded' >&2
     bad=1
 fi
-# Memory that runs out, at some limit between none at all and enough.
+# Memory that runs out, at the least limit at which the program can begin at all.
 checked=$((checked + 1))
-limit=0
-while [ "$limit" -lt 4000 ]; do
-    (ulimit -d "$limit" && exec ./radio_ntpd replay --station examples/station.toml --script examples/exchange.script) > "$work/out" 2> /dev/null
+limit=48
+while [ "$limit" -lt 1000 ]; do
+    (ulimit -d "$limit" && exec crates/radio_ntpd/out/radio_ntpd replay --station examples/station.toml \
+        --script examples/exchange.script) > "$work/out" 2> /dev/null
     told=$?
-    [ "$told" = 9 ] && break
+    [ "$told" = 127 ] || [ "$told" = 139 ] || break
     limit=$((limit + 4))
 done
 if [ "$told" != 9 ] || [ "$(cat "$work/out")" != 'status 9 memory' ]; then

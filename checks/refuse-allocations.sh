@@ -3,8 +3,7 @@
 #
 # A run may only end so:
 #   whole      the same text and status as without a refusal
-#   unbegun    no text, and 9: the words of the command line or the receivers found no memory
-#   memory     `status 9 memory` alone, and 9; behind the first such number none is unbegun
+#   memory     `status 9 memory` alone, and 9
 # With the fakes a refusal may also be one of the test's own (it then judges nothing) or of the output in memory, which is a
 # failed write. Anything else is printed as BAD, and the script ends with 1.
 #
@@ -57,7 +56,6 @@ refuse() {
 ended() {
     if [ "$status" = "$1" ] && cmp -s "$work/out" "$work/whole"; then echo whole
     elif [ "$status" = 9 ] && cmp -s "$work/out" "$work/memory"; then echo memory
-    elif [ "$status" = 9 ] && [ ! -s "$work/out" ]; then echo unbegun
     else echo "BAD: status $status"
     fi
 }
@@ -69,12 +67,10 @@ program() {
     wanted=$?
     next=1
     made=yes
-    begun=no
     while [ "$made" = yes ]; do
         refuse "$next" "$program" "$@"
         how=$(ended "$wanted")
-        case $begun$how in yesunbegun) how="BAD: unbegun" ;; esac
-        case $how in memory) begun=yes ;; BAD*) bad=1 ;; esac
+        case $how in BAD*) bad=1 ;; esac
         echo "  $next $made $how"
         next=$((next + 1))
     done
