@@ -1,7 +1,7 @@
 -- A script without a fault is played whole.
 use Rattle.std.proofs.Common.{◌≡◌, ℕ, ◌+◌, Bool, true, false, Option, None, Some, List, [], ◌∷◌, ◌++◌, length, refl, ap, sym, ◌∙◌, subst, inl, inr, arith, append_assoc}
 use Rattle.std.proofs.lemmas.List.{append-nil, length-append}
-use Rattle.feed_link.specs.Faults.{Rose}
+use Rattle.feed_link.specs.Faults.{Rose, RoseByOne}
 use Rattle.feed_link.specs.Told.{SourceState, SinkState}
 use Rattle.feed_link.specs.Openings.{OutsideState}
 use Rattle.file_reader.specs.Ends.{EndsReading}
@@ -120,9 +120,9 @@ module _ (of : StationFields) (limit : ℕ) (opened back : SourceState) (good : 
 script_done : (of : StationFields) (limit : ℕ) (opened back : SourceState) (out out_now : SinkState) (result : Status) →
     Replays of limit opened back out out_now result → IsGoodScript of limit opened back → (Rose out.faults out_now.faults → ⊥) → result ≡ Done
 script_done of limit opened back out out_now result r p no_write = elim r [
-  | inr stopped ↦ absurd (no_write stopped.written.3)
+  | inr stopped ↦ absurd (no_write (rose_by_one out.faults out_now.faults stopped.written.3))
   | inl h ↦ elim h.written [
-    | inr failed ↦ absurd (no_write (subst (λ (n : ℕ). Rose n out_now.faults) h.played.1 failed.1.3))
+    | inr failed ↦ absurd (no_write (rose_by_one out.faults out_now.faults (subst (λ (n : ℕ). RoseByOne n out_now.faults) h.played.1 failed.1.3)))
     | inl all ↦ (let whole = read_whole of limit opened back p h.bytes h.lines h.bad h.lawful h.reach h.read in
         let room : is_full of limit h.lines ≡ false = ap (is_full of limit) whole.1 ∙ p.room in
         all.0 ∙ ap status_of (h.due_is ∙ ap (λ (x : Reach). replay_ending x (is_full of limit h.lines) limit) whole.0 ∙ ap (λ (b : Bool). replay_ending (AtEnd Whole) b limit) room))

@@ -1,6 +1,6 @@
 -- A text written after another.
 use Rattle.std.proofs.Common.{ℕ, List, ◌++◌, ap, sym, ◌∙◌, subst, inl, inr, append_assoc, refl}
-use Rattle.feed_link.specs.Faults.{Rose}
+use Rattle.feed_link.specs.Faults.{RoseByOne}
 use Rattle.feed_link.specs.Told.{SinkState}
 use Rattle.feed_link.proofs.ToldLaws.{Adds-more}
 use Rattle.radio_engine.specs.declared.ending.status.Status.{Status}
@@ -17,7 +17,7 @@ writes_front a b c x y h k = (
   x ++ k.0,
   (k.1.0, ap (λ (t : List ℕ). x ++ t) k.1.1 ∙ sym (append_assoc x k.0 k.1.0)),
   Adds-more a.held b.held c.held x k.0 h.0 k.2,
-  subst (λ (n : ℕ). Rose n c.faults) h.1 k.3,
+  subst (λ (n : ℕ). RoseByOne n c.faults) h.1 k.3,
 )
 
 -- a text, and then the status line
