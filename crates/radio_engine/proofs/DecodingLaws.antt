@@ -1,8 +1,9 @@
 -- What a decoder of a log stands for, with more bytes; and how the decoding of a log ends.
-use Rattle.std.proofs.Common.{◌≡◌, ℕ, Option, None, Some, Result, Ok, Err, List, [], ◌∷◌, ◌++◌, map, refl, ap, sym, ◌∙◌, subst, inl, inr}
+use Rattle.std.proofs.Common.{◌≡◌, ℕ, Option, None, Some, Result, Ok, Err, List, [], ◌∷◌, ◌++◌, map, refl, ap, sym, ◌∙◌, subst, inl, inr, append_assoc}
 use Rattle.std.proofs.lemmas.List.{append-nil}
 use Rattle.std.proofs.lemmas.List.Concat.{flat_map-append}
 use Rattle.feed_link.specs.Told.{SourceState, SinkState}
+use Rattle.file_reader.specs.Ends.{HasReadFront}
 use Rattle.journal_entry.specs.declared.entry.Entry.{Entry}
 use Rattle.log_decoder.specs.Decoding.{HasDecoded, DecodesFront}
 use Rattle.log_decoder.specs.Due.{due_log, entry_line, entry_of, lines_of_entries}
@@ -17,7 +18,7 @@ use Rattle.tick_units.specs.declared.marks.Plan.TheVariants.{Dcf, Msf, Wwvb}
 use Rattle.tick_units.specs.declared.marks.Reduction.{Reduction}
 use Rattle.radio_engine.specs.Decoding.{Decodes, most_of_a_log}
 use Rattle.radio_engine.specs.Endings.{status_of, status_line, ending_at}
-use Rattle.radio_engine.specs.LogTaking.{IsDecodedBy, IsFound}
+use Rattle.radio_engine.specs.LogTaking.{IsDecodedBy, IsFound, log_says}
 use Rattle.radio_engine.specs.Reading.{ReadsLines, bad_in_the_end}
 use Rattle.radio_engine.specs.Taking.{given, bad_of, EndsItself, EndsStopped}
 use Rattle.radio_engine.specs.Text.{log_text}
@@ -99,14 +100,24 @@ module _ {B : Type 0} (stands : B → History → Type 0) where
         written = answers;
       })
 
-  pub decodes_stopped : (plan : Plan) (d : LogDecoder B) (file file_now : SourceState) (out out_now : SinkState) →
-      EndsStopped (IsDecodedBy stands d plan) most_of_a_log file file_now out out_now → Decodes plan file file_now out out_now WriteFault
-  decodes_stopped plan d file file_now out out_now h =
-      let decoded : IsDecodedBy stands d plan h.front h.text None = h.held in
-      let grows = lines_grow 0 plan 0 h.front h.behind in
-      inr (record {
-        bytes = h.front ++ h.behind;
-        read = h.read;
-        answer = refl;
-        written = front_of_more out out_now h.text (log_text plan (h.front ++ h.behind)) (grows.0, grows.1 ∙ ap (λ (t : List ℕ). t ++ grows.0) (sym decoded.text_is)) h.written;
-      })
+-- a write failed in the lines that the last piece adds
+pub decodes_stopped : (plan : Plan) (file file_now : SourceState) (out out_now : SinkState) → EndsStopped (log_says plan) most_of_a_log file file_now out out_now → Decodes plan file file_now out out_now WriteFault
+decodes_stopped plan file file_now out out_now h =
+    let s = h.stops in
+    let grows = lines_grow 0 plan 0 (s.earlier ++ s.next) s.behind in
+    inr (record {
+      earlier = s.earlier;
+      next = s.next ++ s.behind;
+      read = subst (λ (b : List ℕ). HasReadFront most_of_a_log file file_now b) (sym s.all) h.read;
+      near = s.near;
+      between = s.between;
+      lines = subst (λ (t : List ℕ). WritesAll out s.between t) s.said s.whole;
+      more = s.more ++ grows.0;
+      adds = ap (log_text plan) (sym (append_assoc s.earlier s.next s.behind)) ∙ grows.1 ∙ ap (λ (t : List ℕ). t ++ grows.0) (sym s.adds) ∙ ap (λ (t : List ℕ). (t ++ s.more) ++ grows.0) s.said
+          ∙ append_assoc (log_text plan s.earlier) s.more grows.0;
+      failed = front_of_more s.between out_now s.more (s.more ++ grows.0) (grows.0, refl) s.failed;
+      answer = refl;
+    })
+
+pub decoded_says : {B : Type 0} (stands : B → History → Type 0) (d : LogDecoder B) (plan : Plan) (bytes text : List ℕ) (bad : Option ℕ) → IsDecodedBy stands d plan bytes text bad → bad ≡ None → log_says plan bytes text
+decoded_says stands d plan bytes text bad h none = (subst (λ (b : Option ℕ). IsDecodedBy stands d plan bytes text b) none h).text_is

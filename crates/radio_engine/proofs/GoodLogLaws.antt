@@ -83,7 +83,7 @@ module _ (opened back : SourceState) (good : IsGoodLog opened back) (bytes : Lis
 good_done : (plan : Plan) (opened back : SourceState) (out out_now : SinkState) (result : Status) →
     Decodes plan opened back out out_now result → IsGoodLog opened back → (Rose out.faults out_now.faults → ⊥) → result ≡ Done
 good_done plan opened back out out_now result d good no_write = elim d [
-  | inr stopped ↦ absurd (no_write (rose_by_one out.faults out_now.faults stopped.written.3))
+  | inr stopped ↦ absurd (no_write (rose_by_one out.faults out_now.faults (subst (λ (n : ℕ). RoseByOne n out_now.faults) stopped.lines.1 stopped.failed.3)))
   | inl h ↦ elim h.written [
     | inr failed ↦ absurd (no_write (rose_by_one out.faults out_now.faults (subst (λ (n : ℕ). RoseByOne n out_now.faults) h.lines.1 failed.1.3)))
     | inl all ↦ all.0 ∙ ap (λ (r : Reach). status_of (ending_at (Feed 0) r)) (good_reach opened back good h.bytes h.due h.read)

@@ -120,7 +120,7 @@ module _ (of : StationFields) (limit : ℕ) (opened back : SourceState) (good : 
 script_done : (of : StationFields) (limit : ℕ) (opened back : SourceState) (out out_now : SinkState) (result : Status) →
     Replays of limit opened back out out_now result → IsGoodScript of limit opened back → (Rose out.faults out_now.faults → ⊥) → result ≡ Done
 script_done of limit opened back out out_now result r p no_write = elim r [
-  | inr stopped ↦ absurd (no_write (rose_by_one out.faults out_now.faults stopped.written.3))
+  | inr stopped ↦ absurd (no_write (rose_by_one out.faults out_now.faults (subst (λ (n : ℕ). RoseByOne n out_now.faults) stopped.played.1 stopped.failed.3)))
   | inl h ↦ elim h.written [
     | inr failed ↦ absurd (no_write (rose_by_one out.faults out_now.faults (subst (λ (n : ℕ). RoseByOne n out_now.faults) h.played.1 failed.1.3)))
     | inl all ↦ (let whole = read_whole of limit opened back p h.bytes h.lines h.bad h.lawful h.reach h.read in

@@ -1,11 +1,11 @@
 -- How the reading of a file ends whose bytes were taken as they came.
-use Rattle.std.proofs.Common.{◌≡◌, ℕ, Option, None, Some, List, [], ◌++◌, refl, sym, subst, inl, inr}
+use Rattle.std.proofs.Common.{◌≡◌, ◌≤◌, ℕ, Option, None, Some, List, [], ◌++◌, refl, sym, subst, inl, inr, arith}
 use Rattle.std.proofs.lemmas.List.{append-nil}
 use Rattle.feed_link.specs.Told.{SourceState, SinkState, Takes}
 use Rattle.file_reader.specs.Ends.{HasReadFront, EndsReading}
 use Rattle.file_reader.specs.declared.reader.FileEnd.TheVariants.{Whole, Fault, TooLong}
 use Rattle.radio_engine.specs.Reading.{ReadsLines, bad_in_the_end}
-use Rattle.radio_engine.specs.Taking.{Holds, TakesAll, MeetsBad, Stops, EndsAt, EndsItself, EndsStopped}
+use Rattle.radio_engine.specs.Taking.{Holds, Says, TakesAll, MeetsBad, Stops, EndsAt, EndsItself, EndsStopped}
 use Rattle.radio_engine.specs.declared.reading.Reach.{Reach}
 use Rattle.radio_engine.specs.declared.reading.Reach.TheVariants.{AtEnd, AtBadLine}
 
@@ -62,13 +62,24 @@ module _ (holds : Holds) (limit : ℕ) (file file_now : SourceState) (out out_no
     written = h.written;
   }
 
-  -- a write failed
-  pub ends_stopped : Stops holds out out_now bytes → HasReadFront limit file file_now bytes → EndsStopped holds limit file file_now out out_now
-  ends_stopped h read = record {
-    front = h.front;
+-- a write failed
+pub ends_stopped : (says : Says) (limit : ℕ) (file file_now : SourceState) (out out_now : SinkState) (bytes : List ℕ) (most : ℕ) → most ≤ 512 → Stops says out out_now bytes most → HasReadFront limit file file_now bytes →
+    EndsStopped says limit file file_now out out_now
+ends_stopped says limit file file_now out out_now bytes most small h read = record {
+  bytes = bytes;
+  read = read;
+  stops = record {
+    earlier = h.earlier;
+    next = h.next;
     behind = h.behind;
+    all = h.all;
+    near = (let near = h.near in omega arith);
     text = h.text;
-    read = subst (λ (b : List ℕ). HasReadFront limit file file_now b) (sym h.all) read;
-    held = h.held;
-    written = h.written;
-  }
+    said = h.said;
+    between = h.between;
+    whole = h.whole;
+    more = h.more;
+    adds = h.adds;
+    failed = h.failed;
+  };
+}

@@ -3,13 +3,14 @@ use Rattle.std.proofs.Common.{◌≡◌, ℕ, Bool, Option, None, Some, List, []
 use Rattle.std.proofs.lemmas.List.{append-nil}
 use Rattle.feed_link.specs.Told.{SourceState, SinkState}
 use Rattle.clock_page.specs.Page.{PageFields}
+use Rattle.file_reader.specs.Ends.{HasReadFront}
 use Rattle.radio_receiver.specs.Histories.{History}
 use Rattle.script_line.specs.declared.line.ScriptLine.{ScriptLine}
 use Rattle.script_player.specs.Replay.{is_full, page_after}
 use Rattle.script_player.specs.KeptPlayer.{HasPlayed}
 use Rattle.station_config.specs.Station.{StationFields}
 use Rattle.radio_engine.specs.Endings.{status_of, status_line}
-use Rattle.radio_engine.specs.Playing.{IsPlayedBy}
+use Rattle.radio_engine.specs.Playing.{IsPlayedBy, script_says}
 use Rattle.radio_engine.specs.Replaying.{Replays, most_of_a_script, replay_ending}
 use Rattle.radio_engine.specs.Script.{HasLines}
 use Rattle.radio_engine.specs.Taking.{EndsItself, EndsStopped}
@@ -49,15 +50,30 @@ module _ {B : Type 0} (stands : B → History → Type 0) (r : Replayer B) (of :
         written = subst (λ (q : PageFields). Answers (status_of due) result out_mid out_now (page_text q ++ status_line due)) (page_is p.lines p.played) answers;
       })
 
-  pub replays_stopped : (out out_now : SinkState) → EndsStopped (IsPlayedBy stands r of limit) most_of_a_script file file_now out out_now → Replays of limit file file_now out out_now WriteFault
-  replays_stopped out out_now h =
-      let p : IsPlayedBy stands r of limit h.front h.text None = h.held in
-      inr (record {
-        bytes = h.front;
-        behind = h.behind;
-        read = h.read;
-        lines = p.lines;
-        lawful = p.lawful;
-        answer = refl;
-        written = subst (λ (t : List ℕ). WritesFront out out_now t) p.text_is h.written;
-      })
+-- a write failed in what the last piece gives
+pub replays_stopped : (of : StationFields) (limit : ℕ) (file file_now : SourceState) (out out_now : SinkState) → EndsStopped (script_says of limit) most_of_a_script file file_now out out_now →
+    Replays of limit file file_now out out_now WriteFault
+replays_stopped of limit file file_now out out_now h =
+    let s = h.stops in
+    inr (record {
+      earlier = s.earlier;
+      next = s.next;
+      behind = s.behind;
+      read = subst (λ (b : List ℕ). HasReadFront most_of_a_script file file_now b) (sym s.all) h.read;
+      near = s.near;
+      lines = s.said.0;
+      lawful = s.said.1;
+      longer = s.adds.0;
+      lawful_too = s.adds.1;
+      between = s.between;
+      played = subst (λ (t : List ℕ). WritesAll out s.between t) s.said.2 s.whole;
+      more = s.more;
+      adds = sym s.adds.2 ∙ ap (λ (t : List ℕ). t ++ s.more) s.said.2;
+      failed = s.failed;
+      answer = refl;
+    })
+
+pub played_says : {B : Type 0} (stands : B → History → Type 0) (r : Replayer B) (of : StationFields) (limit : ℕ) (bytes text : List ℕ) (bad : Option ℕ) → IsPlayedBy stands r of limit bytes text bad → bad ≡ None → script_says of limit bytes text
+played_says stands r of limit bytes text bad h none =
+    let held = subst (λ (b : Option ℕ). IsPlayedBy stands r of limit bytes text b) none h in
+    (held.lines, held.lawful, held.text_is)

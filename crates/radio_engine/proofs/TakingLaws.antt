@@ -1,12 +1,12 @@
 -- How far the taking of a piece has come, and how it goes on.
-use Rattle.std.proofs.Common.{◌≡◌, ◌==◌, ℕ, true, length, arith, Option, None, Some, List, [], ◌∷◌, ◌++◌, take, drop, refl, ap, sym, ◌∙◌, subst, append_assoc}
+use Rattle.std.proofs.Common.{◌≡◌, ◌==◌, ◌≤◌, ℕ, true, length, arith, Option, None, Some, List, [], ◌∷◌, ◌++◌, take, drop, refl, ap, sym, ◌∙◌, subst, append_assoc}
 use Rattle.std.proofs.lemmas.List.{append-nil, take-append-drop}
 use Rattle.std.proofs.lemmas.Bool.{true≢false}
 use Rattle.std.proofs.lemmas.Bool.Decides.{nat_tests}
 use Rattle.feed_link.specs.Told.{SinkState}
-use Rattle.radio_engine.specs.Taking.{Holds, TakesAll, MeetsBad, Stops}
+use Rattle.radio_engine.specs.Taking.{Holds, Says, TakesAll, MeetsBad, Stops}
 use Rattle.radio_engine.specs.Writing.{WritesAll, WritesFront}
-use Rattle.radio_engine.proofs.WritingLaws.{writes_more, writes_front}
+use Rattle.radio_engine.proofs.WritingLaws.{writes_more}
 
 -- of all these bytes this rest is still to be taken; the text of those before it is written
 pub record IsTakenSoFar (holds : Holds) (start out : SinkState) (all rest : List ℕ) : Type 0 where
@@ -42,15 +42,24 @@ module _ (start out : SinkState) (all rest : List ℕ) (before : Holds) (h : IsT
     written = writes_more start out now h.text text h.written written;
   }
 
-  pub taken_stopped : (holds : Holds) (now : SinkState) (count : ℕ) (text : List ℕ) (bad : Option ℕ) →
-      holds (h.front ++ take count rest) (h.text ++ text) bad → bad ≡ None → WritesFront out now text → Stops holds start now all
-  taken_stopped holds now count text bad held none written = record {
-    front = h.front ++ take count rest;
+  rest_again : (count : ℕ) → take count rest ++ drop count rest ≡ rest
+  rest_again count = take-append-drop count rest
+
+  pub taken_stopped : (says : Says) → says h.front h.text → (now : SinkState) (most count : ℕ) → length rest ≤ most →
+      (text : List ℕ) → says (h.front ++ take count rest) (h.text ++ text) → WritesFront out now text → Stops says start now all most
+  taken_stopped says said now most count room text adds written = record {
+    earlier = h.front;
+    next = take count rest;
     behind = drop count rest;
-    all = cut_at count;
-    text = h.text ++ text;
-    held = subst (λ (b : Option ℕ). holds (h.front ++ take count rest) (h.text ++ text) b) none held;
-    written = writes_front start out now h.text text h.written written;
+    all = ap (λ (t : List ℕ). h.front ++ t) (rest_again count) ∙ h.is;
+    near = (let len = ap length (rest_again count) in omega arith);
+    text = h.text;
+    said = said;
+    between = out;
+    whole = h.written;
+    more = text;
+    adds = adds;
+    failed = written;
   }
 
 -- nothing is left

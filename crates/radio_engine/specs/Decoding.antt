@@ -30,12 +30,19 @@ pub record EndsByCause (plan : Plan) (file file_now : SourceState) (out out_now 
   pub lines : WritesAll out between (log_text plan bytes)
   pub written : Answers (status_of (ending_at (Feed 0) due)) result between out_now (status_line (ending_at (Feed 0) due))
 
--- a write failed in these lines, and nothing was read or written after it
+-- a write failed in the lines that the next bytes add, and nothing was read or written after it: the lines of those before them are
+-- written whole, and these came in one piece, which has at most 512
 pub record EndsByWriting (plan : Plan) (file file_now : SourceState) (out out_now : SinkState) (result : Status) : Type 0 where
-  pub bytes : List ℕ
-  pub read : HasReadFront most_of_a_log file file_now bytes
+  pub earlier : List ℕ
+  pub next : List ℕ
+  pub read : HasReadFront most_of_a_log file file_now (earlier ++ next)
+  pub near : length next ≤ 512
+  pub between : SinkState
+  pub lines : WritesAll out between (log_text plan earlier)
+  pub more : List ℕ
+  pub adds : log_text plan (earlier ++ next) ≡ log_text plan earlier ++ more
+  pub failed : WritesFront between out_now more
   pub answer : result ≡ WriteFault
-  pub written : WritesFront out out_now (log_text plan bytes)
 
 -- a log was decoded: what it and the sink told before and now, and the answer
 abbrev pub Decodes : Plan → SourceState → SourceState → SinkState → SinkState → Status → Type 0

@@ -19,6 +19,10 @@ pub record IsDecodedBy {B : Type 0} (stands : B → History → Type 0) (decoder
   pub text_is : text ≡ log_text plan bytes
   pub bad_is : bad ≡ bad_line bytes
 
+-- the text of these bytes
+abbrev pub log_says : Plan → List ℕ → List ℕ → Type 0
+log_says plan bytes text = text ≡ log_text plan bytes
+
 -- what was found is given, in a line of this content
 abbrev pub IsFound : Result (Option Entry) BadLine → Gives → List ℕ → Type 0
 IsFound (Ok None) gives line = gives ≡ Nothing

@@ -24,6 +24,10 @@ pub record IsPlayedBy {B : Type 0} (stands : B → History → Type 0) (r : Repl
   pub cut : bad ≡ None → HasTaken r.cutter bytes
   pub count : bad ≡ None → r.lines ≡ length lines
 
+-- the text that the lines of these bytes give, none of which is bad
+abbrev pub script_says : StationFields → ℕ → List ℕ → List ℕ → Type 0
+script_says of limit bytes text = (lines : List ScriptLine) × HasLines of bytes lines None × (text ≡ replay_text of limit lines)
+
 -- a text was played as the next line, and gave this text; or it is no line that may stand here
 abbrev pub PlaysNext : {B : Type 0} → (B → History → Type 0) → Player B → StationFields → ℕ → List ScriptLine → List ℕ → List ℕ → Result ℕ NotLawful → Type 0
 PlaysNext stands player of limit before text given (Ok count) = (line : ScriptLine) × IsTextOf text line × (is_lawful of before line ≡ true)

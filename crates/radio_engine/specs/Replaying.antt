@@ -54,16 +54,24 @@ pub record EndsPlaying (station : StationFields) (limit : ℕ) (file file_now : 
   pub played : WritesAll out between (replay_text station limit lines)
   pub written : Answers (status_of due) result between out_now (page_text (page_after station limit lines) ++ status_line due)
 
--- a write failed in what the last of these lines gives, or before; the bytes behind it that were read with it were not looked
--- at, and nothing was read or written after it
+-- a write failed in what the lines of the next bytes give, and nothing was read or written after it: what the lines before them give is
+-- written whole. The bytes behind them that came in the same piece, which has at most 512, were not looked at
 pub record StopsPlaying (station : StationFields) (limit : ℕ) (file file_now : SourceState) (out out_now : SinkState) (result : Status) : Type 0 where
-  pub bytes : List ℕ
+  pub earlier : List ℕ
+  pub next : List ℕ
   pub behind : List ℕ
-  pub read : HasReadFront most_of_a_script file file_now (bytes ++ behind)
+  pub read : HasReadFront most_of_a_script file file_now (earlier ++ (next ++ behind))
+  pub near : length (next ++ behind) ≤ 512
   pub lines : List ScriptLine
-  pub lawful : HasLines station bytes lines None
+  pub lawful : HasLines station earlier lines None
+  pub longer : List ScriptLine
+  pub lawful_too : HasLines station (earlier ++ next) longer None
+  pub between : SinkState
+  pub played : WritesAll out between (replay_text station limit lines)
+  pub more : List ℕ
+  pub adds : replay_text station limit longer ≡ replay_text station limit lines ++ more
+  pub failed : WritesFront between out_now more
   pub answer : result ≡ WriteFault
-  pub written : WritesFront out out_now (replay_text station limit lines)
 
 -- a script was replayed: what it and the sink told before and now, and the answer
 abbrev pub Replays : StationFields → ℕ → SourceState → SourceState → SinkState → SinkState → Status → Type 0

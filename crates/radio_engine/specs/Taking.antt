@@ -1,6 +1,6 @@
 -- Scaffolding: what the loops over the bytes of a file keep. Something stands for the bytes that it has taken, for the text that
 -- it has given for them, and for their first bad line.
-use Rattle.std.specs.Prelude.{◌≡◌, ℕ, ◌≤◌, Option, None, Some, List, [], ◌++◌, take, Result, MatchResult}
+use Rattle.std.specs.Prelude.{◌≡◌, ℕ, ◌≤◌, Option, None, Some, List, [], ◌++◌, length, take, Result, MatchResult}
 use Rattle.feed_link.specs.Told.{SourceState, SinkState}
 use Rattle.file_reader.specs.declared.reader.FileEnd.TheVariants.{Whole, Fault, TooLong}
 use Rattle.file_reader.specs.Ends.{HasReadFront}
@@ -16,6 +16,10 @@ use Rattle.radio_engine.specs.declared.reading.Taken.TheVariants as taken
 
 abbrev pub Holds : Type 1
 Holds = List ℕ → List ℕ → Option ℕ → Type 0
+
+-- the text that bytes give which have no bad line
+abbrev pub Says : Type 1
+Says = List ℕ → List ℕ → Type 0
 
 -- the text that a front of bytes gives, in a line of this content, and the bad line that it has
 abbrev pub given : Gives → List ℕ → List ℕ
@@ -60,18 +64,26 @@ pub record MeetsBad (holds : Holds) (number : ℕ) (start out : SinkState) (byte
   pub held : holds front text (Some number)
   pub written : WritesAll start out text
 
-pub record Stops (holds : Holds) (start out : SinkState) (bytes : List ℕ) : Type 0 where
-  pub front : List ℕ
+-- a write failed in the text that the next bytes add; the text of those before them is written whole, and at most so many bytes
+-- come behind these
+pub record Stops (says : Says) (start out : SinkState) (bytes : List ℕ) (most : ℕ) : Type 0 where
+  pub earlier : List ℕ
+  pub next : List ℕ
   pub behind : List ℕ
-  pub all : front ++ behind ≡ bytes
+  pub all : earlier ++ (next ++ behind) ≡ bytes
+  pub near : length (next ++ behind) ≤ most
   pub text : List ℕ
-  pub held : holds front text None
-  pub written : WritesFront start out text
+  pub said : says earlier text
+  pub between : SinkState
+  pub whole : WritesAll start between text
+  pub more : List ℕ
+  pub adds : says (earlier ++ next) (text ++ more)
+  pub failed : WritesFront between out more
 
-abbrev pub TakesPiece : Holds → Taken → SinkState → SinkState → List ℕ → Type 0
-TakesPiece holds taken.All start out bytes = TakesAll holds start out bytes
-TakesPiece holds (taken.Bad number) start out bytes = MeetsBad holds number start out bytes
-TakesPiece holds taken.Stopped start out bytes = Stops holds start out bytes
+abbrev pub TakesPiece : Holds → Says → Taken → SinkState → SinkState → List ℕ → ℕ → Type 0
+TakesPiece holds says taken.All start out bytes most = TakesAll holds start out bytes
+TakesPiece holds says (taken.Bad number) start out bytes most = MeetsBad holds number start out bytes
+TakesPiece holds says taken.Stopped start out bytes most = Stops says start out bytes most
 
 -- the reading ended by itself, with the text of the bytes taken written; bytes were read behind them only where they have
 -- a bad line
@@ -85,16 +97,13 @@ pub record EndsItself (holds : Holds) (limit : ℕ) (file file_now : SourceState
   pub read : ReadsLines reach limit file file_now (front ++ behind) bad
   pub written : WritesAll out out_now text
 
--- a write failed in the text of the bytes taken
-pub record EndsStopped (holds : Holds) (limit : ℕ) (file file_now : SourceState) (out out_now : SinkState) : Type 0 where
-  pub front : List ℕ
-  pub behind : List ℕ
-  pub text : List ℕ
-  pub read : HasReadFront limit file file_now (front ++ behind)
-  pub held : holds front text None
-  pub written : WritesFront out out_now text
+-- a write failed in the text of the bytes taken, of which those behind the text that stands came in one piece of 512 bytes
+pub record EndsStopped (says : Says) (limit : ℕ) (file file_now : SourceState) (out out_now : SinkState) : Type 0 where
+  pub bytes : List ℕ
+  pub read : HasReadFront limit file file_now bytes
+  pub stops : Stops says out out_now bytes 512
 
-abbrev pub EndsTaking : {E : Type 0} → Holds → ℕ → SourceState → SourceState → SinkState → SinkState → Result Reach E → Type 0
-EndsTaking holds limit file file_now out out_now result = MatchResult result
+abbrev pub EndsTaking : {E : Type 0} → Holds → Says → ℕ → SourceState → SourceState → SinkState → SinkState → Result Reach E → Type 0
+EndsTaking holds says limit file file_now out out_now result = MatchResult result
     (λ reach. EndsItself holds limit file file_now out out_now reach)
-    (λ _. EndsStopped holds limit file file_now out out_now)
+    (λ _. EndsStopped says limit file file_now out out_now)

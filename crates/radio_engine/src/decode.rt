@@ -5,7 +5,7 @@ ghost use Rattle.feed_link.specs.Told.{SinkState};
 ghost use Rattle.log_decoder.specs.Decoding.{HasDecoded, IsReady};
 ghost use Rattle.log_decoder.specs.Due.{entry_line};
 ghost use Rattle.radio_engine.specs.Decoding.{Decodes, RunsDecode};
-ghost use Rattle.radio_engine.specs.LogTaking.{IsDecodedBy, IsFound};
+ghost use Rattle.radio_engine.specs.LogTaking.{IsDecodedBy, IsFound, log_says};
 ghost use Rattle.radio_receiver.specs.Histories.{blank_of};
 ghost use Rattle.radio_engine.specs.Reading.{bad_in_the_end};
 ghost use Rattle.radio_engine.specs.Taking.{Fits, given, bad_of, EndsAt, TakesPiece, EndsTaking};
@@ -77,7 +77,7 @@ fn decode_piece<R: Receiver, K: Sink>(
     requires { IsReady (λ r. R.least_start r) decoder.old }
     ensures ready { IsReady (λ r. R.least_start r) decoder.new }
     ensures takes { (plan : Plan) (bytes text : List ℕ) (start : SinkState) → IsDecodedBy (λ r h. R.stands_for r h) decoder.old plan bytes text None →
-        WritesAll start (K.state out.old) text → TakesPiece (IsDecodedBy (λ r h. R.stands_for r h) decoder.new plan) result start (K.state out.new) (bytes ++ piece.now) }
+        WritesAll start (K.state out.old) text → TakesPiece (IsDecodedBy (λ r h. R.stands_for r h) decoder.new plan) (log_says plan) result start (K.state out.new) (bytes ++ piece.now) (length piece.now) }
 {
     let mut line = [0; LINE_ROOM];
     let mut rest = piece;
@@ -112,7 +112,7 @@ fn read_log<S: Source, R: Receiver, K: Sink>(
     requires { IsReady (λ r. R.least_start r) decoder.old }
     ensures number { S.opening log.new ≡ S.opening log.old }
     ensures ends { (plan : Plan) → IsDecodedBy (λ r h. R.stands_for r h) decoder.old plan [] [] None →
-        EndsTaking (IsDecodedBy (λ r h. R.stands_for r h) decoder.new plan) (2 ^ 30) (S.state log.old) (S.state log.new) (K.state out.old) (K.state out.new) result }
+        EndsTaking (IsDecodedBy (λ r h. R.stands_for r h) decoder.new plan) (log_says plan) (2 ^ 30) (S.state log.old) (S.state log.new) (K.state out.old) (K.state out.new) result }
 {
     let mut reader = FileReader::new(LIMIT);
     'pieces: loop {

@@ -2,7 +2,7 @@
 ghost use Rattle.std.specs.Prelude.{◌≡◌, ◌+◌, ◌<◌, ◌≤◌, ◌^◌, ◌++◌, ◌∷◌, ℕ, List, [], None, Some, length, take, MatchResult};
 ghost use Rattle.journal_entry.specs.declared.writer.TheConstants.{LINE_ROOM};
 ghost use Rattle.feed_link.specs.Told.{SinkState};
-ghost use Rattle.radio_engine.specs.Playing.{IsPlayedBy, IsPlayedLine, PlaysNext};
+ghost use Rattle.radio_engine.specs.Playing.{IsPlayedBy, IsPlayedLine, PlaysNext, script_says};
 ghost use Rattle.radio_engine.specs.Reading.{bad_in_the_end};
 ghost use Rattle.radio_engine.specs.Taking.{Fits, given, bad_of, EndsAt, TakesPiece, EndsTaking};
 ghost use Rattle.radio_engine.specs.Writing.{WritesAll};
@@ -138,7 +138,7 @@ fn play_piece<K: Sink>(replayer: &mut Replayer<BoxedReceiver>, piece: &[u8], out
     ensures ready { IsReady (λ b. least_start b) replayer.new.player }
     ensures taken { replayer.new.lines ≤ replayer.old.lines + length piece.now }
     ensures takes { (station : StationFields) (limit : ℕ) (bytes text : List ℕ) (start : SinkState) → IsPlayedBy (λ b h. stands_for b h) replayer.old station limit bytes text None →
-        WritesAll start (K.state out.old) text → TakesPiece (IsPlayedBy (λ b h. stands_for b h) replayer.new station limit) result start (K.state out.new) (bytes ++ piece.now) }
+        WritesAll start (K.state out.old) text → TakesPiece (IsPlayedBy (λ b h. stands_for b h) replayer.new station limit) (script_says station limit) result start (K.state out.new) (bytes ++ piece.now) (length piece.now) }
 {
     let mut line = [0; LINE_ROOM];
     let mut rest = piece;
@@ -164,7 +164,7 @@ pub fn read_script<S: Source, K: Sink>(
     requires none { replayer.old.lines ≡ 0 }
     ensures number { S.opening script.new ≡ S.opening script.old }
     ensures ends { (station : StationFields) (limit : ℕ) → IsPlayedBy (λ b h. stands_for b h) replayer.old station limit [] [] None →
-        EndsTaking (IsPlayedBy (λ b h. stands_for b h) replayer.new station limit) (2 ^ 26) (S.state script.old) (S.state script.new) (K.state out.old) (K.state out.new) result }
+        EndsTaking (IsPlayedBy (λ b h. stands_for b h) replayer.new station limit) (script_says station limit) (2 ^ 26) (S.state script.old) (S.state script.new) (K.state out.old) (K.state out.new) result }
 {
     let mut reader = FileReader::new(LIMIT);
     'pieces: loop {

@@ -1,5 +1,8 @@
-use Rattle.std.proofs.Common.{rules, refl}
+use Rattle.std.proofs.Common.{rules, List, ℕ, length, refl, None, ap, arith}
+use Rattle.std.proofs.lemmas.List.{length-drop}
 use Rattle.radio_engine.specs.Taking.{given, bad_of}
+use Rattle.radio_engine.specs.LogTaking.{log_says}
+use Rattle.radio_engine.proofs.DecodingLaws.{decoded_says}
 use Rattle.radio_engine.proofs.TakingLaws.{taken_on, taken_bad, taken_stopped, taken_whole, none_of}
 use Rattle.radio_engine.proofs.decode.decode_piece.Goals as goal
 
@@ -7,6 +10,7 @@ pub rest-init : goal.rest-init
 rest-init g c = record {
   size = search rules;
   ready = c.requires;
+  short = omega arith;
   so_far = λ plan bytes text start held written. record { front = bytes; is = refl; text = text; held = held; written = written };
 }
 
@@ -14,8 +18,9 @@ pub returns-in-Stopped-clause-takes : goal.returns-in-Stopped-clause-takes
 returns-in-Stopped-clause-takes g c = λ plan bytes text start held written.
     let h = c.rest.invariant.so_far plan bytes text start held written in
     let took = c.take_line-took.result in
-    taken_stopped start _ _ c.rest.rest.now _ h _ _ took.count (given took.gives c.take_line-took.new.line) (bad_of took.gives)
-    (c.take_line-took.ensures.holds plan h.front h.text h.held) c.in-Stopped.ensures.0 c.in-Stopped.ensures.1
+    let held = c.take_line-took.ensures.holds plan h.front h.text h.held in
+    taken_stopped start _ _ c.rest.rest.now _ h (log_says plan) (decoded_says _ _ plan h.front h.text None h.held refl) _ _ took.count c.rest.invariant.short
+    (given took.gives c.take_line-took.new.line) (decoded_says _ _ plan _ _ _ held c.in-Stopped.ensures.0) c.in-Stopped.ensures.1
 
 pub returns-in-Bad-clause-takes : goal.returns-in-Bad-clause-takes
 returns-in-Bad-clause-takes g c = λ plan bytes text start held written.
@@ -28,6 +33,7 @@ pub rest-preserved : goal.rest-preserved
 rest-preserved g c = record {
   size = c.take_line-took.array_long;
   ready = c.take_line-took.ensures.ready;
+  short = (let h = c.rest.invariant.short in let len = ap (λ (b : List ℕ). length b) c.split_at.ensures.back in omega (arith, length-drop c.take_line-took.result.count c.rest.rest.now));
   so_far = λ plan bytes text start held written.
       let h = c.rest.invariant.so_far plan bytes text start held written in
       let took = c.take_line-took.result in

@@ -1,4 +1,4 @@
-use Rattle.std.proofs.Common.{◌≡◌, ℕ, List, None, ◌++◌, length}
+use Rattle.std.proofs.Common.{◌≡◌, ◌≤◌, ℕ, List, None, ◌++◌, length}
 use Rattle.feed_link.specs.Told.{SinkState}
 use Rattle.journal_entry.specs.declared.writer.TheConstants.{LINE_ROOM}
 use Rattle.log_decoder.specs.Decoding.{IsReady}
@@ -13,6 +13,7 @@ abbrev pub invariant-rest : goal.invariant-rest
 invariant-rest g l = record {
   size : length l.line ≡ LINE_ROOM;
   ready : IsReady (λ r. g.R.Receiver.least_start r) l.decoder;
+  short : length l.rest ≤ length l.fn.piece;
   so_far : (plan : Plan) (bytes text : List ℕ) (start : SinkState) →
       IsDecodedBy (λ r h. g.R.Receiver.stands_for r h) l.fn.decoder plan bytes text None →
       WritesAll start (g.K.Sink.state l.fn.out) text →

@@ -11,4 +11,4 @@ returns-in-Ok-clause-decodes g c = λ plan h. decodes_after _ plan c.read_log.ne
     (subst (λ (e : Ending). Answers (status_of e) c.finish.result (g.K.Sink.state c.read_log.new.out) (g.K.Sink.state c.finish.new.out) (status_line e)) c.ending_at.ensures c.finish.ensures)
 
 pub returns-clause-decodes : goal.returns-clause-decodes
-returns-clause-decodes g c = λ plan h. decodes_stopped _ plan c.read_log.new.decoder _ _ _ _ (c.in-Err.ensures.ends plan (decoded_none _ _ plan (c.direct-decoder.ensures.start plan 0 h)))
+returns-clause-decodes g c = λ plan h. decodes_stopped plan _ _ _ _ (c.in-Err.ensures.ends plan (decoded_none _ _ plan (c.direct-decoder.ensures.start plan 0 h)))

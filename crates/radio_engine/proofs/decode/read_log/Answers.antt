@@ -1,4 +1,4 @@
-use Rattle.std.proofs.Common.{◌^◌, ℕ, List, [], ◌++◌, refl, sym, ◌∙◌, subst}
+use Rattle.std.proofs.Common.{◌^◌, ℕ, List, [], ◌++◌, refl, sym, ◌∙◌, subst, ap, arith, length}
 use Rattle.feed_link.proofs.ToldLaws.{Adds-none}
 use Rattle.file_reader.specs.Ends.{HasReadFront, EndsReading}
 use Rattle.file_reader.specs.Reader.{piece_of}
@@ -39,7 +39,7 @@ returns-in-Stopped-clause-ends g c = λ plan h.
     let p = c.pieces.invariant.so_far plan h in
     let pulled = c.in-Piece.ensures.gives _ p.0 p.1 in
     let same = c.pull.ensures.limit ∙ c.pieces.invariant.limit in
-    ends_stopped _ (2 ^ 30) _ _ _ _ (p.0 ++ c.piece.result.now) (c.in-Stopped.ensures.takes plan p.0 p.2.text _ p.2.held p.2.written)
+    ends_stopped _ (2 ^ 30) _ _ _ _ (p.0 ++ c.piece.result.now) _ (let most = c.pull.ensures.most in let len = ap (λ (b : List ℕ). length b) c.piece.ensures.value in omega arith) (c.in-Stopped.ensures.takes plan p.0 p.2.text _ p.2.held p.2.written)
     (subst (λ (b : List ℕ). HasReadFront (2 ^ 30) (g.S.Source.state c.args.log.now) (g.S.Source.state c.pull.new.file) (p.0 ++ b)) (sym c.piece.ensures.value)
     (subst (λ (n : ℕ). HasReadFront n (g.S.Source.state c.args.log.now) (g.S.Source.state c.pull.new.file) (p.0 ++ piece_of c.pull.new.self)) same pulled.front))
 

@@ -7,4 +7,4 @@ returns-in-Ok-clause-replays g c = λ station h. replays_after _ c.read_script.n
     c.replay_ending-ending.ensures c.finish_page.ensures
 
 pub returns-in-Err-clause-replays : goal.returns-in-Err-clause-replays
-returns-in-Err-clause-replays g c = λ station h. replays_stopped _ c.read_script.new.replayer station c.args.limit _ _ _ _ (c.in-Err.ensures.ends station c.args.limit h)
+returns-in-Err-clause-replays g c = λ station h. replays_stopped station c.args.limit _ _ _ _ (c.in-Err.ensures.ends station c.args.limit h)

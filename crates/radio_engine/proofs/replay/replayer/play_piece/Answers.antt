@@ -1,6 +1,8 @@
-use Rattle.std.proofs.Common.{rules, ℕ, List, length, refl, ap, arith}
+use Rattle.std.proofs.Common.{rules, ℕ, List, length, refl, None, ap, arith}
 use Rattle.std.proofs.lemmas.List.{length-drop}
 use Rattle.radio_engine.specs.Taking.{given, bad_of}
+use Rattle.radio_engine.specs.Playing.{script_says}
+use Rattle.radio_engine.proofs.ReplayLaws.{played_says}
 use Rattle.radio_engine.proofs.TakingLaws.{taken_on, taken_bad, taken_stopped, taken_whole, none_of}
 use Rattle.radio_engine.proofs.replay.replayer.play_piece.Goals as goal
 
@@ -9,6 +11,7 @@ rest-init g c = record {
   size = search rules;
   ready = c.requires.ready;
   taken = omega arith;
+  short = omega arith;
   so_far = λ station limit bytes text start held written. record { front = bytes; is = refl; text = text; held = held; written = written };
 }
 
@@ -16,8 +19,9 @@ pub returns-in-Stopped-clause-takes : goal.returns-in-Stopped-clause-takes
 returns-in-Stopped-clause-takes g c = λ station limit bytes text start held written.
     let h = c.rest.invariant.so_far station limit bytes text start held written in
     let took = c.take-took.result in
-    taken_stopped start _ _ c.rest.rest.now _ h _ _ took.count (given took.gives c.take-took.new.line) (bad_of took.gives)
-    (c.take-took.ensures.holds station limit h.front h.text h.held) c.in-Stopped.ensures.0 c.in-Stopped.ensures.1
+    let held = c.take-took.ensures.holds station limit h.front h.text h.held in
+    taken_stopped start _ _ c.rest.rest.now _ h (script_says station limit) (played_says _ _ station limit h.front h.text None h.held refl) _ _ took.count c.rest.invariant.short
+    (given took.gives c.take-took.new.line) (played_says _ _ station limit _ _ _ held c.in-Stopped.ensures.0) c.in-Stopped.ensures.1
 
 pub returns-in-Bad-clause-takes : goal.returns-in-Bad-clause-takes
 returns-in-Bad-clause-takes g c = λ station limit bytes text start held written.
@@ -33,6 +37,7 @@ rest-preserved g c = record {
   taken = (let h = c.rest.invariant.taken in let k = c.take-took.ensures.taken in let w = c.take-took.ensures.within in
       let len = ap (λ (b : List ℕ). length b) c.split_at.ensures.back in
       omega (arith, length-drop c.take-took.result.count c.rest.rest.now));
+  short = (let h = c.rest.invariant.short in let len = ap (λ (b : List ℕ). length b) c.split_at.ensures.back in omega (arith, length-drop c.take-took.result.count c.rest.rest.now));
   so_far = λ station limit bytes text start held written.
       let h = c.rest.invariant.so_far station limit bytes text start held written in
       let took = c.take-took.result in

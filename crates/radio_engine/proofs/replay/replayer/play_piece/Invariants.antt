@@ -14,6 +14,7 @@ invariant-rest g l = record {
   size : length l.line ≡ LINE_ROOM;
   ready : IsReady (λ b. (goal.Receiver-dyn g (b.vtable, b.value)).least_start b.value) l.replayer.player;
   taken : l.replayer.lines + length l.rest ≤ l.fn.replayer.lines + length l.fn.piece;
+  short : length l.rest ≤ length l.fn.piece;
   so_far : (station : StationFields) (limit : ℕ) (bytes text : List ℕ) (start : SinkState) →
       IsPlayedBy (λ b h. (goal.Receiver-dyn g (b.vtable, b.value)).stands_for b.value h) l.fn.replayer station limit bytes text None →
       WritesAll start (g.K.Sink.state l.fn.out) text →

@@ -42,7 +42,7 @@ returns-in-Stopped-clause-ends g c = λ station limit h.
     let p = c.pieces.invariant.so_far station limit h in
     let pulled = c.in-Piece.ensures.gives _ p.0 p.1 in
     let same = c.pull.ensures.limit ∙ c.pieces.invariant.limit in
-    ends_stopped _ (2 ^ 26) _ _ _ _ (p.0 ++ c.piece.result.now) (c.in-Stopped.ensures.takes station limit p.0 p.2.text _ p.2.held p.2.written)
+    ends_stopped _ (2 ^ 26) _ _ _ _ (p.0 ++ c.piece.result.now) _ (let most = c.pull.ensures.most in let len = ap (λ (b : List ℕ). length b) c.piece.ensures.value in omega arith) (c.in-Stopped.ensures.takes station limit p.0 p.2.text _ p.2.held p.2.written)
     (subst (λ (b : List ℕ). HasReadFront (2 ^ 26) (g.S.Source.state c.args.script.now) (g.S.Source.state c.pull.new.file) (p.0 ++ b)) (sym c.piece.ensures.value)
     (subst (λ (n : ℕ). HasReadFront n (g.S.Source.state c.args.script.now) (g.S.Source.state c.pull.new.file) (p.0 ++ piece_of c.pull.new.self)) same pulled.front))
 
