@@ -1,3 +1,5 @@
+//! Tests of `replay` over the fakes: worked scripts, and each fault on their way.
+
 use crate::Status;
 use crate::tests::run_over;
 use feed_link::{FakeOpen, MemoryOutside, MemorySink, MemorySource, NamedLog};

@@ -1,3 +1,5 @@
+//! Tests of `decode` over the fakes, and of words that are refused; the other tests take what they share from here.
+
 use super::*;
 use feed_link::{MemoryOutside, MemorySink, MemorySource, NamedLog};
 use radio_receiver::{DcfReceiver, MsfReceiver, WwvbReceiver};

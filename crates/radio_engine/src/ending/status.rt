@@ -1,3 +1,5 @@
+//! The ways in which a command ends, and their numbers.
+
 ghost use Rattle.std.specs.Prelude.{◌≡◌};
 
 /// How a command ended. The program's exit status is its number.

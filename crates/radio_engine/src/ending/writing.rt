@@ -1,3 +1,5 @@
+//! Writes the lines and the status line of an ending, until a write fails.
+
 ghost use Rattle.std.specs.Prelude.{OnOk, OnErr};
 ghost use Rattle.radio_engine.specs.Endings.{status_of, status_line};
 ghost use Rattle.radio_engine.specs.Writing.{WritesAll, WritesFront, Answers};

@@ -1,3 +1,5 @@
+//! What keeps a station file from being taken, and the lines that tell of it.
+
 ghost use Rattle.std.specs.Prelude.{◌++◌, codes};
 ghost use Rattle.radio_engine.specs.StationFile.{IsNamed, IsTold, many_line, station_line, status_at, line_at};
 ghost use Rattle.radio_engine.specs.Writing.{Answers};
