@@ -121,13 +121,13 @@ RATTLE
 cat > "$work/loop/proofs/fold_often/Invariants.antt" <<'ANTT'
 use Rattle.std.proofs.Common.{◌≤◌, List, length}
 use Rattle.journal_entry.specs.declared.entry.Entry.{Entry}
-use Rattle.system_fold.specs.Standing.{StandsFor}
+use Rattle.system_fold.specs.KeptFold.{StandsForJournal}
 use Rattle.fold_loop.proofs.fold_often.Given as goal
 
 abbrev pub invariant-loop-i : goal.invariant-loop-i
 invariant-loop-i l = record {
   journal : List Entry;
-  stands : StandsFor l.fold l.settings journal;
+  stands : StandsForJournal l.fold l.settings journal;
   few : length journal ≤ l.i;
 }
 ANTT
@@ -155,6 +155,9 @@ ANTT
 for tree in before after; do
     cp "$work/crates.txt" "$work/$tree/"
     cp -r "$work/loop" "$work/$tree/crates/fold_loop"
+    # What a fold stands for had another name then.
+    [ "$tree" = after ] || sed -i 's/KeptFold\.{StandsForJournal}/Standing.{StandsFor}/; s/StandsForJournal/StandsFor/' \
+        "$work/$tree/crates/fold_loop/proofs/fold_often/Invariants.antt"
     (cd "$work/$tree/crates/fold_loop" && rt run -- 1 0 1 > "$work/build.log" 2>&1) || { cat "$work/build.log" >&2; exit 1; }
 done
 
