@@ -1,6 +1,6 @@
 //! Numbered entries and their texts.
 use crate::tests::entry;
-use crate::{LINE_ROOM, Numbered, What, read_numbered, write_numbered};
+use crate::{Entry, LINE_ROOM, Numbered, What, read_numbered, write_numbered};
 use std::process::Abort;
 use std::test::Fail;
 use tick_units::{Kind, Local, Sample, Short, Span};
@@ -14,15 +14,23 @@ fn is_the_text(rt: &impl Abort, text: &str, numbered: &Numbered) {
     assert_eq!(rt; read_numbered(text.as_bytes()), Some(*numbered));
 }
 
+// A minute that was told once.
+fn lone(at: Local, length: u64, rate: i32) -> Numbered {
+    let kind = Kind::Lone {
+        second: 3_976_257_600,
+    };
+    let what = What::Heard(kind);
+    let entry = Entry { feed: 0, at, what };
+    Numbered {
+        length,
+        rate,
+        entry,
+    }
+}
+
 #[test]
 fn numbers_and_rates(rt: HostRuntime) -> Result<(), Fail> {
-    let lone = entry(
-        0,
-        62_000_000,
-        What::Heard(Kind::Lone {
-            second: 3_976_257_600,
-        }),
-    )?;
+    let at = Local::new(62_000_000).ok_or("no moment")?;
     for (text, length, rate) in [
         ("j2 1 0 0 62000000 lone 3976257600", 1, 0),
         ("j2 6 -53687 0 62000000 lone 3976257600", 6, -53_687),
@@ -33,12 +41,7 @@ fn numbers_and_rates(rt: HostRuntime) -> Result<(), Fail> {
         ),
         ("j2 10 -2147483 0 62000000 lone 3976257600", 10, -2_147_483),
     ] {
-        let numbered = Numbered {
-            length,
-            rate,
-            entry: lone,
-        };
-        is_the_text(&rt, text, &numbered);
+        is_the_text(&rt, text, &lone(at, length, rate));
     }
     Ok(())
 }
@@ -71,20 +74,15 @@ fn the_longest_line(rt: HostRuntime) -> Result<(), Fail> {
 // What is written of a number or a rate that no line has isn't read again.
 #[test]
 fn numbers_of_no_line(rt: HostRuntime) -> Result<(), Fail> {
-    let notice = entry(0, 0, What::Notice(1))?;
+    let at = Local::new(62_000_000).ok_or("no moment")?;
     for (text, length, rate) in [
-        ("j2 0 0 0 0 notice 1", 0, 0),
-        ("j2 1 2147484 0 0 notice 1", 1, 2_147_484),
-        ("j2 1 -2147484 0 0 notice 1", 1, -2_147_484),
-        ("j2 1 -2147483648 0 0 notice 1", 1, i32::MIN),
+        ("j2 0 0 0 62000000 lone 3976257600", 0, 0),
+        ("j2 1 2147484 0 62000000 lone 3976257600", 1, 2_147_484),
+        ("j2 1 -2147484 0 62000000 lone 3976257600", 1, -2_147_484),
+        ("j2 1 -2147483648 0 62000000 lone 3976257600", 1, i32::MIN),
     ] {
         let mut out = [0; LINE_ROOM];
-        let numbered = Numbered {
-            length,
-            rate,
-            entry: notice,
-        };
-        let count = write_numbered(&numbered, &mut out);
+        let count = write_numbered(&lone(at, length, rate), &mut out);
         assert_eq!(rt; &out[..count], text.as_bytes());
         assert_eq!(rt; read_numbered(text.as_bytes()), None, "{text}");
     }
