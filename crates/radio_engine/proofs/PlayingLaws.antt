@@ -3,11 +3,11 @@ use Rattle.std.proofs.Common.{◌≡◌, ℕ, ◌+◌, Bool, true, false, cond, 
 use Rattle.std.proofs.lemmas.List.{append-nil, length_push}
 use Rattle.radio_receiver.specs.Histories.{History}
 use Rattle.tick_units.specs.Log.{lines_of, has_tail}
-use Rattle.script_line.specs.Cutting.{HasTaken, TakesPiece, IsCut, line_in}
-use Rattle.script_line.specs.declared.cutter.Cut.{Cut}
-use Rattle.script_line.specs.declared.cutter.Cut.TheVariants.{More, Line, TooLong}
-use Rattle.script_line.specs.declared.cutter.LineCutter.{LineCutter}
-use Rattle.script_line.specs.declared.cutter.Taken.{Taken}
+use Rattle.line_cutter.specs.Cutting.{HasTaken, TakesPiece, IsCut, line_in}
+use Rattle.line_cutter.specs.declared.cutter.Cut.{Cut}
+use Rattle.line_cutter.specs.declared.cutter.Cut.TheVariants.{More, Line, TooLong}
+use Rattle.line_cutter.specs.declared.cutter.LineCutter.{LineCutter}
+use Rattle.line_cutter.specs.declared.cutter.Taken.{Taken}
 use Rattle.script_line.specs.declared.line.ScriptLine.{ScriptLine}
 use Rattle.script_player.specs.KeptPlayer.{HasPlayed}
 use Rattle.script_player.specs.Texts.{replay_text}
@@ -31,21 +31,21 @@ no_tail_by true n e = cc
 
 module _ {B : Type 0} (stands : B → History → Type 0) (r : Replayer B) where
   -- the end, with bytes behind the last line feed or none
-  pub tail_bad : (of : StationFields) (limit : ℕ) (bytes text : List ℕ) (found : Bool) → IsPlayedBy stands r of limit bytes text None → ((b : List ℕ) → HasTaken r.cutter b → found ≡ has_tail b) → found ≡ true →
+  pub tail_bad : (of : StationFields) (limit : ℕ) (bytes text : List ℕ) (found : Bool) → IsPlayedBy stands r of limit bytes text None → ((b : List ℕ) → HasTaken r.cutter 4096 b → found ≡ has_tail b) → found ≡ true →
       bad_in_the_end None bytes ≡ Some (r.lines + 1)
   tail_bad of limit bytes text found h tail is =
       let count = h.count refl in
       let whole = complete_count of bytes h.lines h.lawful in
       tail_by (has_tail bytes) (length (lines_of bytes).complete + 1) (sym (tail bytes (h.cut refl)) ∙ is) ∙ ap (λ n. Some (n + 1)) (whole ∙ sym count)
 
-  pub no_tail : (of : StationFields) (limit : ℕ) (bytes text : List ℕ) (found : Bool) → IsPlayedBy stands r of limit bytes text None → ((b : List ℕ) → HasTaken r.cutter b → found ≡ has_tail b) → found ≡ false →
+  pub no_tail : (of : StationFields) (limit : ℕ) (bytes text : List ℕ) (found : Bool) → IsPlayedBy stands r of limit bytes text None → ((b : List ℕ) → HasTaken r.cutter 4096 b → found ≡ has_tail b) → found ≡ false →
       bad_in_the_end None bytes ≡ None
   no_tail of limit bytes text found h tail is = no_tail_by (has_tail bytes) (length (lines_of bytes).complete + 1) (sym (tail bytes (h.cut refl)) ∙ is)
 
-  module _ (bytes : List ℕ) (taken : Taken) (cutter : LineCutter) (takes : (b : List ℕ) → HasTaken r.cutter b → TakesPiece cutter b bytes taken) where
+  module _ (bytes : List ℕ) (taken : Taken) (cutter : LineCutter) (takes : (b : List ℕ) → HasTaken r.cutter 4096 b → TakesPiece cutter 4096 b bytes taken) where
     -- so many bytes were cut, in this way
-    cut_by : (before : List ℕ) (cut : Cut) → taken.cut ≡ cut → HasTaken r.cutter before → IsCut cut cutter before bytes (take taken.count bytes)
-    cut_by before cut is h = subst (λ (k : Cut). IsCut k cutter before bytes (take taken.count bytes)) is (takes before h).cut
+    cut_by : (before : List ℕ) (cut : Cut) → taken.cut ≡ cut → HasTaken r.cutter 4096 before → IsCut cut cutter 4096 before bytes (take taken.count bytes)
+    cut_by before cut is h = subst (λ (k : Cut). IsCut k cutter 4096 before bytes (take taken.count bytes)) is (takes before h).cut
 
     pub took_more : (of : StationFields) (limit : ℕ) (before text : List ℕ) → IsPlayedBy stands r of limit before text None → taken.cut ≡ More →
         IsPlayedBy stands (record r { cutter = cutter }) of limit (before ++ take taken.count bytes) (text ++ []) None
@@ -75,7 +75,7 @@ module _ {B : Type 0} (stands : B → History → Type 0) (r : Replayer B) where
         }
 
     module _ (of : StationFields) (limit : ℕ) (before text : List ℕ) (h : IsPlayedBy stands r of limit before text None) (now : Replayer B) (same : now.cutter ≡ cutter) (line : List ℕ)
-        (cut : HasTaken cutter (before ++ take taken.count bytes) × ((lines_of (before ++ take taken.count bytes)).complete ≡ (lines_of before).complete ++ line_in cutter ∷ [])) where
+        (cut : HasTaken cutter 4096 (before ++ take taken.count bytes) × ((lines_of (before ++ take taken.count bytes)).complete ≡ (lines_of before).complete ++ line_in cutter ∷ [])) where
       played_line : (gives : Gives) → IsPlayedLine stands r.lines now.lines now.player of limit h.lines (line_in cutter) line gives →
           IsPlayedBy stands now of limit (before ++ take taken.count bytes) (text ++ given gives line) (bad_of gives)
       played_line Nothing p = absurd p
@@ -86,7 +86,7 @@ module _ {B : Type 0} (stands : B → History → Type 0) (r : Replayer B) where
             lawful = next_line of before h.lines h.lawful (before ++ take taken.count bytes) (line_in cutter) l cut.1 (short_unfinished cutter (before ++ take taken.count bytes) cut.0) p.1.1 p.1.2;
             text_is = ap (λ (t : List ℕ). t ++ take n line) h.text_is ∙ ap (λ (t : List ℕ). replay_text of limit h.lines ++ t) p.1.4 ∙ sym (replay_more of limit h.lines l);
             played = p.1.3;
-            cut = λ _. subst (λ (k : LineCutter). HasTaken k (before ++ take taken.count bytes)) (sym same) cut.0;
+            cut = λ _. subst (λ (k : LineCutter). HasTaken k 4096 (before ++ take taken.count bytes)) (sym same) cut.0;
             count = λ _. p.0 ∙ ap (λ (k : ℕ). k + 1) (h.count refl) ∙ sym (length_push h.lines l);
           }
       played_line (Bad number) p =

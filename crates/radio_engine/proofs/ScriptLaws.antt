@@ -5,9 +5,9 @@ use Rattle.std.proofs.lemmas.Bool.{le-leb, lt-leb, leb-true}
 use Rattle.std.specs.Prelude.{nat_le, if◌then◌else◌}
 use Rattle.pulse_log.proofs.LogLaws.{lines_more, lines_end}
 use Rattle.tick_units.specs.Log.{lines_of}
-use Rattle.script_line.specs.Cutting.{HasTaken, line_in}
+use Rattle.line_cutter.specs.Cutting.{HasTaken, line_in}
 use Rattle.script_line.specs.Texts.{IsTextOf}
-use Rattle.script_line.specs.declared.cutter.LineCutter.{LineCutter}
+use Rattle.line_cutter.specs.declared.cutter.LineCutter.{LineCutter}
 use Rattle.script_line.specs.declared.line.ScriptLine.{ScriptLine}
 use Rattle.script_player.specs.Replay.{is_lawful, each_after, outcome}
 use Rattle.script_player.specs.Texts.{outcome_text, replay_text}
@@ -162,5 +162,5 @@ short_by : (ended : Bool) (line : List ℕ) → length line < 4096 → length (c
 short_by true line lt = omega arith
 short_by false line lt = lt
 
-pub short_unfinished : (cutter : LineCutter) (bytes : List ℕ) → HasTaken cutter bytes → length (lines_of bytes).unfinished < 4096
+pub short_unfinished : (cutter : LineCutter) (bytes : List ℕ) → HasTaken cutter 4096 bytes → length (lines_of bytes).unfinished < 4096
 short_unfinished cutter bytes h = subst (λ (u : List ℕ). length u < 4096) h.unfinished (short_by cutter.ended (line_in cutter) (short_line cutter))

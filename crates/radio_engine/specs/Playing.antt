@@ -1,7 +1,7 @@
 -- Scaffolding: what a player of a script's bytes stands for.
 use Rattle.std.specs.Prelude.{◌≡◌, ℕ, ◌+◌, true, false, Option, None, Result, Ok, Err, List, [], ◌∷◌, ◌++◌, length, take}
 use Rattle.radio_receiver.specs.Histories.{History}
-use Rattle.script_line.specs.Cutting.{HasTaken}
+use Rattle.line_cutter.specs.Cutting.{HasTaken}
 use Rattle.script_line.specs.declared.line.ScriptLine.{ScriptLine}
 use Rattle.script_line.specs.Texts.{IsTextOf}
 use Rattle.script_player.specs.Replay.{is_lawful, outcome}
@@ -21,7 +21,7 @@ pub record IsPlayedBy {B : Type 0} (stands : B → History → Type 0) (r : Repl
   pub lawful : HasLines of bytes lines bad
   pub text_is : text ≡ replay_text of limit lines
   pub played : HasPlayed stands r.player of limit lines
-  pub cut : bad ≡ None → HasTaken r.cutter bytes
+  pub cut : bad ≡ None → HasTaken r.cutter 4096 bytes
   pub count : bad ≡ None → r.lines ≡ length lines
 
 -- the text that the lines of these bytes give, none of which is bad
