@@ -53,7 +53,7 @@ const LINES: [&str; 9] = [
 0000000100000000\n",
     "drop version\n",
     "1 5000000 declined 3\n",
-    "page 3 0 0 494e4954 0 5000000 0 0 1048576 0000000000000000 0\n",
+    "page 3 0 0 494e4954 0 5000000 0 0 1048576 0000000000000000 0 0\n",
     "status 0\n",
 ];
 
@@ -114,7 +114,7 @@ fn each_reading_of_a_station_may_fail(rt: HostRuntime) -> Result<(), Fail> {
     Ok(())
 }
 
-const PAGE_2: &str = "page 2 0 0 494e4954 0 4000000 0 0 1048576 0000000000000000 0\n";
+const PAGE_2: &str = "page 2 0 0 494e4954 0 4000000 0 0 1048576 0000000000000000 0 0\n";
 
 // The lines before it stand, and the page of their entries. A line that the reading cut off isn't judged.
 #[test]
@@ -306,15 +306,7 @@ fn want_of_memory_in_a_refusal(rt: HostRuntime) {
     let usage = "status 1 usage\n";
     is_whole_or_wants_memory(&rt, alloc, &["decode"], "", "", usage, Status::Usage);
     let toml = "status 3 station toml\n";
-    is_whole_or_wants_memory(
-        &rt,
-        alloc,
-        &WORDS,
-        "holdover = \n",
-        "",
-        toml,
-        Status::Station,
-    );
+    is_whole_or_wants_memory(&rt, alloc, &WORDS, "bound = \n", "", toml, Status::Station);
     let fault = "status 3 station unknown leap\n";
     is_whole_or_wants_memory(&rt, alloc, &WORDS, "leap = 1\n", "", fault, Status::Station);
 }

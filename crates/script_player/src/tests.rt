@@ -295,7 +295,7 @@ fn a_reply_is_of_the_entries_so_far(rt: HostRuntime) -> Result<(), Fail> {
     script.push_str(request)?;
     let played = play(
         rt.alloc(),
-        "holdover = 600\n[[radio]]\nplan = \"dcf\"\nlog = \"log\"\n",
+        "[[radio]]\nplan = \"dcf\"\nlog = \"log\"\n",
         MANY,
         script.as_str(),
     )?;
@@ -312,9 +312,10 @@ fn is_of_noon(rt: &impl Abort, page: &Page) {
     assert_eq!(rt; page.refid, 0x4443_4600);
     assert!(rt; page.offset == Span::from(17_077_896_086_183_477_248));
     assert_eq!(rt; page.anchor.get(), 302_000_000);
-    assert_eq!(rt; page.until, 902_000_000);
+    assert_eq!(rt; page.until, 4_364_906_902);
     assert_eq!(rt; page.root_delay, Short(0));
     assert_eq!(rt; page.root_disp, Short(61_542));
     assert_eq!(rt; page.reftime, Stamp(0xed00_e130_0000_0000));
     assert_eq!(rt; page.leap_at, 0);
+    assert_eq!(rt; page.rate, 0);
 }
