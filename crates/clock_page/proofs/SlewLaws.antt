@@ -25,6 +25,6 @@ pub grown-parts : (rate : ℤ) (e : ℕ) → floor_div (rate *ℤ pos e) (10 ^ 6
 grown-parts (pos a) e = above (a * e) (a * (e / 10 ^ 6)) (a * (e % 10 ^ 6)) (parts a e)
 grown-parts (negsuc a) e = below (suc a * e) (suc a * (e / 10 ^ 6)) (suc a * (e % 10 ^ 6)) (parts (suc a) e)
 
-pub rest-small : (z : ℤ) → unsigned_abs z < 2 ^ 62 → unsigned_abs (floor_div z (10 ^ 6)) < 2 ^ 62
-rest-small (pos n) small = omega (arith, ints)
-rest-small (negsuc n) small = omega (arith, ints)
+pub rest_small : (z : ℤ) → unsigned_abs z < 2 ^ 62 → unsigned_abs (floor_div z (10 ^ 6)) < 2 ^ 62
+rest_small (pos n) small = omega (arith, ints)
+rest_small (negsuc n) small = omega (arith, ints)

@@ -19,6 +19,16 @@ fn times(rate: i32, count: u32) -> i64
     i64::from(rate) * i64::from(count)
 }
 
+// A product in millionths, rounded down.
+#[tactic(auto, using(crate::proofs::SlewLaws::rest_small))]
+fn millionths(product: i64) -> i64
+    requires { unsigned_abs product < 2 ^ 62 }
+    ensures value { result ≡ floor_div product (10 ^ 6) }
+    ensures small { unsigned_abs result < 2 ^ 62 }
+{
+    product.div_euclid(1_000_000)
+}
+
 // How much the offset grows in so many microseconds.
 fn grown(rate: i32, passed: u64) -> i64
     requires { passed < 2 ^ 50 }
@@ -26,7 +36,7 @@ fn grown(rate: i32, passed: u64) -> i64
     ensures small { unsigned_abs result < 2 ^ 63 }
 {
     let seconds = times(rate, (passed / 1_000_000) as u32);
-    seconds + times(rate, (passed % 1_000_000) as u32).div_euclid(1_000_000)
+    seconds + millionths(times(rate, (passed % 1_000_000) as u32))
 }
 
 // The sum of two spans and what the offset has grown.
