@@ -5,5 +5,6 @@ pub mod FieldLaws
 pub mod FormLaws
 pub mod LengthLaws
 pub mod NumberLaws
+pub mod SameLaws
 pub mod WordLaws
 pub mod WritingLaws

@@ -3,6 +3,8 @@ use Rattle.std.specs.Prelude.{ℕ, List}
 use Rattle.journal_entry.specs.Numbers.{IsNumberedTextOf}
 use Rattle.journal_entry.specs.Texts.{IsTextOf}
 use Rattle.journal_entry.specs.declared.entry.Entry.{Entry}
+use Rattle.journal_entry.specs.declared.line.Form.{Form}
+use Rattle.journal_entry.specs.declared.line.Form.TheVariants as form
 use Rattle.journal_entry.specs.declared.line.JournalLine.{JournalLine}
 use Rattle.journal_entry.specs.declared.line.JournalLine.TheVariants.{Bare, Numbered}
 
@@ -14,3 +16,7 @@ IsLineText text (Numbered n) = IsNumberedTextOf text n
 abbrev pub entry_of : JournalLine → Entry
 entry_of (Bare e) = e
 entry_of (Numbered n) = n.entry
+
+abbrev pub form_of : JournalLine → Form
+form_of (Bare e) = form.Bare
+form_of (Numbered n) = form.Numbered

@@ -3,6 +3,7 @@
 
 mod entry;
 mod fields;
+mod lawful;
 mod line;
 mod numbered;
 mod read;
@@ -11,7 +12,8 @@ mod write;
 mod writer;
 
 pub use entry::{Entry, What};
-pub use line::{JournalLine, read_line};
+pub use lawful::is_lawful;
+pub use line::{Form, JournalLine, read_line};
 pub use numbered::{MOST_RATE, Numbered};
 pub use read::{read_entry, read_numbered};
 pub use write::{write_entry, write_numbered};

@@ -13,6 +13,37 @@ pub enum JournalLine {
     Numbered(Numbered),
 }
 
+/// The form of a journal's lines.
+#[derive(Clone, Copy, Debug, PartialEq, Eq)]
+pub enum Form {
+    Bare,
+    Numbered,
+}
+
+impl JournalLine {
+    ghost use Rattle.journal_entry.specs.Lines.{entry_of, form_of};
+
+    /// The form that it has.
+    pub fn form(&self) -> Form
+        ensures { result ≡ form_of self.now }
+    {
+        match self {
+            JournalLine::Bare(_) => Form::Bare,
+            JournalLine::Numbered(_) => Form::Numbered,
+        }
+    }
+
+    /// The entry that it tells.
+    pub fn entry(&self) -> &Entry
+        ensures { result.now ≡ entry_of self.now }
+    {
+        match self {
+            JournalLine::Bare(entry) => entry,
+            JournalLine::Numbered(numbered) => &numbered.entry,
+        }
+    }
+}
+
 /// The line whose text this is, in either form, and `None` where it is no line's.
 pub fn read_line(text: &[u8]) -> Option<JournalLine>
     ensures line { IfSome result (λ l. IsLineText text.now l) }

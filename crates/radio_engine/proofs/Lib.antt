@@ -4,6 +4,7 @@ pub mod EmptyRack
 pub mod GoodLogLaws
 pub mod LineFileLaws
 pub mod LineTakingLaws
+pub mod MovingLaws
 pub mod OpeningLaws
 pub mod PlayingLaws
 pub mod RackLaws

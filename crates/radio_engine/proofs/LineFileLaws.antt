@@ -1,5 +1,5 @@
 -- How a command ends that runs through a file of lines.
-use Rattle.std.proofs.Common.{◌≡◌, ℕ, ◌+◌, Bool, true, false, Option, None, Some, List, [], ◌∷◌, ◌++◌, length, refl, ap, sym, ◌∙◌, subst, inl, inr, arith}
+use Rattle.std.proofs.Common.{◌≡◌, ℕ, ◌+◌, ◌<◌, Bool, true, false, Option, None, Some, List, [], ◌∷◌, ◌++◌, length, refl, ap, sym, ◌∙◌, subst, inl, inr, arith}
 use Rattle.std.proofs.lemmas.List.{append-nil, length-append}
 use Rattle.clock_page.specs.Page.{PageFields}
 use Rattle.feed_link.specs.Faults.{Rose, RoseByOne}
@@ -44,11 +44,11 @@ items_stay : (f : LineFile) (items : List f.Item) (front behind : List ℕ) (bad
 items_stay f items front behind None h none = subst (λ (b : List ℕ). HasItemsOf f b items None) (sym (ap (λ (b : List ℕ). front ++ b) (none refl) ∙ append-nil front)) h
 items_stay f items front behind (Some n) h none = bad_stays f.says f.too_long items n front behind h
 
-module _ {T : Type 0} (f : LineFile) (stands : T → List f.Item → Type 0) (room : ℕ) (taker : T) (cutter : LineCutter) (count : ℕ) where
+module _ {T : Type 0} (f : LineFile) (stands : T → List f.Item → Option ℕ → Type 0) (room : ℕ) (taker : T) (cutter : LineCutter) (count : ℕ) where
   pub runs_after : (file file_now : SourceState) (out out_mid out_now : SinkState) (reach : Reach) (result : Status) (page : PageFields) (due : Ending) →
       EndsItself (IsTakenBy f stands room taker cutter count) f.most file file_now out out_mid reach →
-      ((items : List f.Item) → stands taker items → page ≡ f.page items) →
-      ((items : List f.Item) → stands taker items → due ≡ f.ending reach items) → Answers (status_of due) result out_mid out_now (page_text page ++ status_line due) → RunsThrough f file file_now out out_now result
+      ((items : List f.Item) (bad : Option ℕ) → stands taker items bad → page ≡ f.page items) →
+      ((items : List f.Item) (bad : Option ℕ) → stands taker items bad → due ≡ f.ending reach items) → Answers (status_of due) result out_mid out_now (page_text page ++ status_line due) → RunsThrough f file file_now out out_now result
   runs_after file file_now out out_mid out_now reach result page due h page_is due_is answers =
       let p : IsTakenBy f stands room taker cutter count h.front h.text h.bad = h.held in
       inl (record {
@@ -59,10 +59,10 @@ module _ {T : Type 0} (f : LineFile) (stands : T → List f.Item → Type 0) (ro
         reach = reach;
         read = h.read;
         due = due;
-        due_is = due_is p.items p.taken;
+        due_is = due_is p.items h.bad p.taken;
         between = out_mid;
         given = subst (λ (t : List ℕ). WritesAll out out_mid t) p.text_is h.written;
-        written = subst (λ (q : PageFields). Answers (status_of due) result out_mid out_now (page_text q ++ status_line due)) (page_is p.items p.taken) answers;
+        written = subst (λ (q : PageFields). Answers (status_of due) result out_mid out_now (page_text q ++ status_line due)) (page_is p.items h.bad p.taken) answers;
       })
 
   pub taken_says : (bytes text : List ℕ) (bad : Option ℕ) → IsTakenBy f stands room taker cutter count bytes text bad → bad ≡ None → file_says f bytes text

@@ -1,5 +1,5 @@
 -- What a piece does to something that takes the lines of a file.
-use Rattle.std.proofs.Common.{◌≡◌, ℕ, ◌+◌, ◌<◌, ◌≤◌, Bool, true, false, Option, None, Some, List, [], ◌∷◌, ◌++◌, length, take, refl, ap, sym, ◌∙◌, subst, inr, arith, cond}
+use Rattle.std.proofs.Common.{◌≡◌, ℕ, ◌+◌, ◌<◌, ◌≤◌, Bool, true, false, eqb, Option, None, Some, List, [], ◌∷◌, ◌++◌, length, take, refl, ap, sym, ◌∙◌, subst, inr, arith, cond}
 use Rattle.std.proofs.lemmas.List.{append-nil, length_push}
 use Rattle.line_cutter.proofs.ItemLaws.{complete_count, same_items, too_long_line, next_item, bad_line, short_unfinished}
 use Rattle.line_cutter.specs.Cutting.{HasTaken, TakesPiece, IsCut, line_in}
@@ -7,7 +7,8 @@ use Rattle.line_cutter.specs.declared.cutter.Cut.{Cut}
 use Rattle.line_cutter.specs.declared.cutter.Cut.TheVariants.{More, Line, TooLong}
 use Rattle.line_cutter.specs.declared.cutter.LineCutter.{LineCutter}
 use Rattle.line_cutter.specs.declared.cutter.Taken.{Taken}
-use Rattle.tick_units.specs.Log.{lines_of, has_tail}
+use Rattle.pulse_log.proofs.LogLaws.{lines_more, lines_end}
+use Rattle.tick_units.specs.Log.{Lines, lines_of, has_tail}
 use Rattle.radio_engine.specs.LineFiles.{LineFile, HasItemsOf}
 use Rattle.radio_engine.specs.LineTaking.{IsTakenBy, TakesLine}
 use Rattle.radio_engine.specs.Reading.{bad_in_the_end}
@@ -23,7 +24,7 @@ no_tail_by : (b : Bool) (n : ℕ) → b ≡ false → ◌≡◌ {A = Option ℕ}
 no_tail_by false n e = refl
 no_tail_by true n e = cc
 
-module _ {T : Type 0} (f : LineFile) (stands : T → List f.Item → Type 0) (room : ℕ) (some : (n : ℕ) → 0 < f.too_long n) (taker : T) (cutter : LineCutter) (lines : ℕ) where
+module _ {T : Type 0} (f : LineFile) (stands : T → List f.Item → Option ℕ → Type 0) (room : ℕ) (some : (n : ℕ) → 0 < f.too_long n) (ends : (taker : T) (items : List f.Item) (n : ℕ) → stands taker items None → stands taker items (Some n)) (taker : T) (cutter : LineCutter) (lines : ℕ) where
   -- the end, with bytes behind the last line feed or none
   pub tail_bad : (bytes text : List ℕ) (found : Bool) → IsTakenBy f stands room taker cutter lines bytes text None → ((b : List ℕ) → HasTaken cutter room b → found ≡ has_tail b) → found ≡ true →
       bad_in_the_end None bytes ≡ Some (lines + 1)
@@ -67,7 +68,7 @@ module _ {T : Type 0} (f : LineFile) (stands : T → List f.Item → Type 0) (ro
           items = h.items;
           said = subst (λ (n : ℕ). HasItemsOf f (before ++ take taken.count bytes) h.items (Some (n + 1))) (sym (h.count refl)) said;
           text_is = append-nil text ∙ h.text_is;
-          taken = h.taken;
+          taken = ends taker h.items (lines + 1) h.taken;
           cut = λ none. absurd (let e : ◌≡◌ {A = Option ℕ} (Some (lines + 1)) None = none in cc);
           count = λ none. absurd (let e : ◌≡◌ {A = Option ℕ} (Some (lines + 1)) None = none in cc);
         }
@@ -102,7 +103,33 @@ module _ {T : Type 0} (f : LineFile) (stands : T → List f.Item → Type 0) (ro
           }
 
     pub took_line : (before text : List ℕ) (later : T) (lines_now : ℕ) (final : LineCutter) (line : List ℕ) (gives : Gives) → IsTakenBy f stands room taker cutter lines before text None → taken.cut ≡ Line → final ≡ cutter_now →
-        ((items : List f.Item) → stands taker items → TakesLine f stands lines lines_now later items (line_in cutter_now) line gives) →
+        ((items : List f.Item) → lines ≡ length items → stands taker items None → TakesLine f stands lines lines_now later items (line_in cutter_now) line gives) →
         IsTakenBy f stands room later final lines_now (before ++ take taken.count bytes) (text ++ given gives line) (bad_of gives)
     took_line before text later lines_now final line gives h is same takes_line =
-        took_one before text h later lines_now final same line (cut_by before Line is (h.cut refl)) gives (takes_line h.items h.taken)
+        took_one before text h later lines_now final same line (cut_by before Line is (h.cut refl)) gives (takes_line h.items (h.count refl) h.taken)
+
+  -- behind the last line that there may be any byte makes a bad one
+  pub took_none : (bytes before text : List ℕ) → IsTakenBy f stands room taker cutter lines before text None → 0 < length bytes → f.too_long lines ≡ 1 →
+      ((items : List f.Item) (t : List ℕ) (item : f.Item) → lines ≡ length items → f.says items t item → ⊥) →
+      IsTakenBy f stands room taker cutter lines (before ++ take 1 bytes) (text ++ []) (Some (lines + 1))
+  took_none [] before text h more limit none = absurd (omega arith)
+  took_none (byte ∷ bytes) before text h more limit none =
+      let said = by_byte (eqb byte 10) refl in
+      record {
+        items = h.items;
+        said = subst (λ (n : ℕ). HasItemsOf f (before ++ byte ∷ []) h.items (Some (n + 1))) (sym (h.count refl)) said;
+        text_is = append-nil text ∙ h.text_is;
+        taken = ends taker h.items (lines + 1) h.taken;
+        cut = λ none. absurd (let e : ◌≡◌ {A = Option ℕ} (Some (lines + 1)) None = none in cc);
+        count = λ none. absurd (let e : ◌≡◌ {A = Option ℕ} (Some (lines + 1)) None = none in cc);
+      }
+    where
+      one : f.too_long (length h.items) ≡ 1
+      one = subst (λ n. f.too_long n ≡ 1) (h.count refl) limit
+
+      by_byte : (feed : Bool) → eqb byte 10 ≡ feed → HasItemsOf f (before ++ byte ∷ []) h.items (Some (length h.items + 1))
+      by_byte true feed = bad_line f.says f.too_long before h.items h.said (before ++ byte ∷ []) (lines_of before).unfinished (ap (λ (l : Lines). l.complete) (lines_end before byte feed)) (inr (λ item says. none h.items (lines_of before).unfinished item (h.count refl) says))
+      by_byte false feed =
+          let len = length_push (lines_of before).unfinished byte in
+          let long : f.too_long (length h.items) ≤ length (lines_of (before ++ byte ∷ [])).unfinished = rw (lines_more before byte feed) (omega (arith, one)) in
+          too_long_line f.says f.too_long before h.items h.said (before ++ byte ∷ []) (ap (λ (l : Lines). l.complete) (lines_more before byte feed)) long

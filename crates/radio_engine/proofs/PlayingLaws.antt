@@ -17,4 +17,4 @@ pub played_line : {B : Type 0} (stands : B → History → Type 0) (player : Pla
     count_now ≡ count + 1 → says_line of before text line → HasPlayed stands player of limit (before ++ line ∷ []) → take size given ≡ outcome_text (outcome of limit before line) →
     IsPlayedLine stands count count_now player of limit before text given (Text size)
 played_line stands player of limit count count_now before text given size line one says played is =
-    (one, line, says, played, replay_more of limit before line ∙ ap (λ (t : List ℕ). replay_text of limit before ++ t) (sym is))
+    (one, (line, says, played, replay_more of limit before line ∙ ap (λ (t : List ℕ). replay_text of limit before ++ t) (sym is)))

@@ -2,7 +2,7 @@
 use Rattle.std.proofs.Common.{◌≡◌, ℕ, ◌≤◌, ◌^◌, ◌⊎◌, Option, Some, None, List, [], ◌∷◌, ◌++◌, length, ap, sym, ◌∙◌, subst, inl, inr, arith}
 use Rattle.std.proofs.lemmas.List.{length-append}
 use Rattle.command_words.specs.Commands.{Asked, AskFor, IsLimit}
-use Rattle.command_words.specs.Commands.Asked.{decode, replay}
+use Rattle.command_words.specs.Commands.Asked.{decode, migrate, replay}
 use Rattle.feed_link.specs.Faults.{Rose}
 use Rattle.feed_link.specs.Told.{SinkState}
 use Rattle.feed_link.specs.Openings.{Opening, OutsideState, log_visit, visited}
@@ -12,8 +12,11 @@ use Rattle.radio_engine.specs.declared.ending.status.Status.TheVariants.{Done}
 use Rattle.radio_engine.proofs.GoodLogLaws.{log_done}
 use Rattle.radio_engine.proofs.LineFileLaws.{IsReadable, against_done}
 use Rattle.radio_engine.proofs.ScriptLaws.{says_one, says_short}
+use Rattle.radio_engine.proofs.MovingLaws.{one_line, short_line}
+use Rattle.radio_engine.specs.Migrating.{journal_of}
 use Rattle.radio_engine.specs.Replaying.{script_of}
-use Rattle.radio_engine.specs.declared.ending.subject.Subject.TheVariants.{Script}
+use Rattle.station_config.specs.Station.{settings_of}
+use Rattle.radio_engine.specs.declared.ending.subject.Subject.TheVariants.{Journal, Script}
 use Rattle.station_config.specs.Station.{StationFields}
 
 -- openings that were told are there
@@ -26,9 +29,13 @@ not_more told before more one were are =
 pub untouched : (asked : Asked) (outside : OutsideState) → IsFaultless asked outside outside → ⊥
 untouched (decode plan log) outside p = not_more outside.openings p.before [] (visited (log_visit log p.opened p.back)) p.were p.are
 untouched (replay station script limit) outside p = not_more outside.openings p.before _ (visited (log_visit station p.opened p.back)) p.were p.are
+untouched (migrate station journal) outside p = not_more outside.openings p.before _ (visited (log_visit station p.opened p.back)) p.were p.are
 
 script_readable : (limit : ℕ) (of : StationFields) → IsReadable (script_of limit of)
 script_readable limit of = record { one = says_one of; short = says_short of }
+
+journal_readable : (of : StationFields) → IsReadable (journal_of of)
+journal_readable of = record { one = one_line (settings_of of); short = short_line (settings_of of) }
 
 pub runs_done : (asked : Asked) (outside outside_now : OutsideState) (out out_now : SinkState) (result : Status) →
     IsFaultless asked outside outside_now → (Rose out.faults out_now.faults → ⊥) →
@@ -36,6 +43,7 @@ pub runs_done : (asked : Asked) (outside outside_now : OutsideState) (out out_no
 runs_done asked outside outside_now out out_now result good no_write (inl lacks) = absurd (untouched asked outside (subst (λ (o : OutsideState). IsFaultless asked outside o) lacks.unchanged good))
 runs_done (decode plan log) outside outside_now out out_now result good no_write (inr did) = log_done plan log outside outside_now out out_now result good no_write did
 runs_done (replay station script limit) outside outside_now out out_now result good no_write (inr did) = against_done Script (script_of limit) (script_readable limit) station script outside outside_now out out_now result good no_write did
+runs_done (migrate station journal) outside outside_now out out_now result good no_write (inr did) = against_done Journal journal_of journal_readable station journal outside outside_now out out_now result good no_write did
 
 limit_by : (value : Option (List ℕ)) (n : ℕ) → IsLimit value n → n ≤ 2 ^ 22
 limit_by None n h = omega arith

@@ -16,7 +16,7 @@ use Rattle.radio_engine.specs.declared.replay.replayer.Replayer.{Replayer}
 
 -- it has taken these bytes, has played their lines and given the text of these, and has met this bad line
 abbrev pub IsPlayedBy : {B : Type 0} → (B → History → Type 0) → Replayer B → StationFields → ℕ → List ℕ → List ℕ → Option ℕ → Type 0
-IsPlayedBy stands r of limit bytes text bad = IsTakenBy (script_of limit of) (λ player lines. HasPlayed stands player of limit lines) 4096 r.player r.cutter r.lines bytes text bad
+IsPlayedBy stands r of limit bytes text bad = IsTakenBy (script_of limit of) (λ player lines bad. HasPlayed stands player of limit lines) 4096 r.player r.cutter r.lines bytes text bad
 
 -- the text that the lines of these bytes give, none of which is bad
 abbrev pub script_says : StationFields → ℕ → List ℕ → List ℕ → Type 0
@@ -32,4 +32,4 @@ PlaysNext stands player of limit before text given (Err refused) = ((line : Scri
 -- the same, with the lines counted
 abbrev pub IsPlayedLine : {B : Type 0} → (B → History → Type 0) → ℕ → ℕ → Player B → StationFields → ℕ → List ScriptLine → List ℕ → List ℕ → Gives → Type 0
 IsPlayedLine stands count count_now player of limit before text given gives =
-    TakesLine (script_of limit of) (λ player lines. HasPlayed stands player of limit lines) count count_now player before text given gives
+    TakesLine (script_of limit of) (λ player lines bad. HasPlayed stands player of limit lines) count count_now player before text given gives

@@ -1,12 +1,13 @@
 -- What the program does: each command that words may ask for, what becomes of it, and when nothing has a fault.
 use Rattle.std.specs.Prelude.{◌≡◌, ℕ, ◌⊎◌, List}
 use Rattle.command_words.specs.Commands.{Asked, AskFor}
-use Rattle.command_words.specs.Commands.Asked.{decode, replay}
+use Rattle.command_words.specs.Commands.Asked.{decode, migrate, replay}
 use Rattle.feed_link.specs.Faults.{Rose}
 use Rattle.feed_link.specs.Told.{SinkState}
 use Rattle.feed_link.specs.Openings.{OutsideState}
 use Rattle.radio_engine.specs.Decoding.{RunsDecode, HasGoodLog}
 use Rattle.radio_engine.specs.Endings.{status_of, status_line}
+use Rattle.radio_engine.specs.Migrating.{RunsMigrate, HasGoodJournal}
 use Rattle.radio_engine.specs.Replaying.{RunsReplay, HasGoodScript}
 use Rattle.radio_engine.specs.Writing.{Answers}
 use Rattle.radio_engine.specs.declared.ending.Ending.{Ending}
@@ -31,11 +32,13 @@ Lacks = EndsUnopened NoMemory
 abbrev pub Runs : Asked → OutsideState → OutsideState → SinkState → SinkState → Status → Type 0
 Runs (decode plan log) outside outside_now out out_now result = RunsDecode plan log outside outside_now out out_now result
 Runs (replay station script limit) outside outside_now out out_now result = RunsReplay station script limit outside outside_now out out_now result
+Runs (migrate station journal) outside outside_now out out_now result = RunsMigrate station journal outside outside_now out out_now result
 
 -- all that a command opens was opened and given back, told its bytes, and has no fault
 abbrev pub IsFaultless : Asked → OutsideState → OutsideState → Type 0
 IsFaultless (decode plan log) outside outside_now = HasGoodLog log outside outside_now
 IsFaultless (replay station script limit) outside outside_now = HasGoodScript station script limit outside outside_now
+IsFaultless (migrate station journal) outside outside_now = HasGoodJournal station journal outside outside_now
 
 -- all that the one call promises of these words: `run_station` says it clause by clause, and who hands its words on says it so
 pub record IsRun (words : List (List ℕ)) (outside outside_now : OutsideState) (out out_now : SinkState) (result : Status) : Type 0 where

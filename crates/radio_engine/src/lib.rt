@@ -3,6 +3,7 @@
 
 mod decode;
 mod ending;
+mod migrate;
 mod rack;
 mod reading;
 mod replay;

@@ -12,6 +12,7 @@ use crate::decode::open_and_decode;
 use crate::ending::Ending;
 use crate::ending::status::Status;
 use crate::ending::writing::finish;
+use crate::migrate::run_migrate;
 use crate::replay::run_replay;
 use command_words::{Command, WordsFault, read_words};
 use feed_link::{Outside, Sink};
@@ -38,7 +39,8 @@ pub fn end_without_memory<K: Sink>(out: &mut K) -> Status
 
 /// Runs the command that the words spell. `decode` opens its log once, writes a line for each answer as it comes and then
 /// the status line, and gives the log back. `replay` reads its station, plays its script line by line with receivers of the
-/// rack, and writes what each line gives, then the page of the entries kept and the status line.
+/// rack, and writes what each line gives, then the page of the entries kept and the status line. `migrate` reads its station and
+/// moves its journal over line by line, and writes the page of the entries and the status line behind it.
 ///
 /// The rack holds at least four blank receivers of each plan. Those of a plan are used in the rack's order.
 pub fn run_station<O: Outside, K: Sink>(
@@ -74,6 +76,9 @@ pub fn run_station<O: Outside, K: Sink>(
                 limit,
             },
         ) => run_replay(alloc, station, script, within(limit), rack, outside, out),
+        Ok(Command::Migrate { station, journal }) => {
+            run_migrate(alloc, station, journal, outside, out)
+        }
         Err(WordsFault::Usage) => finish(Ending::WrongWords, out),
         Err(WordsFault::Memory) => finish(Ending::NoMemory, out),
     }

@@ -8,42 +8,14 @@ use Rattle.hex.specs.Hex.{encode_lower, lower_digits}
 use Rattle.hex.proofs.HexLemmas.{length-encode_with}
 use Rattle.journal_entry.specs.Texts.{spaced}
 use Rattle.journal_entry.specs.Reading.{has_space}
-use Rattle.journal_entry.proofs.DigitLaws.{all_say, no_space}
-use Rattle.journal_entry.proofs.LengthLaws.{moment_length}
+use Rattle.journal_entry.proofs.LengthLaws.{moment_length, spaced_more}
+use Rattle.journal_entry.proofs.SameLaws.{fields_same, number_same}
 use Rattle.tick_units.specs.declared.marks.Reduction.{Reduction}
 use Rattle.script_line.specs.Datagrams.{IsDatagram, bytes_said, is_small_digit}
 use Rattle.script_line.specs.Texts.{IsLine, IsReduction, AreMoments, IsTextOf, text_of}
 use Rattle.script_line.specs.declared.line.ScriptLine.{ScriptLine}
 use Rattle.script_line.specs.declared.line.ScriptLine.TheVariants.{Pulse, Ask, Answer, Swap, Request}
 use Rattle.script_line.proofs.DatagramLaws.{said_bytes, small_text}
-
--- two texts with one space between each two fields have the same first field and the same others
-record AreSame (x y : List ℕ) (fields others : List (List ℕ)) : Type 0 where
-  first : x ≡ y
-  rest : spaced fields ≡ spaced others
-
-no_text_there : (c : ℕ) (text : List ℕ) (fields : List (List ℕ)) → eqb c 32 ≡ false → spaced fields ≡ c ∷ text → ⊥
-no_text_there c text [] plain e = (let len = ap length e in omega arith)
-no_text_there c text (field ∷ fields) plain e = both_ways (eqb c 32) plain (eq-eqb c 32 (sym (ap (λ (t : List ℕ). get_or t 0 0) e)))
-
-fields_same : (x y : List ℕ) (fields others : List (List ℕ)) → has_space x ≡ false → has_space y ≡ false → x ++ spaced fields ≡ y ++ spaced others → AreSame x y fields others
-fields_same [] [] fields others px py e = record { first = refl; rest = e }
-fields_same [] (d ∷ y) fields others px py e = absurd (no_text_there d (y ++ spaced others) fields (or_parts (eqb d 32) (has_space y) py).0 e)
-fields_same (c ∷ x) [] fields others px py e = absurd (no_text_there c (x ++ spaced fields) others (or_parts (eqb c 32) (has_space x) px).0 (sym e))
-fields_same (c ∷ x) (d ∷ y) fields others px py e =
-    let head : c ≡ d = ap (λ (t : List ℕ). get_or t 0 0) e in
-    let more = fields_same x y fields others (or_parts (eqb c 32) (has_space x) px).1 (or_parts (eqb d 32) (has_space y) py).1 (ap (drop 1) e) in
-    record { first = (λ i. head i ∷ more.first i); rest = more.rest }
-
--- a number, and what stands behind it
-record IsSame (n m : ℕ) (fields others : List (List ℕ)) : Type 0 where
-  number : n ≡ m
-  rest : spaced fields ≡ spaced others
-
-number_same : (n m : ℕ) (fields others : List (List ℕ)) → n < 2 ^ 60 → m < 2 ^ 60 → spaced (decimal n ∷ fields) ≡ spaced (decimal m ∷ others) → IsSame n m fields others
-number_same n m fields others small_n small_m e =
-    let both = fields_same (decimal n) (decimal m) fields others (no_space n (omega arith)) (no_space m (omega arith)) (ap (drop 1) e) in
-    record { number = sym (all_say (decimal m) n (omega arith) (sym both.first)) ∙ all_say (decimal m) m (omega arith) refl; rest = both.rest }
 
 no_space_in_digit : (c : ℕ) → is_small_digit c ≡ true → eqb c 32 ≡ false
 no_space_in_digit c small = ne_eqb c 32 (λ e. elim (or_cases (leb 48 c && leb c 57) (leb 97 c && leb c 102) small) [
@@ -136,9 +108,6 @@ lines_same (Request n arrived sent bytes) (Request m came gone others) a b e = r
 -- a text is at most one line's
 pub one_line : (text : List ℕ) (line other : ScriptLine) → IsTextOf text line → IsTextOf text other → line ≡ other
 one_line text line other a b = lines_same line other a.lawful b.lawful (sym a.is ∙ b.is)
-
-spaced_more : (field : List ℕ) (fields : List (List ℕ)) → length (spaced (field ∷ fields)) ≡ 1 + length field + length (spaced fields)
-spaced_more field fields = omega (arith, length-append field (spaced fields))
 
 feed_length : (n : ℕ) → n < 2 ^ 32 → length (decimal n) ≤ 10
 feed_length n small = length-decimal-le 10 n (omega arith) (omega arith) (omega arith)

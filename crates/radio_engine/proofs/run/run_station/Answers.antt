@@ -29,6 +29,16 @@ pub returns-in-Ok-Replay-clause-complete : goal.returns-in-Ok-Replay-clause-comp
 returns-in-Ok-Replay-clause-complete g c = λ asked h good no_write.
     runs_done asked _ _ _ _ _ good no_write (returns-in-Ok-Replay-clause-runs g c asked h)
 
+pub returns-in-Ok-Migrate-clause-runs : goal.returns-in-Ok-Migrate-clause-runs
+returns-in-Ok-Migrate-clause-runs g c = λ asked h.
+    subst (λ (a : Asked). Lacks (g.O.Outside.state c.args.outside.now) (g.O.Outside.state c.run_migrate.new.outside) (g.K.Sink.state c.args.out.now) (g.K.Sink.state c.run_migrate.new.out) c.run_migrate.result
+    ⊎ Runs a (g.O.Outside.state c.args.outside.now) (g.O.Outside.state c.run_migrate.new.outside) (g.K.Sink.state c.args.out.now) (g.K.Sink.state c.run_migrate.new.out) c.run_migrate.result)
+    (rw c.in-Ok-Migrate.field-0-is at (c.in-Ok-Migrate.ensures.only asked h)) c.run_migrate.ensures
+
+pub returns-in-Ok-Migrate-clause-complete : goal.returns-in-Ok-Migrate-clause-complete
+returns-in-Ok-Migrate-clause-complete g c = λ asked h good no_write.
+    runs_done asked _ _ _ _ _ good no_write (returns-in-Ok-Migrate-clause-runs g c asked h)
+
 pub returns-in-Err-Usage-clause-runs : goal.returns-in-Err-Usage-clause-runs
 returns-in-Err-Usage-clause-runs g c = λ asked h. absurd (c.in-Err-Usage.ensures.usage c.in-Err-Usage.field-0-is asked h)
 

@@ -1,0 +1,22 @@
+-- What the search leaves open of `migrate::run_migrate`.
+use Rattle.std.proofs.Common.{ℕ, List, inr, subst}
+use Rattle.file_reader.specs.declared.reader.FileEnd.{FileEnd}
+use Rattle.station_config.specs.Faults.{Says}
+use Rattle.radio_engine.specs.Keeping.{OpensStation}
+use Rattle.radio_engine.specs.StationFile.{IsObstacle}
+use Rattle.radio_engine.proofs.LineFileLaws.{ends_at, file_tried}
+use Rattle.radio_engine.specs.Migrating.{journal_of}
+use Rattle.radio_engine.specs.declared.ending.subject.Subject.TheVariants.{Journal}
+use Rattle.radio_engine.proofs.StationFileLaws.{told_by}
+use Rattle.radio_engine.proofs.migrate.run_migrate.Goals as goal
+
+pub returns-in-Ok-prepare : goal.returns-in-Ok-prepare
+returns-in-Ok-prepare g c =
+    let judged = c.in-Ok-prepare.ensures.judged in
+    let opens = subst (λ (end : FileEnd). OpensStation c.args.station.now (g.O.Outside.state c.args.outside.now) (g.O.Outside.state c.open_station.new.outside) end c.open_station.new.text.items) judged.0 c.in-Ok-open_station.ensures in
+    inr (file_tried Journal journal_of c.args.station.now c.args.journal.now _ _ _ _ _ _ _ judged.1.0 opens (subst (λ (b : List ℕ). Says b judged.1.0) c.as_slice.ensures.value judged.1.1) (c.open_and_move.ensures judged.1.0 judged.1.2))
+
+pub returns : goal.returns
+returns g c =
+    let cause = subst (λ (b : List ℕ). IsObstacle c.in-Ok-open_station.end b c.in-Err.obstacle) c.as_slice.ensures.value c.in-Err.ensures.judged in
+    inr (ends_at Journal journal_of c.args.station.now c.args.journal.now _ _ _ _ _ c.in-Ok-open_station.end _ c.in-Err.obstacle c.in-Ok-open_station.ensures cause (c.finish_at.ensures (told_by c.in-Ok-open_station.end _ c.in-Err.obstacle cause)))
