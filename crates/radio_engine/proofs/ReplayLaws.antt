@@ -15,7 +15,7 @@ use Rattle.radio_engine.specs.Replaying.{Replays, most_of_a_script, replay_endin
 use Rattle.radio_engine.specs.Script.{HasLines}
 use Rattle.radio_engine.specs.Taking.{EndsItself, EndsStopped}
 use Rattle.radio_engine.specs.Text.{page_text}
-use Rattle.radio_engine.specs.Writing.{WritesAll, WritesFront, Answers}
+use Rattle.radio_engine.specs.Writing.{WritesAll, Answers}
 use Rattle.radio_engine.specs.declared.ending.Ending.{Ending}
 use Rattle.radio_engine.specs.declared.reading.Reach.{Reach}
 use Rattle.radio_engine.specs.declared.replay.replayer.Replayer.{Replayer}

@@ -293,7 +293,9 @@ fn a_swap_loses_its_half_frame(rt: HostRuntime) -> Result<(), Fail> {
     pulses(&mut script, 90_000_000, 182_000_000)?;
     let (written, status) = run(rt.alloc(), &WORDS, DCF.as_bytes(), script.as_str(), NONE)?;
     assert!(rt;
-        written.starts_with(b"j2 1 0 0 62000000 lone 3976257600\nj2 2 0 0 182000000 lone 3976257720\npage 2 ")
+        written.starts_with(
+            b"j2 1 0 0 62000000 lone 3976257600\nj2 2 0 0 182000000 lone 3976257720\npage 2 "
+        )
     );
     assert_eq!(rt; status, Status::Done);
     Ok(())
