@@ -127,7 +127,8 @@ fn gives(
 #[test]
 fn a_swap_loses_what_was_heard_and_keeps_the_delay(rt: HostRuntime) -> Result<(), Fail> {
     let station = "[[radio]]\nplan = \"dcf\"\nlog = \"log\"\ndelay = 1400\n";
-    let all = "j2 1 0 0 3998600 refused 3\nj2 2 0 0 5998600 refused 3\nj2 3 0 0 7998600 refused 3\n";
+    let all =
+        "j2 1 0 0 3998600 refused 3\nj2 2 0 0 5998600 refused 3\nj2 3 0 0 7998600 refused 3\n";
     for (swap, want) in [("", all), ("swap 0\n", "j2 1 0 0 7998600 refused 3\n")] {
         let mut script = String::from_str(
             rt.alloc(),
@@ -175,7 +176,8 @@ fn answer(script: &mut String, place: &str) -> Result<(), AllocError> {
 const ASKED: &str =
     "asked 230006ec0000000000000000000000000000000000000000000000000000000000000000000000008000000100000000\n";
 
-const SAMPLE: &str = "j2 1 0 0 1010000 sample 17077897383243199545 40802189 8837 2 7f000001 256 512\n";
+const SAMPLE: &str =
+    "j2 1 0 0 1010000 sample 17077897383243199545 40802189 8837 2 7f000001 256 512\n";
 
 #[test]
 fn moments_of_a_server_do_not_fall(rt: HostRuntime) -> Result<(), Fail> {

@@ -1,5 +1,5 @@
 -- A journal entry by entry, each with its number and the rate by which the server reckoned after it. All of it is this project's own.
-use Rattle.std.specs.Prelude.{ℕ, ◌+◌, List, [], ◌∷◌, ◌++◌, length}
+use Rattle.std.specs.Prelude.{◌+◌, List, [], ◌∷◌, ◌++◌, length}
 use Rattle.journal_entry.specs.declared.entry.Entry.{Entry}
 use Rattle.journal_entry.specs.declared.numbered.Numbered.{Numbered}
 use Rattle.system_fold.specs.Page.{page_of}
