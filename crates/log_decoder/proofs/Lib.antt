@@ -1,3 +1,4 @@
 pub mod DueLaws
+pub mod LawfulLaws
 pub mod RiseLaws
 pub mod StepLaws
