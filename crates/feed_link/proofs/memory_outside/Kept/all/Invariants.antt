@@ -1,3 +1,4 @@
+-- What stays true in the loops of `memory_outside::Kept::all`.
 use Rattle.std.proofs.Common.{◌≡◌, ◌++◌, length, map}
 use Rattle.std.specs.Vec.Iter.{into_iter_items, into_iter_len}
 use Rattle.feed_link.specs.MemoryOutside.{named_of}
