@@ -2,8 +2,8 @@
 """The page line of a journal, worked out by a program of its own from docs/PAGE.md. It gave the lines that the tests of
 system_fold compare with.
 
-usage: page_model.py [-v] HOLDOVER KIND... < ENTRIES
-HOLDOVER is in microseconds, KIND is dcf, msf, wwvb, server or leap, one for each feed; ENTRIES are lines of a journal.
+usage: page_model.py [-v] BOUND KIND... < ENTRIES
+BOUND is in milliseconds, KIND is dcf, msf, wwvb, server or leap, one for each feed; ENTRIES are lines of a journal.
 -v also tells the cut, the armed leap second, the fit sources, the interval and the feeds that are left.
 """
 import math
@@ -13,6 +13,26 @@ def local_span(u): return u * 2**32 // 10**6
 def ceil_div(a, b): return -((-a) // b)
 def phi(u): return ceil_div(15 * u * 2**32, 10**12)
 def to_short(s): return min(ceil_div(s, 65536), 2**32 - 1)
+
+MOST_RATE = 2147483
+
+def rate_of(held):
+    """of samples in the order of the journal"""
+    first = min(range(len(held)), key=lambda i: (held[i]['at'], i))
+    last = max(range(len(held)), key=lambda i: (held[i]['at'], i))
+    apart = held[last]['at'] - held[first]['at']
+    if apart < 30 * 10**6: return 0
+    return max(-MOST_RATE, min(MOST_RATE, (held[last]['offset'] - held[first]['offset']) * 10**6 // apart))
+
+def lasts(bound, rootdisp):
+    """the least number of microseconds after which the root dispersion is above the bound: looked for by halves"""
+    below, above = 0, 1
+    while rootdisp * 65536 + phi(above) <= bound: above *= 2
+    while above - below > 1:
+        middle = (below + above) // 2
+        if rootdisp * 65536 + phi(middle) <= bound: below = middle
+        else: above = middle
+    return above
 
 def parse(line):
     f = line.split(' ')
@@ -50,7 +70,8 @@ def words(J, nfeeds):
         out.append((feed, max(0, base['at'] + (w['leap_at'] - base['second']) * 10**6), w['leap_at']))
     return out
 
-def page(J, kinds, holdover):
+def page(J, kinds, bound_ms):
+    bound = local_span(1000 * bound_ms)
     n = len(kinds); now = now_of(J)
     cut = 0
     for i in range(len(J) + 1):
@@ -63,8 +84,9 @@ def page(J, kinds, holdover):
     for feed, kind in enumerate(kinds):
         last = samples(J, feed, kind)[-8:]
         held = [(s['delay'], -i, s) for i, s in enumerate(last) if s['at'] >= cut]
-        held = [s for _, _, s in sorted(held, key=lambda t: (t[0], t[1]))]
         if not held: continue
+        rate = rate_of([s for s in last if s['at'] >= cut])
+        held = [s for _, _, s in sorted(held, key=lambda t: (t[0], t[1]))]
         newest = max(s['at'] for s in held)
         disp = 0
         for i in range(8):
@@ -77,7 +99,7 @@ def page(J, kinds, holdover):
         jitter = math.isqrt(j2)
         dist = ceil_div(max(21474837, s0['rd'] * 65536 + s0['delay']), 2) + s0['rp'] * 65536 + disp + phi(now - s0['at']) + jitter
         if dist <= 2**32 and s0['stratum'] < 15:
-            fit.append(dict(feed=feed, kind=kind, s=s0, newest=newest, disp=disp, j2=j2, jitter=jitter, dist=dist))
+            fit.append(dict(feed=feed, kind=kind, s=s0, newest=newest, disp=disp, j2=j2, jitter=jitter, dist=dist, rate=rate))
     if '-v' in sys.argv: print('cut', cut, 'armed', armed, [(x['feed'], x['s']['offset'], x['dist']) for x in fit], file=sys.stderr)
     m = len(fit); chime = None
     for f in range(m):
@@ -97,19 +119,20 @@ def page(J, kinds, holdover):
         worst = max(i for i, v in enumerate(sj) if v == max(sj))
         del surv[worst]
     if '-v' in sys.argv: print('chime', chime, 'rest', [x['feed'] for x in surv], file=sys.stderr)
-    if not surv:
-        return f'page {len(J)} 0 0 494e4954 0 {now} 0 0 1048576 0000000000000000 0'
+    none = f'page {len(J)} 0 0 494e4954 0 {now} 0 0 1048576 0000000000000000 0 0'
+    if not surv: return none
     w = [2**62 // x['dist'] for x in surv]
     offset = sum(a * x['s']['offset'] for a, x in zip(w, surv)) // sum(w)
     p = surv[0]; s = p['s']
     refid = dict(dcf=0x44434600, msf=0x4d534600, wwvb=0x57575642).get(p['kind'], s['address'])
     fresh = max(x['newest'] for x in surv)
-    until = fresh + holdover
-    if armed: until = min(until, armed[0])
     rootdelay = to_short(s['rd'] * 65536 + s['delay'])
     rootdisp = to_short(max(21474837, s['rp'] * 65536 + p['disp'] + phi(now - s['at']) + p['jitter']))
+    if rootdisp * 65536 > bound: return none
+    until = now + lasts(bound, rootdisp)
+    if armed: until = min(until, armed[0])
     reftime = (offset + local_span(fresh)) % 2**64
-    return f"page {len(J)} 1 {s['stratum']+1} {refid:08x} {offset} {now} {until} {rootdelay} {rootdisp} {reftime:016x} {armed[2] if armed else 0}"
+    return f"page {len(J)} 1 {s['stratum']+1} {refid:08x} {offset} {now} {until} {rootdelay} {rootdisp} {reftime:016x} {armed[2] if armed else 0} {p['rate']}"
 
 if __name__ == '__main__':
     args = [a for a in sys.argv[1:] if a != '-v']

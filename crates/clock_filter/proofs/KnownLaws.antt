@@ -1,11 +1,10 @@
 -- What holds of the figures that a filter has ready.
 use Rattle.std.proofs.Common.{◌≡◌, ℕ, List, filter, sym, ◌∙◌, ap, subst}
 use Rattle.std.specs.Prelude.{IfSome, Option, nat_le}
-use Rattle.tick_units.specs.Orders.{in_order}
 use Rattle.tick_units.specs.Samples.{IsLawful}
 use Rattle.clock_filter.specs.Bounds.{AreLawful, IsMeasured, IsTimely}
 use Rattle.clock_filter.specs.Figures.{figures_of}
-use Rattle.clock_filter.specs.Held.{held, last_eight, may_precede}
+use Rattle.clock_filter.specs.Held.{held, last_eight}
 use Rattle.clock_filter.specs.Known.{IsKnown}
 use Rattle.clock_filter.specs.declared.figures.Figures.{Figures}
 use Rattle.clock_filter.specs.declared.taken.Taken.{Taken}
@@ -17,5 +16,5 @@ known_timely cut last o h = subst (λ (p : Option Figures). IfSome p (IsTimely c
 
 pub known_measured : (cut : ℕ) (last samples : List Taken) (o : Option Figures) → IsKnown cut last o → last ≡ last_eight samples → AreLawful samples → IfSome o IsMeasured
 known_measured cut last samples o h eight lawful =
-    let held_is = ap (λ (xs : List Taken). figures_of (in_order may_precede (filter (λ x. nat_le cut x.at) xs))) eight in
+    let held_is = ap (λ (xs : List Taken). figures_of (filter (λ x. nat_le cut x.at) xs)) eight in
     subst (λ (p : Option Figures). IfSome p IsMeasured) (sym (h.value ∙ held_is)) (measured (held cut samples) (held-all (λ x. IsLawful x.sample) cut samples lawful))

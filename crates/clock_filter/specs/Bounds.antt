@@ -1,6 +1,7 @@
 -- What holds of the figures of any samples, and of lawful ones (no part of them negative, or as long as 2^34 s).
 use Rattle.std.specs.Prelude.{ℕ, ◌^◌, ◌≤◌, List, All, pos, ◌≤ℤ◌}
 use Rattle.tick_units.specs.Samples.{IsLawful, IsLength}
+use Rattle.clock_filter.specs.Rate.{IsRate}
 use Rattle.clock_filter.specs.declared.figures.Figures.{Figures}
 use Rattle.clock_filter.specs.declared.taken.Taken.{Taken}
 
@@ -18,3 +19,4 @@ pub record IsMeasured (f : Figures) : Type 0 where
   pub delay : IsLength f.delay
   pub least : pos 0 ≤ℤ f.dispersion
   pub most : f.dispersion ≤ℤ pos (2 ^ 36)
+  pub rate : IsRate f.rate

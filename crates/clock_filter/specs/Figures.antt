@@ -1,10 +1,12 @@
--- What the held samples say together (RFC 5905, section 10): the best sample's own figures, the dispersion of the filter and
--- its jitter. The jitter has no lower bound by the precision here, and each difference in it counts as at most 256 s.
+-- What the held samples say together (RFC 5905, section 10): the best sample's own figures, the dispersion of the filter, its
+-- jitter and the rate. The jitter has no lower bound by the precision here, and each difference in it counts as at most 256 s.
 use Rattle.std.specs.Prelude.{ℕ, ◌+◌, ◌-◌, ◌/◌, ◌^◌, Option, None, Some, List, [], ◌∷◌, length, map, fold, sum_by, slice_get, ℤ, pos, ◌+ℤ◌}
 use Rattle.std.specs.Int.{int_min}
 use Rattle.std.specs.List.{range_with_len}
-use Rattle.tick_units.specs.Orders.{greatest}
+use Rattle.tick_units.specs.Orders.{greatest, in_order}
 use Rattle.tick_units.specs.Units.{phi, ceil_div, square}
+use Rattle.clock_filter.specs.Held.{may_precede}
+use Rattle.clock_filter.specs.Rate.{rate_of}
 use Rattle.clock_filter.specs.declared.figures.Figures.{Figures}
 use Rattle.clock_filter.specs.declared.taken.Taken.{Taken}
 
@@ -31,10 +33,10 @@ abbrev pub jitter2_of : Taken → List Taken → ℕ
 jitter2_of best [] = 0
 jitter2_of best (x ∷ xs) = sum_by (λ y. square y.sample.offset best.sample.offset) (x ∷ xs) / length (x ∷ xs)
 
--- the figures of samples in order
-abbrev pub figures_of : List Taken → Option Figures
-figures_of [] = None
-figures_of (best ∷ others) = Some (record {
+-- the figures of samples by delay, and of their rate
+abbrev pub figures_by : ℤ → List Taken → Option Figures
+figures_by rate [] = None
+figures_by rate (best ∷ others) = Some (record {
   offset = best.sample.offset;
   delay = best.sample.delay;
   dispersion = dispersion_of (best ∷ others);
@@ -45,4 +47,9 @@ figures_of (best ∷ others) = Some (record {
   address = best.sample.address;
   root_delay = best.sample.root_delay;
   root_disp = best.sample.root_disp;
+  rate = rate;
 })
+
+-- the figures of samples in the order of the journal: their rate, and what they say by delay
+abbrev pub figures_of : List Taken → Option Figures
+figures_of taken = figures_by (rate_of taken) (in_order may_precede taken)

@@ -1,12 +1,10 @@
 -- Scaffolding: what a filter has ready of its samples.
 use Rattle.std.specs.Prelude.{◌≡◌, ℕ, ◌≤◌, ◌^◌, nat_le, Option, List, IfSome, filter}
-use Rattle.tick_units.specs.Orders.{in_order}
 use Rattle.clock_filter.specs.Figures.{figures_of}
-use Rattle.clock_filter.specs.Held.{may_precede}
 use Rattle.clock_filter.specs.declared.figures.Figures.{Figures}
 use Rattle.clock_filter.specs.declared.taken.Taken.{Taken}
 
 -- what its last samples say from a cut on
 pub record IsKnown (cut : ℕ) (last : List Taken) (known : Option Figures) : Type 0 where
-  pub value : known ≡ figures_of (in_order may_precede (filter (λ x. nat_le cut x.at) last))
+  pub value : known ≡ figures_of (filter (λ x. nat_le cut x.at) last)
   pub jitter : IfSome known (λ f. f.jitter2 ≤ 2 ^ 80)

@@ -1,7 +1,8 @@
--- Read Held (which samples count, and their order), then Figures (what they say together), then Distance (how far a source may be
--- from the truth). Bounds says what holds of all figures; Known is scaffolding.
+-- Read Held (which samples count, and their order), then Rate and Figures (what they say together), then Distance (how far a source
+-- may be from the truth). Bounds says what holds of all figures; Known is scaffolding.
 pub mod Bounds
 pub mod Distance
 pub mod Figures
 pub mod Held
 pub mod Known
+pub mod Rate

@@ -33,6 +33,9 @@ pub struct Figures {
     pub root_delay: Short,
     /// The server's own dispersion.
     pub root_disp: Short,
+    /// How fast the host's counter loses, by the samples: the units of 2^-32 s by which the offset grows a second, -2147483 to
+    /// 2147483 (500 parts per million); 0 where they tell of less than 30 s.
+    pub rate: i32,
 }
 
 // MAXDISP of RFC 5905, 16 s: the most that a stage counts as, and what an empty one does.
@@ -120,10 +123,10 @@ fn jitter2_of(best: &Taken, others: &[Taken]) -> u128
     sum / others.len() as u128
 }
 
-// The figures of samples in order.
-pub fn figures_of(held: &[Taken]) -> Option<Figures>
+/// The figures of samples in order, and of their rate.
+pub fn figures_by(rate: i32, held: &[Taken]) -> Option<Figures>
     requires { length held.now ≤ 8 }
-    ensures value { result ≡ figures.figures_of held.now }
+    ensures value { result ≡ figures.figures_by rate held.now }
     ensures spread { IfSome result (λ f. f.jitter2 ≤ 2 ^ 80) }
 {
     let (best, others) = held.split_first()?;
@@ -139,5 +142,6 @@ pub fn figures_of(held: &[Taken]) -> Option<Figures>
         address: best.sample.address,
         root_delay: best.sample.root_delay,
         root_disp: best.sample.root_disp,
+        rate,
     })
 }

@@ -7,8 +7,9 @@ ghost use Rattle.clock_filter.specs.Known.{IsKnown};
 ghost use Rattle.clock_filter.specs.declared.taken.Taken.{Taken};
 
 use crate::Taken;
-use crate::figures::{Figures, figures_of};
+use crate::figures::{Figures, figures_by};
 use crate::held::held_of;
+use crate::rate::rate_of;
 use arrayvec::ArrayVec;
 use std::marker::Model;
 use tick_units::{Local, Sample};
@@ -40,7 +41,7 @@ fn figures_from(cut: u64, last: &[Taken]) -> Option<Figures>
     ensures { IsKnown cut last.now result }
 {
     let held = held_of(last, cut);
-    figures_of(held.as_slice())
+    figures_by(rate_of(last, cut), held.as_slice())
 }
 
 impl Filter {

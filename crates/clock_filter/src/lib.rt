@@ -6,6 +6,7 @@ mod distances;
 mod figures;
 mod filter;
 mod held;
+mod rate;
 mod taken;
 #[cfg(test)]
 mod tests;

@@ -253,6 +253,11 @@ fn the_widest_samples_are_counted(rt: HostRuntime) -> Result<(), Fail> {
     let figures = figures_at(&filter, 0)?;
     assert_eq!(rt; figures.dispersion, span(-783_986_623_109_838_902_738)?);
     assert_eq!(rt; figures.jitter2, 690_814_754_065_502_385_546_386);
+    assert_eq!(rt; figures.rate, 0);
+    let later = moment(40_000_000)?;
+    filter.add(later, of_a_server(-most, Span::from(0), most));
+    filter.add(later, of_a_server(-most, Span::from(0), most));
+    assert_eq!(rt; figures_at(&filter, 3_000_000)?.rate, -2_147_483);
     Ok(())
 }
 
@@ -308,9 +313,100 @@ fn a_source_is_fit_to_a_second(rt: HostRuntime) -> Result<(), Fail> {
             address: 0,
             root_delay: Short(0),
             root_disp: Short(0),
+            rate: 0,
         };
         let now = standing_at(&figures, at).ok_or("none")?;
         assert_eq!(rt; now.fit, fit, "{dispersion} of stratum {stratum}");
     }
+    Ok(())
+}
+
+// What the rate is where the offset is the first number of units, and the second number so many microseconds later.
+fn rate_after(apart: u64, before: u64, after: u64) -> Result<i32, Fail> {
+    let none = Span::from(0);
+    let mut filter = Filter::new();
+    filter.add(
+        moment(1_000_000)?,
+        of_a_server(Span::from(before), none, none),
+    );
+    let next = moment(1_000_000u64.saturating_add(apart))?;
+    filter.add(next, of_a_server(Span::from(after), none, none));
+    Ok(figures_at(&filter, 0)?.rate)
+}
+
+// Units a second, rounded down; 30 s at least are looked at.
+#[test]
+fn a_rate_is_rounded_down(rt: HostRuntime) -> Result<(), Fail> {
+    assert_eq!(rt; rate_after(29_999_999, 1_000, 901_000)?, 0);
+    assert_eq!(rt; rate_after(30_000_000, 1_000, 901_000)?, 30_000);
+    assert_eq!(rt; rate_after(30_000_001, 1_000, 901_000)?, 29_999);
+    assert_eq!(rt; rate_after(30_000_000, 1_000, 1_029)?, 0);
+    assert_eq!(rt; rate_after(30_000_000, 1_000, 1_030)?, 1);
+    assert_eq!(rt; rate_after(30_000_000, 1_000, 999)?, -1);
+    assert_eq!(rt; rate_after(30_000_000, 1_000, 970)?, -1);
+    assert_eq!(rt; rate_after(30_000_000, 1_000, 969)?, -2);
+    Ok(())
+}
+
+// 500 parts per million of 2^32 are 2147483.6.
+#[test]
+fn a_rate_is_held_to_its_bound(rt: HostRuntime) -> Result<(), Fail> {
+    let before = 100_000_000;
+    assert_eq!(rt;
+        rate_after(30_000_000, before, before + 64_424_489)?,
+        2_147_482
+    );
+    assert_eq!(rt;
+        rate_after(30_000_000, before, before + 64_424_490)?,
+        2_147_483
+    );
+    assert_eq!(rt;
+        rate_after(30_000_000, before, before + 64_424_520)?,
+        2_147_483
+    );
+    assert_eq!(rt; rate_after(30_000_000, before, 1 << 62)?, 2_147_483);
+    assert_eq!(rt;
+        rate_after(30_000_000, before, before - 64_424_460)?,
+        -2_147_482
+    );
+    assert_eq!(rt;
+        rate_after(30_000_000, before, before - 64_424_490)?,
+        -2_147_483
+    );
+    assert_eq!(rt;
+        rate_after(30_000_000, before, before - 64_424_491)?,
+        -2_147_483
+    );
+    assert_eq!(rt; rate_after(30_000_000, 1 << 63, 0)?, -2_147_483);
+    Ok(())
+}
+
+// Of equal moments the first counts at the beginning and the last at the end, whatever their delays and in whatever order the
+// moments come: 6000 units in 30 s.
+#[test]
+fn a_rate_is_from_the_first_moment_to_the_last(rt: HostRuntime) -> Result<(), Fail> {
+    let mut filter = Filter::new();
+    add_exchange(&mut filter, 31, 5_000, 1)?;
+    add_exchange(&mut filter, 1, 1_000, 9)?;
+    add_exchange(&mut filter, 1, 2_000, 2)?;
+    add_exchange(&mut filter, 16, 9_000, 4)?;
+    add_exchange(&mut filter, 31, 7_000, 9)?;
+    add_exchange(&mut filter, 16, 3_000, 1)?;
+    assert_eq!(rt; figures_at(&filter, 0)?.rate, 200);
+    Ok(())
+}
+
+// The first of nine samples, and those from before the cut, tell no rate.
+#[test]
+fn a_rate_is_of_the_held_samples(rt: HostRuntime) -> Result<(), Fail> {
+    let mut filter = Filter::new();
+    add_exchange(&mut filter, 1, 1_000_000, 1)?;
+    for minute in 1u32..9 {
+        let further = u64::from(minute);
+        add_exchange(&mut filter, 60 * minute, 60_000 * further * further, 1)?;
+    }
+    assert_eq!(rt; figures_at(&filter, 0)?.rate, 9_000);
+    assert_eq!(rt; figures_at(&filter, 420_000_000)?.rate, 15_000);
+    assert_eq!(rt; figures_at(&filter, 420_000_001)?.rate, 0);
     Ok(())
 }

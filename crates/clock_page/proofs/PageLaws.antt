@@ -1,9 +1,9 @@
 -- A page and its words: which page it is follows from the words.
-use Rattle.std.proofs.Common.{◌≡◌, ℕ, ◌+◌, ◌*◌, ◌/◌, ◌%◌, ◌^◌, ◌<◌, ◌≤◌, Bool, true, false, List, slice_index, ℤ, pos, negsuc, ◌≤ℤ◌, ◌<ℤ◌, refl, sym, ap, ◌∙◌, arith, unsigned_abs}
+use Rattle.std.proofs.Common.{◌≡◌, ℕ, ◌+◌, ◌-◌, ◌*◌, ◌/◌, ◌%◌, ◌^◌, ◌<◌, ◌≤◌, Bool, true, false, List, slice_index, ℤ, pos, negsuc, ◌≤ℤ◌, ◌<ℤ◌, refl, sym, ap, ◌∙◌, arith, subst, unsigned_abs}
 use Rattle.std.specs.Int.{from_bool}
 use Rattle.std.proofs.lemmas.Int.{ints}
-use Rattle.tick_units.specs.Units.{floor_div, stamp_of}
-use Rattle.clock_page.specs.Page.{AreWords, PageFields, unsynchronised, words}
+use Rattle.tick_units.specs.Units.{floor_div}
+use Rattle.clock_page.specs.Page.{AreWords, IsRate, PageFields, unsynchronised, word_of, words}
 
 -- the high word of a span that isn't negative
 pub high_word : (z : ℤ) → pos 0 ≤ℤ z → unsigned_abs z / 2 ^ 64 ≡ unsigned_abs (floor_div z (2 ^ 64))
@@ -11,7 +11,7 @@ high_word (pos n) least = refl
 high_word (negsuc n) least = absurd (omega (arith, ints))
 
 -- such a span from its two words
-two_words : (z : ℤ) → pos 0 ≤ℤ z → z ≡ pos (unsigned_abs (floor_div z (2 ^ 64)) * 2 ^ 64 + stamp_of z)
+two_words : (z : ℤ) → pos 0 ≤ℤ z → z ≡ pos (unsigned_abs (floor_div z (2 ^ 64)) * 2 ^ 64 + word_of z)
 two_words (pos n) least = ap pos (omega arith)
 two_words (negsuc n) least = absurd (omega (arith, ints))
 
@@ -23,19 +23,20 @@ high_word-below (negsuc n) least most = absurd (omega (arith, ints))
 record EachWord (w : List ℕ) (p : PageFields) : Type 0 where
   length : p.length ≡ slice_index w 0
   state : from_bool p.sync * 2 ^ 40 + p.stratum * 2 ^ 32 + p.refid ≡ slice_index w 1
-  low : stamp_of p.offset ≡ slice_index w 2
+  low : word_of p.offset ≡ slice_index w 2
   anchor : p.anchor ≡ slice_index w 3
   until : p.until ≡ slice_index w 4
   root : p.root_delay.0 * 2 ^ 32 + p.root_disp.0 ≡ slice_index w 5
   reftime : p.reftime.0 ≡ slice_index w 6
   leap_at : p.leap_at ≡ slice_index w 7
   high : unsigned_abs (floor_div p.offset (2 ^ 64)) ≡ slice_index w 8
+  rate : word_of p.rate ≡ slice_index w 9
 
 each_word : (w : List ℕ) (p : PageFields) → AreWords w p → EachWord w p
 unfolding words
 each_word w p h =
     let at = λ (i : ℕ). ap (λ (l : List ℕ). slice_index l i) (sym h.words) in
-    record { length = at 0; state = at 1; low = at 2; anchor = at 3; until = at 4; root = at 5; reftime = at 6; leap_at = at 7; high = at 8 }
+    record { length = at 0; state = at 1; low = at 2; anchor = at 3; until = at 4; root = at 5; reftime = at 6; leap_at = at 7; high = at 8; rate = at 9 }
 
 -- the moment and the high word are in range
 pub anchor-below : (w : List ℕ) (p : PageFields) → AreWords w p → slice_index w 3 < 2 ^ 50
@@ -43,6 +44,26 @@ anchor-below w p h = let e = each_word w p h in let below = h.page.anchor in ome
 
 pub high-below : (w : List ℕ) (p : PageFields) → AreWords w p → slice_index w 8 < 64
 high-below w p h = let e = each_word w p h in let below = high_word-below p.offset h.page.sound.offset h.page.offset in omega arith
+
+-- the word of a rate, which is within its bound, and is its one rate's
+rate_word : (rate : ℤ) → IsRate rate → (2147483 < word_of rate → 2 ^ 64 - 2147483 ≤ word_of rate)
+rate_word (pos n) bounded above = let most = bounded.most in absurd (omega (arith, ints))
+rate_word (negsuc n) bounded above = let least = bounded.least in let few : n < 2147483 = omega (arith, ints) in omega arith
+
+pub rate-within : (w : List ℕ) (p : PageFields) → AreWords w p → 2147483 < slice_index w 9 → 2 ^ 64 - 2147483 ≤ slice_index w 9
+rate-within w p h above =
+    let e = each_word w p h in
+    let within = rate_word p.rate h.page.sound.rate (subst (λ n. 2147483 < n) (sym e.rate) above) in
+    subst (λ n. 2 ^ 64 - 2147483 ≤ n) e.rate within
+
+one_rate : (x y : ℤ) → IsRate x → IsRate y → word_of x ≡ word_of y → x ≡ y
+one_rate (pos a) (pos b) g h same = let most = g.most in let most_too = h.most in let few : a ≤ 2147483 = omega (arith, ints) in let few_too : b ≤ 2147483 = omega (arith, ints) in ap pos (omega arith)
+one_rate (pos a) (negsuc b) g h same = let most = g.most in let least = h.least in let few : a ≤ 2147483 = omega (arith, ints) in let few_too : b < 2147483 = omega (arith, ints) in absurd (omega arith)
+one_rate (negsuc a) (pos b) g h same = let least = g.least in let most = h.most in let few : a < 2147483 = omega (arith, ints) in let few_too : b ≤ 2147483 = omega (arith, ints) in absurd (omega arith)
+one_rate (negsuc a) (negsuc b) g h same = let least = g.least in let least_too = h.least in let few : a < 2147483 = omega (arith, ints) in let few_too : b < 2147483 = omega (arith, ints) in ap negsuc (omega arith)
+
+pub rate-is : (w : List ℕ) (p : PageFields) (rate : ℤ) → AreWords w p → IsRate rate → slice_index w 9 ≡ word_of rate → rate ≡ p.rate
+rate-is w p rate h bounded is = one_rate rate p.rate bounded h.page.sound.rate (sym is ∙ sym (each_word w p h).rate)
 
 -- the words of a page that isn't synchronised
 state-unsynced : (w : List ℕ) (p : PageFields) → AreWords w p → p.sync ≡ false → slice_index w 1 / 2 ^ 32 < 256
@@ -61,9 +82,9 @@ state-synced w p h on =
     let refid = h.page.refid in
     (omega arith, omega arith)
 
--- the synchronised page that ten words can be those of
-abbrev pub spelled : List ℕ → PageFields
-spelled w = record {
+-- the synchronised page of a rate that ten words can be those of
+abbrev pub spelled : List ℕ → ℤ → PageFields
+spelled w rate = record {
   length = slice_index w 0;
   sync = true;
   stratum = slice_index w 1 / 2 ^ 32 % 256;
@@ -75,6 +96,7 @@ spelled w = record {
   root_disp = record { 0 = slice_index w 5 % 2 ^ 32 };
   reftime = record { 0 = slice_index w 6 };
   leap_at = slice_index w 7;
+  rate = rate;
 }
 
 pub unsynced-page : (w : List ℕ) (p : PageFields) → AreWords w p → slice_index w 1 / 2 ^ 32 < 256 → p ≡ unsynchronised (slice_index w 0) (slice_index w 3)
@@ -84,10 +106,10 @@ unsynced-page w p h few = by_bit p.sync refl
     by_bit true on = absurd (omega (arith, (state-synced w p h on).0))
     by_bit false off = let e = each_word w p h in h.page.sound.unsynchronised off ∙ (λ i. unsynchronised (e.length i) (e.anchor i))
 
-pub synced-page : (w : List ℕ) (p : PageFields) → AreWords w p → 256 ≤ slice_index w 1 / 2 ^ 32 → p ≡ spelled w
+pub synced-page : (w : List ℕ) (p : PageFields) → AreWords w p → 256 ≤ slice_index w 1 / 2 ^ 32 → p ≡ spelled w p.rate
 synced-page w p h many = by_bit p.sync refl
   where
-    by_bit : (b : Bool) → p.sync ≡ b → p ≡ spelled w
+    by_bit : (b : Bool) → p.sync ≡ b → p ≡ spelled w p.rate
     by_bit false off = absurd (omega (arith, state-unsynced w p h off))
     by_bit true on =
         let e = each_word w p h in
@@ -110,4 +132,5 @@ synced-page w p h many = by_bit p.sync refl
           root_disp = record { 0 = dispersion i };
           reftime = record { 0 = e.reftime i };
           leap_at = e.leap_at i;
+          rate = p.rate;
         }

@@ -15,6 +15,7 @@ said_by p = record {
   root_disp = p.root_disp;
   reftime = p.reftime;
   leap_at = p.leap_at;
+  rate = p.rate;
 }
 
 abbrev pub inside_of : PageFields → Inside
@@ -30,4 +31,5 @@ inside_of p = record {
   root_disp = p.root_disp;
   reftime = p.reftime;
   leap_at = p.leap_at;
+  rate = p.rate;
 }

@@ -1,8 +1,8 @@
 -- The page, which tells how the server reckons the time, and its ten words of 64 bits. Its fields are those that an answer
 -- takes from the server's variables (RFC 5905, section 9.2); how they are packed is this project's own.
-use Rattle.std.specs.Prelude.{◌≡◌, ℕ, ◌+◌, ◌*◌, ◌^◌, ◌<◌, Bool, false, List, [], ◌∷◌, ℤ, pos, ◌≤ℤ◌, ◌<ℤ◌, unsigned_abs}
-use Rattle.std.specs.Int.{from_bool}
-use Rattle.tick_units.specs.Units.{floor_div, stamp_of}
+use Rattle.std.specs.Prelude.{◌≡◌, ℕ, ◌+◌, ◌*◌, ◌^◌, ◌<◌, Bool, false, List, [], ◌∷◌, ℤ, pos, neg_ℤ, ◌≤ℤ◌, ◌<ℤ◌, unsigned_abs}
+use Rattle.std.specs.Int.{from_bool, int_rem_euclid}
+use Rattle.tick_units.specs.Units.{floor_div}
 use Rattle.tick_units.specs.declared.stamp.Short.{Short}
 use Rattle.tick_units.specs.declared.stamp.Stamp.{Stamp}
 
@@ -19,6 +19,7 @@ pub record PageFields : Type 0 where
   pub root_disp : Short
   pub reftime : Stamp
   pub leap_at : ℕ
+  pub rate : ℤ
 
 -- the reference ID of a server that isn't synchronised, `INIT`
 abbrev pub init_id : ℕ
@@ -42,11 +43,22 @@ unsynchronised length anchor = record {
   root_disp = record { 0 = unknown_dispersion };
   reftime = record { 0 = 0 };
   leap_at = 0;
+  rate = pos 0;
 }
 
--- what holds of every page: its offset isn't negative, and where it isn't synchronised it says nothing more than that
+-- a rate is at most 500 parts per million, in units of 2^-32 s a second (MAXFREQ of RFC 5905, appendix A.1.1)
+abbrev pub most_rate : ℕ
+most_rate = 2147483
+
+pub record IsRate (rate : ℤ) : Type 0 where
+  pub least : neg_ℤ (pos most_rate) ≤ℤ rate
+  pub most : rate ≤ℤ pos most_rate
+
+-- what holds of every page: its offset isn't negative, its rate is within the bound, and where it isn't synchronised it says nothing
+-- more than that
 pub record IsSound (p : PageFields) : Type 0 where
   pub offset : pos 0 ≤ℤ p.offset
+  pub rate : IsRate p.rate
   pub unsynchronised : p.sync ≡ false → p ≡ unsynchronised p.length p.anchor
 
 -- the same, with the ranges of the fields
@@ -63,19 +75,23 @@ pub record IsPage (p : PageFields) : Type 0 where
   pub reftime : p.reftime.0 < 2 ^ 64
   pub leap_at : p.leap_at < 2 ^ 64
 
+-- a number that may be negative in a word: modulo 2^64
+abbrev pub word_of : ℤ → ℕ
+word_of z = unsigned_abs (int_rem_euclid z (pos (2 ^ 64)))
+
 -- the ten words of a page
 unfoldable pub words : PageFields → List ℕ
 words p =
     p.length
     ∷ (from_bool p.sync * 2 ^ 40 + p.stratum * 2 ^ 32 + p.refid)
-    ∷ stamp_of p.offset
+    ∷ word_of p.offset
     ∷ p.anchor
     ∷ p.until
     ∷ (p.root_delay.0 * 2 ^ 32 + p.root_disp.0)
     ∷ p.reftime.0
     ∷ p.leap_at
     ∷ unsigned_abs (floor_div p.offset (2 ^ 64))
-    ∷ 0
+    ∷ word_of p.rate
     ∷ []
 
 -- these words are the page's

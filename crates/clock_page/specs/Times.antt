@@ -1,12 +1,16 @@
 -- What a page says of a moment of the host's counter: the time, whether it is to be trusted, and whether a leap second is
 -- near (the leap indicator of RFC 5905, section 7.3).
-use Rattle.std.specs.Prelude.{ℕ, ◌^◌, Bool, ◌&&◌, nat_lt, ℤ, pos, ◌+ℤ◌, int_lt, int_le, if◌then◌else◌}
+use Rattle.std.specs.Prelude.{ℕ, ◌-◌, ◌^◌, ◌==◌, Bool, not, ◌&&◌, nat_lt, ℤ, pos, ◌+ℤ◌, ◌*ℤ◌, int_lt, int_le, if◌then◌else◌}
 use Rattle.tick_units.specs.Units.{floor_div, local_span, stamp_of}
 use Rattle.clock_page.specs.Page.{PageFields}
 
+-- how much the offset has grown since the page was reckoned, by its rate, rounded down; nothing before that moment
+abbrev pub slew : PageFields → ℕ → ℤ
+slew p u = floor_div (p.rate *ℤ pos (u - p.anchor)) (10 ^ 6)
+
 -- the span since 1900
 abbrev pub span_at : PageFields → ℕ → ℤ
-span_at p u = p.offset +ℤ pos (local_span u)
+span_at p u = (p.offset +ℤ slew p u) +ℤ pos (local_span u)
 
 -- the time as it stands on the wire
 abbrev pub time_at : PageFields → ℕ → ℕ
@@ -20,9 +24,13 @@ second_at p u = floor_div (span_at p u) (2 ^ 32)
 abbrev pub synced_at : PageFields → ℕ → Bool
 synced_at p u = p.sync && nat_lt u p.until
 
--- the announced leap second ends 1 to 86400 seconds later; where none is announced, `leap_at` is 0 and no second is below it
+-- a second is 1 to 86400 after another
+abbrev pub is_ahead : ℤ → ℕ → Bool
+is_ahead second leap_at = int_lt second (pos leap_at) && int_le (pos leap_at) (second +ℤ pos 86400)
+
+-- the announced leap second ends 1 to 86400 seconds later; where none is announced, `leap_at` is 0
 abbrev pub leap_is_near : PageFields → ℕ → Bool
-leap_is_near p u = int_lt (second_at p u) (pos p.leap_at) && int_le (pos p.leap_at) (second_at p u +ℤ pos 86400)
+leap_is_near p u = not (p.leap_at == 0) && is_ahead (second_at p u) p.leap_at
 
 -- the leap indicator: 3 where the page isn't synchronised, 1 where the day's last minute has 61 seconds
 abbrev pub leap_indicator : PageFields → ℕ → ℕ

@@ -22,7 +22,7 @@ pub struct Page {
     pub stratum: u8,
     /// What the server takes its time from: four letters, or an IPv4 address.
     pub refid: u32,
-    /// What is to be added to the host's counter to give the time since 1900; never negative.
+    /// What is to be added to the host's counter to give the time since 1900, at the anchor; never negative.
     pub offset: Span,
     /// The moment for which the page was reckoned.
     pub anchor: Local,
@@ -36,6 +36,9 @@ pub struct Page {
     pub reftime: Stamp,
     /// The second at which the announced leap second ends, and 0 where none is announced.
     pub leap_at: u64,
+    /// How fast the host's counter loses: the units of 2^-32 s by which the offset grows a second from the anchor on, -2147483 to
+    /// 2147483 (500 parts per million).
+    pub rate: i32,
 }
 
 impl Model for Page {
@@ -69,6 +72,7 @@ impl Page {
             root_disp: Short(UNKNOWN_DISPERSION),
             reftime: Stamp(0),
             leap_at: 0,
+            rate: 0,
         }
     }
 }

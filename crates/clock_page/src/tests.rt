@@ -1,5 +1,6 @@
 //! Pages, their words, and what they say of a moment.
 ghost use Rattle.std.specs.Prelude.{pos, ◌≤ℤ◌};
+ghost use Rattle.clock_page.specs.Page.{IsRate};
 
 use crate::Page;
 use std::test::Fail;
@@ -13,6 +14,14 @@ fn moment(microseconds: u64) -> Result<Local, Fail> {
 fn of_a_radio(offset: Span, leap_at: u64) -> Result<Page, Fail>
     requires { pos 0 ≤ℤ offset }
 {
+    with_rate(offset, leap_at, 0)
+}
+
+// The same, where the host's counter loses so many units a second.
+fn with_rate(offset: Span, leap_at: u64, rate: i32) -> Result<Page, Fail>
+    requires offset { pos 0 ≤ℤ offset }
+    requires rate { IsRate rate }
+{
     Ok(Page {
         length: 5,
         sync: true,
@@ -25,6 +34,7 @@ fn of_a_radio(offset: Span, leap_at: u64) -> Result<Page, Fail>
         root_disp: Short(61_542),
         reftime: Stamp(0xed00_e130_0000_0000),
         leap_at,
+        rate,
     })
 }
 
@@ -73,6 +83,92 @@ fn an_offset_of_two_words(rt: HostRuntime) -> Result<(), Fail> {
     Ok(())
 }
 
+// A page that isn't synchronised has no rate.
+#[test]
+fn a_rate_where_nothing_tells_the_time(rt: HostRuntime) {
+    let words = [4, 0x494e_4954, 0, 242_000_000, 0, 0x0010_0000, 0, 0, 0, 1];
+    assert_eq!(rt; Page::of_words(words), None);
+}
+
+// The ninth word is the rate modulo 2^64.
+#[test]
+fn rates_and_their_words(rt: HostRuntime) -> Result<(), Fail> {
+    let offset = Span::from_seconds(3_976_257_538);
+    let mut words = WORDS;
+    words[9] = 2_147_483;
+    let page = with_rate(offset, 0, 2_147_483)?;
+    assert_eq!(rt; page.to_words(), words);
+    assert_eq!(rt; Page::of_words(words), Some(page));
+    words[9] = 0xffff_ffff_ffdf_3b65;
+    let page = with_rate(offset, 0, -2_147_483)?;
+    assert_eq!(rt; page.to_words(), words);
+    assert_eq!(rt; Page::of_words(words), Some(page));
+    words[9] = u64::MAX;
+    assert_eq!(rt; Page::of_words(words), Some(with_rate(offset, 0, -1)?));
+    Ok(())
+}
+
+// The counter loses 1, 53687 and 2147483 units a second, or gains as many: rounded down, from the anchor on and not before it.
+#[test]
+fn the_time_follows_the_rate(rt: HostRuntime) -> Result<(), Fail> {
+    let offset = Span::from_seconds(3_976_257_538);
+    let gains = with_rate(offset, 0, 53_687)?;
+    let loses = with_rate(offset, 0, -53_687)?;
+    assert_eq!(rt;
+        gains.time_at(moment(301_000_000)?),
+        Stamp(0xed00_e12f_0000_0000)
+    );
+    assert_eq!(rt;
+        loses.time_at(moment(301_000_000)?),
+        Stamp(0xed00_e12f_0000_0000)
+    );
+    assert_eq!(rt;
+        gains.time_at(moment(302_000_000)?),
+        Stamp(0xed00_e130_0000_0000)
+    );
+    assert_eq!(rt;
+        gains.time_at(moment(302_000_001)?),
+        Stamp(0xed00_e130_0000_10c6)
+    );
+    assert_eq!(rt;
+        loses.time_at(moment(302_000_001)?),
+        Stamp(0xed00_e130_0000_10c5)
+    );
+    assert_eq!(rt;
+        gains.time_at(moment(303_000_000)?),
+        Stamp(0xed00_e131_0000_d1b7)
+    );
+    assert_eq!(rt;
+        loses.time_at(moment(303_000_000)?),
+        Stamp(0xed00_e130_ffff_2e49)
+    );
+    assert_eq!(rt;
+        loses.time_at(moment(312_500_000)?),
+        Stamp(0xed00_e13a_7ff7_65fe)
+    );
+    let most = with_rate(offset, 0, 2_147_483)?;
+    assert_eq!(rt;
+        most.time_at(moment((1 << 50) - 1)?),
+        Stamp(0x3025_558a_79a5_125d)
+    );
+    let least = with_rate(Span::from(0), 0, -2_147_483)?;
+    assert_eq!(rt;
+        least.time_at(moment((1 << 50) - 1)?),
+        Stamp(0x4313_477d_35c7_35c8)
+    );
+    Ok(())
+}
+
+// A counter that gains crosses a second later: the warning ends by the rate's time.
+#[test]
+fn a_warning_follows_the_rate(rt: HostRuntime) -> Result<(), Fail> {
+    let at = moment(303_000_000)?;
+    let page = with_rate(Span::from_seconds(3_976_257_538), 3_976_257_841, -1)?;
+    assert_eq!(rt; page.leap_at_time(at), 1);
+    assert_eq!(rt; of_2026(3_976_257_841)?.leap_at_time(at), 0);
+    Ok(())
+}
+
 // One word changed: a word past its range, or a word of a page that says more than that it isn't synchronised.
 #[test]
 fn words_of_no_page(rt: HostRuntime) {
@@ -82,7 +178,9 @@ fn words_of_no_page(rt: HostRuntime) {
         (1, 0x0001_4443_4600),
         (3, 1 << 50),
         (8, 64),
-        (9, 1),
+        (9, 2_147_484),
+        (9, 0xffff_ffff_ffdf_3b64),
+        (9, 1 << 63),
     ] {
         let mut words = WORDS;
         words[place] = word;

@@ -1,7 +1,8 @@
 //! The ten words of a page, and the page of ten words.
-ghost use Rattle.std.specs.Prelude.{◌≡◌, ◌+◌, ◌*◌, ◌/◌, ◌%◌, ◌^◌, ◌<◌, ◌≤◌, pos, IfSome, IfNone};
+ghost use Rattle.std.specs.Prelude.{◌≡◌, ◌+◌, ◌*◌, ◌-◌, ◌/◌, ◌%◌, ◌^◌, ◌<◌, ◌≤◌, pos, IfSome, IfNone};
 ghost use Rattle.std.specs.Int.{from_bool};
-ghost use Rattle.clock_page.specs.Page.{AreWords, IsPage, PageFields, words};
+ghost use Rattle.clock_page.specs.Page as pages;
+ghost use Rattle.clock_page.specs.Page.{AreWords, IsPage, IsRate, PageFields, words};
 
 use crate::Page;
 use tick_units::{Local, Short, Span, Stamp, stamp_of};
@@ -57,6 +58,31 @@ fn offset_of(high: u64, low: u64) -> Option<Span>
     Span::new((i128::from(high) << 64) + i128::from(low))
 }
 
+// A rate in a word.
+fn word_of(rate: i32) -> u64
+    ensures { result ≡ pages.word_of rate }
+{
+    i128::from(rate).rem_euclid(1 << 64) as u64
+}
+
+// The most that a rate is, 500 parts per million of 2^32.
+const MOST: u64 = 2_147_483;
+
+// The rate in a word, where it is within its bound.
+fn rate_of(word: u64) -> Option<i32>
+    ensures some { IfSome result (λ rate. IsRate rate × (word ≡ pages.word_of rate)) }
+    ensures none { IfNone result ((2147483 < word) × (word < 2 ^ 64 - 2147483)) }
+{
+    let below = u64::MAX - word;
+    if word <= MOST {
+        Some(word as i32)
+    } else if below < MOST {
+        Some(-1 - below as i32)
+    } else {
+        None
+    }
+}
+
 // The one page whose words these can be.
 fn candidate(w: &[u64; 10]) -> Option<Page>
     ensures { (p : PageFields) → AreWords w.now p → result ≡ Some p }
@@ -67,6 +93,7 @@ fn candidate(w: &[u64; 10]) -> Option<Page>
         return Some(Page::unsynchronised(w[0], anchor));
     }
     let offset = offset_of(w[8], w[2])?;
+    let rate = rate_of(w[9])?;
     Some(Page {
         length: w[0],
         sync: true,
@@ -79,6 +106,7 @@ fn candidate(w: &[u64; 10]) -> Option<Page>
         root_disp: Short(low(w[5])),
         reftime: Stamp(w[6]),
         leap_at: w[7],
+        rate,
     })
 }
 
@@ -99,7 +127,7 @@ impl Page {
             whole(self.reftime.0),
             whole(self.leap_at),
             (self.offset.unsigned_abs() >> 64) as u64,
-            0,
+            word_of(self.rate),
         ]
     }
 

@@ -1,2 +1,3 @@
+-- Lemmas that several proofs of this crate use.
 pub mod PullLaws
 pub mod WholeLaws

@@ -3,5 +3,6 @@ pub mod AddressLaws
 pub mod DigitLaws
 pub mod FieldLaws
 pub mod LengthLaws
+pub mod NumberLaws
 pub mod WordLaws
 pub mod WritingLaws

@@ -103,6 +103,14 @@ impl<'a> Fields<'a> {
         span_of(self.next())
     }
 
+    // The next field as a rate.
+    pub fn next_rate(&mut self) -> i32
+        ensures { (z : ℤ) (fields : List (List ℕ)) → unsigned_abs z < 2 ^ 31 → HasFields self.old (signed_decimal z ∷ fields) →
+            (result ≡ z) × HasFields self.new fields }
+    {
+        i32::try_from(self.next_span().get()).unwrap_or(0)
+    }
+
     // The next field as an address.
     #[tactic(auto, using(crate::proofs::AddressLaws::no_space_in_address))]
     pub fn next_address(&mut self) -> u32

@@ -1,17 +1,21 @@
-//! The entries of a journal, and the one text of each; and the writer of such texts.
+//! The entries of a journal, by themselves and numbered, and the one text of each; and the writer of such texts.
 #![tactic(auto)]
 
 mod entry;
 mod fields;
+mod numbered;
 mod read;
 mod words;
 mod write;
 mod writer;
 
 pub use entry::{Entry, What};
-pub use read::read_entry;
-pub use write::write_entry;
+pub use numbered::{MOST_RATE, Numbered};
+pub use read::{read_entry, read_numbered};
+pub use write::{write_entry, write_numbered};
 pub use writer::{LINE_ROOM, TextWriter};
 
+#[cfg(test)]
+mod numbered_tests;
 #[cfg(test)]
 mod tests;

@@ -1,14 +1,16 @@
-//! Reads an entry from its text.
+//! Reads an entry, or a numbered one, from its text.
 ghost use Rattle.std.specs.Prelude.{◌≡◌, IfSome, Some};
-ghost use Rattle.journal_entry.specs.Entries.{IsSample, IsWhat};
+ghost use Rattle.journal_entry.specs.Entries.{IsEntry, IsSample, IsWhat};
+ghost use Rattle.journal_entry.specs.Numbers.{IsNumberedTextOf, is_rate};
 ghost use Rattle.journal_entry.specs.Texts.{IsTextOf, sample_fields, what_fields};
-ghost use Rattle.journal_entry.specs.Reading.{HasFields};
+ghost use Rattle.journal_entry.specs.Reading.{HasFields, entry_fields};
 ghost use Rattle.journal_entry.specs.declared.entry.Entry as entry;
 ghost use Rattle.journal_entry.specs.declared.entry.What as what;
+ghost use Rattle.journal_entry.specs.declared.numbered.Numbered as numbered;
 ghost use Rattle.tick_units.specs.declared.sample.Sample as sample;
 
 use crate::fields::Fields;
-use crate::{Entry, LINE_ROOM, What, words, write_entry};
+use crate::{Entry, LINE_ROOM, MOST_RATE, Numbered, What, words, write_entry, write_numbered};
 use tick_units::{Kind, Sample, Short};
 
 /// The entry whose text this is, and `None` where it is no entry's.
@@ -26,14 +28,62 @@ pub fn read_entry(text: &[u8]) -> Option<Entry>
     }
 }
 
+/// The numbered entry whose text this is, and `None` where it is none's: where the number is 0, or the rate greater than a
+/// page's, too.
+pub fn read_numbered(text: &[u8]) -> Option<Numbered>
+    ensures numbered { IfSome result (λ n. IsNumberedTextOf text.now n) }
+    ensures every { (n : numbered.Numbered) → IsNumberedTextOf text.now n → result ≡ Some n }
+{
+    let numbered = numbered_candidate(text)?;
+    if numbered.length == 0 || !is_rate(numbered.rate) {
+        return None;
+    }
+    let mut spelt = [0; LINE_ROOM];
+    let count = write_numbered(&numbered, &mut spelt);
+    if &spelt[..count] == text {
+        Some(numbered)
+    } else {
+        None
+    }
+}
+
+// Whether a rate can be a page's.
+fn is_rate(rate: i32) -> bool
+    ensures { result ≡ is_rate rate }
+{
+    -MOST_RATE <= rate && rate <= MOST_RATE
+}
+
 // The one entry whose text this can be.
 fn candidate(text: &[u8]) -> Option<Entry>
     ensures { (e : entry.Entry) → IsTextOf text.now e → result ≡ Some e }
 {
+    read_fields(&mut Fields::new(text))
+}
+
+// The one numbered entry whose text this can be.
+fn numbered_candidate(text: &[u8]) -> Option<Numbered>
+    ensures { (n : numbered.Numbered) → IsNumberedTextOf text.now n → result ≡ Some n }
+{
     let mut fields = Fields::new(text);
+    let _version = fields.next();
+    let length = fields.next_u64();
+    let rate = fields.next_rate();
+    let entry = read_fields(&mut fields)?;
+    Some(Numbered {
+        length,
+        rate,
+        entry,
+    })
+}
+
+// The entry of these fields.
+fn read_fields(fields: &mut Fields<'_>) -> Option<Entry>
+    ensures { (e : entry.Entry) → IsEntry e → HasFields fields.old (entry_fields e) → result ≡ Some e }
+{
     let feed = fields.next_u32();
     let at = fields.next_moment()?;
-    let what = read_what(&mut fields)?;
+    let what = read_what(fields)?;
     Some(Entry { feed, at, what })
 }
 

@@ -4,7 +4,7 @@ use std::process::Abort;
 use std::test::Fail;
 use tick_units::{Kind, Local, Sample, Short, Span};
 
-fn entry(feed: u32, at: u64, what: What) -> Result<Entry, Fail> {
+pub fn entry(feed: u32, at: u64, what: What) -> Result<Entry, Fail> {
     let at = Local::new(at).ok_or("no moment")?;
     Ok(Entry { feed, at, what })
 }

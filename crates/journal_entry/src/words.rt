@@ -1,4 +1,6 @@
-//! The words of entries, each of which says what its numbers are.
+//! The words of entries, each of which says what its numbers are; and the word in front of a numbered entry.
+
+pub const VERSION_2: &[u8] = b"j2";
 
 pub const VERDICT: &[u8] = b"verdict";
 

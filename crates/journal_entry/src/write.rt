@@ -1,11 +1,12 @@
 //! Writes the text of an entry.
-ghost use Rattle.std.specs.Prelude.{◌≡◌, ◌+◌, ◌≤◌, length, take, drop};
+ghost use Rattle.std.specs.Prelude.{◌≡◌, ◌+◌, ◌<◌, ◌≤◌, ◌^◌, length, take, drop};
 ghost use Rattle.journal_entry.specs.Entries.{IsEntry, IsKind, IsSample, IsWhat};
+ghost use Rattle.journal_entry.specs.Numbers.{numbered_text};
 ghost use Rattle.journal_entry.specs.Texts.{kind_fields, what_fields, text_of};
 ghost use Rattle.journal_entry.specs.Writing.{AddsFields, HasRoom, written};
 
 use crate::writer::{LINE_ROOM, TextWriter};
-use crate::{Entry, What, words};
+use crate::{Entry, Numbered, What, words};
 use itoa::Buffer;
 use tick_units::{Kind, Sample};
 
@@ -22,6 +23,26 @@ pub fn write_entry(e: &Entry, out: &mut [u8; LINE_ROOM]) -> usize
     text.add(Buffer::new().format(e.feed).as_bytes());
     text.moment(e.at);
     write_what(&e.what, &mut text);
+    text.len()
+}
+
+/// Writes the text of a numbered entry at the front of `out`, without a line feed, and leaves the rest as it was. The answer is
+/// the number of bytes written, at most 177.
+pub fn write_numbered(n: &Numbered, out: &mut [u8; LINE_ROOM]) -> usize
+    ensures text { take result out.new ≡ numbered_text n.now }
+    ensures rest { drop result out.new ≡ drop result out.old }
+    ensures length { result ≡ length (numbered_text n.now) }
+    ensures most { result ≤ 177 }
+    ensures entry { IsEntry n.now.entry }
+    ensures number { n.now.length < 2 ^ 64 }
+{
+    let mut text = TextWriter::new(out);
+    text.add(words::VERSION_2);
+    text.number(n.length);
+    text.rate(n.rate);
+    text.number(n.entry.feed);
+    text.moment(n.entry.at);
+    write_what(&n.entry.what, &mut text);
     text.len()
 }
 

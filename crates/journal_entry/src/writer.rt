@@ -6,8 +6,8 @@ use hex::encode_to_slice;
 use itoa::{Buffer, Integer};
 use tick_units::{Local, Span, Stamp};
 
-/// The room for the text of a line, in bytes.
-pub const LINE_ROOM: usize = 256;
+/// The room for the text of a line, in bytes. A line of a journal that is longer than this is bad.
+pub const LINE_ROOM: usize = 300;
 
 /// Writes the fields of a text at the front of its room.
 #[derive(Drop)]
@@ -89,6 +89,15 @@ impl<'a> TextWriter<'a> {
         ensures small { unsigned_abs span < 2 ^ 70 }
     {
         self.number(span.get());
+    }
+
+    /// Adds a space and a rate in decimal, with a sign where it is negative.
+    pub fn rate(&mut self, rate: i32)
+        requires { HasRoom self.old 12 }
+        ensures text { Adds self.old self.new (32 ∷ signed_decimal rate) }
+        ensures short { written self.new ≤ written self.old + 12 }
+    {
+        self.number(rate);
     }
 
     /// Adds a space and the four bytes of an address, each in two hexadecimal digits.

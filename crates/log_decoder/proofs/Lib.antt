@@ -1,3 +1,4 @@
+-- Lemmas that several proofs of this crate use.
 pub mod DueLaws
 pub mod LawfulLaws
 pub mod RiseLaws

@@ -1,3 +1,4 @@
+-- Lemmas that several proofs of this crate use.
 pub mod DecodingLaws
 pub mod EmptyRack
 pub mod GoodLogLaws

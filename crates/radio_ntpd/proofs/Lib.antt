@@ -1,1 +1,2 @@
+-- Lemmas that several proofs of this crate use.
 pub mod EmptyRack

@@ -52,11 +52,12 @@ fn of_a_radio() -> Result<Page, Fail> {
         refid: 0x4443_4600,
         offset: Span::from(17_077_896_086_183_477_248),
         anchor: moment(302_000_000)?,
-        until: 902_000_000,
+        until: 4_364_906_902,
         root_delay: Short(0),
         root_disp: Short(61_542),
         reftime: Stamp(0xed00_e130_0000_0000),
         leap_at: 0,
+        rate: 0,
     })
 }
 
@@ -96,6 +97,42 @@ fn an_answer_of_a_synchronised_server(rt: HostRuntime) -> Result<(), Fail> {
     Ok(())
 }
 
+// The same server, whose sixth minute comes 3 ms late: its counter gains 12.5 parts per million, and the answer follows that.
+fn of_a_fast_counter() -> Result<Page, Fail> {
+    Ok(Page {
+        length: 6,
+        sync: true,
+        stratum: 1,
+        refid: 0x4443_4600,
+        offset: Span::from(17_077_896_086_170_592_347),
+        anchor: moment(362_003_000)?,
+        until: 37_547_671_946,
+        root_delay: Short(0),
+        root_disp: Short(28_981),
+        reftime: Stamp(0xed00_e16c_0000_0000),
+        leap_at: 0,
+        rate: -53_687,
+    })
+}
+
+#[test]
+fn an_answer_follows_the_rate(rt: HostRuntime) -> Result<(), Fail> {
+    let page = of_a_fast_counter()?;
+    let answer = [
+        0x24, 0x01, 0x06, 0xec, 0x00, 0x00, 0x00, 0x00, 0x00, 0x00, 0x71, 0x3f, 0x44, 0x43, 0x46,
+        0x00, // `DCF`
+        0xed, 0x00, 0xe1, 0x6c, 0x00, 0x00, 0x00, 0x00, 0x11, 0x22, 0x33, 0x44, 0x55, 0x66, 0x77,
+        0x88, // the origin
+        0xed, 0x00, 0xe1, 0x75, 0xff, 0xf7, 0xce, 0xda, 0xed, 0x00, 0xe1, 0x75, 0xff, 0xf7, 0xce,
+        0xda,
+    ];
+    assert_eq!(rt;
+        answered(&page, &REQUEST, 372_003_000, 372_003_000)?,
+        Ok(answer)
+    );
+    Ok(())
+}
+
 // The first four bytes, and the reference ID.
 fn begins(answer: Result<[u8; 48], Dropped>, head: [u8; 4], refid: [u8; 4]) -> bool {
     match answer {
@@ -107,9 +144,9 @@ fn begins(answer: Result<[u8; 48], Dropped>, head: [u8; 4], refid: [u8; 4]) -> b
 #[test]
 fn a_page_ends_at_the_moment_of_sending(rt: HostRuntime) -> Result<(), Fail> {
     let page = of_a_radio()?;
-    let last = answered(&page, &REQUEST, 901_999_999, 901_999_999)?;
-    let first_after = answered(&page, &REQUEST, 902_000_000, 902_000_000)?;
-    let sent_after = answered(&page, &REQUEST, 901_999_999, 902_000_000)?;
+    let last = answered(&page, &REQUEST, 4_364_906_901, 4_364_906_901)?;
+    let first_after = answered(&page, &REQUEST, 4_364_906_902, 4_364_906_902)?;
+    let sent_after = answered(&page, &REQUEST, 4_364_906_901, 4_364_906_902)?;
     assert!(rt; begins(last, [0x24, 0x01, 0x06, 0xec], *b"DCF\0"));
     assert!(rt; begins(first_after, [0xe4, 0x00, 0x06, 0xec], *b"INIT"));
     assert!(rt; begins(sent_after, [0xe4, 0x00, 0x06, 0xec], *b"INIT"));
@@ -131,6 +168,7 @@ fn a_leap_second_is_announced(rt: HostRuntime) -> Result<(), Fail> {
         root_disp: Short(61_542),
         reftime: Stamp((3_692_217_600 - 60) << 32),
         leap_at: 3_692_217_600,
+        rate: 0,
     };
     let last = answered(&page, &REQUEST, 361_999_999, 361_999_999)?;
     let after = answered(&page, &REQUEST, 362_000_000, 362_000_000)?;
@@ -194,8 +232,8 @@ fn each_version_is_answered(rt: HostRuntime) -> Result<(), Fail> {
     Ok(())
 }
 
-// The page is from 302 s, and the host's counter drifts 15 us in a second: 590 units of 2^-16 s in ten minutes, and nothing
-// before the page was made.
+// The page is from 302 s, and the host's counter drifts 15 us in a second: 590 units of 2^-16 s in ten minutes, up to a whole
+// second at its end, and nothing before the page was made.
 #[test]
 fn a_dispersion_grows_from_the_page_on(rt: HostRuntime) -> Result<(), Fail> {
     let page = of_a_radio()?;
@@ -204,6 +242,7 @@ fn a_dispersion_grows_from_the_page_on(rt: HostRuntime) -> Result<(), Fail> {
         (302_000_000, [0x00, 0x00, 0xf0, 0x66]),
         (302_000_001, [0x00, 0x00, 0xf0, 0x67]),
         (901_999_999, [0x00, 0x00, 0xf2, 0xb4]),
+        (4_364_906_901, [0x00, 0x01, 0x00, 0x00]),
     ] {
         let bytes = match answered(&page, &REQUEST, 0, sent)? {
             Ok(bytes) => bytes,

@@ -7,7 +7,7 @@ use Rattle.toml.specs.Data.{Data, Members, array, boolean, datetime, float, inte
 use Rattle.tick_units.specs.declared.marks.Plan.{Plan}
 use Rattle.tick_units.specs.declared.marks.Plan.TheVariants.{Dcf, Msf, Wwvb}
 use Rattle.station_config.specs.Faults.{counts_of}
-use Rattle.station_config.specs.Rows.{holdover_row, radio_row, start_row, delay_row, whole_in}
+use Rattle.station_config.specs.Rows.{bound_row, radio_row, start_row, delay_row, whole_in}
 use Rattle.station_config.specs.Station.{IsStation, RadioFields, StationFields, plan_count}
 use Rattle.station_config.specs.Values.{radio_of, read_or, station_of, tables_at}
 use Rattle.toml.specs.Data.{get_member}
@@ -76,14 +76,14 @@ each_plan s w Wwvb = w.wwvb
 
 pub station_bounds : (m : Members) → IsWithin (station_of m) → IsStation (station_of m)
 station_bounds m w =
-    let holdover = read_is 1 86400 1200 (get_member holdover_row.key m) (record { low = omega arith; high = omega arith }) in
+    let bound = read_is 1 16000 1000 (get_member bound_row.key m) (record { low = omega arith; high = omega arith }) in
     let start = read_is 0 (2 ^ 49) 0 (get_member start_row.key m) (record { low = omega arith; high = omega arith }) in
     record {
       sources = w.sources;
       plans = each_plan (station_of m) w;
       ports = w.ports;
       delays = delays (tables_at radio_row m);
-      least_holdover = omega (arith, holdover.low);
-      most_holdover = omega (arith, holdover.high);
+      least_bound = bound.low;
+      most_bound = bound.high;
       latest_start = start.high;
     }

@@ -4,14 +4,14 @@ use Rattle.std.proofs.lemmas.Bool.{cases_Bool}
 use Rattle.std.proofs.lemmas.List.Concat.{flat_map-append}
 use Rattle.toml.specs.Data.{Members}
 use Rattle.station_config.specs.Faults.{Fault, IsDocument, IsFirst, Refuses, Sheet, bad_in, bad_range, faults_of, item_sheets, keys_at, missing_in, missing_key, sheets, sheets_of, unknown_in, unknown_key}
-use Rattle.station_config.specs.Finding.{IsFirstObstacle, IsMisreadAt}
+use Rattle.station_config.specs.Finding.{IsFirstKeyFault, IsMisreadAt}
 use Rattle.station_config.specs.Rows.{Row, Text, link_row, radio_row, server_row, top_rows}
 use Rattle.station_config.specs.Values.{tables_at}
 use Rattle.station_config.specs.declared.fault.StationFault.{StationFault}
 use Rattle.station_config.specs.declared.fault.StationFault.TheVariants as fault
 use Rattle.station_config.specs.declared.keys.Part.TheVariants as part
-use Rattle.station_config.specs.declared.items.Obstacle.{Obstacle}
-use Rattle.station_config.specs.declared.items.Obstacle.TheVariants as obstacle
+use Rattle.station_config.specs.declared.items.KeyFault.{KeyFault}
+use Rattle.station_config.specs.declared.items.KeyFault.TheVariants as key_fault
 use Rattle.station_config.proofs.Firsts.{empty_back, empty_front, empty_map, first_map, first_some}
 use Rattle.station_config.proofs.Walks.{misread_more}
 
@@ -55,18 +55,18 @@ none_in kind m h =
     }
 
 -- the first bad value of the arrays, where the parts before have none
-in_items : (m : Members) (o : Obstacle) → bad_in top_rows m ≡ [] → IsMisreadAt (keys_of_radios bad_in m ++ (keys_of_servers bad_in m ++ keys_of_links bad_in m)) o → IsMisreadAt (keys_at bad_in (sheets_of m)) o
+in_items : (m : Members) (o : KeyFault) → bad_in top_rows m ≡ [] → IsMisreadAt (keys_of_radios bad_in m ++ (keys_of_servers bad_in m ++ keys_of_links bad_in m)) o → IsMisreadAt (keys_at bad_in (sheets_of m)) o
 in_items m o top h = subst (λ ks. IsMisreadAt ks o) (sym (keys_of_items bad_in m) ∙ sym (ap (λ ks. map (λ k. k) ks ++ keys_at bad_in (item_sheets m)) top)) h
 
-pub bad_radio : (m : Members) (o : Obstacle) → bad_in top_rows m ≡ [] → IsMisreadAt (keys_of_radios bad_in m) o → IsMisreadAt (keys_at bad_in (sheets_of m)) o
+pub bad_radio : (m : Members) (o : KeyFault) → bad_in top_rows m ≡ [] → IsMisreadAt (keys_of_radios bad_in m) o → IsMisreadAt (keys_at bad_in (sheets_of m)) o
 bad_radio m o top h = in_items m o top (misread_more (keys_of_radios bad_in m) (keys_of_servers bad_in m ++ keys_of_links bad_in m) o h)
 
-pub bad_server : (m : Members) (o : Obstacle) → bad_in top_rows m ≡ [] → keys_of_radios bad_in m ≡ [] → IsMisreadAt (keys_of_servers bad_in m) o → IsMisreadAt (keys_at bad_in (sheets_of m)) o
+pub bad_server : (m : Members) (o : KeyFault) → bad_in top_rows m ≡ [] → keys_of_radios bad_in m ≡ [] → IsMisreadAt (keys_of_servers bad_in m) o → IsMisreadAt (keys_at bad_in (sheets_of m)) o
 bad_server m o top radios h =
     in_items m o top (subst (λ ks. IsMisreadAt (ks ++ (keys_of_servers bad_in m ++ keys_of_links bad_in m)) o) (sym radios)
     (misread_more (keys_of_servers bad_in m) (keys_of_links bad_in m) o h))
 
-pub bad_link : (m : Members) (o : Obstacle) → bad_in top_rows m ≡ [] → keys_of_radios bad_in m ≡ [] → keys_of_servers bad_in m ≡ [] → IsMisreadAt (keys_of_links bad_in m) o → IsMisreadAt (keys_at bad_in (sheets_of m)) o
+pub bad_link : (m : Members) (o : KeyFault) → bad_in top_rows m ≡ [] → keys_of_radios bad_in m ≡ [] → keys_of_servers bad_in m ≡ [] → IsMisreadAt (keys_of_links bad_in m) o → IsMisreadAt (keys_at bad_in (sheets_of m)) o
 bad_link m o top radios servers h =
     in_items m o top (subst (λ ks. IsMisreadAt (ks ++ (keys_of_servers bad_in m ++ keys_of_links bad_in m)) o) (sym radios)
     (subst (λ ks. IsMisreadAt (ks ++ keys_of_links bad_in m) o) (sym servers) h))
@@ -104,12 +104,12 @@ range_first u m b e k no_u no_m h =
 pub excess_first : (u m b : List Text) (e : List Fault) → u ≡ [] → m ≡ [] → b ≡ [] → in_order u m b e ≡ e
 excess_first u m b e no_u no_m no_b = ap (λ us. in_order us m b e) no_u ∙ ap (λ ms. in_order [] ms b e) no_m ∙ ap (λ bs. in_order [] [] bs e) no_b
 
-pub misread_first : (u m b : List Text) (e : List Fault) (o : Obstacle) → u ≡ [] → m ≡ [] → IsMisreadAt b o → IsFirstObstacle (in_order u m b e) o
-misread_first u m b e obstacle.Memory no_u no_m h = tt
-misread_first u m b e (obstacle.Range spot) no_u no_m h = range_first u m b e _ no_u no_m h
-misread_first u m b e (obstacle.Unknown spot) no_u no_m h = absurd h
-misread_first u m b e (obstacle.Missing spot) no_u no_m h = absurd h
-misread_first u m b e (obstacle.TooMany key count) no_u no_m h = absurd h
+pub misread_first : (u m b : List Text) (e : List Fault) (o : KeyFault) → u ≡ [] → m ≡ [] → IsMisreadAt b o → IsFirstKeyFault (in_order u m b e) o
+misread_first u m b e key_fault.Memory no_u no_m h = tt
+misread_first u m b e (key_fault.Range spot) no_u no_m h = range_first u m b e _ no_u no_m h
+misread_first u m b e (key_fault.Unknown spot) no_u no_m h = absurd h
+misread_first u m b e (key_fault.Missing spot) no_u no_m h = absurd h
+misread_first u m b e (key_fault.TooMany key count) no_u no_m h = absurd h
 
 -- ---- the first that passes
 

@@ -10,8 +10,8 @@ use Rattle.station_config.specs.Faults.{bad_in, keys_at, missing_in, sheets}
 use Rattle.station_config.specs.Finding.{Adds, IsMisreadAt}
 use Rattle.station_config.specs.Rows.{Row, Text, table_at, tables_from}
 use Rattle.station_config.specs.declared.keys.Part.{Part}
-use Rattle.station_config.specs.declared.items.Obstacle.{Obstacle}
-use Rattle.station_config.specs.declared.items.Obstacle.TheVariants as obstacle
+use Rattle.station_config.specs.declared.items.KeyFault.{KeyFault}
+use Rattle.station_config.specs.declared.items.KeyFault.TheVariants as key_fault
 use Rattle.station_config.proofs.Firsts.{empty_back, empty_front, first_some}
 
 pub keys_at-append : (kind : List Row → Members → List Text) (part : Part) (xs ys : List (ℕ × Members)) → keys_at kind (sheets part (xs ++ ys)) ≡ keys_at kind (sheets part xs) ++ keys_at kind (sheets part ys)
@@ -44,14 +44,14 @@ left_next part row_of done more here rest all l a = record {
       ∙ l.rows;
 }
 
-pub misread_more : (xs ys : List Text) (o : Obstacle) → IsMisreadAt xs o → IsMisreadAt (xs ++ ys) o
-misread_more xs ys obstacle.Memory h = tt
-misread_more xs ys (obstacle.Range spot) h = first_some xs ys _ h
-misread_more xs ys (obstacle.Unknown spot) h = absurd h
-misread_more xs ys (obstacle.Missing spot) h = absurd h
-misread_more xs ys (obstacle.TooMany key count) h = absurd h
+pub misread_more : (xs ys : List Text) (o : KeyFault) → IsMisreadAt xs o → IsMisreadAt (xs ++ ys) o
+misread_more xs ys key_fault.Memory h = tt
+misread_more xs ys (key_fault.Range spot) h = first_some xs ys _ h
+misread_more xs ys (key_fault.Unknown spot) h = absurd h
+misread_more xs ys (key_fault.Missing spot) h = absurd h
+misread_more xs ys (key_fault.TooMany key count) h = absurd h
 
-pub left_bad : {F : Type 0} (part : Part) (row_of : Members → F) (done : List F) (here rest all : List (ℕ × Members)) (o : Obstacle) → Left part row_of done (here ++ rest) all
+pub left_bad : {F : Type 0} (part : Part) (row_of : Members → F) (done : List F) (here rest all : List (ℕ × Members)) (o : KeyFault) → Left part row_of done (here ++ rest) all
     → IsMisreadAt (keys_at bad_in (sheets part here)) o → IsMisreadAt (keys_at bad_in (sheets part all)) o
 left_bad part row_of done here rest all o l h =
     subst (λ ks. IsMisreadAt ks o) (sym (keys_at-append bad_in part here rest) ∙ l.bad) (misread_more (keys_at bad_in (sheets part here)) (keys_at bad_in (sheets part rest)) o h)

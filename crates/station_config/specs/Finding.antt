@@ -12,8 +12,8 @@ use Rattle.station_config.specs.declared.keys.Check.TheVariants.{Unknown, Missin
 use Rattle.station_config.specs.declared.keys.Part.{Part}
 use Rattle.station_config.specs.declared.keys.Spot.{Spot}
 use Rattle.station_config.specs.declared.counts.Count.{Count}
-use Rattle.station_config.specs.declared.items.Obstacle.{Obstacle}
-use Rattle.station_config.specs.declared.items.Obstacle.TheVariants as obstacle
+use Rattle.station_config.specs.declared.items.KeyFault.{KeyFault}
+use Rattle.station_config.specs.declared.items.KeyFault.TheVariants as key_fault
 use Rattle.station_config.specs.declared.rows.Misread.{Misread}
 use Rattle.station_config.specs.declared.rows.Misread.TheVariants as misread
 
@@ -40,9 +40,9 @@ IsMisread bad misread.Memory = ⊤
 IsMisread bad (misread.Range key) = slice_get bad 0 ≡ Some key.now
 
 -- the same among the keys of all tables
-abbrev pub IsMisreadAt : List Text → Obstacle → Type 0
-IsMisreadAt bad obstacle.Memory = ⊤
-IsMisreadAt bad (obstacle.Range spot) = slice_get bad 0 ≡ Some (spot_text spot)
+abbrev pub IsMisreadAt : List Text → KeyFault → Type 0
+IsMisreadAt bad key_fault.Memory = ⊤
+IsMisreadAt bad (key_fault.Range spot) = slice_get bad 0 ≡ Some (spot_text spot)
 IsMisreadAt bad _ = ⊥
 
 -- the rows of these tables are put behind others, and none of their values is a fault
@@ -50,13 +50,13 @@ pub record Adds {F : Type 0} (part : Part) (row_of : Members → F) (tables : Li
   pub rows : after ≡ before ++ map (λ t. row_of t.1) tables
   pub good : keys_at bad_in (sheets part tables) ≡ []
 
--- the obstacle is the first of the faults; want of memory says nothing
-abbrev pub IsFirstObstacle : List Fault → Obstacle → Type 0
-IsFirstObstacle faults obstacle.Memory = ⊤
-IsFirstObstacle faults (obstacle.Unknown spot) = slice_get faults 0 ≡ Some (unknown_key (spot_text spot))
-IsFirstObstacle faults (obstacle.Missing spot) = slice_get faults 0 ≡ Some (missing_key (spot_text spot))
-IsFirstObstacle faults (obstacle.Range spot) = slice_get faults 0 ≡ Some (bad_range (spot_text spot))
-IsFirstObstacle faults (obstacle.TooMany key count) = slice_get faults 0 ≡ Some (too_many key.now count)
+-- the key_fault is the first of the faults; want of memory says nothing
+abbrev pub IsFirstKeyFault : List Fault → KeyFault → Type 0
+IsFirstKeyFault faults key_fault.Memory = ⊤
+IsFirstKeyFault faults (key_fault.Unknown spot) = slice_get faults 0 ≡ Some (unknown_key (spot_text spot))
+IsFirstKeyFault faults (key_fault.Missing spot) = slice_get faults 0 ≡ Some (missing_key (spot_text spot))
+IsFirstKeyFault faults (key_fault.Range spot) = slice_get faults 0 ≡ Some (bad_range (spot_text spot))
+IsFirstKeyFault faults (key_fault.TooMany key count) = slice_get faults 0 ≡ Some (too_many key.now count)
 
 abbrev pub count_seen : Count → Limit
 count_seen c = record { key = c.key.now; count = c.count; most = c.most }

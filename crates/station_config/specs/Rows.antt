@@ -89,8 +89,8 @@ pub record Row : Type 0 where
   pub need : Need
 
 -- the top table
-abbrev pub holdover_row : Row
-holdover_row = record { key = codes "holdover"; form = whole 1 86400; need = preset 1200 }
+abbrev pub bound_row : Row
+bound_row = record { key = codes "bound"; form = whole 1 16000; need = preset 1000 }
 
 abbrev pub link_row : Row
 link_row = record { key = codes "link"; form = tables; need = optional }
@@ -127,7 +127,7 @@ port_row = record { key = codes "port"; form = whole 1 65535; need = required }
 
 -- the rows of each table, by the bytes of their keys
 abbrev pub top_rows : List Row
-top_rows = holdover_row ∷ link_row ∷ radio_row ∷ server_row ∷ start_row ∷ []
+top_rows = bound_row ∷ link_row ∷ radio_row ∷ server_row ∷ start_row ∷ []
 
 abbrev pub radio_rows : List Row
 radio_rows = delay_row ∷ log_row ∷ plan_row ∷ []

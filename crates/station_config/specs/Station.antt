@@ -1,7 +1,7 @@
 -- What a station is: its radios, its servers and the links that it serves on. All of it is this project's own.
 use Rattle.std.specs.Prelude.{ℕ, ◌≤◌, ◌+◌, ◌^◌, Bool, List, All, ◌++◌, length, map, count_by, true, false}
 use Rattle.feed_link.specs.declared.outside.Address.{Address}
-use Rattle.system_fold.specs.Settings.{SettingsFields}
+use Rattle.system_fold.specs.Settings.{SettingsFields, bound_of}
 use Rattle.system_fold.specs.declared.settings.SourceKind.{SourceKind}
 use Rattle.system_fold.specs.declared.settings.SourceKind.TheVariants.{Radio, Server}
 use Rattle.station_config.specs.declared.station.TopNumbers.{TopNumbers}
@@ -19,7 +19,7 @@ pub record ServerFields : Type 0 where
   pub address : Address
   pub polls : ℕ
 
--- a station: the numbers of its top table, which are its holdover and its first moment in microseconds, its radios and servers,
+-- a station: the numbers of its top table, which are the bound of its pages in milliseconds and its first moment in microseconds, its radios and servers,
 -- and the ports that it serves on
 pub record StationFields : Type 0 where
   pub top : TopNumbers
@@ -43,8 +43,8 @@ pub record IsStation (station : StationFields) : Type 0 where
   pub plans : (plan : Plan) → plan_count plan station.radios ≤ 4
   pub ports : length station.links ≤ 8
   pub delays : All (λ r. r.delay ≤ 100000) station.radios
-  pub least_holdover : 1000000 ≤ station.top.holdover
-  pub most_holdover : station.top.holdover ≤ 86400000000
+  pub least_bound : 1 ≤ station.top.bound
+  pub most_bound : station.top.bound ≤ 16000
   pub latest_start : station.top.start ≤ 2 ^ 49
 
 abbrev pub kind_of_radio : RadioFields → SourceKind
@@ -55,4 +55,4 @@ kind_of_server s = Server s.address
 
 -- the feeds of a station are its radios in order, and then its servers
 abbrev pub settings_of : StationFields → SettingsFields
-settings_of station = record { holdover = station.top.holdover; sources = map kind_of_radio station.radios ++ map kind_of_server station.servers }
+settings_of station = record { bound = bound_of station.top.bound; sources = map kind_of_radio station.radios ++ map kind_of_server station.servers }

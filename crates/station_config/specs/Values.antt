@@ -1,8 +1,8 @@
 -- The station that a document without faults says: its values, and the defaults of the keys that aren't there.
-use Rattle.std.specs.Prelude.{ℕ, ◌*◌, List, [], map, Option, None, Some, unwrap_or}
+use Rattle.std.specs.Prelude.{ℕ, List, [], map, Option, None, Some, unwrap_or}
 use Rattle.tick_units.specs.declared.marks.Plan.TheVariants.{Dcf}
 use Rattle.toml.specs.Data.{Data, Members, get_member}
-use Rattle.station_config.specs.Rows.{Form, whole, Need, preset, Row, whole_in, text_in, plan_in, address_in, tables_in, holdover_row, link_row, radio_row, server_row, start_row, delay_row, log_row, plan_row, address_row, polls_row, port_row}
+use Rattle.station_config.specs.Rows.{Form, whole, Need, preset, Row, whole_in, text_in, plan_in, address_in, tables_in, bound_row, link_row, radio_row, server_row, start_row, delay_row, log_row, plan_row, address_row, polls_row, port_row}
 use Rattle.station_config.specs.Station.{RadioFields, ServerFields, StationFields}
 use Rattle.station_config.specs.declared.station.TopNumbers.{TopNumbers}
 
@@ -40,10 +40,9 @@ server_of members = record {
   polls = number_at polls_row members;
 }
 
--- the holdover of a station is in microseconds, and that of its file in seconds
 abbrev pub top_of : Members → TopNumbers
 top_of members = record {
-  holdover = 1000000 * number_at holdover_row members;
+  bound = number_at bound_row members;
   start = number_at start_row members;
 }
 

@@ -5,11 +5,11 @@ ghost use Rattle.toml.specs.View.{items_view, table_view};
 ghost use Rattle.station_config.specs.Rows.{tables_from, top_rows, link_row, radio_row, server_row, start_row, whole_in};
 ghost use Rattle.station_config.specs.Values.{station_of, tables_at, top_of};
 ghost use Rattle.station_config.specs.Faults.{bad_in, faults_of, keys_at, missing_in, sheets_of};
-ghost use Rattle.station_config.specs.Finding.{IsFirstObstacle, IsMisreadAt, IsRead};
+ghost use Rattle.station_config.specs.Finding.{IsFirstKeyFault, IsMisreadAt, IsRead};
 ghost use Rattle.station_config.specs.KeptStation.{parts_fields};
 
 use crate::counts::excess;
-use crate::items::{Obstacle, read_links, read_radios, read_servers};
+use crate::items::{KeyFault, read_links, read_radios, read_servers};
 use crate::keys::{Check, Part, Spot, first_at, tables};
 use crate::rows::number;
 use crate::station::{Parts, Station, TopNumbers};
@@ -42,14 +42,14 @@ fn read_top<'a>(table: &'a Table) -> Result<Top<'a>, &'static str>
     ensures good { IfOk result (λ _. bad_in top_rows (table_view table.now) ≡ []) }
     ensures bad { IfErr result (λ k. slice_get (bad_in top_rows (table_view table.now)) 0 ≡ Some k.now) }
 {
-    let holdover = number(table, "holdover", 1, 86_400, 1200).ok_or("holdover")?;
+    let bound = number(table, "bound", 1, 16_000, 1000).ok_or("bound")?;
     let links = tables(table, "link").ok_or("link")?;
     let radios = tables(table, "radio").ok_or("radio")?;
     let servers = tables(table, "server").ok_or("server")?;
     let start = start(table).ok_or("start")?;
     Ok(Top {
         numbers: TopNumbers {
-            holdover: 1_000_000 * holdover,
+            bound: bound as u32,
             start,
         },
         radios,
@@ -59,7 +59,7 @@ fn read_top<'a>(table: &'a Table) -> Result<Top<'a>, &'static str>
 }
 
 // The values of a document whose tables have all their keys, or its first value that isn't of its type and range.
-fn read_parts(alloc: Global, table: &Table) -> Result<Parts, Obstacle<'static>>
+fn read_parts(alloc: Global, table: &Table) -> Result<Parts, KeyFault<'static>>
     requires { keys_at missing_in (sheets_of (table_view table.now)) ≡ [] }
     ensures said { IfOk result (λ p. parts_fields p ≡ station_of (table_view table.now)) }
     ensures good { IfOk result (λ _. keys_at bad_in (sheets_of (table_view table.now)) ≡ []) }
@@ -68,7 +68,7 @@ fn read_parts(alloc: Global, table: &Table) -> Result<Parts, Obstacle<'static>>
     let top = match read_top(table) {
         Ok(top) => top,
         Err(key) => {
-            return Err(Obstacle::Range(Spot {
+            return Err(KeyFault::Range(Spot {
                 part: Part::Top,
                 place: 0,
                 key,
@@ -87,22 +87,22 @@ fn read_parts(alloc: Global, table: &Table) -> Result<Parts, Obstacle<'static>>
 }
 
 // The station of a document, or what stands against it.
-pub fn read_table<'a>(alloc: Global, table: &'a Table) -> Result<Station, Obstacle<'a>>
+pub fn read_table<'a>(alloc: Global, table: &'a Table) -> Result<Station, KeyFault<'a>>
     ensures said { IfOk result (λ s. s ≡ station_of (table_view table.now)) }
     ensures good { IfOk result (λ _. faults_of (table_view table.now) ≡ []) }
-    ensures bad { IfErr result (IsFirstObstacle (faults_of (table_view table.now))) }
+    ensures bad { IfErr result (IsFirstKeyFault (faults_of (table_view table.now))) }
 {
     if let Some(spot) = first_at(Check::Unknown, table) {
-        return Err(Obstacle::Unknown(spot));
+        return Err(KeyFault::Unknown(spot));
     }
     if let Some(spot) = first_at(Check::Missing, table) {
-        return Err(Obstacle::Missing(spot));
+        return Err(KeyFault::Missing(spot));
     }
     match read_parts(alloc, table) {
         Ok(parts) => match excess(&parts) {
-            Some(over) => Err(Obstacle::TooMany(over.key, over.count)),
+            Some(over) => Err(KeyFault::TooMany(over.key, over.count)),
             None => Ok(Station::new(parts)),
         },
-        Err(obstacle) => Err(obstacle),
+        Err(key_fault) => Err(key_fault),
     }
 }

@@ -15,7 +15,7 @@ use toml::Value;
 
 // What stands against a station: its first fault, or want of memory.
 #[derive(Clone, Copy, Debug)]
-pub enum Obstacle<'a> {
+pub enum KeyFault<'a> {
     Unknown(Spot<'a>),
     Missing(Spot<'a>),
     Range(Spot<'a>),
@@ -24,12 +24,12 @@ pub enum Obstacle<'a> {
 }
 
 // What a misread value of a table is among the values of all tables.
-fn placed(part: Part, place: usize, misread: Misread) -> Obstacle<'static>
+fn placed(part: Part, place: usize, misread: Misread) -> KeyFault<'static>
     ensures { (bad more : List Text) → IsMisread bad misread → IsMisreadAt (map (key_in part place) bad ++ more) result }
 {
     match misread {
-        Misread::Range(key) => Obstacle::Range(Spot { part, place, key }),
-        Misread::Memory => Obstacle::Memory,
+        Misread::Range(key) => KeyFault::Range(Spot { part, place, key }),
+        Misread::Memory => KeyFault::Memory,
     }
 }
 
@@ -38,7 +38,7 @@ fn add_radio(
     radios: &mut Vec<Radio>,
     place: usize,
     item: &Value,
-) -> Result<(), Obstacle<'static>>
+) -> Result<(), KeyFault<'static>>
     requires { keys_at missing_in (sheets Part.Radio (table_at place (view item.now))) ≡ [] }
     ensures added { IfOk result (λ _. Adds Part.Radio radio_of (table_at place (view item.now)) (map radio_kept radios.old.items) (map radio_kept radios.new.items)) }
     ensures bad { IfErr result (IsMisreadAt (keys_at bad_in (sheets Part.Radio (table_at place (view item.now))))) }
@@ -49,7 +49,7 @@ fn add_radio(
     match radio(alloc, table) {
         Ok(radio) => match radios.push(radio) {
             Ok(()) => Ok(()),
-            Err(_) => Err(Obstacle::Memory),
+            Err(_) => Err(KeyFault::Memory),
         },
         Err(fault) => Err(placed(Part::Radio, place, fault)),
     }
@@ -59,7 +59,7 @@ fn add_server(
     servers: &mut Vec<ServerRow>,
     place: usize,
     item: &Value,
-) -> Result<(), Obstacle<'static>>
+) -> Result<(), KeyFault<'static>>
     requires { keys_at missing_in (sheets Part.Server (table_at place (view item.now))) ≡ [] }
     ensures added { IfOk result (λ _. Adds Part.Server server_of (table_at place (view item.now)) (map server_fields servers.old.items) (map server_fields servers.new.items)) }
     ensures bad { IfErr result (IsMisreadAt (keys_at bad_in (sheets Part.Server (table_at place (view item.now))))) }
@@ -70,13 +70,13 @@ fn add_server(
     match server(table) {
         Ok(server) => match servers.push(server) {
             Ok(()) => Ok(()),
-            Err(_) => Err(Obstacle::Memory),
+            Err(_) => Err(KeyFault::Memory),
         },
         Err(fault) => Err(placed(Part::Server, place, fault)),
     }
 }
 
-fn add_link(links: &mut Vec<u16>, place: usize, item: &Value) -> Result<(), Obstacle<'static>>
+fn add_link(links: &mut Vec<u16>, place: usize, item: &Value) -> Result<(), KeyFault<'static>>
     requires { keys_at missing_in (sheets Part.Link (table_at place (view item.now))) ≡ [] }
     ensures added { IfOk result (λ _. Adds Part.Link (number_at port_row) (table_at place (view item.now)) links.old.items links.new.items) }
     ensures bad { IfErr result (IsMisreadAt (keys_at bad_in (sheets Part.Link (table_at place (view item.now))))) }
@@ -87,13 +87,13 @@ fn add_link(links: &mut Vec<u16>, place: usize, item: &Value) -> Result<(), Obst
     match link(table) {
         Ok(port) => match links.push(port) {
             Ok(()) => Ok(()),
-            Err(_) => Err(Obstacle::Memory),
+            Err(_) => Err(KeyFault::Memory),
         },
         Err(fault) => Err(placed(Part::Link, place, fault)),
     }
 }
 
-pub fn read_radios(alloc: Global, items: &[Value]) -> Result<Vec<Radio>, Obstacle<'static>>
+pub fn read_radios(alloc: Global, items: &[Value]) -> Result<Vec<Radio>, KeyFault<'static>>
     requires { keys_at missing_in (sheets Part.Radio (tables_from 0 (items_view items.now))) ≡ [] }
     ensures read { IfOk result (λ v. Adds Part.Radio radio_of (tables_from 0 (items_view items.now)) [] (map radio_kept v.items)) }
     ensures bad { IfErr result (IsMisreadAt (keys_at bad_in (sheets Part.Radio (tables_from 0 (items_view items.now))))) }
@@ -105,7 +105,7 @@ pub fn read_radios(alloc: Global, items: &[Value]) -> Result<Vec<Radio>, Obstacl
     Ok(radios)
 }
 
-pub fn read_servers(alloc: Global, items: &[Value]) -> Result<Vec<ServerRow>, Obstacle<'static>>
+pub fn read_servers(alloc: Global, items: &[Value]) -> Result<Vec<ServerRow>, KeyFault<'static>>
     requires { keys_at missing_in (sheets Part.Server (tables_from 0 (items_view items.now))) ≡ [] }
     ensures read { IfOk result (λ v. Adds Part.Server server_of (tables_from 0 (items_view items.now)) [] (map server_fields v.items)) }
     ensures bad { IfErr result (IsMisreadAt (keys_at bad_in (sheets Part.Server (tables_from 0 (items_view items.now))))) }
@@ -117,7 +117,7 @@ pub fn read_servers(alloc: Global, items: &[Value]) -> Result<Vec<ServerRow>, Ob
     Ok(servers)
 }
 
-pub fn read_links(alloc: Global, items: &[Value]) -> Result<Vec<u16>, Obstacle<'static>>
+pub fn read_links(alloc: Global, items: &[Value]) -> Result<Vec<u16>, KeyFault<'static>>
     requires { keys_at missing_in (sheets Part.Link (tables_from 0 (items_view items.now))) ≡ [] }
     ensures read { IfOk result (λ v. Adds Part.Link (number_at port_row) (tables_from 0 (items_view items.now)) [] v.items) }
     ensures bad { IfErr result (IsMisreadAt (keys_at bad_in (sheets Part.Link (tables_from 0 (items_view items.now))))) }

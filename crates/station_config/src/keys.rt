@@ -42,7 +42,7 @@ fn known_keys(part: Part) -> &'static [&'static str]
     ensures { map (λ w. w.now) result.now ≡ map (λ row. row.key) (rows_of part) }
 {
     match part {
-        Part::Top => &["holdover", "link", "radio", "server", "start"],
+        Part::Top => &["bound", "link", "radio", "server", "start"],
         Part::Radio => &["delay", "log", "plan"],
         Part::Server => &["address", "polls", "port"],
         Part::Link => &["port"],

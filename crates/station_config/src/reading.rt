@@ -1,11 +1,11 @@
 //! Reads a station from the text of its file.
 ghost use Rattle.std.specs.Prelude.{◌≡◌, List, IfOk, IfErr};
 ghost use Rattle.station_config.specs.Faults.{Fault, Says, Refuses, IsFirst};
-ghost use Rattle.station_config.specs.Finding.{IsFirstObstacle, spot_text};
+ghost use Rattle.station_config.specs.Finding.{IsFirstKeyFault, spot_text};
 
 use crate::document::read_table;
 use crate::fault::{KeyText, StationFault};
-use crate::items::Obstacle;
+use crate::items::KeyFault;
 use crate::keys::{Part, Spot};
 use crate::station::Station;
 use std::alloc::{AllocError, Global};
@@ -25,25 +25,25 @@ fn key_text(alloc: Global, spot: Spot<'_>) -> Result<KeyText, AllocError>
     Ok(KeyText::new(text))
 }
 
-// The fault that an obstacle is.
-fn fault(alloc: Global, obstacle: Obstacle<'_>) -> Result<StationFault, AllocError>
-    ensures { (faults : List Fault) → IsFirstObstacle faults obstacle.entry → IfOk result (IsFirst faults) }
+// The fault that an key_fault is.
+fn fault(alloc: Global, key_fault: KeyFault<'_>) -> Result<StationFault, AllocError>
+    ensures { (faults : List Fault) → IsFirstKeyFault faults key_fault.entry → IfOk result (IsFirst faults) }
 {
-    Ok(match obstacle {
-        Obstacle::Unknown(spot) => StationFault::UnknownKey {
+    Ok(match key_fault {
+        KeyFault::Unknown(spot) => StationFault::UnknownKey {
             key: key_text(alloc, spot)?,
         },
-        Obstacle::Missing(spot) => StationFault::Missing {
+        KeyFault::Missing(spot) => StationFault::Missing {
             key: key_text(alloc, spot)?,
         },
-        Obstacle::Range(spot) => StationFault::Range {
+        KeyFault::Range(spot) => StationFault::Range {
             key: key_text(alloc, spot)?,
         },
-        Obstacle::TooMany(key, count) => StationFault::TooMany {
+        KeyFault::TooMany(key, count) => StationFault::TooMany {
             key: KeyText::new(String::from_str(alloc, key)?),
             count,
         },
-        Obstacle::Memory => StationFault::Memory,
+        KeyFault::Memory => StationFault::Memory,
     })
 }
 
@@ -69,7 +69,7 @@ pub fn read_station(alloc: Global, text: &[u8]) -> Result<Station, StationFault>
     };
     match read_table(alloc, &table) {
         Ok(station) => Ok(station),
-        Err(obstacle) => match fault(alloc, obstacle) {
+        Err(key_fault) => match fault(alloc, key_fault) {
             Ok(fault) => Err(fault),
             Err(_) => Err(StationFault::Memory),
         },

@@ -48,8 +48,8 @@ pub struct Radio {
 /// The numbers of a station file's top table.
 #[derive(Clone, Copy, Debug)]
 pub struct TopNumbers {
-    /// For how long the time is trusted after the last sample, 1000000 to 86400000000 microseconds.
-    pub holdover: u64,
+    /// The root dispersion above which a page isn't trusted, 1 to 16000 milliseconds.
+    pub bound: u32,
     /// The first moment of the links, at most 2^49 microseconds.
     pub start: Local,
 }
@@ -107,13 +107,13 @@ impl Station {
         requires { IsStation (parts_fields parts) }
         ensures { result ≡ parts_fields parts }
     {
-        let mut settings = Settings::new(parts.top.holdover);
+        let mut settings = Settings::new(parts.top.bound);
         add_radios(&mut settings, parts.radios.as_slice());
         add_servers(&mut settings, parts.servers.as_slice());
         Station { settings, parts }
     }
 
-    /// What a page of the station's feeds is reckoned by: its holdover, and its radios and then its servers as sources.
+    /// What a page of the station's feeds is reckoned by: the bound of its root dispersion, and its radios and then its servers as sources.
     pub fn settings(&self) -> &Settings
         ensures value { result.now ≡ settings_of self.now }
         ensures lawful { AreLawful result.now }

@@ -5,7 +5,7 @@ use std::test::Fail;
 use tick_units::Plan;
 
 // The station of a listening laboratory.
-const LABORATORY: &str = r#"holdover = 1800
+const LABORATORY: &str = r#"bound = 500
 [[radio]]
 plan = "dcf"
 log = "dcf.log"
@@ -27,44 +27,44 @@ port = 5123
 
 // In each table a line has a file, with `|` for its line feeds, and what it comes to.
 
-const DEFAULTS: &str = r#"# nothing -> 1200000000 0
-radio = []|server = []|link = [] -> 1200000000 0
-[[radio]]|plan = "wwvb"|log = "a b" -> 1200000000 0 wwvb a b 0
-[[server]]|address = "10.0.0.255"|port = 123 -> 1200000000 0 0a0000ff 123 8
-link = [{port = 1}, {port = 2}] -> 1200000000 0 1 2
-start = 5|holdover = 1 -> 1000000 5
-holdover =  -> toml
-holdover = 1|holdover = 2 -> toml
+const DEFAULTS: &str = r#"# nothing -> 4294967296 0
+radio = []|server = []|link = [] -> 4294967296 0
+[[radio]]|plan = "wwvb"|log = "a b" -> 4294967296 0 wwvb a b 0
+[[server]]|address = "10.0.0.255"|port = 123 -> 4294967296 0 0a0000ff 123 8
+link = [{port = 1}, {port = 2}] -> 4294967296 0 1 2
+start = 5|bound = 1 -> 4294967 5
+bound =  -> toml
+bound = 1|bound = 2 -> toml
 radio -> toml
 start = 007 -> toml
 "#;
 
-const NUMBERS: &str = r#"holdover = 0 -> range holdover
-holdover = 1 -> 1000000 0
-holdover = 86400 -> 86400000000 0
-holdover = 86401 -> range holdover
-holdover = -1 -> range holdover
-holdover = 9223372036854775807 -> range holdover
-holdover = 0x10 -> 16000000 0
-holdover = 0o17 -> 15000000 0
-holdover = 0b11 -> 3000000 0
-holdover = +5 -> 5000000 0
-holdover = 1_000 -> 1000000000 0
-holdover = 1200.0 -> range holdover
-holdover = 1e3 -> range holdover
-holdover = true -> range holdover
-holdover = "1200" -> range holdover
-holdover = [1] -> range holdover
-holdover = 1979-05-27 -> range holdover
-start = 0 -> 1200000000 0
-start = 562949953421312 -> 1200000000 562949953421312
+const NUMBERS: &str = r#"bound = 0 -> range bound
+bound = 1 -> 4294967 0
+bound = 16000 -> 68719476736 0
+bound = 16001 -> range bound
+bound = -1 -> range bound
+bound = 9223372036854775807 -> range bound
+bound = 0x10 -> 68719476 0
+bound = 0o17 -> 64424509 0
+bound = 0b11 -> 12884901 0
+bound = +5 -> 21474836 0
+bound = 5_00 -> 2147483648 0
+bound = 1200.0 -> range bound
+bound = 1e3 -> range bound
+bound = true -> range bound
+bound = "1200" -> range bound
+bound = [1] -> range bound
+bound = 1979-05-27 -> range bound
+start = 0 -> 4294967296 0
+start = 562949953421312 -> 4294967296 562949953421312
 start = 562949953421313 -> range start
 start = -1 -> range start
 start = nan -> range start
 "#;
 
-const RADIOS: &str = r#"[[radio]]|plan = "dcf"|log = "a"|delay = 0 -> 1200000000 0 dcf a 0
-[[radio]]|plan = "dcf"|log = "a"|delay = 100000 -> 1200000000 0 dcf a 100000
+const RADIOS: &str = r#"[[radio]]|plan = "dcf"|log = "a"|delay = 0 -> 4294967296 0 dcf a 0
+[[radio]]|plan = "dcf"|log = "a"|delay = 100000 -> 4294967296 0 dcf a 100000
 [[radio]]|plan = "dcf"|log = "a"|delay = 100001 -> range radio.0.delay
 [[radio]]|plan = "dcf"|log = "a"|delay = -1 -> range radio.0.delay
 [[radio]]|plan = "dcf"|log = "a"|delay = false -> range radio.0.delay
@@ -72,14 +72,14 @@ const RADIOS: &str = r#"[[radio]]|plan = "dcf"|log = "a"|delay = 0 -> 1200000000
 [[radio]]|log = "a"|plan = "DCF" -> range radio.0.plan
 [[radio]]|log = "a"|plan = "" -> range radio.0.plan
 [[radio]]|log = "a"|plan = 77 -> range radio.0.plan
-[[radio]]|log = "a"|plan = "msf" -> 1200000000 0 msf a 0
+[[radio]]|log = "a"|plan = "msf" -> 4294967296 0 msf a 0
 [[radio]]|plan = "dcf"|log = "" -> range radio.0.log
 [[radio]]|plan = "dcf"|log = 7 -> range radio.0.log
 "#;
 
-const ADDRESSES: &str = r#"0.0.0.0 -> 1200000000 0 00000000 123 8
-255.255.255.255 -> 1200000000 0 ffffffff 123 8
-192.0.2.10 -> 1200000000 0 c000020a 123 8
+const ADDRESSES: &str = r#"0.0.0.0 -> 4294967296 0 00000000 123 8
+255.255.255.255 -> 4294967296 0 ffffffff 123 8
+192.0.2.10 -> 4294967296 0 c000020a 123 8
 1.2.3.256 -> range server.0.address
 300.2.3.4 -> range server.0.address
 1.2.3.99999999999999999999 -> range server.0.address
@@ -99,29 +99,31 @@ localhost -> range server.0.address
 "#;
 
 const PORTS: &str = r#"[[server]]|address = "1.2.3.4"|port = 0 -> range server.0.port
-[[server]]|address = "1.2.3.4"|port = 1 -> 1200000000 0 01020304 1 8
-[[server]]|address = "1.2.3.4"|port = 65535 -> 1200000000 0 01020304 65535 8
+[[server]]|address = "1.2.3.4"|port = 1 -> 4294967296 0 01020304 1 8
+[[server]]|address = "1.2.3.4"|port = 65535 -> 4294967296 0 01020304 65535 8
 [[server]]|address = "1.2.3.4"|port = 65536 -> range server.0.port
-[[server]]|address = "1.2.3.4"|port = 1|polls = 0 -> 1200000000 0 01020304 1 0
-[[server]]|address = "1.2.3.4"|port = 1|polls = 100000 -> 1200000000 0 01020304 1 100000
+[[server]]|address = "1.2.3.4"|port = 1|polls = 0 -> 4294967296 0 01020304 1 0
+[[server]]|address = "1.2.3.4"|port = 1|polls = 100000 -> 4294967296 0 01020304 1 100000
 [[server]]|address = "1.2.3.4"|port = 1|polls = 100001 -> range server.0.polls
 [[server]]|address = "1.2.3.4"|port = 1|polls = 8.0 -> range server.0.polls
 [[server]]|address = "1.2.3.4"|polls = 8 -> missing server.0.port
 [[server]]|address = 1|port = 1 -> range server.0.address
 [[link]]|port = 0 -> range link.0.port
-[[link]]|port = 1 -> 1200000000 0 1
-[[link]]|port = 65535 -> 1200000000 0 65535
+[[link]]|port = 1 -> 4294967296 0 1
+[[link]]|port = 65535 -> 4294967296 0 65535
 [[link]]|port = 65536 -> range link.0.port
 [[link]] -> missing link.0.port
 "#;
 
 const UNKNOWN: &str = r#"leap = 1 -> unknown leap
+holdover = 600 -> unknown holdover
+bound = 500|holdover = 600 -> unknown holdover
 gap = 0 -> unknown gap
 zone = 1|abc = 1 -> unknown abc
 zone = 1|Zone = 1 -> unknown Zone
 radios = [] -> unknown radios
 "a key\n" = 1 -> unknown a key|
-holdover.plan = 1 -> range holdover
+bound.plan = 1 -> range bound
 radio.plan = "dcf" -> range radio
 [[radio]]|[[radio]]|foo = 1 -> unknown radio.1.foo
 [[radio]]|port = 1 -> unknown radio.0.port
@@ -131,15 +133,15 @@ radio.plan = "dcf" -> range radio
 "#;
 
 // Kinds of faults come in their order wherever they stand; of one kind the top table comes first, and then the arrays.
-const FIRST: &str = r#"holdover = 0|link = 1|[[server]]|zone = 1 -> unknown server.0.zone
+const FIRST: &str = r#"bound = 0|link = 1|[[server]]|zone = 1 -> unknown server.0.zone
 [[link]]|x = 1|[[server]]|x = 1|[[radio]]|x = 1 -> unknown radio.0.x
 [[link]]|x = 1|[[server]]|x = 1|[[radio]] -> unknown server.0.x
 x = 1|[[radio]]|a = 1 -> unknown x
-holdover = 0|[[link]] -> missing link.0.port
+bound = 0|[[link]] -> missing link.0.port
 [[link]]|[[server]]|[[radio]] -> missing radio.0.log
 [[link]]|[[server]]|[[radio]]|log = 1|plan = 1 -> missing server.0.address
 [[radio]]|log = 1|[[radio]] -> missing radio.0.plan
-start = -1|holdover = 0 -> range holdover
+start = -1|bound = 0 -> range bound
 start = -1|server = 1|radio = 1|link = 1 -> range link
 start = -1|server = 1|radio = 1 -> range radio
 start = -1|server = 1 -> range server
@@ -159,7 +161,7 @@ server = [1] -> range server
 server = [[]] -> range server
 [link]|port = 1 -> range link
 radio = [{log = "", plan = 1}] -> range radio.0.log
-radio = [{log = "a", plan = "dcf"}, {log = "b", plan = "msf", delay = 7}] -> 1200000000 0 dcf a 0 msf b 7
+radio = [{log = "a", plan = "dcf"}, {log = "b", plan = "msf", delay = 7}] -> 4294967296 0 dcf a 0 msf b 7
 link = [{}] -> missing link.0.port
 "#;
 
@@ -197,11 +199,11 @@ fn link_text(alloc: Global, station: &Station, i: usize) -> Result<String, Fail>
     }
 }
 
-// A station's values in one line: the holdover in microseconds, the start, and the rows.
+// A station's values in one line: the bound in units of 2^-32 s, the start, and the rows.
 fn station_text(alloc: Global, station: &Station) -> Result<String, Fail> {
-    let holdover = station.settings().holdover();
+    let bound = station.settings().bound();
     let start = station.start().get();
-    let mut text = format!(in alloc; "{holdover} {start}")?;
+    let mut text = format!(in alloc; "{bound} {start}")?;
     for i in 0..station.radios() {
         text.push_str(radio_text(alloc, station, i)?.as_str())?;
     }
@@ -281,7 +283,7 @@ fn the_laboratory(rt: HostRuntime) -> Result<(), Fail> {
     let alloc = rt.alloc();
     let text = answer(alloc, LABORATORY.as_bytes())?;
     let want =
-        "1800000000 0 dcf dcf.log 1400 msf msf.log 2700 wwvb wwvb.log 24000 7f000001 4123 8 5123";
+        "2147483648 0 dcf dcf.log 1400 msf msf.log 2700 wwvb wwvb.log 24000 7f000001 4123 8 5123";
     assert_eq!(rt; text.as_str(), want);
     if let Ok(station) = read_station(alloc, LABORATORY.as_bytes()) {
         assert_eq!(rt; station.radios(), 3);
@@ -298,7 +300,7 @@ fn the_laboratory(rt: HostRuntime) -> Result<(), Fail> {
 #[test]
 fn defaults(rt: HostRuntime) -> Result<(), Fail> {
     let alloc = rt.alloc();
-    assert_eq!(rt; answer(alloc, b"")?.as_str(), "1200000000 0");
+    assert_eq!(rt; answer(alloc, b"")?.as_str(), "4294967296 0");
     assert_eq!(rt; wrong(alloc, DEFAULTS, "", "|")?, None);
     Ok(())
 }

@@ -1,13 +1,13 @@
 -- What is fit of the feeds that are kept.
-use Rattle.std.proofs.Common.{◌≡◌, ℕ, ◌+◌, ◌≤◌, ◌<◌, ◌^◌, true, List, [], ◌∷◌, ◌++◌, refl, sym, ap, ◌∙◌, arith, subst, length, max, take, get_or, map, pos, ◌≤ℤ◌}
-use Rattle.std.specs.Prelude.{All, IfSome, Option, None, Some, fold}
+use Rattle.std.proofs.Common.{◌≡◌, ℕ, ◌+◌, ◌≤◌, ◌<◌, ◌^◌, true, List, [], ◌∷◌, ◌++◌, refl, sym, ap, ◌∙◌, arith, subst, length, take, get_or, pos, ◌≤ℤ◌}
+use Rattle.std.specs.Prelude.{All, IfSome, Option, None, Some}
 use Rattle.std.specs.List.{filter_map, cons_option, enumerate_from}
 use Rattle.std.proofs.lemmas.List.{append-nil, take_more, length-take-le}
-use Rattle.std.proofs.lemmas.List.Elements.{All-head, All-tail, All-append, All-cons, All-nil, filter_map-append}
+use Rattle.std.proofs.lemmas.List.Elements.{All-append, All-cons, All-nil, filter_map-append}
 use Rattle.clock_filter.specs.Figures.{figures_of}
 use Rattle.clock_filter.specs.Held.{held}
 use Rattle.clock_filter.specs.declared.figures.Figures.{Figures}
-use Rattle.clock_filter.specs.declared.taken.Taken.{Taken}
+use Rattle.clock_filter.proofs.FigureLaws.{newest-upto}
 use Rattle.clock_filter.proofs.HeldLaws.{held-all}
 use Rattle.clock_filter.specs.Bounds.{IsMeasured, IsTimely}
 use Rattle.clock_filter.specs.Distance.{distance_of, is_fit_at}
@@ -17,21 +17,9 @@ use Rattle.system_fold.specs.Fit.{AreFit, IsFit, IsSound, fit_source, fit_feeds}
 use Rattle.system_fold.specs.declared.feed.Feed.{Feed}
 use Rattle.system_fold.specs.declared.source.Source.{Source}
 
-fold-most : (now most : ℕ) (ns : List ℕ) → most ≤ now → All (λ n. n ≤ now) ns → fold max most ns ≤ now
-fold-most now most [] below all = below
-fold-most now most (n ∷ ns) below all = let here : n ≤ now = All-head (λ n. n ≤ now) n ns all in fold-most now (max most n) ns (omega arith) (All-tail (λ n. n ≤ now) n ns all)
-
-moments-all : (now : ℕ) (taken : List Taken) → All (λ x. x.at ≤ now) taken → All (λ n. n ≤ now) (map (λ x. x.at) taken)
-moments-all now [] all = All-nil (λ n. n ≤ now)
-moments-all now (x ∷ xs) all = All-cons (λ n. n ≤ now) x.at (map (λ y. y.at) xs) (All-head (λ y. y.at ≤ now) x xs all) (moments-all now xs (All-tail (λ y. y.at ≤ now) x xs all))
-
-newest-most : (now : ℕ) (taken : List Taken) → All (λ x. x.at ≤ now) taken → IfSome (figures_of taken) (λ f. f.newest ≤ now)
-newest-most now [] all = tt
-newest-most now (x ∷ xs) all = fold-most now 0 (map (λ y. y.at) (x ∷ xs)) (omega arith) (moments-all now (x ∷ xs) all)
-
 -- no sample is newer than now
 pub newest-by : (cut now : ℕ) (feed : Feed) (f : Figures) → IsSound now feed → Some f ≡ figures_of (held cut feed.filter) → f.newest ≤ now
-newest-by cut now feed f sound is = subst (λ (o : Option Figures). IfSome o (λ g. g.newest ≤ now)) (sym is) (newest-most now (held cut feed.filter) (held-all (λ x. x.at ≤ now) cut feed.filter sound.timely))
+newest-by cut now feed f sound is = subst (λ (o : Option Figures). IfSome o (λ g. g.newest ≤ now)) (sym is) (newest-upto now (held cut feed.filter) (held-all (λ x. x.at ≤ now) cut feed.filter sound.timely))
 
 pub enumerate-append : {X : Type 0} (a : ℕ) (xs ys : List X) → enumerate_from a (xs ++ ys) ≡ enumerate_from a xs ++ enumerate_from (a + length xs) ys
 enumerate-append a [] ys = ap (λ (n : ℕ). enumerate_from n ys) (omega arith)

@@ -9,3 +9,4 @@ pub mod PageLaws
 pub mod SweepLaws
 pub mod LengthLaws
 pub mod PlainLaws
+pub mod EndLaws

@@ -104,7 +104,7 @@ nil-below (x ∷ xs) below = absurd (omega arith)
 
 -- the page inputs by what is kept
 abbrev pub inputs_by : FoldFields → Option Leap → PageInputs
-inputs_by fold armed = record { length = fold.length; moment = fold.leaps.latest; holdover = fold.holdover; armed = armed }
+inputs_by fold armed = record { length = fold.length; moment = fold.leaps.latest; bound = fold.bound; armed = armed }
 
 -- nothing tells the time where no source is left
 pub page-empty : (inputs : PageInputs) (left : List Source) (offset : ℤ) → left ≡ [] → page_from inputs left offset ≡ unsynchronised inputs.length inputs.moment
@@ -138,7 +138,7 @@ left-long chime now fit survivors left is all members = All-weaker (Contains sur
 
 -- the inputs by what is kept are those of the journal
 inputs-stand : (fold : FoldFields) (armed : Option Leap) (settings : SettingsFields) (journal : List Entry) → StandsForJournal fold settings journal → armed ≡ armed_of journal → inputs_by fold armed ≡ inputs_of settings journal
-inputs-stand fold armed settings journal h armed_is = λ i. record { length = h.length i; moment = h.leaps.now i; holdover = h.holdover i; armed = armed_is i }
+inputs-stand fold armed settings journal h armed_is = λ i. record { length = h.length i; moment = h.leaps.now i; bound = h.bound i; armed = armed_is i }
 
 -- the page by what is kept is the page of the journal
 pub page-stands : (fold : FoldFields) (armed : Option Leap) (fit : List Source) (settings : SettingsFields) (journal : List Entry) → StandsForJournal fold settings journal → armed ≡ armed_of journal → fit ≡ fit_feeds fold.leaps.cut fold.leaps.latest fold.feeds

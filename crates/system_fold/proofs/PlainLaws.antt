@@ -92,9 +92,9 @@ feeds-more settings journal i d below =
     place = let same : length (take i kinds) ≡ i = length-take-le i kinds (omega arith) in omega arith
 
 -- what a journal comes to stands for it
-pub stands-whole : (fold : FoldFields) (settings : SettingsFields) (journal : List Entry) → AreLawful settings → length settings.sources ≤ 16 → IsJournal settings journal → fold.holdover ≡ settings.holdover → fold.feeds ≡ feeds_of settings journal → KeepsLeaps fold.leaps journal → fold.length ≡ length journal
+pub stands-whole : (fold : FoldFields) (settings : SettingsFields) (journal : List Entry) → AreLawful settings → length settings.sources ≤ 16 → IsJournal settings journal → fold.bound ≡ settings.bound → fold.feeds ≡ feeds_of settings journal → KeepsLeaps fold.leaps journal → fold.length ≡ length journal
     → StandsForJournal fold settings journal
-stands-whole fold settings journal lawful few entries holdover feeds leaps length = record { lawful = lawful; few = few; entries = entries; holdover = holdover; feeds = feeds; leaps = leaps; length = length }
+stands-whole fold settings journal lawful few entries bound feeds leaps length = record { lawful = lawful; few = few; entries = entries; bound = bound; feeds = feeds; leaps = leaps; length = length }
 
 pub feeds-push-more : (settings : SettingsFields) (seen : List SourceKind) (journal : List Entry) (i : ℕ) (d : SourceKind) (feeds more : List Feed) (feed : Feed) → i < length seen → seen ≡ settings.sources
     → feeds ≡ feeds_of (record settings { sources = take i settings.sources }) journal

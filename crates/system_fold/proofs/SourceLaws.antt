@@ -4,10 +4,9 @@ use Rattle.std.specs.Prelude.{Option, None, Some, fold, filter, cond, nat_le}
 use Rattle.std.specs.List.{filter_map, cons_option, enumerate_from}
 use Rattle.std.specs.Option.{option_map}
 use Rattle.std.proofs.lemmas.List.{length-drop}
-use Rattle.tick_units.specs.Orders.{in_order}
 use Rattle.clock_filter.specs.Distance.{is_fit_at}
 use Rattle.clock_filter.specs.Figures.{figures_of}
-use Rattle.clock_filter.specs.Held.{last_eight, may_precede}
+use Rattle.clock_filter.specs.Held.{last_eight}
 use Rattle.clock_filter.specs.declared.taken.Taken.{Taken}
 use Rattle.journal_entry.specs.declared.entry.Entry.{Entry}
 use Rattle.system_fold.specs.Fit.{if_fit, fit_source, fit_feeds}
@@ -33,7 +32,7 @@ one-source : (journal : List Entry) (feed : ℕ) (kind : SourceKind) → fit_sou
 one-source journal feed kind = ap (λ (xs : List Taken). if_fit (now_of journal) (option_map (λ figures. record { feed = feed; kind = kind; figures = figures }) (figures_of (held_from xs)))) (eight-again (samples_of kind feed journal))
   where
     held_from : List Taken → List Taken
-    held_from xs = in_order may_precede (filter (λ x. nat_le (cut_of journal) x.at) xs)
+    held_from xs = filter (λ x. nat_le (cut_of journal) x.at) xs
 
 filter-some : (now : ℕ) (o : Option Source) (rest : List Source) → filter (λ s. is_fit_at now s.figures) (cons_option o rest) ≡ cons_option (if_fit now o) (filter (λ s. is_fit_at now s.figures) rest)
 filter-some now None rest = refl

@@ -39,27 +39,27 @@ pub few : (fold : FoldFields) (fit : List Source) (sweep : List Candidate) → I
 few fold fit sweep h = few_of fold h.settings h.journal h.stands
 
 -- the state of the empty journal
-pub stands-nil : (fold : FoldFields) (settings : SettingsFields) → AreLawful settings → length settings.sources ≤ 16 → fold.holdover ≡ settings.holdover → fold.feeds ≡ map blank settings.sources → KeepsLeaps fold.leaps [] → fold.length ≡ 0
+pub stands-nil : (fold : FoldFields) (settings : SettingsFields) → AreLawful settings → length settings.sources ≤ 16 → fold.bound ≡ settings.bound → fold.feeds ≡ map blank settings.sources → KeepsLeaps fold.leaps [] → fold.length ≡ 0
     → StandsForJournal fold settings []
-stands-nil fold settings lawful few holdover feeds leaps length = record {
+stands-nil fold settings lawful few bound feeds leaps length = record {
   lawful = lawful;
   few = few;
   entries = All-nil (IsKept _);
-  holdover = holdover;
+  bound = bound;
   feeds = feeds ∙ sym (feeds-nil settings);
   leaps = leaps;
   length = length;
 }
 
 -- one entry more
-pub stands-push : (old new : FoldFields) (settings : SettingsFields) (journal : List Entry) (e : Entry) → StandsForJournal old settings journal → IsKept (length old.feeds) e → new.holdover ≡ old.holdover
+pub stands-push : (old new : FoldFields) (settings : SettingsFields) (journal : List Entry) (e : Entry) → StandsForJournal old settings journal → IsKept (length old.feeds) e → new.bound ≡ old.bound
     → new.feeds ≡ feeds_of settings (journal ++ e ∷ []) → KeepsLeaps new.leaps (journal ++ e ∷ []) → new.length ≡ old.length + 1
     → StandsForJournal new settings (journal ++ e ∷ [])
-stands-push old new settings journal e h lawful holdover feeds leaps longer = record {
+stands-push old new settings journal e h lawful bound feeds leaps longer = record {
   lawful = h.lawful;
   few = h.few;
   entries = All-append (IsKept (length settings.sources)) journal (e ∷ []) h.entries (All-cons (IsKept (length settings.sources)) e [] (subst (λ (n : ℕ). IsKept n e) same lawful) (All-nil (IsKept (length settings.sources))));
-  holdover = holdover ∙ h.holdover;
+  bound = bound ∙ h.bound;
   feeds = feeds;
   leaps = leaps;
   length = longer ∙ ap (λ (n : ℕ). n + 1) h.length ∙ sym (length-append journal (e ∷ []));

@@ -1,6 +1,6 @@
 -- The fields of a page, from the sources that are left and their mean offset (RFC 5905, section 11.2.3, and section 9.2 for
 -- what a server tells of itself).
-use Rattle.std.specs.Prelude.{ℕ, ◌+◌, true, Option, None, Some, List, [], ◌∷◌, map, ℤ, pos, ◌+ℤ◌}
+use Rattle.std.specs.Prelude.{ℕ, ◌+◌, true, Option, None, Some, List, [], ◌∷◌, map, ℤ, pos, ◌+ℤ◌, if◌then◌else◌}
 use Rattle.std.specs.Int.{int_max}
 use Rattle.tick_units.specs.Orders.{greatest}
 use Rattle.tick_units.specs.Plans.{reference_id_of}
@@ -8,6 +8,7 @@ use Rattle.tick_units.specs.Units.{least_dispersion, local_span, stamp_of, to_sh
 use Rattle.clock_filter.specs.Distance.{root_delay_of, root_dispersion_of}
 use Rattle.clock_filter.specs.declared.figures.Figures.{Figures}
 use Rattle.clock_page.specs.Page.{PageFields, unsynchronised}
+use Rattle.system_fold.specs.Ends.{is_above}
 use Rattle.system_fold.specs.Inputs.{until_of}
 use Rattle.system_fold.specs.declared.inputs.PageInputs.{PageInputs}
 use Rattle.system_fold.specs.declared.leaps.Leap.{Leap}
@@ -30,20 +31,29 @@ leap_second (Some leap) = leap.leap_at
 abbrev pub fresh_of : List Source → ℕ
 fresh_of sources = greatest (map (λ s. s.figures.newest) sources)
 
--- the page of the sources that are left, the first of which is the system peer, and of their mean offset; where none is left
--- nothing tells the time
-unfoldable pub page_from : PageInputs → List Source → ℤ → PageFields
-page_from inputs [] offset = unsynchronised inputs.length inputs.moment
-page_from inputs (peer ∷ others) offset = record {
+-- the root dispersion of a page whose system peer this is, as a short
+abbrev pub page_dispersion : ℕ → Source → ℕ
+page_dispersion now peer = to_short (int_max (pos least_dispersion) (root_dispersion_of now peer.figures))
+
+-- the page that tells the time by the sources that are left, the first of which is the system peer, and by their mean offset
+abbrev pub told_by : PageInputs → Source → List Source → ℤ → PageFields
+told_by inputs peer others offset = record {
   length = inputs.length;
   sync = true;
   stratum = peer.figures.stratum + 1;
   refid = reference_id peer.kind peer.figures;
   offset = offset;
   anchor = inputs.moment;
-  until = until_of inputs (fresh_of (peer ∷ others));
+  until = until_of inputs (page_dispersion inputs.moment peer);
   root_delay = record { 0 = to_short (root_delay_of peer.figures) };
-  root_disp = record { 0 = to_short (int_max (pos least_dispersion) (root_dispersion_of inputs.moment peer.figures)) };
+  root_disp = record { 0 = page_dispersion inputs.moment peer };
   reftime = record { 0 = stamp_of (offset +ℤ pos (local_span (fresh_of (peer ∷ others)))) };
   leap_at = leap_second inputs.armed;
+  rate = peer.figures.rate;
 }
+
+-- the page of the sources that are left; where none is left, or the root dispersion is above the bound already, nothing tells the time
+unfoldable pub page_from : PageInputs → List Source → ℤ → PageFields
+page_from inputs [] offset = unsynchronised inputs.length inputs.moment
+page_from inputs (peer ∷ others) offset =
+    if is_above inputs.bound (page_dispersion inputs.moment peer) 0 then unsynchronised inputs.length inputs.moment else told_by inputs peer others offset

@@ -35,20 +35,20 @@ feeds_of settings journal = map (λ k. record { kind = k.1; filter = last_eight 
 
 -- what a fold keeps
 pub record FoldFields : Type 0 where
-  pub holdover : ℕ
+  pub bound : ℕ
   pub feeds : List Feed
   pub leaps : Leaps
   pub length : ℕ
 
 abbrev pub kept_by : Inside → FoldFields
-kept_by fold = record { holdover = fold.holdover; feeds = fold.feeds.items; leaps = fold.leaps; length = fold.length }
+kept_by fold = record { bound = fold.bound; feeds = fold.feeds.items; leaps = fold.leaps; length = fold.length }
 
 -- a fold stands for lawful settings and a journal of lawful entries
 pub record StandsForJournal (fold : FoldFields) (settings : SettingsFields) (journal : List Entry) : Type 0 where
   pub lawful : AreLawful settings
   pub few : length settings.sources ≤ 16
   pub entries : IsJournal settings journal
-  pub holdover : fold.holdover ≡ settings.holdover
+  pub bound : fold.bound ≡ settings.bound
   pub feeds : fold.feeds ≡ feeds_of settings journal
   pub leaps : KeepsLeaps fold.leaps journal
   pub length : fold.length ≡ length journal

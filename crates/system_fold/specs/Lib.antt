@@ -1,6 +1,7 @@
--- Read Page (the page of a journal), and then what it is made of: Settings and Inputs; Journal, Samples and Leaps (what a journal says);
+-- Read Page (the page of a journal), and then what it is made of: Settings, Inputs and Ends; Journal, Samples and Leaps (what a journal says);
 -- Sources and Selecting (which sources agree); Fields (the fields of the page); PageText (its line). Feeds, Fit, Surviving and KeptFold
 -- are scaffolding.
+pub mod Ends
 pub mod Feeds
 pub mod Fields
 pub mod Fit

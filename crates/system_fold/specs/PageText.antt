@@ -20,6 +20,7 @@ page_fields p =
     ∷ decimal p.root_disp.0
     ∷ stamp_text p.reftime.0
     ∷ decimal p.leap_at
+    ∷ signed_decimal p.rate
     ∷ []
 
 -- a word, and its fields

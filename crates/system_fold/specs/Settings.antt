@@ -1,18 +1,25 @@
 -- What a page is made by besides its journal, and what journals and settings have to be like. All of it is this project's own.
-use Rattle.std.specs.Prelude.{ℕ, ◌≤◌, ◌<◌, ◌^◌, List, All, length}
+use Rattle.std.specs.Prelude.{◌≡◌, ℕ, ◌*◌, ◌≤◌, ◌<◌, ◌^◌, List, All, length}
+use Rattle.tick_units.specs.Units.{local_span}
 use Rattle.journal_entry.specs.Lawful.{IsLawful}
 use Rattle.journal_entry.specs.declared.entry.Entry.{Entry}
 use Rattle.system_fold.specs.declared.settings.SourceKind.{SourceKind}
 
--- for how many microseconds after the last sample the time is trusted, and what each feed is, by number
+-- the root dispersion above which a page isn't trusted, in units of 2^-32 s, and what each feed is, by number
 pub record SettingsFields : Type 0 where
-  pub holdover : ℕ
+  pub bound : ℕ
   pub sources : List SourceKind
 
--- the holdover is 1 microsecond to a day
+-- a bound of so many milliseconds
+abbrev pub bound_of : ℕ → ℕ
+bound_of milliseconds = local_span (1000 * milliseconds)
+
+-- the bound is a whole number of milliseconds, 1 to 16000
 pub record AreLawful (settings : SettingsFields) : Type 0 where
-  pub least : 1 ≤ settings.holdover
-  pub most : settings.holdover ≤ 86400000000
+  pub milliseconds : ℕ
+  pub least : 1 ≤ milliseconds
+  pub most : milliseconds ≤ 16000
+  pub bound : settings.bound ≡ bound_of milliseconds
 
 -- an entry such as receivers and pollers make, of one of so many feeds
 pub record IsKept (feeds : ℕ) (e : Entry) : Type 0 where

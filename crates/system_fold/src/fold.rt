@@ -25,7 +25,7 @@ use std::marker::Model;
 /// Contracts see that it stands for the settings and the whole journal.
 #[derive(Drop)]
 pub struct FoldState {
-    holdover: u64,
+    bound: u64,
     feeds: ArrayVec<Feed, 16>,
     leaps: Leaps,
     length: u64,
@@ -82,7 +82,7 @@ impl FoldState {
         ensures { StandsForJournal result settings.now [] }
     {
         FoldState {
-            holdover: settings.holdover(),
+            bound: settings.bound(),
             feeds: blank_feeds(settings.sources()),
             leaps: Leaps::new(),
             length: 0,
@@ -117,7 +117,7 @@ impl FoldState {
         let inputs = PageInputs {
             length: self.length,
             moment: self.leaps.latest,
-            holdover: self.holdover,
+            bound: self.bound,
             armed: self.leaps.armed(),
         };
         page_within(&inputs, self.fit.as_slice(), &self.sweep.chime())

@@ -1,12 +1,14 @@
 //! The page inputs: what a page is made by besides the sources that are left, and the moment at which it ends.
-ghost use Rattle.std.specs.Prelude.{◌≡◌};
+ghost use Rattle.std.specs.Prelude.{◌≡◌, ◌+◌, ◌*◌, ◌^◌, ◌<◌, ◌≤◌, false, nat_lt};
+ghost use Rattle.tick_units.specs.Units.{phi};
 ghost use Rattle.clock_page.specs.Page.{unsynchronised};
+ghost use Rattle.system_fold.specs.Ends.{IsLeast, is_above, lasts};
 ghost use Rattle.system_fold.specs.Fields as pages;
 ghost use Rattle.system_fold.specs.Inputs.{AreBounded, until_of};
 
 use crate::leaps::Leap;
 use clock_page::Page;
-use tick_units::Local;
+use tick_units::{Local, Short};
 
 /// What a page is made by besides the sources that are left.
 #[derive(Clone, Copy)]
@@ -15,10 +17,33 @@ pub struct PageInputs {
     pub length: u64,
     /// The greatest moment of its entries.
     pub moment: Local,
-    /// For how many microseconds after the newest sample the time is trusted.
-    pub holdover: u64,
+    /// The root dispersion above which the page isn't trusted, in units of 2^-32 s.
+    pub bound: u64,
     /// The leap second that is still to come.
     pub armed: Option<Leap>,
+}
+
+// A short in units of 2^-32 s.
+fn units_of(short: Short) -> u64
+    ensures value { result ≡ short.0 * 65536 }
+    ensures small { result < 2 ^ 48 }
+{
+    u64::from(short.0) << 16
+}
+
+// 15 parts per million of a microsecond are 15 * 2^32 / 10^12 units, which is 3 * 2^20 / 5^11.
+const DRIFT_UNITS: u64 = 3 << 20;
+
+const DRIFT_MICROSECONDS: u64 = 48_828_125;
+
+// The least number of microseconds after which the drift of the host's counter takes a dispersion above a bound.
+fn first_above(bound: u64, dispersion: u64) -> u64
+    requires within { dispersion ≤ bound }
+    requires most { bound ≤ 2 ^ 36 }
+    ensures least { IsLeast (λ h. nat_lt bound (dispersion + phi h)) result }
+    ensures small { result < 2 ^ 41 }
+{
+    (bound - dispersion) * DRIFT_MICROSECONDS / DRIFT_UNITS + 1
 }
 
 impl PageInputs {
@@ -29,13 +54,32 @@ impl PageInputs {
         Page::unsynchronised(self.length, self.moment)
     }
 
-    /// The moment at which a page ends whose newest sample was taken at `fresh`: that of the next leap second, where it is sooner
-    /// than the end of the holdover.
-    pub fn until(&self, fresh: Local) -> u64
-        requires { AreBounded self.now }
-        ensures { result ≡ until_of self.now fresh }
+    /// Whether a root dispersion is above the bound.
+    pub fn is_above(&self, root_disp: Short) -> bool
+        ensures { result ≡ is_above self.now.bound root_disp.0 0 }
     {
-        let end = fresh.get() + self.holdover;
+        self.bound < units_of(root_disp)
+    }
+
+    // For how many microseconds a page of this root dispersion is trusted.
+    fn lasts(&self, root_disp: Short) -> u64
+        requires bounded { AreBounded self.now }
+        requires within { is_above self.now.bound root_disp.0 0 ≡ false }
+        ensures value { result ≡ lasts self.now.bound root_disp.0 }
+        ensures least { IsLeast (is_above self.now.bound root_disp.0) result }
+        ensures small { result < 2 ^ 41 }
+    {
+        first_above(self.bound, units_of(root_disp))
+    }
+
+    /// The moment at which a page of this root dispersion ends: where that passes the bound, or that of the next leap second, where
+    /// it is sooner.
+    pub fn until(&self, root_disp: Short) -> u64
+        requires bounded { AreBounded self.now }
+        requires within { is_above self.now.bound root_disp.0 0 ≡ false }
+        ensures { result ≡ until_of self.now root_disp.0 }
+    {
+        let end = self.moment.get() + self.lasts(root_disp);
         match &self.armed {
             Some(leap) if leap.moment < u128::from(end) => leap.moment as u64,
             _ => end,

@@ -4,6 +4,7 @@ ghost use Rattle.journal_entry.specs.Lawful.{IsLawfulKind, IsLawfulVerdict, IsLa
 ghost use Rattle.tick_units.specs.Samples as samples;
 ghost use Rattle.system_fold.specs.Settings.{AreLawful, IsJournal, IsKept};
 
+use crate::settings::bound_of;
 use crate::{Settings, SourceKind, page_by_steps, page_from_scratch, page_text};
 use clock_page::Page;
 use feed_link::Address;
@@ -102,10 +103,23 @@ fn is_journal(settings: &Settings, journal: &[Entry]) -> bool
     true
 }
 
+// Whether the bound is one of so many milliseconds.
+fn is_bound(settings: &Settings, milliseconds: u64) -> bool
+    ensures { result ≡ true → AreLawful settings.now }
+{
+    if milliseconds < 1 || milliseconds > 16_000 {
+        return false;
+    }
+    bound_of(milliseconds as u32) == settings.bound()
+}
+
 fn are_lawful(settings: &Settings) -> bool
     ensures { result ≡ true → AreLawful settings.now }
 {
-    1 <= settings.holdover() && settings.holdover() <= 86_400_000_000
+    is_bound(
+        settings,
+        settings.bound().saturating_mul(1000).div_ceil(1 << 32),
+    )
 }
 
 /// The page of a journal, where it is one of lawful entries: by steps and from scratch, which come to the same.
@@ -134,8 +148,11 @@ pub fn line_of(rt: &HostRuntime, page: &Page) -> Result<String, Fail> {
 }
 
 /// Settings with feeds of these kinds.
-pub fn settings_of(holdover: u64, kinds: &[SourceKind]) -> Result<Settings, Fail> {
-    let mut settings = Settings::new(holdover);
+pub fn settings_of(bound_ms: u32, kinds: &[SourceKind]) -> Result<Settings, Fail>
+    requires least { 1 ≤ bound_ms }
+    requires most { bound_ms ≤ 16000 }
+{
+    let mut settings = Settings::new(bound_ms);
     for kind in kinds {
         if settings.count() >= 16 {
             return Err("too many feeds")?;
@@ -171,7 +188,7 @@ pub struct Odd<'a> {
 
 /// The page of an odd journal has its line.
 pub fn is_the_page(rt: &HostRuntime, odd: &Odd<'_>) -> Result<(), Fail> {
-    let settings = settings_of(600_000_000, odd.kinds)?;
+    let settings = settings_of(1000, odd.kinds)?;
     let text = text_after(rt, &settings, odd.entries)?;
     if text.as_str() != odd.line {
         return Err(odd.why)?;

@@ -1,12 +1,12 @@
 //! The fields of a page.
-ghost use Rattle.std.specs.Prelude.{◌≡◌, ◌∷◌, ◌<◌, ◌≤◌, ◌^◌, ℤ, pos, ◌≤ℤ◌, ◌<ℤ◌, ◌+ℤ◌, ◌-ℤ◌, List, All, IfSome, length, map};
-ghost use Rattle.std.specs.Int.{int_max};
+ghost use Rattle.std.specs.Prelude.{◌≡◌, false, ◌∷◌, ◌<◌, ◌≤◌, ◌^◌, ℤ, pos, ◌≤ℤ◌, ◌<ℤ◌, ◌+ℤ◌, ◌-ℤ◌, List, All, IfSome, length, map};
 ghost use Rattle.tick_units.specs.Samples.{IsLength};
 ghost use Rattle.tick_units.specs.Units as units;
-ghost use Rattle.clock_filter.specs.Distance.{root_delay_of, root_dispersion_of};
+ghost use Rattle.clock_filter.specs.Distance.{root_delay_of};
 ghost use Rattle.cluster_core.specs.Bounds.{AreNear, IsWeighable};
 ghost use Rattle.cluster_core.specs.Mean.{mean};
 ghost use Rattle.select_core.specs.Selection.{chime_of};
+ghost use Rattle.system_fold.specs.Ends.{is_above};
 ghost use Rattle.system_fold.specs.Fit.{IsFit};
 ghost use Rattle.system_fold.specs.Selecting as selecting;
 ghost use Rattle.system_fold.specs.Surviving.{IsLong};
@@ -59,9 +59,34 @@ fn root_delay_of(peer: &Source, now: Local) -> Short
 // The root dispersion of a page whose system peer this is.
 fn root_disp_of(peer: &Source, now: Local) -> Short
     requires { IsFit now peer.now }
-    ensures { result.0 ≡ units.to_short (int_max (pos units.least_dispersion) (root_dispersion_of now peer.now.figures)) }
+    ensures { result.0 ≡ pages.page_dispersion now peer.now }
 {
     to_short(Span::from(LEAST_DISPERSION).max(root_dispersion(&peer.figures, now)))
+}
+
+// The page that tells the time by the sources that are left.
+fn told_by(inputs: &PageInputs, peer: &Source, others: &[Source], offset: Span) -> Page
+    requires inputs { AreBounded inputs.now }
+    requires peer { IsFit inputs.now.moment peer.now }
+    requires offset { IsLength offset }
+    requires within { is_above inputs.now.bound (pages.page_dispersion inputs.now.moment peer.now) 0 ≡ false }
+    ensures { result ≡ pages.told_by inputs.now peer.now others.now offset }
+{
+    let root_disp = root_disp_of(peer, inputs.moment);
+    Page {
+        length: inputs.length,
+        sync: true,
+        stratum: peer.figures.stratum + 1,
+        refid: reference_id(peer),
+        offset,
+        anchor: inputs.moment,
+        until: inputs.until(root_disp),
+        root_delay: root_delay_of(peer, inputs.moment),
+        root_disp,
+        reftime: stamp_of(offset + local_span(fresh(peer, others))),
+        leap_at: inputs.leap_second(),
+        rate: peer.figures.rate,
+    }
 }
 
 /// The page of the sources that are left, the first of which is the system peer, and of their mean offset.
@@ -72,19 +97,10 @@ pub fn page_from(inputs: &PageInputs, peer: &Source, others: &[Source], offset: 
     requires offset { IsLength offset }
     ensures { result ≡ pages.page_from inputs.now (peer.now ∷ others.now) offset }
 {
-    let fresh = fresh(peer, others);
-    Page {
-        length: inputs.length,
-        sync: true,
-        stratum: peer.figures.stratum + 1,
-        refid: reference_id(peer),
-        offset,
-        anchor: inputs.moment,
-        until: inputs.until(fresh),
-        root_delay: root_delay_of(peer, inputs.moment),
-        root_disp: root_disp_of(peer, inputs.moment),
-        reftime: stamp_of(offset + local_span(fresh)),
-        leap_at: inputs.leap_second(),
+    if inputs.is_above(root_disp_of(peer, inputs.moment)) {
+        inputs.unsynchronised()
+    } else {
+        told_by(inputs, peer, others, offset)
     }
 }
 

@@ -156,7 +156,7 @@ pub fn page_from_scratch(settings: &Settings, journal: &[Entry]) -> Page
     let inputs = PageInputs {
         length: journal.len() as u64,
         moment: leaps.latest,
-        holdover: settings.holdover(),
+        bound: settings.bound(),
         armed: leaps.armed(),
     };
     let feeds = feeds_of(settings, journal);

@@ -1,6 +1,6 @@
 //! What a page is reckoned by besides the journal.
 ghost use Rattle.std.specs.Prelude.{◌≡◌, ◌++◌, ◌∷◌, [], ◌<◌, ◌≤◌, length};
-ghost use Rattle.system_fold.specs.Settings.{SettingsFields};
+ghost use Rattle.system_fold.specs.Settings.{SettingsFields, bound_of};
 
 use arrayvec::ArrayVec;
 use feed_link::Address;
@@ -25,11 +25,11 @@ impl Default for SourceKind {
     }
 }
 
-/// What a page is reckoned by besides the journal: what each feed is, by its number, and how long the time is trusted
-/// after the last sample.
+/// What a page is reckoned by besides the journal: what each feed is, by its number, and the root dispersion above
+/// which a page isn't trusted.
 #[derive(Drop)]
 pub struct Settings {
-    holdover: u64,
+    bound: u64,
     sources: ArrayVec<SourceKind, 16>,
 }
 
@@ -39,18 +39,28 @@ impl Model for Settings {
 
     ghost Value = { SettingsFields };
 
-    ghost view = { λ s. record { holdover = s.holdover; sources = s.sources.items } };
+    ghost view = { λ s. record { bound = s.bound; sources = s.sources.items } };
 
     ghost invariant = { λ s. length s.sources.items ≤ 16 };
 }
 
+/// A bound of so many milliseconds in units of 2^-32 s.
+pub fn bound_of(milliseconds: u32) -> u64
+    requires { milliseconds ≤ 16000 }
+    ensures { result ≡ bound_of milliseconds }
+{
+    (u64::from(milliseconds) * 1000 << 32) / 1_000_000
+}
+
 impl Settings {
-    /// Settings with no feed, and with a holdover in microseconds.
-    pub fn new(holdover: u64) -> Settings
-        ensures { result ≡ record { holdover = holdover; sources = [] } }
+    /// Settings with no feed, and with a bound of so many milliseconds, 1 to 16000.
+    pub fn new(bound_ms: u32) -> Settings
+        requires least { 1 ≤ bound_ms }
+        requires most { bound_ms ≤ 16000 }
+        ensures { result ≡ record { bound = bound_of bound_ms; sources = [] } }
     {
         Settings {
-            holdover,
+            bound: bound_of(bound_ms),
             sources: ArrayVec::new(),
         }
     }
@@ -63,11 +73,11 @@ impl Settings {
         self.sources.push(kind);
     }
 
-    /// For how many microseconds the time is trusted after the last sample.
-    pub fn holdover(&self) -> u64
-        ensures { result ≡ self.now.holdover }
+    /// The root dispersion above which a page isn't trusted, in units of 2^-32 s.
+    pub fn bound(&self) -> u64
+        ensures { result ≡ self.now.bound }
     {
-        self.holdover
+        self.bound
     }
 
     /// What each feed is, by number.

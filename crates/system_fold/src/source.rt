@@ -38,6 +38,7 @@ impl Default for Source {
                 address: 0,
                 root_delay: Short(0),
                 root_disp: Short(0),
+                rate: 0,
             },
         }
     }

@@ -14,7 +14,7 @@ fn told_after(
     kinds: &[SourceKind],
     journal: &[Entry],
 ) -> Result<Vec<usize>, Fail> {
-    let settings = settings_of(600_000_000, kinds)?;
+    let settings = settings_of(1000, kinds)?;
     let mut told = Vec::new(rt.alloc());
     for place in 0..journal.len() {
         let entries = place + 1;

@@ -7,12 +7,12 @@ use clock_page::Page;
 use journal_entry::{LINE_ROOM, TextWriter};
 
 /// Writes the line of a page at the front of `out`, without a line feed, and leaves the rest as it was. The answer is the
-/// number of bytes written, at most 161.
+/// number of bytes written, at most 173.
 pub fn page_text(p: &Page, out: &mut [u8; LINE_ROOM]) -> usize
     ensures text { take result out.new ≡ page_line p.now }
     ensures rest { drop result out.new ≡ drop result out.old }
     ensures length { result ≡ length (page_line p.now) }
-    ensures most { result ≤ 161 }
+    ensures most { result ≤ 173 }
 {
     let mut text = TextWriter::new(out);
     text.add(b"page");
@@ -22,9 +22,9 @@ pub fn page_text(p: &Page, out: &mut [u8; LINE_ROOM]) -> usize
 
 // Writes the fields of a page.
 fn write_fields(p: &Page, text: &mut TextWriter<'_>)
-    requires { HasRoom text.old 189 }
+    requires { HasRoom text.old 201 }
     ensures text { AddsFields text.old text.new (page_fields p.now) }
-    ensures short { written text.new ≤ written text.old + 157 }
+    ensures short { written text.new ≤ written text.old + 169 }
 {
     text.number(p.length);
     text.number(u8::from(p.sync));
@@ -37,4 +37,5 @@ fn write_fields(p: &Page, text: &mut TextWriter<'_>)
     text.number(p.root_disp.0);
     text.stamp(p.reftime);
     text.number(p.leap_at);
+    text.rate(p.rate);
 }

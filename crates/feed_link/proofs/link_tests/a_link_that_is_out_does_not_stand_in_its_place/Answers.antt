@@ -1,3 +1,4 @@
+-- What the search leaves open of `link_tests::a_link_that_is_out_does_not_stand_in_its_place`.
 use Rattle.std.proofs.Common.{refl}
 use Rattle.feed_link.proofs.OpeningLaws.{out_after}
 use Rattle.feed_link.proofs.link_tests.a_link_that_is_out_does_not_stand_in_its_place.Goals as goal

@@ -1,3 +1,4 @@
+-- What the search leaves open of `link_tests::visit`.
 use Rattle.feed_link.proofs.OpeningLaws.{out_after}
 use Rattle.feed_link.proofs.link_tests.visit.Goals as goal
 

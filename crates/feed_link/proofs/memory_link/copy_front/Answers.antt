@@ -1,3 +1,4 @@
+-- What the search leaves open of `memory_link::copy_front`.
 use Rattle.std.proofs.Common.{rules}
 use Rattle.feed_link.proofs.PieceLaws.{copied}
 use Rattle.feed_link.proofs.memory_link.copy_front.Goals as goal

@@ -1,3 +1,4 @@
+-- What stays true in the loops of `memory_outside::placed`.
 use Rattle.std.proofs.Common.{◌≡◌, ◌++◌, length, map, Some}
 use Rattle.std.specs.Vec.Iter.{into_iter_items, into_iter_len}
 use Rattle.feed_link.proofs.memory_outside.placed.Given as goal

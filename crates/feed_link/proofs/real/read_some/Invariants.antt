@@ -1,3 +1,4 @@
+-- What stays true in the loops of `real::read_some`.
 use Rattle.std.specs.Io.KnownBytes.{Keeps}
 use Rattle.feed_link.proofs.real.read_some.Given as goal
 

@@ -1,3 +1,4 @@
+-- What stays true in the loops of `real::write_some`.
 use Rattle.std.specs.Io.KnownBytes.{Keeps}
 use Rattle.feed_link.proofs.real.write_some.Given as goal
 

@@ -1,3 +1,4 @@
+-- What the search leaves open of `tests::first_byte`.
 use Rattle.feed_link.proofs.OpeningLaws.{out_after}
 use Rattle.feed_link.proofs.tests.first_byte.Goals as goal
 

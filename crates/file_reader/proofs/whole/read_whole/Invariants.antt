@@ -1,3 +1,4 @@
+-- What stays true in the loops of `whole::read_whole`.
 use Rattle.std.proofs.Common.{◌≡◌, ◌≤◌, vec_capacity}
 use Rattle.file_reader.specs.Reader.{HasPulled, limit_of, room_of}
 use Rattle.file_reader.proofs.whole.read_whole.Given as goal

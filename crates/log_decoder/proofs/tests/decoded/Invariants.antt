@@ -1,3 +1,4 @@
+-- What stays true in the loops of `tests::decoded`.
 use Rattle.std.proofs.Common.{length}
 use Rattle.log_decoder.specs.Decoding.{IsReady}
 use Rattle.log_decoder.proofs.tests.decoded.Given as goal

@@ -1,3 +1,4 @@
+-- What the search leaves open of `decode::at_end`.
 use Rattle.std.proofs.Common.{Some, None}
 use Rattle.radio_engine.proofs.DecodingLaws.{late_line}
 use Rattle.radio_engine.proofs.decode.at_end.Goals as goal

@@ -1,3 +1,4 @@
+-- What the search leaves open of `decode::decode_piece`.
 use Rattle.std.proofs.Common.{rules, List, ℕ, length, refl, None, ap, arith}
 use Rattle.std.proofs.lemmas.List.{length-drop}
 use Rattle.radio_engine.specs.Taking.{given, bad_of}

@@ -1,3 +1,4 @@
+-- What stays true in the loops of `decode::decode_piece`.
 use Rattle.std.proofs.Common.{◌≡◌, ◌≤◌, ℕ, List, None, ◌++◌, length}
 use Rattle.feed_link.specs.Told.{SinkState}
 use Rattle.journal_entry.specs.declared.writer.TheConstants.{LINE_ROOM}

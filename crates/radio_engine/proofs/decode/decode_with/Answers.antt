@@ -1,3 +1,4 @@
+-- What the search leaves open of `decode::decode_with`.
 use Rattle.std.proofs.Common.{subst}
 use Rattle.radio_engine.specs.Endings.{status_of, status_line}
 use Rattle.radio_engine.specs.Writing.{Answers}

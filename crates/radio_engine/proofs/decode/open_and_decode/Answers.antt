@@ -1,3 +1,4 @@
+-- What the search leaves open of `decode::open_and_decode`.
 use Rattle.std.proofs.Common.{inr}
 use Rattle.feed_link.specs.Openings.{log_visit}
 use Rattle.feed_link.proofs.OpeningLaws.{opened_once, out_after}

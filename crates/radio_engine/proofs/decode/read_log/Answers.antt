@@ -1,3 +1,4 @@
+-- What the search leaves open of `decode::read_log`.
 use Rattle.std.proofs.Common.{◌^◌, ℕ, List, [], ◌++◌, refl, sym, ◌∙◌, subst, ap, arith, length}
 use Rattle.feed_link.proofs.ToldLaws.{Adds-none}
 use Rattle.file_reader.specs.Ends.{HasReadFront, EndsReading}

@@ -1,3 +1,4 @@
+-- What stays true in the loops of `decode::read_log`.
 use Rattle.std.proofs.Common.{◌≡◌, ◌^◌, ℕ, List, None, []}
 use Rattle.file_reader.specs.Reader.{HasPulled, limit_of, room_of}
 use Rattle.log_decoder.specs.Decoding.{IsReady}

@@ -1,3 +1,4 @@
+-- What the search leaves open of `decode::take_line`.
 use Rattle.radio_engine.proofs.DecodingLaws.{decoded_on}
 use Rattle.radio_engine.proofs.decode.take_line.Goals as goal
 

@@ -1,3 +1,4 @@
+-- What the search leaves open of `reading::write_given`.
 use Rattle.std.proofs.Common.{refl}
 use Rattle.feed_link.proofs.ToldLaws.{Adds-none}
 use Rattle.radio_engine.proofs.reading.write_given.Goals as goal

@@ -1,3 +1,4 @@
+-- What the search leaves open of `replay::play_whole`.
 use Rattle.radio_engine.proofs.ReplayLaws.{replays_after, replays_stopped}
 use Rattle.radio_engine.proofs.replay.play_whole.Goals as goal
 

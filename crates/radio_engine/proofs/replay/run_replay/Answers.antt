@@ -1,3 +1,4 @@
+-- What the search leaves open of `replay::run_replay`.
 use Rattle.std.proofs.Common.{ℕ, List, inr, subst}
 use Rattle.file_reader.specs.declared.reader.FileEnd.{FileEnd}
 use Rattle.station_config.specs.Faults.{Says}

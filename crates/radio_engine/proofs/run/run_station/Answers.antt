@@ -1,3 +1,4 @@
+-- What the search leaves open of `run::run_station`.
 use Rattle.std.proofs.Common.{ℕ, ◌⊎◌, inr, subst}
 use Rattle.command_words.specs.Commands.{Asked}
 use Rattle.command_words.specs.Commands.Asked.{replay}

@@ -1,3 +1,4 @@
+-- What the search leaves open of `station_file::open_station`.
 use Rattle.feed_link.specs.Openings.{log_visit}
 use Rattle.feed_link.proofs.OpeningLaws.{opened_once, out_after}
 use Rattle.radio_engine.proofs.station_file.open_station.Goals as goal

@@ -52,4 +52,4 @@ returns-clause-bad c =
     let m = table_view c.args.table.now in
     let no_unknown = first_none (unknowns m) (rw c.in_default.is at c.first_at.ensures) in
     let no_missing = first_none (missings m) (rw c.in_default-first_at.is at c.first_at-2.ensures) in
-    misread_first (unknowns m) (missings m) (bads m) (excess_of (station_of m)) c.in-Err.obstacle no_unknown no_missing c.in-Err.ensures.bad
+    misread_first (unknowns m) (missings m) (bads m) (excess_of (station_of m)) c.in-Err.key_fault no_unknown no_missing c.in-Err.ensures.bad

@@ -1,3 +1,4 @@
+-- What the search leaves open of `book::Book::get`.
 use Rattle.std.proofs.Common.{rules, ◌≡◌, ℕ, ◌+◌, ◌≤◌, List, Some, length, sym, ap, ◌∙◌, subst}
 use Rattle.std.specs.Prelude.{slice_get}
 use Rattle.feed_link.specs.Book.{event_in}

@@ -1,3 +1,4 @@
+-- What the search leaves open of `book::Book::note`.
 use Rattle.feed_link.proofs.BookRows.{AreRows-push, note_push, note_full}
 use Rattle.feed_link.specs.Seen.{event_seen}
 use Rattle.feed_link.proofs.book.Book.note.Goals as goal

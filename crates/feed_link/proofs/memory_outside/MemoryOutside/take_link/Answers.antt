@@ -1,3 +1,4 @@
+-- What the search leaves open of `memory_outside::MemoryOutside::take_link`.
 use Rattle.std.proofs.Common.{rules, ◌≡◌, ◌∙◌, Option, Some, None, refl, ap}
 use Rattle.std.specs.Prelude.{slice_get, unwrap_or}
 use Rattle.feed_link.specs.declared.memory_link.MemoryLink.{MemoryLink}

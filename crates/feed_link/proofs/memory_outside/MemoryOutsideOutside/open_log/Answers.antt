@@ -1,3 +1,4 @@
+-- What the search leaves open of `memory_outside::MemoryOutsideOutside::open_log`.
 use Rattle.std.proofs.Common.{refl}
 use Rattle.feed_link.proofs.memory_outside.MemoryOutsideOutside.open_log.Goals as goal
 

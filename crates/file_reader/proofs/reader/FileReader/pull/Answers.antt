@@ -1,3 +1,4 @@
+-- What the search leaves open of `reader::FileReader::pull`.
 use Rattle.std.proofs.Common.{◌≡◌, length, take, arith}
 use Rattle.std.proofs.lemmas.List.{length-take}
 use Rattle.file_reader.proofs.PullLaws.{too_long}

@@ -1,3 +1,4 @@
+-- What the search leaves open of `decoder::LogDecoder+BoxedReceiver::hear_line`.
 use Rattle.log_decoder.proofs.StepLaws.{least_on}
 use Rattle.log_decoder.proofs.decoder.LogDecoder+BoxedReceiver.hear_line.Goals as goal
 

@@ -1,3 +1,4 @@
+-- What the search leaves open of `decoder::LogDecoder+BoxedReceiver::take`.
 use Rattle.std.proofs.Common.{◌++◌, ℕ, take, sym, ◌∙◌, subst}
 use Rattle.pulse_log.specs.Reading.{HasRead}
 use Rattle.pulse_log.specs.declared.reader.LineReader.{LineReader}

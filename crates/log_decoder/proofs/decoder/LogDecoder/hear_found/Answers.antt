@@ -1,3 +1,4 @@
+-- What the search leaves open of `decoder::LogDecoder::hear_found`.
 use Rattle.log_decoder.proofs.StepLaws.{least_on}
 use Rattle.log_decoder.proofs.decoder.LogDecoder.hear_found.Goals as goal
 

@@ -1,3 +1,4 @@
+-- What the search leaves open of `ending::page::finish_page`.
 use Rattle.std.proofs.Common.{ℕ, List, subst}
 use Rattle.radio_engine.specs.Endings.{status_of, status_line}
 use Rattle.radio_engine.specs.Text.{page_text}

@@ -1,3 +1,4 @@
+-- What the search leaves open of `ending::writing::write_all`.
 use Rattle.std.proofs.Common.{◌++◌, take, drop, ap, sym, ◌∙◌, append_assoc}
 use Rattle.std.proofs.lemmas.List.{take-append-drop}
 use Rattle.radio_engine.proofs.WritingLaws.{writes_more}

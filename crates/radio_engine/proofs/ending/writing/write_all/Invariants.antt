@@ -1,3 +1,4 @@
+-- What stays true in the loops of `ending::writing::write_all`.
 use Rattle.std.proofs.Common.{◌≡◌, ℕ, List, ◌++◌, length}
 use Rattle.radio_engine.specs.Writing.{WritesAll}
 use Rattle.radio_engine.proofs.ending.writing.write_all.Given as goal

@@ -1,3 +1,4 @@
+-- What the search leaves open of `replay::replayer::play_piece`.
 use Rattle.std.proofs.Common.{rules, ℕ, List, length, refl, None, ap, arith}
 use Rattle.std.proofs.lemmas.List.{length-drop}
 use Rattle.radio_engine.specs.Taking.{given, bad_of}

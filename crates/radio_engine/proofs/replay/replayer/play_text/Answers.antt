@@ -1,3 +1,4 @@
+-- What the search leaves open of `replay::replayer::play_text`.
 use Rattle.std.proofs.Common.{◌≡◌, ℕ, List, length, false, ap, sym, ◌∙◌, subst, arith}
 use Rattle.std.proofs.lemmas.List.{length-take}
 use Rattle.script_line.specs.declared.line.ScriptLine.{ScriptLine}

@@ -1,3 +1,4 @@
+-- What the search leaves open of `replay::replayer::read_script`.
 use Rattle.std.proofs.Common.{◌^◌, ℕ, List, [], ◌++◌, length, refl, sym, ap, ◌∙◌, subst, arith}
 use Rattle.feed_link.proofs.ToldLaws.{Adds-none}
 use Rattle.file_reader.specs.Ends.{HasReadFront, EndsReading}

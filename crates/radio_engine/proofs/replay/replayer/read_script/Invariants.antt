@@ -1,3 +1,4 @@
+-- What stays true in the loops of `replay::replayer::read_script`.
 use Rattle.std.proofs.Common.{◌≡◌, ◌+◌, ◌≤◌, ◌^◌, ℕ, List, None, []}
 use Rattle.file_reader.specs.Reader.{HasPulled, limit_of, room_of}
 use Rattle.script_player.specs.KeptPlayer.{IsReady}

@@ -1,3 +1,4 @@
+-- What the search leaves open of `station_file::obstacle::end_two`.
 use Rattle.radio_engine.specs.declared.ending.status.Status.TheVariants.{Station}
 use Rattle.radio_engine.proofs.WritingLaws.{answers_more, answers_front}
 use Rattle.radio_engine.proofs.station_file.obstacle.end_two.Goals as goal

@@ -1,3 +1,4 @@
+-- What the search leaves open of `station_file::obstacle::end_with_many`.
 use Rattle.std.proofs.Common.{◌≡◌, ℕ, List, ◌++◌, subst}
 use Rattle.std.specs.Prelude.{codes, decimal}
 use Rattle.radio_engine.specs.Writing.{Answers}

@@ -8,5 +8,5 @@ invariant_of-result c =
     let settings = c.add_servers.new.settings in
     let p = sources_are c.new-settings.result.sources c.add_radios.new.settings.sources settings.sources c.as_slice.result.now c.args.parts.radios.items c.as_slice-2.result.now c.args.parts.servers.items
     (ap (λ s. s.sources) c.new-settings.ensures) (ap (λ s. s.sources) c.add_radios.ensures) c.as_slice.ensures.value (ap (λ s. s.sources) c.add_servers.ensures) c.as_slice-2.ensures.value in
-    let holdover = ap (λ s. s.holdover) c.add_servers.ensures ∙ ap (λ s. s.holdover) c.add_radios.ensures ∙ ap (λ s. s.holdover) c.new-settings.ensures in
-    record { same = λ i. record { holdover = holdover i; sources = p i }; bounds = c.requires }
+    let bound = ap (λ s. s.bound) c.add_servers.ensures ∙ ap (λ s. s.bound) c.add_radios.ensures ∙ ap (λ s. s.bound) c.new-settings.ensures in
+    record { same = λ i. record { bound = bound i; sources = p i }; bounds = c.requires }

@@ -13,10 +13,10 @@ invariant_of-result c =
     record {
       settings = c.args.settings.now;
       journal = [];
-      stands = stands-nil _ c.args.settings.now c.requires (subst (λ (xs : List SourceKind). length xs ≤ 16) c.sources.ensures.value c.sources.ensures.few) c.holdover.ensures blanks c.new.ensures refl;
+      stands = stands-nil _ c.args.settings.now c.requires (subst (λ (xs : List SourceKind). length xs ≤ 16) c.sources.ensures.value c.sources.ensures.few) c.bound.ensures blanks c.new.ensures refl;
       sources = blank-fit _ _ _ c.args.settings.now.sources _ blanks c.new-2.ensures;
       candidates = none-standing _ _ _ c.new-2.ensures c.new-3.ensures;
     }
 
 pub returns : goal.returns
-returns c = stands-nil _ c.args.settings.now c.requires (subst (λ (xs : List SourceKind). length xs ≤ 16) c.sources.ensures.value c.sources.ensures.few) c.holdover.ensures (c.blank_feeds.ensures ∙ ap (map blank) c.sources.ensures.value) c.new.ensures refl
+returns c = stands-nil _ c.args.settings.now c.requires (subst (λ (xs : List SourceKind). length xs ≤ 16) c.sources.ensures.value c.sources.ensures.few) c.bound.ensures (c.blank_feeds.ensures ∙ ap (map blank) c.sources.ensures.value) c.new.ensures refl

@@ -1,3 +1,4 @@
+-- What the search leaves open of `replay::replayer::Replayer+BoxedReceiver::at_end`.
 use Rattle.radio_engine.proofs.PlayingLaws.{tail_bad, no_tail}
 use Rattle.radio_engine.proofs.replay.replayer.Replayer+BoxedReceiver.at_end.Goals as goal
 

@@ -1,3 +1,4 @@
+-- What the search leaves open of `replay::replayer::Replayer+BoxedReceiver::take`.
 use Rattle.radio_engine.proofs.PlayingLaws.{took_more, took_line, took_long}
 use Rattle.radio_engine.proofs.replay.replayer.Replayer+BoxedReceiver.take.Goals as goal
 
