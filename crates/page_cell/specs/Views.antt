@@ -12,7 +12,7 @@ abbrev pub no_entry : Entry
 no_entry = record { feed = 0; at = 0; what = Notice 0 }
 
 abbrev pub no_settings : SettingsFields
-no_settings = record { holdover = 0; sources = [] }
+no_settings = record { bound = 0; sources = [] }
 
 -- a reader that did nothing
 abbrev pub still : Watch

@@ -109,7 +109,7 @@ impl Writer {
 pub fn of_one_radio(feeds: u32) -> Settings
     ensures { AreLawful result }
 {
-    let mut settings = Settings::new(600_000_000);
+    let mut settings = Settings::new(1000);
     settings.add(SourceKind::Radio(Plan::Dcf));
     for number in 1..feeds {
         if settings.count() == number && number < 16 {
