@@ -109,31 +109,27 @@ int main(int argc, char **argv) {
 C
 gcc -O2 -o "$work/echo" "$work/echo.c"
 cat > "$work/client.py" <<'PYTHON'
-"""Asks so many times, each time until it is answered."""
+"""Asks again and again, each time until it is answered or a fifth of a second has passed."""
 import socket, sys
-port, count = int(sys.argv[1]), int(sys.argv[2])
 s = socket.socket(socket.AF_INET, socket.SOCK_DGRAM)
-s.settimeout(0.5)
+s.settimeout(0.2)
 request = bytes.fromhex('230006ec' + '00' * 36 + '1122334455667788')
-answered = tries = 0
-while answered < count and tries < count + 200:
-    tries += 1
-    s.sendto(request, ('127.0.0.1', port))
+while True:
     try:
+        s.sendto(request, ('127.0.0.1', int(sys.argv[1])))
         s.recv(1024)
-        answered += 1
     except OSError:
         pass
 PYTHON
 (cd "$work/crates/turn_loop" && rt check > "$work/check.log" 2>&1 && rt run -- 0 0 > "$work/run.log" 2>&1) || { tail -5 "$work/check.log" "$work/run.log"; exit 1; }
 port=$(python3 -c 'import socket; s = socket.socket(socket.AF_INET, socket.SOCK_DGRAM); s.bind(("127.0.0.1", 0)); print(s.getsockname()[1])')
+python3 "$work/client.py" "$port" &
+client=$!
+trap 'kill "$client"; rm -rf "$work"' EXIT
+
 # The user instructions of a program that serves so many datagrams.
 instructions() {
-    valgrind --tool=callgrind --callgrind-out-file="$work/cg" "$1" "$port" "$2" > "$work/out" 2> "$work/err" &
-    server=$!
-    sleep 3
-    python3 "$work/client.py" "$port" "$2"
-    wait "$server"
+    valgrind --tool=callgrind --callgrind-out-file="$work/cg" "$1" "$port" "$2" > "$work/out" 2> "$work/err"
     [ "$(cat "$work/out")" = "$2" ] || { echo "answered $(cat "$work/out") of $2" >&2; exit 1; }
     sed -n 's/^summary: //p; s/^totals: //p' "$work/cg" | head -1
 }
