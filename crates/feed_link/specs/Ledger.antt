@@ -1,28 +1,33 @@
 -- The openings that the rows of an outside in memory stand for: scaffolding, which no public clause needs.
-use Rattle.std.specs.Prelude.{◌≡◌, ℕ, ◌+◌, ◌≤◌, Option, None, Some, Bool, List, [], ◌∷◌, ◌++◌, length, take, drop, map, if◌then◌else◌}
+use Rattle.std.specs.Prelude.{◌≡◌, ℕ, ◌+◌, ◌≤◌, Option, None, Some, IfSome, Bool, List, [], ◌∷◌, ◌++◌, length, take, drop, map, if◌then◌else◌}
 use Rattle.std.specs.Option.{option_map}
 use Rattle.std.specs.List.{sum_by}
 use Rattle.feed_link.specs.Told.{Adds}
-use Rattle.feed_link.specs.Openings.{State, Opening, Room, HasRoom, with_back}
-use Rattle.feed_link.specs.Openings.Wanted.{LogOf}
-use Rattle.feed_link.specs.Openings.State.{OfLog}
+use Rattle.feed_link.specs.Openings.{Wanted, State, Opening, Room, HasRoom, with_back}
+use Rattle.feed_link.specs.Openings.Wanted.{LogOf, LinkAt}
+use Rattle.feed_link.specs.Openings.State.{OfLog, OfLink}
 use Rattle.feed_link.specs.Memory.{source_state}
-use Rattle.feed_link.specs.declared.memory_source.MemorySource.{MemorySource}
-use Rattle.feed_link.specs.declared.ledger.Told.{Told}
+use Rattle.feed_link.specs.MemoryLink.{link_state}
+use Rattle.feed_link.specs.declared.ledger.Port.{Port}
+use Rattle.feed_link.specs.declared.ledger.Seen.{Seen}
+use Rattle.feed_link.specs.declared.ledger.Seen.TheVariants.{Log, Link}
 use Rattle.feed_link.specs.declared.ledger.Row.{Row}
 
-abbrev pub told_state : Told → State
-told_state told = OfLog (record { left = Some told.text.items; faults = told.faults })
+abbrev pub state_of : Seen → State
+state_of (Log seen) = OfLog (source_state seen.value)
+state_of (Link seen) = OfLink (link_state seen.value)
 
-abbrev pub back_state : MemorySource → State
-back_state log = OfLog (source_state log)
+-- a link by its port, or a log by its name
+abbrev pub wanted_by : List ℕ → Option Port → Wanted
+wanted_by name None = LogOf name
+wanted_by name (Some port) = LinkAt port.port port.start
 
 -- a row's name stands among the names
 abbrev pub opening_of : List ℕ → Row → Opening
 opening_of names row = record {
-  what = LogOf (take row.name_len (drop row.name_at names));
-  opened = option_map told_state row.opened;
-  back = option_map back_state row.back;
+  what = wanted_by (take row.name_len (drop row.name_at names)) row.port;
+  opened = option_map state_of row.opened;
+  back = option_map state_of row.back;
 }
 
 abbrev pub openings_told : Bool → List ℕ → List Row → Option (List Opening)
@@ -33,10 +38,10 @@ pub record Book : Type 0 where
   pub openings : Option (List Opening)
   pub room : Room
 
--- each row's name stands among the names
+-- each row's name stands among the names; a link has none
 abbrev pub HasNames : List ℕ → List Row → Type 0
 HasNames names [] = Unit {0}
-HasNames names (row ∷ rows) = (row.name_at + row.name_len ≤ length names) × HasNames names rows
+HasNames names (row ∷ rows) = (row.name_at + row.name_len ≤ length names) × IfSome row.port (λ _. row.name_len ≡ 0) × HasNames names rows
 
 -- the rows' names stand among the names, which are no longer than they are together
 pub record AreRows (names : List ℕ) (rows : List Row) : Type 0 where

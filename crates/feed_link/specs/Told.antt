@@ -14,17 +14,19 @@ pub record SinkState : Type 0 where
   pub faults : ℕ
 
 -- what befell a link: a datagram came, with its sender, its moment and its bytes; nothing came for a while; nothing will come
--- any more; it told a moment; a datagram was sent, with its receiver and its bytes. Moments are in microseconds.
-pub data LinkEvent : Type 0 where
-  Datagram : Address → ℕ → List ℕ → LinkEvent
-  Quiet : LinkEvent
-  End : LinkEvent
-  Moment : ℕ → LinkEvent
-  Sent : Address → List ℕ → LinkEvent
+-- any more; it told a moment; a datagram went out, with its receiver and its bytes. Moments are in microseconds.
+pub data NetEvent : Type 0 where
+  Came : Address → ℕ → List ℕ → NetEvent
+  Silent : NetEvent
+  Ended : NetEvent
+  Timed : ℕ → NetEvent
+  Went : Address → List ℕ → NetEvent
 
--- a link at one moment: its events so far, where they are known, and its count of faults
+-- a link at one moment: its events so far, where they are known; the last moment or arrival, below which no later one lies; and
+-- its count of faults
 pub record LinkState : Type 0 where
-  pub events : Option (List LinkEvent)
+  pub events : Option (List NetEvent)
+  pub latest : ℕ
   pub faults : ℕ
 
 -- the bytes left were these bytes and those left now

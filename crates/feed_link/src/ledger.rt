@@ -1,29 +1,38 @@
 // The openings that an outside in memory has noted, until its room is used up.
-ghost use Rattle.std.specs.Prelude.{◌≡◌, ◌⊎◌, ◌+◌, ◌≤◌, ◌<◌, Some, None, [], ◌∷◌, ◌++◌, length, vec_len, vec_capacity, slice_get, slice_set, IfOk};
+ghost use Rattle.std.specs.Prelude.{◌≡◌, ◌⊎◌, ◌+◌, ◌≤◌, ◌<◌, Some, None, [], ◌∷◌, ◌++◌, length, vec_len, vec_capacity, slice_get, slice_set, IfOk, IfSome};
 ghost use Rattle.std.specs.Bool.{OnTrue, OnFalse};
 ghost use Rattle.feed_link.specs.declared.ledger.Row.{Row};
 ghost use Rattle.std.specs.Option.{option_map};
 ghost use Rattle.feed_link.specs.Openings.{IsNext, IsOut};
-ghost use Rattle.feed_link.specs.Ledger.{Notes, PutsBack};
+ghost use Rattle.feed_link.specs.Ledger.{Notes, PutsBack, state_of, wanted_by};
 
-use crate::MemorySource;
+use crate::{MemoryLink, MemorySource};
 use std::alloc::{AllocError, Global};
 use std::marker::Model;
+use std::snapshot::Snapshot;
 
-// What a log told when it was opened.
+// What a log or a link tells at one moment. It has no bytes: contracts alone read it.
 #[derive(Drop)]
-pub struct Told {
-    pub text: Vec<u8>,
-    pub faults: u64,
+pub enum Seen {
+    Log(Snapshot<MemorySource>),
+    Link(Snapshot<MemoryLink>),
 }
 
-// One opening: where its name stands, what the log told, and the log once it is back.
+// A link's port and the moment at which it starts.
+#[derive(Clone, Copy)]
+pub struct Port {
+    pub port: u16,
+    pub start: u64,
+}
+
+// One opening: a link's port, or where a log's name stands; and what the object told when it was opened, and when it was back.
 #[derive(Drop)]
 pub struct Row {
+    pub port: Option<Port>,
     pub name_at: usize,
     pub name_len: usize,
-    pub opened: Option<Told>,
-    pub back: Option<MemorySource>,
+    pub opened: Option<Seen>,
+    pub back: Option<Seen>,
 }
 
 // How many openings are told, and how many bytes of their names.
@@ -54,8 +63,7 @@ impl Model for Ledger {
 }
 
 impl Ledger {
-    ghost use Rattle.feed_link.specs.Ledger.{told_state, back_state};
-    ghost use Rattle.feed_link.specs.Openings.Wanted.{LogOf};
+    ghost use Rattle.feed_link.specs.Openings.Wanted.{LogOf, LinkAt};
 
     /// An empty list with this room, which is taken here.
     pub fn new(alloc: Global, room: Room) -> Result<Ledger, AllocError>
@@ -76,24 +84,39 @@ impl Ledger {
         self.rows.len() as u64
     }
 
-    /// Notes an opening.
-    pub fn note(&mut self, name: &str, opened: Option<Told>)
-        ensures { Notes self.old self.new (record { what = LogOf name.now; opened = option_map told_state opened; back = None }) }
+    /// Notes the opening of a log.
+    pub fn note_log(&mut self, name: &str, opened: Option<Seen>)
+        ensures { Notes self.old self.new (record { what = LogOf name.now; opened = option_map state_of opened; back = None }) }
+    {
+        self.note(name, None, opened);
+    }
+
+    /// Notes the opening of a link.
+    pub fn note_link(&mut self, port: u16, start: u64, opened: Option<Seen>)
+        ensures { Notes self.old self.new (record { what = LinkAt port start; opened = option_map state_of opened; back = None }) }
+    {
+        self.note("", Some(Port { port, start }), opened);
+    }
+
+    // Notes an opening.
+    fn note(&mut self, name: &str, port: Option<Port>, opened: Option<Seen>)
+        requires { IfSome port (λ _. length name.now ≡ 0) }
+        ensures { Notes self.old self.new (record { what = wanted_by name.now port; opened = option_map state_of opened; back = None }) }
     {
         let room = self.room;
-        if !note_row(&mut self.names, &mut self.rows, room, name, opened) {
+        if !note_row(&mut self.names, &mut self.rows, room, name, port, opened) {
             self.tells = false;
         }
     }
 
-    /// Notes that the log of this opening is back.
-    pub fn put_back(&mut self, number: u64, log: MemorySource)
+    /// Notes that the object of this opening is back.
+    pub fn put_back(&mut self, number: u64, seen: Seen)
         requires { IsOut self.old.openings number }
-        ensures { PutsBack self.old self.new number (back_state log) }
+        ensures { PutsBack self.old self.new number (state_of seen) }
     {
         let place = number as usize;
         if place < self.rows.len() {
-            set_back(&mut self.rows, place, log);
+            set_back(&mut self.rows, place, seen);
         }
     }
 }
@@ -115,12 +138,13 @@ fn note_row(
     rows: &mut Vec<Row>,
     room: Room,
     name: &str,
-    opened: Option<Told>,
+    port: Option<Port>,
+    opened: Option<Seen>,
 ) -> bool
     requires names { room.names ≤ vec_capacity names.old }
     requires rows { room.openings ≤ vec_capacity rows.old }
     ensures names { OnTrue result (names.new.items ≡ names.old.items ++ name.now) }
-    ensures rows { OnTrue result (rows.new.items ≡ rows.old.items ++ record { name_at = length names.old.items; name_len = length name.now; opened = opened; back = None } ∷ []) }
+    ensures rows { OnTrue result (rows.new.items ≡ rows.old.items ++ record { port = port; name_at = length names.old.items; name_len = length name.now; opened = opened; back = None } ∷ []) }
     ensures names_kept { OnFalse result (names.new.items ≡ names.old.items) }
     ensures rows_kept { OnFalse result (rows.new.items ≡ rows.old.items) }
     ensures full { OnFalse result ((room.names < length names.old.items + length name.now) ⊎ (room.openings ≤ length rows.old.items)) }
@@ -131,6 +155,7 @@ fn note_row(
         return false;
     }
     let row = Row {
+        port,
         name_at: names.len(),
         name_len: name.len(),
         opened,
@@ -141,12 +166,12 @@ fn note_row(
     true
 }
 
-// Puts a log that is back into its row.
-fn set_back(rows: &mut Vec<Row>, place: usize, log: MemorySource)
+// Notes in its row what an object tells that is back.
+fn set_back(rows: &mut Vec<Row>, place: usize, seen: Seen)
     requires { place < vec_len rows.old }
-    ensures row { (row : Row) × (slice_get rows.old.items place ≡ Some row) × (rows.new.items ≡ slice_set rows.old.items place (record row { back = Some log })) }
+    ensures row { (row : Row) × (slice_get rows.old.items place ≡ Some row) × (rows.new.items ≡ slice_set rows.old.items place (record row { back = Some seen })) }
     ensures capacity { vec_capacity rows.old ≤ vec_capacity rows.new }
 {
     let row = &mut rows[place];
-    row.back = Some(log);
+    row.back = Some(seen);
 }

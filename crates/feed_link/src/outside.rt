@@ -1,10 +1,13 @@
 // The traits of what a station meets outside.
-ghost use Rattle.std.specs.Prelude.{◌≡◌, ℕ, ◌<◌, ◌≤◌, ◌∷◌, [], length, IfOk, MatchResult};
+ghost use Rattle.std.specs.Prelude.{◌≡◌, ℕ, ◌<◌, ◌≤◌, ◌∷◌, [], Bool, true, false, length, IfOk, MatchResult};
 ghost use Rattle.feed_link.specs.Faults.{HasCause};
 ghost use Rattle.feed_link.specs.Told.{SourceState, SinkState, Reads, Writes};
 ghost use Rattle.feed_link.specs.Openings.{OutsideState, GrowsBy, IsNext, IsOut, GivesBack, answered, failed};
-ghost use Rattle.feed_link.specs.Openings.Wanted.{LogOf};
-ghost use Rattle.feed_link.specs.Openings.State.{OfLog};
+ghost use Rattle.feed_link.specs.Openings.Wanted.{LogOf, LinkAt};
+ghost use Rattle.feed_link.specs.Openings.State.{OfLog, OfLink};
+
+use crate::{Gate, Link};
+use tick_units::Local;
 
 /// A call of the outside failed. The count of faults of the object that was called has risen.
 #[derive(Clone, Copy, Debug, PartialEq, Eq)]
@@ -50,8 +53,15 @@ pub trait Sink {
 pub trait Outside {
     type Log: Source + Drop;
 
+    type Net: Link + Drop;
+
+    type Turns: Gate + Drop;
+
     /// What it tells: its openings in order, its room for them, and how often it has failed.
     ghost state: { Self → OutsideState };
+
+    /// Whether its gate is out.
+    ghost gate_out: { Self → Bool };
 
     /// Opens the log of this name.
     fn open_log(&mut self, name: &str) -> Result<Self::Log, Failed>
@@ -59,10 +69,39 @@ pub trait Outside {
             (λ log. GrowsBy (state self.old) (state self.new) (answered (LogOf name.now) (OfLog (Self.Log.state log)) ∷ []))
             (λ _. GrowsBy (state self.old) (state self.new) (failed (LogOf name.now) ∷ [])) }
         ensures number { IfOk result (λ log. IsNext (state self.old).openings (Self.Log.opening log)) }
-        ensures cause { HasCause (state self.old).faults (state self.new).faults result };
+        ensures cause { HasCause (state self.old).faults (state self.new).faults result }
+        ensures gate { gate_out self.new ≡ gate_out self.old };
+
+    /// Opens a link on this port, or on any free one where it is 0. Its moments count from `start` on.
+    fn open_link(&mut self, port: u16, start: Local) -> Result<Self::Net, Failed>
+        ensures opened { MatchResult result
+            (λ net. GrowsBy (state self.old) (state self.new) (answered (LinkAt port start) (OfLink (Self.Net.state net)) ∷ []))
+            (λ _. GrowsBy (state self.old) (state self.new) (failed (LinkAt port start) ∷ [])) }
+        ensures number { IfOk result (λ net. IsNext (state self.old).openings (Self.Net.opening net)) }
+        ensures cause { HasCause (state self.old).faults (state self.new).faults result }
+        ensures gate { gate_out self.new ≡ gate_out self.old };
+
+    /// Hands out its gate.
+    fn gate(&mut self) -> Self::Turns
+        requires { gate_out self.old ≡ false }
+        ensures same { state self.new ≡ state self.old }
+        ensures gate { gate_out self.new ≡ true };
+
+    /// Takes its gate back.
+    fn give_back_gate(&mut self, gate: Self::Turns)
+        requires { gate_out self.old ≡ true }
+        ensures same { state self.new ≡ state self.old }
+        ensures gate { gate_out self.new ≡ false };
 
     /// Takes back a log that it opened.
     fn give_back_log(&mut self, log: Self::Log)
         requires { IsOut (state self.old).openings (Self.Log.opening log) }
-        ensures { GivesBack (state self.old) (state self.new) (Self.Log.opening log) (OfLog (Self.Log.state log)) };
+        ensures back { GivesBack (state self.old) (state self.new) (Self.Log.opening log) (OfLog (Self.Log.state log)) }
+        ensures gate { gate_out self.new ≡ gate_out self.old };
+
+    /// Takes back a link that it opened.
+    fn give_back_link(&mut self, net: Self::Net)
+        requires { IsOut (state self.old).openings (Self.Net.opening net) }
+        ensures back { GivesBack (state self.old) (state self.new) (Self.Net.opening net) (OfLink (Self.Net.state net)) }
+        ensures gate { gate_out self.new ≡ gate_out self.old };
 }

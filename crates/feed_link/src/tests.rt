@@ -52,17 +52,26 @@ fn a_sink_in_memory_fails_at_its_calls_and_adds_nothing(rt: HostRuntime) -> Resu
 }
 
 // Two logs in memory, of which the opening of this number fails.
-fn two_logs(alloc: Global, failing: u64) -> Result<MemoryOutside, Fail> {
+fn two_logs(alloc: Global, failing: u64) -> Result<MemoryOutside<OpenGate>, Fail> {
     let mut logs = Vec::new(alloc);
     for (name, text) in [("a", "1"), ("b", "2")] {
         let log = MemorySource::new(Vec::from_slice(alloc, text.as_bytes())?, Vec::new(alloc));
         logs.push(NamedLog::new(String::from_str(alloc, name)?, log))?;
     }
-    Ok(MemoryOutside::new(alloc, logs, vec![in alloc; failing]?, 4, 8)?)
+    Ok(outside_of(alloc, logs, vec![in alloc; failing]?)?)
+}
+
+// An outside with these logs and no links, whose openings of these numbers fail.
+fn outside_of(
+    alloc: Global,
+    logs: Vec<NamedLog>,
+    fails: Vec<u64>,
+) -> Result<MemoryOutside<OpenGate>, FakeOpen> {
+    MemoryOutside::new(alloc, logs, Vec::new(alloc), OpenGate::new(), fails, 8, 8)
 }
 
 // Opens a log, reads from it and gives it back.
-fn first_byte(outside: &mut MemoryOutside, name: &str) -> Result<u8, Failed> {
+fn first_byte(outside: &mut MemoryOutside<OpenGate>, name: &str) -> Result<u8, Failed> {
     let mut log = outside.open_log(name)?;
     let (count, piece) = read_three(&mut log);
     outside.give_back_log(log);
@@ -93,7 +102,7 @@ fn the_first_log_of_a_name_is_opened_first(rt: HostRuntime) -> Result<(), Fail> 
         let log = MemorySource::new(text, Vec::new(rt.alloc()));
         logs.push(NamedLog::new(String::from_str(rt.alloc(), name)?, log))?;
     }
-    let mut outside = MemoryOutside::new(rt.alloc(), logs, Vec::new(rt.alloc()), 8, 8)?;
+    let mut outside = outside_of(rt.alloc(), logs, Vec::new(rt.alloc()))?;
     for want in [Ok(b'1'), Ok(b'2'), Ok(b'4'), Err(Failed)] {
         assert_eq!(rt; first_byte(&mut outside, "a"), want);
     }

@@ -1,4 +1,5 @@
 -- Lemmas that several proofs of this crate use.
 pub mod DueLaws
+pub mod LawfulLaws
 pub mod RiseLaws
 pub mod StepLaws

@@ -3,6 +3,7 @@ use Rattle.std.specs.Prelude.{◌≡◌, ◌≤◌, ℕ, Option, None, Some, Lis
 use Rattle.std.specs.Option.{option_to_list}
 use Rattle.tick_units.specs.Log.{pulses, bad_line}
 use Rattle.tick_units.specs.declared.marks.Plan.{Plan}
+use Rattle.journal_entry.specs.Lawful.{IsLawfulWhat}
 use Rattle.journal_entry.specs.declared.entry.Entry.{Entry}
 use Rattle.pulse_log.specs.Reading.{HasRead}
 use Rattle.pulse_log.specs.declared.reader.BadLine.{BadLine}
@@ -13,6 +14,15 @@ use Rattle.log_decoder.specs.declared.decoder.LogDecoder.{LogDecoder}
 -- a receiver with this plan and this delay has heard the reductions of these bytes
 abbrev pub history_of : Plan → ℕ → List ℕ → History
 history_of plan delay bytes = record { plan = plan; delay = delay; reductions = pulses bytes }
+
+-- the feed whose log it decodes
+abbrev pub feed_of : {B : Type 0} → LogDecoder B → ℕ
+feed_of decoder = decoder.feed
+
+-- an entry of a feed, as receivers make them
+pub record IsEntryOf (feed : ℕ) (entry : Entry) : Type 0 where
+  pub of_feed : entry.feed ≡ feed
+  pub lawful : IsLawfulWhat entry.what
 
 -- the decoder of a feed has taken these bytes: its reader has read them, and its receiver has heard their reductions
 pub record HasDecoded {B : Type 0} (stands : B → History → Type 0) (decoder : LogDecoder B) (feed : ℕ) (plan : Plan) (delay : ℕ) (bytes : List ℕ) : Type 0 where

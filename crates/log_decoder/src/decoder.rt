@@ -1,20 +1,18 @@
 // A reader of lines, and the receiver behind it.
-ghost use Rattle.std.specs.Prelude.{◌≡◌, ◌+◌, ◌++◌, ◌<◌, ◌≤◌, ℕ, List, [], length, map, take, None, Some, MatchResult};
+ghost use Rattle.std.specs.Prelude.{◌≡◌, ◌+◌, ◌++◌, ◌<◌, ◌≤◌, ℕ, List, [], length, map, take, None, Some, IfOk, IfSome, MatchResult};
 ghost use Rattle.std.specs.Option.{option_to_list};
 ghost use Rattle.tick_units.specs.Log.{bad_at_end, pulses};
 ghost use Rattle.tick_units.specs.declared.marks.Plan.{Plan};
+ghost use Rattle.minute_pair.specs.Years.{BelievesYears};
 ghost use Rattle.radio_receiver.specs.Histories.{History, answers_of, least_after, with_reduction};
 ghost use Rattle.log_decoder.specs.Due.{entry_of};
-ghost use Rattle.log_decoder.specs.Decoding.{HasDecoded, IsReady, DecodesFront, history_of};
+ghost use Rattle.log_decoder.specs.Decoding.{HasDecoded, IsReady, IsEntryOf, DecodesFront, feed_of, history_of};
 ghost use Rattle.log_decoder.specs.Steps.{IsFound, MayHear, HearsLine};
 
 use journal_entry::{Entry, What};
 use pulse_log::{BadLine, LineReader};
-use radio_receiver::Receiver;
+use radio_receiver::{BoxedReceiver, Receiver};
 use tick_units::{Heard, Reduction};
-
-/// A receiver of any plan, which can be sent to another thread.
-pub type BoxedReceiver = Box<dyn Receiver + Send>;
 
 /// What a decoder took of some bytes, and what that came to.
 #[derive(Clone, Copy, Debug, PartialEq, Eq)]
@@ -49,6 +47,7 @@ impl LogDecoder<BoxedReceiver> {
     pub fn new(feed: u32, receiver: BoxedReceiver) -> LogDecoder<BoxedReceiver>
         requires { least_start receiver ≡ 0 }
         ensures ready { IsReady (λ b. least_start b) result }
+        ensures feed { feed_of result ≡ feed }
         ensures start { (plan : Plan) (delay : ℕ) → stands_for receiver (record { plan = plan; delay = delay; reductions = [] }) →
             HasDecoded (λ b h. stands_for b h) result feed plan delay [] }
     {
@@ -67,6 +66,8 @@ impl LogDecoder<BoxedReceiver> {
         ensures some { 0 < result.count }
         ensures within { result.count ≤ length bytes.now }
         ensures ready { IsReady (λ b. least_start b) self.new }
+        ensures feed { feed_of self.new ≡ feed_of self.old }
+        ensures lawful { IfOk result.found (λ found. IfSome found (IsEntryOf (feed_of self.old))) }
         ensures taken { (feed : ℕ) (plan : Plan) (delay : ℕ) (before : List ℕ) → HasDecoded (λ b h. stands_for b h) self.old feed plan delay before →
             DecodesFront (λ b h. stands_for b h) self.new feed plan delay before (take result.count bytes.now) result.found }
     {
@@ -102,6 +103,7 @@ impl LogDecoder<BoxedReceiver> {
             HearsLine (λ b h. stands_for b h) self.new.receiver self.old.feed plan delay before longer result }
         ensures least { (before longer : List ℕ) → IsFound before longer found → least_start self.old.receiver ≤ least_after (pulses before) →
             least_start self.new.receiver ≤ least_after (pulses longer) }
+        ensures lawful { IfOk result (λ entry. IfSome entry (IsEntryOf (feed_of self.old))) }
     {
         match found {
             Ok(None) => Ok(None),
@@ -111,6 +113,7 @@ impl LogDecoder<BoxedReceiver> {
     }
 
     // Hears the reduction of a line: the entry of the minute that it completes, if it completes one.
+    #[tactic(auto, using(crate::proofs::LawfulLaws::lawful_kind))]
     fn hear(&mut self, reduction: Reduction) -> Option<Entry>
         requires { least_start self.old.receiver ≤ reduction.at }
         ensures reader { self.new.reader ≡ self.old.reader }
@@ -119,6 +122,7 @@ impl LogDecoder<BoxedReceiver> {
         ensures answered { (h : History) → stands_for self.old.receiver h →
             map (entry_of self.old.feed) (answers_of (with_reduction h reduction)) ≡ map (entry_of self.old.feed) (answers_of h) ++ option_to_list result }
         ensures least { least_start self.new.receiver ≡ reduction.at + 1 }
+        ensures lawful { IfSome result (IsEntryOf (feed_of self.old)) }
     {
         let heard = hear_with(&mut self.receiver, reduction)?;
         Some(entry_of(self.feed, heard))
@@ -131,6 +135,7 @@ fn hear_with(receiver: &mut BoxedReceiver, reduction: Reduction) -> Option<Heard
     ensures heard { (h : History) → stands_for receiver.old h → stands_for receiver.new (with_reduction h reduction) }
     ensures answered { (h : History) → stands_for receiver.old h → answers_of (with_reduction h reduction) ≡ answers_of h ++ option_to_list result }
     ensures least { least_start receiver.new ≡ reduction.at + 1 }
+    ensures years { IfSome result (λ heard. BelievesYears heard.kind) }
 {
     receiver.hear(reduction)
 }

@@ -4,7 +4,7 @@
 mod decoder;
 mod direct;
 
-pub use decoder::{BoxedReceiver, LogDecoder, Step};
+pub use decoder::{LogDecoder, Step};
 
 #[cfg(test)]
 mod tests;

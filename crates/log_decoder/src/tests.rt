@@ -6,7 +6,7 @@ ghost use Rattle.log_decoder.specs.Decoding.{IsReady};
 use super::*;
 use journal_entry::{Entry, write_entry};
 use pulse_log::BadLine;
-use radio_receiver::{DcfReceiver, Receiver};
+use radio_receiver::{BoxedReceiver, DcfReceiver, Receiver};
 use std::alloc::Global;
 use std::test::Fail;
 

@@ -1,8 +1,8 @@
 //! Tests of `replay` over the fakes: worked scripts, and each fault on their way.
 
 use crate::Status;
-use crate::tests::run_over;
-use feed_link::{FakeOpen, MemoryOutside, MemorySink, MemorySource, NamedLog};
+use crate::tests::{outside_of, run_over};
+use feed_link::{FakeOpen, MemorySink, MemorySource, NamedLog};
 use std::alloc::{AllocError, Global};
 use std::process::Abort;
 use std::test::Fail;
@@ -103,7 +103,7 @@ pub fn run(
     let mut logs = Vec::new(alloc);
     logs.push(named(alloc, "s", station, failing.station)?)?;
     logs.push(named(alloc, "p", script.as_bytes(), failing.script)?)?;
-    let mut outside = MemoryOutside::new(alloc, logs, vec![in alloc; failing.open]?, 4, 100)?;
+    let mut outside = outside_of(alloc, logs, failing.open)?;
     let mut out = MemorySink::new(alloc, vec![in alloc; failing.write]?);
     let status = run_over(alloc, words, &mut outside, &mut out)?;
     Ok((out.into_bytes(), status))

@@ -1,7 +1,7 @@
 //! Tests of `decode` over the fakes, and of words that are refused; the other tests take what they share from here.
 
 use super::*;
-use feed_link::{MemoryOutside, MemorySink, MemorySource, NamedLog};
+use feed_link::{FakeOpen, MemoryOutside, MemorySink, MemorySource, NamedLog, OpenGate};
 use radio_receiver::{DcfReceiver, MsfReceiver, WwvbReceiver};
 use script_player::BoxedReceiver;
 use std::alloc::{AllocError, Global};
@@ -129,6 +129,16 @@ struct Failing {
 
 const NONE: Failing = Failing { read: 0, open: 0 };
 
+// An outside with these logs and no links, whose opening of this number fails.
+pub fn outside_of(
+    alloc: Global,
+    logs: Vec<NamedLog>,
+    failing: u64,
+) -> Result<MemoryOutside<OpenGate>, FakeOpen> {
+    let fails = vec![in alloc; failing]?;
+    MemoryOutside::new(alloc, logs, Vec::new(alloc), OpenGate::new(), fails, 4, 100)
+}
+
 // What the words write over a log of this text under the name "log", and their status.
 fn run(
     alloc: Global,
@@ -142,7 +152,7 @@ fn run(
     );
     let mut logs = Vec::new(alloc);
     logs.push(NamedLog::new(String::from_str(alloc, "log")?, source))?;
-    let mut outside = MemoryOutside::new(alloc, logs, vec![in alloc; failing.open]?, 4, 100)?;
+    let mut outside = outside_of(alloc, logs, failing.open)?;
     let mut out = MemorySink::new(alloc, Vec::new(alloc));
     let status = run_over(alloc, words, &mut outside, &mut out)?;
     Ok((out.into_bytes(), status))
@@ -152,7 +162,7 @@ fn run(
 pub fn run_over(
     alloc: Global,
     words: &[&str],
-    outside: &mut MemoryOutside,
+    outside: &mut MemoryOutside<OpenGate>,
     out: &mut MemorySink,
 ) -> Result<Status, AllocError> {
     let mut rack: Vec<BoxedReceiver> = Vec::new(alloc);

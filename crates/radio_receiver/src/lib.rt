@@ -5,7 +5,7 @@ mod chain;
 mod receiver;
 mod receivers;
 
-pub use receiver::Receiver;
+pub use receiver::{BoxedReceiver, Receiver};
 pub use receivers::{
     DcfPlan, DcfReceiver, MsfPlan, MsfReceiver, OfPlan, PlanReceiver, WwvbPlan, WwvbReceiver,
 };

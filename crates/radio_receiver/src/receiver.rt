@@ -43,3 +43,6 @@ pub trait Receiver: Drop {
         ensures nothing { (h : History) → stands_for self.now h → result ≡ is_blank h.reductions }
         ensures least { result ≡ (least_start self.now == 0) };
 }
+
+/// A receiver of any plan, which can be sent to another thread.
+pub type BoxedReceiver = Box<dyn Receiver + Send>;

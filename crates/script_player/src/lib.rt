@@ -11,13 +11,9 @@ mod server;
 mod servers;
 mod text;
 
-use radio_receiver::Receiver;
-
-/// A receiver that main or a test has made.
-pub type BoxedReceiver = Box<dyn Receiver + Send>;
-
 pub use outcome::{NotLawful, Outcome};
 pub use player::Player;
+pub use radio_receiver::BoxedReceiver;
 pub use text::write_outcome;
 
 #[cfg(test)]

@@ -14,6 +14,6 @@ returns g c = λ of h.
     inr (record {
       opened = was;
       back = is;
-      opens = opened_once _ _ _ (log_visit c.args.name.now was is) _ _ c.in-Ok.ensures.opened c.in-Ok.ensures.number c.in-Ok.ensures.cause.kept c.move_whole-status.ensures.number c.give_back_log.ensures;
+      opens = opened_once _ _ _ (log_visit c.args.name.now was is) _ _ c.in-Ok.ensures.opened c.in-Ok.ensures.number c.in-Ok.ensures.cause.kept c.move_whole-status.ensures.number c.give_back_log.ensures.back;
       runs = c.move_whole-status.ensures.runs of h;
     })

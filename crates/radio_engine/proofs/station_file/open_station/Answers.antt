@@ -13,6 +13,6 @@ returns g c =
     (record {
       opened = was;
       back = is;
-      opens = opened_once _ _ _ (log_visit c.args.name.now was is) _ _ c.in-Ok.ensures.opened c.in-Ok.ensures.number c.in-Ok.ensures.cause.kept c.read_whole-end.ensures.number c.give_back_log.ensures;
+      opens = opened_once _ _ _ (log_visit c.args.name.now was is) _ _ c.in-Ok.ensures.opened c.in-Ok.ensures.number c.in-Ok.ensures.cause.kept c.read_whole-end.ensures.number c.give_back_log.ensures.back;
       read = c.read_whole-end.ensures.ends;
     })

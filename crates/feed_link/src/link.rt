@@ -1,0 +1,64 @@
+// A link on which datagrams come and go, and the gate at which a test may hold a worker.
+ghost use Rattle.std.specs.Prelude.{◌≡◌, ℕ, MatchResult};
+ghost use Rattle.feed_link.specs.Faults.{HasCause};
+ghost use Rattle.feed_link.specs.Told.{LinkState};
+ghost use Rattle.feed_link.specs.Links.{Hears, IsDeaf, TellsMoment, Sends};
+
+use crate::{Address, Failed};
+use std::sync::Wait;
+use tick_units::Local;
+
+/// A datagram that came: from whom, how many bytes of it were heard, and when it came.
+#[derive(Drop)]
+pub struct Arrival {
+    pub from: Address,
+    /// At most 1024.
+    pub length: usize,
+    pub at: Local,
+}
+
+/// What a link heard.
+#[derive(Drop)]
+pub enum Hearing {
+    /// A datagram, whose bytes stand at the front of the piece.
+    Datagram(Arrival),
+    /// Nothing came for a while.
+    Quiet,
+    /// Nothing will come any more.
+    End,
+}
+
+/// Datagrams that come and go.
+pub trait Link: Send {
+    /// What it tells: its events in order, its last moment or arrival, and how often it has failed.
+    ghost state: { Self → LinkState };
+
+    /// The number of its opening at its outside.
+    ghost opening: { Self → ℕ };
+
+    /// Hears once. Of a longer datagram the first 1024 bytes are heard.
+    fn hear(&mut self, piece: &mut [u8; 1024]) -> Result<Hearing, Failed>
+        ensures heard { MatchResult result
+            (λ hearing. Hears (state self.old) (state self.new) hearing piece.new)
+            (λ _. IsDeaf (state self.old) (state self.new)) }
+        ensures cause { HasCause (state self.old).faults (state self.new).faults result }
+        ensures number { opening self.new ≡ opening self.old };
+
+    /// The moment now, which is never below an earlier moment or arrival.
+    fn moment(&mut self) -> Local
+        ensures told { TellsMoment (state self.old) (state self.new) result }
+        ensures number { opening self.new ≡ opening self.old };
+
+    /// Sends a datagram.
+    fn send(&mut self, to: Address, bytes: &[u8]) -> Result<(), Failed>
+        ensures sent { Sends (state self.old) (state self.new) result to bytes.now }
+        ensures cause { HasCause (state self.old).faults (state self.new).faults result }
+        ensures number { opening self.new ≡ opening self.old };
+}
+
+/// Where a test may hold a worker. Workers of feeds pass it with the number of their feed, responders with 100 and their number.
+pub trait Gate: Sync {
+    /// A worker passes a place: 1 before a feed's entry is appended, 4 after it; 2 after a responder has heard a datagram, 3 after
+    /// it has sent a reply. It changes nothing, and may wait.
+    fn pass<R: Wait>(&self, rt: &R, worker: u32, place: u8);
+}

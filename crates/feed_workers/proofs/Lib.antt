@@ -1,0 +1,5 @@
+-- Lemmas that several proofs of this crate use.
+pub mod KeepLaws
+pub mod LogLaws
+pub mod PollLaws
+pub mod RoundLaws

@@ -1,0 +1,141 @@
+-- The events of a poller, one more at the end, and round after round.
+use Rattle.std.proofs.Common.{◌≡◌, ◌⊎◌, inl, inr, ℕ, ◌+◌, ◌<◌, ◌≤◌, List, [], ◌∷◌, ◌++◌, length, Bool, true, false, refl, sym, ap, ◌∙◌, subst, arith, length-append, append_assoc}
+use Rattle.std.specs.Prelude.{All}
+use Rattle.std.specs.List.{flat_map}
+use Rattle.std.proofs.lemmas.Grind.{flat_map-append}
+use Rattle.std.proofs.lemmas.List.{append-nil}
+use Rattle.std.proofs.lemmas.List.Elements.{All-nil, All-push}
+use Rattle.feed_link.specs.Faults.{RoseByOne}
+use Rattle.feed_link.specs.Told.{NetEvent, LinkState, Adds}
+use Rattle.feed_link.specs.Told.NetEvent.{Came, Silent, Ended, Timed, Went}
+use Rattle.feed_link.specs.declared.outside.Address.{Address}
+use Rattle.feed_link.proofs.ToldLaws.{Adds-none, Adds-more}
+use Rattle.journal_entry.specs.declared.entry.Entry.{Entry}
+use Rattle.ntp_packet.specs.Layout.{layout}
+use Rattle.page_cell.specs.declared.view.Claim.{Claim}
+use Rattle.poll_core.specs.Formulas.{request_header}
+use Rattle.poll_core.specs.Histories.{Event}
+use Rattle.poll_core.specs.Histories.Event.{Asked, Answered}
+use Rattle.poll_core.specs.Polling.{HasPolled}
+use Rattle.poll_core.specs.declared.poll.Poll.{Poll}
+use Rattle.feed_workers.specs.Asking.{HasDone, Polled}
+use Rattle.feed_workers.specs.Keeping.{Keeps}
+use Rattle.feed_workers.specs.Polling.{RunsPolls}
+use Rattle.feed_workers.specs.Polls.{Round, events_of, events_in, asking, exchanges_of, history_of, entry_after, due_after, due_link, ends_round, is_hearing, is_ended, GoOn, IsWhole, AreWhole, IsOpen, IsCut}
+use Rattle.feed_workers.specs.declared.work.PollEnd.TheVariants.{Rounds, LinkEnd, LinkFault}
+use Rattle.feed_workers.proofs.KeepLaws.{keeps_none}
+
+-- one event more at the end
+due_push : (feed : ℕ) (server : Address) (before events : List NetEvent) (event : NetEvent) →
+    due_after feed server before (events ++ event ∷ []) ≡ due_after feed server before events ++ entry_after feed server (before ++ events) event
+due_push feed server before [] event = append-nil (entry_after feed server before event) ∙ ap (λ (l : List NetEvent). entry_after feed server l event) (sym (append-nil before))
+due_push feed server before (first ∷ events) event =
+    ap (λ (l : List Entry). entry_after feed server before first ++ l) (due_push feed server (before ++ first ∷ []) events event)
+    ∙ sym (append_assoc (entry_after feed server before first) (due_after feed server (before ++ first ∷ []) events) (entry_after feed server ((before ++ first ∷ []) ++ events) event))
+    ∙ ap (λ (l : List NetEvent). (entry_after feed server before first ++ due_after feed server (before ++ first ∷ []) events) ++ entry_after feed server l event) (append_assoc before (first ∷ []) events)
+
+pub due_link-push : (feed : ℕ) (server : Address) (events : List NetEvent) (event : NetEvent) →
+    due_link feed server (events ++ event ∷ []) ≡ due_link feed server events ++ entry_after feed server events event
+due_link-push feed server events event = due_push feed server [] events event
+
+history-push : (events : List NetEvent) (event : NetEvent) → history_of (events ++ event ∷ []) ≡ history_of events ++ exchanges_of event
+history-push events event = flat_map-append exchanges_of events (event ∷ []) ∙ ap (λ (l : List Event). history_of events ++ l) (append-nil (exchanges_of event))
+
+pub GoOn-push : (server : Address) (before events : List NetEvent) (event : NetEvent) → GoOn server before events → is_hearing event ≡ true → ends_round server (before ++ events) event ≡ false →
+    GoOn server before (events ++ event ∷ [])
+GoOn-push server before [] event go is not_end = (is, subst (λ (l : List NetEvent). ends_round server l event ≡ false) (append-nil before) not_end, tt)
+GoOn-push server before (first ∷ events) event go is not_end =
+    (go.0, go.1, GoOn-push server (before ++ first ∷ []) events event go.2 is (subst (λ (l : List NetEvent). ends_round server l event ≡ false) (sym (append_assoc before (first ∷ []) events)) not_end))
+
+pub events_in-push : (server : Address) (rounds : List Round) (round : Round) → events_in server (rounds ++ round ∷ []) ≡ events_in server rounds ++ events_of server round
+events_in-push server rounds round = flat_map-append (events_of server) rounds (round ∷ []) ∙ ap (λ (l : List NetEvent). events_in server rounds ++ l) (append-nil (events_of server round))
+
+AreWhole-push-behind : (server : Address) (before : List NetEvent) (rounds : List Round) (round : Round) → AreWhole server before rounds → IsWhole server (before ++ events_in server rounds) round →
+    AreWhole server before (rounds ++ round ∷ [])
+AreWhole-push-behind server before [] round are is = (subst (λ (l : List NetEvent). IsWhole server l round) (append-nil before) is, tt)
+AreWhole-push-behind server before (first ∷ rounds) round are is =
+    (are.0, AreWhole-push-behind server (before ++ events_of server first) rounds round are.1 (subst (λ (l : List NetEvent). IsWhole server l round) (sym (append_assoc before (events_of server first) (events_in server rounds))) is))
+
+pub AreWhole-push : (server : Address) (rounds : List Round) (round : Round) → AreWhole server [] rounds → IsWhole server (events_in server rounds) round → AreWhole server [] (rounds ++ round ∷ [])
+AreWhole-push server rounds round are is = AreWhole-push-behind server [] rounds round are is
+
+module _ (server : Address) (link : LinkState) (start : Claim) (limit : ℕ) where
+  -- nothing is done yet
+  pub polled_none : (poll : Poll) → HasPolled poll server [] → Polled poll server link link start start limit false 0
+  polled_none poll polled = record {
+    made = [];
+    done = record { told = Adds-none link.events; polled = polled; kept = keeps_none start limit; no_fault = refl };
+    whole = tt;
+    size = refl;
+    open_all = All-nil IsOpen;
+  }
+
+  -- an event that has no entry
+  pub done_more : (poll now : Poll) (mid last : LinkState) (claim : Claim) (full : Bool) (events : List NetEvent) (event : NetEvent) → HasDone poll server link mid start claim limit full events →
+      entry_after start.number server events event ≡ [] → Adds mid.events last.events (event ∷ []) → last.faults ≡ mid.faults → HasPolled now server (history_of events ++ exchanges_of event) →
+      HasDone now server link last start claim limit full (events ++ event ∷ [])
+  done_more poll now mid last claim full events event h none told same polled = record {
+    told = Adds-more link.events mid.events last.events events (event ∷ []) h.told told;
+    polled = subst (λ (l : List Event). HasPolled now server l) (sym (history-push events event)) polled;
+    kept = subst (λ (due : List Entry). Keeps start claim limit full due)
+        (sym (due_link-push start.number server events event ∙ ap (λ (l : List Entry). due_link start.number server events ++ l) none ∙ append-nil (due_link start.number server events))) h.kept;
+    no_fault = same ∙ h.no_fault;
+  }
+
+  -- an event whose entry was kept
+  pub done_kept : (poll now : Poll) (mid last : LinkState) (old claim : Claim) (full full_now : Bool) (events : List NetEvent) (event : NetEvent) (entry : Entry) →
+      HasDone poll server link mid start old limit full events → entry_after start.number server events event ≡ entry ∷ [] → Adds mid.events last.events (event ∷ []) → last.faults ≡ mid.faults →
+      HasPolled now server (history_of events ++ exchanges_of event) →
+      ((due : List Entry) → Keeps start old limit full due → Keeps start claim limit full_now (due ++ entry ∷ [])) →
+      HasDone now server link last start claim limit full_now (events ++ event ∷ [])
+  done_kept poll now mid last old claim full full_now events event entry h one told same polled keeps = record {
+    told = Adds-more link.events mid.events last.events events (event ∷ []) h.told told;
+    polled = subst (λ (l : List Event). HasPolled now server l) (sym (history-push events event)) polled;
+    kept = subst (λ (due : List Entry). Keeps start claim limit full_now due)
+        (sym (due_link-push start.number server events event ∙ ap (λ (l : List Entry). due_link start.number server events ++ l) one)) (keeps (due_link start.number server events) h.kept);
+    no_fault = same ∙ h.no_fault;
+  }
+
+  module _ (made : List Round) (count : ℕ) (are : AreWhole server [] made) (size : length made ≡ count) (all : All IsOpen made) where
+    -- one whole round more
+    pub polled_more : (poll : Poll) (last : LinkState) (claim : Claim) (full : Bool) (round : Round) → HasDone poll server link last start claim limit full (events_in server made ++ events_of server round) →
+        IsWhole server (events_in server made) round → IsOpen round → Polled poll server link last start claim limit full (count + 1)
+    polled_more poll last claim full round done whole open_one = record {
+      made = made ++ round ∷ [];
+      done = subst (λ (l : List NetEvent). HasDone poll server link last start claim limit full l) (sym (events_in-push server made round)) done;
+      whole = AreWhole-push server made round are whole;
+      size = omega (arith, size, length-append made (round ∷ []));
+      open_all = All-push IsOpen made round all open_one;
+    }
+
+    -- the last round, which heard the link's end
+    pub ends_link : (poll : Poll) (last : LinkState) (claim : Claim) (full : Bool) (polls : ℕ) (round : Round) → count < polls →
+        HasDone poll server link last start claim limit full (events_in server made ++ events_of server round) → IsWhole server (events_in server made) round → round.last ≡ Ended →
+        RunsPolls server polls link last start claim limit (record { end = LinkEnd; full = full })
+    ends_link poll last claim full polls round lt done whole ended = record {
+      events = events_in server made ++ events_of server round;
+      told = done.told;
+      kept = done.kept;
+      ends = (made, round, sym (events_in-push server made round), AreWhole-push server made round are whole, omega (arith, size, lt), all, ended, done.no_fault);
+    }
+
+    -- a round that was cut
+    pub ends_cut : (last : LinkState) (claim : Claim) (full : Bool) (polls : ℕ) (cut : List NetEvent) → count < polls → Adds link.events last.events (events_in server made ++ cut) →
+        Keeps start claim limit full (due_link start.number server (events_in server made ++ cut)) → IsCut server (events_in server made) cut → RoseByOne link.faults last.faults →
+        RunsPolls server polls link last start claim limit (record { end = LinkFault; full = full })
+    ends_cut last claim full polls cut lt told kept is rose = record {
+      events = events_in server made ++ cut;
+      told = told;
+      kept = kept;
+      ends = (made, cut, refl, are, omega (arith, size, lt), all, is, rose);
+    }
+
+  -- all polls were made
+  pub ends_all : (poll : Poll) (last : LinkState) (claim : Claim) (full : Bool) (polls : ℕ) → Polled poll server link last start claim limit full polls →
+      RunsPolls server polls link last start claim limit (record { end = Rounds; full = full })
+  ends_all poll last claim full polls p = record {
+    events = events_in server p.made;
+    told = p.done.told;
+    kept = p.done.kept;
+    ends = (p.made, refl, p.whole, p.size, p.open_all, p.done.no_fault);
+  }

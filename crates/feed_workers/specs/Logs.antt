@@ -1,0 +1,41 @@
+-- What a radio's worker does with the bytes of its log, and why it ends. All of it is this project's own.
+use Rattle.std.specs.Prelude.{◌≡◌, ℕ, ◌⊎◌, ◌^◌, Option, Some, None, List}
+use Rattle.feed_link.specs.Told.{SourceState}
+use Rattle.file_reader.specs.Ends.{HasReadFront, EndsReading}
+use Rattle.file_reader.specs.declared.reader.FileEnd.TheVariants as file
+use Rattle.log_decoder.specs.Due.{due_log}
+use Rattle.page_cell.specs.declared.view.Claim.{Claim}
+use Rattle.tick_units.specs.Log.{bad_at_end, bad_line}
+use Rattle.tick_units.specs.declared.marks.Plan.{Plan}
+use Rattle.feed_workers.specs.Keeping.{Keeps}
+use Rattle.feed_workers.specs.declared.work.LogEnd.{LogEnd}
+use Rattle.feed_workers.specs.declared.work.LogEnd.TheVariants.{Whole, BadLine, Fault, Long}
+use Rattle.feed_workers.specs.declared.work.LogWork.{LogWork}
+
+-- a log has at most 2^30 bytes
+abbrev pub most_of_a_log : ℕ
+most_of_a_log = 2 ^ 30
+
+-- These bytes were read of a log of at most so many, and the reading ended so. Whole: at the log's end, with no bad line and no
+-- unfinished one. BadLine: at the first bad line, which stands among the bytes or is the unfinished one at the log's end. Fault: a read
+-- failed. Long: there is another byte behind as many as a log may have. In the last two no line was bad so far
+abbrev pub EndsLog : ℕ → SourceState → SourceState → List ℕ → LogEnd → Type 0
+EndsLog most log log_now bytes Whole = EndsReading file.Whole most log log_now bytes × (bad_at_end bytes ≡ None)
+EndsLog most log log_now bytes (BadLine line) =
+    (HasReadFront most log log_now bytes × (bad_line bytes ≡ Some line))
+    ⊎ (EndsReading file.Whole most log log_now bytes × (bad_line bytes ≡ None) × (bad_at_end bytes ≡ Some line))
+EndsLog most log log_now bytes Fault = EndsReading file.Fault most log log_now bytes × (bad_line bytes ≡ None)
+EndsLog most log log_now bytes Long = EndsReading file.TooLong most log log_now bytes × (bad_line bytes ≡ None)
+
+-- these bytes were read, and the entries that are due for them were kept
+pub record RunsLog (plan : Plan) (delay most : ℕ) (log log_now : SourceState) (claim claim_now : Claim) (limit : ℕ) (work : LogWork) : Type 0 where
+  pub bytes : List ℕ
+  pub kept : Keeps claim claim_now limit work.full (due_log claim.number plan delay bytes)
+  pub ends : EndsLog most log log_now bytes work.end
+
+-- how a log ends that was read to its end, by the line that is bad then
+abbrev pub EndsAt : LogEnd → Option ℕ → Type 0
+EndsAt Whole bad = bad ≡ None
+EndsAt (BadLine line) bad = bad ≡ Some line
+EndsAt Fault bad = ⊥
+EndsAt Long bad = ⊥

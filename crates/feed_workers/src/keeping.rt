@@ -1,0 +1,57 @@
+//! Keeping an entry that is due.
+ghost use Rattle.std.specs.Prelude.{◌≡◌, ◌++◌, ◌∷◌, [], List, length};
+ghost use Rattle.journal_entry.specs.Lawful.{IsLawfulWhat};
+ghost use Rattle.journal_entry.specs.declared.entry.Entry.{Entry};
+ghost use Rattle.feed_workers.specs.Keeping.{IsOfFeed, Keeps};
+ghost use Rattle.page_cell.specs.declared.view.Claim.{Claim};
+ghost use Rattle.page_cell.specs.Passes.{claim_of};
+
+use feed_link::Gate;
+use journal_entry::Entry;
+use page_cell::FeedPass;
+use std::sync::Wait;
+use verdict_journal::{Hub, HubName};
+
+// The places of the gate that a feed's worker passes: before it appends an entry, and after it.
+const BEFORE: u8 = 1;
+
+const BEHIND: u8 = 4;
+
+// Appends an entry, where there is room.
+fn offer<N: HubName, R: Wait>(
+    rt: &R,
+    hub: &Hub<N>,
+    pass: &mut FeedPass,
+    entry: Entry,
+    full: &mut bool,
+)
+    requires pass { IsOfFeed N.table (length N.settings.sources) entry.feed pass.old }
+    requires lawful { IsLawfulWhat entry.what }
+    ensures pass { IsOfFeed N.table (length N.settings.sources) entry.feed pass.new }
+    ensures kept { (start : Claim) (due : List Entry) → Keeps start (claim_of pass.old.view) N.limit full.old due → Keeps start (claim_of pass.new.view) N.limit full.new (due ++ entry ∷ []) }
+{
+    match hub.append(rt, pass, entry) {
+        Ok(_) => {}
+        Err(_) => *full = true,
+    }
+}
+
+// Keeps an entry that is due, where there is room, and passes the gate before it and behind it.
+pub fn keep<N: HubName, R: Wait, G: Gate>(
+    rt: &R,
+    hub: &Hub<N>,
+    gate: &G,
+    pass: &mut FeedPass,
+    entry: Entry,
+    full: &mut bool,
+)
+    requires pass { IsOfFeed N.table (length N.settings.sources) entry.feed pass.old }
+    requires lawful { IsLawfulWhat entry.what }
+    ensures pass { IsOfFeed N.table (length N.settings.sources) entry.feed pass.new }
+    ensures kept { (start : Claim) (due : List Entry) → Keeps start (claim_of pass.old.view) N.limit full.old due → Keeps start (claim_of pass.new.view) N.limit full.new (due ++ entry ∷ []) }
+{
+    let feed = entry.feed;
+    gate.pass(rt, feed, BEFORE);
+    offer(rt, hub, pass, entry, full);
+    gate.pass(rt, feed, BEHIND);
+}

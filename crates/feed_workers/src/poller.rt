@@ -1,0 +1,210 @@
+//! The worker of a server, which polls it.
+ghost use Rattle.std.specs.Prelude.{◌≡◌, ◌≤◌, ◌<◌, ◌+◌, ◌++◌, ◌∷◌, [], ℕ, List, Option, None, Some, is_ok, length, IfSome, IfNone};
+ghost use Rattle.std.specs.Option.{ForSome};
+ghost use Rattle.feed_link.specs.Told.{NetEvent, LinkState};
+ghost use Rattle.feed_link.specs.declared.outside.Address.{Address};
+ghost use Rattle.feed_workers.specs.Asking.{HasDone, HearsOne, Polled};
+ghost use Rattle.feed_workers.specs.Keeping.{IsOfFeed};
+ghost use Rattle.feed_workers.specs.Polling.{RunsPolls};
+ghost use Rattle.feed_workers.specs.Polls.{what_of};
+ghost use Rattle.journal_entry.specs.Lawful.{IsLawfulWhat};
+ghost use Rattle.page_cell.specs.declared.view.Claim.{Claim};
+ghost use Rattle.page_cell.specs.Passes.{claim_of};
+ghost use Rattle.poll_core.specs.Histories.{Event, judge};
+ghost use Rattle.poll_core.specs.Histories.Event.{Answered};
+ghost use Rattle.poll_core.specs.Polling.{HasPolled, asked_at};
+
+use crate::keeping::keep;
+use crate::work::{PollEnd, PollWork};
+use feed_link::{Address, Arrival, Failed, Gate, Hearing, Link};
+use journal_entry::{Entry, What};
+use page_cell::FeedPass;
+use poll_core::Poll;
+use std::sync::Wait;
+use verdict_journal::{Hub, HubName};
+
+// The most hearings of a round.
+const HEARINGS: u32 = 8;
+
+/// The worker of a server: it polls it so many times, and keeps the entries of its feed.
+#[derive(Drop)]
+pub struct PollWorker<L: Drop> {
+    pub(crate) server: Address,
+    pub(crate) polls: u32,
+    pub(crate) link: L,
+    pub(crate) pass: FeedPass,
+}
+
+// What one hearing of a round came to.
+#[derive(Clone, Copy)]
+enum Heard {
+    // A datagram that was refused: the round goes on.
+    On,
+    // Nothing, or an answer that was accepted: the round is over.
+    Over,
+    // The link's end.
+    End,
+    // A call of the link failed.
+    Fault,
+}
+
+// What a datagram is in the journal, and whether it is an answer that was accepted.
+#[derive(Drop)]
+struct Judged {
+    what: What,
+    accepted: bool,
+}
+
+// Judges a datagram.
+fn judge_datagram(poll: &mut Poll, arrival: &Arrival, bytes: &[u8]) -> Judged
+    requires { ForSome (asked_at poll.old) (λ moment. moment ≤ arrival.now.at) }
+    ensures polled { (server : Address) (history : List Event) → HasPolled poll.old server history →
+        HasPolled poll.new server (history ++ Answered arrival.now.at arrival.now.from bytes.now ∷ []) }
+    ensures what { (server : Address) (history : List Event) → HasPolled poll.old server history →
+        result.what ≡ what_of (judge server history arrival.now.at arrival.now.from bytes.now) }
+    ensures accepted { (server : Address) (history : List Event) → HasPolled poll.old server history →
+        result.accepted ≡ is_ok (judge server history arrival.now.at arrival.now.from bytes.now) }
+    ensures lawful { IsLawfulWhat result.what }
+    ensures asked { ForSome (asked_at poll.new) (λ moment. moment ≤ arrival.now.at) }
+{
+    match poll.answer(arrival.at, arrival.from, bytes) {
+        Ok(sample) => Judged {
+            what: What::Sample(sample),
+            accepted: true,
+        },
+        Err(refusal) => Judged {
+            what: What::Declined(refusal.code()),
+            accepted: false,
+        },
+    }
+}
+
+// Hears once, and keeps the entry of a datagram.
+fn hear_once<L: Link, N: HubName, R: Wait, G: Gate>(
+    rt: &R,
+    hub: &Hub<N>,
+    gate: &G,
+    feed: u32,
+    poll: &mut Poll,
+    link: &mut L,
+    pass: &mut FeedPass,
+    full: &mut bool,
+) -> Heard
+    requires pass { IsOfFeed N.table (length N.settings.sources) feed pass.old }
+    requires asked { ForSome (asked_at poll.old) (λ moment. moment ≤ (L.state link.old).latest) }
+    ensures link { L.opening link.new ≡ L.opening link.old }
+    ensures pass { IsOfFeed N.table (length N.settings.sources) feed pass.new }
+    ensures asked { ForSome (asked_at poll.new) (λ moment. moment ≤ (L.state link.new).latest) }
+    ensures hears { (server : Address) (before : LinkState) (start : Claim) (events : List NetEvent) →
+        HasDone poll.old server before (L.state link.old) start (claim_of pass.old.view) N.limit full.old events → start.number ≡ feed →
+        HearsOne poll.new server before (L.state link.new) start (claim_of pass.new.view) N.limit full.new events result }
+{
+    let mut piece = [0u8; 1024];
+    match link.hear(&mut piece) {
+        Ok(Hearing::Datagram(arrival)) => {
+            let judged = judge_datagram(poll, &arrival, &piece[..arrival.length]);
+            let Judged { what, accepted } = judged;
+            let at = arrival.at;
+            keep(rt, hub, gate, pass, Entry { feed, at, what }, full);
+            if accepted { Heard::Over } else { Heard::On }
+        }
+        Ok(Hearing::Quiet) => Heard::Over,
+        Ok(Hearing::End) => Heard::End,
+        Err(Failed) => Heard::Fault,
+    }
+}
+
+// Makes one poll: why the polling ends with it, if it does.
+fn poll_once<L: Link, N: HubName, R: Wait, G: Gate>(
+    rt: &R,
+    hub: &Hub<N>,
+    gate: &G,
+    feed: u32,
+    server: Address,
+    poll: &mut Poll,
+    link: &mut L,
+    pass: &mut FeedPass,
+    full: &mut bool,
+) -> Option<PollEnd>
+    requires pass { IsOfFeed N.table (length N.settings.sources) feed pass.old }
+    ensures link { L.opening link.new ≡ L.opening link.old }
+    ensures pass { IsOfFeed N.table (length N.settings.sources) feed pass.new }
+    ensures goes { IfNone result ((before : LinkState) (start : Claim) (count : ℕ) →
+        Polled poll.old server before (L.state link.old) start (claim_of pass.old.view) N.limit full.old count → start.number ≡ feed →
+        Polled poll.new server before (L.state link.new) start (claim_of pass.new.view) N.limit full.new (count + 1)) }
+    ensures stops { IfSome result (λ end. (before : LinkState) (start : Claim) (count polls : ℕ) → count < polls →
+        Polled poll.old server before (L.state link.old) start (claim_of pass.old.view) N.limit full.old count → start.number ≡ feed →
+        RunsPolls server polls before (L.state link.new) start (claim_of pass.new.view) N.limit (record { end = end; full = full.new })) }
+{
+    let moment = link.moment();
+    let request = poll.ask(moment);
+    match link.send(server, &request) {
+        Ok(()) => {}
+        Err(Failed) => return Some(PollEnd::LinkFault),
+    }
+    'hearings: for _ in 0..HEARINGS {
+        match hear_once(rt, hub, gate, feed, poll, link, pass, full) {
+            Heard::On => {}
+            Heard::Over => return None,
+            Heard::End => return Some(PollEnd::LinkEnd),
+            Heard::Fault => return Some(PollEnd::LinkFault),
+        }
+    }
+    None
+}
+
+impl<L: Link + Drop> PollWorker<L> {
+    /// A worker that polls this server so many times over a link, with the pass of its feed.
+    pub fn new(server: Address, polls: u32, link: L, pass: FeedPass) -> PollWorker<L>
+        ensures is { (result.link ≡ link) × (result.pass ≡ pass) }
+        ensures asks { (result.server ≡ server) × (result.polls ≡ polls) }
+    {
+        PollWorker {
+            server,
+            polls,
+            link,
+            pass,
+        }
+    }
+
+    /// Makes its polls, until the link ends or fails, and keeps each entry that is due where there is room. A poll takes the link's
+    /// moment, sends a request to the server, and hears until an answer is accepted, nothing comes for a while, or eight hearings were
+    /// made.
+    pub fn run<N: HubName, R: Wait, G: Gate>(&mut self, rt: &R, hub: &Hub<N>, gate: &G) -> PollWork
+        requires { IsOfFeed N.table (length N.settings.sources) (claim_of self.old.pass.view).number self.old.pass }
+        ensures link { L.opening self.new.link ≡ L.opening self.old.link }
+        ensures pass { IsOfFeed N.table (length N.settings.sources) (claim_of self.old.pass.view).number self.new.pass }
+        ensures asks { (self.new.server ≡ self.old.server) × (self.new.polls ≡ self.old.polls) }
+        ensures runs { RunsPolls self.old.server self.old.polls (L.state self.old.link) (L.state self.new.link) (claim_of self.old.pass.view) (claim_of self.new.pass.view) N.limit result }
+    {
+        let feed = self.pass.number();
+        let PollWorker {
+            server,
+            polls,
+            link,
+            pass,
+        } = self;
+        let mut poll = Poll::new(*server);
+        let mut full = false;
+        'polls: for _ in 0..*polls {
+            let end = poll_once(
+                rt, hub, gate, feed, *server, &mut poll, link, pass, &mut full,
+            );
+            if let Some(end) = end {
+                return PollWork { end, full };
+            }
+        }
+        PollWork {
+            end: PollEnd::Rounds,
+            full,
+        }
+    }
+
+    /// Gives the link and the pass back.
+    pub fn give_back(self) -> (L, FeedPass)
+        ensures { (result.0 ≡ self.link) × (result.1 ≡ self.pass) }
+    {
+        let PollWorker { link, pass, .. } = self;
+        (link, pass)
+    }
+}

@@ -1,0 +1,210 @@
+//! The worker of a radio, which reads its log.
+ghost use Rattle.std.specs.Prelude.{◌≡◌, ◌≤◌, ◌<◌, ◌^◌, ◌++◌, [], ℕ, List, Option, Some, None, length, take};
+ghost use Rattle.log_decoder.specs.Decoding.{HasDecoded, IsReady, feed_of};
+ghost use Rattle.feed_workers.specs.Hearing.{HasHeard, HearsPiece};
+ghost use Rattle.feed_workers.specs.Keeping.{IsOfFeed};
+ghost use Rattle.feed_workers.specs.Logs.{EndsAt, RunsLog, most_of_a_log};
+ghost use Rattle.page_cell.specs.declared.view.Claim.{Claim};
+ghost use Rattle.page_cell.specs.Passes.{claim_of};
+ghost use Rattle.tick_units.specs.Log.{bad_at_end};
+ghost use Rattle.tick_units.specs.declared.marks.Plan.{Plan};
+
+use crate::keeping::keep;
+use crate::work::{LogEnd, LogWork};
+use feed_link::{Gate, Source};
+use file_reader::{FileEnd, FileReader, Pulled};
+use log_decoder::{LogDecoder, Step};
+use page_cell::FeedPass;
+use radio_receiver::BoxedReceiver;
+use std::sync::Wait;
+use verdict_journal::{Hub, HubName};
+
+// The most bytes of a log.
+const LIMIT: usize = 1 << 30;
+
+/// The worker of a radio, with a receiver of type `B`.
+#[derive(Drop)]
+pub struct WorkerOf<L: Drop, B: Drop> {
+    pub(crate) decoder: LogDecoder<B>,
+    pub(crate) log: L,
+    pub(crate) pass: FeedPass,
+}
+
+/// The worker of a radio: it decodes a log, and keeps the entries of its feed.
+pub type RadioWorker<L> = WorkerOf<L, BoxedReceiver>;
+
+// How many bytes were taken, and the line that isn't lawful, where there is one among them.
+#[derive(Clone, Copy)]
+struct Took {
+    count: usize,
+    bad: Option<u64>,
+}
+
+// Takes bytes up to the end of a line, up to a bad line, or all of them, and keeps the entry that they complete.
+fn take_line<N: HubName, R: Wait, G: Gate>(
+    rt: &R,
+    hub: &Hub<N>,
+    gate: &G,
+    decoder: &mut LogDecoder<BoxedReceiver>,
+    pass: &mut FeedPass,
+    bytes: &[u8],
+    full: &mut bool,
+) -> Took
+    requires some { 0 < length bytes.now }
+    requires ready { IsReady (λ b. least_start b) decoder.old }
+    requires pass { IsOfFeed N.table (length N.settings.sources) (feed_of decoder.old) pass.old }
+    ensures some { 0 < result.count }
+    ensures within { result.count ≤ length bytes.now }
+    ensures ready { IsReady (λ b. least_start b) decoder.new }
+    ensures feed { feed_of decoder.new ≡ feed_of decoder.old }
+    ensures pass { IsOfFeed N.table (length N.settings.sources) (feed_of decoder.old) pass.new }
+    ensures heard { (plan : Plan) (delay : ℕ) (start : Claim) (before : List ℕ) →
+        HasHeard (λ b h. stands_for b h) decoder.old plan delay start (claim_of pass.old.view) N.limit full.old before None →
+        HasHeard (λ b h. stands_for b h) decoder.new plan delay start (claim_of pass.new.view) N.limit full.new (before ++ take result.count bytes.now) result.bad }
+{
+    let Step { count, found } = decoder.take(bytes);
+    match found {
+        Ok(None) => Took { count, bad: None },
+        Ok(Some(entry)) => {
+            keep(rt, hub, gate, pass, entry, full);
+            Took { count, bad: None }
+        }
+        Err(bad) => Took {
+            count,
+            bad: Some(bad.line),
+        },
+    }
+}
+
+// Takes a piece of a log, up to a bad line: that line, where there is one.
+fn hear_piece<N: HubName, R: Wait, G: Gate>(
+    rt: &R,
+    hub: &Hub<N>,
+    gate: &G,
+    decoder: &mut LogDecoder<BoxedReceiver>,
+    pass: &mut FeedPass,
+    piece: &[u8],
+    full: &mut bool,
+) -> Option<u64>
+    requires ready { IsReady (λ b. least_start b) decoder.old }
+    requires pass { IsOfFeed N.table (length N.settings.sources) (feed_of decoder.old) pass.old }
+    ensures ready { IsReady (λ b. least_start b) decoder.new }
+    ensures feed { feed_of decoder.new ≡ feed_of decoder.old }
+    ensures pass { IsOfFeed N.table (length N.settings.sources) (feed_of decoder.old) pass.new }
+    ensures heard { (plan : Plan) (delay : ℕ) (start : Claim) (bytes : List ℕ) →
+        HasHeard (λ b h. stands_for b h) decoder.old plan delay start (claim_of pass.old.view) N.limit full.old bytes None →
+        HearsPiece (λ b h. stands_for b h) decoder.new plan delay start (claim_of pass.new.view) N.limit full.new (bytes ++ piece.now) result }
+{
+    let mut rest = piece;
+    'rest: while !rest.is_empty() {
+        let took = take_line(rt, hub, gate, decoder, pass, rest, full);
+        match took.bad {
+            Some(line) => return Some(line),
+            None => rest = rest.split_at(took.count).1,
+        }
+    }
+    None
+}
+
+// How a log ends that was read to its end.
+fn at_end(decoder: &LogDecoder<BoxedReceiver>) -> LogEnd
+    ensures { (feed : ℕ) (plan : Plan) (delay : ℕ) (bytes : List ℕ) → HasDecoded (λ b h. stands_for b h) decoder.now feed plan delay bytes → EndsAt result (bad_at_end bytes) }
+{
+    match decoder.finish() {
+        Ok(()) => LogEnd::Whole,
+        Err(bad) => LogEnd::BadLine { line: bad.line },
+    }
+}
+
+// Reads a log of at most so many bytes, to its end, to its first bad line or to its first fault, and keeps the entries that are due.
+pub fn read_log<L: Source, N: HubName, R: Wait, G: Gate>(
+    rt: &R,
+    hub: &Hub<N>,
+    gate: &G,
+    decoder: &mut LogDecoder<BoxedReceiver>,
+    log: &mut L,
+    pass: &mut FeedPass,
+    limit: usize,
+) -> LogWork
+    requires ready { IsReady (λ b. least_start b) decoder.old }
+    requires pass { IsOfFeed N.table (length N.settings.sources) (feed_of decoder.old) pass.old }
+    ensures log { L.opening log.new ≡ L.opening log.old }
+    ensures ready { IsReady (λ b. least_start b) decoder.new }
+    ensures feed { feed_of decoder.new ≡ feed_of decoder.old }
+    ensures pass { IsOfFeed N.table (length N.settings.sources) (feed_of decoder.old) pass.new }
+    ensures runs { (plan : Plan) (delay : ℕ) → HasDecoded (λ b h. stands_for b h) decoder.old (claim_of pass.old.view).number plan delay [] →
+        RunsLog plan delay limit (L.state log.old) (L.state log.new) (claim_of pass.old.view) (claim_of pass.new.view) N.limit result }
+{
+    let mut full = false;
+    let mut reader = FileReader::new(limit);
+    'pieces: loop {
+        match reader.pull(log) {
+            Pulled::Piece => {
+                match hear_piece(rt, hub, gate, decoder, pass, reader.piece(), &mut full) {
+                    None => {}
+                    Some(line) => {
+                        return LogWork {
+                            end: LogEnd::BadLine { line },
+                            full,
+                        };
+                    }
+                }
+            }
+            Pulled::Ended(FileEnd::Whole) => {
+                return LogWork {
+                    end: at_end(decoder),
+                    full,
+                };
+            }
+            Pulled::Ended(FileEnd::Fault) => {
+                return LogWork {
+                    end: LogEnd::Fault,
+                    full,
+                };
+            }
+            Pulled::Ended(FileEnd::TooLong) => {
+                return LogWork {
+                    end: LogEnd::Long,
+                    full,
+                };
+            }
+        }
+    }
+}
+
+impl<L: Source + Drop> WorkerOf<L, BoxedReceiver> {
+    /// A worker over a log, with a receiver that has heard nothing and the pass of its feed.
+    pub fn new(receiver: BoxedReceiver, log: L, pass: FeedPass) -> WorkerOf<L, BoxedReceiver>
+        requires { least_start receiver ≡ 0 }
+        ensures is { (result.log ≡ log) × (result.pass ≡ pass) }
+        ensures ready { IsReady (λ b. least_start b) result.decoder }
+        ensures feed { feed_of result.decoder ≡ (claim_of pass.view).number }
+        ensures start { (plan : Plan) (delay : ℕ) → stands_for receiver (record { plan = plan; delay = delay; reductions = [] }) →
+            HasDecoded (λ b h. stands_for b h) result.decoder (claim_of pass.view).number plan delay [] }
+    {
+        let decoder = LogDecoder::new(pass.number(), receiver);
+        WorkerOf { decoder, log, pass }
+    }
+
+    /// Reads the log to its end, to its first bad line, to its first fault or to 2^30 bytes, and keeps each entry that is due where there
+    /// is room. A worker that has decoded nothing yet keeps the entries of all that it reads.
+    pub fn run<N: HubName, R: Wait, G: Gate>(&mut self, rt: &R, hub: &Hub<N>, gate: &G) -> LogWork
+        requires ready { IsReady (λ b. least_start b) self.old.decoder }
+        requires pass { IsOfFeed N.table (length N.settings.sources) (feed_of self.old.decoder) self.old.pass }
+        ensures log { L.opening self.new.log ≡ L.opening self.old.log }
+        ensures pass { IsOfFeed N.table (length N.settings.sources) (feed_of self.old.decoder) self.new.pass }
+        ensures runs { (plan : Plan) (delay : ℕ) → HasDecoded (λ b h. stands_for b h) self.old.decoder (claim_of self.old.pass.view).number plan delay [] →
+            RunsLog plan delay most_of_a_log (L.state self.old.log) (L.state self.new.log) (claim_of self.old.pass.view) (claim_of self.new.pass.view) N.limit result }
+    {
+        let WorkerOf { decoder, log, pass } = self;
+        read_log(rt, hub, gate, decoder, log, pass, LIMIT)
+    }
+
+    /// Gives the log and the pass back. The receiver is dropped.
+    pub fn give_back(self) -> (L, FeedPass)
+        ensures { (result.0 ≡ self.log) × (result.1 ≡ self.pass) }
+    {
+        let WorkerOf { log, pass, .. } = self;
+        (log, pass)
+    }
+}

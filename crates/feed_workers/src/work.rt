@@ -1,0 +1,41 @@
+//! What workers did, and why they ended.
+
+/// Why a radio's worker ended.
+#[derive(Clone, Copy, Debug, PartialEq, Eq)]
+pub enum LogEnd {
+    /// The log was read to its end.
+    Whole,
+    /// The line of this number, from 1, isn't lawful.
+    BadLine { line: u64 },
+    /// A read failed.
+    Fault,
+    /// The log has more than 2^30 bytes.
+    Long,
+}
+
+/// What a radio's worker did.
+#[derive(Clone, Copy, Debug, PartialEq, Eq)]
+pub struct LogWork {
+    pub end: LogEnd,
+    /// Whether an entry found the journal full.
+    pub full: bool,
+}
+
+/// Why a poller's worker ended.
+#[derive(Clone, Copy, Debug, PartialEq, Eq)]
+pub enum PollEnd {
+    /// All polls were made.
+    Rounds,
+    /// The link has ended.
+    LinkEnd,
+    /// A call of the link failed.
+    LinkFault,
+}
+
+/// What a poller's worker did.
+#[derive(Clone, Copy, Debug, PartialEq, Eq)]
+pub struct PollWork {
+    pub end: PollEnd,
+    /// Whether an entry found the journal full.
+    pub full: bool,
+}

@@ -1,0 +1,20 @@
+//! The page that threads share: anyone reads it without a lock, and one pass at a time publishes the next.
+#![tactic(auto)]
+
+mod cell;
+mod loading;
+mod opening;
+mod passes;
+mod steps;
+mod storing;
+#[cfg(test)]
+mod tests;
+mod view;
+#[cfg(test)]
+mod writer;
+
+pub use cell::PageCell;
+pub use loading::Again;
+pub use opening::{CellOpen, CellParts};
+pub use passes::{BatonPass, FeedPass, ReadPass, Receipt};
+pub use view::{Claim, View, Watch};

@@ -1,0 +1,96 @@
+//! One thread that publishes and reads, also in the middle of the other.
+use crate::loading::Again;
+use crate::writer::{Interrupting, of_one_radio, opened};
+use crate::{CellParts, PageCell};
+use std::test::*;
+use system_fold::FoldState;
+
+// The page of no entry, and then that of one, is read.
+#[test]
+fn a_reading_after_a_publishing(rt: HostRuntime) -> Result<(), Fail> {
+    let (cell, mut writer, mut readers) = opened(&rt, 1)?;
+    let mut reader = readers.pop().ok_or("no reader")?;
+    let page = cell.try_read(&mut reader).ok().ok_or("again")?;
+    assert_eq!(rt; (page.length, page.sync, reader.seen()), (0, false, 0));
+    writer.publish(&cell);
+    let page = cell.try_read(&mut reader).ok().ok_or("again")?;
+    assert_eq!(rt; (page.length, reader.seen()), (1, 1));
+    Ok(())
+}
+
+// A receipt says how much a feed's pass has seen, and a reader's pass has then seen as much.
+#[test]
+fn a_receipt_is_learnt(rt: HostRuntime) -> Result<(), Fail> {
+    let (cell, mut writer, mut readers) = opened(&rt, 2)?;
+    let mut told = readers.pop().ok_or("no reader")?;
+    assert_eq!(rt;
+        (writer.feed.number(), told.number(), told.seen()),
+        (0, 1, 0)
+    );
+    writer.publish(&cell);
+    let receipt = cell.receipt(&mut writer.feed);
+    assert_eq!(rt; receipt.length(), 1);
+    cell.learn(&mut told, receipt);
+    assert_eq!(rt; told.seen(), 1);
+    Ok(())
+}
+
+// The words of a page that isn't published yet aren't read.
+#[test]
+fn half_a_publishing_is_not_seen(rt: HostRuntime) -> Result<(), Fail> {
+    let (cell, writer, mut readers) = opened(&rt, 1)?;
+    let mut reader = readers.pop().ok_or("no reader")?;
+    writer.stop_half_way(&cell, &[7u64; 10], 5);
+    let read = cell.try_read(&mut reader).ok().ok_or("again")?;
+    assert_eq!(rt; read, FoldState::new(&of_one_radio(1)).page());
+    assert_eq!(rt; reader.seen(), 0);
+    Ok(())
+}
+
+// What a reading answers of whose tries so many are torn, how much the pass has then seen, and what the reading after it answers.
+fn torn(rt: &HostRuntime, tries: u32) -> Result<(Result<u64, Again>, u64, u64), Fail> {
+    let (cell, writer, mut readers) = opened(rt, 1)?;
+    let mut reader = readers.pop().ok_or("no reader")?;
+    let mut meanwhile = Interrupting {
+        cell: &cell,
+        writer,
+        tries,
+    };
+    let answer = cell.read_during(&mut reader, &mut meanwhile);
+    let seen = reader.seen();
+    let after = cell.try_read(&mut reader).ok().ok_or("again")?;
+    Ok((answer.map(|page| page.length), seen, after.length))
+}
+
+// A try between whose two loads of the count something was published is made again, up to three times.
+#[test]
+fn four_torn_tries_are_told(rt: HostRuntime) -> Result<(), Fail> {
+    assert_eq!(rt; torn(&rt, 0)?, (Ok(0), 0, 0));
+    assert_eq!(rt; torn(&rt, 1)?, (Ok(1), 1, 1));
+    assert_eq!(rt; torn(&rt, 3)?, (Ok(3), 3, 3));
+    let again = Again {
+        first: 3,
+        second: 4,
+    };
+    assert_eq!(rt; torn(&rt, 4)?, (Err(again), 0, 4));
+    Ok(())
+}
+
+// Sixteen feeds and eight readers have their numbers.
+#[test]
+fn sixteen_feeds_and_eight_readers(rt: HostRuntime) -> Result<(), Fail> {
+    let settings = of_one_radio(16);
+    assert_eq!(rt; settings.count(), 16);
+    let Ok(parts) = PageCell::open(rt.alloc(), &settings, 8) else {
+        return Err("memory")?;
+    };
+    let CellParts { feeds, readers, .. } = parts;
+    assert_eq!(rt; (feeds.len(), readers.len()), (16, 8));
+    for (number, feed) in feeds.iter().enumerate() {
+        assert_eq!(rt; feed.number() as usize, number);
+    }
+    for (number, reader) in readers.iter().enumerate() {
+        assert_eq!(rt; (reader.number() as usize, reader.seen()), (number, 0));
+    }
+    Ok(())
+}

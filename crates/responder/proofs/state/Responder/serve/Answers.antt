@@ -1,0 +1,14 @@
+-- What the search leaves open of `state::Responder::serve`.
+use Rattle.std.proofs.Common.{rules, ◌≡◌, ℕ, ◌+◌, refl, sym, ap, ◌∙◌, subst, arith}
+use Rattle.responder.proofs.TurnLaws.{serving_none, serving_more, serves_some, serves_all}
+use Rattle.responder.proofs.state.Responder.serve.Goals as goal
+
+pub returns-then-not-turn-clause-serves : goal.returns-then-not-turn-clause-serves
+returns-then-not-turn-clause-serves g c =
+    serves_some _ _ _ _ _ _ c.loop.counter c.args.budget c.loop.served c.turn.new.served (search rules) c.loop.invariant.serving c.if-not-turn.ensures.stops
+
+pub loop-preserved : goal.loop-preserved
+loop-preserved g c = record {
+  same = search rules;
+  serving = serving_more _ _ _ _ _ _ c.loop.counter c.loop.served c.turn.new.served c.loop.invariant.serving c.if-not-turn.ensures.goes;
+}

@@ -1,0 +1,16 @@
+-- What the search leaves open of `state::Responder::turn`.
+use Rattle.std.proofs.Common.{rules, ◌≡◌, ℕ, ◌∷◌, [], take, refl, sym, ap, ◌∙◌, subst, arith}
+use Rattle.std.specs.Bool.{OnFalse}
+use Rattle.feed_link.specs.Told.NetEvent.{Came}
+use Rattle.responder.specs.Steps.{Stops, StopsUnsent}
+use Rattle.responder.proofs.TurnLaws.{on_false, whole_unsent}
+use Rattle.responder.proofs.state.Responder.turn.Goals as goal
+
+pub returns-in-Ok-Datagram-clause-stops : goal.returns-in-Ok-Datagram-clause-stops
+returns-in-Ok-Datagram-clause-stops g c =
+    let a = g.L.Link.state c.args.self.now.link in
+    let b = g.L.Link.state c.hear.new.self in
+    let past = Came c.in-Ok-Datagram.arrival.from c.in-Ok-Datagram.arrival.at (take c.in-Ok-Datagram.arrival.length c.hear.new.piece) ∷ [] in
+    on_false c.answer.result _ (Stops a (g.L.Link.state c.answer.new.self.link) c.args.self.now.pass.view c.answer.new.self.pass.view c.args.served.now c.answer.new.served)
+    (λ h. whole_unsent past a b (g.L.Link.state c.answer.new.self.link) c.args.self.now.pass.view c.answer.new.self.pass.view c.args.served.now c.answer.new.served (search rules) (search rules) h)
+    c.answer.ensures.stops

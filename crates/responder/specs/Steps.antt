@@ -1,0 +1,80 @@
+-- One turn at a time: scaffolding for the proof of `serve`, which no public clause needs.
+use Rattle.std.specs.Prelude.{◌≡◌, ℕ, ◌+◌, ◌-◌, ◌^◌, ◌≤◌, ◌<◌, List, [], ◌∷◌, ◌++◌, All, length, map}
+use Rattle.std.specs.List.{sum_by}
+use Rattle.feed_link.specs.Faults.{RoseByOne}
+use Rattle.feed_link.specs.Told.{NetEvent, LinkState, Adds}
+use Rattle.page_cell.specs.declared.view.View.{View}
+use Rattle.responder.specs.Turns.{Turn, Request, Reading, events_of, readings_of, IsTurn, GoesOn, answered_of, dropped_of, torn_of, Rises, kept}
+use Rattle.responder.specs.Turns.Turn.{Still, Last, Answered, Dropped, Torn, Unsent}
+use Rattle.responder.specs.Serving.{Took, IsFaulty}
+use Rattle.responder.specs.declared.served.Served.{Served}
+use Rattle.responder.specs.declared.served.End.{End}
+use Rattle.responder.specs.declared.served.End.TheVariants.{Count, LinkEnd, LinkFault}
+
+-- the counts can rise by one
+abbrev pub HasRoom : Served → Type 0
+HasRoom served = (served.answered < 2 ^ 64 - 1) × (served.dropped < 2 ^ 64 - 1) × (served.again < 2 ^ 64 - 1)
+
+-- this turn was taken, of which these events were past
+pub record TookOne (past : List NetEvent) (before now : LinkState) (view view_now : View) (turn : Turn) : Type 0 where
+  pub more : List NetEvent
+  pub split : events_of turn ≡ past ++ more
+  pub events : Adds before.events now.events more
+  pub lawful : IsTurn turn
+  pub readings : view_now.readings ≡ view.readings ++ map kept (readings_of turn)
+  pub rising : Rises view.seen (readings_of turn) view_now.seen
+  pub torn : view_now.watch.torn ≡ view.watch.torn + torn_of turn
+  pub greatest : view.watch.greatest ≤ view_now.watch.greatest
+  pub above : 0 < torn_of turn → view.seen < view_now.watch.greatest
+
+-- one turn more
+abbrev pub counted : Turn → Served → Served
+counted Still served = served
+counted Last served = served
+counted (Answered request reading sent reply) served = record served { answered = served.answered + 1 }
+counted (Dropped request reading sent) served = record served { dropped = served.dropped + 1 }
+counted (Torn request) served = record served { again = served.again + 1 }
+counted (Unsent request reading sent reply) served = served
+
+-- a turn was taken after which another may come
+pub record Goes (past : List NetEvent) (before now : LinkState) (view view_now : View) (served served_now : Served) : Type 0 where
+  pub turn : Turn
+  pub took : TookOne past before now view view_now turn
+  pub goes : GoesOn turn
+  pub counted : served_now ≡ counted turn served
+  pub faults : now.faults ≡ before.faults
+
+-- the last turns: the link's end, or what a fault of the link ended
+abbrev pub IsLast : ℕ → ℕ → List Turn → End → Type 0
+IsLast faults faults_now turns Count = ⊥
+IsLast faults faults_now turns LinkEnd = (turns ≡ Last ∷ []) × (faults_now ≡ faults)
+IsLast faults faults_now turns LinkFault = IsFaulty turns × RoseByOne faults faults_now
+
+pub record Stops (before now : LinkState) (view view_now : View) (served served_now : Served) : Type 0 where
+  pub turns : List Turn
+  pub took : Took before now view view_now turns
+  pub last : IsLast before.faults now.faults turns served_now.end
+  pub counted : served_now ≡ record served { end = served_now.end }
+
+-- a datagram was not answered, since the sending failed
+pub record StopsUnsent (past : List NetEvent) (before now : LinkState) (view view_now : View) (served served_now : Served) : Type 0 where
+  pub request : Request
+  pub reading : Reading
+  pub moment : ℕ
+  pub reply : List ℕ
+  pub took : TookOne past before now view view_now (Unsent request reading moment reply)
+  pub rose : RoseByOne before.faults now.faults
+  pub counted : served_now ≡ record served { end = LinkFault }
+
+-- the turns so far, after each of which another may come
+pub record Serving (before now : LinkState) (view view_now : View) (count : ℕ) (served : Served) : Type 0 where
+  pub turns : List Turn
+  pub took : Took before now view view_now turns
+  pub go : All GoesOn turns
+  pub length : length turns ≡ count
+  pub faults : now.faults ≡ before.faults
+  pub answered : served.answered ≡ sum_by answered_of turns
+  pub dropped : served.dropped ≡ sum_by dropped_of turns
+  pub again : served.again ≡ sum_by torn_of turns
+  pub end : served.end ≡ Count
+  pub most : (served.answered ≤ count) × (served.dropped ≤ count) × (served.again ≤ count)

@@ -1,0 +1,140 @@
+//! Hearing, reading, answering: turn after turn.
+ghost use Rattle.std.specs.Prelude.{◌≡◌, ◌<◌, ◌-◌, ◌^◌, ◌∷◌, []};
+ghost use Rattle.std.specs.Bool.{OnTrue, OnFalse};
+ghost use Rattle.feed_link.specs.Told.NetEvent.{Came};
+ghost use Rattle.responder.specs.Serving.{IsSame, Serves};
+ghost use Rattle.responder.specs.Steps.{Goes, Stops, StopsUnsent, HasRoom};
+
+use crate::{End, Responder, Served};
+use feed_link::{Arrival, Failed, Gate, Hearing, Link};
+use page_cell::{PageCell, ReadPass};
+use reply_core::{REPLY_LENGTH, reply};
+use std::sync::Wait;
+
+// Responders have these numbers and their own at the gate.
+const AT_GATE: u32 = 100;
+
+// The places of the gate that a responder passes: after it has heard a datagram, and after it has sent a reply.
+const HEARD: u8 = 2;
+
+const SENT: u8 = 3;
+
+impl<L: Link + Drop> Responder<L> {
+    /// A responder on a link, with a reader's pass. Its number, from 0, is below 8.
+    pub fn new(link: L, pass: ReadPass, number: u32) -> Responder<L>
+        requires { number < 8 }
+        ensures { (result.link ≡ link) × (result.pass ≡ pass) × (result.number ≡ number) }
+    {
+        Responder { link, pass, number }
+    }
+
+    // Answers a datagram that came, of which the hearing is past. True where another turn may come.
+    fn answer<R: Wait, G: Gate>(
+        &mut self,
+        rt: &R,
+        cell: &PageCell,
+        gate: &G,
+        arrival: &Arrival,
+        datagram: &[u8],
+        served: &mut Served,
+    ) -> bool
+        requires pass { self.old.pass.table ≡ cell.now.table }
+        requires room { HasRoom served.old }
+        requires at { (L.state self.old.link).latest ≡ arrival.now.at }
+        ensures same { IsSame (L.opening self.old.link) (L.opening self.new.link) self.old.pass self.new.pass self.old.number self.new.number }
+        ensures goes { OnTrue result (Goes (Came arrival.now.from arrival.now.at datagram.now ∷ []) (L.state self.old.link) (L.state self.new.link) self.old.pass.view self.new.pass.view served.old served.new) }
+        ensures stops { OnFalse result (StopsUnsent (Came arrival.now.from arrival.now.at datagram.now ∷ []) (L.state self.old.link) (L.state self.new.link) self.old.pass.view self.new.pass.view served.old served.new) }
+    {
+        gate.pass(rt, AT_GATE + self.number, HEARD);
+        let Ok(page) = cell.try_read(&mut self.pass) else {
+            served.again += 1;
+            return true;
+        };
+        let sent = self.link.moment();
+        let mut out = [0u8; REPLY_LENGTH];
+        match reply(&page, datagram, arrival.at, sent, &mut out) {
+            Ok(()) => match self.link.send(arrival.from, &out) {
+                Ok(()) => {
+                    served.answered += 1;
+                    gate.pass(rt, AT_GATE + self.number, SENT);
+                    true
+                }
+                Err(Failed) => {
+                    served.end = End::LinkFault;
+                    false
+                }
+            },
+            Err(_) => {
+                served.dropped += 1;
+                true
+            }
+        }
+    }
+
+    // One hearing, and what follows from it. True where another turn may come.
+    fn turn<R: Wait, G: Gate>(
+        &mut self,
+        rt: &R,
+        cell: &PageCell,
+        gate: &G,
+        served: &mut Served,
+    ) -> bool
+        requires pass { self.old.pass.table ≡ cell.now.table }
+        requires room { HasRoom served.old }
+        ensures same { IsSame (L.opening self.old.link) (L.opening self.new.link) self.old.pass self.new.pass self.old.number self.new.number }
+        ensures goes { OnTrue result (Goes [] (L.state self.old.link) (L.state self.new.link) self.old.pass.view self.new.pass.view served.old served.new) }
+        ensures stops { OnFalse result (Stops (L.state self.old.link) (L.state self.new.link) self.old.pass.view self.new.pass.view served.old served.new) }
+    {
+        let mut piece = [0u8; 1024];
+        match self.link.hear(&mut piece) {
+            Ok(Hearing::Datagram(arrival)) => {
+                let datagram = &piece[..arrival.length];
+                self.answer(rt, cell, gate, &arrival, datagram, served)
+            }
+            Ok(Hearing::Quiet) => true,
+            Ok(Hearing::End) => {
+                served.end = End::LinkEnd;
+                false
+            }
+            Err(Failed) => {
+                served.end = End::LinkFault;
+                false
+            }
+        }
+    }
+
+    /// Serves for so many hearings, or until the link ends or fails. Each datagram that comes passes place 2 of the gate; then the page
+    /// is read, then the link's moment is taken, and the reply is sent to the sender, or the datagram is dropped. After a sending it
+    /// passes place 3. Where no page could be read, the datagram is left.
+    pub fn serve<R: Wait, G: Gate>(
+        &mut self,
+        rt: &R,
+        cell: &PageCell,
+        gate: &G,
+        budget: u64,
+    ) -> Served
+        requires { self.old.pass.table ≡ cell.now.table }
+        ensures same { IsSame (L.opening self.old.link) (L.opening self.new.link) self.old.pass self.new.pass self.old.number self.new.number }
+        ensures serves { Serves (L.state self.old.link) (L.state self.new.link) self.old.pass.view self.new.pass.view budget result }
+    {
+        let mut served = Served {
+            answered: 0,
+            dropped: 0,
+            again: 0,
+            end: End::Count,
+        };
+        for _ in 0..budget {
+            if !self.turn(rt, cell, gate, &mut served) {
+                return served;
+            }
+        }
+        served
+    }
+
+    /// Gives the link and the pass back.
+    pub fn give_back(self) -> (L, ReadPass)
+        ensures { (result.0 ≡ self.link) × (result.1 ≡ self.pass) }
+    {
+        (self.link, self.pass)
+    }
+}

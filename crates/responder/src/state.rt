@@ -1,0 +1,13 @@
+//! A responder.
+ghost use Rattle.std.specs.Prelude.{◌<◌};
+
+use page_cell::ReadPass;
+
+/// Serves the clients of a link from the shared page.
+#[derive(Drop)]
+pub struct Responder<L: Drop> {
+    pub(crate) link: L,
+    pub(crate) pass: ReadPass,
+    pub(crate) number: u32,
+    ghost small: { number < 8 },
+}

@@ -1,0 +1,251 @@
+//! A responder over links in memory, and one on the loopback beside a client's thread. The page is that of no entry, so each reply
+//! says that the server isn't synchronised (RFC 5905, section 7.3: leap indicator 3).
+ghost use Rattle.std.specs.Prelude.{◌≡◌, IfOk};
+ghost use Rattle.system_fold.specs.Settings.{AreLawful};
+
+use crate::{End, Responder, Served};
+use feed_link::{
+    Address, FakeOpen, HostOutside, Link, LinkEvent, MemoryLink, OpenGate, Outside, Planned,
+};
+use page_cell::{PageCell, ReadPass};
+use std::alloc::Global;
+use std::net::{IpAddr, Ipv4Addr, SocketAddr, UdpSocket};
+use std::sync::Wait;
+use std::test::Fail;
+use std::time::Duration;
+use std::{io, thread};
+use system_fold::Settings;
+use tick_units::Local;
+
+const CLIENT: Address = Address {
+    ip: 0x7f00_0001,
+    port: 5000,
+};
+
+// A request of version 4 with a poll of 64 s, sent at 0x1122334455667788 by the client's clock.
+const REQUEST: [u8; 48] = [
+    0x23, 0x00, 0x06, 0xec, 0x00, 0x00, 0x00, 0x00, 0x00, 0x00, 0x00, 0x00, 0x00, 0x00, 0x00, 0x00, // to the refid
+    0x00, 0x00, 0x00, 0x00, 0x00, 0x00, 0x00, 0x00, 0x00, 0x00, 0x00, 0x00, 0x00, 0x00, 0x00, 0x00, // to the origin
+    0x00, 0x00, 0x00, 0x00, 0x00, 0x00, 0x00, 0x00, 0x11, 0x22, 0x33, 0x44, 0x55, 0x66, 0x77, 0x88,
+];
+
+// The settings of a station without a source.
+fn without_sources() -> Settings
+    ensures { AreLawful result }
+{
+    Settings::new(500)
+}
+
+// A cell with one reader, and its pass.
+fn opened(alloc: Global) -> Result<(PageCell, ReadPass), Fail>
+    ensures { IfOk result (λ r. r.1.table ≡ r.0.table) }
+{
+    let settings = without_sources();
+    let Ok(parts) = PageCell::open(alloc, &settings, 1) else {
+        return Err("memory")?;
+    };
+    let mut readers = parts.readers;
+    match readers.pop() {
+        Some(pass) => Ok((parts.cell, pass)),
+        None => Err("no reader")?,
+    }
+}
+
+fn moment(microseconds: u32) -> Local {
+    Local::new(u64::from(microseconds)).unwrap()
+}
+
+// A datagram of so many bytes that begins as the request, with another first byte.
+fn datagram(alloc: Global, first: u8, length: usize) -> Result<Planned, Fail> {
+    let mut bytes = vec![in alloc; 0u8; length]?;
+    let count = length.min(48);
+    bytes[..count].copy_from_slice(&REQUEST[..count]);
+    if length > 0 {
+        bytes[0] = first;
+    }
+    Ok(Planned::Datagram {
+        from: CLIENT,
+        at: moment(7),
+        bytes,
+    })
+}
+
+fn link_of(
+    alloc: Global,
+    hearings: Vec<Planned>,
+    failing: u64,
+    events: usize,
+) -> Result<MemoryLink, FakeOpen> {
+    let fails = vec![in alloc; failing]?;
+    MemoryLink::new(alloc, hearings, Vec::new(alloc), fails, events, 4000)
+}
+
+// What a responder does on a link for so many hearings, and the link after it.
+fn serve<R: Wait>(
+    rt: &R,
+    alloc: Global,
+    link: MemoryLink,
+    budget: u64,
+) -> Result<(Served, MemoryLink), Fail> {
+    let (cell, pass) = opened(alloc)?;
+    let mut responder = Responder::new(link, pass, 7);
+    let served = responder.serve(rt, &cell, &OpenGate::new(), budget);
+    Ok((served, responder.give_back().0))
+}
+
+// What the last event of a link was: the length and the first byte of a datagram that was sent to the client, or None.
+fn sent(link: &MemoryLink) -> Option<(usize, u8)> {
+    let last = link.count().saturating_sub(1);
+    match link.event(last) {
+        Some(LinkEvent::Sent { to, bytes }) if to == CLIENT && !bytes.is_empty() => {
+            Some((bytes.len(), bytes[0]))
+        }
+        _ => None,
+    }
+}
+
+const NONE: Served = Served {
+    answered: 0,
+    dropped: 0,
+    again: 0,
+    end: End::Count,
+};
+
+#[test]
+fn each_datagram_is_answered_or_dropped(rt: HostRuntime) -> Result<(), Fail> {
+    let table = [
+        (0x23, 0, None),
+        (0x23, 47, None),
+        (0x23, 48, Some((48, 0xe4))),
+        (0x23, 68, Some((48, 0xe4))),
+        (0x23, 1024, Some((48, 0xe4))),
+        (0x0b, 48, Some((48, 0xcc))),
+        (0x03, 48, None),
+        (0x2b, 48, None),
+        (0x21, 48, None),
+        (0x26, 48, None),
+    ];
+    for (first, length, want) in table {
+        let mut hearings = Vec::new(rt.alloc());
+        hearings.push(datagram(rt.alloc(), first, length)?)?;
+        let (served, link) = serve(&rt, rt.alloc(), link_of(rt.alloc(), hearings, 0, 9)?, 1)?;
+        let answered = u64::from(want.is_some());
+        let dropped = u64::from(want.is_none());
+        assert_eq!(rt;
+            served,
+            Served {
+                answered,
+                dropped,
+                ..NONE
+            }
+        );
+        assert_eq!(rt; sent(&link), want);
+        assert_eq!(rt; link.count(), if want.is_some() { 3 } else { 2 });
+    }
+    Ok(())
+}
+
+// A link that hears a request, nothing, a request, and its end.
+fn two_requests(alloc: Global, failing: u64, events: usize) -> Result<MemoryLink, Fail> {
+    let mut hearings = Vec::new(alloc);
+    hearings.push(datagram(alloc, 0x23, 48)?)?;
+    hearings.push(Planned::Quiet)?;
+    hearings.push(datagram(alloc, 0x23, 48)?)?;
+    Ok(link_of(alloc, hearings, failing, events)?)
+}
+
+// The calls of hearing and sending are 1 to 6: heard, sent, heard nothing, heard, sent, heard the end.
+#[test]
+fn a_fault_of_the_link_ends_the_serving(rt: HostRuntime) -> Result<(), Fail> {
+    let table = [
+        (1, 0, End::LinkFault, 0),
+        (2, 0, End::LinkFault, 2),
+        (3, 1, End::LinkFault, 3),
+        (4, 1, End::LinkFault, 4),
+        (5, 1, End::LinkFault, 6),
+        (6, 2, End::LinkFault, 7),
+        (7, 2, End::LinkEnd, 8),
+    ];
+    for (failing, answered, end, events) in table {
+        let (served, link) = serve(&rt, rt.alloc(), two_requests(rt.alloc(), failing, 9)?, 9)?;
+        assert_eq!(rt;
+            served,
+            Served {
+                answered,
+                end,
+                ..NONE
+            }
+        );
+        assert_eq!(rt; link.count(), events);
+    }
+    Ok(())
+}
+
+#[test]
+fn it_hears_as_often_as_it_is_asked_to(rt: HostRuntime) -> Result<(), Fail> {
+    for (budget, answered, events) in [(0, 0, 0), (1, 1, 3), (2, 1, 4), (3, 2, 7)] {
+        let (served, link) = serve(&rt, rt.alloc(), two_requests(rt.alloc(), 0, 9)?, budget)?;
+        assert_eq!(rt; served, Served { answered, ..NONE });
+        assert_eq!(rt; link.count(), events);
+    }
+    Ok(())
+}
+
+#[test]
+fn a_link_past_its_room_is_served_on(rt: HostRuntime) -> Result<(), Fail> {
+    let (served, link) = serve(&rt, rt.alloc(), two_requests(rt.alloc(), 0, 2)?, 9)?;
+    let end = End::LinkEnd;
+    assert_eq!(rt;
+        served,
+        Served {
+            answered: 2,
+            end,
+            ..NONE
+        }
+    );
+    assert_eq!(rt; link.count(), 0);
+    Ok(())
+}
+
+// A client that waits for a word of the server, and then asks three times: how many replies of 48 bytes come that say that the server
+// isn't synchronised.
+fn ask(socket: &UdpSocket) -> io::Result<u64> {
+    let mut piece = [0u8; 1024];
+    let (_, server) = socket.recv_from(&mut piece)?;
+    let mut replies = 0u64;
+    for _ in 0..3u32 {
+        socket.send_to(&REQUEST, server)?;
+        let (length, _) = socket.recv_from(&mut piece)?;
+        if length == 48 && piece[0] == 0xe4 {
+            replies = replies.saturating_add(1);
+        }
+    }
+    Ok(replies)
+}
+
+#[test]
+fn a_client_on_the_loopback_is_answered(rt: HostRuntime) -> Result<(), Fail> {
+    let loopback = SocketAddr::new(IpAddr::V4(Ipv4Addr::LOCALHOST), 0);
+    let client = UdpSocket::bind(&rt, loopback)?;
+    client.set_read_timeout(Some(Duration::from_secs(5)))?;
+    let to = Address {
+        ip: 0x7f00_0001,
+        port: client.local_addr()?.port(),
+    };
+    let mut outside = HostOutside::new(&rt);
+    let Ok(mut link) = outside.open_link(0, moment(0)) else {
+        return Err("the link was not opened")?;
+    };
+    assert!(rt; link.send(to, b"come").is_ok());
+    let (cell, pass) = opened(rt.alloc())?;
+    let mut responder = Responder::new(link, pass, 0);
+    let Ok(child) = thread::spawn(&rt, move || ask(&client)) else {
+        return Err("no thread")?;
+    };
+    let served = responder.serve(&rt, &cell, &OpenGate::new(), 3);
+    let Ok(replies) = child.join(&rt) else {
+        return Err("the client was not answered")?;
+    };
+    assert_eq!(rt; (replies, served.answered, served.end), (3, 3, End::Count));
+    Ok(())
+}
