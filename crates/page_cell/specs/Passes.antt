@@ -15,6 +15,12 @@ pub record Known : Type 0 where
   pub table : TableId
   pub view : View
 
+-- a reader's pass: also its number, from 0
+pub record KnownReader : Type 0 where
+  pub table : TableId
+  pub view : View
+  pub number : ℕ
+
 -- the settings by which a pass means pages
 abbrev pub key_of : View → SettingsFields
 key_of v = v.settings

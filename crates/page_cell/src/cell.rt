@@ -73,7 +73,7 @@ impl PageCell {
         meanwhile: &mut M,
     ) -> Result<Page, Again>
         requires { r.old.table ≡ self.now.table }
-        ensures cell { r.new.table ≡ r.old.table }
+        ensures cell { (r.new.table ≡ r.old.table) × (r.new.number ≡ r.old.number) }
         ensures ok { IfOk result (λ p. ReadsPage r.old.view r.new.view p) }
         ensures again { IfErr result (λ a. ReadsAgain r.old.view r.new.view a.first a.second) }
     {
@@ -90,7 +90,7 @@ impl PageCell {
     /// It takes no lock, waits for nobody, and makes at most 48 loads.
     pub fn try_read(&self, r: &mut ReadPass) -> Result<Page, Again>
         requires { r.old.table ≡ self.now.table }
-        ensures cell { r.new.table ≡ r.old.table }
+        ensures cell { (r.new.table ≡ r.old.table) × (r.new.number ≡ r.old.number) }
         ensures ok { IfOk result (λ p. ReadsPage r.old.view r.new.view p) }
         ensures again { IfErr result (λ a. ReadsAgain r.old.view r.new.view a.first a.second) }
     {
@@ -115,7 +115,7 @@ impl PageCell {
     pub fn learn(&self, r: &mut ReadPass, t: Receipt)
         requires reader { r.old.table ≡ self.now.table }
         requires receipt { t.table ≡ self.now.table }
-        ensures cell { r.new.table ≡ r.old.table }
+        ensures cell { (r.new.table ≡ r.old.table) × (r.new.number ≡ r.old.number) }
         ensures seen { r.new.view.seen ≡ max r.old.view.seen t.view.seen }
         ensures readings { r.new.view.readings ≡ r.old.view.readings }
         ensures watch { r.new.view.watch ≡ r.old.view.watch }

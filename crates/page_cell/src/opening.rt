@@ -76,6 +76,7 @@ impl PageCell {
         requires { b.old.table ≡ self.now.table }
         ensures cell { result.table ≡ b.old.table }
         ensures same { b.new ≡ b.old }
+        ensures number { result.number ≡ number }
         ensures reader { (result.view.seen ≡ 0) × (result.view.readings ≡ []) × (result.view.watch.torn ≡ 0) }
     {
         let token = self.banks.shared.split_seat::<GivesReader>(&mut b.token);
@@ -121,6 +122,7 @@ impl PageCell {
         requires { b.old.table ≡ self.now.table }
         ensures same { b.new ≡ b.old }
         ensures readers { IfOk result (λ rs. All (λ r. (r.table ≡ self.now.table) × (r.view.seen ≡ 0) × (r.view.readings ≡ []) × (r.view.watch.torn ≡ 0)) rs.items) }
+        ensures numbers { IfOk result (λ rs. map (λ r. r.number) rs.items ≡ range_with_len 0 count) }
         ensures count { IfOk result (λ rs. vec_len rs ≡ count) }
     {
         let mut readers = Vec::new(alloc);
@@ -141,6 +143,7 @@ impl PageCell {
         ensures claims { IfOk result (λ p. map (λ f. claim_of f.view) p.feeds.items ≡ map new_claim (range_with_len 0 (length s.now.sources))) }
         ensures feeds { IfOk result (λ p. All (λ f. f.table ≡ p.cell.table) p.feeds.items) }
         ensures readers { IfOk result (λ p. All (λ r. (r.table ≡ p.cell.table) × (r.view.seen ≡ 0) × (r.view.readings ≡ []) × (r.view.watch.torn ≡ 0)) p.readers.items) }
+        ensures numbers { IfOk result (λ p. map (λ r. r.number) p.readers.items ≡ range_with_len 0 readers) }
         ensures count { IfOk result (λ p. vec_len p.readers ≡ readers) }
     {
         let (cell, mut baton) = first_pass(alloc, s)?;

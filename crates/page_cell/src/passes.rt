@@ -52,11 +52,11 @@ pub struct ReadPass {
 
 impl Model for ReadPass {
     ghost use Rattle.std.specs.Prelude.{◌≡◌, []};
-    ghost use Rattle.page_cell.specs.Passes.{Known, IsReader};
+    ghost use Rattle.page_cell.specs.Passes.{KnownReader, IsReader};
 
-    ghost Value = { Known };
+    ghost Value = { KnownReader };
 
-    ghost view = { λ p. record { table = p.token.table_id; view = p.token.me.0 } };
+    ghost view = { λ p. record { table = p.token.table_id; view = p.token.me.0; number = p.number } };
 
     ghost invariant = { λ p. (p.token.me.1 ≡ []) × IsReader p.seen p.token.me.0 };
 }
@@ -90,7 +90,9 @@ impl FeedPass {
 
 impl ReadPass {
     /// The number of the reader, from 0.
-    pub fn number(&self) -> u32 {
+    pub fn number(&self) -> u32
+        ensures { result ≡ self.now.number }
+    {
         self.number
     }
 

@@ -2,6 +2,8 @@
 #![tactic(auto)]
 
 mod step;
+#[cfg(test)]
+mod tests;
 mod world;
 
 pub use step::{Step, StepRefusal};

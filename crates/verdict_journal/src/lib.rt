@@ -1,10 +1,14 @@
 //! The journal that threads append to, under one lock, beside the page that they read without it.
 #![tactic(auto)]
 
+#[cfg(test)]
+mod fakes;
 mod hub;
 mod journal;
 mod name;
 mod state;
+#[cfg(test)]
+mod tests;
 
 pub use hub::{Hub, HubOpen, HubParts};
 pub use journal::Journal;

@@ -4,7 +4,7 @@ use mathlib.Core.List.{IsPrefix}
 use Rattle.atomic_table.specs.Table.{Me}
 use Rattle.journal_entry.specs.declared.entry.Entry.{Entry}
 use Rattle.page_cell.specs.Claims.{IsReading, IsTally, IsTrueOf}
-use Rattle.page_cell.specs.Passes.{CellFields, Known, IsBaton, IsPublisher, key_of, claim_of}
+use Rattle.page_cell.specs.Passes.{CellFields, Known, KnownReader, IsBaton, IsPublisher, key_of, claim_of}
 use Rattle.page_cell.specs.Steps.{Holds}
 use Rattle.page_cell.specs.Views.{both}
 use Rattle.page_cell.specs.declared.view.Claim.{Claim}
@@ -18,4 +18,4 @@ pub join_seat-requires : goal.join_seat-requires
 join_seat-requires c =
     let i = c.r.invariant.1 in
     let wide = c.self.invariant in
-    (ap (λ (k : Known). k.table) c.r.view_is ∙ c.requires.reader ∙ sym (ap (λ (z : CellFields). z.table) c.self.view_is), ap (λ (k : Known). k.table) c.t.view_is ∙ c.requires.receipt ∙ sym (ap (λ (z : CellFields). z.table) c.self.view_is), c.t.invariant.0, omega (arith, wide), joins _ _ _ _ _ i.rests.live c.t.invariant.1.live i.rests.trying)
+    (ap (λ (k : KnownReader). k.table) c.r.view_is ∙ c.requires.reader ∙ sym (ap (λ (z : CellFields). z.table) c.self.view_is), ap (λ (k : Known). k.table) c.t.view_is ∙ c.requires.receipt ∙ sym (ap (λ (z : CellFields). z.table) c.self.view_is), c.t.invariant.0, omega (arith, wide), joins _ _ _ _ _ i.rests.live c.t.invariant.1.live i.rests.trying)
