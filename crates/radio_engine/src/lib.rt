@@ -17,6 +17,8 @@ pub use run::{end_without_memory, run_station};
 #[cfg(test)]
 mod fault_tests;
 #[cfg(test)]
+mod migrate_tests;
+#[cfg(test)]
 mod replay_tests;
 #[cfg(test)]
 mod tests;
