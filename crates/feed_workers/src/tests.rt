@@ -11,7 +11,6 @@ use feed_link::{
     Source, SureSource,
 };
 use journal_entry::{LINE_ROOM, write_entry};
-use log_decoder::LogDecoder;
 use page_cell::{CellParts, PageCell};
 use radio_receiver::{BoxedReceiver, DcfReceiver, Receiver};
 use std::alloc::Global;
@@ -142,21 +141,21 @@ fn run_log<N: HubName, R: Wait>(
     else {
         return None;
     };
-    let mut pass = feeds.pop()?;
+    let pass = feeds.pop()?;
     if pass.number() >= settings.count() {
         return None;
     }
-    let mut decoder = LogDecoder::new(pass.number(), receiver);
-    let mut log = log;
+    let mut worker = RadioWorker::new(receiver, log, pass);
     let work = read_log(
         rt,
         &hub,
         &OpenGate::new(),
-        &mut decoder,
-        &mut log,
-        &mut pass,
+        &mut worker.decoder,
+        &mut worker.log,
+        &mut worker.pass,
         most,
     );
+    let (_, pass) = worker.give_back();
     let mut passes = Vec::new(alloc);
     passes.push(pass).ok()?;
     Some((work, hub.close(passes, Vec::new(alloc))))
