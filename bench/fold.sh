@@ -2,17 +2,17 @@
 # What an entry costs in a fold, with the page after it: instructions an entry, counted by callgrind, of a small program that folds
 # the answers of so many servers, none or some of them ten seconds off. Two trees are built in one run, each in a temporary folder
 # over copies of the crates, which proves them first (some minutes where nothing is kept): this one, which keeps the ends of the
-# intervals in order and each source's figures, and that of a commit which worked out both anew at each entry. Needs rt, git, valgrind.
+# intervals in order and each source's figures, and that of a commit before the page had a rate. Needs rt, git, valgrind.
 #
 #     bench/fold.sh [ENTRIES [COMMIT]]
 set -eu
 entries=${1:-200}
-commit=${2:-db65178}
+commit=${2:-f232796}
 top=$(cd "$(dirname "$0")/.." && pwd)
 work=$(mktemp -d)
 trap 'rm -rf "$work"' EXIT
 crates="tick_units feed_link journal_entry clock_filter select_core cluster_core clock_page system_fold"
-mkdir -p "$work/after/crates" "$work/before/crates" "$work/loop/src" "$work/loop/proofs/fold_often"
+mkdir -p "$work/after/crates" "$work/before/crates" "$work/loop/src" "$work/loop/proofs/fold_often" "$work/loop/proofs/are_lawful"
 for crate in $crates; do
     mkdir "$work/after/crates/$crate"
     for part in src specs proofs; do
@@ -26,7 +26,7 @@ cat > "$work/loop/src/main.rt" <<'RATTLE'
 //! Folds so many answers of so many servers, and makes the page after each.
 #![tactic(auto)]
 
-ghost use Rattle.std.specs.Prelude.{◌≤◌, ◌<◌, ◌^◌, ◌≡◌, length};
+ghost use Rattle.std.specs.Prelude.{◌≤◌, ◌<◌, ◌^◌, ◌≡◌, true, length};
 ghost use Rattle.journal_entry.specs.Lawful.{IsLawful};
 ghost use Rattle.system_fold.specs.Settings.{AreLawful};
 
@@ -79,14 +79,14 @@ fn fold_often(settings: &Settings, strays: u32, count: u64) -> u64
     for i in 0..count {
         fold.step(&answer(settings.count(), strays, i));
         let page = fold.page();
-        sum = sum.wrapping_add(page.until).wrapping_add(u64::from(page.root_disp.0));
+        sum = sum.wrapping_add(page.reftime.0).wrapping_add(u64::from(page.root_disp.0));
     }
     sum
 }
 
 // Settings with so many servers, at most 16.
 fn settings_of(servers: u64) -> Settings {
-    let mut settings = Settings::new(600_000_000);
+    let mut settings = Settings::new(1000);
     for _ in 0..servers {
         let ip = settings.count();
         if ip < 16 {
@@ -94,6 +94,12 @@ fn settings_of(servers: u64) -> Settings {
         }
     }
     settings
+}
+
+fn are_lawful(settings: &Settings) -> bool
+    ensures { result ≡ true → AreLawful settings.now }
+{
+    settings.bound() == 4_294_967_296
 }
 
 fn main(rt: HostRuntime) -> io::Result<()> {
@@ -109,9 +115,8 @@ fn main(rt: HostRuntime) -> io::Result<()> {
     }
     let [servers, strays, count] = numbers;
     let settings = settings_of(servers.min(16));
-    let holdover = settings.holdover();
     let feeds = settings.count();
-    if 1 <= holdover && holdover <= 86_400_000_000 && 0 < feeds && count <= 1 << 22 {
+    if are_lawful(&settings) && 0 < feeds && count <= 1 << 22 {
         let sum = fold_often(&settings, strays.min(16) as u32, count);
         println!(rt; "{sum}")?;
     }
@@ -152,12 +157,24 @@ loop-i-preserved c = record {
   few = let few = c.loop-i.invariant.few in omega (arith, length-append c.loop-i.invariant.journal (c.answer.result ∷ []));
 }
 ANTT
+cat > "$work/loop/proofs/are_lawful/Answers.antt" <<'ANTT'
+use Rattle.std.proofs.Common.{arith}
+use Rattle.std.proofs.lemmas.Bool.Decides.{nat_tests}
+use Rattle.fold_loop.proofs.are_lawful.Goals as goal
+
+pub returns : goal.returns
+returns c h = record { milliseconds = 1000; least = omega arith; most = omega arith; bound = grind (arith, nat_tests) }
+ANTT
 for tree in before after; do
     cp "$work/crates.txt" "$work/$tree/"
     cp -r "$work/loop" "$work/$tree/crates/fold_loop"
-    # What a fold stands for had another name then.
-    [ "$tree" = after ] || sed -i 's/KeptFold\.{StandsForJournal}/Standing.{StandsFor}/; s/StandsForJournal/StandsFor/' \
-        "$work/$tree/crates/fold_loop/proofs/fold_often/Invariants.antt"
+    # Settings had a holdover then.
+    if [ "$tree" = before ]; then
+        rm -r "$work/before/crates/fold_loop/proofs/are_lawful"
+        sed -i 's/Settings::new(1000)/Settings::new(600_000_000)/
+            s/settings.bound() == 4_294_967_296/1 <= settings.holdover() \&\& settings.holdover() <= 86_400_000_000/' \
+            "$work/before/crates/fold_loop/src/main.rt"
+    fi
     (cd "$work/$tree/crates/fold_loop" && rt run -- 1 0 1 > "$work/build.log" 2>&1) || { cat "$work/build.log" >&2; exit 1; }
 done
 
@@ -166,7 +183,8 @@ done
 count() {
     tree=$1
     shift
-    valgrind --tool=callgrind --callgrind-out-file=/dev/null "$work/$tree/crates/fold_loop/out/fold_loop" "$@" 2>&1 > "$work/sum.$tree" |
+    # A block that is filled counts by its stores, and not, as `rep stosb` does behind 2048 bytes, by its bytes.
+    GLIBC_TUNABLES=glibc.cpu.x86_rep_stosb_threshold=1000000 valgrind --tool=callgrind --callgrind-out-file=/dev/null "$work/$tree/crates/fold_loop/out/fold_loop" "$@" 2>&1 > "$work/sum.$tree" |
         sed -n 's/.*Collected : //p'
 }
 # Those of an entry, once all servers are fit.

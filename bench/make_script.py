@@ -123,7 +123,7 @@ def station():
     plans = [plan for plan, _ in PLANS for _ in range(4)]
     radios = (f'\n[[radio]]\nplan = "{plan}"\nlog = "{feed}.log"\ndelay = {DELAY * feed}\n' for feed, plan in enumerate(plans))
     servers = (f'\n[[server]]\naddress = "127.0.0.{feed}"\nport = 123\n' for feed in SERVERS)
-    return "holdover = 1800\n" + "".join(radios) + "".join(servers)
+    return "bound = 1000\n" + "".join(radios) + "".join(servers)
 
 
 def main():

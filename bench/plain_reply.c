@@ -10,16 +10,23 @@ static void put64(uint8_t *out, uint64_t n) { n = __builtin_bswap64(n); memcpy(o
 /* A number of microseconds in units of 2^-32 s. */
 static uint64_t span(uint64_t us) { return ((us / 1000000) << 32) + ((us % 1000000) << 32) / 1000000; }
 
+/* What a rate comes to in so many microseconds, rounded down. */
+static int64_t slew(int64_t rate, uint64_t us) {
+    int64_t rest = rate * (int64_t)(us % 1000000);
+    return rate * (int64_t)(us / 1000000) + rest / 1000000 - (rest % 1000000 < 0);
+}
+
 /* 15 parts per million of it, rounded up. */
 static uint64_t phi(uint64_t us) { return us / 48828125 * (3 << 20) + (us % 48828125 * (3 << 20) + 48828124) / 48828125; }
 
 __attribute__((noinline)) static int one_reply(const uint64_t *w, const uint8_t *in, size_t length, uint64_t at, uint8_t *out) {
-    if (w[9] || w[8] >= 64 || w[3] >= 1ull << 50 || w[1] >> 41) return 0;
+    int64_t rate = (int64_t)w[9];
+    if (rate < -2147483 || rate > 2147483 || w[8] >= 64 || w[3] >= 1ull << 50 || w[1] >> 41) return 0;
     if (length < 48) return 0;
     int version = in[0] >> 3 & 7;
     if (version == 0 || version > 4 || (in[0] & 7) != 3) return 0;
     int good = w[1] >> 40 && at < w[4];
-    uint64_t time = w[2] + span(at);
+    uint64_t time = w[2] + span(at) + (at > w[3] ? slew(rate, at - w[3]) : 0);
     uint64_t second = (w[8] << 32) + (time >> 32) + 0;
     int leap = good ? second < w[7] && w[7] <= second + 86400 : 3;
     out[0] = leap << 6 | version << 3 | 4;
@@ -40,7 +47,7 @@ __attribute__((noinline)) static int one_reply(const uint64_t *w, const uint8_t 
 
 int main(int argc, char **argv) {
     uint64_t count = argc > 1 ? strtoull(argv[1], 0, 10) : 0, sum = 0;
-    const uint64_t words[10] = {5, 0x010144434600, 17077896086183477248u, 302000000, 902000000, 61542, 0xed00e13000000000, 0, 0, 0};
+    const uint64_t words[10] = {5, 0x010144434600, 17077896086183477248u, 302000000, 4364906902, 61542, 0xed00e13000000000, 0, 0, (uint64_t)-53687};
     uint8_t out[48] = {0};
     for (uint64_t i = 0; i < count; i++) {
         uint8_t in[48] = {0};

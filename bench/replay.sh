@@ -93,10 +93,12 @@ python3 -B - "$work/long" "$work/text" <<'PY'
 import collections, sys
 words = collections.Counter(line.split()[0] for line in open(sys.argv[1]))
 text = open(sys.argv[2]).read().splitlines()
-told = collections.Counter(line.split()[0] if line[0] > "9" else line.split()[2] for line in text)
+fields = [line.split() for line in text]
+told = collections.Counter(line[5] if line[0] == "j2" else line[0] for line in fields)
+numbers = [int(line[1]) for line in fields if line[0] == "j2"]
 entries = told["lone"] + told["verdict"] + told["sample"]
 due = {"lone": 12, "verdict": told["verdict"], "asked": words["ask"], "sample": words["answer"], "reply": words["request"], "page": 1, "status": 1}
-if dict(told) != due or text[-1] != "status 0" or not text[-2].startswith(f"page {entries} 1 ") or told["verdict"] < 12 * (words["request"] - 2):
+if dict(told) != due or text[-1] != "status 0" or not text[-2].startswith(f"page {entries} 1 ") or told["verdict"] < 12 * (words["request"] - 2) or numbers != list(range(1, entries + 1)):
     sys.exit(f"the text isn't that of the script: {dict(told)}, {text[-2]}, {text[-1]}")
 print(f"{entries} entries, {words['request']} replies, status 0")
 PY

@@ -61,9 +61,9 @@ wrote '0 127001445 verdict 4004773260 0$'
 wrote '0 487002471 refused 2$'
 ends 0 'status 0' replay --station examples/station.toml --script examples/exchange.script
 wrote 'asked 230006ec0000000000000000000000000000000000000000000000000000000000000000000000008000003200000000$'
-wrote '1 50009130 sample 17200369634135639483 37151467 8781 2 7f000001 256 512$'
-wrote 'reply 240306ec000003060000f2407f000001eeb3fd3f0253111e1122334455667788eeb3fd49fffcb923eeb3fd49ffffffff$'
-wrote 'page 5 1 3 7f000001 17200369634134243619 50009130 1850009130 774 62005 eeb3fd3f0253111e 0$'
+wrote 'j2 5 20132 1 50009130 sample 17200369634135639483 37151467 8781 2 7f000001 256 512$'
+wrote 'reply 240306ec000003060000f2407f000001eeb3fd3f0253111e1122334455667788eeb3fd4a00001977eeb3fd4a00036054$'
+wrote 'page 5 1 3 7f000001 17200369634134243619 50009130 3641928076 774 62005 eeb3fd3f0253111e 0 20132$'
 
 # A log, an exchange and both of them give a page with time.
 sed 's/^/pulse 0 /' examples/dcf77-hour.log > "$work/radio.script"
@@ -131,7 +131,8 @@ if [ -e /dev/full ]; then
 fi
 
 # A station file that is refused.
-station 'holdover =' 'toml'
+station 'bound =' 'toml'
+station 'holdover = 600\n' 'unknown holdover'
 station 'leap = 1\n' 'unknown leap'
 station '[[radio]]\nplan = "dcf"\n' 'missing radio.0.log'
 station '[[radio]]\nplan = "jjy"\nlog = "a.log"\n' 'range radio.0.plan'

@@ -40,7 +40,7 @@ C
 cc -O1 -shared -fPIC -o "$work/refuse.so" "$work/refuse.c" || exit 1
 printf 'status 9 memory\n' > "$work/memory"
 printf 'leap = 1\n' > "$work/fault.toml"
-printf 'holdover =\n' > "$work/bad.toml"
+printf 'bound =\n' > "$work/bad.toml"
 
 # Runs a command with its allocation of number $1 refused. `made` says whether there was one.
 refuse() {

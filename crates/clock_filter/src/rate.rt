@@ -1,5 +1,5 @@
 //! How fast the host's counter gains or loses, by the samples of a source.
-ghost use Rattle.std.specs.Prelude.{◌≡◌, ◌++◌, ◌∷◌, [], ◌<◌, ◌≤◌, ◌^◌, List, filter, nat_le, nat_lt, unsigned_abs, pos, neg_ℤ, ◌-ℤ◌, ◌*ℤ◌};
+ghost use Rattle.std.specs.Prelude.{◌≡◌, ◌++◌, ◌∷◌, [], ◌<◌, ◌≤◌, ◌^◌, List, filter, option_map, nat_le, nat_lt, unsigned_abs, pos, neg_ℤ, ◌-ℤ◌, ◌*ℤ◌};
 ghost use Rattle.std.specs.Int.{int_max, int_min};
 ghost use Rattle.tick_units.specs.Orders.{better};
 ghost use Rattle.tick_units.specs.Units.{floor_div};
@@ -17,21 +17,21 @@ const MOST: i128 = 2_147_483;
 const LEAST_APART: u64 = 30_000_000;
 
 // Of samples those at the two ends of the time that they tell of.
-#[derive(Drop)]
-struct Ends {
-    first: Option<Taken>,
-    last: Option<Taken>,
+#[derive(Clone, Copy)]
+struct Ends<'a> {
+    first: Option<&'a Taken>,
+    last: Option<&'a Taken>,
 }
 
 // The sooner of two samples; of equal moments the first.
-fn sooner(first: Option<Taken>, next: &Taken) -> Option<Taken>
-    ensures { result ≡ better (λ y x. nat_lt y.at x.at) first next.now }
+fn sooner<'a>(first: Option<&'a Taken>, next: &'a Taken) -> Option<&'a Taken>
+    ensures { option_map (λ t. t.now) result ≡ better (λ y x. nat_lt y.at x.at) (option_map (λ t. t.now) first.entry) next.now }
 {
     match first {
-        None => Some(*next),
+        None => Some(next),
         Some(taken) => {
             if next.at < taken.at {
-                Some(*next)
+                Some(next)
             } else {
                 Some(taken)
             }
@@ -40,14 +40,14 @@ fn sooner(first: Option<Taken>, next: &Taken) -> Option<Taken>
 }
 
 // The later of two samples; of equal moments the last.
-fn later(last: Option<Taken>, next: &Taken) -> Option<Taken>
-    ensures { result ≡ better (λ y x. nat_le x.at y.at) last next.now }
+fn later<'a>(last: Option<&'a Taken>, next: &'a Taken) -> Option<&'a Taken>
+    ensures { option_map (λ t. t.now) result ≡ better (λ y x. nat_le x.at y.at) (option_map (λ t. t.now) last.entry) next.now }
 {
     match last {
-        None => Some(*next),
+        None => Some(next),
         Some(taken) => {
             if taken.at <= next.at {
-                Some(*next)
+                Some(next)
             } else {
                 Some(taken)
             }
@@ -55,21 +55,21 @@ fn later(last: Option<Taken>, next: &Taken) -> Option<Taken>
     }
 }
 
-impl Ends {
-    // Takes one sample more.
-    fn widen(&mut self, taken: &Taken)
-        ensures first { (xs : List Taken) → self.old.first ≡ earliest xs → self.new.first ≡ earliest (xs ++ taken.now ∷ []) }
-        ensures last { (xs : List Taken) → self.old.last ≡ latest xs → self.new.last ≡ latest (xs ++ taken.now ∷ []) }
-    {
-        self.first = sooner(self.first, taken);
-        self.last = later(self.last, taken);
+// These ends, with one sample more.
+fn widened<'a>(ends: Ends<'a>, taken: &'a Taken) -> Ends<'a>
+    ensures first { (xs : List Taken) → option_map (λ t. t.now) ends.entry.first ≡ earliest xs → option_map (λ t. t.now) result.first ≡ earliest (xs ++ taken.now ∷ []) }
+    ensures last { (xs : List Taken) → option_map (λ t. t.now) ends.entry.last ≡ latest xs → option_map (λ t. t.now) result.last ≡ latest (xs ++ taken.now ∷ []) }
+{
+    Ends {
+        first: sooner(ends.first, taken),
+        last: later(ends.last, taken),
     }
 }
 
 // The ends of those of these samples that aren't from before a moment.
-fn ends_of(eight: &[Taken], cut: u64) -> Ends
-    ensures first { result.first ≡ earliest (filter (λ x. nat_le cut x.at) eight.now) }
-    ensures last { result.last ≡ latest (filter (λ x. nat_le cut x.at) eight.now) }
+fn ends_of(eight: &[Taken], cut: u64) -> Ends<'_>
+    ensures first { option_map (λ t. t.now) result.first ≡ earliest (filter (λ x. nat_le cut x.at) eight.now) }
+    ensures last { option_map (λ t. t.now) result.last ≡ latest (filter (λ x. nat_le cut x.at) eight.now) }
 {
     let mut ends = Ends {
         first: None,
@@ -77,7 +77,7 @@ fn ends_of(eight: &[Taken], cut: u64) -> Ends
     };
     for taken in eight {
         if cut <= taken.at.get() {
-            ends.widen(taken);
+            ends = widened(ends, taken);
         }
     }
     ends
@@ -118,8 +118,8 @@ fn grown_a_second(before: Span, after: Span, apart: u64) -> i32
 }
 
 // The rate from one sample to another.
-fn rate_from(first: &Option<Taken>, last: &Option<Taken>) -> i32
-    ensures { result ≡ rate_between first.now last.now }
+fn rate_from(first: Option<&Taken>, last: Option<&Taken>) -> i32
+    ensures { result ≡ rate_between (option_map (λ t. t.now) first.entry) (option_map (λ t. t.now) last.entry) }
 {
     match first {
         None => 0,
@@ -142,5 +142,5 @@ pub fn rate_of(eight: &[Taken], cut: u64) -> i32
     ensures value { result ≡ rates.rate_of (filter (λ x. nat_le cut x.at) eight.now) }
 {
     let ends = ends_of(eight, cut);
-    rate_from(&ends.first, &ends.last)
+    rate_from(ends.first, ends.last)
 }

@@ -1,5 +1,6 @@
 -- Lemmas that several proofs of this crate use.
 mod Answered
+mod AskedLaws
 mod FitLaws
 mod LexerLaws
 mod LineLaws

@@ -6,25 +6,29 @@ use Rattle.tick_units.specs.Plans.{word_of}
 use Rattle.tick_units.specs.declared.marks.Plan.{Plan}
 use Rattle.command_words.specs.CommandLine.{Text, Given, Line, words_of, command_words, options, value_of, is_value, IsOnce}
 use Rattle.command_words.specs.declared.commands.Command.{Command}
-use Rattle.command_words.specs.declared.commands.Command.TheVariants.{Decode, Replay}
+use Rattle.command_words.specs.declared.commands.Command.TheVariants.{Decode, Replay, Migrate}
 
 -- a command with the values of its options
 pub data Asked : Type 0 where
   decode : Plan → Text → Asked
   replay : Text → Text → ℕ → Asked
+  migrate : Text → Text → Asked
 
 abbrev pub asked : Command → Asked
 asked (Decode plan log) = decode plan log.now
 asked (Replay station script limit) = replay station.now script.now limit
+asked (Migrate station journal) = migrate station.now journal.now
 
 abbrev pub name_of : Asked → Text
 name_of (decode plan log) = codes "decode"
 name_of (replay station script limit) = codes "replay"
+name_of (migrate station journal) = codes "migrate"
 
 -- the options that a command has
 abbrev pub row_of : Asked → List Text
 row_of (decode plan log) = codes "plan" ∷ codes "log" ∷ []
 row_of (replay station script limit) = codes "station" ∷ codes "script" ∷ codes "limit" ∷ []
+row_of (migrate station journal) = codes "station" ∷ codes "journal" ∷ []
 
 -- a number in a range, in decimal without sign and without leading zeros; or the default where none is given
 abbrev pub IsNumber : ℕ → ℕ → ℕ → Option Text → ℕ → Type 0
@@ -39,6 +43,7 @@ IsLimit = IsNumber 1048576 1 4194304
 abbrev pub Says : (Text → Option Text) → Asked → Type 0
 Says value (decode plan log) = (value (codes "plan") ≡ Some (word_of plan)) × (value (codes "log") ≡ Some log)
 Says value (replay station script limit) = (value (codes "station") ≡ Some station) × (value (codes "script") ≡ Some script) × IsLimit (value (codes "limit")) limit
+Says value (migrate station journal) = (value (codes "station") ≡ Some station) × (value (codes "journal") ≡ Some journal)
 
 -- an option is one of a row's, and its value may be one
 abbrev pub is_of : List Text → Given → Bool

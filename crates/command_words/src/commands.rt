@@ -16,6 +16,11 @@ pub enum Command<'a> {
         script: &'a str,
         limit: u32,
     },
+    /// `migrate`: a journal of a station is to be written anew, in the second form of its lines.
+    Migrate {
+        station: &'a str,
+        journal: &'a str,
+    },
 }
 
 /// Why words were refused.

@@ -5,7 +5,7 @@ ghost use Rattle.std.specs.Str.{bytes_eq};
 ghost use Rattle.clap.specs.Words.{first_of, rows_of, found_of};
 ghost use Rattle.tick_units.specs.declared.marks.Plan.{Plan};
 ghost use Rattle.command_words.specs.CommandLine.{is_value};
-ghost use Rattle.command_words.specs.Commands.{Asked, asked, name_of, IsLimit, decode, replay};
+ghost use Rattle.command_words.specs.Commands.{Asked, asked, name_of, IsLimit, decode, migrate, replay};
 ghost use Rattle.command_words.specs.Matches.{text_of, may_have, has_only, Fit, AreFor};
 
 use crate::commands::Command;
@@ -18,6 +18,8 @@ use tick_units::Plan;
 const DECODE: [&str; 2] = ["plan", "log"];
 
 const REPLAY: [&str; 3] = ["station", "script", "limit"];
+
+const MIGRATE: [&str; 2] = ["station", "journal"];
 
 // Entries of a journal.
 const LIMIT: u32 = 1_048_576;
@@ -114,6 +116,19 @@ fn replay<'a>(matches: &ArgMatches<'a>) -> Option<Command<'a>>
     })
 }
 
+fn migrate<'a>(matches: &ArgMatches<'a>) -> Option<Command<'a>>
+    ensures asked { IfSome result (λ c. (name_of (asked c) ≡ codes "migrate") × Fit (rows_of (found_of matches.now)) (asked c)) }
+    ensures every { (station journal : List ℕ) → Fit (rows_of (found_of matches.now)) (migrate station journal) → option_map asked result ≡ Some (migrate station journal) }
+{
+    if !has_only(matches, &MIGRATE) {
+        return None;
+    }
+    Some(Command::Migrate {
+        station: value(matches, "station")?,
+        journal: value(matches, "journal")?,
+    })
+}
+
 // The command that matches ask for.
 pub fn command<'a>(matches: &ArgMatches<'a>) -> Option<Command<'a>>
     ensures asked { IfSome result (λ c. AreFor (rows_of (found_of matches.now)) (asked c)) }
@@ -122,6 +137,7 @@ pub fn command<'a>(matches: &ArgMatches<'a>) -> Option<Command<'a>>
     match value(matches, "command")? {
         "decode" => decode(matches),
         "replay" => replay(matches),
+        "migrate" => migrate(matches),
         _ => None,
     }
 }

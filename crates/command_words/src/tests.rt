@@ -88,6 +88,38 @@ fn words_of_replay(rt: HostRuntime) -> Result<(), Fail> {
     Ok(())
 }
 
+#[test]
+fn words_of_migrate(rt: HostRuntime) -> Result<(), Fail> {
+    let alloc = rt.alloc();
+    let table: [&[&str]; 3] = [
+        &["migrate", "--station=s", "--journal=j"],
+        &["--journal", "j", "migrate", "--station", "s"],
+        &["--station=s", "--journal=j", "--", "migrate"],
+    ];
+    let want = Command::Migrate {
+        station: "s",
+        journal: "j",
+    };
+    for words in table {
+        assert_eq!(rt; read_words(alloc, words), Ok(want), "{words:?}");
+    }
+    let refused: [&[&str]; 5] = [
+        &["migrate", "--station=s"],
+        &["migrate", "--journal=j"],
+        &["migrate", "--station=s", "--journal="],
+        &["migrate", "--station=s", "--journal=j", "--limit=1"],
+        &["migrate", "--station=s", "--journal=j", "--script=t"],
+    ];
+    for words in refused {
+        assert_eq!(rt;
+            read_words(alloc, words),
+            Err(WordsFault::Usage),
+            "{words:?}"
+        );
+    }
+    Ok(())
+}
+
 // Where not just one command word stands, and not all that it requires.
 #[test]
 fn incomplete_words_are_refused(rt: HostRuntime) -> Result<(), Fail> {

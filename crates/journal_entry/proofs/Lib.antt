@@ -2,6 +2,7 @@
 pub mod AddressLaws
 pub mod DigitLaws
 pub mod FieldLaws
+pub mod FormLaws
 pub mod LengthLaws
 pub mod NumberLaws
 pub mod WordLaws

@@ -1,8 +1,9 @@
-//! The entries of a journal, by themselves and numbered, and the one text of each; and the writer of such texts.
+//! The entries of a journal, by themselves and numbered, and the one text of each; a journal's lines; and the writer of such texts.
 #![tactic(auto)]
 
 mod entry;
 mod fields;
+mod line;
 mod numbered;
 mod read;
 mod words;
@@ -10,6 +11,7 @@ mod write;
 mod writer;
 
 pub use entry::{Entry, What};
+pub use line::{JournalLine, read_line};
 pub use numbered::{MOST_RATE, Numbered};
 pub use read::{read_entry, read_numbered};
 pub use write::{write_entry, write_numbered};

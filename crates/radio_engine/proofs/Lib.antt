@@ -2,13 +2,12 @@
 pub mod DecodingLaws
 pub mod EmptyRack
 pub mod GoodLogLaws
-pub mod GoodScriptLaws
+pub mod LineFileLaws
+pub mod LineTakingLaws
 pub mod OpeningLaws
 pub mod PlayingLaws
 pub mod RackLaws
 pub mod ReachLaws
-pub mod ReplayLaws
-pub mod ReplayRunLaws
 pub mod RunLaws
 pub mod ScriptLaws
 pub mod StationFileLaws

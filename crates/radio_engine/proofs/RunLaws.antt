@@ -10,7 +10,11 @@ use Rattle.radio_engine.specs.Run.{Lacks, Runs, IsFaultless, IsRun}
 use Rattle.radio_engine.specs.declared.ending.status.Status.{Status}
 use Rattle.radio_engine.specs.declared.ending.status.Status.TheVariants.{Done}
 use Rattle.radio_engine.proofs.GoodLogLaws.{log_done}
-use Rattle.radio_engine.proofs.GoodScriptLaws.{replay_done}
+use Rattle.radio_engine.proofs.LineFileLaws.{IsReadable, against_done}
+use Rattle.radio_engine.proofs.ScriptLaws.{says_one, says_short}
+use Rattle.radio_engine.specs.Replaying.{script_of}
+use Rattle.radio_engine.specs.declared.ending.subject.Subject.TheVariants.{Script}
+use Rattle.station_config.specs.Station.{StationFields}
 
 -- openings that were told are there
 not_more : (told : Option (List Opening)) (before more : List Opening) (one : Opening) → told ≡ Some before → told ≡ Some (before ++ one ∷ more) → ⊥
@@ -23,12 +27,15 @@ pub untouched : (asked : Asked) (outside : OutsideState) → IsFaultless asked o
 untouched (decode plan log) outside p = not_more outside.openings p.before [] (visited (log_visit log p.opened p.back)) p.were p.are
 untouched (replay station script limit) outside p = not_more outside.openings p.before _ (visited (log_visit station p.opened p.back)) p.were p.are
 
+script_readable : (limit : ℕ) (of : StationFields) → IsReadable (script_of limit of)
+script_readable limit of = record { one = says_one of; short = says_short of }
+
 pub runs_done : (asked : Asked) (outside outside_now : OutsideState) (out out_now : SinkState) (result : Status) →
     IsFaultless asked outside outside_now → (Rose out.faults out_now.faults → ⊥) →
     Lacks outside outside_now out out_now result ⊎ Runs asked outside outside_now out out_now result → result ≡ Done
 runs_done asked outside outside_now out out_now result good no_write (inl lacks) = absurd (untouched asked outside (subst (λ (o : OutsideState). IsFaultless asked outside o) lacks.unchanged good))
 runs_done (decode plan log) outside outside_now out out_now result good no_write (inr did) = log_done plan log outside outside_now out out_now result good no_write did
-runs_done (replay station script limit) outside outside_now out out_now result good no_write (inr did) = replay_done station script limit outside outside_now out out_now result good no_write did
+runs_done (replay station script limit) outside outside_now out out_now result good no_write (inr did) = against_done Script (script_of limit) (script_readable limit) station script outside outside_now out out_now result good no_write did
 
 limit_by : (value : Option (List ℕ)) (n : ℕ) → IsLimit value n → n ≤ 2 ^ 22
 limit_by None n h = omega arith

@@ -5,12 +5,11 @@ use Rattle.feed_link.specs.Openings.{OutsideState, MakesOpenings, log_visit}
 use Rattle.feed_link.specs.Openings.Wanted.{LogOf}
 use Rattle.file_reader.specs.Ends.{EndsReading}
 use Rattle.file_reader.specs.declared.reader.FileEnd.{FileEnd}
-use Rattle.station_config.specs.Station.{StationFields}
+use Rattle.radio_engine.specs.LineFiles.{LineFile, RunsThrough}
 use Rattle.radio_engine.specs.Opening.{CannotOpen}
-use Rattle.radio_engine.specs.Replaying.{Replays}
 use Rattle.radio_engine.specs.StationFile.{most_of_a_station}
 use Rattle.radio_engine.specs.declared.ending.status.Status.{Status}
-use Rattle.radio_engine.specs.declared.ending.subject.Subject.TheVariants.{Script}
+use Rattle.radio_engine.specs.declared.ending.subject.Subject.{Subject}
 
 -- the station file was opened once, read and given back
 pub record OpensStation (name : List ℕ) (outside outside_now : OutsideState) (end : FileEnd) (bytes : List ℕ) : Type 0 where
@@ -25,15 +24,15 @@ TriesStation name outside outside_now bytes result = MatchResult result
     (λ end. OpensStation name outside outside_now end bytes)
     (λ _. MakesOpenings (LogOf name ∷ []) outside outside_now [] (Some (LogOf name)))
 
--- a script was opened once, replayed and given back
-pub record PlaysScript (name : List ℕ) (of : StationFields) (limit : ℕ) (outside outside_now : OutsideState) (out out_now : SinkState) (result : Status) : Type 0 where
+-- a file of lines was opened once, run through and given back
+pub record RunsFile (f : LineFile) (name : List ℕ) (outside outside_now : OutsideState) (out out_now : SinkState) (result : Status) : Type 0 where
   pub opened : SourceState
   pub back : SourceState
   pub opens : MakesOpenings (LogOf name ∷ []) outside outside_now (log_visit name opened back ∷ []) None
-  pub replays : Replays of limit opened back out out_now result
+  pub runs : RunsThrough f opened back out out_now result
 
 -- or it couldn't be opened
-abbrev pub TriesScript : List ℕ → StationFields → ℕ → OutsideState → OutsideState → SinkState → SinkState → Status → Type 0
-TriesScript name of limit outside outside_now out out_now result =
-    CannotOpen (LogOf name ∷ []) [] (LogOf name) Script outside outside_now out out_now result
-    ⊎ PlaysScript name of limit outside outside_now out out_now result
+abbrev pub TriesFile : Subject → LineFile → List ℕ → OutsideState → OutsideState → SinkState → SinkState → Status → Type 0
+TriesFile what f name outside outside_now out out_now result =
+    CannotOpen (LogOf name ∷ []) [] (LogOf name) what outside outside_now out out_now result
+    ⊎ RunsFile f name outside outside_now out out_now result

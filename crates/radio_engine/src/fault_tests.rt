@@ -45,15 +45,15 @@ fn script(alloc: Global) -> Result<String, AllocError> {
 
 // What the script gives, without a fault.
 const LINES: [&str; 9] = [
-    "0 4000000 refused 3\n",
+    "j2 1 0 0 4000000 refused 3\n",
     "asked 230006ec0000000000000000000000000000000000000000000000000000000000000000000000008000000100000000\n",
-    "1 1010000 sample 17077897383243199545 40802189 8837 2 7f000001 256 512\n",
+    "j2 2 0 1 1010000 sample 17077897383243199545 40802189 8837 2 7f000001 256 512\n",
     "drop short\n",
     "reply e40006ec0000000000100000494e4954000000000000000011223344556677880000000100000000\
 0000000100000000\n",
     "drop version\n",
-    "1 5000000 declined 3\n",
-    "page 3 0 0 494e4954 0 5000000 0 0 1048576 0000000000000000 0\n",
+    "j2 3 0 1 5000000 declined 3\n",
+    "page 3 0 0 494e4954 0 5000000 0 0 1048576 0000000000000000 0 0\n",
     "status 0\n",
 ];
 
@@ -114,7 +114,7 @@ fn each_reading_of_a_station_may_fail(rt: HostRuntime) -> Result<(), Fail> {
     Ok(())
 }
 
-const PAGE_2: &str = "page 2 0 0 494e4954 0 4000000 0 0 1048576 0000000000000000 0\n";
+const PAGE_2: &str = "page 2 0 0 494e4954 0 4000000 0 0 1048576 0000000000000000 0 0\n";
 
 // The lines before it stand, and the page of their entries. A line that the reading cut off isn't judged.
 #[test]
@@ -306,15 +306,7 @@ fn want_of_memory_in_a_refusal(rt: HostRuntime) {
     let usage = "status 1 usage\n";
     is_whole_or_wants_memory(&rt, alloc, &["decode"], "", "", usage, Status::Usage);
     let toml = "status 3 station toml\n";
-    is_whole_or_wants_memory(
-        &rt,
-        alloc,
-        &WORDS,
-        "holdover = \n",
-        "",
-        toml,
-        Status::Station,
-    );
+    is_whole_or_wants_memory(&rt, alloc, &WORDS, "bound = \n", "", toml, Status::Station);
     let fault = "status 3 station unknown leap\n";
     is_whole_or_wants_memory(&rt, alloc, &WORDS, "leap = 1\n", "", fault, Status::Station);
 }

@@ -3,9 +3,10 @@ ghost use Rattle.std.specs.Prelude.{◌≡◌, ◌≤◌, ◌^◌, ◌⊎◌, �
 ghost use Rattle.feed_link.specs.Openings.{MakesOpenings};
 ghost use Rattle.feed_link.specs.Openings.Wanted.{LogOf};
 ghost use Rattle.file_reader.specs.declared.reader.FileEnd.TheVariants.{Whole};
-ghost use Rattle.radio_engine.specs.Keeping.{TriesScript};
+ghost use Rattle.radio_engine.specs.Keeping.{TriesFile};
+ghost use Rattle.radio_engine.specs.LineFiles.{RunsThrough};
 ghost use Rattle.radio_engine.specs.Playing.{IsPlayedBy};
-ghost use Rattle.radio_engine.specs.Replaying.{Replays, RunsReplay, replay_ending};
+ghost use Rattle.radio_engine.specs.Replaying.{RunsReplay, replay_ending, script_of};
 ghost use Rattle.radio_engine.specs.Run.{Lacks};
 ghost use Rattle.radio_engine.specs.StationFile.{IsObstacle};
 ghost use Rattle.script_player.specs.KeptPlayer.{HasPlayed, IsRack, IsReady};
@@ -50,7 +51,7 @@ fn play_whole<S: Source, K: Sink>(
     requires none { replayer.old.lines ≡ 0 }
     ensures number { S.opening script.new ≡ S.opening script.old }
     ensures replays { (station : StationFields) → IsPlayedBy (λ b h. stands_for b h) replayer.old station limit [] [] None →
-        Replays station limit (S.state script.old) (S.state script.new) (K.state out.old) (K.state out.new) result }
+        RunsThrough (script_of limit station) (S.state script.old) (S.state script.new) (K.state out.old) (K.state out.new) result }
 {
     match read_script(script, replayer, out) {
         Ok(reach) => {
@@ -72,7 +73,7 @@ fn play<S: Source, K: Sink>(
     requires { IsReady (λ b. least_start b) player }
     ensures number { S.opening script.new ≡ S.opening script.old }
     ensures replays { (station : StationFields) → HasPlayed (λ b h. stands_for b h) player station limit [] →
-        Replays station limit (S.state script.old) (S.state script.new) (K.state out.old) (K.state out.new) result }
+        RunsThrough (script_of limit station) (S.state script.old) (S.state script.new) (K.state out.old) (K.state out.new) result }
 {
     let mut replayer = Replayer::new(player);
     play_whole(script, &mut replayer, limit, out)
@@ -88,7 +89,7 @@ fn open_and_play<O: Outside, K: Sink>(
 ) -> Status
     requires { IsReady (λ b. least_start b) player }
     ensures { (station : StationFields) → HasPlayed (λ b h. stands_for b h) player station limit [] →
-        TriesScript name.now station limit (O.state outside.old) (O.state outside.new) (K.state out.old) (K.state out.new) result }
+        TriesFile Subject.Script (script_of limit station) name.now (O.state outside.old) (O.state outside.new) (K.state out.old) (K.state out.new) result }
 {
     let Ok(mut script) = outside.open_log(name) else {
         return finish(Ending::NotOpened(Subject::Script), out);

@@ -11,7 +11,7 @@ pub const WORDS: [&str; 5] = ["replay", "--station", "s", "--script", "p"];
 
 const LIMIT_2: [&str; 7] = ["replay", "--station", "s", "--script", "p", "--limit", "2"];
 
-const DCF: &str = "holdover = 600\n[[radio]]\nplan = \"dcf\"\nlog = \"log\"\n";
+const DCF: &str = "[[radio]]\nplan = \"dcf\"\nlog = \"log\"\n";
 
 const SERVER: &str = "[[server]]\naddress = \"127.0.0.1\"\nport = 123\n";
 
@@ -126,8 +126,8 @@ fn writes(
 }
 
 const FIVE: &str =
-    "0 62000000 lone 3976257600\n0 122000000 verdict 3976257660 0\n0 182000000 verdict 3976257720 0\n0 242000000 verdict 3976257780 0\nreply e40006ec0000000000100000494e4954000000000000000011223344556677880\
-00000f300000000000000f30020c49b\n0 302000000 verdict 3976257840 0\nreply 240106ec000000000000f06744434600ed00e130000000001122334455667788ed00e13100000000ed00e1310020c49b\npage 5 1 1 44434600 17077896086183477248 302000000 902000000 0 61542 ed00e13000000000 0\nstatus 0\n";
+    "j2 1 0 0 62000000 lone 3976257600\nj2 2 0 0 122000000 verdict 3976257660 0\nj2 3 0 0 182000000 verdict 3976257720 0\nj2 4 0 0 242000000 verdict 3976257780 0\nreply e40006ec0000000000100000494e4954000000000000000011223344556677880\
+00000f300000000000000f30020c49b\nj2 5 0 0 302000000 verdict 3976257840 0\nreply 240106ec000000000000f06744434600ed00e130000000001122334455667788ed00e13100000000ed00e1310020c49b\npage 5 1 1 44434600 17077896086183477248 302000000 4364906902 0 61542 ed00e13000000000 0 0\nstatus 0\n";
 
 fn five_minutes(alloc: Global) -> Result<String, AllocError> {
     let mut script = String::new(alloc);
@@ -155,14 +155,63 @@ fn five_minutes_make_a_page(rt: HostRuntime) -> Result<(), Fail> {
 #[test]
 fn a_page_ends(rt: HostRuntime) -> Result<(), Fail> {
     let mut script = five_minutes(rt.alloc())?;
-    request(&mut script, 901_999_999, 901_999_999, "23", 0)?;
-    request(&mut script, 902_000_000, 902_000_000, "23", 0)?;
+    request(&mut script, 4_364_906_901, 4_364_906_901, "23", 0)?;
+    request(&mut script, 4_364_906_902, 4_364_906_902, "23", 0)?;
     let (written, status) = run(rt.alloc(), &WORDS, DCF.as_bytes(), script.as_str(), NONE)?;
     let mut lines = written.split(|byte| *byte == b'\n').skip(7);
     let near = lines.next().ok_or("a reply")?;
     let past = lines.next().ok_or("another")?;
     assert!(rt; near.starts_with(b"reply 240106ec"));
     assert!(rt; past.starts_with(b"reply e40006ec0000000000100000494e4954"));
+    assert_eq!(rt; status, Status::Done);
+    Ok(())
+}
+
+// The places that are One in the frame of 13:05.
+const LATE: [usize; 14] = [18, 20, 21, 23, 29, 30, 33, 35, 36, 44, 45, 51, 52, 55];
+
+const LATE_END: &str =
+    "\nj2 6 -53687 0 362003000 verdict 3976257900 0\nreply 240106ec000000000000713f44434600ed00e16c000000001122334455667788ed00e175fff7cedaed00e175fff7ceda\n\
+page 6 1 1 44434600 17077896086170592347 362003000 37547671946 0 28981 ed00e16c00000000 0 -53687\nstatus 0\n";
+
+// The sixth minute comes 3 ms late: the answer ten seconds after it follows the rate of the counter.
+#[test]
+fn a_reply_follows_the_rate(rt: HostRuntime) -> Result<(), Fail> {
+    let mut script = five_minutes(rt.alloc())?;
+    for place in 1..59usize {
+        let at = 302_000_000u64.saturating_add(1_000_000u64.saturating_mul(place as u64));
+        let width = if LATE.contains(&place) {
+            200_000
+        } else {
+            100_000
+        };
+        writeln!(script, "pulse 0 {at} {width}")?;
+    }
+    script.push_str("pulse 0 362003000 100000\n")?;
+    request(&mut script, 372_003_000, 372_003_000, "23", 0)?;
+    let (written, status) = run(rt.alloc(), &WORDS, DCF.as_bytes(), script.as_str(), NONE)?;
+    assert!(rt; written.ends_with(LATE_END.as_bytes()));
+    assert_eq!(rt; status, Status::Done);
+    Ok(())
+}
+
+const HALF_A_SECOND: &str =
+    "\npage 5 0 0 494e4954 0 302000000 0 0 1048576 0000000000000000 0 0\nstatus 0\n";
+
+// The dispersion is above the bound from the first page on.
+#[test]
+fn a_page_above_its_bound_tells_no_time(rt: HostRuntime) -> Result<(), Fail> {
+    let mut station = String::from_str(rt.alloc(), "bound = 500\n")?;
+    station.push_str(DCF)?;
+    let script = five_minutes(rt.alloc())?;
+    let (written, status) = run(
+        rt.alloc(),
+        &WORDS,
+        station.as_bytes(),
+        script.as_str(),
+        NONE,
+    )?;
+    assert!(rt; written.ends_with(HALF_A_SECOND.as_bytes()));
     assert_eq!(rt; status, Status::Done);
     Ok(())
 }
@@ -175,7 +224,7 @@ fn requests_are_answered_or_dropped(rt: HostRuntime) -> Result<(), Fail> {
     request(&mut script, 1_000_000, 1_000_000, "23", 20)?;
     let want =
         "drop short\ndrop version\ndrop mode\nreply e40006ec0000000000100000494e4954000000000000000011223344556677880000000100000000\
-0000000100000000\npage 0 0 0 494e4954 0 0 0 0 1048576 0000000000000000 0\nstatus 0\n";
+0000000100000000\npage 0 0 0 494e4954 0 0 0 0 1048576 0000000000000000 0 0\nstatus 0\n";
     writes(
         &rt,
         rt.alloc(),
@@ -195,12 +244,12 @@ fn a_full_journal_goes_on(rt: HostRuntime) -> Result<(), Fail> {
     let (written, status) = run(rt.alloc(), &LIMIT_2, DCF.as_bytes(), script.as_str(), NONE)?;
     assert!(rt;
         written.starts_with(
-            b"0 62000000 lone 3976257600\n0 122000000 verdict 3976257660 0\nreply e40006ec"
+            b"j2 1 0 0 62000000 lone 3976257600\nj2 2 0 0 122000000 verdict 3976257660 0\nreply e40006ec"
         )
     );
     assert!(rt;
         written.ends_with(
-            b"\npage 2 0 0 494e4954 0 122000000 0 0 1048576 0000000000000000 0\nstatus 6 full 2\n"
+            b"\npage 2 0 0 494e4954 0 122000000 0 0 1048576 0000000000000000 0 0\nstatus 6 full 2\n"
         )
     );
     assert_eq!(rt; status, Status::JournalFull);
@@ -209,7 +258,7 @@ fn a_full_journal_goes_on(rt: HostRuntime) -> Result<(), Fail> {
     let (written, status) = run(rt.alloc(), &LIMIT_2, DCF.as_bytes(), script.as_str(), NONE)?;
     assert!(rt;
         written.ends_with(
-            b"\npage 2 0 0 494e4954 0 122000000 0 0 1048576 0000000000000000 0\nstatus 5 script 181\n"
+            b"\npage 2 0 0 494e4954 0 122000000 0 0 1048576 0000000000000000 0 0\nstatus 5 script 181\n"
         )
     );
     assert_eq!(rt; status, Status::BadLine);
@@ -228,7 +277,7 @@ fn servers_are_asked(rt: HostRuntime) -> Result<(), Fail> {
         want.push_str("00")?;
     }
     want.push_str(
-        "8000000100000000\n0 1010000 sample 17077897383243199545 40802189 8837 2 7f000001 256 512\n0 1010000 declined 3\n",
+        "8000000100000000\nj2 1 0 0 1010000 sample 17077897383243199545 40802189 8837 2 7f000001 256 512\nj2 2 0 0 1010000 declined 3\n",
     )?;
     let (written, status) = run(rt.alloc(), &WORDS, SERVER.as_bytes(), script.as_str(), NONE)?;
     assert!(rt; written.starts_with(want.as_bytes()));
@@ -244,13 +293,15 @@ fn a_swap_loses_its_half_frame(rt: HostRuntime) -> Result<(), Fail> {
     pulses(&mut script, 90_000_000, 182_000_000)?;
     let (written, status) = run(rt.alloc(), &WORDS, DCF.as_bytes(), script.as_str(), NONE)?;
     assert!(rt;
-        written.starts_with(b"0 62000000 lone 3976257600\n0 182000000 lone 3976257720\npage 2 ")
+        written.starts_with(
+            b"j2 1 0 0 62000000 lone 3976257600\nj2 2 0 0 182000000 lone 3976257720\npage 2 "
+        )
     );
     assert_eq!(rt; status, Status::Done);
     Ok(())
 }
 
-pub const EMPTY_PAGE: &str = "page 0 0 0 494e4954 0 0 0 0 1048576 0000000000000000 0\n";
+pub const EMPTY_PAGE: &str = "page 0 0 0 494e4954 0 0 0 0 1048576 0000000000000000 0 0\n";
 
 #[test]
 fn a_script_ends_at_its_first_bad_line(rt: HostRuntime) -> Result<(), Fail> {
@@ -309,7 +360,8 @@ fn a_station_with_a_fault(rt: HostRuntime) -> Result<(), Fail> {
             "range radio.0.plan",
         ),
         ("leap = 1\n", "unknown leap"),
-        ("holdover = \n", "toml"),
+        ("bound = \n", "toml"),
+        ("holdover = 600\n", "unknown holdover"),
         ("[[radio]]\nplan = \"dcf\"\n", "missing radio.0.log"),
         (
             "link = [{port=1},{port=1},{port=1},{port=1},{port=1},{port=1},{port=1},{port=1},{port=1}]\n",
@@ -329,7 +381,7 @@ fn a_station_with_a_fault(rt: HostRuntime) -> Result<(), Fail> {
             Status::Station,
         )?;
     }
-    let (written, status) = run(rt.alloc(), &WORDS, b"holdover = \xff\n", "", NONE)?;
+    let (written, status) = run(rt.alloc(), &WORDS, b"bound = \xff\n", "", NONE)?;
     assert_eq!(rt; written.as_slice(), b"status 3 station toml\n".as_slice());
     assert_eq!(rt; status, Status::Station);
     Ok(())
@@ -422,12 +474,12 @@ fn leap_script(alloc: Global) -> Result<String, AllocError> {
 }
 
 const LEAP_ENTRIES: &str =
-    "0 62000000 lone 3692217300\n0 122000000 verdict 3692217360 3692217600\n0 182000000 verdict 3692217420 3692217600\n\
-0 242000000 verdict 3692217480 3692217600\n0 302000000 verdict 3692217540 3692217600\nreply 640106ec";
+    "j2 1 0 0 62000000 lone 3692217300\nj2 2 0 0 122000000 verdict 3692217360 3692217600\nj2 3 0 0 182000000 verdict 3692217420 3692217600\n\
+j2 4 0 0 242000000 verdict 3692217480 3692217600\nj2 5 0 0 302000000 verdict 3692217540 3692217600\nreply 640106ec";
 
 const LEAP_END: &str =
-    "\n0 363000000 verdict 3692217600 3692217600\n0 423000000 verdict 3692217660 0\n0 483000000 verdict 3692217720 0\n\
-0 543000000 verdict 3692217780 0\npage 9 1 1 44434600 15857952282642481152 543000000 1143000000 0 61542 dc12c5b400000000 0\nstatus 0\n";
+    "\nj2 6 0 0 363000000 verdict 3692217600 3692217600\nj2 7 0 0 423000000 verdict 3692217660 0\nj2 8 0 0 483000000 verdict 3692217720 0\n\
+j2 9 0 0 543000000 verdict 3692217780 0\npage 9 1 1 44434600 15857952282642481152 543000000 4605906902 0 61542 dc12c5b400000000 0 0\nstatus 0\n";
 
 #[test]
 fn a_leap_second_ends_a_page(rt: HostRuntime) -> Result<(), Fail> {
@@ -542,7 +594,7 @@ fn a_swap_of_msf_loses_its_frame(rt: HostRuntime) -> Result<(), Fail> {
     msf(&mut script, &[51, 57], &MSF_NOON_1, 62_000_000, 0, 60)?;
     script.push_str("pulse 0 122000000 500000\npulse 0 123000000 100000\n")?;
     let want =
-        "0 122000000 lone 3976257660\npage 1 0 0 494e4954 0 122000000 0 0 1048576 0000000000000000 0\nstatus 0\n";
+        "j2 1 0 0 122000000 lone 3976257660\npage 1 0 0 494e4954 0 122000000 0 0 1048576 0000000000000000 0 0\nstatus 0\n";
     writes(
         &rt,
         rt.alloc(),
@@ -559,7 +611,7 @@ fn a_swap_of_msf_loses_its_frame(rt: HostRuntime) -> Result<(), Fail> {
 fn a_delay_is_taken_off(rt: HostRuntime) -> Result<(), Fail> {
     let station = "[[radio]]\nplan = \"dcf\"\nlog = \"log\"\ndelay = 1400\n";
     let want =
-        "0 61998600 lone 3976257600\n0 121998600 verdict 3976257660 0\npage 2 0 0 494e4954 0 121998600 0 0 1048576 0000000000000000 0\n\
+        "j2 1 0 0 61998600 lone 3976257600\nj2 2 0 0 121998600 verdict 3976257660 0\npage 2 0 0 494e4954 0 121998600 0 0 1048576 0000000000000000 0 0\n\
 status 0\n";
     for first in ["", "swap 0\n"] {
         let mut script = String::from_str(rt.alloc(), first)?;

@@ -1,7 +1,5 @@
-//! Lines of scripts and their texts, and how a script is cut.
-ghost use Rattle.std.specs.Prelude.{◌<◌};
-
-use crate::{Cut, Datagram, LineCutter, ScriptLine, read_line};
+//! Lines of scripts and their texts.
+use crate::{Datagram, ScriptLine, read_line};
 use std::alloc::{AllocError, Global};
 use std::process::Abort;
 use std::test::Fail;
@@ -248,56 +246,4 @@ fn datagrams_have_up_to_1024_bytes(rt: HostRuntime) -> Result<(), Fail> {
     let longer = answer(rt.alloc(), 2050)?;
     assert!(rt; read_line(longer.as_slice()).is_none());
     Ok(())
-}
-
-const SCRIPT: &[u8] = b"pulse 0 1 2\n\nask 1 2\nswap 0";
-
-// The lines of a script that comes in pieces of this length, each with a bar behind it, and whether bytes follow the last.
-fn cut(alloc: Global, script: &[u8], length: usize) -> Result<(Vec<u8>, bool), AllocError>
-    requires { 0 < length }
-{
-    let mut cutter = LineCutter::new();
-    let mut lines = Vec::new(alloc);
-    for piece in script.chunks(length) {
-        let mut rest = piece;
-        for _ in 0..piece.len() {
-            let taken = cutter.take(rest);
-            rest = rest.split_at(taken.count).1;
-            if taken.cut == Cut::Line {
-                lines.extend_from_slice(cutter.line())?;
-                lines.push(b'|')?;
-            }
-        }
-    }
-    Ok((lines, cutter.has_tail()))
-}
-
-#[test]
-fn pieces_are_cut_anywhere(rt: HostRuntime) -> Result<(), Fail> {
-    for length in 1..30 {
-        let (lines, tail) = cut(rt.alloc(), SCRIPT, length)?;
-        assert_eq!(rt; lines.as_slice(), b"pulse 0 1 2||ask 1 2|".as_slice());
-        assert!(rt; tail);
-    }
-    let (lines, tail) = cut(rt.alloc(), b"swap 0\n", 3)?;
-    assert_eq!(rt; lines.as_slice(), b"swap 0|".as_slice());
-    assert!(rt; !tail);
-    Ok(())
-}
-
-#[test]
-fn a_line_is_too_long_at_its_4096th_byte(rt: HostRuntime) {
-    let mut cutter = LineCutter::new();
-    let whole = [b'a'; 4095];
-    assert_eq!(rt; cutter.take(&whole).cut, Cut::More);
-    let taken = cutter.take(b"\nnext");
-    assert_eq!(rt; taken.cut, Cut::Line);
-    assert_eq!(rt; taken.count, 1);
-    assert_eq!(rt; cutter.line(), whole.as_slice());
-    assert_eq!(rt; cutter.take(&whole[1..]).cut, Cut::More);
-    let taken = cutter.take(b"bc\n");
-    assert_eq!(rt; taken.cut, Cut::TooLong);
-    assert_eq!(rt; taken.count, 2);
-    let again = cutter.take(b"bc\n");
-    assert_eq!(rt; again, taken);
 }

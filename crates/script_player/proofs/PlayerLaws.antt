@@ -67,7 +67,7 @@ pub hears-entry : {B : Type 0} (stands : B → History → Type 0) (old new : Pl
     (may_hear (radio_of station feed) feed reduction lines ≡ true) × HasHeardPulse stands new.radios station lines feed reduction (Some e) →
     new.servers ≡ old.servers →
     ((settings : SettingsFields) (limit : ℕ) (entries : List Entry) → HasKept old.journal settings limit entries → HasKept new.journal settings limit (entries ++ e ∷ [])) →
-    ((settings : SettingsFields) (limit : ℕ) (entries : List Entry) → HasKept old.journal settings limit entries → given ≡ outcome_of_due limit entries (Some e)) →
+    ((settings : SettingsFields) (limit : ℕ) (entries : List Entry) → HasKept old.journal settings limit entries → given ≡ outcome_of_due settings limit entries (Some e)) →
     HasPlayed stands old station limit lines →
     (is_lawful station lines (Pulse feed reduction) ≡ true) × HasGiven stands new station limit lines (Pulse feed reduction) given
 hears-entry stands old new station limit lines feed reduction e given heard servers keeps gives h =
@@ -79,7 +79,7 @@ hears-entry stands old new station limit lines feed reduction e given heard serv
           servers = HasServers-other new.servers station lines line (λ f a. refl) (λ f. refl) (subst (λ s. HasServers s station lines) (sym servers) h.servers);
           journal = more-journal old.journal new.journal station limit lines line e heard.1.due_is keeps h.journal;
         };
-        outcome_is = gives (settings_of station) limit (due station lines) h.journal ∙ ap (outcome_of_due limit (due station lines)) heard.1.due_is;
+        outcome_is = gives (settings_of station) limit (due station lines) h.journal ∙ ap (outcome_of_due (settings_of station) limit (due station lines)) heard.1.due_is;
       },
     )
 
@@ -97,7 +97,7 @@ hears-none stands old new station limit lines feed reduction heard servers journ
           servers = HasServers-other new.servers station lines line (λ f a. refl) (λ f. refl) (subst (λ s. HasServers s station lines) (sym servers) h.servers);
           journal = same-journal new.journal station limit lines line (sym heard.1.due_is) (subst (λ j. HasKept j (settings_of station) limit (due station lines)) (sym journal) h.journal);
         };
-        outcome_is = ap (outcome_of_due limit (due station lines)) heard.1.due_is;
+        outcome_is = ap (outcome_of_due (settings_of station) limit (due station lines)) heard.1.due_is;
       },
     )
 
@@ -122,7 +122,7 @@ pub answers-server : {B : Type 0} (stands : B → History → Type 0) (old new :
     (may_poll (server_of station feed) feed at lines ≡ true) × HasAnswered new.servers station lines feed at datagram e →
     new.radios ≡ old.radios →
     ((settings : SettingsFields) (limit : ℕ) (entries : List Entry) → HasKept old.journal settings limit entries → HasKept new.journal settings limit (entries ++ e ∷ [])) →
-    ((settings : SettingsFields) (limit : ℕ) (entries : List Entry) → HasKept old.journal settings limit entries → given ≡ outcome_of_due limit entries (Some e)) →
+    ((settings : SettingsFields) (limit : ℕ) (entries : List Entry) → HasKept old.journal settings limit entries → given ≡ outcome_of_due settings limit entries (Some e)) →
     HasPlayed stands old station limit lines →
     (is_lawful station lines (Answer feed at datagram) ≡ true) × HasGiven stands new station limit lines (Answer feed at datagram) given
 answers-server stands old new station limit lines feed at datagram e given answered radios keeps gives h =
@@ -134,7 +134,7 @@ answers-server stands old new station limit lines feed at datagram e given answe
           servers = answered.1.played;
           journal = more-journal old.journal new.journal station limit lines line e answered.1.due_is keeps h.journal;
         };
-        outcome_is = gives (settings_of station) limit (due station lines) h.journal ∙ ap (outcome_of_due limit (due station lines)) answered.1.due_is;
+        outcome_is = gives (settings_of station) limit (due station lines) h.journal ∙ ap (outcome_of_due (settings_of station) limit (due station lines)) answered.1.due_is;
       },
     )
 

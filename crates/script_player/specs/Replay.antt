@@ -22,7 +22,9 @@ use Rattle.ntp_packet.specs.Layout.{layout}
 use Rattle.reply_core.specs.Reply.{answer}
 use Rattle.reply_core.specs.declared.dropped.Dropped.{Dropped as WhyDropped}
 use Rattle.clock_page.specs.Page.{PageFields}
+use Rattle.system_fold.specs.Numbered.{numbered_behind}
 use Rattle.system_fold.specs.Page.{page_of}
+use Rattle.system_fold.specs.Settings.{SettingsFields}
 use Rattle.station_config.specs.Station.{RadioFields, ServerFields, StationFields, is_same_plan, plan_count, settings_of}
 use Rattle.script_line.specs.declared.line.ScriptLine.{ScriptLine}
 use Rattle.script_line.specs.declared.line.ScriptLine.TheVariants.{Pulse, Ask, Answer, Swap, Request}
@@ -180,10 +182,10 @@ is_full station limit lines = nat_lt limit (length (due station lines))
 abbrev pub page_after : StationFields → ℕ → List ScriptLine → PageFields
 page_after station limit lines = page_of (settings_of station) (kept station limit lines)
 
--- an entry is told where it is kept
-abbrev pub outcome_of_due : ℕ → List Entry → Option Entry → Outcome
-outcome_of_due limit before None = Nothing
-outcome_of_due limit before (Some e) = if nat_lt (length before) limit then Kept e else Nothing
+-- an entry is told where it is kept, with its number and the rate of the page after it
+abbrev pub outcome_of_due : SettingsFields → ℕ → List Entry → Option Entry → Outcome
+outcome_of_due settings limit before None = Nothing
+outcome_of_due settings limit before (Some e) = if nat_lt (length before) limit then Kept (numbered_behind settings before e) else Nothing
 
 abbrev pub outcome_of_request : Result (List ℕ) WhyDropped → Outcome
 outcome_of_request (Ok bytes) = Replied (record { bytes = bytes })
@@ -191,8 +193,8 @@ outcome_of_request (Err why) = Dropped why
 
 -- what a lawful line gives behind these lines
 abbrev pub outcome : StationFields → ℕ → List ScriptLine → ScriptLine → Outcome
-outcome station limit lines (Pulse feed reduction) = outcome_of_due limit (due station lines) (due_to station lines (Pulse feed reduction))
-outcome station limit lines (Answer feed at datagram) = outcome_of_due limit (due station lines) (due_to station lines (Answer feed at datagram))
+outcome station limit lines (Pulse feed reduction) = outcome_of_due (settings_of station) limit (due station lines) (due_to station lines (Pulse feed reduction))
+outcome station limit lines (Answer feed at datagram) = outcome_of_due (settings_of station) limit (due station lines) (due_to station lines (Answer feed at datagram))
 outcome station limit lines (Ask feed at) = Asked (layout (request_header at))
 outcome station limit lines (Swap feed) = Nothing
 outcome station limit lines (Request connection arrived sent datagram) = outcome_of_request (answer (page_after station limit lines) datagram arrived sent)

@@ -1,7 +1,7 @@
 -- The text that a script's lines write. The form is this project's own.
 use Rattle.std.specs.Prelude.{ℕ, List, [], ◌∷◌, ◌++◌, codes}
 use Rattle.hex.specs.Hex.{encode_lower}
-use Rattle.journal_entry.specs.Texts.{text_of as text_of_entry}
+use Rattle.journal_entry.specs.Numbers.{numbered_text}
 use Rattle.reply_core.specs.declared.dropped.Dropped.{Dropped as WhyDropped}
 use Rattle.reply_core.specs.declared.dropped.Dropped.TheVariants.{Short, Version, Mode}
 use Rattle.station_config.specs.Station.{StationFields}
@@ -18,7 +18,7 @@ dropped_text Mode = codes "drop mode"
 -- a line with its line feed, and nothing where there is nothing to tell
 abbrev pub outcome_text : Outcome → List ℕ
 outcome_text Nothing = []
-outcome_text (Kept e) = text_of_entry e ++ 10 ∷ []
+outcome_text (Kept n) = numbered_text n ++ 10 ∷ []
 outcome_text (Asked bytes) = codes "asked " ++ encode_lower bytes ++ 10 ∷ []
 outcome_text (Replied packet) = codes "reply " ++ encode_lower packet.bytes ++ 10 ∷ []
 outcome_text (Dropped why) = dropped_text why ++ 10 ∷ []

@@ -7,7 +7,7 @@ ghost use Rattle.system_fold.specs.Settings.{AreLawful, SettingsFields};
 
 use crate::Outcome;
 use clock_page::Page;
-use journal_entry::Entry;
+use journal_entry::{Entry, Numbered};
 use std::marker::Model;
 use system_fold::{FoldState, Settings};
 
@@ -55,7 +55,7 @@ impl Journal {
         ensures kept { (settings : SettingsFields) (limit : ℕ) (entries : List Entry) → HasKept self.old settings limit entries →
             HasKept self.new settings limit (entries ++ e.now ∷ []) }
         ensures outcome { (settings : SettingsFields) (limit : ℕ) (entries : List Entry) → HasKept self.old settings limit entries →
-            result ≡ outcome_of_due limit entries (Some e.now) }
+            result ≡ outcome_of_due settings limit entries (Some e.now) }
         ensures feeds { length self.new.fold.feeds ≡ length self.old.fold.feeds }
     {
         if self.count == self.limit {
@@ -64,7 +64,11 @@ impl Journal {
         }
         self.fold.step(e);
         self.count += 1;
-        Outcome::Kept(*e)
+        Outcome::Kept(Numbered {
+            length: u64::from(self.count),
+            rate: self.fold.page().rate,
+            entry: *e,
+        })
     }
 
     // The page of the entries kept.

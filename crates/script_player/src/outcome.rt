@@ -1,5 +1,5 @@
 //! What a line of a script gives.
-use journal_entry::Entry;
+use journal_entry::Numbered;
 use reply_core::{Dropped as WhyDropped, ReplyPacket};
 
 /// What a line of a script gives.
@@ -7,8 +7,8 @@ use reply_core::{Dropped as WhyDropped, ReplyPacket};
 pub enum Outcome {
     /// Nothing is told: no minute was complete, a receiver was swapped, or the journal was full.
     Nothing,
-    /// This entry is kept.
-    Kept(Entry),
+    /// This entry is kept, with this number, and the page after it has this rate.
+    Kept(Numbered),
     /// The server of the feed is asked by these bytes.
     Asked([u8; 48]),
     /// The client is answered by this packet.

@@ -127,8 +127,9 @@ fn gives(
 #[test]
 fn a_swap_loses_what_was_heard_and_keeps_the_delay(rt: HostRuntime) -> Result<(), Fail> {
     let station = "[[radio]]\nplan = \"dcf\"\nlog = \"log\"\ndelay = 1400\n";
-    let all = "0 3998600 refused 3\n0 5998600 refused 3\n0 7998600 refused 3\n";
-    for (swap, want) in [("", all), ("swap 0\n", "0 7998600 refused 3\n")] {
+    let all =
+        "j2 1 0 0 3998600 refused 3\nj2 2 0 0 5998600 refused 3\nj2 3 0 0 7998600 refused 3\n";
+    for (swap, want) in [("", all), ("swap 0\n", "j2 1 0 0 7998600 refused 3\n")] {
         let mut script = String::from_str(
             rt.alloc(),
             "pulse 0 0 100000\npulse 0 2000000 100000\n",
@@ -175,7 +176,8 @@ fn answer(script: &mut String, place: &str) -> Result<(), AllocError> {
 const ASKED: &str =
     "asked 230006ec0000000000000000000000000000000000000000000000000000000000000000000000008000000100000000\n";
 
-const SAMPLE: &str = "0 1010000 sample 17077897383243199545 40802189 8837 2 7f000001 256 512\n";
+const SAMPLE: &str =
+    "j2 1 0 0 1010000 sample 17077897383243199545 40802189 8837 2 7f000001 256 512\n";
 
 #[test]
 fn moments_of_a_server_do_not_fall(rt: HostRuntime) -> Result<(), Fail> {
@@ -190,7 +192,7 @@ fn moments_of_a_server_do_not_fall(rt: HostRuntime) -> Result<(), Fail> {
     want.push_str("2 is not lawful\n3 is not lawful\n")?;
     want.push_str(SAMPLE)?;
     want.push_str(
-        "5 is not lawful\n6 is not lawful\n0 1010000 declined 3\nasked 230006ec00000000000000000000000000000000000000000000000000000000000000000000000080000001028f5c28\n",
+        "5 is not lawful\n6 is not lawful\nj2 2 0 0 1010000 declined 3\nasked 230006ec00000000000000000000000000000000000000000000000000000000000000000000000080000001028f5c28\n",
     )?;
     gives(&rt, rt.alloc(), SERVER, script.as_str(), want.as_str())
 }
@@ -208,7 +210,7 @@ fn lines_of_other_feeds_are_not_lawful(rt: HostRuntime) -> Result<(), Fail> {
     for number in 1..11u8 {
         writeln!(want, "{number} is not lawful")?;
     }
-    want.push_str("drop short\n1 1 declined 2\n")?;
+    want.push_str("drop short\nj2 1 0 1 1 declined 2\n")?;
     gives(
         &rt,
         rt.alloc(),
@@ -234,7 +236,7 @@ fn a_full_journal_drops_what_is_due(rt: HostRuntime) -> Result<(), Fail> {
     let table = [
         (0, "", true, 0),
         (1, SAMPLE, true, 1_010_000),
-        (2, "0 2000000 declined 3\n", false, 2_000_000),
+        (2, "j2 2 0 0 2000000 declined 3\n", false, 2_000_000),
     ];
     let mut kept = String::from_str(rt.alloc(), ASKED)?;
     for (limit, more, is_full, anchor) in table {
@@ -273,9 +275,9 @@ fn frame(script: &mut String, ones: &[usize], start: u64) -> Result<(), AllocErr
 }
 
 const ENTRIES: &str =
-    "0 62000000 lone 3976257600\n0 122000000 verdict 3976257660 0\n0 182000000 verdict 3976257720 0\n0 242000000 verdict 3976257780 0\n\
+    "j2 1 0 0 62000000 lone 3976257600\nj2 2 0 0 122000000 verdict 3976257660 0\nj2 3 0 0 182000000 verdict 3976257720 0\nj2 4 0 0 242000000 verdict 3976257780 0\n\
 reply e40006ec0000000000100000494e4954000000000000000011223344556677880000012e000000000000012e00000000\n\
-0 302000000 verdict 3976257840 0\n\
+j2 5 0 0 302000000 verdict 3976257840 0\n\
 reply 240106ec000000000000f06744434600ed00e130000000001122334455667788ed00e13100000000ed00e1310020c49b\n";
 
 // A request stands before the pulse that closes the fifth frame, and one behind it.
@@ -295,7 +297,7 @@ fn a_reply_is_of_the_entries_so_far(rt: HostRuntime) -> Result<(), Fail> {
     script.push_str(request)?;
     let played = play(
         rt.alloc(),
-        "holdover = 600\n[[radio]]\nplan = \"dcf\"\nlog = \"log\"\n",
+        "[[radio]]\nplan = \"dcf\"\nlog = \"log\"\n",
         MANY,
         script.as_str(),
     )?;
@@ -312,9 +314,10 @@ fn is_of_noon(rt: &impl Abort, page: &Page) {
     assert_eq!(rt; page.refid, 0x4443_4600);
     assert!(rt; page.offset == Span::from(17_077_896_086_183_477_248));
     assert_eq!(rt; page.anchor.get(), 302_000_000);
-    assert_eq!(rt; page.until, 902_000_000);
+    assert_eq!(rt; page.until, 4_364_906_902);
     assert_eq!(rt; page.root_delay, Short(0));
     assert_eq!(rt; page.root_disp, Short(61_542));
     assert_eq!(rt; page.reftime, Stamp(0xed00_e130_0000_0000));
     assert_eq!(rt; page.leap_at, 0);
+    assert_eq!(rt; page.rate, 0);
 }

@@ -5,7 +5,7 @@ ghost use Rattle.script_player.specs.Texts.{outcome_text};
 
 use crate::Outcome;
 use hex::encode_to_slice;
-use journal_entry::{Entry, LINE_ROOM, TextWriter, write_entry};
+use journal_entry::{LINE_ROOM, Numbered, TextWriter, write_numbered};
 use reply_core::Dropped;
 
 // Writes a word and a line feed.
@@ -38,13 +38,13 @@ fn write_bytes(word: &[u8], bytes: &[u8; 48], out: &mut [u8; LINE_ROOM]) -> usiz
     text.len()
 }
 
-// Writes an entry and a line feed.
-fn write_kept(e: &Entry, out: &mut [u8; LINE_ROOM]) -> usize
-    ensures text { take result out.new ≡ outcome_text (Outcome.Kept e.now) }
+// Writes a numbered entry and a line feed.
+fn write_kept(n: &Numbered, out: &mut [u8; LINE_ROOM]) -> usize
+    ensures text { take result out.new ≡ outcome_text (Outcome.Kept n.now) }
     ensures rest { drop result out.new ≡ drop result out.old }
-    ensures length { result ≡ length (outcome_text (Outcome.Kept e.now)) }
+    ensures length { result ≡ length (outcome_text (Outcome.Kept n.now)) }
 {
-    let length = write_entry(e, out);
+    let length = write_numbered(n, out);
     out[length] = b'\n';
     length + 1
 }
@@ -58,7 +58,7 @@ pub fn write_outcome(outcome: &Outcome, out: &mut [u8; LINE_ROOM]) -> usize
 {
     match outcome {
         Outcome::Nothing => 0,
-        Outcome::Kept(entry) => write_kept(entry, out),
+        Outcome::Kept(numbered) => write_kept(numbered, out),
         Outcome::Asked(bytes) => write_bytes(b"asked ", bytes, out),
         Outcome::Replied(packet) => write_bytes(b"reply ", &packet.bytes, out),
         Outcome::Dropped(Dropped::Short) => write_word(b"drop short", out),

@@ -6,7 +6,7 @@ ghost use Rattle.radio_engine.specs.Playing.{IsPlayedBy, IsPlayedLine, PlaysNext
 ghost use Rattle.radio_engine.specs.Reading.{bad_in_the_end};
 ghost use Rattle.radio_engine.specs.Taking.{Fits, given, bad_of, EndsAt, TakesPiece, EndsTaking};
 ghost use Rattle.radio_engine.specs.Writing.{WritesAll};
-ghost use Rattle.script_line.specs.Cutting.{line_in};
+ghost use Rattle.line_cutter.specs.Cutting.{line_in};
 ghost use Rattle.script_line.specs.declared.line.ScriptLine.{ScriptLine};
 ghost use Rattle.script_player.specs.KeptPlayer.{HasPlayed, IsReady};
 ghost use Rattle.station_config.specs.Station.{StationFields};
@@ -15,12 +15,16 @@ use crate::reading::{Gives, Line, Reach, Taken, Took, write_given};
 use feed_link::{Failed, Sink, Source};
 use file_reader::{FileEnd, FileReader, Pulled};
 use journal_entry::LINE_ROOM;
+use line_cutter::{Cut, LineCutter};
 use radio_receiver::Receiver;
-use script_line::{Cut, LineCutter, read_line};
+use script_line::read_line;
 use script_player::{BoxedReceiver, NotLawful, Player, write_outcome};
 
 // The most bytes of a script.
 const LIMIT: usize = 1 << 26;
+
+// A line of a script is too long at this byte.
+const TOO_LONG: usize = 4096;
 
 // Plays the lines of a script as its bytes come.
 #[derive(Drop)]
@@ -61,7 +65,7 @@ impl Replayer<BoxedReceiver> {
             IsPlayedBy (λ b h. stands_for b h) result station limit [] [] None }
     {
         Replayer {
-            cutter: LineCutter::new(),
+            cutter: LineCutter::new(TOO_LONG),
             player,
             lines: 0,
         }

@@ -15,5 +15,5 @@ returns g c = λ station h.
       opened = was;
       back = is;
       opens = opened_once _ _ _ (log_visit c.args.name.now was is) _ _ c.in-Ok.ensures.opened c.in-Ok.ensures.number c.in-Ok.ensures.cause.kept c.play-status.ensures.number c.give_back_log.ensures;
-      replays = c.play-status.ensures.replays station h;
+      runs = c.play-status.ensures.replays station h;
     })

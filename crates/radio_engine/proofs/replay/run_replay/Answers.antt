@@ -4,7 +4,9 @@ use Rattle.file_reader.specs.declared.reader.FileEnd.{FileEnd}
 use Rattle.station_config.specs.Faults.{Says}
 use Rattle.radio_engine.specs.Keeping.{OpensStation}
 use Rattle.radio_engine.specs.StationFile.{IsObstacle}
-use Rattle.radio_engine.proofs.ReplayRunLaws.{ends_at, script_tried}
+use Rattle.radio_engine.proofs.LineFileLaws.{ends_at, file_tried}
+use Rattle.radio_engine.specs.Replaying.{script_of}
+use Rattle.radio_engine.specs.declared.ending.subject.Subject.TheVariants.{Script}
 use Rattle.radio_engine.proofs.StationFileLaws.{told_by}
 use Rattle.radio_engine.proofs.replay.run_replay.Goals as goal
 
@@ -12,9 +14,9 @@ pub returns-in-Ok-prepare : goal.returns-in-Ok-prepare
 returns-in-Ok-prepare g c =
     let judged = c.in-Ok-prepare.ensures.judged in
     let opens = subst (λ (end : FileEnd). OpensStation c.args.station.now (g.O.Outside.state c.args.outside.now) (g.O.Outside.state c.open_station.new.outside) end c.open_station.new.text.items) judged.0 c.in-Ok-open_station.ensures in
-    inr (script_tried c.args.station.now c.args.script.now c.args.limit _ _ _ _ _ _ _ judged.1.0 opens (subst (λ (b : List ℕ). Says b judged.1.0) c.as_slice.ensures.value judged.1.1) (c.open_and_play.ensures judged.1.0 judged.1.2))
+    inr (file_tried Script (script_of c.args.limit) c.args.station.now c.args.script.now _ _ _ _ _ _ _ judged.1.0 opens (subst (λ (b : List ℕ). Says b judged.1.0) c.as_slice.ensures.value judged.1.1) (c.open_and_play.ensures judged.1.0 judged.1.2))
 
 pub returns : goal.returns
 returns g c =
     let cause = subst (λ (b : List ℕ). IsObstacle c.in-Ok-open_station.end b c.in-Err.obstacle) c.as_slice.ensures.value c.in-Err.ensures.judged in
-    inr (ends_at c.args.station.now c.args.script.now c.args.limit _ _ _ _ _ c.in-Ok-open_station.end _ c.in-Err.obstacle c.in-Ok-open_station.ensures cause (c.finish_at.ensures (told_by c.in-Ok-open_station.end _ c.in-Err.obstacle cause)))
+    inr (ends_at Script (script_of c.args.limit) c.args.station.now c.args.script.now _ _ _ _ _ c.in-Ok-open_station.end _ c.in-Err.obstacle c.in-Ok-open_station.ensures cause (c.finish_at.ensures (told_by c.in-Ok-open_station.end _ c.in-Err.obstacle cause)))

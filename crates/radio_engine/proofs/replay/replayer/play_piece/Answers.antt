@@ -3,7 +3,8 @@ use Rattle.std.proofs.Common.{rules, ℕ, List, length, refl, None, ap, arith}
 use Rattle.std.proofs.lemmas.List.{length-drop}
 use Rattle.radio_engine.specs.Taking.{given, bad_of}
 use Rattle.radio_engine.specs.Playing.{script_says}
-use Rattle.radio_engine.proofs.ReplayLaws.{played_says}
+use Rattle.radio_engine.specs.Replaying.{script_of}
+use Rattle.radio_engine.proofs.LineFileLaws.{taken_says}
 use Rattle.radio_engine.proofs.TakingLaws.{taken_on, taken_bad, taken_stopped, taken_whole, none_of}
 use Rattle.radio_engine.proofs.replay.replayer.play_piece.Goals as goal
 
@@ -21,8 +22,8 @@ returns-in-Stopped-clause-takes g c = λ station limit bytes text start held wri
     let h = c.rest.invariant.so_far station limit bytes text start held written in
     let took = c.take-took.result in
     let held = c.take-took.ensures.holds station limit h.front h.text h.held in
-    taken_stopped start _ _ c.rest.rest.now _ h (script_says station limit) (played_says _ _ station limit h.front h.text None h.held refl) _ _ took.count c.rest.invariant.short
-    (given took.gives c.take-took.new.line) (played_says _ _ station limit _ _ _ held c.in-Stopped.ensures.0) c.in-Stopped.ensures.1
+    taken_stopped start _ _ c.rest.rest.now _ h (script_says station limit) (taken_says (script_of limit station) _ 4096 _ _ _ h.front h.text None h.held refl) _ _ took.count c.rest.invariant.short
+    (given took.gives c.take-took.new.line) (taken_says (script_of limit station) _ 4096 _ _ _ _ _ _ held c.in-Stopped.ensures.0) c.in-Stopped.ensures.1
 
 pub returns-in-Bad-clause-takes : goal.returns-in-Bad-clause-takes
 returns-in-Bad-clause-takes g c = λ station limit bytes text start held written.

@@ -9,9 +9,11 @@ use Rattle.radio_engine.proofs.replay.replayer.play_text.Goals as goal
 pub returns-in-Err-clause-plays : goal.returns-in-Err-clause-plays
 returns-in-Err-clause-plays g c = λ station limit before h.
     let played = c.in-Err.ensures.plays station limit before h in (
-      λ line text.
-          let same = some_line line c.in-Some.script_line (sym (c.read_line.ensures.every line text) ∙ c.in-Some.is) in
-          subst (λ (l : ScriptLine). is_lawful station before l ≡ false) (sym same) played.0,
+      λ line says.
+          let same = some_line line c.in-Some.script_line (sym (c.read_line.ensures.every line says.0) ∙ c.in-Some.is) in
+          let not = subst (λ (l : ScriptLine). is_lawful station before l ≡ false) (sym same) played.0 in
+          let may = says.1 in
+          cc,
       played.1,
     )
 

@@ -1,19 +1,19 @@
-//! Cuts the bytes of a script into lines.
+//! Cuts the bytes of a file into lines.
 ghost use Rattle.std.specs.Prelude.{◌≡◌, ◌==◌, ◌+◌, ◌<◌, ◌≤◌, ℕ, List, [], ◌++◌, nat_lt, length, take};
 ghost use Rattle.std.specs.List.{position};
 ghost use Rattle.tick_units.specs.Log.{has_tail};
 
-// A line has less bytes than this before its line feed.
-const TOO_LONG: usize = 4096;
+// The room for a line.
+const ROOM: usize = 4096;
 
-/// What a piece of a script did to the line that it goes on with.
+/// What a piece of a file did to the line that it goes on with.
 #[derive(Clone, Copy, Debug, PartialEq, Eq)]
 pub enum Cut {
     /// The line goes on after the piece.
     More,
     /// The line has ended.
     Line,
-    /// The line has come to 4096 bytes without a line feed.
+    /// The line has come to the length at which it is too long, without a line feed.
     TooLong,
 }
 
@@ -26,24 +26,29 @@ pub struct Taken {
     pub cut: Cut,
 }
 
-/// Cuts the bytes of a script, which come in pieces, into lines. It keeps one line.
+/// Cuts the bytes of a file, which come in pieces, into lines. It keeps one line.
 #[derive(Drop)]
 pub struct LineCutter {
-    room: [u8; TOO_LONG],
+    room: [u8; ROOM],
+    too_long: usize,
     length: usize,
     ended: bool,
-    ghost short: { length < 4096 },
+    ghost short: { length < too_long },
+    ghost fits: { too_long ≤ 4096 },
 }
 
 impl LineCutter {
-    ghost use Rattle.script_line.specs.Cutting.{HasTaken, TakesPiece, line_in, unfinished_in};
+    ghost use Rattle.line_cutter.specs.Cutting.{HasTaken, TakesPiece, line_in, unfinished_in};
 
-    /// The cutter that has taken no byte.
-    pub fn new() -> LineCutter
-        ensures { HasTaken result [] }
+    /// The cutter that has taken no byte. A line that comes to `too_long` bytes (1 to 4096) before its line feed is too long.
+    pub fn new(too_long: usize) -> LineCutter
+        requires some { 0 < too_long }
+        requires fits { too_long ≤ 4096 }
+        ensures { HasTaken result too_long [] }
     {
         LineCutter {
-            room: [0; TOO_LONG],
+            room: [0; ROOM],
+            too_long,
             length: 0,
             ended: false,
         }
@@ -52,13 +57,13 @@ impl LineCutter {
     /// Takes of a piece what stands up to and with its first line feed, or all of it. Where the line would be too long it takes
     /// nothing, and says up to which byte that shows.
     pub fn take(&mut self, piece: &[u8]) -> Taken
-        ensures taken { (bytes : List ℕ) → HasTaken self.old bytes → TakesPiece self.new bytes piece.now result }
+        ensures taken { (too_long : ℕ) (bytes : List ℕ) → HasTaken self.old too_long bytes → TakesPiece self.new too_long bytes piece.now result }
         ensures within { result.count ≤ length piece.now }
         ensures progress { 0 < length piece.now → 0 < result.count }
     {
         let held = self.held();
         match first_line_feed(piece) {
-            Some(place) if place < TOO_LONG - held => {
+            Some(place) if place < self.too_long - held => {
                 self.put(held, &piece[..place]);
                 self.ended = true;
                 Taken {
@@ -66,7 +71,7 @@ impl LineCutter {
                     cut: Cut::Line,
                 }
             }
-            None if piece.len() < TOO_LONG - held => {
+            None if piece.len() < self.too_long - held => {
                 self.put(held, piece);
                 self.ended = false;
                 Taken {
@@ -75,7 +80,7 @@ impl LineCutter {
                 }
             }
             _ => Taken {
-                count: TOO_LONG - held,
+                count: self.too_long - held,
                 cut: Cut::TooLong,
             },
         }
@@ -90,7 +95,7 @@ impl LineCutter {
 
     /// Bytes have come after the last line feed.
     pub fn has_tail(&self) -> bool
-        ensures { (bytes : List ℕ) → HasTaken self.now bytes → result ≡ has_tail bytes }
+        ensures { (too_long : ℕ) (bytes : List ℕ) → HasTaken self.now too_long bytes → result ≡ has_tail bytes }
     {
         self.held() > 0
     }
@@ -99,14 +104,15 @@ impl LineCutter {
     fn held(&self) -> usize
         ensures value { result ≡ length (unfinished_in self.now) }
         ensures line { take result self.now.room ≡ unfinished_in self.now }
-        ensures short { result < 4096 }
+        ensures short { result < self.now.too_long }
     {
         if self.ended { 0 } else { self.length }
     }
 
     // Puts a piece behind so many bytes.
     fn put(&mut self, held: usize, piece: &[u8])
-        requires { held + length piece.now < 4096 }
+        requires { held + length piece.now < self.old.too_long }
+        ensures same { self.new.too_long ≡ self.old.too_long }
         ensures line { line_in self.new ≡ take held self.old.room ++ piece.now }
         ensures ended { self.new.ended ≡ self.old.ended }
     {

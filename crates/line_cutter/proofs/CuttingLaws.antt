@@ -1,4 +1,4 @@
--- What a piece does to the lines of a script.
+-- What a piece does to the lines of a file.
 use Rattle.std.proofs.Common.{◌≡◌, ℕ, zero, suc, ◌+◌, ◌-◌, ◌<◌, ◌≤◌, Bool, true, false, cond, eqb, Some, None, List, [], ◌∷◌, ◌++◌, length, get_or, take, refl, ap, subst, sym, add-one, ◌∙◌, append_assoc, arith, inl, inr}
 use Rattle.std.specs.List.{list_any, position, position_or_len}
 use Rattle.std.proofs.lemmas.Bool.{cases_Bool, or_from, or_parts, eqb-true, ltb-true, ltb-false}
@@ -8,9 +8,9 @@ use Rattle.std.proofs.Math.Seq.{take-suc, take-length}
 use Rattle.std.proofs.lemmas.List.Sums.{passes_at_first}
 use Rattle.tick_units.specs.Log.{Lines, lines_of}
 use Rattle.pulse_log.proofs.LogLaws.{lines_more, lines_end}
-use Rattle.script_line.specs.Cutting.{HasTaken, TakesPiece, line_in, unfinished_in}
-use Rattle.script_line.specs.declared.cutter.Cut.TheVariants.{More, Line, TooLong}
-use Rattle.script_line.specs.declared.cutter.LineCutter.{LineCutter}
+use Rattle.line_cutter.specs.Cutting.{HasTaken, TakesPiece, line_in, unfinished_in}
+use Rattle.line_cutter.specs.declared.cutter.Cut.TheVariants.{More, Line, TooLong}
+use Rattle.line_cutter.specs.declared.cutter.LineCutter.{LineCutter}
 
 abbrev pub is_feed : ℕ → Bool
 is_feed byte = eqb byte 10
@@ -70,27 +70,27 @@ none_at : (piece : List ℕ) → position is_feed piece ≡ None → length piec
 none_at piece e = ltb-false (first_feed piece) (length piece) (not_found _ (first_feed piece) e)
 
 -- the whole piece goes on with the line
-pub takes_all : (old new : LineCutter) (bytes piece : List ℕ) → HasTaken old bytes → position is_feed piece ≡ None →
-    line_in new ≡ unfinished_in old ++ piece → new.ended ≡ false → TakesPiece new bytes piece (record { count = length piece; cut = More })
-takes_all old new bytes piece h none line going =
+pub takes_all : (old new : LineCutter) (too_long : ℕ) (bytes piece : List ℕ) → HasTaken old too_long bytes → position is_feed piece ≡ None →
+    new.too_long ≡ old.too_long → line_in new ≡ unfinished_in old ++ piece → new.ended ≡ false → TakesPiece new too_long bytes piece (record { count = length piece; cut = More })
+takes_all old new too_long bytes piece h none same line going =
     let all = take-length piece in
     let plain = subst (λ (t : List ℕ). list_any is_feed t ≡ false) all (front_plain piece (length piece) (none_at piece none)) in
     let lines = lines_plain bytes piece plain in
     let now : unfinished_in new ≡ line_in new = rw going refl in
-    let taken : HasTaken new (bytes ++ piece) = record { unfinished = now ∙ line ∙ ap (λ (t : List ℕ). t ++ piece) h.unfinished ∙ sym (ap (λ (l : Lines). l.unfinished) lines) } in
+    let taken : HasTaken new too_long (bytes ++ piece) = record { limit = same ∙ h.limit; unfinished = now ∙ line ∙ ap (λ (t : List ℕ). t ++ piece) h.unfinished ∙ sym (ap (λ (l : Lines). l.unfinished) lines) } in
     record {
       within = omega arith;
       cut = (
-        subst (λ (t : List ℕ). HasTaken new (bytes ++ t)) (sym all) taken,
+        subst (λ (t : List ℕ). HasTaken new too_long (bytes ++ t)) (sym all) taken,
         all,
         ap (λ (t : List ℕ). (lines_of (bytes ++ t)).complete) all ∙ ap (λ (l : Lines). l.complete) lines,
       );
     }
 
 -- the piece ends the line
-pub takes_line : (old new : LineCutter) (bytes piece : List ℕ) (place : ℕ) → HasTaken old bytes → position is_feed piece ≡ Some place →
-    line_in new ≡ unfinished_in old ++ take place piece → new.ended ≡ true → TakesPiece new bytes piece (record { count = place + 1; cut = Line })
-takes_line old new bytes piece place h some line ended =
+pub takes_line : (old new : LineCutter) (too_long : ℕ) (bytes piece : List ℕ) (place : ℕ) → HasTaken old too_long bytes → position is_feed piece ≡ Some place →
+    new.too_long ≡ old.too_long → line_in new ≡ unfinished_in old ++ take place piece → new.ended ≡ true → TakesPiece new too_long bytes piece (record { count = place + 1; cut = Line })
+takes_line old new too_long bytes piece place h some same line ended =
     let here = found_at piece place some in
     let first = here.first in
     let within = here.within in
@@ -104,29 +104,36 @@ takes_line old new bytes piece place h some line ended =
     record {
       within = omega arith;
       cut = (
-        record { unfinished = now ∙ sym (ap (λ (l : Lines). l.unfinished) lines) },
+        record { limit = same ∙ h.limit; unfinished = now ∙ sym (ap (λ (l : Lines). l.unfinished) lines) },
+        ap (λ (l : Lines). l.unfinished) lines,
         ap (λ (l : Lines). l.complete) lines ∙ ap (λ (t : List ℕ). (lines_of bytes).complete ++ t ∷ []) (ap (λ (t : List ℕ). t ++ take place piece) (sym h.unfinished) ∙ sym line),
       );
     }
 
 -- the piece makes the line too long
-pub takes_too_much : (old : LineCutter) (bytes piece : List ℕ) (held : ℕ) → HasTaken old bytes → held ≡ length (unfinished_in old) → held < 4096 →
-    4096 - held ≤ first_feed piece → 4096 - held ≤ length piece → TakesPiece old bytes piece (record { count = 4096 - held; cut = TooLong })
-takes_too_much old bytes piece held h is short before within =
-    let front = take (4096 - held) piece in
-    let plain = front_plain piece (4096 - held) before in
+too_much : (old : LineCutter) (bytes piece : List ℕ) (held : ℕ) → HasTaken old old.too_long bytes → held ≡ length (unfinished_in old) → held < old.too_long →
+    old.too_long - held ≤ first_feed piece → old.too_long - held ≤ length piece → TakesPiece old old.too_long bytes piece (record { count = old.too_long - held; cut = TooLong })
+too_much old bytes piece held h is short before within =
+    let front = take (old.too_long - held) piece in
+    let plain = front_plain piece (old.too_long - held) before in
     let lines = lines_plain bytes front plain in
-    let len = length-take-le (4096 - held) piece within in
+    let len = length-take-le (old.too_long - held) piece within in
     let kept = ap length h.unfinished in
     let all = ap (λ (l : Lines). length l.unfinished) lines ∙ length-append (lines_of bytes).unfinished front in
     record { within = within; cut = (h, omega arith, ap (λ (l : Lines). l.complete) lines) }
 
-pub too_much_of_line : (piece : List ℕ) (place held : ℕ) → position is_feed piece ≡ Some place → 4096 - held ≤ place → (4096 - held ≤ first_feed piece) × (4096 - held ≤ length piece)
-too_much_of_line piece place held some le =
+pub takes_too_much : (old : LineCutter) (too_long : ℕ) (bytes piece : List ℕ) (held : ℕ) → HasTaken old too_long bytes → held ≡ length (unfinished_in old) → held < old.too_long →
+    old.too_long - held ≤ first_feed piece → old.too_long - held ≤ length piece → TakesPiece old too_long bytes piece (record { count = old.too_long - held; cut = TooLong })
+takes_too_much old too_long bytes piece held h is short before within =
+    subst (λ t. TakesPiece old t bytes piece (record { count = old.too_long - held; cut = TooLong })) h.limit
+    (too_much old bytes piece held (record { limit = refl; unfinished = h.unfinished }) is short before within)
+
+pub too_much_of_line : (piece : List ℕ) (too_long place held : ℕ) → position is_feed piece ≡ Some place → too_long - held ≤ place → (too_long - held ≤ first_feed piece) × (too_long - held ≤ length piece)
+too_much_of_line piece too_long place held some le =
     let here = found_at piece place some in
     let first = here.first in
     let within = here.within in
     (omega arith, omega arith)
 
-pub too_much_of_piece : (piece : List ℕ) (held : ℕ) → position is_feed piece ≡ None → 4096 - held ≤ length piece → (4096 - held ≤ first_feed piece) × (4096 - held ≤ length piece)
-too_much_of_piece piece held none le = (let last = none_at piece none in (omega arith, le))
+pub too_much_of_piece : (piece : List ℕ) (too_long held : ℕ) → position is_feed piece ≡ None → too_long - held ≤ length piece → (too_long - held ≤ first_feed piece) × (too_long - held ≤ length piece)
+too_much_of_piece piece too_long held none le = (let last = none_at piece none in (omega arith, le))

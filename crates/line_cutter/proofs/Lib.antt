@@ -1,0 +1,3 @@
+-- Lemmas that several proofs of this crate and of those above it use.
+pub mod CuttingLaws
+pub mod ItemLaws
