@@ -12,7 +12,8 @@ work=$(mktemp -d)
 trap 'rm -rf "$work"' EXIT
 crates="tick_units feed_link journal_entry clock_filter select_core cluster_core clock_page system_fold page_cell"
 loop="$work/crates/page_loop"
-mkdir -p "$loop/src" "$loop/proofs/Writer/publish" "$loop/proofs/write_all" "$loop/proofs/read_all" "$loop/proofs/fold_often"
+mkdir -p "$loop/src" "$loop/proofs/Writer/publish" "$loop/proofs/write_all" "$loop/proofs/read_all" "$loop/proofs/fold_often" \
+    "$loop/proofs/of_one_feed"
 cp "$top/HANDLES" "$work/"
 for crate in $crates; do
     mkdir "$work/crates/$crate"
@@ -35,6 +36,7 @@ ghost use Rattle.system_fold.specs.Settings.{AreLawful};
 use clock_page::Page;
 use journal_entry::{Entry, What};
 use page_cell::{BatonPass, CellParts, FeedPass, PageCell, ReadPass};
+use std::alloc::Global;
 use std::marker::Model;
 use std::thread::{Threads, join};
 use std::time::{Clock, Instant};
@@ -259,6 +261,42 @@ fn fold_often(settings: &Settings, count: u64) -> u64
     sum
 }
 
+// A cell, whoever publishes in it, and three readers.
+#[derive(Drop)]
+struct Ready {
+    cell: PageCell,
+    writer: Writer,
+    a: ReadPass,
+    b: ReadPass,
+    c: ReadPass,
+}
+
+fn ready(alloc: Global, settings: &Settings) -> Option<Ready>
+    requires { AreLawful settings.now }
+    ensures { IfSome result (λ r. (r.writer.table ≡ r.cell.table) × (r.a.table ≡ r.cell.table) × (r.b.table ≡ r.cell.table) × (r.c.table ≡ r.cell.table)) }
+{
+    let Ok(parts) = PageCell::open(alloc, settings, 3) else {
+        return None;
+    };
+    let CellParts {
+        cell,
+        baton,
+        mut feeds,
+        mut readers,
+    } = parts;
+    let feed = feeds.pop()?;
+    let a = readers.pop()?;
+    let b = readers.pop()?;
+    let c = readers.pop()?;
+    Some(Ready {
+        cell,
+        writer: Writer::new(baton, feed, settings),
+        a,
+        b,
+        c,
+    })
+}
+
 fn say(rt: &HostRuntime, tally: &Tally, time: u64) -> io::Result<()> {
     let readings = tally.readings.max(1);
     println!(rt; "{} {} {}", time / readings, tally.agains, readings)
@@ -281,21 +319,16 @@ fn main(rt: HostRuntime) -> io::Result<()> {
         let sum = fold_often(&settings, count);
         return println!(rt; "{sum}");
     }
-    let Ok(parts) = PageCell::open(rt.alloc(), &settings, 3) else {
-        return Ok(());
-    };
-    let CellParts {
+    let Some(Ready {
         cell,
-        baton,
-        mut feeds,
-        mut readers,
-    } = parts;
-    let (Some(feed), Some(mut a), Some(b), Some(c)) =
-        (feeds.pop(), readers.pop(), readers.pop(), readers.pop())
+        writer,
+        mut a,
+        b,
+        c,
+    }) = ready(rt.alloc(), &settings)
     else {
         return Ok(());
     };
-    let writer = Writer::new(baton, feed, &settings);
     if mode == 0 {
         let _writer = write_all(&cell, writer, count);
     } else if mode == 1 {
@@ -351,6 +384,13 @@ use Rattle.page_loop.proofs.read_all.Given as goal
 
 abbrev pub invariant-loop : goal.invariant-loop
 invariant-loop l = l.pass.table ≡ l.cell.table
+ANTT
+cat > "$loop/proofs/of_one_feed/Answers.antt" <<'ANTT'
+use Rattle.std.proofs.Common.{rules, arith}
+use Rattle.page_loop.proofs.of_one_feed.Goals as goal
+
+pub returns-clause-lawful : goal.returns-clause-lawful
+returns-clause-lawful c = record { milliseconds = 1000; least = omega arith; most = omega arith; bound = search rules }
 ANTT
 cat > "$loop/proofs/fold_often/Invariants.antt" <<'ANTT'
 use Rattle.std.proofs.Common.{◌≤◌, List, length}

@@ -9,6 +9,8 @@ mod name;
 mod state;
 #[cfg(test)]
 mod tests;
+#[cfg(test)]
+mod thread_tests;
 
 pub use hub::{Hub, HubOpen, HubParts};
 pub use journal::Journal;

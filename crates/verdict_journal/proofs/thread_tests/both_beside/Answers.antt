@@ -1,7 +1,7 @@
--- What the search leaves open of `tests::both_beside`.
+-- What the search leaves open of `thread_tests::both_beside`.
 use Rattle.std.proofs.Common.{◌≡◌, rules}
 use denote.Param.Send.{sendable, param_send, arg_send}
-use Rattle.verdict_journal.proofs.tests.both_beside.Goals as goal
+use Rattle.verdict_journal.proofs.thread_tests.both_beside.Goals as goal
 
 pub join-requires-after_bounds : goal.join-requires-after_bounds
 join-requires-after_bounds g c κs within =
