@@ -73,6 +73,26 @@ for name in radio both; do
     wrote 'page [0-9]* 1 '
 done
 
+# What replay wrote is a journal: moving it over writes the same lines, whether they are numbered or not, and what was moved is itself.
+ends 0 'status 0' replay --station examples/station.toml --script "$work/both.script"
+cp "$work/out" "$work/replayed"
+grep '^j2 ' "$work/replayed" > "$work/numbered"
+sed 's/^j2 [0-9]* -\{0,1\}[0-9]* //' "$work/numbered" > "$work/bare"
+for name in numbered bare; do
+    ends 0 'status 0' migrate --station examples/station.toml --journal "$work/$name"
+    grep -v '^asked \|^reply ' "$work/replayed" > "$work/wanted"
+    checked=$((checked + 1))
+    cmp -s "$work/out" "$work/wanted" || { echo "examples: a $name journal is moved to other lines" >&2; bad=1; }
+done
+ends 2 'status 2 open journal' migrate --station examples/station.toml --journal nosuch
+ends 4 'status 4 read journal' migrate --station examples/station.toml --journal /
+wrote 'page 0 0 0 494e4954 '
+ends 5 "status 5 journal $(($(wc -l < "$work/numbered") + 1))" migrate --station examples/station.toml --journal "$work/wanted"
+printf 'j2 2 0 0 62000000 lone 3976257600\n' > "$work/journal"
+ends 5 'status 5 journal 1' migrate --station examples/station.toml --journal "$work/journal"
+printf '2 62000000 lone 3976257600\n' > "$work/journal"
+ends 5 'status 5 journal 1' migrate --station examples/station.toml --journal "$work/journal"
+
 # The words.
 ends 0 'status 0' --plan=dcf --log=examples/dcf77-hour.log -- decode
 ends 1 'status 1 usage'
