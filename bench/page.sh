@@ -1,7 +1,7 @@
 #!/bin/sh
 # What the shared page costs. Instructions of a publishing and of a reading, counted by callgrind; and with real threads nanoseconds a
-# reading beside one writer at full speed, for one reader and for three, and how many of a hundred readings are answered Again, beside a
-# plain C sequence lock of ten words in the same run. A small program is built in a temporary folder over copies of the crates, which
+# reading beside one writer at full speed, for one reader and for three, and how many readings are answered Again, beside a plain C
+# sequence lock of ten words in the same run. A small program is built in a temporary folder over copies of the crates, which
 # proves them first (some minutes where nothing is kept). Needs rt, a C compiler, valgrind.
 #
 #     bench/page.sh [COUNT]
@@ -262,18 +262,9 @@ fn fold_often(settings: &Settings, count: u64) -> u64
 }
 
 // A cell, whoever publishes in it, and three readers.
-#[derive(Drop)]
-struct Ready {
-    cell: PageCell,
-    writer: Writer,
-    a: ReadPass,
-    b: ReadPass,
-    c: ReadPass,
-}
-
-fn ready(alloc: Global, settings: &Settings) -> Option<Ready>
+fn opened(alloc: Global, settings: &Settings) -> Option<(PageCell, Writer, Vec<ReadPass>)>
     requires { AreLawful settings.now }
-    ensures { IfSome result (λ r. (r.writer.table ≡ r.cell.table) × (r.a.table ≡ r.cell.table) × (r.b.table ≡ r.cell.table) × (r.c.table ≡ r.cell.table)) }
+    ensures { IfSome result (λ r. (r.1.table ≡ r.0.table) × All (λ x. x.table ≡ r.0.table) r.2.items) }
 {
     let Ok(parts) = PageCell::open(alloc, settings, 3) else {
         return None;
@@ -282,19 +273,12 @@ fn ready(alloc: Global, settings: &Settings) -> Option<Ready>
         cell,
         baton,
         mut feeds,
-        mut readers,
+        readers,
     } = parts;
-    let feed = feeds.pop()?;
-    let a = readers.pop()?;
-    let b = readers.pop()?;
-    let c = readers.pop()?;
-    Some(Ready {
-        cell,
-        writer: Writer::new(baton, feed, settings),
-        a,
-        b,
-        c,
-    })
+    let Some(feed) = feeds.pop() else {
+        return None;
+    };
+    Some((cell, Writer::new(baton, feed, settings), readers))
 }
 
 fn say(rt: &HostRuntime, tally: &Tally, time: u64) -> io::Result<()> {
@@ -319,14 +303,16 @@ fn main(rt: HostRuntime) -> io::Result<()> {
         let sum = fold_often(&settings, count);
         return println!(rt; "{sum}");
     }
-    let Some(Ready {
-        cell,
-        writer,
-        mut a,
-        b,
-        c,
-    }) = ready(rt.alloc(), &settings)
-    else {
+    let Some((cell, writer, mut readers)) = opened(rt.alloc(), &settings) else {
+        return Ok(());
+    };
+    let Some(mut a) = readers.pop() else {
+        return Ok(());
+    };
+    let Some(b) = readers.pop() else {
+        return Ok(());
+    };
+    let Some(c) = readers.pop() else {
         return Ok(());
     };
     if mode == 0 {
@@ -441,13 +427,17 @@ each() {
     more=$(instructions "$1" 20000)
     echo $(((more - less) / 10000))
 }
-echo "a reading: $(each 1) instructions; a publishing: $(($(each 0) - $(each 2))) besides the fold"
+fold=$(each 2)
+echo "a reading: $(each 1) instructions; a publishing: $(($(each 0) - fold)) besides the $fold of the fold"
 for readers in 1 3; do
     mode=$([ "$readers" = 1 ] && echo 3 || echo 4)
     "$program" "$mode" 1000000000 "$count" | while read -r time agains readings; do
-        echo "$readers readers beside a writer: $time ns a reading, $agains of $readings answered Again"
+        echo "readers: $readers; one of them $time ns a reading, $agains of $readings answered Again"
     done
-    "$work/plain" "$readers" "$count" | while read -r time torn sum; do
-        echo "$readers readers, plain C sequence lock: $time ns a reading, $torn of a hundred tries torn"
+    # Plain C, whose writer does nothing between two writings, and then about as much as the fold; a turn is five instructions.
+    for turns in 0 $((fold / 5)); do
+        "$work/plain" "$readers" "$count" "$turns" | while read -r time torn sum; do
+            echo "readers: $readers; plain C, $turns turns between writings: $time ns a reading, $torn of a hundred tries torn"
+        done
     done
 done

@@ -1,5 +1,6 @@
-/* A sequence lock of ten words in plain C: one writer at full speed, and so many readers that read so many times each. Prints the
-   nanoseconds a reading and how many tries of a hundred met a writing. A reader tries until it succeeds. */
+/* A sequence lock of ten words in plain C: one writer, which does so many turns of nothing between two writings, and so many readers
+   that read so many times each. Prints the nanoseconds a reading, how many tries of a hundred met a writing, and a number that keeps
+   the loads from being left out. A reader tries until it succeeds. */
 #include <pthread.h>
 #include <stdatomic.h>
 #include <stdint.h>
@@ -10,7 +11,7 @@
 static _Atomic uint64_t count;
 static _Atomic uint64_t words[10];
 static atomic_int done;
-static uint64_t readings;
+static uint64_t readings, turns;
 
 struct tally {
     uint64_t sum, torn;
@@ -47,8 +48,11 @@ static uint64_t read_once(uint64_t *torn)
 static void *writer(void *unused)
 {
     (void)unused;
-    for (uint64_t n = 0; !atomic_load(&done); n++)
+    for (uint64_t n = 0; !atomic_load(&done); n++) {
         write_once(n);
+        for (volatile uint64_t i = 0; i < turns; i++)
+            ;
+    }
     return NULL;
 }
 
@@ -68,6 +72,7 @@ int main(int argc, char **argv)
 {
     int readers = argc > 1 ? atoi(argv[1]) : 1;
     readings = argc > 2 ? strtoull(argv[2], NULL, 10) : 1000000;
+    turns = argc > 3 ? strtoull(argv[3], NULL, 10) : 0;
     pthread_t w, r[8];
     static struct tally t[8];
     pthread_create(&w, NULL, writer, NULL);
