@@ -1,27 +1,23 @@
 -- The events of a poller, one more at the end, and round after round.
-use Rattle.std.proofs.Common.{◌≡◌, ◌⊎◌, inl, inr, ℕ, ◌+◌, ◌<◌, ◌≤◌, List, [], ◌∷◌, ◌++◌, length, Bool, true, false, refl, sym, ap, ◌∙◌, subst, arith, length-append, append_assoc}
+use Rattle.std.proofs.Common.{◌≡◌, ℕ, ◌+◌, ◌<◌, List, [], ◌∷◌, ◌++◌, length, Bool, true, false, refl, sym, ap, ◌∙◌, subst, arith, length-append, append_assoc}
 use Rattle.std.specs.Prelude.{All}
-use Rattle.std.specs.List.{flat_map}
 use Rattle.std.proofs.lemmas.Grind.{flat_map-append}
 use Rattle.std.proofs.lemmas.List.{append-nil}
 use Rattle.std.proofs.lemmas.List.Elements.{All-nil, All-push}
 use Rattle.feed_link.specs.Faults.{RoseByOne}
 use Rattle.feed_link.specs.Told.{NetEvent, LinkState, Adds}
-use Rattle.feed_link.specs.Told.NetEvent.{Came, Silent, Ended, Timed, Went}
+use Rattle.feed_link.specs.Told.NetEvent.{Ended}
 use Rattle.feed_link.specs.declared.outside.Address.{Address}
 use Rattle.feed_link.proofs.ToldLaws.{Adds-none, Adds-more}
 use Rattle.journal_entry.specs.declared.entry.Entry.{Entry}
-use Rattle.ntp_packet.specs.Layout.{layout}
 use Rattle.page_cell.specs.declared.view.Claim.{Claim}
-use Rattle.poll_core.specs.Formulas.{request_header}
 use Rattle.poll_core.specs.Histories.{Event}
-use Rattle.poll_core.specs.Histories.Event.{Asked, Answered}
 use Rattle.poll_core.specs.Polling.{HasPolled}
 use Rattle.poll_core.specs.declared.poll.Poll.{Poll}
 use Rattle.feed_workers.specs.Asking.{HasDone, Polled}
 use Rattle.feed_workers.specs.Keeping.{Keeps}
 use Rattle.feed_workers.specs.Polling.{RunsPolls}
-use Rattle.feed_workers.specs.Polls.{Round, events_of, events_in, asking, exchanges_of, history_of, entry_after, due_after, due_link, ends_round, is_hearing, is_ended, GoOn, IsWhole, AreWhole, IsOpen, IsCut}
+use Rattle.feed_workers.specs.Polls.{Round, events_of, events_in, exchanges_of, history_of, entry_after, due_after, due_link, ends_round, is_hearing, GoOn, IsWhole, AreWhole, IsOpen, IsCut}
 use Rattle.feed_workers.specs.declared.work.PollEnd.TheVariants.{Rounds, LinkEnd, LinkFault}
 use Rattle.feed_workers.proofs.KeepLaws.{keeps_none}
 

@@ -1,5 +1,5 @@
 -- One round of a poller, hearing after hearing.
-use Rattle.std.proofs.Common.{◌≡◌, ◌⊎◌, inl, inr, ℕ, ◌+◌, ◌<◌, ◌≤◌, Option, Some, List, [], ◌∷◌, ◌++◌, take, length, Bool, true, false, is_ok, refl, sym, ap, ◌∙◌, subst, arith, length-append, append_assoc}
+use Rattle.std.proofs.Common.{◌≡◌, inl, inr, ℕ, ◌+◌, ◌<◌, ◌≤◌, Option, Some, List, [], ◌∷◌, ◌++◌, take, length, Bool, true, false, is_ok, refl, sym, ap, ◌∙◌, subst, arith, length-append, append_assoc}
 use Rattle.std.proofs.lemmas.List.{append-nil}
 use Rattle.std.proofs.lemmas.Bool.{true≢false}
 use Rattle.feed_link.specs.Faults.{RoseByOne}
@@ -23,7 +23,7 @@ use Rattle.poll_core.specs.declared.poll.Poll.{Poll}
 use Rattle.feed_workers.specs.Asking.{HasDone, Polled, InRound, HearsOne}
 use Rattle.feed_workers.specs.Keeping.{Keeps}
 use Rattle.feed_workers.specs.Polling.{RunsPolls}
-use Rattle.feed_workers.specs.Polls.{Round, events_of, events_in, asking, history_of, what_of, entry_after, due_link, ends_round, is_hearing, is_ended, GoOn, IsWhole}
+use Rattle.feed_workers.specs.Polls.{Round, events_in, asking, history_of, what_of, entry_after, due_link, ends_round, is_hearing, is_ended, GoOn}
 use Rattle.feed_workers.specs.declared.poller.Heard.TheVariants.{On, Over, Fault}
 use Rattle.feed_workers.specs.declared.poller.Heard.TheVariants as how
 use Rattle.feed_workers.specs.declared.work.PollEnd.TheVariants.{LinkEnd, LinkFault}

@@ -1,5 +1,5 @@
 -- One hearing of a round at a time: scaffolding for the proof of a poller's worker, which no public clause needs.
-use Rattle.std.specs.Prelude.{◌≡◌, ℕ, ◌≤◌, true, false, Bool, List, [], ◌∷◌, ◌++◌, All, length}
+use Rattle.std.specs.Prelude.{◌≡◌, ℕ, true, false, Bool, List, [], ◌∷◌, ◌++◌, All, length}
 use Rattle.feed_link.specs.Told.{NetEvent, LinkState, Adds}
 use Rattle.feed_link.specs.Told.NetEvent.{Ended}
 use Rattle.feed_link.specs.Faults.{RoseByOne}

@@ -1,5 +1,5 @@
 -- What a poller's worker does, and why it ends. All of it is this project's own.
-use Rattle.std.specs.Prelude.{◌≡◌, ℕ, ◌<◌, ◌≤◌, List, [], ◌∷◌, ◌++◌, All, length}
+use Rattle.std.specs.Prelude.{◌≡◌, ℕ, ◌<◌, List, [], ◌∷◌, ◌++◌, All, length}
 use Rattle.feed_link.specs.Faults.{RoseByOne}
 use Rattle.feed_link.specs.Told.{NetEvent, LinkState, Adds}
 use Rattle.feed_link.specs.Told.NetEvent.{Ended}

@@ -1,6 +1,6 @@
 -- The rounds of a poller, and the entries that are due for the events of its link (RFC 5905, section 8; the rounds are this project's
 -- own: no pacing, and up to eight hearings a round, so that a late or a strange datagram doesn't spoil the polls after it).
-use Rattle.std.specs.Prelude.{◌≡◌, ℕ, ◌≤◌, ◌⊎◌, Bool, true, false, is_ok, Result, Ok, Err, List, [], ◌∷◌, ◌++◌, All, length}
+use Rattle.std.specs.Prelude.{◌≡◌, ℕ, ◌≤◌, ◌⊎◌, Bool, true, false, is_ok, Result, Ok, Err, List, [], ◌∷◌, ◌++◌, length}
 use Rattle.std.specs.List.{flat_map}
 use Rattle.feed_link.specs.Told.{NetEvent}
 use Rattle.feed_link.specs.Told.NetEvent.{Came, Silent, Ended, Timed, Went}

@@ -2,7 +2,6 @@
 use Rattle.std.proofs.Common.{refl, take, ◌∙◌}
 use Rattle.feed_link.specs.Told.NetEvent.{Came, Silent}
 use Rattle.page_cell.specs.Passes.{claim_of}
-use Rattle.poll_core.specs.Histories.{Event}
 use Rattle.feed_workers.specs.Polls.{history_of}
 use Rattle.feed_workers.proofs.RoundLaws.{hears_datagram, hears_quiet, hears_end}
 use Rattle.feed_workers.proofs.poller.hear_once.Goals as goal

@@ -1,5 +1,5 @@
 -- What the search leaves open of `poller::poll_once`.
-use Rattle.std.proofs.Common.{rules, ◌≡◌, ◌≤◌, ℕ, ◌∙◌, arith}
+use Rattle.std.proofs.Common.{rules, ◌∙◌}
 use Rattle.page_cell.specs.Passes.{claim_of}
 use Rattle.feed_workers.proofs.RoundLaws.{asked, is_timely, unsent, round_on, round_over, round_end, round_cut, round_full}
 use Rattle.feed_workers.proofs.poller.poll_once.Goals as goal

@@ -1,5 +1,5 @@
 -- What the search leaves open of `radio::hear_piece`.
-use Rattle.std.proofs.Common.{rules, ℕ, List}
+use Rattle.std.proofs.Common.{rules}
 use Rattle.page_cell.specs.Passes.{claim_of}
 use Rattle.feed_workers.proofs.LogLaws.{heard_on, missed}
 use Rattle.feed_workers.proofs.radio.hear_piece.Goals as goal

@@ -1,5 +1,5 @@
 -- What stays true in the loops of `radio::hear_piece`.
-use Rattle.std.proofs.Common.{◌≡◌, ◌≤◌, ℕ, List, None, ◌++◌, length}
+use Rattle.std.proofs.Common.{◌≡◌, ℕ, List, None, ◌++◌, length}
 use Rattle.log_decoder.specs.Decoding.{IsReady, feed_of}
 use Rattle.page_cell.specs.Passes.{claim_of}
 use Rattle.page_cell.specs.declared.view.Claim.{Claim}

@@ -1,5 +1,5 @@
 -- What the search leaves open of `radio::take_line`.
-use Rattle.std.proofs.Common.{Ok, Err, Some, ap, ◌∙◌}
+use Rattle.std.proofs.Common.{Ok, ap, ◌∙◌}
 use Rattle.page_cell.specs.Passes.{claim_of}
 use Rattle.feed_workers.proofs.LogLaws.{heard_nothing, heard_entry, heard_bad}
 use Rattle.feed_workers.proofs.radio.take_line.Goals as goal

@@ -1,6 +1,6 @@
 -- What the search leaves open of `state::Responder::serve`.
-use Rattle.std.proofs.Common.{rules, ◌≡◌, ℕ, ◌+◌, refl, sym, ap, ◌∙◌, subst, arith}
-use Rattle.responder.proofs.TurnLaws.{serving_none, serving_more, serves_some, serves_all}
+use Rattle.std.proofs.Common.{rules}
+use Rattle.responder.proofs.TurnLaws.{serving_more, serves_some}
 use Rattle.responder.proofs.state.Responder.serve.Goals as goal
 
 pub returns-then-not-turn-clause-serves : goal.returns-then-not-turn-clause-serves

@@ -1,5 +1,4 @@
 -- What stays true in the loops of `state::Responder::serve`.
-use Rattle.std.proofs.Common.{◌≡◌}
 use Rattle.responder.specs.Serving.{IsSame}
 use Rattle.responder.specs.Steps.{Serving}
 use Rattle.responder.proofs.state.Responder.serve.Given as goal

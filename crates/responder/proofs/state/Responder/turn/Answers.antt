@@ -1,8 +1,7 @@
 -- What the search leaves open of `state::Responder::turn`.
-use Rattle.std.proofs.Common.{rules, ◌≡◌, ℕ, ◌∷◌, [], take, refl, sym, ap, ◌∙◌, subst, arith}
-use Rattle.std.specs.Bool.{OnFalse}
+use Rattle.std.proofs.Common.{rules, ◌∷◌, [], take}
 use Rattle.feed_link.specs.Told.NetEvent.{Came}
-use Rattle.responder.specs.Steps.{Stops, StopsUnsent}
+use Rattle.responder.specs.Steps.{Stops}
 use Rattle.responder.proofs.TurnLaws.{on_false, whole_unsent}
 use Rattle.responder.proofs.state.Responder.turn.Goals as goal
 
