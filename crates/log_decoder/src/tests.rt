@@ -4,7 +4,7 @@ ghost use Rattle.std.specs.Prelude.{◌≡◌, ◌≤◌};
 ghost use Rattle.log_decoder.specs.Decoding.{IsReady};
 
 use super::*;
-use journal_entry::{Entry, write_entry};
+use journal_entry::{Entry, LINE_ROOM, write_entry};
 use pulse_log::BadLine;
 use radio_receiver::{BoxedReceiver, DcfReceiver, Receiver};
 use std::alloc::Global;
@@ -38,7 +38,7 @@ fn two_frames(alloc: Global) -> Result<String, Fail> {
 
 // Adds the line of an entry to a text.
 fn add_line(text: &mut Vec<u8>, entry: &Entry) -> Result<(), Fail> {
-    let mut line = [0; 256];
+    let mut line = [0; LINE_ROOM];
     let length = write_entry(entry, &mut line);
     text.extend_from_slice(&line[..length])?;
     text.push(b'\n')?;

@@ -3,7 +3,7 @@ use Rattle.std.specs.Prelude.{◌≡◌, ℕ, ◌+◌, ◌≤◌, ◌<◌, ◌�
 use Rattle.std.specs.List.{flat_map, sum_by}
 use Rattle.feed_link.specs.Faults.{RoseByOne}
 use Rattle.feed_link.specs.Told.{LinkState, Adds}
-use Rattle.page_cell.specs.Passes.{Known}
+use Rattle.page_cell.specs.Passes.{KnownReader}
 use Rattle.page_cell.specs.declared.view.View.{View}
 use Rattle.responder.specs.Turns.{Turn, Request, Reading, events_of, readings_of, IsTurn, GoesOn, answered_of, dropped_of, torn_of, Rises, kept}
 use Rattle.responder.specs.Turns.Turn.{Last, Unsent}
@@ -47,7 +47,7 @@ pub record Serves (before now : LinkState) (view view_now : View) (budget : ℕ)
   pub again : served.again ≡ sum_by torn_of turns
 
 -- it is still the responder of its link's opening, its cell and its number
-pub record IsSame (opening opening_now : ℕ) (pass pass_now : Known) (number number_now : ℕ) : Type 0 where
+pub record IsSame (opening opening_now : ℕ) (pass pass_now : KnownReader) (number number_now : ℕ) : Type 0 where
   pub link : opening_now ≡ opening
   pub table : pass_now.table ≡ pass.table
   pub same : number_now ≡ number
