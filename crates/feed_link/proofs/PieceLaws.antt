@@ -1,5 +1,5 @@
 -- The front of a piece into which bytes were copied.
-use Rattle.std.proofs.Common.{◌≡◌, ℕ, ◌≤◌, List, ◌++◌, take, length, min, ap, ◌∙◌, arith}
+use Rattle.std.proofs.Common.{◌≡◌, ℕ, List, ◌++◌, take, length, min, ap, ◌∙◌, arith}
 use Rattle.std.proofs.lemmas.List.{take_min, take_all, take-append-le, length-take}
 
 pub copied : (bytes front rest : List ℕ) (count : ℕ) → count ≡ min 1024 (length bytes) → front ≡ take count bytes → take count (front ++ rest) ≡ take 1024 bytes

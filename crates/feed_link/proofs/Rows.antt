@@ -7,7 +7,6 @@ use Rattle.std.specs.List.{sum_by}
 use Rattle.std.proofs.lemmas.List.Sums.{sum_by-append, sum_by-cons}
 use Rattle.feed_link.specs.Openings.{Opening, State, Room, HasRoom, IsOut, with_back, name_of, names_in}
 use Rattle.std.specs.Prelude.{IfSome}
-use Rattle.feed_link.specs.Openings.Wanted.{LogOf, LinkAt}
 use Rattle.feed_link.specs.Ledger.{Notes, state_of, wanted_by, opening_of, openings_told, HasNames, AreRows}
 use Rattle.feed_link.specs.declared.ledger.Port.{Port}
 use Rattle.feed_link.specs.declared.ledger.Seen.{Seen}

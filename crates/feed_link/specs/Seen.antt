@@ -1,5 +1,4 @@
 -- What a link in memory gives out of its events, as events.
-use Rattle.std.specs.Prelude.{ℕ}
 use Rattle.feed_link.specs.Told.{NetEvent}
 use Rattle.feed_link.specs.Told.NetEvent.{Came, Silent, Ended, Timed, Went}
 use Rattle.feed_link.specs.declared.event.LinkEvent.{LinkEvent}

@@ -55,7 +55,12 @@ impl HoldGate {
         other_place: u8,
         times: u32,
         turns: u64,
-    ) -> HoldGate {
+    ) -> HoldGate
+        ensures held { result.held ≡ record { worker = worker; place = place } }
+        ensures other { result.other ≡ record { worker = other; place = other_place } }
+        ensures times { result.times ≡ times }
+        ensures turns { result.turns ≡ turns }
+    {
         HoldGate {
             held: Pass { worker, place },
             other: Pass {

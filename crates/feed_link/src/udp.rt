@@ -40,7 +40,9 @@ pub struct Counter<'a, R: Clock> {
 
 impl<'a, R: Clock> Counter<'a, R> {
     /// It counts from now on, or stands still where the clock can't be read.
-    pub fn new(rt: &'a R) -> Counter<'a, R> {
+    pub fn new(rt: &'a R) -> Counter<'a, R>
+        ensures { result.rt.now ≡ rt.now }
+    {
         Counter {
             rt,
             made: Instant::now(rt).ok(),
@@ -48,7 +50,9 @@ impl<'a, R: Clock> Counter<'a, R> {
     }
 
     /// The same counter.
-    pub fn again(&self) -> Counter<'a, R> {
+    pub fn again(&self) -> Counter<'a, R>
+        ensures { result ≡ self.now }
+    {
         Counter {
             rt: self.rt,
             made: self.made,
