@@ -1,5 +1,6 @@
 //! Command lines, lawful ones and refused ones.
 use crate::{Command, WordsFault, read_words};
+use std::alloc::Global;
 use std::test::Fail;
 use tick_units::Plan;
 
@@ -13,6 +14,16 @@ fn replay<'a>(limit: u32) -> Result<Command<'a>, WordsFault> {
         script: "t",
         limit,
     })
+}
+
+// The first words of a table that are not refused.
+fn not_refused<'a>(alloc: Global, table: &[&'a [&'a str]]) -> Option<&'a [&'a str]> {
+    for words in table {
+        if read_words(alloc, words) != Err(WordsFault::Usage) {
+            return Some(words);
+        }
+    }
+    None
 }
 
 // A value follows its option or is joined to it, and the order is free; only the first `=` joins.
@@ -110,13 +121,7 @@ fn words_of_migrate(rt: HostRuntime) -> Result<(), Fail> {
         &["migrate", "--station=s", "--journal=j", "--limit=1"],
         &["migrate", "--station=s", "--journal=j", "--script=t"],
     ];
-    for words in refused {
-        assert_eq!(rt;
-            read_words(alloc, words),
-            Err(WordsFault::Usage),
-            "{words:?}"
-        );
-    }
+    assert_eq!(rt; not_refused(alloc, &refused), None);
     Ok(())
 }
 
@@ -140,13 +145,7 @@ fn incomplete_words_are_refused(rt: HostRuntime) -> Result<(), Fail> {
         &["Decode", "--plan=dcf", "--log=a"],
         &["decode ", "--plan=dcf", "--log=a"],
     ];
-    for words in table {
-        assert_eq!(rt;
-            read_words(alloc, words),
-            Err(WordsFault::Usage),
-            "{words:?}"
-        );
-    }
+    assert_eq!(rt; not_refused(alloc, &table), None);
     Ok(())
 }
 
@@ -162,13 +161,7 @@ fn values_are_plans_and_names(rt: HostRuntime) -> Result<(), Fail> {
         &["decode", "--plan=dcf", "--log=-a"],
         &["decode", "--plan", "--log=a"],
     ];
-    for words in table {
-        assert_eq!(rt;
-            read_words(alloc, words),
-            Err(WordsFault::Usage),
-            "{words:?}"
-        );
-    }
+    assert_eq!(rt; not_refused(alloc, &table), None);
     Ok(())
 }
 
@@ -187,13 +180,7 @@ fn other_options_are_refused(rt: HostRuntime) -> Result<(), Fail> {
         &["decode", "--plan=dcf", "--log=a", "--help"],
         &["decode", "--plan=dcf", "--log=a", "-h"],
     ];
-    for words in table {
-        assert_eq!(rt;
-            read_words(alloc, words),
-            Err(WordsFault::Usage),
-            "{words:?}"
-        );
-    }
+    assert_eq!(rt; not_refused(alloc, &table), None);
     Ok(())
 }
 
@@ -206,12 +193,6 @@ fn unknown_commands_are_refused(rt: HostRuntime) -> Result<(), Fail> {
         &["serve", "--station", "s"],
         &["drill", "--seed", "7"],
     ];
-    for words in table {
-        assert_eq!(rt;
-            read_words(alloc, words),
-            Err(WordsFault::Usage),
-            "{words:?}"
-        );
-    }
+    assert_eq!(rt; not_refused(alloc, &table), None);
     Ok(())
 }

@@ -1,18 +1,18 @@
 -- Turns, put one behind another.
 use Rattle.std.proofs.Common.{◌≡◌, ◌⊎◌, inl, inr, ℕ, zero, suc, ◌+◌, ◌<◌, ◌≤◌, List, [], ◌∷◌, ◌++◌, map, length, refl, sym, ap, ◌∙◌, subst, arith, length-append}
 use Rattle.std.specs.Prelude.{All, Bool, true, false}
-use Rattle.std.specs.Bool.{OnFalse}
+use Rattle.std.specs.Bool.{OnFalse, OnTrue}
 use Rattle.std.specs.List.{flat_map, sum_by}
 use Rattle.std.proofs.lemmas.Grind.{flat_map-append}
 use Rattle.std.proofs.lemmas.List.{map-append, append-nil, append_assoc}
 use Rattle.std.proofs.lemmas.List.Sums.{sum_by-append, sum_by_push}
 use Rattle.std.proofs.lemmas.List.Elements.{All-nil, All-append, All-cons}
-use Rattle.clock_page.specs.Page.{PageFields, words}
+use Rattle.clock_page.specs.Page.{IsPage, PageFields, words}
 use Rattle.feed_link.specs.Told.{NetEvent}
 use Rattle.feed_link.specs.Told.{LinkState, Adds}
 use Rattle.feed_link.proofs.ToldLaws.{Adds-none, Adds-more}
 use Rattle.page_cell.specs.declared.view.View.{View}
-use Rattle.responder.specs.Turns.{Turn, Request, Reading, events_of, readings_of, IsTurn, GoesOn, answered_of, dropped_of, torn_of, Rises, kept, came}
+use Rattle.responder.specs.Turns.{Turn, Request, Reading, events_of, readings_of, IsRead, IsTurn, GoesOn, answered_of, dropped_of, torn_of, Rises, kept, came}
 use Rattle.responder.specs.Turns.Turn.{Still, Last, Answered, Dropped, Torn, Unsent}
 use Rattle.feed_link.specs.Faults.{RoseByOne}
 use Rattle.responder.specs.declared.served.Served.{Served}
@@ -34,13 +34,14 @@ none_or_some zero = inl refl
 none_or_some (suc n) = inr (omega arith)
 
 pub took_none : (a : LinkState) (b : LinkState) (v : View) → Adds a.events b.events [] → Took a b v v []
-took_none a b v e = record { events = e; lawful = All-nil IsTurn; readings = sym (append-nil v.readings); rising = refl; torn = omega arith; greatest = omega arith; above = (λ h. absurd (omega arith)) }
+took_none a b v e = record { events = e; lawful = All-nil IsTurn; readings = sym (append-nil v.readings); pages = All-nil IsRead; rising = refl; torn = omega arith; greatest = omega arith; above = (λ h. absurd (omega arith)) }
 
 pub took_one : (a b : LinkState) (v w : View) (t : Turn) → TookOne [] a b v w t → Took a b v w (t ∷ [])
 took_one a b v w t o = record {
   events = subst (λ l. Adds a.events b.events l) (sym o.split ∙ sym (append-nil (events_of t))) o.events;
   lawful = All-cons IsTurn t [] o.lawful (All-nil IsTurn);
   readings = o.readings ∙ ap (λ l. v.readings ++ map kept l) (sym (append-nil (readings_of t)));
+  pages = subst (λ l. All IsRead l) (sym (append-nil (readings_of t))) o.pages;
   rising = subst (λ l. Rises v.seen l w.seen) (sym (append-nil (readings_of t))) o.rising;
   torn = (let e = o.torn in omega arith);
   greatest = o.greatest;
@@ -54,6 +55,7 @@ took_both a b c v w x ts us p q =
       events = subst (λ l. Adds a.events c.events l) (sym (flat_map-append events_of ts us)) (Adds-more a.events b.events c.events (flat_map events_of ts) (flat_map events_of us) p.events q.events);
       lawful = All-append IsTurn ts us p.lawful q.lawful;
       readings = q.readings ∙ ap (λ l. l ++ map kept (flat_map readings_of us)) p.readings ∙ append_assoc v.readings (map kept (flat_map readings_of ts)) (map kept (flat_map readings_of us)) ∙ ap (λ l. v.readings ++ l) (sym (map-append kept (flat_map readings_of ts) (flat_map readings_of us)) ∙ ap (λ l. map kept l) (sym (flat_map-append readings_of ts us)));
+      pages = subst (λ l. All IsRead l) (sym (flat_map-append readings_of ts us)) (All-append IsRead (flat_map readings_of ts) (flat_map readings_of us) p.pages q.pages);
       rising = subst (λ l. Rises v.seen l x.seen) (sym (flat_map-append readings_of ts us)) (rises_both v.seen w.seen x.seen (flat_map readings_of ts) (flat_map readings_of us) p.rising q.rising);
       torn = (let e = p.torn in let f = q.torn in omega (arith, sum_by-append torn_of ts us));
       greatest = (let e = p.greatest in let f = q.greatest in omega arith);
@@ -71,6 +73,7 @@ with_past past a b c v w t told o = record {
   events = subst (λ l. Adds a.events c.events l) (sym o.split) (Adds-more a.events b.events c.events past o.more told o.events);
   lawful = o.lawful;
   readings = o.readings;
+  pages = o.pages;
   rising = o.rising;
   torn = o.torn;
   greatest = o.greatest;
@@ -144,7 +147,7 @@ serves_some a b c v w x i n s r lt p q =
 pub torn_goes : (d : Request) (a : LinkState) (v w : View) (s : Served) → w.watch.torn ≡ v.watch.torn + 1 → w.seen ≡ v.seen → w.readings ≡ v.readings → v.seen < w.watch.greatest → v.watch.greatest ≤ w.watch.greatest → Goes (came d ∷ []) a a v w s (counted (Torn d) s)
 torn_goes d a v w s one seen same above more = record {
   turn = Torn d;
-  took = record { more = []; split = refl; events = Adds-none a.events; lawful = tt; readings = same ∙ sym (append-nil v.readings); rising = sym seen; torn = one; greatest = more; above = (λ _. above) };
+  took = record { more = []; split = refl; events = Adds-none a.events; lawful = tt; readings = same ∙ sym (append-nil v.readings); pages = All-nil IsRead; rising = sym seen; torn = one; greatest = more; above = (λ _. above) };
   goes = refl;
   counted = refl;
   faults = refl;
@@ -152,13 +155,14 @@ torn_goes d a v w s one seen same above more = record {
 
 -- a datagram for which the pass read a page
 pub read_one : (t : Turn) (d : Request) (p : PageFields) (more : List NetEvent) (a b : LinkState) (v w : View) → events_of t ≡ came d ∷ more → readings_of t ≡ record { length = w.seen; page = p } ∷ [] → torn_of t ≡ 0 → IsTurn t → Adds a.events b.events more
-    → w.watch.torn ≡ v.watch.torn → v.seen ≤ w.seen → w.readings ≡ v.readings ++ (w.seen, words p) ∷ [] → v.watch.greatest ≤ w.watch.greatest → TookOne (came d ∷ []) a b v w t
-read_one t d p more a b v w split read none lawful told torn later readings great = record {
+    → w.watch.torn ≡ v.watch.torn → v.seen ≤ w.seen → w.readings ≡ v.readings ++ (w.seen, words p) ∷ [] → IsPage p → v.watch.greatest ≤ w.watch.greatest → TookOne (came d ∷ []) a b v w t
+read_one t d p more a b v w split read none lawful told torn later readings page great = record {
   more = more;
   split = split;
   events = told;
   lawful = lawful;
   readings = readings ∙ ap (λ l. v.readings ++ map kept l) (sym read);
+  pages = subst (λ l. All IsRead l) (sym read) (All-cons IsRead (record { length = w.seen; page = p }) [] page (All-nil IsRead));
   rising = subst (λ l. Rises v.seen l w.seen) (sym read) (later, refl);
   torn = omega arith;
   greatest = great;
@@ -186,3 +190,7 @@ whole_unsent past a b c v w s r told same g = record {
 pub on_false : (b : Bool) (P Q : Type 0) → (P → Q) → OnFalse b P → OnFalse b Q
 on_false true P Q f h = h
 on_false false P Q f h = f h
+
+pub on_true : (b : Bool) (P Q : Type 0) → (P → Q) → OnTrue b P → OnTrue b Q
+on_true true P Q f h = f h
+on_true false P Q f h = h

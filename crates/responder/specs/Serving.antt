@@ -5,19 +5,20 @@ use Rattle.feed_link.specs.Faults.{RoseByOne}
 use Rattle.feed_link.specs.Told.{LinkState, Adds}
 use Rattle.page_cell.specs.Passes.{KnownReader}
 use Rattle.page_cell.specs.declared.view.View.{View}
-use Rattle.responder.specs.Turns.{Turn, Request, Reading, events_of, readings_of, IsTurn, GoesOn, answered_of, dropped_of, torn_of, Rises, kept}
+use Rattle.responder.specs.Turns.{Turn, Request, Reading, events_of, readings_of, IsRead, IsTurn, GoesOn, answered_of, dropped_of, torn_of, Rises, kept}
 use Rattle.responder.specs.Turns.Turn.{Last, Unsent}
 use Rattle.responder.specs.declared.served.Served.{Served}
 use Rattle.responder.specs.declared.served.End.{End}
 use Rattle.responder.specs.declared.served.End.TheVariants.{Count, LinkEnd, LinkFault}
 
--- These turns were taken: the link's events are theirs, in order, and the pass has their readings, in order, whose lengths never fall.
+-- These turns were taken: the link's events are theirs, in order, and the pass has their readings, in order, each of a page, whose lengths never fall.
 -- So many more of its calls answered Again as turns left their datagram; where there was one, something was published beyond what the
 -- pass had seen.
 pub record Took (before now : LinkState) (view view_now : View) (turns : List Turn) : Type 0 where
   pub events : Adds before.events now.events (flat_map events_of turns)
   pub lawful : All IsTurn turns
   pub readings : view_now.readings ≡ view.readings ++ map kept (flat_map readings_of turns)
+  pub pages : All IsRead (flat_map readings_of turns)
   pub rising : Rises view.seen (flat_map readings_of turns) view_now.seen
   pub torn : view_now.watch.torn ≡ view.watch.torn + sum_by torn_of turns
   pub greatest : view.watch.greatest ≤ view_now.watch.greatest

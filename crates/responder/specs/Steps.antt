@@ -4,7 +4,7 @@ use Rattle.std.specs.List.{sum_by}
 use Rattle.feed_link.specs.Faults.{RoseByOne}
 use Rattle.feed_link.specs.Told.{NetEvent, LinkState, Adds}
 use Rattle.page_cell.specs.declared.view.View.{View}
-use Rattle.responder.specs.Turns.{Turn, Request, Reading, events_of, readings_of, IsTurn, GoesOn, answered_of, dropped_of, torn_of, Rises, kept}
+use Rattle.responder.specs.Turns.{Turn, Request, Reading, events_of, readings_of, IsRead, IsTurn, GoesOn, answered_of, dropped_of, torn_of, Rises, kept}
 use Rattle.responder.specs.Turns.Turn.{Still, Last, Answered, Dropped, Torn, Unsent}
 use Rattle.responder.specs.Serving.{Took, IsFaulty}
 use Rattle.responder.specs.declared.served.Served.{Served}
@@ -22,6 +22,7 @@ pub record TookOne (past : List NetEvent) (before now : LinkState) (view view_no
   pub events : Adds before.events now.events more
   pub lawful : IsTurn turn
   pub readings : view_now.readings ≡ view.readings ++ map kept (readings_of turn)
+  pub pages : All IsRead (readings_of turn)
   pub rising : Rises view.seen (readings_of turn) view_now.seen
   pub torn : view_now.watch.torn ≡ view.watch.torn + torn_of turn
   pub greatest : view.watch.greatest ≤ view_now.watch.greatest

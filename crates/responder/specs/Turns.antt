@@ -4,7 +4,7 @@ use Rattle.std.specs.Prelude.{◌≡◌, ℕ, ◌≤◌, Bool, true, false, List
 use Rattle.feed_link.specs.Told.{NetEvent}
 use Rattle.feed_link.specs.Told.NetEvent.{Came, Silent, Ended, Timed, Went}
 use Rattle.feed_link.specs.declared.outside.Address.{Address}
-use Rattle.clock_page.specs.Page.{PageFields, words}
+use Rattle.clock_page.specs.Page.{IsPage, PageFields, words}
 use Rattle.reply_core.specs.Reply.{answer}
 use Rattle.reply_core.specs.declared.dropped.Dropped.{Dropped as Reason}
 
@@ -18,6 +18,10 @@ pub record Request : Type 0 where
 pub record Reading : Type 0 where
   pub length : ℕ
   pub page : PageFields
+
+-- what was read is a page
+abbrev pub IsRead : Reading → Type 0
+IsRead reading = IsPage reading.page
 
 -- Nothing came. The link's end. A datagram was answered: by this reply, from this page, sent at this moment. It was dropped. It was
 -- left, since no page could be read. It was not answered, since the sending failed.

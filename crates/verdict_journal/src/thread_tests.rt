@@ -5,6 +5,7 @@ ghost use Rattle.system_fold.specs.Settings.{AreLawful};
 
 use crate::fakes::{Seen, append_all, are_of, minute, of_radios, read_all};
 use crate::{Hub, HubName, HubParts, Journal};
+use clock_page::Page;
 use page_cell::{CellParts, FeedPass, PageCell, ReadPass};
 use std::alloc::Global;
 use std::marker::Brand;
@@ -272,9 +273,20 @@ fn a_million_readings_beside_a_writer(rt: HostRuntime) -> Result<(), Fail> {
     ) else {
         return Err("memory")?;
     };
-    assert_eq!(rt; done.taken, (20_000, 0));
-    assert!(rt; done.seen.in_order);
-    assert_eq!(rt; done.journal.len(), 20_000);
-    assert!(rt; are_of(&done.journal, done.seen.pages.as_slice(), &settings, 20_000));
+    let Done {
+        taken,
+        seen,
+        journal,
+    } = done;
+    assert_eq!(rt; taken, (20_000, 0));
+    assert!(rt; seen.in_order);
+    assert_eq!(rt; journal.len(), 20_000);
+    let mut pages = seen.pages;
+    assert!(rt; are_of(&journal, pages.as_slice(), &settings, 20_000));
+
+    // A page that the journal doesn't have is found out.
+    let last = pages.pop().ok_or("no page")?;
+    pages.push(Page::unsynchronised(last.length, last.anchor))?;
+    assert!(rt; !are_of(&journal, pages.as_slice(), &settings, 20_000));
     Ok(())
 }

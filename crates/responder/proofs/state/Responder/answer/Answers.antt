@@ -24,7 +24,7 @@ returns-in-Err-clause-goes g c =
     record {
       turn = t;
       took = read_one t d c.in-Ok.page (Timed m ∷ []) (g.L.Link.state c.args.self.now.link) (g.L.Link.state c.moment-sent.new.self) c.args.self.now.pass.view c.try_read.new.r.view refl refl refl
-          (c.in-Err.field-0, c.in-Err.ensures.dropped) c.moment-sent.ensures.told.event e.torn e.later e.reading e.greatest;
+          (c.in-Err.field-0, c.in-Err.ensures.dropped) c.moment-sent.ensures.told.event e.torn e.later e.reading e.page e.greatest;
       goes = refl;
       counted = refl;
       faults = c.moment-sent.ensures.told.no_fault;
@@ -40,7 +40,7 @@ returns-in-Ok-send-clause-goes g c =
     record {
       turn = t;
       took = read_one t d c.in-Ok.page (Timed m ∷ Went d.from c.reply.new.out ∷ []) (g.L.Link.state c.args.self.now.link) (g.L.Link.state c.send.new.self) c.args.self.now.pass.view c.try_read.new.r.view refl refl refl
-          c.in-Ok-reply.ensures.answered (Adds-more _ _ _ (Timed m ∷ []) (Went d.from c.reply.new.out ∷ []) c.moment-sent.ensures.told.event c.in-Ok-send.ensures.sent.event) e.torn e.later e.reading e.greatest;
+          c.in-Ok-reply.ensures.answered (Adds-more _ _ _ (Timed m ∷ []) (Went d.from c.reply.new.out ∷ []) c.moment-sent.ensures.told.event c.in-Ok-send.ensures.sent.event) e.torn e.later e.reading e.page e.greatest;
       goes = refl;
       counted = refl;
       faults = c.in-Ok-send.ensures.cause.kept ∙ c.moment-sent.ensures.told.no_fault;
@@ -59,7 +59,7 @@ returns-in-Err-send-clause-stops g c =
       moment = m;
       reply = c.reply.new.out;
       took = read_one t d c.in-Ok.page (Timed m ∷ []) (g.L.Link.state c.args.self.now.link) (g.L.Link.state c.send.new.self) c.args.self.now.pass.view c.try_read.new.r.view refl refl refl
-          c.in-Ok-reply.ensures.answered (Adds-more _ _ _ (Timed m ∷ []) [] c.moment-sent.ensures.told.event c.in-Err-send.ensures.sent.event) e.torn e.later e.reading e.greatest;
+          c.in-Ok-reply.ensures.answered (Adds-more _ _ _ (Timed m ∷ []) [] c.moment-sent.ensures.told.event c.in-Err-send.ensures.sent.event) e.torn e.later e.reading e.page e.greatest;
       rose = subst (λ n. RoseByOne n (g.L.Link.state c.send.new.self).faults) c.moment-sent.ensures.told.no_fault c.in-Err-send.ensures.cause.rose;
       counted = refl;
     }

@@ -1,7 +1,13 @@
 -- What the search leaves open of `state::Responder::serve`.
-use Rattle.std.proofs.Common.{rules}
-use Rattle.responder.proofs.TurnLaws.{serving_more, serves_some}
+use Rattle.std.proofs.Common.{refl, rules}
+use Rattle.responder.proofs.TurnLaws.{serving_more, serving_none, serves_some}
 use Rattle.responder.proofs.state.Responder.serve.Goals as goal
+
+pub loop-init : goal.loop-init
+loop-init g c = record {
+  same = record { link = refl; table = refl; same = refl };
+  serving = serving_none _ _ _ refl refl refl refl;
+}
 
 pub returns-then-not-turn-clause-serves : goal.returns-then-not-turn-clause-serves
 returns-then-not-turn-clause-serves g c =
