@@ -1,13 +1,11 @@
 -- Lemmas that several proofs of this crate use.
 pub mod DecodingLaws
-pub mod EmptyRack
 pub mod GoodLogLaws
 pub mod LineFileLaws
 pub mod LineTakingLaws
 pub mod MovingLaws
 pub mod OpeningLaws
 pub mod PlayingLaws
-pub mod RackLaws
 pub mod ReachLaws
 pub mod RunLaws
 pub mod ScriptLaws

@@ -1,6 +1,6 @@
 -- What a reader has to believe, in this order: Run (what the program does), Endings (statuses and status lines), Writing (what is
 -- written, and what a failed write leaves), Reading (why a reading ended), Opening, Text, Decoding, StationFile, LineFiles (what it is
--- to run through a file of lines), Script, Replaying, Migrating, Racks. The other files are scaffolding of private functions.
+-- to run through a file of lines), Script, Replaying, Migrating. The other files are scaffolding of private functions.
 pub mod Run
 pub mod Endings
 pub mod Writing
@@ -13,7 +13,6 @@ pub mod LineFiles
 pub mod Script
 pub mod Replaying
 pub mod Migrating
-pub mod Racks
 pub mod Keeping
 pub mod Taking
 pub mod LogTaking

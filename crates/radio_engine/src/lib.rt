@@ -4,14 +4,12 @@
 mod decode;
 mod ending;
 mod migrate;
-mod rack;
 mod reading;
 mod replay;
 mod run;
 mod station_file;
 
 pub use ending::status::Status;
-pub use rack::put_in_rack;
 pub use run::{end_without_memory, run_station};
 
 #[cfg(test)]

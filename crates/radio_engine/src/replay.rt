@@ -9,7 +9,8 @@ ghost use Rattle.radio_engine.specs.Playing.{IsPlayedBy};
 ghost use Rattle.radio_engine.specs.Replaying.{RunsReplay, replay_ending, script_of};
 ghost use Rattle.radio_engine.specs.Run.{Lacks};
 ghost use Rattle.radio_engine.specs.StationFile.{IsObstacle};
-ghost use Rattle.script_player.specs.KeptPlayer.{HasPlayed, IsRack, IsReady};
+ghost use Rattle.receiver_rack.specs.Racks.{IsRack};
+ghost use Rattle.script_player.specs.KeptPlayer.{HasPlayed, IsReady};
 ghost use Rattle.station_config.specs.Faults.{Says};
 ghost use Rattle.station_config.specs.Station.{StationFields};
 

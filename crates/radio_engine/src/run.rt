@@ -6,7 +6,7 @@ ghost use Rattle.radio_engine.specs.Endings.{status_of, status_line};
 ghost use Rattle.radio_engine.specs.Run.{Refuses, Lacks, Runs, IsFaultless};
 ghost use Rattle.radio_engine.specs.Writing.{Answers};
 ghost use Rattle.radio_engine.specs.declared.ending.Ending.TheVariants.{NoMemory};
-ghost use Rattle.script_player.specs.KeptPlayer.{IsRack};
+ghost use Rattle.receiver_rack.specs.Racks.{IsRack};
 
 use crate::decode::open_and_decode;
 use crate::ending::Ending;

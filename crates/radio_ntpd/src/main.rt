@@ -10,8 +10,9 @@ ghost use Rattle.radio_engine.specs.Endings.{number_of};
 ghost use Rattle.radio_engine.specs.Run.{IsRun};
 
 use feed_link::{HostOutside, Outside, Sink, StreamSink};
-use radio_engine::{Status, end_without_memory, put_in_rack, run_station};
+use radio_engine::{Status, end_without_memory, run_station};
 use radio_receiver::{DcfReceiver, MsfReceiver, Receiver, WwvbReceiver};
+use receiver_rack::put_in_rack;
 use std::alloc::{AllocError, Global};
 use std::env::Args;
 use std::fs::{self, Files};

@@ -8,7 +8,8 @@ use Rattle.tick_units.specs.declared.marks.Reduction.{Reduction}
 use Rattle.station_config.specs.Station.{StationFields}
 use Rattle.script_line.specs.declared.line.ScriptLine.{ScriptLine}
 use Rattle.script_player.specs.Replay.{behind_swap, due, due_to, each_after, is_swap_of, pulse_in, pulses_of, reductions_of}
-use Rattle.script_player.proofs.ListLaws.{filter_map-none, filter_map-some, reverse-push}
+use Rattle.receiver_rack.proofs.ListLaws.{reverse-push}
+use Rattle.script_player.proofs.ListLaws.{filter_map-none, filter_map-some}
 
 pub behind_swap-other : (feed : ℕ) (lines : List ScriptLine) (line : ScriptLine) → is_swap_of feed line ≡ false → behind_swap feed (lines ++ line ∷ []) ≡ behind_swap feed lines ++ line ∷ []
 behind_swap-other feed lines line other =

@@ -18,19 +18,6 @@ pub last_or-push : {X : Type 0} (o : Option X) (xs : List X) (x : X) → last_or
 last_or-push o [] x = refl
 last_or-push o (y ∷ ys) x = last_or-push (Some y) ys x
 
-pub reverse-push : {X : Type 0} (xs : List X) (x : X) → reverse (xs ++ x ∷ []) ≡ x ∷ reverse xs
-reverse-push xs x = reverse-append xs (x ∷ [])
-
--- 1 for what passes a test
-abbrev pub weight : Bool → ℕ
-weight b = cond b 1 0
-
-pub count_by-cons : {X : Type 0} (p : X → Bool) (x : X) (xs : List X) → count_by p (x ∷ xs) ≡ weight (p x) + count_by p xs
-count_by-cons p x xs = sum_by-cons (λ y. cond (p y) 1 0) x xs
-
-pub count_by-push : {X : Type 0} (p : X → Bool) (xs : List X) (x : X) → count_by p (xs ++ x ∷ []) ≡ count_by p xs + weight (p x)
-count_by-push p xs x = let e : count_by p (xs ++ x ∷ []) ≡ count_by p xs + (0 + weight (p x)) = sum_by-append (λ y. cond (p y) 1 0) xs (x ∷ []) in omega arith
-
 -- what stands at a place after a place was set
 pub slice_set-cases : {X : Type 0} (xs : List X) (i j : ℕ) (v x : X) → slice_get (slice_set xs i v) j ≡ Some x → ((j ≡ i) × (x ≡ v)) ⊎ ((j ≢ i) × (slice_get xs j ≡ Some x))
 slice_set-cases [] i j v x h = absurd (cc)

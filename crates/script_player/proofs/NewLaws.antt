@@ -7,12 +7,13 @@ use Rattle.std.specs.Option.{option_map}
 use Rattle.radio_receiver.specs.Histories.{History, with_delay}
 use Rattle.poll_core.specs.Polling.{HasPolled}
 use Rattle.station_config.specs.Station.{IsStation, RadioFields, ServerFields, StationFields, is_same_plan, plan_count}
-use Rattle.script_player.specs.KeptPlayer.{AreFour, HasFitted, HasPolling, HasRadio, HasRadios, HasServer, HasPicked, IsSpare, first_radios, first_servers, left_of, with_radio}
-use Rattle.script_player.specs.declared.rack.Spare.{Spare}
+use Rattle.receiver_rack.specs.Racks.{AreFour, HasPicked, IsSpare, left_of}
+use Rattle.script_player.specs.KeptPlayer.{HasFitted, HasPolling, HasRadio, HasRadios, HasServer, first_radios, first_servers, with_radio}
+use Rattle.receiver_rack.specs.declared.rack.Spare.{Spare}
 use Rattle.script_player.specs.declared.radio.Radio.{Radio}
 use Rattle.script_player.specs.declared.radios.Radios.{Radios}
 use Rattle.script_player.specs.declared.server.Server.{Server}
-use Rattle.script_player.proofs.ListLaws.{count_by-cons, count_by-push, weight}
+use Rattle.receiver_rack.proofs.ListLaws.{count_by-cons, count_by-push, weight}
 use Rattle.script_player.proofs.RadioLaws.{same-plan}
 
 -- what stands at a place of a list with one item more

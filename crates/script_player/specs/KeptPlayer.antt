@@ -8,6 +8,7 @@ use Rattle.radio_receiver.specs.Histories.{History, is_blank, least_after}
 use Rattle.poll_core.specs.Polling.{HasPolled}
 use Rattle.system_fold.specs.Settings.{SettingsFields}
 use Rattle.system_fold.specs.KeptFold.{StandsForJournal}
+use Rattle.receiver_rack.specs.Racks.{AreFour, AreOf, IsRack, IsSpare, left_of}
 use Rattle.station_config.specs.Station.{RadioFields, ServerFields, StationFields, is_same_plan, settings_of}
 use Rattle.script_line.specs.declared.line.ScriptLine.{ScriptLine}
 use Rattle.script_line.specs.declared.line.ScriptLine.TheVariants.{Pulse, Answer}
@@ -16,7 +17,7 @@ use Rattle.script_player.specs.Replay.{due, due_of_radio, due_of_server, events_
 use Rattle.script_player.specs.declared.outcome.NotLawful.{NotLawful}
 use Rattle.script_player.specs.declared.outcome.Outcome.{Outcome}
 use Rattle.script_player.specs.declared.radio.Radio.{Radio}
-use Rattle.script_player.specs.declared.rack.Spare.{Spare}
+use Rattle.receiver_rack.specs.declared.rack.Spare.{Spare}
 use Rattle.script_player.specs.declared.radios.Radios.{Radios}
 use Rattle.script_player.specs.declared.server.Server.{Server}
 use Rattle.script_player.specs.declared.servers.Servers.{Servers}
@@ -27,69 +28,12 @@ abbrev pub Gives : {A : Type 0} → Bool → (A → Type 0) → Type 0 → Resul
 Gives lawful Given Same (Ok x) = (lawful ≡ true) × Given x
 Gives lawful Given Same (Err refused) = (lawful ≡ false) × Same
 
--- each of some receivers stands for one of these histories, in order
-abbrev pub AreOf : {B : Type 0} → (B → History → Type 0) → List B → List History → Type 0
-AreOf stands [] [] = Unit {0}
-AreOf stands [] (h ∷ others) = ⊥
-AreOf stands (b ∷ more) [] = ⊥
-AreOf stands (b ∷ more) (h ∷ others) = stands b h × AreOf stands more others
-
-abbrev pub is_blank_of : Plan → History → Bool
-is_blank_of plan h = is_same_plan plan h.plan && is_blank h.reductions
-
--- receivers of whatever history, among them at least four blank ones of each plan
-pub record IsRack {B : Type 0} (stands : B → History → Type 0) (rack : List B) : Type 0 where
-  pub histories : List History
-  pub are : AreOf stands rack histories
-  pub enough : (plan : Plan) → 4 ≤ count_by (is_blank_of plan) histories
-
 -- a radio has the receiver that has heard the pulses since its last swap
 pub record HasRadio {B : Type 0} (stands : B → History → Type 0) (radio : Radio B) (fields : RadioFields) (feed : ℕ) (lines : List ScriptLine) : Type 0 where
   pub plan : radio.plan ≡ fields.plan
   pub delay : radio.delay_us ≡ fields.delay
   pub least : radio.least ≡ least_after (pulses_of feed lines)
   pub heard : stands radio.receiver (history_of fields feed lines)
-
--- a receiver that is left is blank, and of its plan
-pub record IsSpare {B : Type 0} (stands : B → History → Type 0) (spare : Spare B) : Type 0 where
-  pub delay : ℕ
-  pub blank : stands spare.receiver (record { plan = spare.plan; delay = delay; reductions = [] })
-
-abbrev pub left_of : {B : Type 0} → Plan → List (Spare B) → ℕ
-left_of plan spares = count_by (λ spare. is_same_plan plan spare.plan) spares
-
--- at this place stands a receiver of the plan
-pub record IsPlaceOf {B : Type 0} (plan : Plan) (spares : List (Spare B)) (place : ℕ) : Type 0 where
-  pub spare : Spare B
-  pub at : slice_get spares place ≡ Some spare
-  pub plan_is : is_same_plan plan spare.plan ≡ true
-
--- a blank receiver of a plan
-pub record IsBlankOf {B : Type 0} (stands : B → History → Type 0) (plan : Plan) (receiver : B) : Type 0 where
-  pub delay : ℕ
-  pub blank : stands receiver (record { plan = plan; delay = delay; reductions = [] })
-
-abbrev pub one_of : Plan → Plan → ℕ
-one_of plan other = if is_same_plan plan other then 1 else 0
-
--- of the receivers that were left one of a plan was taken
-pub record HasPicked {B : Type 0} (stands : B → History → Type 0) (old new : List (Spare B)) (plan : Plan) (receiver : B) : Type 0 where
-  pub receiver_is : All (IsSpare stands) old → IsBlankOf stands plan receiver
-  pub others : All (IsSpare stands) old → All (IsSpare stands) new
-  pub count : (p : Plan) → left_of p old ≡ left_of p new + one_of p plan
-
--- four receivers of each plan are left, and none is fitted
-pub record AreFour {B : Type 0} (stands : B → History → Type 0) (spares : List (Spare B)) : Type 0 where
-  pub blank : All (IsSpare stands) spares
-  pub four : (plan : Plan) → left_of plan spares ≡ 4
-
--- of a rack some receivers were looked at, and these kept; the others are still to come
-pub record HasSorted {B : Type 0} (stands : B → History → Type 0) (spares : List (Spare B)) (rest : List B) : Type 0 where
-  pub histories : List History
-  pub are : AreOf stands rest histories
-  pub blank : All (IsSpare stands) spares
-  pub most : (plan : Plan) → left_of plan spares ≤ 4
-  pub enough : (plan : Plan) → 4 ≤ left_of plan spares + count_by (is_blank_of plan) histories
 
 -- the radios of a station, in order
 pub record HasFitted {B : Type 0} (stands : B → History → Type 0) (radios : List (Radio B)) (station : StationFields) (lines : List ScriptLine) : Type 0 where

@@ -4,7 +4,6 @@
 mod journal;
 mod outcome;
 mod player;
-mod rack;
 mod radio;
 mod radios;
 mod server;

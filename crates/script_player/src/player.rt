@@ -32,7 +32,8 @@ pub struct Player<B: Drop> {
 }
 
 impl Player<BoxedReceiver> {
-    ghost use Rattle.script_player.specs.KeptPlayer.{HasPlayed, IsRack, IsReady, Plays};
+    ghost use Rattle.receiver_rack.specs.Racks.{IsRack};
+    ghost use Rattle.script_player.specs.KeptPlayer.{HasPlayed, IsReady, Plays};
 
     /// A station that has played no line yet, and that keeps at most so many entries, up to 4194304. Of each plan the first
     /// four blank receivers of the rack are used, in its order; the others are dropped.

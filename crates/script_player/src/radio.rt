@@ -6,6 +6,7 @@ ghost use Rattle.radio_receiver.specs.Histories.{History, answers_of, with_delay
 
 use crate::BoxedReceiver;
 use radio_receiver::Receiver;
+use receiver_rack::fit;
 use tick_units::{Heard, Plan, Reduction};
 
 // A radio of the station, with the receiver that it has now.
@@ -17,18 +18,6 @@ pub struct Radio<B: Drop> {
     // The least start that its next pulse may have. A swap leaves it as it is.
     pub least: u64,
     ghost short: { delay_us ≤ 100000 },
-}
-
-// A blank receiver is fitted with a delay.
-fn fit(receiver: BoxedReceiver, delay_us: u32) -> BoxedReceiver
-    requires blank { least_start receiver ≡ 0 }
-    requires delay { delay_us ≤ 100000 }
-    ensures fitted { (h : History) → stands_for receiver h → stands_for result (with_delay h delay_us) }
-    ensures least { least_start result ≡ 0 }
-{
-    let mut receiver = receiver;
-    receiver.fit(delay_us);
-    receiver
 }
 
 impl Radio<BoxedReceiver> {

@@ -1,12 +1,13 @@
 // What lines give behind the lines before them, and the page that is kept of them.
-ghost use Rattle.std.specs.Prelude.{◌≡◌, ◌≤◌, ◌^◌, ◌++◌, ◌∷◌, [], List, OnOk};
-ghost use Rattle.radio_receiver.specs.Histories.{History, blank_of};
-ghost use Rattle.script_player.specs.KeptPlayer.{AreOf, IsRack, IsReady};
+ghost use Rattle.std.specs.Prelude.{◌≡◌, ◌≤◌, ◌^◌};
+ghost use Rattle.receiver_rack.specs.Racks.{IsRack};
+ghost use Rattle.script_player.specs.KeptPlayer.{IsReady};
 
 use crate::{BoxedReceiver, NotLawful, Player, write_outcome};
 use clock_page::Page;
 use journal_entry::LINE_ROOM;
 use radio_receiver::{DcfReceiver, MsfReceiver, Receiver, WwvbReceiver};
+use receiver_rack::put_in_rack;
 use script_line::read_line;
 use station_config::read_station;
 use std::alloc::{AllocError, Global};
@@ -22,32 +23,21 @@ struct Played {
     is_full: bool,
 }
 
-// Puts a blank receiver of a plan at the end of a rack.
-#[tactic(auto, using(crate::proofs::MadeRacks::are_of_push))]
-fn put(rack: &mut Vec<BoxedReceiver>, receiver: BoxedReceiver, plan: Plan) -> Result<(), AllocError>
-    requires { stands_for receiver (blank_of plan) }
-    ensures { (histories : List History) → AreOf (λ b h. stands_for b h) rack.old.items histories →
-        OnOk result (AreOf (λ b h. stands_for b h) rack.new.items (histories ++ blank_of plan ∷ [])) }
-{
-    rack.push(receiver)?;
-    Ok(())
-}
-
 // Plays a script with four receivers of each plan.
 fn play(alloc: Global, station: &str, limit: u16, script: &str) -> Result<Played, Fail> {
     let mut rack: Vec<BoxedReceiver> = Vec::new(alloc);
-    put(&mut rack, Box::new(alloc, DcfReceiver::new())?, Plan::Dcf)?;
-    put(&mut rack, Box::new(alloc, MsfReceiver::new())?, Plan::Msf)?;
-    put(&mut rack, Box::new(alloc, WwvbReceiver::new())?, Plan::Wwvb)?;
-    put(&mut rack, Box::new(alloc, DcfReceiver::new())?, Plan::Dcf)?;
-    put(&mut rack, Box::new(alloc, MsfReceiver::new())?, Plan::Msf)?;
-    put(&mut rack, Box::new(alloc, WwvbReceiver::new())?, Plan::Wwvb)?;
-    put(&mut rack, Box::new(alloc, DcfReceiver::new())?, Plan::Dcf)?;
-    put(&mut rack, Box::new(alloc, MsfReceiver::new())?, Plan::Msf)?;
-    put(&mut rack, Box::new(alloc, WwvbReceiver::new())?, Plan::Wwvb)?;
-    put(&mut rack, Box::new(alloc, DcfReceiver::new())?, Plan::Dcf)?;
-    put(&mut rack, Box::new(alloc, MsfReceiver::new())?, Plan::Msf)?;
-    put(&mut rack, Box::new(alloc, WwvbReceiver::new())?, Plan::Wwvb)?;
+    put_in_rack(&mut rack, Box::new(alloc, DcfReceiver::new())?, Plan::Dcf)?;
+    put_in_rack(&mut rack, Box::new(alloc, MsfReceiver::new())?, Plan::Msf)?;
+    put_in_rack(&mut rack, Box::new(alloc, WwvbReceiver::new())?, Plan::Wwvb)?;
+    put_in_rack(&mut rack, Box::new(alloc, DcfReceiver::new())?, Plan::Dcf)?;
+    put_in_rack(&mut rack, Box::new(alloc, MsfReceiver::new())?, Plan::Msf)?;
+    put_in_rack(&mut rack, Box::new(alloc, WwvbReceiver::new())?, Plan::Wwvb)?;
+    put_in_rack(&mut rack, Box::new(alloc, DcfReceiver::new())?, Plan::Dcf)?;
+    put_in_rack(&mut rack, Box::new(alloc, MsfReceiver::new())?, Plan::Msf)?;
+    put_in_rack(&mut rack, Box::new(alloc, WwvbReceiver::new())?, Plan::Wwvb)?;
+    put_in_rack(&mut rack, Box::new(alloc, DcfReceiver::new())?, Plan::Dcf)?;
+    put_in_rack(&mut rack, Box::new(alloc, MsfReceiver::new())?, Plan::Msf)?;
+    put_in_rack(&mut rack, Box::new(alloc, WwvbReceiver::new())?, Plan::Wwvb)?;
     play_with(alloc, rack, station, u32::from(limit), script)
 }
 

@@ -5,8 +5,7 @@ use Rattle.radio_engine.specs.Run.{IsRun}
 use denote.Param.Object.{read_made}
 use Rattle.tick_units.specs.declared.marks.Plan.TheVariants.{Dcf, Msf, Wwvb}
 use Rattle.radio_receiver.specs.Histories.{History, blank_of}
-use Rattle.radio_engine.proofs.RackLaws.{rack_of}
-use Rattle.radio_ntpd.proofs.EmptyRack.{none_yet}
+use Rattle.receiver_rack.proofs.MadeLaws.{none_yet, rack_of}
 use Rattle.radio_ntpd.proofs.run.OwnLists.{own-1}
 use Rattle.radio_ntpd.proofs.run.Goals as goal
 

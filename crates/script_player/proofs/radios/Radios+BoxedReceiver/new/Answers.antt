@@ -6,7 +6,7 @@ use Rattle.std.specs.Option.{option_map}
 use Rattle.station_config.specs.KeptStation.{radio_given}
 use Rattle.script_player.specs.KeptPlayer.{first_radios}
 use Rattle.script_player.proofs.NewLaws.{all-radios, goes-on, some-at, some-left, starts}
-use Rattle.script_player.proofs.RackLaws.{All-at}
+use Rattle.receiver_rack.proofs.RackLaws.{All-at}
 use Rattle.script_player.proofs.radios.Radios+BoxedReceiver.new.Goals as goal
 
 pub loop-place-init : goal.loop-place-init

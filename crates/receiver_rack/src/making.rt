@@ -1,11 +1,10 @@
-//! The rack of receivers that a command is given.
+//! A rack that is made, one receiver after the other.
 ghost use Rattle.std.specs.Prelude.{◌≡◌, ℕ, [], OnOk};
 ghost use Rattle.tick_units.specs.declared.marks.Plan.TheVariants.{Dcf, Msf, Wwvb};
 ghost use Rattle.radio_receiver.specs.Histories.{blank_of};
-ghost use Rattle.radio_engine.specs.Racks.{HasOfEach, with_one};
+ghost use Rattle.receiver_rack.specs.Made.{HasOfEach, with_one};
 
-use radio_receiver::Receiver;
-use script_player::BoxedReceiver;
+use radio_receiver::{BoxedReceiver, Receiver};
 use std::alloc::AllocError;
 use tick_units::Plan;
 
@@ -13,7 +12,7 @@ use tick_units::Plan;
 ///
 /// # Errors
 /// There is no memory.
-#[tactic(auto, using(crate::proofs::RackLaws::of_each_push))]
+#[tactic(auto, using(crate::proofs::MadeLaws::of_each_push))]
 pub fn put_in_rack(
     rack: &mut Vec<BoxedReceiver>,
     receiver: BoxedReceiver,

@@ -5,7 +5,7 @@ use Rattle.tick_units.specs.declared.marks.Plan.{Plan}
 use Rattle.tick_units.specs.declared.marks.Plan.TheVariants.{Dcf, Msf, Wwvb}
 use Rattle.radio_receiver.specs.Histories.{History}
 use Rattle.station_config.specs.Station.{is_same_plan}
-use Rattle.script_player.specs.KeptPlayer.{AreOf, is_blank_of}
+use Rattle.receiver_rack.specs.Racks.{AreOf, is_blank_of}
 
 -- each receiver stands for a history, and so many of them are blank ones of DCF77, MSF and WWVB
 pub record HasOfEach {B : Type 0} (stands : B → History → Type 0) (d m w : ℕ) (rack : List B) : Type 0 where

@@ -1,15 +1,12 @@
 -- A rack that is made of blank receivers, one after the other.
-use Rattle.std.proofs.Common.{Bool, cond, ◌≡◌, ℕ, ◌+◌, ◌≤◌, List, [], ◌∷◌, ◌++◌, arith}
+use Rattle.std.proofs.Common.{◌≡◌, ℕ, ◌+◌, ◌≤◌, List, [], ◌∷◌, ◌++◌, refl, sym, subst, arith}
 use Rattle.std.specs.List.{count_by}
-use Rattle.std.proofs.lemmas.List.Sums.{sum_by-append}
 use Rattle.tick_units.specs.declared.marks.Plan.{Plan}
 use Rattle.tick_units.specs.declared.marks.Plan.TheVariants.{Dcf, Msf, Wwvb}
 use Rattle.radio_receiver.specs.Histories.{History, blank_of}
-use Rattle.script_player.specs.KeptPlayer.{AreOf, IsRack, is_blank_of}
-use Rattle.radio_engine.specs.Racks.{HasOfEach, with_one}
-
-count_by-push : {X : Type 0} (p : X → Bool) (xs : List X) (x : X) → count_by p (xs ++ x ∷ []) ≡ count_by p xs + cond (p x) 1 0
-count_by-push p xs x = let e : count_by p (xs ++ x ∷ []) ≡ count_by p xs + (0 + cond (p x) 1 0) = sum_by-append (λ y. cond (p y) 1 0) xs (x ∷ []) in omega arith
+use Rattle.receiver_rack.specs.Racks.{AreOf, IsRack, is_blank_of}
+use Rattle.receiver_rack.specs.Made.{HasOfEach, with_one}
+use Rattle.receiver_rack.proofs.ListLaws.{count_by-push}
 
 module _ {B : Type 0} (stands : B → History → Type 0) where
   are_of-push : (rack : List B) (histories : List History) (b : B) (h : History) → AreOf stands rack histories → stands b h → AreOf stands (rack ++ b ∷ []) (histories ++ h ∷ [])
@@ -46,3 +43,7 @@ module _ {B : Type 0} (stands : B → History → Type 0) where
   -- four of each plan are a rack
   pub rack_of : (rack : List B) → HasOfEach stands 4 4 4 rack → IsRack stands rack
   rack_of rack has = record { histories = has.histories; are = has.are; enough = enough_of rack has }
+
+  -- a rack that holds nothing yet
+  pub none_yet : (rack : List B) → rack ≡ [] → HasOfEach stands 0 0 0 rack
+  none_yet rack none = subst (HasOfEach stands 0 0 0) (sym none) (record { histories = []; are = tt; dcf = refl; msf = refl; wwvb = refl })

@@ -1,0 +1,4 @@
+-- Lemmas that several proofs of this crate use.
+pub mod ListLaws
+pub mod MadeLaws
+pub mod RackLaws
