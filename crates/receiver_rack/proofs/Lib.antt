@@ -1,4 +1,5 @@
 -- Lemmas that several proofs of this crate use.
+pub mod FittingLaws
 pub mod ListLaws
 pub mod MadeLaws
 pub mod RackLaws

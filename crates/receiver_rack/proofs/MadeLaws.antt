@@ -9,7 +9,7 @@ use Rattle.receiver_rack.specs.Made.{HasOfEach, with_one}
 use Rattle.receiver_rack.proofs.ListLaws.{count_by-push}
 
 module _ {B : Type 0} (stands : B → History → Type 0) where
-  are_of-push : (rack : List B) (histories : List History) (b : B) (h : History) → AreOf stands rack histories → stands b h → AreOf stands (rack ++ b ∷ []) (histories ++ h ∷ [])
+  pub are_of-push : (rack : List B) (histories : List History) (b : B) (h : History) → AreOf stands rack histories → stands b h → AreOf stands (rack ++ b ∷ []) (histories ++ h ∷ [])
   are_of-push [] [] b h are is = (is, tt)
   are_of-push [] (first ∷ others) b h are is = absurd are
   are_of-push (x ∷ more) [] b h are is = absurd are

@@ -1,5 +1,5 @@
 -- What a rack of receivers is, which of them are kept, and which are left. All of it is this project's own.
-use Rattle.std.specs.Prelude.{◌≡◌, ℕ, ◌+◌, ◌≤◌, ◌&&◌, Bool, true, Some, List, [], ◌∷◌, All, length, map, if◌then◌else◌}
+use Rattle.std.specs.Prelude.{◌≡◌, ℕ, ◌+◌, ◌≤◌, ◌&&◌, Bool, true, Some, List, [], ◌∷◌, All, map, if◌then◌else◌}
 use Rattle.std.specs.List.{count_by, slice_get}
 use Rattle.tick_units.specs.declared.marks.Plan.{Plan}
 use Rattle.radio_receiver.specs.Histories.{History, is_blank}

@@ -1,5 +1,5 @@
 //! Receivers are fitted with the delays of a station's radios.
-ghost use Rattle.std.specs.Prelude.{◌≡◌, ◌≤◌, ◌++◌, ◌∷◌, [], All, IfOk, List, map, vec_len, vec_capacity, ◌<◌};
+ghost use Rattle.std.specs.Prelude.{◌≡◌, ◌≤◌, ◌++◌, ◌∷◌, [], ◌+◌, ◌<◌, All, IfOk, List, map, vec_len, vec_capacity};
 ghost use Rattle.radio_receiver.specs.Histories.{History, with_delay};
 ghost use Rattle.station_config.specs.Station.{RadioFields};
 ghost use Rattle.receiver_rack.specs.Racks.{AreOf, HasFitted, IsRack, left_of, silent};

@@ -13,8 +13,8 @@ use Rattle.receiver_rack.specs.declared.rack.Spare.{Spare}
 use Rattle.script_player.specs.declared.radio.Radio.{Radio}
 use Rattle.script_player.specs.declared.radios.Radios.{Radios}
 use Rattle.script_player.specs.declared.server.Server.{Server}
-use Rattle.receiver_rack.proofs.ListLaws.{count_by-cons, count_by-push, weight}
-use Rattle.script_player.proofs.RadioLaws.{same-plan}
+use Rattle.receiver_rack.proofs.ListLaws.{count_by-push, count_by-take, take-slice_get}
+use Rattle.receiver_rack.proofs.RackLaws.{same-plan}
 
 -- what stands at a place of a list with one item more
 slice_get-push-cases : {X : Type 0} (xs : List X) (x y : X) (j : ℕ) → slice_get (xs ++ x ∷ []) j ≡ Some y → (slice_get xs j ≡ Some y) ⊎ ((j ≡ length xs) × (y ≡ x))
@@ -73,9 +73,6 @@ adds {B} stands old new station fields radio left receiver taken plan delay leas
         subst (λ x. HasRadio stands x f feed []) (sym s)
         (subst (λ x. HasRadio stands radio x feed []) (sym same) (subst (λ n. HasRadio stands radio fields n []) (sym (e ∙ h.fitted_are.count)) fresh))
 
-take-slice_get : {X : Type 0} (xs : List X) (n : ℕ) (x : X) → slice_get xs n ≡ Some x → take (n + 1) xs ≡ take n xs ++ x ∷ []
-take-slice_get xs n x e = take_more xs n x (slice_get_within xs n x e) ∙ ap (λ y. take n xs ++ y ∷ []) (get_or_from_slice_get xs n x x e)
-
 -- no radio yet
 pub starts : {B : Type 0} (stands : B → History → Type 0) (radios : Radios B) (station : StationFields) → radios.fitted.items ≡ [] → AreFour stands radios.left.items → HasRadios stands radios (first_radios 0 station) []
 starts stands radios station none four = record {
@@ -88,20 +85,6 @@ pub goes-on : {B : Type 0} (stands : B → History → Type 0) (radios : Radios 
     HasRadios stands radios (with_radio (first_radios n station) fields) [] → HasRadios stands radios (first_radios (n + 1) station) []
 goes-on stands radios station n fields at h =
     subst (λ rs. HasRadios stands radios (record station { radios = rs }) []) (sym (take-slice_get station.radios n fields at)) h
-
-count_by-take : {X : Type 0} (p : X → Bool) (xs : List X) (n : ℕ) (x : X) → slice_get xs n ≡ Some x → p x ≡ true → count_by p (take n xs) < count_by p xs
-count_by-take p [] n x e passes = absurd (cc)
-count_by-take p (y ∷ more) zero x e passes =
-    let same : y ≡ x = cc in
-    let one : weight (p y) ≡ 1 = ap (λ z. weight (p z)) same ∙ ap weight passes in
-    let first = count_by-cons p y more in
-    let none : count_by p (take zero (y ∷ more)) ≡ 0 = refl in
-    omega arith
-count_by-take p (y ∷ more) (suc n) x e passes =
-    let had = count_by-take p more n x e passes in
-    let first = count_by-cons p y more in
-    let front : count_by p (take (suc n) (y ∷ more)) ≡ weight (p y) + count_by p (take n more) = count_by-cons p y (take n more) in
-    omega arith
 
 -- a receiver is left for each radio
 pub some-left : {B : Type 0} (stands : B → History → Type 0) (radios : Radios B) (station : StationFields) (n : ℕ) (fields : RadioFields) → IsStation station → slice_get station.radios n ≡ Some fields →
@@ -138,15 +121,6 @@ polling-none station = record { count = refl; each = λ place server fields at h
 pub length-enumerate : {X : Type 0} (n : ℕ) (xs : List X) → length (enumerate_from n xs) ≡ length xs
 length-enumerate n [] = refl
 length-enumerate n (x ∷ more) = ap suc (length-enumerate (n + 1) more)
-
--- a place within a list has an item
-pub some-at : {X Y : Type 0} (f : X → Y) (o : Option X) (ys : List Y) (i : ℕ) → option_map f o ≡ slice_get ys i → i < length ys → IsSome o
-some-at f (Some x) ys i e within = search rules
-some-at {X} {Y} f None ys i e within = absurd (by (slice_get_cases ys i).1)
-  where
-    by : ((y : Y) × (i < length ys) × (slice_get ys i ≡ Some y) × (get_or ys i y ≡ y)) ⊎ ((length ys ≤ i) × (slice_get ys i ≡ None)) → ⊥
-    by (inl (y, w, at, read)) = let both : None ≡ Some y = e ∙ at in cc
-    by (inr (past, none)) = omega arith
 
 -- all radios are the station's
 pub all-radios : {B : Type 0} (stands : B → History → Type 0) (radios : Radios B) (station : StationFields) (n : ℕ) → n ≡ length station.radios → HasRadios stands radios (first_radios n station) [] → HasRadios stands radios station []

@@ -21,6 +21,7 @@ use Rattle.script_player.specs.KeptPlayer.{HasFitted, HasHeardPulse, HasRadio, H
 use Rattle.receiver_rack.specs.declared.rack.Spare.{Spare}
 use Rattle.script_player.specs.declared.radio.Radio.{Radio}
 use Rattle.script_player.specs.declared.radios.Radios.{Radios}
+use Rattle.receiver_rack.proofs.RackLaws.{same-plan}
 use Rattle.script_player.proofs.LineLaws.{reductions-more, reductions-other, reductions-swap}
 use Rattle.receiver_rack.proofs.ListLaws.{count_by-push}
 use Rattle.script_player.proofs.ListLaws.{filter_map-none, filter_map-some, slice_get-behind, slice_set-cases}
@@ -121,11 +122,6 @@ eqb-no a b n = grind (arith, nat_tests)
 
 pub eqb-yes : (a : ℕ) → (a == a) ≡ true
 eqb-yes a = grind (arith, nat_tests)
-
-pub same-plan : (p : Plan) → is_same_plan p p ≡ true
-same-plan Dcf = refl
-same-plan Msf = refl
-same-plan Wwvb = refl
 
 fitted-push : (station : StationFields) (plan : Plan) (lines : List ScriptLine) (line : ScriptLine) → fitted station plan (lines ++ line ∷ []) ≡ fitted station plan lines + cond (is_swap_for station plan line) 1 0
 fitted-push station plan lines line =
