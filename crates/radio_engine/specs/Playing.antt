@@ -14,6 +14,11 @@ use Rattle.radio_engine.specs.Script.{says_line}
 use Rattle.radio_engine.specs.declared.reading.Gives.{Gives}
 use Rattle.radio_engine.specs.declared.replay.replayer.Replayer.{Replayer}
 
+-- what a script is played for: a station, with at most so many entries
+pub record ReplayCase : Type 0 where
+  pub station : StationFields
+  pub limit : ℕ
+
 -- it has taken these bytes, has played their lines and given the text of these, and has met this bad line
 abbrev pub IsPlayedBy : {B : Type 0} → (B → History → Type 0) → Replayer B → StationFields → ℕ → List ℕ → List ℕ → Option ℕ → Type 0
 IsPlayedBy stands r of limit bytes text bad = IsTakenBy (script_of limit of) (λ player lines bad. HasPlayed stands player of limit lines) 4096 r.player r.cutter r.lines bytes text bad

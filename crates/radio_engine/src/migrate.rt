@@ -1,5 +1,5 @@
 //! `migrate`: a journal of either form is read against a station, line by line, and written in the second form.
-ghost use Rattle.std.specs.Prelude.{◌≡◌, ◌≤◌, ◌⊎◌, [], None, IfOk, MatchResult};
+ghost use Rattle.std.specs.Prelude.{◌≡◌, ◌⊎◌, [], None, IfOk, MatchResult};
 ghost use Rattle.file_reader.specs.declared.reader.FileEnd.TheVariants.{Whole};
 ghost use Rattle.radio_engine.specs.Keeping.{TriesFile};
 ghost use Rattle.radio_engine.specs.LineFiles.{RunsThrough};
@@ -8,7 +8,7 @@ ghost use Rattle.radio_engine.specs.JournalTaking.{IsEven, IsMovedBy};
 ghost use Rattle.radio_engine.specs.Run.{Lacks};
 ghost use Rattle.radio_engine.specs.StationFile.{IsObstacle};
 ghost use Rattle.station_config.specs.Faults.{Says};
-ghost use Rattle.station_config.specs.Station.{StationFields, settings_of};
+ghost use Rattle.station_config.specs.Station.{StationFields};
 
 mod lines;
 mod mover;
@@ -18,14 +18,17 @@ use crate::ending::page::finish_page;
 use crate::ending::status::Status;
 use crate::ending::subject::Subject;
 use crate::ending::writing::finish;
-use crate::reading::{Reach, ending_at};
+use crate::reading::{Reach, ending_at, read_lines};
 use crate::station_file::obstacle::{Obstacle, finish_at};
 use crate::station_file::{self, judge, open_station};
 use feed_link::{Failed, Outside, Sink, Source};
 use file_reader::FileEnd;
 use lines::Mover;
-use mover::{JournalMover, read_journal};
+use mover::JournalMover;
 use std::alloc::Global;
+
+// The most bytes of a journal.
+const LIMIT: usize = 1 << 30;
 
 // The line behind the last that a journal may have, and how many it may have.
 const BEHIND: u64 = 4_194_305;
@@ -49,7 +52,7 @@ fn move_whole<S: Source, K: Sink>(journal: &mut S, mover: &mut JournalMover, out
     ensures runs { (of : StationFields) → IsMovedBy mover.old of [] [] None →
         RunsThrough (journal_of of) (S.state journal.old) (S.state journal.new) (K.state out.old) (K.state out.new) result }
 {
-    match read_journal(journal, mover, out) {
+    match read_lines(journal, mover, LIMIT, out) {
         Ok(reach) => finish_page(&mover.mover.page(), migrate_ending(reach), out),
         Err(Failed) => Status::WriteFault,
     }

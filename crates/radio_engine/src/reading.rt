@@ -3,6 +3,10 @@ ghost use Rattle.std.specs.Prelude.{◌≡◌};
 ghost use Rattle.radio_engine.specs.Endings.{ending_at};
 ghost use Rattle.radio_engine.specs.Taking.{Fits, IsGiven};
 
+mod taking;
+
+pub use taking::{Taker, read_lines};
+
 use crate::ending::Ending;
 use crate::ending::subject::Subject;
 use crate::ending::writing::write_all;

@@ -1,7 +1,5 @@
 //! `replay`: a script is played against a station, line by line.
-ghost use Rattle.std.specs.Prelude.{◌≡◌, ◌≤◌, ◌^◌, ◌⊎◌, ℕ, [], Some, None, IfOk, MatchResult};
-ghost use Rattle.feed_link.specs.Openings.{MakesOpenings};
-ghost use Rattle.feed_link.specs.Openings.Wanted.{LogOf};
+ghost use Rattle.std.specs.Prelude.{◌≡◌, ◌≤◌, ◌^◌, ◌⊎◌, [], None, IfOk, MatchResult};
 ghost use Rattle.file_reader.specs.declared.reader.FileEnd.TheVariants.{Whole};
 ghost use Rattle.radio_engine.specs.Keeping.{TriesFile};
 ghost use Rattle.radio_engine.specs.LineFiles.{RunsThrough};
@@ -21,15 +19,18 @@ use crate::ending::page::finish_page;
 use crate::ending::status::Status;
 use crate::ending::subject::Subject;
 use crate::ending::writing::finish;
-use crate::reading::{Reach, ending_at};
+use crate::reading::{Reach, ending_at, read_lines};
 use crate::station_file::obstacle::{Obstacle, finish_at};
 use crate::station_file::{self, judge, open_station};
 use feed_link::{Failed, Outside, Sink, Source};
 use file_reader::FileEnd;
 use radio_receiver::Receiver;
-use replayer::{Replayer, read_script};
+use replayer::Replayer;
 use script_player::{BoxedReceiver, Player};
 use std::alloc::{AllocError, Global};
+
+// The most bytes of a script.
+const LIMIT: usize = 1 << 26;
 
 // How a command ends that has played a script so far, where entries were lost or not.
 fn replay_ending(reach: Reach, lost: bool, limit: u32) -> Ending
@@ -54,7 +55,7 @@ fn play_whole<S: Source, K: Sink>(
     ensures replays { (station : StationFields) → IsPlayedBy (λ b h. stands_for b h) replayer.old station limit [] [] None →
         RunsThrough (script_of limit station) (S.state script.old) (S.state script.new) (K.state out.old) (K.state out.new) result }
 {
-    match read_script(script, replayer, out) {
+    match read_lines(script, replayer, LIMIT, out) {
         Ok(reach) => {
             let page = replayer.player.page();
             let ending = replay_ending(reach, replayer.player.is_full(), limit);

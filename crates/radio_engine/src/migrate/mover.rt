@@ -1,26 +1,19 @@
 //! The lines of a journal are cut out of its bytes and moved over, one after the other.
-ghost use Rattle.std.specs.Prelude.{◌≡◌, ◌+◌, ◌<◌, ◌≤◌, ◌^◌, ◌++◌, ◌↔◌, IsTrue, ℕ, List, [], None, length, take, MatchOption};
+ghost use Rattle.std.specs.Prelude.{◌≡◌, ◌+◌, ◌<◌, ◌≤◌, ◌^◌, List, [], None, length, take, MatchOption};
 ghost use Rattle.journal_entry.specs.declared.line.JournalLine.{JournalLine};
 ghost use Rattle.journal_entry.specs.declared.writer.TheConstants.{LINE_ROOM};
-ghost use Rattle.feed_link.specs.Told.{SinkState};
 ghost use Rattle.line_cutter.specs.Cutting.{line_in};
-ghost use Rattle.radio_engine.specs.JournalTaking.{IsEven, IsMovedBy, IsMovedLine, journal_says};
+ghost use Rattle.radio_engine.specs.JournalTaking.{IsEven, IsMovedBy, IsMovedLine};
 ghost use Rattle.radio_engine.specs.Moving.{HasMoved, MovesText};
-ghost use Rattle.radio_engine.specs.Reading.{bad_in_the_end};
-ghost use Rattle.radio_engine.specs.Taking.{Fits, given, bad_of, EndsAt, TakesPiece, EndsTaking};
-ghost use Rattle.radio_engine.specs.Writing.{WritesAll};
+ghost use Rattle.radio_engine.specs.Taking.{Fits};
 ghost use Rattle.station_config.specs.Station.{StationFields, settings_of};
-ghost use Rattle.system_fold.specs.Settings.{AreLawful, SettingsFields};
+ghost use Rattle.system_fold.specs.Settings.{SettingsFields};
 
 use crate::migrate::lines::Mover;
-use crate::reading::{Gives, Line, Reach, Taken, Took, write_given};
-use feed_link::{Failed, Sink, Source};
-use file_reader::{FileEnd, FileReader, Pulled};
+use crate::reading::{Gives, Line, Reach, Taker, Took};
+use file_reader::FileEnd;
 use journal_entry::{LINE_ROOM, read_line, write_numbered};
 use line_cutter::{Cut, LineCutter};
-
-// The most bytes of a journal.
-const LIMIT: usize = 1 << 30;
 
 // The most lines of a journal.
 const MOST: u64 = 4_194_304;
@@ -86,18 +79,25 @@ impl JournalMover {
             None => Gives::Bad(number),
         }
     }
+}
 
-    // Takes bytes up to the next text, which is then the front of the line, up to a bad line, or all of them.
-    fn take(&mut self, bytes: &[u8], line: &mut Line) -> Took
-        requires some { 0 < length bytes.now }
-        requires even { IsEven self.old }
-        ensures some { 0 < result.count }
-        ensures within { result.count ≤ length bytes.now }
-        ensures even { IsEven self.new }
-        ensures fits { Fits result.gives }
-        ensures holds { (of : StationFields) (before text : List ℕ) → IsMovedBy self.old of before text None →
-            IsMovedBy self.new of (before ++ take result.count bytes.now) (text ++ given result.gives line.new) (bad_of result.gives) }
-    {
+impl Taker for JournalMover {
+    ghost use Rattle.std.specs.Prelude.{◌^◌};
+    ghost use Rattle.radio_engine.specs.JournalTaking.{IsEven, IsMovedBy, journal_says};
+    ghost use Rattle.station_config.specs.Station.{StationFields};
+
+    ghost Case = { StationFields };
+
+    ghost says = { journal_says };
+
+    ghost holds = { IsMovedBy };
+
+    ghost is_ready = { IsEven };
+
+    // Behind the most lines it takes no more.
+    ghost room = { λ mover. 2 ^ 64 };
+
+    fn take(&mut self, bytes: &[u8], line: &mut Line) -> Took {
         if self.lines == MOST {
             return Took {
                 count: 1,
@@ -121,62 +121,13 @@ impl JournalMover {
         }
     }
 
-    // How far a reading came that came to the end.
-    fn at_end(&self) -> Reach
-        requires { IsEven self.now }
-        ensures { (of : StationFields) (bytes text : List ℕ) → IsMovedBy self.now of bytes text None → EndsAt result (bad_in_the_end None bytes) }
-    {
+    fn at_end(&self) -> Reach {
         if self.cutter.has_tail() {
             Reach::AtBadLine(self.lines + 1)
         } else {
             Reach::AtEnd(FileEnd::Whole)
         }
     }
-}
 
-// Moves a piece of a journal, up to a bad line or a write that fails.
-fn move_piece<K: Sink>(mover: &mut JournalMover, piece: &[u8], out: &mut K) -> Taken
-    requires { IsEven mover.old }
-    ensures even { IsEven mover.new }
-    ensures takes { (of : StationFields) (bytes text : List ℕ) (start : SinkState) → IsMovedBy mover.old of bytes text None →
-        WritesAll start (K.state out.old) text → TakesPiece (IsMovedBy mover.new of) (journal_says of) result start (K.state out.new) (bytes ++ piece.now) (length piece.now) }
-{
-    let mut line = [0; LINE_ROOM];
-    let mut rest = piece;
-    'rest: while !rest.is_empty() {
-        let took = mover.take(rest, &mut line);
-        match write_given(took.gives, &line, out) {
-            Taken::All => {}
-            Taken::Bad(number) => return Taken::Bad(number),
-            Taken::Stopped => return Taken::Stopped,
-        }
-        rest = rest.split_at(took.count).1;
-    }
-    Taken::All
-}
-
-// Reads a journal to its end, to its first bad line or to its first fault, and moves it over, as long as no write fails.
-pub fn read_journal<S: Source, K: Sink>(
-    journal: &mut S,
-    mover: &mut JournalMover,
-    out: &mut K,
-) -> Result<Reach, Failed>
-    requires { IsEven mover.old }
-    ensures number { S.opening journal.new ≡ S.opening journal.old }
-    ensures ends { (of : StationFields) → IsMovedBy mover.old of [] [] None →
-        EndsTaking (IsMovedBy mover.new of) (journal_says of) (2 ^ 30) (S.state journal.old) (S.state journal.new) (K.state out.old) (K.state out.new) result }
-{
-    let mut reader = FileReader::new(LIMIT);
-    'pieces: loop {
-        match reader.pull(journal) {
-            Pulled::Piece => match move_piece(mover, reader.piece(), out) {
-                Taken::All => {}
-                Taken::Bad(number) => return Ok(Reach::AtBadLine(number)),
-                Taken::Stopped => return Err(Failed),
-            },
-            Pulled::Ended(FileEnd::Whole) => return Ok(mover.at_end()),
-            Pulled::Ended(FileEnd::Fault) => return Ok(Reach::AtEnd(FileEnd::Fault)),
-            Pulled::Ended(FileEnd::TooLong) => return Ok(Reach::AtEnd(FileEnd::TooLong)),
-        }
-    }
+    ghost held_says = { λ mover of bytes text held. (held.items, held.said, held.text_is) };
 }

@@ -5,7 +5,7 @@ use Rattle.radio_engine.proofs.LineFileLaws.{runs_after, runs_stopped}
 use Rattle.radio_engine.proofs.migrate.move_whole.Goals as goal
 
 pub returns-in-Ok-clause-runs : goal.returns-in-Ok-clause-runs
-returns-in-Ok-clause-runs g c = λ of h. runs_after (journal_of of) _ 300 c.read_journal.new.mover.mover _ _ _ _ _ _ _ c.in-Ok.reach _ c.page.result c.migrate_ending.result
+returns-in-Ok-clause-runs g c = λ of h. runs_after (journal_of of) _ 300 c.read_lines.new.taker.mover _ _ _ _ _ _ _ c.in-Ok.reach _ c.page.result c.migrate_ending.result
     (c.in-Ok.ensures.ends of h) (λ lines bad moved. c.page.ensures ∙ moved.page) (λ lines bad moved. c.migrate_ending.ensures) c.finish_page.ensures
 
 pub returns-in-Err-clause-runs : goal.returns-in-Err-clause-runs

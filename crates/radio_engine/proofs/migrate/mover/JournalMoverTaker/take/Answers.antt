@@ -1,4 +1,4 @@
--- What the search leaves open of `migrate::mover::JournalMover::take`.
+-- What the search leaves open of `migrate::mover::JournalMoverTaker::take`.
 use Rattle.std.proofs.Common.{◌≡◌, ◌+◌, ◌<◌, ◌++◌, ℕ, [], Some, take, ap, subst, sym, ◌∙◌, arith}
 use Rattle.station_config.specs.Station.{settings_of}
 use Rattle.radio_engine.specs.LineTaking.{IsTakenBy}
@@ -6,7 +6,7 @@ use Rattle.radio_engine.specs.Moving.{HasMoved}
 use Rattle.radio_engine.specs.Migrating.{journal_of}
 use Rattle.radio_engine.proofs.LineTakingLaws.{took_more, took_line, took_long, took_none}
 use Rattle.radio_engine.proofs.MovingLaws.{limit_behind, limit_within, moved_ends, none_behind, some_room}
-use Rattle.radio_engine.proofs.migrate.mover.JournalMover.take.Goals as goal
+use Rattle.radio_engine.proofs.migrate.mover.JournalMoverTaker.take.Goals as goal
 
 pub returns-then-self-eq-MOST-clause-holds : goal.returns-then-self-eq-MOST-clause-holds
 returns-then-self-eq-MOST-clause-holds c = λ of before text h.
@@ -17,7 +17,7 @@ returns-then-self-eq-MOST-clause-holds c = λ of before text h.
 
 pub returns-in-More-clause-holds : goal.returns-in-More-clause-holds
 returns-in-More-clause-holds c = λ of before text h.
-    let most = c.requires.even.most in
+    let most = c.requires.ready.most in
     let limit = limit_within c.args.self.now.lines (omega arith) in
     took_more (journal_of of) _ 300 some_room (moved_ends of) c.args.self.now.mover c.args.self.now.cutter c.args.self.now.lines c.args.bytes.now c.take-taken.result c.take-taken.new.self
     (λ b taken. c.take-taken.ensures.taken 300 b taken) before text h (omega arith) c.in-More.is
@@ -30,7 +30,7 @@ returns-in-Line-clause-holds c = λ of before text h.
 
 pub returns-in-TooLong-clause-holds : goal.returns-in-TooLong-clause-holds
 returns-in-TooLong-clause-holds c = λ of before text h.
-    let most = c.requires.even.most in
+    let most = c.requires.ready.most in
     let limit = limit_within c.args.self.now.lines (omega arith) in
     took_long (journal_of of) _ 300 some_room (moved_ends of) c.args.self.now.mover c.args.self.now.cutter c.args.self.now.lines c.args.bytes.now c.take-taken.result c.take-taken.new.self
     (λ b taken. c.take-taken.ensures.taken 300 b taken) before text h (omega arith) c.in-TooLong.is
