@@ -5,14 +5,13 @@ ghost use Rattle.radio_engine.specs.Taking.{Fits, IsGiven};
 
 mod taking;
 
-pub use taking::{Taker, read_lines};
-
 use crate::ending::Ending;
 use crate::ending::subject::Subject;
 use crate::ending::writing::write_all;
 use feed_link::{Failed, Sink};
 use file_reader::FileEnd;
 use journal_entry::LINE_ROOM;
+pub use taking::{Taker, read_lines};
 
 // A line that is written, in its room.
 pub type Line = [u8; LINE_ROOM];
