@@ -1,5 +1,5 @@
 -- Which of the logs and links of a station were opened and are out, and which one is missing.
-use Rattle.std.specs.Prelude.{◌≡◌, ◌-◌, ℕ, min, Option, None, Some, List, ◌++◌, length, map, slice_get, vec_len}
+use Rattle.std.specs.Prelude.{◌≡◌, ◌-◌, ℕ, min, Option, None, Some, Result, Ok, Err, List, ◌++◌, length, map, slice_get, vec_len}
 use Rattle.std.specs.Option.{MatchOption, option_to_list}
 use Rattle.feed_link.specs.Faults.{RoseByOne}
 use Rattle.feed_link.specs.Openings.{Wanted, State, OutsideState, GrowsBy, failed}
@@ -37,6 +37,11 @@ pub record StopsIn (needed : List Wanted) (numbers : List ℕ) (states : List St
 abbrev pub named_by : StationFields → Missing → Option Wanted
 named_by of (Feed number) = slice_get (logs_needed of ++ servers_needed of) number
 named_by of (Link place) = slice_get (links_needed of) place
+
+-- what failed, by what a call answers
+abbrev pub failing_of : StationFields → Result (Unit {0}) Missing → Option Wanted
+failing_of of (Ok done) = None
+failing_of of (Err missing) = named_by of missing
 
 -- one of those that a station needs failed, and it is named
 pub record StopsAt (of : StationFields) (missing : Missing) (numbers : List ℕ) (states : List State) (before now : OutsideState) : Type 0 where

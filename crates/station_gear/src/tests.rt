@@ -1,16 +1,15 @@
 //! Stations whose logs and links are opened over an outside in memory that notes each call: all of them, each of them failing, and
 //! those of a station that has none.
-ghost use Rattle.std.specs.Prelude.{◌≡◌, ◌∷◌, List, None, Some, map, IfOk};
-ghost use Rattle.std.specs.Option.{MatchOption};
+ghost use Rattle.std.specs.Prelude.{◌≡◌, ◌∷◌, List, map, IfOk};
 ghost use Rattle.feed_link.specs.Openings.{MakesOpenings, Visit};
 ghost use Rattle.feed_link.specs.Openings.Wanted.{LogOf};
 ghost use Rattle.station_gear.specs.Gears.{IsEmptyFor, wanted_by};
-ghost use Rattle.station_gear.specs.Opens.{named_by};
+ghost use Rattle.station_gear.specs.Opens.{failing_of};
 
 use crate::{Gear, Missing, give_back_gear, open_gear};
 use feed_link::{
-    Address, Failed, FakeOpen, Hearing, Link, MemoryLink, MemoryOutside, MemorySource, NamedLog,
-    OpenGate, Outside, Planned, Source,
+    Address, Failed, Hearing, Link, MemoryLink, MemoryOutside, MemorySource, NamedLog, OpenGate,
+    Outside, Planned, Source,
 };
 use station_config::{Station, read_station};
 use std::alloc::Global;
@@ -33,7 +32,8 @@ port = 5123
 port = 5001
 "#;
 
-const ALL: &str = "log own; back log; log b.log; log a.log; link 0 @7000; link 5123 @7000; link 5001 @7000; \
+const ALL: &str =
+    "log own; back log; log b.log; log a.log; link 0 @7000; link 5123 @7000; link 5001 @7000; \
 back log; back log; back link; back link; back link; ";
 
 // An outside in memory. It notes each opening and each giving back.
@@ -161,38 +161,34 @@ fn hear_links<T: Link + Drop>(links: &mut Vec<T>, seen: &mut String)
     }
 }
 
-// Opens the gear of a station, reads a byte of each log and hears once of each link, and gives all back: what is missing.
+// Opens the gear of a station, reads a byte of each log and hears once of each link, and gives all back: whether all was there.
 fn visit_gear<O: Outside>(
     outside: &mut O,
     station: &Station,
     mut gear: Gear<O::Log, O::Net>,
     seen: &mut String,
-) -> Option<Missing>
+) -> Result<(), Missing>
     requires { IsEmptyFor station.now gear }
-    ensures { MatchOption result
-        ((visits : List Visit) × MakesOpenings (wanted_by station.now) (O.state outside.old) (O.state outside.new) visits None)
-        (λ missing. (visits : List Visit) × MakesOpenings (wanted_by station.now) (O.state outside.old) (O.state outside.new) visits (named_by station.now missing)) }
+    ensures { (visits : List Visit) × MakesOpenings (wanted_by station.now) (O.state outside.old) (O.state outside.new) visits (failing_of station.now result) }
 {
     let opened = open_gear(outside, station, &mut gear);
     read_logs(&mut gear.logs, seen);
     hear_links(&mut gear.servers, seen);
     hear_links(&mut gear.links, seen);
     give_back_gear(outside, gear);
-    opened.err()
+    opened
 }
 
-// Opens the station's own log and gives it back, and then visits its gear: what is missing.
+// Opens the station's own log and gives it back, and then visits its gear.
 fn visit<O: Outside>(
     outside: &mut O,
     name: &str,
     station: &Station,
     gear: Gear<O::Log, O::Net>,
     seen: &mut String,
-) -> Result<Option<Missing>, Failed>
+) -> Result<Result<(), Missing>, Failed>
     requires { IsEmptyFor station.now gear }
-    ensures { IfOk result (λ missing. MatchOption missing
-        ((visits : List Visit) × MakesOpenings (LogOf name.now ∷ wanted_by station.now) (O.state outside.old) (O.state outside.new) visits None)
-        (λ m. (visits : List Visit) × MakesOpenings (LogOf name.now ∷ wanted_by station.now) (O.state outside.old) (O.state outside.new) visits (named_by station.now m))) }
+    ensures { IfOk result (λ answer. (visits : List Visit) × MakesOpenings (LogOf name.now ∷ wanted_by station.now) (O.state outside.old) (O.state outside.new) visits (failing_of station.now answer)) }
 {
     let Ok(own) = outside.open_log(name) else {
         return Err(Failed);
@@ -216,7 +212,7 @@ fn count(outside: &Noting, place: usize) -> Option<usize> {
 // What a visit to the station of a text came to.
 #[derive(Drop)]
 struct Visited {
-    missing: Option<Missing>,
+    answer: Result<(), Missing>,
     seen: String,
     calls: String,
     counts: [Option<usize>; 3],
@@ -229,10 +225,10 @@ fn visit_station(alloc: Global, text: &str, second: &str, failing: u64) -> Resul
     let gear = Gear::with_room(alloc, &station)?;
     let mut outside = outside(alloc, second, failing)?;
     let mut seen = String::new(alloc);
-    let missing = visit(&mut outside, "own", &station, gear, &mut seen)?;
+    let answer = visit(&mut outside, "own", &station, gear, &mut seen)?;
     let counts = counts(&outside);
     Ok(Visited {
-        missing,
+        answer,
         seen,
         calls: outside.calls,
         counts,
@@ -242,7 +238,7 @@ fn visit_station(alloc: Global, text: &str, second: &str, failing: u64) -> Resul
 #[test]
 fn all_are_opened_in_order_and_come_back_to_their_places(rt: HostRuntime) -> Result<(), Fail> {
     let visited = visit_station(rt.alloc(), STATION, "b.log", 0)?;
-    assert_eq!(rt; visited.missing, None);
+    assert_eq!(rt; visited.answer, Ok(()));
     assert_eq!(rt; visited.calls.as_str(), ALL);
     assert_eq!(rt; visited.seen.as_str(), "66 65 31 32 33 ");
     assert_eq!(rt; visited.counts, [Some(1); 3]);
@@ -260,7 +256,7 @@ fn it_stops_at_the_first_that_fails(rt: HostRuntime) -> Result<(), Fail> {
     ];
     for (failing, missing, seen) in table {
         let visited = visit_station(rt.alloc(), STATION, "b.log", failing)?;
-        assert_eq!(rt; visited.missing, Some(missing));
+        assert_eq!(rt; visited.answer, Err(missing));
         assert_eq!(rt; visited.seen.as_str(), seen);
     }
     Ok(())
@@ -269,7 +265,7 @@ fn it_stops_at_the_first_that_fails(rt: HostRuntime) -> Result<(), Fail> {
 #[test]
 fn what_was_opened_before_a_failure_comes_back(rt: HostRuntime) -> Result<(), Fail> {
     let visited = visit_station(rt.alloc(), STATION, "b.log", 5)?;
-    assert_eq!(rt; visited.missing, Some(Missing::Link(0)));
+    assert_eq!(rt; visited.answer, Err(Missing::Link(0)));
     assert_eq!(rt;
         visited.calls.as_str(),
         "log own; back log; log b.log; log a.log; link 0 @7000; link 5123 @7000; back log; back log; back link; "
@@ -281,7 +277,7 @@ fn what_was_opened_before_a_failure_comes_back(rt: HostRuntime) -> Result<(), Fa
 #[test]
 fn a_log_that_is_not_there_is_missing(rt: HostRuntime) -> Result<(), Fail> {
     let visited = visit_station(rt.alloc(), STATION, "c.log", 0)?;
-    assert_eq!(rt; visited.missing, Some(Missing::Feed(0)));
+    assert_eq!(rt; visited.answer, Err(Missing::Feed(0)));
     assert_eq!(rt; visited.calls.as_str(), "log own; back log; log b.log; ");
     assert_eq!(rt; visited.counts, [Some(0); 3]);
     Ok(())
@@ -290,7 +286,7 @@ fn a_log_that_is_not_there_is_missing(rt: HostRuntime) -> Result<(), Fail> {
 #[test]
 fn a_station_with_nothing_in_it_opens_nothing(rt: HostRuntime) -> Result<(), Fail> {
     let visited = visit_station(rt.alloc(), "", "b.log", 0)?;
-    assert_eq!(rt; visited.missing, None);
+    assert_eq!(rt; visited.answer, Ok(()));
     assert_eq!(rt; visited.calls.as_str(), "log own; back log; ");
     assert_eq!(rt; visited.seen.as_str(), "");
     Ok(())
