@@ -1,5 +1,5 @@
 -- What the search leaves open of `tests::hear_links`.
-use Rattle.std.proofs.Common.{rules, ◌≡◌, ◌∙◌, ap, sym, get_or, map}
+use Rattle.std.proofs.Common.{rules, ◌≡◌, ◌∙◌, ap, sym, get_or}
 use Rattle.std.proofs.Math.Seq.{map-set_same}
 use Rattle.station_gear.proofs.tests.hear_links.Goals as goal
 

@@ -1,5 +1,4 @@
 -- What the search leaves open of `tests::visit_gear`.
-use Rattle.std.proofs.Common.{rules, ◌≡◌, ◌++◌, map}
 use Rattle.station_gear.specs.Gears.{wanted_by}
 use Rattle.station_gear.proofs.GearLaws.{all_visited, are_out, gear_held, gear_sizes, same_numbers}
 use Rattle.station_gear.proofs.tests.visit_gear.Goals as goal
