@@ -1,0 +1,5 @@
+-- Lemmas that several proofs of this crate, and of those that stand on it, use.
+pub mod BackLaws
+pub mod GearLaws
+pub mod HoldingLaws
+pub mod PhaseLaws

@@ -1,0 +1,17 @@
+-- What stays true in the loop of `returning::give_back_logs`.
+use Rattle.std.proofs.Common.{◌≡◌, length, map}
+use Rattle.std.specs.Vec.Iter.{into_iter_items, into_iter_len}
+use Rattle.feed_link.specs.Openings.{OutsideState}
+use Rattle.feed_link.specs.ManyOut.{AreOut, GivesAllBack}
+use Rattle.station_gear.specs.Gears.{log_states}
+use Rattle.station_gear.proofs.returning.give_back_logs.Given as goal
+
+abbrev pub invariant-loop-log : goal.invariant-loop-log
+invariant-loop-log g l = record {
+  out : AreOut (g.O.Outside.state l.outside).openings (map (λ x. g.O.Log.Source.opening x) (into_iter_items l.log-iterator));
+  back : (later : OutsideState) →
+      GivesAllBack (g.O.Outside.state l.outside) later (map (λ x. g.O.Log.Source.opening x) (into_iter_items l.log-iterator)) (log_states (λ x. g.O.Log.Source.state x) (into_iter_items l.log-iterator)) →
+      GivesAllBack (g.O.Outside.state l.initial.outside) later (map (λ x. g.O.Log.Source.opening x) (into_iter_items l.initial.log-iterator)) (log_states (λ x. g.O.Log.Source.state x) (into_iter_items l.initial.log-iterator));
+  size : length (into_iter_items l.log-iterator) ≡ into_iter_len l.log-iterator;
+  gate : g.O.Outside.gate_out l.outside ≡ g.O.Outside.gate_out l.initial.outside;
+}

@@ -1,0 +1,110 @@
+//! Opens the logs and links of a station.
+ghost use Rattle.std.specs.Prelude.{◌≡◌, ◌≤◌, ◌<◌, [], length, map, vec_len, vec_capacity, MatchResult};
+ghost use Rattle.station_gear.specs.Gears.{IsEmptyFor, logs_needed, servers_needed, links_needed, wanted_by, log_states, link_states, states_of, numbers_of};
+ghost use Rattle.station_gear.specs.Opens.{OpensAll, StopsIn, StopsAt, IsWhole, IsUpTo};
+
+use crate::{Gear, Missing};
+use feed_link::{Failed, Outside};
+use station_config::Station;
+
+// Opens the logs of the radios, until one fails.
+fn open_logs<O: Outside>(
+    outside: &mut O,
+    station: &Station,
+    logs: &mut Vec<O::Log>,
+) -> Result<(), Failed>
+    requires none { logs.old.items ≡ [] }
+    requires room { length station.now.radios ≤ vec_capacity logs.old }
+    ensures opened { MatchResult result
+        (λ _. OpensAll (logs_needed station.now) (map (λ log. O.Log.opening log) logs.new.items) (log_states (λ log. O.Log.state log) logs.new.items) (O.state outside.old) (O.state outside.new))
+        (λ _. StopsIn (logs_needed station.now) (map (λ log. O.Log.opening log) logs.new.items) (log_states (λ log. O.Log.state log) logs.new.items) (O.state outside.old) (O.state outside.new)) }
+    ensures gate { O.gate_out outside.new ≡ O.gate_out outside.old }
+{
+    while let Some(radio) = station.radio(logs.len()) {
+        let Ok(log) = outside.open_log(radio.log) else {
+            return Err(Failed);
+        };
+        logs.push_reserved(log);
+    }
+    Ok(())
+}
+
+// Opens a link on a free port for each server, until one fails.
+fn open_servers<O: Outside>(
+    outside: &mut O,
+    station: &Station,
+    servers: &mut Vec<O::Net>,
+) -> Result<(), Failed>
+    requires none { servers.old.items ≡ [] }
+    requires room { length station.now.servers ≤ vec_capacity servers.old }
+    ensures opened { MatchResult result
+        (λ _. OpensAll (servers_needed station.now) (map (λ net. O.Net.opening net) servers.new.items) (link_states (λ net. O.Net.state net) servers.new.items) (O.state outside.old) (O.state outside.new))
+        (λ _. StopsIn (servers_needed station.now) (map (λ net. O.Net.opening net) servers.new.items) (link_states (λ net. O.Net.state net) servers.new.items) (O.state outside.old) (O.state outside.new)) }
+    ensures gate { O.gate_out outside.new ≡ O.gate_out outside.old }
+{
+    while servers.len() < station.servers() {
+        let Ok(link) = outside.open_link(0, station.start()) else {
+            return Err(Failed);
+        };
+        servers.push_reserved(link);
+    }
+    Ok(())
+}
+
+// Opens the links that a station serves on, until one fails.
+fn open_links<O: Outside>(
+    outside: &mut O,
+    station: &Station,
+    links: &mut Vec<O::Net>,
+) -> Result<(), Failed>
+    requires none { links.old.items ≡ [] }
+    requires room { length station.now.links ≤ vec_capacity links.old }
+    ensures opened { MatchResult result
+        (λ _. OpensAll (links_needed station.now) (map (λ net. O.Net.opening net) links.new.items) (link_states (λ net. O.Net.state net) links.new.items) (O.state outside.old) (O.state outside.new))
+        (λ _. StopsIn (links_needed station.now) (map (λ net. O.Net.opening net) links.new.items) (link_states (λ net. O.Net.state net) links.new.items) (O.state outside.old) (O.state outside.new)) }
+    ensures gate { O.gate_out outside.new ≡ O.gate_out outside.old }
+{
+    while let Some(row) = station.link(links.len()) {
+        let Ok(link) = outside.open_link(row.port, station.start()) else {
+            return Err(Failed);
+        };
+        links.push_reserved(link);
+    }
+    Ok(())
+}
+
+// A place among those of a station.
+fn number(place: usize) -> u32
+    requires { place ≤ 16 }
+    ensures { result ≡ place }
+{
+    place as u32
+}
+
+/// Opens the logs of a station's radios by their names, then a link on a free port for each of its servers, then the links that it
+/// serves on, each in the station's order; the moments of all links count from the station's start. It stops at the first that can't be
+/// opened: those opened before it stand in the gear.
+pub fn open_gear<O: Outside>(
+    outside: &mut O,
+    station: &Station,
+    gear: &mut Gear<O::Log, O::Net>,
+) -> Result<(), Missing>
+    requires { IsEmptyFor station.now gear.old }
+    ensures opened { MatchResult result
+        (λ _. OpensAll (wanted_by station.now) (numbers_of (λ log. O.Log.opening log) (λ net. O.Net.opening net) gear.new) (states_of (λ log. O.Log.state log) (λ net. O.Net.state net) gear.new) (O.state outside.old) (O.state outside.new))
+        (λ missing. StopsAt station.now missing (numbers_of (λ log. O.Log.opening log) (λ net. O.Net.opening net) gear.new) (states_of (λ log. O.Log.state log) (λ net. O.Net.state net) gear.new) (O.state outside.old) (O.state outside.new)) }
+    ensures places { MatchResult result (λ _. IsWhole station.now gear.new) (λ missing. IsUpTo station.now missing gear.new) }
+    ensures gate { O.gate_out outside.new ≡ O.gate_out outside.old }
+{
+    let radios = station.radios();
+    if let Err(Failed) = open_logs(outside, station, &mut gear.logs) {
+        return Err(Missing::Feed(number(gear.logs.len())));
+    }
+    if let Err(Failed) = open_servers(outside, station, &mut gear.servers) {
+        return Err(Missing::Feed(number(radios + gear.servers.len())));
+    }
+    if let Err(Failed) = open_links(outside, station, &mut gear.links) {
+        return Err(Missing::Link(number(gear.links.len())));
+    }
+    Ok(())
+}
