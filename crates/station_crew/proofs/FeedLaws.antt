@@ -6,6 +6,7 @@ use Rattle.std.proofs.lemmas.List.{length-map, get_or-map}
 use Rattle.std.proofs.lemmas.List.Elements.{All-head, filter-append}
 use Rattle.std.proofs.lemmas.List.FromFn.{get_or-map-range_with_len, length-map-range_with_len}
 use mathlib.Core.List.{IsPrefix}
+use Rattle.atomic_table.specs.Seated.{TableId}
 use Rattle.feed_link.specs.Told.{SourceState, LinkState}
 use Rattle.feed_workers.specs.Keeping.{Keeps}
 use Rattle.feed_workers.specs.Polls.{due_link}
@@ -21,7 +22,7 @@ use Rattle.radio_receiver.specs.Histories.{History}
 use Rattle.station_config.specs.Station.{RadioFields, ServerFields}
 use Rattle.station_crew.proofs.ListLaws.{all_right, below_or, each_map, last_same, left_at, map_both, pairs_at, pairs_length, right_at, snoc_view, some_of}
 use Rattle.station_crew.specs.Due.{HasDue}
-use Rattle.station_crew.specs.Jobs.{IsManned, PollRan, RadioRan}
+use Rattle.station_crew.specs.Jobs.{IsManned, MayHear, MayPoll, PollRan, RadioRan}
 use Rattle.station_crew.specs.Leaving.{log_of, poll_pass, radio_pass, server_link, server_of}
 use Rattle.station_crew.specs.Lists.{Each, Pairs}
 use Rattle.station_crew.specs.Served.{AreBlank, AsksServer, HearsRadio, IsBlank, RadiosServed, ServersServed}
@@ -179,3 +180,37 @@ module _ {L B T : Type 0} where
         go (inr (front, e, is)) =
             let kept = All-head (IsKept k) e [] (all_right (IsKept k) front (e ∷ []) (subst (All (IsKept k)) is lawful)) in
             placed front e is kept.lawful.feed (below_or e.feed (length bs))
+
+module _ {L B T : Type 0} (stands : B → History → Type 0) (least : B → ℕ) (table : TableId) (k : ℕ) (cs : List (RadioJob L B)) (ps : List (PollJob T))
+    (claims : map (λ f. claim_of f.view) (map radio_pass cs ++ map poll_pass ps) ≡ map new_claim (range_with_len 0 k)) (tables : All (λ f. f.table ≡ table) (map radio_pass cs ++ map poll_pass ps)) where
+
+  feed_count : length cs + length ps ≡ k
+  feed_count = let e = ap length claims in omega (arith, e, feeds_length cs ps, length-map (map radio_pass cs ++ map poll_pass ps) (λ (f : Known). claim_of f.view), length-map-range_with_len new_claim 0 k)
+
+  -- a radio's worker that was manned may run
+  pub may_hear : (receivers : List B) → Pairs (IsManned stands least) receivers cs → All (MayHear least table k) cs
+  may_hear receivers manned = λ i d lt.
+      let e = some_of receivers i (omega (arith, lt, pairs_length (IsManned stands least) receivers cs manned)) in
+      let m = pairs_at (IsManned stands least) receivers cs i e d manned (omega (arith, lt, pairs_length (IsManned stands least) receivers cs manned)) in
+      let number = ap (λ (c : Claim). c.number) (radio_claim cs ps k i d claims lt) in
+      record {
+        ready = m.ready;
+        pass = record {
+          table_is = ap (λ (f : Known). f.table) (sym (left_at radio_pass poll_pass cs ps i d lt)) ∙ tables i (radio_pass d) (omega (arith, lt, feeds_length cs ps));
+          feed_is = sym m.feed;
+          source = (let f = m.feed in omega (arith, f, number, lt, feed_count));
+        };
+        feed = m.feed;
+      }
+
+  -- so may a server's
+  pub may_poll : All (MayPoll table k) ps
+  may_poll = λ i d lt.
+      let number = ap (λ (c : Claim). c.number) (poller_claim cs ps k i d claims lt) in
+      record {
+        pass = record {
+          table_is = ap (λ (f : Known). f.table) (sym (right_at radio_pass poll_pass cs ps i d lt)) ∙ tables (length cs + i) (poll_pass d) (omega (arith, lt, feeds_length cs ps));
+          feed_is = refl;
+          source = omega (arith, number, lt, feed_count);
+        };
+      }

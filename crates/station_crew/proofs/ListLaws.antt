@@ -1,5 +1,5 @@
 -- Lists, place by place and side by side.
-use Rattle.std.proofs.Common.{rules, ◌≡◌, ◌≢◌, ◌⊎◌, inl, inr, ℕ, zero, suc, ◌+◌, ◌-◌, ◌<◌, ◌≤◌, List, [], ◌∷◌, ◌++◌, take, drop, map, length, refl, sym, ap, ◌∙◌, subst, arith, length-append, append_assoc}
+use Rattle.std.proofs.Common.{rules, ◌≡◌, ◌≢◌, ◌⊎◌, inl, inr, ℕ, zero, suc, ◌+◌, ◌-◌, ◌<◌, ◌≤◌, List, [], ◌∷◌, ◌++◌, take, drop, remove, map, length, refl, sym, ap, ◌∙◌, subst, arith, length-append, append_assoc}
 use Rattle.std.specs.Prelude.{All, get_or, slice_set, slice_index_or}
 use Rattle.std.proofs.lemmas.List.{append-nil, length-map, get_or-map, get_or_append_left, get_or-append_right, take_more, set-get_or}
 use Rattle.std.proofs.Math.Seq.{take-length}
@@ -117,4 +117,10 @@ all_taken rs ps [] one all e f n = ap (λ l. rs ++ l) (sym (append-nil ps) ∙ f
 all_taken rs ps (x ∷ rest) one all e f n = absurd (let a = ap length e in let b = ap length f in omega (arith, a, b, n, length-append rs one, length-append ps (x ∷ rest)))
 
 pub none_left : {X : Type 0} (ps rest all : List X) → ps ++ rest ≡ all → length ps ≡ length all → ps ≡ all
-none_left ps rest all e n = all_taken [] ps rest all all refl e n
+none_left ps [] all e n = sym (append-nil ps) ∙ e
+none_left ps (x ∷ rest) all e n = absurd (let a = ap length e in omega (arith, a, n, length-append ps (x ∷ rest)))
+
+-- the first item was removed
+pub first_removed : {X : Type 0} (xs : List X) (x : X) → x ≡ slice_index_or xs 0 x → 0 < length xs → xs ≡ x ∷ remove xs 0
+first_removed [] x is lt = absurd (omega (arith, lt))
+first_removed (y ∷ xs) x is lt = ap (λ z. z ∷ xs) (sym is)

@@ -25,43 +25,43 @@ pub record IsNewReader (table : TableId) (r : KnownReader) : Type 0 where
   pub untorn : r.view.watch.torn ≡ 0
 
 -- room for the workers of so many radios, servers and links
-pub record HasRoomFor {L T B : Type 0} (radios servers links : ℕ) (crew : Crew L T B) : Type 0 where
+pub record HasRoomFor {L T B : Type 0} (of_radios of_servers of_links : ℕ) (crew : Crew L T B) : Type 0 where
   pub no_radios : crew.radios.items ≡ []
   pub no_pollers : crew.pollers.items ≡ []
   pub no_responders : crew.responders.items ≡ []
-  pub radios : radios ≤ vec_capacity crew.radios
-  pub pollers : servers ≤ vec_capacity crew.pollers
-  pub responders : links ≤ vec_capacity crew.responders
+  pub radios : of_radios ≤ vec_capacity crew.radios
+  pub pollers : of_servers ≤ vec_capacity crew.pollers
+  pub responders : of_links ≤ vec_capacity crew.responders
 
 -- room for logs and links
-pub record HasRoomForGear {L T : Type 0} (radios servers links : ℕ) (gear : Gear L T) : Type 0 where
+pub record HasRoomForGear {L T : Type 0} (of_radios of_servers of_links : ℕ) (gear : Gear L T) : Type 0 where
   pub no_logs : gear.logs.items ≡ []
   pub no_servers : gear.servers.items ≡ []
   pub no_links : gear.links.items ≡ []
-  pub logs : radios ≤ vec_capacity gear.logs
-  pub servers : servers ≤ vec_capacity gear.servers
-  pub links : links ≤ vec_capacity gear.links
+  pub logs : of_radios ≤ vec_capacity gear.logs
+  pub servers : of_servers ≤ vec_capacity gear.servers
+  pub links : of_links ≤ vec_capacity gear.links
 
 -- room for what the workers leave
-pub record HasRoomToLeave {L T : Type 0} (radios servers links : ℕ) (left : Left L T) : Type 0 where
-  pub gear : HasRoomForGear radios servers links left.gear
+pub record HasRoomToLeave {L T : Type 0} (of_radios of_servers of_links : ℕ) (left : Left L T) : Type 0 where
+  pub gear : HasRoomForGear of_radios of_servers of_links left.gear
   pub no_log_works : left.radios.items ≡ []
   pub no_poll_works : left.servers.items ≡ []
   pub no_link_works : left.links.items ≡ []
   pub no_feeds : left.feeds.items ≡ []
   pub no_readers : left.readers.items ≡ []
-  pub log_works : radios ≤ vec_capacity left.radios
-  pub poll_works : servers ≤ vec_capacity left.servers
-  pub link_works : links ≤ vec_capacity left.links
-  pub feeds : radios + servers ≤ vec_capacity left.feeds
-  pub readers : links ≤ vec_capacity left.readers
+  pub log_works : of_radios ≤ vec_capacity left.radios
+  pub poll_works : of_servers ≤ vec_capacity left.servers
+  pub link_works : of_links ≤ vec_capacity left.links
+  pub feeds : of_radios + of_servers ≤ vec_capacity left.feeds
+  pub readers : of_links ≤ vec_capacity left.readers
 
 -- room for all of it, and for the responders of the second phase
-pub record HasRoom {L T B : Type 0} (radios servers links : ℕ) (room : Room L T B) : Type 0 where
-  pub crew : HasRoomFor radios servers links room.crew
+pub record HasRoom {L T B : Type 0} (of_radios of_servers of_links : ℕ) (room : Room L T B) : Type 0 where
+  pub crew : HasRoomFor of_radios of_servers of_links room.crew
   pub none_told : room.told.items ≡ []
-  pub told : links ≤ vec_capacity room.told
-  pub left : HasRoomToLeave radios servers links room.left
+  pub told : of_links ≤ vec_capacity room.told
+  pub left : HasRoomToLeave of_radios of_servers of_links room.left
 
 -- each worker has its receiver, its log or its link, and its server, in the station's order
 pub record CrewManned {L T B : Type 0} (stands : B → History → Type 0) (least : B → ℕ) (station : StationFields) (receivers : List B) (gear : Gear L T) (crew : Crew L T B) : Type 0 where

@@ -102,9 +102,8 @@ pub fn man_pollers<T: Link + Drop>(
 {
     for link in links {
         let ServerRow { address, polls } = server_at(station, jobs.len());
-        let pass = feeds.remove(0);
         jobs.push_reserved(PollJob {
-            worker: PollWorker::new(address, polls, link, pass),
+            worker: PollWorker::new(address, polls, link, feeds.remove(0)),
             work: UNASKED,
         });
     }

@@ -21,12 +21,12 @@ fn run_radio<N: HubName, R: Wait, L: Source + Drop, G: Gate>(
     rt: &R,
     hub: &Hub<N>,
     gate: &G,
-    job: &mut RadioJob<L, BoxedReceiver>,
+    radio: &mut RadioJob<L, BoxedReceiver>,
 )
-    requires { MayHear (λ b. least_start b) N.table (length N.settings.sources) job.old }
-    ensures { RadioRan (λ b h. stands_for b h) L.state L.opening N.limit job.old job.new }
+    requires { MayHear (λ b. least_start b) N.table (length N.settings.sources) radio.old }
+    ensures { RadioRan (λ b h. stands_for b h) L.state L.opening N.limit radio.old radio.new }
 {
-    job.work = job.worker.run(rt, hub, gate);
+    radio.work = radio.worker.run(rt, hub, gate);
 }
 
 fn run_radios<N: HubName + Send + Sync, R: Threads + Wait + Sync, L: Source + Drop, G: Gate>(
@@ -53,12 +53,12 @@ fn run_poller<N: HubName, R: Wait, T: Link + Drop, G: Gate>(
     rt: &R,
     hub: &Hub<N>,
     gate: &G,
-    job: &mut PollJob<T>,
+    poller: &mut PollJob<T>,
 )
-    requires { MayPoll N.table (length N.settings.sources) job.old }
-    ensures { PollRan T.state T.opening N.limit job.old job.new }
+    requires { MayPoll N.table (length N.settings.sources) poller.old }
+    ensures { PollRan T.state T.opening N.limit poller.old poller.new }
 {
-    job.work = job.worker.run(rt, hub, gate);
+    poller.work = poller.worker.run(rt, hub, gate);
 }
 
 fn run_pollers<N: HubName + Send + Sync, R: Threads + Wait + Sync, T: Link + Drop, G: Gate>(

@@ -8,9 +8,9 @@ use Rattle.station_crew.proofs.manning.man_pollers.Given as goal
 abbrev pub invariant-loop-link : goal.invariant-loop-link
 invariant-loop-link g l = record {
   links : map server_link l.jobs.items ++ into_iter_items l.link-iterator ≡ into_iter_items l.initial.link-iterator;
-  servers : map server_of l.jobs.items ≡ take (vec_len l.jobs) l.station.now.servers;
+  servers : map server_of l.jobs.items ≡ take (vec_len l.jobs) l.station.servers;
   passes : map poll_pass l.jobs.items ++ l.feeds.items ≡ l.initial.feeds.items;
-  whole : vec_len l.jobs + length (into_iter_items l.link-iterator) ≡ length l.station.now.servers;
+  whole : vec_len l.jobs + length (into_iter_items l.link-iterator) ≡ length l.station.servers;
   count : length (into_iter_items l.link-iterator) ≤ vec_len l.feeds;
   room : vec_len l.jobs + length (into_iter_items l.link-iterator) ≤ vec_capacity l.jobs;
 }

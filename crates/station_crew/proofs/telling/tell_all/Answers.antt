@@ -6,7 +6,7 @@ use Rattle.station_crew.proofs.ListLaws.{told_more, told_all, same_set}
 use Rattle.station_crew.proofs.telling.tell_all.Goals as goal
 
 pub loop-i-preserved : goal.loop-i-preserved
-loop-i-preserved g c =
+loop-i-preserved c =
     let i = c.loop-i.invariant in
     let e = c.tell.ensures in
     let lt : c.loop-i.i < length c.args.feeds.now = search rules in
@@ -17,4 +17,4 @@ loop-i-preserved g c =
     }
 
 pub returns-clause-seen : goal.returns-clause-seen
-returns-clause-seen g c = told_all (λ (f : Known). length (claim_of f.view).seen ≤ c.loop-i.reader.view.seen) c.args.feeds.now c.loop-i.i (search rules) c.loop-i.invariant.seen
+returns-clause-seen c = told_all (λ (f : Known). length (claim_of f.view).seen ≤ c.loop-i.reader.view.seen) c.args.feeds.now c.loop-i.i (search rules) c.loop-i.invariant.seen
