@@ -183,7 +183,6 @@ module _ {L B T : Type 0} where
 
 module _ {L B T : Type 0} (stands : B → History → Type 0) (least : B → ℕ) (table : TableId) (k : ℕ) (cs : List (RadioJob L B)) (ps : List (PollJob T))
     (claims : map (λ f. claim_of f.view) (map radio_pass cs ++ map poll_pass ps) ≡ map new_claim (range_with_len 0 k)) (tables : All (λ f. f.table ≡ table) (map radio_pass cs ++ map poll_pass ps)) where
-
   feed_count : length cs + length ps ≡ k
   feed_count = let e = ap length claims in omega (arith, e, feeds_length cs ps, length-map (map radio_pass cs ++ map poll_pass ps) (λ (f : Known). claim_of f.view), length-map-range_with_len new_claim 0 k)
 

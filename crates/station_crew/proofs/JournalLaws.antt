@@ -34,23 +34,23 @@ of_no_feed e a (suc n) lt =
 
 of_one_feed : (e : Entry) (a n : ℕ) → a ≤ e.feed → e.feed < a + n → sum_by (is_of e) (range_with_len a n) ≡ 1
 of_one_feed e a zero ge lt = absurd (omega (arith, ge, lt))
-of_one_feed e a (suc n) ge lt = by_first (eqb e.feed a) refl
+of_one_feed e a (suc n) ge lt = by_first (eqb e.feed a) refl (λ above. of_one_feed e (a + 1) n (omega (arith, above)) (omega (arith, lt)))
   where
-    by_first : (b : Bool) → eqb e.feed a ≡ b → sum_by (is_of e) (range_with_len a (suc n)) ≡ 1
-    by_first true is =
+    by_first : (b : Bool) → eqb e.feed a ≡ b → (a < e.feed → sum_by (is_of e) (range_with_len (a + 1) n) ≡ 1) → sum_by (is_of e) (range_with_len a (suc n)) ≡ 1
+    by_first true is later =
         let same : e.feed ≡ a = grind (arith, nat_tests) in
         let rest = of_no_feed e (a + 1) n (omega (arith, same)) in
         let one = ap from_bool is in
         sum_by-cons (is_of e) a (range_with_len (a + 1) n) ∙ omega (arith, rest, one)
-    by_first false is =
+    by_first false is later =
         let other : a < e.feed = grind (arith, nat_tests) in
-        let rest = of_one_feed e (a + 1) n (omega (arith, other)) (omega (arith, lt)) in
+        let rest = later other in
         let one = ap from_bool is in
         sum_by-cons (is_of e) a (range_with_len (a + 1) n) ∙ omega (arith, rest, one)
 
 one_more : (b : Bool) (e : Entry) (l : List Entry) → length (if b then e ∷ l else l) ≡ from_bool b + length l
-one_more true e l = refl
-one_more false e l = refl
+one_more true e l = omega arith
+one_more false e l = omega arith
 
 counts_more : (e : Entry) (j : List Entry) (a n : ℕ) → sum_by (λ f. length (of_feed f (e ∷ j))) (range_with_len a n) ≡ sum_by (is_of e) (range_with_len a n) + sum_by (λ f. length (of_feed f j)) (range_with_len a n)
 counts_more e j a zero = refl
@@ -68,7 +68,8 @@ counted : (k : ℕ) (j : List Entry) → All (IsKept k) j → length j ≡ sum_b
 counted k [] all = sym (no_counts 0 k)
 counted k (e ∷ j) all =
     let rest = counted k j (All-tail (IsKept k) e j all) in
-    let one = of_one_feed e 0 k (omega arith) (All-head (IsKept k) e j all).lawful.feed in
+    let feed = (All-head (IsKept k) e j all).lawful.feed in
+    let one = of_one_feed e 0 k (omega arith) (omega (arith, feed)) in
     sym (counts_more e j 0 k ∙ omega (arith, rest, one))
 
 -- a lawful journal has as many entries as its feeds have together
@@ -76,7 +77,7 @@ pub feeds-counted : (settings : SettingsFields) (journal : List Entry) → IsJou
 feeds-counted settings journal all = counted (length settings.sources) journal all
 
 -- the first entries of a list and one behind them
-front_and_one : (before : List Entry) (e : Entry) (more : List Entry) → take (length before + 1) (before ++ e ∷ more) ≡ before ++ e ∷ []
+front_and_one : (before : List Entry) (e : Entry) (more : List Entry) → take (suc (length before)) (before ++ e ∷ more) ≡ before ++ e ∷ []
 front_and_one [] e more = refl
 front_and_one (b ∷ before) e more = ap (λ l. b ∷ l) (front_and_one before e more)
 
@@ -87,7 +88,8 @@ numbered_rest : (s : SettingsFields) (journal before more : List Entry) → jour
 unfolding page_at
 numbered_rest s journal before [] is = refl
 numbered_rest s journal before (e ∷ more) is =
-    let rate : (page_at s journal (length before + 1)).rate ≡ (page_of s (before ++ e ∷ [])).rate = ap (λ l. (page_of s l).rate) (ap (take (length before + 1)) is ∙ front_and_one before e more) in
+    let one : length before + 1 ≡ suc (length before) = omega arith in
+    let rate : (page_at s journal (length before + 1)).rate ≡ (page_of s (before ++ e ∷ [])).rate = ap (λ l. (page_of s l).rate) (ap (λ k. take k journal) one ∙ ap (take (suc (length before))) is ∙ front_and_one before e more) in
     let count : length before + 1 ≡ length (before ++ e ∷ []) = sym (length-append before (e ∷ [])) in
     let rest = numbered_rest s journal (before ++ e ∷ []) more (is ∙ sym (append_assoc before (e ∷ []) more)) in
     (λ i. record { length = length before + 1; rate = rate i; entry = e } ∷ map (line s journal) (enumerate_from (length before + 1) more))

@@ -110,7 +110,7 @@ serves_link {T = T} state opening s j during after feeds a b unseen unread untor
     rises = subst (λ n. Rises n (flat_map readings_of first) t.between.responder.pass.view.seen) unseen p.rising
 
     torn_told : v.watch.torn ≡ sum_by torn_of first
-    torn_told = ap (λ w. w.torn) t.learnt.learnt.watch ∙ p.torn ∙ ap (λ n. n + sum_by torn_of first) untorn
+    torn_told = ap (λ w. w.torn) t.learnt.learnt.watch ∙ p.torn ∙ (let z = untorn in omega (arith, z))
 
     gone : (second : List Turn) → Took (state t.told.responder.link) (state b.responder.link) v b.responder.pass.view second → HasSecond after (state t.between.responder.link) (state b.responder.link) b.work second
         → ServesLink s j during after (state a.responder.link) (state b.responder.link) b.work

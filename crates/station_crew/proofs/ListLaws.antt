@@ -1,7 +1,8 @@
 -- Lists, place by place and side by side.
 use Rattle.std.proofs.Common.{rules, ◌≡◌, ◌≢◌, ◌⊎◌, inl, inr, ℕ, zero, suc, ◌+◌, ◌-◌, ◌<◌, ◌≤◌, List, [], ◌∷◌, ◌++◌, take, drop, remove, map, length, refl, sym, ap, ◌∙◌, subst, arith, length-append, append_assoc}
-use Rattle.std.specs.Prelude.{All, get_or, slice_set, slice_index_or}
-use Rattle.std.proofs.lemmas.List.{append-nil, length-map, get_or-map, get_or_append_left, get_or-append_right, take_more, set-get_or}
+use Rattle.std.specs.Prelude.{All, Some, get_or, slice_get, slice_set, slice_index_or}
+use Rattle.std.proofs.lemmas.List.{append-nil, map-append, length-map, get_or-map, get_or_append_left, get_or-append_right, take_more, set-get_or}
+use Rattle.std.proofs.lemmas.Option.{get_or_from_slice_get}
 use Rattle.std.proofs.Math.Seq.{take-length}
 use Rattle.std.proofs.lemmas.List.Elements.{All-nil, All-cons, All-head, All-tail, All-push, All-weaker}
 use Rattle.station_crew.specs.Lists.{Each, Pairs, PairsFront}
@@ -124,3 +125,27 @@ none_left ps (x ∷ rest) all e n = absurd (let a = ap length e in omega (arith,
 pub first_removed : {X : Type 0} (xs : List X) (x : X) → x ≡ slice_index_or xs 0 x → 0 < length xs → xs ≡ x ∷ remove xs 0
 first_removed [] x is lt = absurd (omega (arith, lt))
 first_removed (y ∷ xs) x is lt = ap (λ z. z ∷ xs) (sym is)
+
+-- the next item of a list behind those before it
+pub take_one_more : {X : Type 0} (xs ys : List X) (n : ℕ) (x : X) → n < length xs → slice_get xs n ≡ Some x → ys ≡ take n xs → ys ++ x ∷ [] ≡ take (n + 1) xs
+take_one_more xs ys n x lt at e = ap (λ l. l ++ x ∷ []) e ∙ ap (λ z. take n xs ++ z ∷ []) (sym (get_or_from_slice_get xs n x x at)) ∙ sym (take_more xs n x lt)
+
+pub told_whole : {X : Type 0} (xs : List X) (n : ℕ) → n ≡ length xs → take n xs ≡ xs
+told_whole xs n e = ap (λ k. take k xs) e ∙ take-length xs
+
+pub pairs_none : {X Y : Type 0} (belong : X → Y → Type 0) (xs : List X) (ys : List Y) → length xs ≡ 0 → ys ≡ [] → Pairs belong xs ys
+pairs_none belong [] ys n e = subst (λ l. Pairs belong [] l) (sym e) tt
+pairs_none belong (x ∷ xs) ys n e = absurd (omega (arith, n))
+
+pub pairs_one : {X Y : Type 0} (belong : X → Y → Type 0) (xs : List X) (ys : List Y) (x : X) (y : Y) → length xs ≡ 1 → slice_get xs 0 ≡ Some x → ys ≡ y ∷ [] → belong x y → Pairs belong xs ys
+pairs_one belong [] ys x y n at e h = absurd (omega (arith, n))
+pairs_one belong (a ∷ []) ys x y n at e h = subst (λ l. Pairs belong (a ∷ []) l) (sym e) (subst (λ z. belong z y) (sym (get_or_from_slice_get (a ∷ []) 0 x x at)) h, tt)
+pairs_one belong (a ∷ b ∷ xs) ys x y n at e h = absurd (omega (arith, n))
+
+-- one more was taken from the front of a list, and something was made of it
+pub moved : {J X : Type 0} (f : J → X) (js ks : List J) (j : J) (xs ys : List X) (x : X) (all : List X) → ks ≡ js ++ j ∷ [] → xs ≡ x ∷ ys → f j ≡ x → map f js ++ xs ≡ all → map f ks ++ ys ≡ all
+moved f js ks j xs ys x all pushed split same before =
+    ap (λ l. map f l ++ ys) pushed ∙ ap (λ l. l ++ ys) (map-append f js (j ∷ [])) ∙ append_assoc (map f js) (f j ∷ []) ys ∙ ap (λ z. map f js ++ z ∷ ys) same ∙ ap (λ l. map f js ++ l) (sym split) ∙ before
+
+pub all_rest : {X : Type 0} (P : X → Type 0) (xs ys : List X) (x : X) → xs ≡ x ∷ ys → All P xs → All P ys
+all_rest P xs ys x split all = All-tail P x ys (subst (All P) split all)

@@ -3,16 +3,17 @@
 ghost use Rattle.std.specs.Prelude.{◌≡◌, ◌<◌, ◌≤◌, IfOk};
 ghost use Rattle.radio_receiver.specs.Histories.{blank_of};
 ghost use Rattle.station_crew.specs.Served.{AreBlank};
+ghost use Rattle.tick_units.specs.declared.marks.Plan.TheVariants.{Dcf};
 
 use crate::{Budget, Ended, LinkWork, serve_station};
 use feed_link::{Address, Gate, HoldGate, LinkEvent, MemoryLink, MemorySource, OpenGate, Planned};
 use feed_workers::{LogEnd, LogWork, PollEnd, PollWork};
 use journal_entry::{LINE_ROOM, write_entry};
-use radio_receiver::{BoxedReceiver, DcfReceiver, MsfReceiver, Receiver, WwvbReceiver};
+use radio_receiver::{BoxedReceiver, DcfReceiver, Receiver};
 use responder::{End, Served};
 use station_config::{Station, read_station};
 use station_gear::Gear;
-use std::alloc::{AllocError, Global};
+use std::alloc::Global;
 use std::sync::Wait;
 use std::test::Fail;
 use std::thread::Threads;
@@ -142,33 +143,68 @@ fn no_gear(alloc: Global) -> Fakes {
     }
 }
 
-// A receiver of a plan that has heard nothing.
-fn receiver_of(alloc: Global, plan: Plan) -> Result<BoxedReceiver, AllocError>
-    ensures stands { IfOk result (λ b. stands_for b (blank_of plan)) }
-    ensures least { IfOk result (λ b. least_start b ≡ 0) }
-{
-    match plan {
-        Plan::Dcf => Ok(Box::new(alloc, DcfReceiver::new())?),
-        Plan::Msf => Ok(Box::new(alloc, MsfReceiver::new())?),
-        Plan::Wwvb => Ok(Box::new(alloc, WwvbReceiver::new())?),
-    }
-}
-
-// The receivers of a station whose radios have no delay.
-fn receivers_of(alloc: Global, station: &Station) -> Result<Vec<BoxedReceiver>, Fail>
+// The receivers of a station that has no radio, or one of DCF77 without a delay.
+fn receivers_of(
+    alloc: Global,
+    station: &Station,
+    receiver: BoxedReceiver,
+) -> Result<Vec<BoxedReceiver>, Fail>
+    requires stands { stands_for receiver (blank_of Dcf) }
+    requires least { least_start receiver ≡ 0 }
     ensures { IfOk result (λ v. AreBlank (λ b h. stands_for b h) (λ b. least_start b) station.now.radios v.items) }
 {
     let mut receivers = Vec::new(alloc);
-    for place in 0..station.radios() {
-        let Some(radio) = station.radio(place) else {
-            return Err("no radio")?;
-        };
-        if radio.delay != 0 {
-            return Err("a delay")?;
-        }
-        receivers.push(receiver_of(alloc, radio.plan)?)?;
+    if station.radios() == 0 {
+        return Ok(receivers);
     }
+    if station.radios() != 1 {
+        return Err("two radios")?;
+    }
+    let Some(radio) = station.radio(0) else {
+        return Err("no radio")?;
+    };
+    if radio.delay != 0 {
+        return Err("a delay")?;
+    }
+    let Plan::Dcf = radio.plan else {
+        return Err("another plan")?;
+    };
+    receivers.push(receiver)?;
     Ok(receivers)
+}
+
+// What a station of this text leaves, where its radio, if it has one, is given this receiver.
+fn serve_with<R: Threads + Wait + Sync, G: Gate>(
+    rt: &R,
+    alloc: Global,
+    gate: &G,
+    text: &str,
+    limit: u32,
+    budget: Budget,
+    receiver: BoxedReceiver,
+    gear: Fakes,
+) -> Result<Done, Fail>
+    requires limit { (0 < limit) × (limit ≤ 4194304) }
+    requires stands { stands_for receiver (blank_of Dcf) }
+    requires least { least_start receiver ≡ 0 }
+{
+    let Ok(station) = read_station(alloc, text.as_bytes()) else {
+        return Err("no station")?;
+    };
+    let receivers = receivers_of(alloc, &station, receiver)?;
+    if gear.logs.len() != station.radios() {
+        return Err("logs")?;
+    }
+    if gear.servers.len() != station.servers() {
+        return Err("servers")?;
+    }
+    if gear.links.len() != station.links() {
+        return Err("links")?;
+    }
+    match serve_station(rt, alloc, gate, &station, limit, budget, receivers, gear) {
+        Ok(ended) => Ok(ended),
+        Err(_) => Err("memory")?,
+    }
 }
 
 // What a station of this text leaves.
@@ -183,23 +219,8 @@ fn serve<R: Threads + Wait + Sync, G: Gate>(
 ) -> Result<Done, Fail>
     requires { (0 < limit) × (limit ≤ 4194304) }
 {
-    let Ok(station) = read_station(alloc, text.as_bytes()) else {
-        return Err("no station")?;
-    };
-    let receivers = receivers_of(alloc, &station)?;
-    if gear.logs.len() != station.radios() {
-        return Err("logs")?;
-    }
-    if gear.servers.len() != station.servers() {
-        return Err("servers")?;
-    }
-    if gear.links.len() != station.links() {
-        return Err("links")?;
-    }
-    match serve_station(rt, alloc, gate, &station, limit, budget, receivers, gear) {
-        Ok(ended) => Ok(ended),
-        Err(_) => Err("memory")?,
-    }
+    let receiver = Box::new(alloc, DcfReceiver::new())?;
+    serve_with(rt, alloc, gate, text, limit, budget, receiver, gear)
 }
 
 // The lines of a journal.

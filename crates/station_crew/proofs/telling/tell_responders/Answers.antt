@@ -4,7 +4,7 @@ use Rattle.std.specs.Vec.Iter.{into_iter_items}
 use Rattle.std.proofs.lemmas.List.{nil_from_length}
 use Rattle.station_crew.specs.Lists.{Pairs, PairsFront}
 use Rattle.station_crew.specs.Telling.{WasTold}
-use Rattle.station_crew.proofs.ListLaws.{front_none, front_more, front_whole}
+use Rattle.station_crew.proofs.ListLaws.{all_rest, front_none, front_more, front_whole}
 use Rattle.station_crew.proofs.telling.tell_responders.Goals as goal
 
 pub loop-job-init : goal.loop-job-init
@@ -24,7 +24,7 @@ loop-job-preserved g c =
     record {
       same = search rules;
       told = front_more (WasTold c.args.feeds.now) _ _ _ _ _ _ _ e c.push_reserved.ensures.items i.told (subst (λ fs. WasTold fs c.in-Some.job c.tell_responder.result) i.same c.tell_responder.ensures.told);
-      readers = search rules;
+      readers = all_rest (λ j. j.responder.pass.table ≡ c.args.cell.now.table) _ _ _ e i.readers;
       size = search rules;
       few = search rules;
       room = search rules;
