@@ -16,7 +16,7 @@ use Rattle.station_crew.specs.Crews.{IsNewReader}
 use Rattle.station_crew.specs.Jobs.{PollRan, RadioRan}
 use Rattle.station_crew.specs.Leaving.{link_of, log_of, poll_pass, radio_pass, serve_pass, server_link}
 use Rattle.station_crew.specs.Served.{LinksServed, RadiosServed, ServersServed}
-use Rattle.station_crew.specs.Telling.{HasServedTwice}
+use Rattle.station_crew.specs.Telling.{HasSeenAll, HasServedTwice}
 use Rattle.system_fold.specs.Settings.{IsJournal, IsKept, SettingsFields}
 use Rattle.verdict_journal.specs.Journals.{HasRead}
 use Rattle.station_crew.proofs.named.run_hub.Goals as goal
@@ -156,7 +156,7 @@ returns-clause-links g c =
     let lawful = subst (λ (s : SettingsFields). All (IsKept (length s.sources)) j) c.close.ensures.settings c.close.ensures.lawful in
     let read = subst (All (λ (r : KnownReader). HasRead N.settings j r.view)) r.readers (subst (λ (s : SettingsFields). All (λ (r : KnownReader). HasRead s j r.view) c.run_crew-gear.result.readers.items) c.close.ensures.settings c.close.ensures.readers) in
     let new = subst (All (IsNewReader N.table)) (sym c.man_crew-crew.ensures.readers) c.requires.readers in
-    let bound = λ (x : KnownReader) seen. seen_all (λ b h. (goal.Receiver-dyn g (b.vtable, b.value)).stands_for b.value h) (λ b. (goal.Receiver-dyn g (b.vtable, b.value)).least_start b.value) g.L.Source.state g.L.Source.opening g.T.Link.state g.T.Link.opening N.limit (length N.settings.sources) j crew.radios.items r.radios crew.pollers.items r.pollers claims r.radios_ran r.radio_count r.pollers_ran r.poller_count all lawful x.view.seen seen in
+    let bound : (x : KnownReader) → HasSeenAll (map radio_pass r.radios ++ map poll_pass r.pollers) x → length j ≤ x.view.seen = λ x seen. seen_all (λ b h. (goal.Receiver-dyn g (b.vtable, b.value)).stands_for b.value h) (λ b. (goal.Receiver-dyn g (b.vtable, b.value)).least_start b.value) g.L.Source.state g.L.Source.opening g.T.Link.state g.T.Link.opening N.limit (length N.settings.sources) j crew.radios.items r.radios crew.pollers.items r.pollers claims r.radios_ran r.radio_count r.pollers_ran r.poller_count all lawful x.view.seen seen in
     let told = links_served g.T.Link.state g.T.Link.opening N.settings j c.args.budget.during c.args.budget.after N.table (map radio_pass r.radios ++ map poll_pass r.pollers) crew.responders.items r.responders r.served r.responder_count new m.unserved read bound in
     subst (λ l. LinksServed g.T.Link.state g.T.Link.opening N.settings j c.args.budget.during c.args.budget.after l c.run_crew-gear.result.gear.links.items c.run_crew-gear.result.links.items) m.links
     (subst (λ l. LinksServed g.T.Link.state g.T.Link.opening N.settings j c.args.budget.during c.args.budget.after (map link_of crew.responders.items) l c.run_crew-gear.result.links.items) (sym r.links)
