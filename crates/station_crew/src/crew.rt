@@ -96,7 +96,7 @@ fn go_on<N: HubName + Send + Sync, R: Threads + Wait + Sync, T: Link + Drop, G: 
     budget: u64,
     jobs: &mut Vec<ServeJob<T>>,
 )
-    requires { All (λ j. j.responder.pass.table ≡ N.table) jobs.old.items }
+    requires passes { All (λ j. j.responder.pass.table ≡ N.table) jobs.old.items }
     ensures served { Each (HasServedAgain T.state T.opening budget) jobs.old.items jobs.new.items }
     ensures count { vec_len jobs.new ≡ vec_len jobs.old }
 {

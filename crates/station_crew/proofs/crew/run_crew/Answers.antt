@@ -10,7 +10,7 @@ use Rattle.station_crew.specs.Telling.{WasTold}
 use Rattle.station_crew.proofs.crew.run_crew.Goals as goal
 
 pub tell_crew-requires-clause-feeds : goal.tell_crew-requires-clause-feeds
-tell_crew-requires-clause-feeds g c =
+tell_crew-requires-clause-feeds g c κs within =
     let N = g.N.HubName.table in
     let e = c.begin.ensures in
     let bs = c.begin.new.crew.radios.items in
@@ -22,12 +22,12 @@ tell_crew-requires-clause-feeds g c =
     subst (All P) (sym is) (All-append P (map radio_pass bs) (map poll_pass qs) (All-map P radio_pass bs one) (All-map P poll_pass qs two))
 
 pub tell_crew-requires-clause-readers : goal.tell_crew-requires-clause-readers
-tell_crew-requires-clause-readers g c =
+tell_crew-requires-clause-readers g c κs within =
     let same : length c.begin.new.crew.responders.items ≡ length c.args.crew.responders.items = search rules in
     each_keeps (λ x. x.responder.pass.table ≡ g.N.HubName.table) (HasServed g.T.Link.state g.T.Link.opening c.args.budget.during) (λ a b r h. r.same.table ∙ h) c.args.crew.responders.items c.begin.new.crew.responders.items c.begin.ensures.responders same c.requires.responders.all
 
-pub go_on-requires : goal.go_on-requires
-go_on-requires g c =
+pub go_on-requires-clause-passes : goal.go_on-requires-clause-passes
+go_on-requires-clause-passes g c κs within =
     let same : length c.begin.new.crew.responders.items ≡ length c.args.crew.responders.items = search rules in
     pairs_keep (λ x. x.responder.pass.table ≡ g.N.HubName.table) (λ x. x.responder.pass.table ≡ g.N.HubName.table) (WasTold c.leave_pollers.new.feeds.items) (λ x y t h. t.learnt.table ∙ h) c.begin.new.crew.responders.items c.tell_crew.new.told.items c.tell_crew.ensures.told
     (each_keeps (λ x. x.responder.pass.table ≡ g.N.HubName.table) (HasServed g.T.Link.state g.T.Link.opening c.args.budget.during) (λ a b r h. r.same.table ∙ h) c.args.crew.responders.items c.begin.new.crew.responders.items c.begin.ensures.responders same c.requires.responders.all)
