@@ -19,12 +19,13 @@ tell_crew-requires-clause-feeds g c κs within =
     let is = c.leave_pollers.ensures.feeds ∙ ap (λ l. l ++ map poll_pass qs) (c.leave_radios.ensures.feeds ∙ ap (λ l. l ++ map radio_pass bs) c.requires.left.no_feeds) in
     let one = each_keeps (λ x. x.worker.pass.table ≡ N) (RadioRan (λ b h. (goal.Receiver-dyn g (b.vtable, b.value)).stands_for b.value h) g.L.Source.state g.L.Source.opening g.N.HubName.limit) (λ a b r h. r.table ∙ h) c.args.crew.radios.items bs e.radios (search rules) (λ i d lt. (c.requires.radios.all i d lt).pass.table_is) in
     let two = each_keeps (λ x. x.worker.pass.table ≡ N) (PollRan g.T.Link.state g.T.Link.opening g.N.HubName.limit) (λ a b r h. r.table ∙ h) c.args.crew.pollers.items qs e.pollers (search rules) (λ i d lt. (c.requires.pollers.all i d lt).pass.table_is) in
-    subst (All P) (sym is) (All-append P (map radio_pass bs) (map poll_pass qs) (All-map P radio_pass bs one) (All-map P poll_pass qs two))
+    subst (λ t. All (λ (f : Known). f.table ≡ t) c.leave_pollers.new.feeds.items) (sym c.cell.ensures) (subst (All P) (sym is) (All-append P (map radio_pass bs) (map poll_pass qs) (All-map P radio_pass bs one) (All-map P poll_pass qs two)))
 
 pub tell_crew-requires-clause-readers : goal.tell_crew-requires-clause-readers
 tell_crew-requires-clause-readers g c κs within =
     let same : length c.begin.new.crew.responders.items ≡ length c.args.crew.responders.items = search rules in
-    each_keeps (λ x. x.responder.pass.table ≡ g.N.HubName.table) (HasServed g.T.Link.state g.T.Link.opening c.args.budget.during) (λ a b r h. r.same.table ∙ h) c.args.crew.responders.items c.begin.new.crew.responders.items c.begin.ensures.responders same c.requires.responders.all
+    subst (λ t. All (λ x. x.responder.pass.table ≡ t) c.begin.new.crew.responders.items) (sym c.cell.ensures)
+    (each_keeps (λ x. x.responder.pass.table ≡ g.N.HubName.table) (HasServed g.T.Link.state g.T.Link.opening c.args.budget.during) (λ a b r h. r.same.table ∙ h) c.args.crew.responders.items c.begin.new.crew.responders.items c.begin.ensures.responders same c.requires.responders.all)
 
 pub go_on-requires-clause-passes : goal.go_on-requires-clause-passes
 go_on-requires-clause-passes g c κs within =
