@@ -15,6 +15,3 @@ mod work;
 pub use named::Ended;
 pub use station::serve_station;
 pub use work::{Budget, LinkWork};
-
-#[cfg(test)]
-mod tests;
