@@ -1,0 +1,215 @@
+-- What closing tells of each feed.
+use Rattle.std.proofs.Common.{rules, ◌≡◌, ◌⊎◌, inl, inr, ℕ, zero, suc, ◌+◌, ◌-◌, ◌==◌, ◌<◌, ◌≤◌, List, [], ◌∷◌, ◌++◌, Bool, true, false, take, drop, map, length, refl, sym, ap, ◌∙◌, subst, arith, length-append, append_assoc}
+use Rattle.std.specs.Prelude.{All, get_or, slice_index_or}
+use Rattle.std.specs.List.{range_with_len}
+use Rattle.std.proofs.lemmas.List.{length-map, get_or-map}
+use Rattle.std.proofs.lemmas.List.Elements.{All-head, filter-append}
+use Rattle.std.proofs.lemmas.List.FromFn.{get_or-map-range_with_len, length-map-range_with_len}
+use mathlib.Core.List.{IsPrefix}
+use Rattle.atomic_table.specs.Seated.{TableId}
+use Rattle.feed_link.specs.Told.{SourceState, LinkState}
+use Rattle.feed_workers.specs.Keeping.{Keeps}
+use Rattle.feed_workers.specs.Polls.{due_link}
+use Rattle.journal_entry.specs.declared.entry.Entry.{Entry}
+use Rattle.log_decoder.specs.Decoding.{HasDecoded}
+use Rattle.log_decoder.specs.Due.{due_log}
+use Rattle.page_cell.proofs.Places.{of_same}
+use Rattle.page_cell.specs.Claims.{IsTrueOf, of_feed}
+use Rattle.page_cell.specs.Passes.{Known, claim_of}
+use Rattle.page_cell.specs.Views.{new_claim}
+use Rattle.page_cell.specs.declared.view.Claim.{Claim}
+use Rattle.radio_receiver.specs.Histories.{History}
+use Rattle.station_config.specs.Station.{RadioFields, ServerFields}
+use Rattle.station_crew.proofs.ListLaws.{all_right, below_or, each_map, last_same, left_at, map_both, pairs_at, pairs_length, right_at, snoc_view, some_of}
+use Rattle.station_crew.specs.Due.{HasDue}
+use Rattle.station_crew.specs.Jobs.{IsManned, MayHear, MayPoll, PollRan, RadioRan}
+use Rattle.station_crew.specs.Leaving.{log_of, poll_pass, radio_pass, server_link, server_of}
+use Rattle.station_crew.specs.Lists.{Each, Pairs}
+use Rattle.station_crew.specs.Served.{AreBlank, AsksServer, HearsRadio, IsBlank, RadiosServed, ServersServed}
+use Rattle.station_crew.specs.declared.jobs.PollJob.{PollJob}
+use Rattle.station_crew.specs.declared.jobs.RadioJob.{RadioJob}
+use Rattle.system_fold.specs.Settings.{IsKept}
+
+prefix_length : {X : Type 0} (xs ys : List X) → IsPrefix xs ys → length xs ≤ length ys
+prefix_length xs ys p = let e = ap length p.1 in omega (arith, e, length-append xs p.0)
+
+-- what was kept of a feed's entries is what the journal has of it
+due_of : (start after : Claim) (limit f : ℕ) (full : Bool) (due : List Entry) (j : List Entry) → start.number ≡ f → start.own ≡ [] → Keeps start after limit full due → IsTrueOf j after → length j ≤ limit → HasDue limit j f full due
+due_of start after limit f full due j number own k t le = record {
+  count = k.count;
+  most = k.most;
+  is = ap (λ n. of_feed n j) (sym (k.number ∙ number)) ∙ sym t.own ∙ k.own ∙ ap (λ l. l ++ take k.count due) own;
+  whole = k.whole;
+  lost = (λ e. ((k.lost e).0, let s = (k.lost e).1 in let p = prefix_length after.seen j t.seen in omega (arith, s, p, le)));
+}
+
+hears_radio : {L B : Type 0} (stands : B → History → Type 0) (state : L → SourceState) (opening : L → ℕ) (limit : ℕ) (radio : RadioFields) (a b : RadioJob L B) (j : List Entry) (f : ℕ)
+    → claim_of a.worker.pass.view ≡ new_claim f → HasDecoded stands a.worker.decoder (claim_of a.worker.pass.view).number radio.plan radio.delay []
+    → RadioRan stands state opening limit a b → IsTrueOf j (claim_of b.worker.pass.view) → length j ≤ limit → HearsRadio radio f limit j (state a.worker.log) (state b.worker.log) b.work
+hears_radio stands state opening limit radio a b j f is start r t le =
+    let runs = r.runs radio.plan radio.delay start in
+    let number = ap (λ (c : Claim). c.number) is in
+    record {
+      bytes = runs.bytes;
+      ends = runs.ends;
+      due = due_of (claim_of a.worker.pass.view) (claim_of b.worker.pass.view) limit f b.work.full (due_log f radio.plan radio.delay runs.bytes) j number (ap (λ (c : Claim). c.own) is) (subst (λ n. Keeps (claim_of a.worker.pass.view) (claim_of b.worker.pass.view) limit b.work.full (due_log n radio.plan radio.delay runs.bytes)) number runs.kept) t le;
+    }
+
+asks_server : {T : Type 0} (state : T → LinkState) (opening : T → ℕ) (limit : ℕ) (a b : PollJob T) (j : List Entry) (f : ℕ)
+    → claim_of a.worker.pass.view ≡ new_claim f → PollRan state opening limit a b → IsTrueOf j (claim_of b.worker.pass.view) → length j ≤ limit → AsksServer (server_of a) f limit j (state a.worker.link) (state b.worker.link) b.work
+asks_server state opening limit a b j f is r t le =
+    let number = ap (λ (c : Claim). c.number) is in
+    record {
+      events = r.runs.events;
+      told = r.runs.told;
+      ends = r.runs.ends;
+      due = due_of (claim_of a.worker.pass.view) (claim_of b.worker.pass.view) limit f b.work.full (due_link f a.worker.server r.runs.events) j number (ap (λ (c : Claim). c.own) is) (subst (λ n. Keeps (claim_of a.worker.pass.view) (claim_of b.worker.pass.view) limit b.work.full (due_link n a.worker.server r.runs.events)) number r.runs.kept) t le;
+    }
+
+-- the claim of the feed at a place
+claim_at : (feeds : List Known) (k i : ℕ) (d : Known) → map (λ f. claim_of f.view) feeds ≡ map new_claim (range_with_len 0 k) → i < length feeds → claim_of (get_or feeds i d).view ≡ new_claim i
+claim_at feeds k i d e lt =
+    let n = ap length e in
+    let ltk : i < k = omega (arith, n, lt, length-map feeds (λ (f : Known). claim_of f.view), length-map-range_with_len new_claim 0 k) in
+    sym (get_or-map (λ (f : Known). claim_of f.view) feeds i d (claim_of d.view) lt) ∙ ap (λ l. get_or l i (claim_of d.view)) e ∙ get_or-map-range_with_len new_claim 0 k i i (claim_of d.view) ltk (omega arith)
+
+module _ {L B T : Type 0} where
+  feeds_length : (radios : List (RadioJob L B)) (pollers : List (PollJob T)) → length (map radio_pass radios ++ map poll_pass pollers) ≡ length radios + length pollers
+  feeds_length radios pollers = length-append (map radio_pass radios) (map poll_pass pollers) ∙ (omega (arith, length-map radios radio_pass, length-map pollers poll_pass))
+
+  radio_claim : (radios : List (RadioJob L B)) (pollers : List (PollJob T)) (k i : ℕ) (d : RadioJob L B) → map (λ f. claim_of f.view) (map radio_pass radios ++ map poll_pass pollers) ≡ map new_claim (range_with_len 0 k) → i < length radios
+      → claim_of (get_or radios i d).worker.pass.view ≡ new_claim i
+  radio_claim radios pollers k i d e lt = ap (λ (f : Known). claim_of f.view) (sym (left_at radio_pass poll_pass radios pollers i d lt)) ∙ claim_at (map radio_pass radios ++ map poll_pass pollers) k i (radio_pass d) e (omega (arith, lt, feeds_length radios pollers))
+
+  poller_claim : (radios : List (RadioJob L B)) (pollers : List (PollJob T)) (k i : ℕ) (d : PollJob T) → map (λ f. claim_of f.view) (map radio_pass radios ++ map poll_pass pollers) ≡ map new_claim (range_with_len 0 k) → i < length pollers
+      → claim_of (get_or pollers i d).worker.pass.view ≡ new_claim (length radios + i)
+  poller_claim radios pollers k i d e lt = ap (λ (f : Known). claim_of f.view) (sym (right_at radio_pass poll_pass radios pollers i d lt)) ∙ claim_at (map radio_pass radios ++ map poll_pass pollers) k (length radios + i) (poll_pass d) e (omega (arith, lt, feeds_length radios pollers))
+
+  module _ (stands : B → History → Type 0) (least : B → ℕ) (log_state : L → SourceState) (log_opening : L → ℕ) (state : T → LinkState) (opening : T → ℕ) (limit k : ℕ) (j : List Entry)
+      (cs bs : List (RadioJob L B)) (ps qs : List (PollJob T)) (claims : map (λ f. claim_of f.view) (map radio_pass cs ++ map poll_pass ps) ≡ map new_claim (range_with_len 0 k))
+      (ran : Each (RadioRan stands log_state log_opening limit) cs bs) (same : length bs ≡ length cs) (polled : Each (PollRan state opening limit) ps qs) (same' : length qs ≡ length ps)
+      (all : All (λ f. IsTrueOf j (claim_of f.view)) (map radio_pass bs ++ map poll_pass qs)) where
+    true_radio : (i : ℕ) (d : RadioJob L B) → i < length bs → IsTrueOf j (claim_of (get_or bs i d).worker.pass.view)
+    true_radio i d lt = subst (λ (f : Known). IsTrueOf j (claim_of f.view)) (left_at radio_pass poll_pass bs qs i d lt) (all i (radio_pass d) (omega (arith, lt, feeds_length bs qs)))
+
+    true_poller : (i : ℕ) (d : PollJob T) → i < length qs → IsTrueOf j (claim_of (get_or qs i d).worker.pass.view)
+    true_poller i d lt = subst (λ (f : Known). IsTrueOf j (claim_of f.view)) (right_at radio_pass poll_pass bs qs i d lt) (all (length bs + i) (poll_pass d) (omega (arith, lt, feeds_length bs qs)))
+
+    pub radios_served : (radios : List RadioFields) (receivers : List B) → AreBlank stands least radios receivers → Pairs (IsManned stands least) receivers cs → length j ≤ limit
+        → RadiosServed log_state log_opening radios limit j (map log_of cs) (map log_of bs) (map (λ x. x.work) bs)
+    radios_served radios receivers blank manned le = record {
+      openings = map_both log_opening log_of bs ∙ each_map (λ (x : RadioJob L B). log_opening x.worker.log) (RadioRan stands log_state log_opening limit) (λ a b r. r.log) cs bs ran same ∙ sym (map_both log_opening log_of cs);
+      count = length-map bs (λ x. x.work) ∙ same ∙ sym (length-map cs log_of);
+      at = (λ i radio a b work lt'.
+          let lt : i < length cs = omega (arith, lt', length-map cs log_of) in
+          let ltb : i < length bs = omega (arith, lt, same) in
+          let ltr : i < length receivers = omega (arith, lt, pairs_length (IsManned stands least) receivers cs manned) in
+          let ltf : i < length radios = omega (arith, ltr, pairs_length (IsBlank stands least) radios receivers blank) in
+          let d = some_of cs i lt in
+          let e = some_of receivers i ltr in
+          let w = pairs_at (IsManned stands least) receivers cs i e d manned ltr in
+          let v = pairs_at (IsBlank stands least) radios receivers i radio e blank ltf in
+          let r = get_or radios i radio in
+          subst (λ x. HearsRadio r i limit j (log_state x) (log_state (get_or (map log_of bs) i b)) (get_or (map (λ y. y.work) bs) i work)) (sym (get_or-map log_of cs i d a lt))
+          (subst (λ x. HearsRadio r i limit j (log_state (get_or cs i d).worker.log) (log_state x) (get_or (map (λ y. y.work) bs) i work)) (sym (get_or-map log_of bs i d b ltb))
+          (subst (λ x. HearsRadio r i limit j (log_state (get_or cs i d).worker.log) (log_state (get_or bs i d).worker.log) x) (sym (get_or-map (λ y. y.work) bs i d work ltb))
+          (hears_radio stands log_state log_opening limit r (get_or cs i d) (get_or bs i d) j i (radio_claim cs ps k i d claims lt) (w.start r.plan r.delay v.stands_for) (ran.at i d lt) (true_radio i d ltb) le))));
+    }
+
+    pub servers_served : (servers : List ServerFields) → map server_of ps ≡ servers → length j ≤ limit
+        → ServersServed state opening servers (length cs) limit j (map server_link ps) (map server_link qs) (map (λ x. x.work) qs)
+    servers_served servers are le = record {
+      openings = map_both opening server_link qs ∙ each_map (λ (x : PollJob T). opening x.worker.link) (PollRan state opening limit) (λ a b r. r.link) ps qs polled same' ∙ sym (map_both opening server_link ps);
+      count = length-map qs (λ x. x.work) ∙ same' ∙ sym (length-map ps server_link);
+      at = (λ i server a b work lt'.
+          let lt : i < length ps = omega (arith, lt', length-map ps server_link) in
+          let ltb : i < length qs = omega (arith, lt, same') in
+          let d = some_of ps i lt in
+          let s : server_of (get_or ps i d) ≡ get_or servers i server = sym (get_or-map server_of ps i d server lt) ∙ ap (λ l. get_or l i server) are in
+          subst (λ x. AsksServer (get_or servers i server) (length cs + i) limit j (state x) (state (get_or (map server_link qs) i b)) (get_or (map (λ y. y.work) qs) i work)) (sym (get_or-map server_link ps i d a lt))
+          (subst (λ x. AsksServer (get_or servers i server) (length cs + i) limit j (state (get_or ps i d).worker.link) (state x) (get_or (map (λ y. y.work) qs) i work)) (sym (get_or-map server_link qs i d b ltb))
+          (subst (λ x. AsksServer (get_or servers i server) (length cs + i) limit j (state (get_or ps i d).worker.link) (state (get_or qs i d).worker.link) x) (sym (get_or-map (λ y. y.work) qs i d work ltb))
+          (subst (λ x. AsksServer x (length cs + i) limit j (state (get_or ps i d).worker.link) (state (get_or qs i d).worker.link) (get_or qs i d).work) s
+          (asks_server state opening limit (get_or ps i d) (get_or qs i d) j (length cs + i) (poller_claim cs ps k i d claims lt) (polled.at i d lt) (true_poller i d ltb) le)))));
+    }
+
+    -- the feed of the last entry has seen the whole journal
+    last_seen : (front : List Entry) (e : Entry) (c : Claim) → j ≡ front ++ e ∷ [] → c.number ≡ e.feed → IsTrueOf j c → length j ≤ length c.seen
+    last_seen front e c is number t = go (snoc_view t.seen.0)
+      where
+        go : (t.seen.0 ≡ []) ⊎ ((r : List Entry) × (x : Entry) × (t.seen.0 ≡ r ++ x ∷ [])) → length j ≤ length c.seen
+        go (inl none) = let a = ap length t.seen.1 in let b = ap length none in omega (arith, a, b, length-append c.seen t.seen.0)
+        go (inr (r, x, some)) =
+            let whole : j ≡ (c.seen ++ r) ++ x ∷ [] = sym t.seen.1 ∙ ap (λ l. c.seen ++ l) some ∙ sym (append_assoc c.seen r (x ∷ [])) in
+            let one : e ≡ x = last_same front (c.seen ++ r) e x (sym is ∙ whole) in
+            let more : of_feed c.number j ≡ of_feed c.number (c.seen ++ r) ++ x ∷ [] = ap (λ l. of_feed c.number l) whole ∙ of_same c.number (c.seen ++ r) x (sym (number ∙ ap (λ (y : Entry). y.feed) one)) in
+            let n = ap length (sym more ∙ sym t.own ∙ t.own_seen) in
+            absurd (omega (arith, n, ap length (filter-append (λ (y : Entry). y.feed == c.number) c.seen r), length-append (of_feed c.number c.seen) (of_feed c.number r), length-append (of_feed c.number (c.seen ++ r)) (x ∷ [])))
+
+    -- who has seen what all feeds have seen has seen the journal
+    pub seen_all : All (IsKept k) j → (n : ℕ) → All (λ f. length (claim_of f.view).seen ≤ n) (map radio_pass bs ++ map poll_pass qs) → length j ≤ n
+    seen_all lawful n seen = go (snoc_view j)
+      where
+        count_is : length cs + length ps ≡ k
+        count_is = let e = ap length claims in omega (arith, e, feeds_length cs ps, length-map (map radio_pass cs ++ map poll_pass ps) (λ (f : Known). claim_of f.view), length-map-range_with_len new_claim 0 k)
+
+        of_radio : (front : List Entry) (e : Entry) → j ≡ front ++ e ∷ [] → e.feed < length bs → length j ≤ n
+        of_radio front e is lt =
+            let d = some_of bs e.feed lt in
+            let ltc : e.feed < length cs = omega (arith, lt, same) in
+            let number = (ran.at e.feed d ltc).feed ∙ ap (λ (z : Claim). z.number) (radio_claim cs ps k e.feed d claims ltc) in
+            let a = last_seen front e (claim_of (get_or bs e.feed d).worker.pass.view) is number (true_radio e.feed d lt) in
+            let b = subst (λ (f : Known). length (claim_of f.view).seen ≤ n) (left_at radio_pass poll_pass bs qs e.feed d lt) (seen e.feed (radio_pass d) (omega (arith, lt, feeds_length bs qs))) in
+            omega (arith, a, b)
+
+        of_poller : (front : List Entry) (e : Entry) (i : ℕ) → j ≡ front ++ e ∷ [] → e.feed ≡ length cs + i → i < length qs → length j ≤ n
+        of_poller front e i is at lt =
+            let d = some_of qs i lt in
+            let ltc : i < length ps = omega (arith, lt, same') in
+            let number = (polled.at i d ltc).feed ∙ ap (λ (z : Claim). z.number) (poller_claim cs ps k i d claims ltc) ∙ sym at in
+            let a = last_seen front e (claim_of (get_or qs i d).worker.pass.view) is number (true_poller i d lt) in
+            let b = subst (λ (f : Known). length (claim_of f.view).seen ≤ n) (right_at radio_pass poll_pass bs qs i d lt) (seen (length bs + i) (poll_pass d) (omega (arith, lt, feeds_length bs qs))) in
+            omega (arith, a, b)
+
+        placed : (front : List Entry) (e : Entry) → j ≡ front ++ e ∷ [] → e.feed < k → (e.feed < length bs) ⊎ (length bs ≤ e.feed) → length j ≤ n
+        placed front e is counted (inl lt) = of_radio front e is lt
+        placed front e is counted (inr ge) = of_poller front e (e.feed - length bs) is (omega (arith, same, ge)) (omega (arith, same, same', ge, counted, count_is))
+
+        go : (j ≡ []) ⊎ ((r : List Entry) × (x : Entry) × (j ≡ r ++ x ∷ [])) → length j ≤ n
+        go (inl none) = let e = ap length none in omega (arith, e)
+        go (inr (front, e, is)) =
+            let kept = All-head (IsKept k) e [] (all_right (IsKept k) front (e ∷ []) (subst (All (IsKept k)) is lawful)) in
+            placed front e is kept.lawful.feed (below_or e.feed (length bs))
+
+module _ {L B T : Type 0} (stands : B → History → Type 0) (least : B → ℕ) (table : TableId) (k : ℕ) (cs : List (RadioJob L B)) (ps : List (PollJob T))
+    (claims : map (λ f. claim_of f.view) (map radio_pass cs ++ map poll_pass ps) ≡ map new_claim (range_with_len 0 k)) (tables : All (λ f. f.table ≡ table) (map radio_pass cs ++ map poll_pass ps)) where
+  feed_count : length cs + length ps ≡ k
+  feed_count = let e = ap length claims in omega (arith, e, feeds_length cs ps, length-map (map radio_pass cs ++ map poll_pass ps) (λ (f : Known). claim_of f.view), length-map-range_with_len new_claim 0 k)
+
+  -- a radio's worker that was manned may run
+  pub may_hear : (receivers : List B) → Pairs (IsManned stands least) receivers cs → All (MayHear least table k) cs
+  may_hear receivers manned = λ i d lt.
+      let e = some_of receivers i (omega (arith, lt, pairs_length (IsManned stands least) receivers cs manned)) in
+      let m = pairs_at (IsManned stands least) receivers cs i e d manned (omega (arith, lt, pairs_length (IsManned stands least) receivers cs manned)) in
+      let number = ap (λ (c : Claim). c.number) (radio_claim cs ps k i d claims lt) in
+      record {
+        ready = m.ready;
+        pass = record {
+          table_is = ap (λ (f : Known). f.table) (sym (left_at radio_pass poll_pass cs ps i d lt)) ∙ tables i (radio_pass d) (omega (arith, lt, feeds_length cs ps));
+          feed_is = sym m.feed;
+          source = (let f = m.feed in omega (arith, f, number, lt, feed_count));
+        };
+        feed = m.feed;
+      }
+
+  -- so may a server's
+  pub may_poll : All (MayPoll table k) ps
+  may_poll = λ i d lt.
+      let number = ap (λ (c : Claim). c.number) (poller_claim cs ps k i d claims lt) in
+      record {
+        pass = record {
+          table_is = ap (λ (f : Known). f.table) (sym (right_at radio_pass poll_pass cs ps i d lt)) ∙ tables (length cs + i) (poll_pass d) (omega (arith, lt, feeds_length cs ps));
+          feed_is = refl;
+          source = omega (arith, number, lt, feed_count);
+        };
+      }

@@ -1,0 +1,176 @@
+-- What closing tells of each link that the station serves on.
+use Rattle.std.proofs.Common.{rules, ◌≡◌, ◌≢◌, ◌⊎◌, inl, inr, ℕ, zero, suc, ◌+◌, ◌*◌, ◌<◌, ◌≤◌, List, [], ◌∷◌, ◌++◌, Option, Some, None, Bool, true, false, take, map, length, refl, sym, ap, ◌∙◌, subst, arith, length-append}
+use Rattle.std.specs.Prelude.{All, get_or, slice_index_or}
+use Rattle.std.specs.List.{flat_map, sum_by}
+use Rattle.std.proofs.lemmas.Bool.{true≢false}
+use Rattle.std.proofs.lemmas.Grind.{flat_map-append}
+use Rattle.std.proofs.lemmas.List.{length-map, get_or-map, map-append, append-nil}
+use Rattle.std.proofs.lemmas.List.Sums.{sum_by-append}
+use Rattle.std.proofs.lemmas.List.Elements.{All-nil, All-append, All-cons, All-head, All-tail, All-weaker}
+use Rattle.atomic_table.specs.Seated.{TableId}
+use Rattle.feed_link.proofs.ToldLaws.{Adds-none}
+use Rattle.feed_link.specs.Told.{LinkState, Adds}
+use Rattle.journal_entry.specs.declared.entry.Entry.{Entry}
+use Rattle.page_cell.proofs.PageWords.{reading-page}
+use Rattle.page_cell.specs.Claims.{IsReading, page_at}
+use Rattle.page_cell.specs.Passes.{Known, KnownReader}
+use Rattle.page_cell.specs.declared.view.View.{View}
+use Rattle.responder.proofs.TurnLaws.{rises_both, took_none}
+use Rattle.responder.specs.Serving.{EndsBy, Serves, Took}
+use Rattle.responder.specs.Turns.{Turn, Reading, events_of, readings_of, IsRead, IsTurn, answered_of, dropped_of, torn_of, Rises, kept}
+use Rattle.responder.specs.declared.served.End.{End}
+use Rattle.responder.specs.declared.served.End.TheVariants.{Count, LinkEnd, LinkFault}
+use Rattle.responder.specs.declared.served.Served.{Served}
+use Rattle.station_crew.proofs.ListLaws.{all_right, each_map, map_both, some_of}
+use Rattle.station_crew.specs.Crews.{IsNewReader}
+use Rattle.station_crew.specs.Leaving.{link_of, serve_pass}
+use Rattle.station_crew.specs.Lists.{Each}
+use Rattle.station_crew.specs.Served.{CountsTurns, HasSecond, IsReadOf, LinksServed, ServesLink, ServesPhase}
+use Rattle.station_crew.specs.Telling.{HasSeenAll, HasServedTwice}
+use Rattle.station_crew.specs.declared.jobs.ServeJob.{ServeJob}
+use Rattle.station_crew.specs.declared.work.LinkWork.{LinkWork}
+use Rattle.system_fold.specs.Page.{page_of}
+use Rattle.system_fold.specs.Settings.{SettingsFields}
+use Rattle.verdict_journal.specs.Journals.{HasRead}
+
+read_of : (s : SettingsFields) (j : List Entry) (r : Reading) → IsReading s j (kept r) → IsRead r → IsReadOf s j r
+read_of s j r h page = record { within = h.within; page = reading-page s j r.length r.page h page }
+
+reads_of : (s : SettingsFields) (j : List Entry) (rs : List Reading) → All (IsReading s j) (map kept rs) → All IsRead rs → All (IsReadOf s j) rs
+reads_of s j [] h pages = All-nil (IsReadOf s j)
+reads_of s j (r ∷ rs) h pages = All-cons (IsReadOf s j) r rs (read_of s j r (All-head (IsReading s j) (kept r) (map kept rs) h) (All-head IsRead r rs pages))
+    (reads_of s j rs (All-tail (IsReading s j) (kept r) (map kept rs) h) (All-tail IsRead r rs pages))
+
+rises_from : (n m k : ℕ) (r : Reading) (rs : List Reading) → n ≤ m → Rises m (r ∷ rs) k → Rises n (r ∷ rs) k
+rises_from n m k r rs le p = (let h = p.0 in omega (arith, h, le), p.1)
+
+rises_gap : (n m m' k : ℕ) (rs qs : List Reading) → Rises n rs m → m ≤ m' → Rises m' qs k → (z : ℕ) × Rises n (rs ++ qs) z
+rises_gap n m m' k rs [] p le q = (m, subst (λ l. Rises n l m) (sym (append-nil rs)) p)
+rises_gap n m m' k rs (r ∷ qs) p le q = (k, rises_both n m k rs (r ∷ qs) p (rises_from m m' k r qs le q))
+
+rises_all : (n k : ℕ) (rs : List Reading) → Rises n rs k → All (λ r. n ≤ r.length) rs
+rises_all n k [] p = All-nil (λ r. n ≤ r.length)
+rises_all n k (r ∷ rs) p = All-cons (λ q. n ≤ q.length) r rs p.0 (All-weaker (λ q. r.length ≤ q.length) (λ q. n ≤ q.length) (λ q h. let g = p.0 in omega (arith, g, h)) rs (rises_all r.length k rs p.1))
+
+both_bounds : (s : SettingsFields) (j : List Entry) (n : ℕ) (rs : List Reading) → length j ≤ n → All (λ r. n ≤ r.length) rs → All (IsReadOf s j) rs → All (λ r. r.length ≡ length j) rs
+both_bounds s j n [] le p q = All-nil (λ r. r.length ≡ length j)
+both_bounds s j n (r ∷ rs) le p q = All-cons (λ x. x.length ≡ length j) r rs (let a = All-head (λ x. n ≤ x.length) r rs p in let b = (All-head (IsReadOf s j) r rs q).within in omega (arith, a, b, le)) (both_bounds s j n rs le (All-tail (λ x. n ≤ x.length) r rs p) (All-tail (IsReadOf s j) r rs q))
+
+none_or : (n : ℕ) → ((0 < n) → ⊥) → n ≡ 0
+none_or zero f = refl
+none_or (suc n) f = absurd (f (omega arith))
+
+is_count : End → Bool
+is_count Count = true
+is_count LinkEnd = false
+is_count LinkFault = false
+
+phase_of : (before now : LinkState) (v w : View) (budget : ℕ) (served : Served) (r : Serves before now v w budget served) → ServesPhase budget before now served r.turns
+phase_of before now v w budget served r = record {
+  events = r.took.events;
+  most = r.most;
+  ends = r.ends;
+  counts = record { answered = r.answered; dropped = r.dropped; again = r.again };
+}
+
+-- the turns of a link by what its responder did in both phases, and by what the journal tells of its pass
+serves_link : {T : Type 0} (state : T → LinkState) (opening : T → ℕ) (s : SettingsFields) (j : List Entry) (during after : ℕ) (feeds : List Known) (a b : ServeJob T)
+    → a.responder.pass.view.seen ≡ 0 → a.responder.pass.view.readings ≡ [] → a.responder.pass.view.watch.torn ≡ 0 → a.work.second ≡ None
+    → ((r : KnownReader) → HasSeenAll feeds r → length j ≤ r.view.seen)
+    → HasServedTwice state opening during after feeds a b → HasRead s j b.responder.pass.view → ServesLink s j during after (state a.responder.link) (state b.responder.link) b.work
+unfolding is_count
+serves_link {T = T} state opening s j during after feeds a b unseen unread untorn none bound t h = go t.told.work.first.end refl
+  where
+    first : List Turn
+    first = t.served.serves.turns
+
+    p : Took (state a.responder.link) (state t.between.responder.link) a.responder.pass.view t.between.responder.pass.view first
+    p = t.served.serves.took
+
+    link_is : state t.told.responder.link ≡ state t.between.responder.link
+    link_is = ap state t.learnt.link
+
+    v : View
+    v = t.told.responder.pass.view
+
+    le : length j ≤ v.seen
+    le = bound t.told.responder.pass t.learnt.seen
+
+    first_is : b.work.first ≡ t.between.work.first
+    first_is = t.again.first ∙ ap (λ (z : LinkWork). z.first) t.learnt.work
+
+    end_is : t.told.work.first.end ≡ b.work.first.end
+    end_is = ap (λ (z : Served). z.end) (sym t.again.first)
+
+    readings_told : v.readings ≡ map kept (flat_map readings_of first)
+    readings_told = t.learnt.learnt.readings ∙ p.readings ∙ ap (λ l. l ++ map kept (flat_map readings_of first)) unread
+
+    rises : Rises 0 (flat_map readings_of first) t.between.responder.pass.view.seen
+    rises = subst (λ n. Rises n (flat_map readings_of first) t.between.responder.pass.view.seen) unseen p.rising
+
+    torn_told : v.watch.torn ≡ sum_by torn_of first
+    torn_told = ap (λ w. w.torn) t.learnt.learnt.watch ∙ p.torn ∙ (let z = untorn in omega (arith, z))
+
+    gone : (second : List Turn) → Took (state t.told.responder.link) (state b.responder.link) v b.responder.pass.view second → HasSecond after (state t.between.responder.link) (state b.responder.link) b.work second
+        → ServesLink s j during after (state a.responder.link) (state b.responder.link) b.work
+    gone second q ends =
+        let whole : b.responder.pass.view.readings ≡ map kept (flat_map readings_of (first ++ second)) = q.readings ∙ ap (λ l. l ++ map kept (flat_map readings_of second)) readings_told ∙ sym (map-append kept (flat_map readings_of first) (flat_map readings_of second)) ∙ ap (λ l. map kept l) (sym (flat_map-append readings_of first second)) in
+        let pages = reads_of s j (flat_map readings_of (first ++ second)) (subst (All (IsReading s j)) whole h.readings)
+            (subst (All IsRead) (sym (flat_map-append readings_of first second)) (All-append IsRead (flat_map readings_of first) (flat_map readings_of second) p.pages q.pages)) in
+        let gap = rises_gap 0 _ v.seen _ (flat_map readings_of first) (flat_map readings_of second) rises t.learnt.learnt.seen q.rising in
+        let back = all_right (IsReadOf s j) (flat_map readings_of first) (flat_map readings_of second) (subst (All (IsReadOf s j)) (flat_map-append readings_of first second) pages) in
+        let great = h.tally.1 in
+        let few = h.tally.0 in
+        let quiet : sum_by torn_of second ≡ 0 = none_or (sum_by torn_of second) (λ some. let up = q.above some in omega (arith, up, le, great)) in
+        record {
+          first = first;
+          second = second;
+          between = state t.between.responder.link;
+          first_phase = subst (λ z. ServesPhase during (state a.responder.link) (state t.between.responder.link) z first) (sym first_is) (phase_of (state a.responder.link) (state t.between.responder.link) a.responder.pass.view t.between.responder.pass.view during t.between.work.first t.served.serves);
+          second_phase = ends;
+          lawful = All-append IsTurn first second p.lawful q.lawful;
+          pages = pages;
+          last = gap.0;
+          rising = subst (λ l. Rises 0 l gap.0) (sym (flat_map-append readings_of first second)) gap.1;
+          whole = both_bounds s j v.seen (flat_map readings_of second) le (rises_all v.seen _ (flat_map readings_of second) q.rising) back;
+          none_again = quiet;
+          few_again = (let e = q.torn in let f = torn_told in omega (arith, quiet, e, f, few, great));
+        }
+
+    not_count : (e : End) → is_count e ≡ false → t.told.work.first.end ≡ e → ServesLink s j during after (state a.responder.link) (state b.responder.link) b.work
+    not_count e f is =
+        let n = t.again.not (λ c. true≢false (ap is_count (sym c ∙ is) ∙ f)) in
+        gone [] (subst (λ (z : T). Took (state t.told.responder.link) (state z) v b.responder.pass.view []) (sym n.1) (subst (λ (z : KnownReader). Took (state t.told.responder.link) (state t.told.responder.link) v z.view []) (sym n.2) (took_none (state t.told.responder.link) (state t.told.responder.link) v (Adds-none (state t.told.responder.link).events))))
+        (record {
+          served = (λ c. absurd (true≢false (ap is_count (sym c ∙ sym end_is ∙ is) ∙ f)));
+          not = (λ _. (n.0 ∙ ap (λ (z : LinkWork). z.second) t.learnt.work ∙ t.served.second ∙ none, ap state n.1 ∙ link_is, refl));
+        })
+
+    go : (e : End) → t.told.work.first.end ≡ e → ServesLink s j during after (state a.responder.link) (state b.responder.link) b.work
+    go Count is =
+        let r = t.again.again is in
+        gone r.2.turns r.2.took (record {
+          served = (λ _. (r.0, r.1, subst (λ (z : LinkState). ServesPhase after z (state b.responder.link) r.0 r.2.turns) link_is (phase_of (state t.told.responder.link) (state b.responder.link) v b.responder.pass.view after r.0 r.2)));
+          not = (λ c. absurd (c (sym end_is ∙ is)));
+        })
+    go LinkEnd is = not_count LinkEnd refl is
+    go LinkFault is = not_count LinkFault refl is
+
+pub links_served : {T : Type 0} (state : T → LinkState) (opening : T → ℕ) (s : SettingsFields) (j : List Entry) (during after : ℕ) (table : TableId) (feeds : List Known) (xs ys : List (ServeJob T))
+    → Each (HasServedTwice state opening during after feeds) xs ys → length ys ≡ length xs → All (IsNewReader table) (map serve_pass xs) → All (λ x. x.work.second ≡ None) xs
+    → All (λ r. HasRead s j r.view) (map serve_pass ys) → ((r : KnownReader) → HasSeenAll feeds r → length j ≤ r.view.seen)
+    → LinksServed state opening s j during after (map link_of xs) (map link_of ys) (map (λ x. x.work) ys)
+links_served {T = T} state opening s j during after table feeds xs ys served same new none read bound = record {
+  openings = map_both opening link_of ys ∙ each_map (λ (x : ServeJob T). opening x.responder.link) (HasServedTwice state opening during after feeds) (λ a b t. t.again.same.link ∙ ap opening t.learnt.link ∙ t.served.same.link) xs ys served same ∙ sym (map_both opening link_of xs);
+  count = length-map ys (λ x. x.work) ∙ same ∙ sym (length-map xs link_of);
+  at = (λ i a b work lt'.
+      let lt : i < length xs = omega (arith, lt', length-map xs link_of) in
+      let ltb : i < length ys = omega (arith, lt, same) in
+      let d = some_of xs i lt in
+      let f = subst (IsNewReader table) (get_or-map serve_pass xs i d (serve_pass d) lt) (new i (serve_pass d) (omega (arith, lt, length-map xs serve_pass))) in
+      let r = subst (λ (r : KnownReader). HasRead s j r.view) (get_or-map serve_pass ys i d (serve_pass d) ltb) (read i (serve_pass d) (omega (arith, ltb, length-map ys serve_pass))) in
+      subst (λ x. ServesLink s j during after (state x) (state (get_or (map link_of ys) i b)) (get_or (map (λ y. y.work) ys) i work)) (sym (get_or-map link_of xs i d a lt))
+      (subst (λ x. ServesLink s j during after (state (get_or xs i d).responder.link) (state x) (get_or (map (λ y. y.work) ys) i work)) (sym (get_or-map link_of ys i d b ltb))
+      (subst (λ x. ServesLink s j during after (state (get_or xs i d).responder.link) (state (get_or ys i d).responder.link) x) (sym (get_or-map (λ y. y.work) ys i d work ltb))
+      (serves_link state opening s j during after feeds (get_or xs i d) (get_or ys i d) f.unseen f.unread f.untorn (none i d lt) bound (served.at i d lt) r))));
+}

@@ -1,0 +1,55 @@
+-- What the search leaves open of `named::man_crew`.
+use Rattle.std.proofs.Common.{rules, ◌≡◌, ◌+◌, ◌≤◌, ◌++◌, length, map, refl, sym, ap, ◌∙◌, subst, arith, length-append}
+use Rattle.std.specs.Prelude.{vec_len}
+use Rattle.std.proofs.lemmas.List.{length-map}
+use Rattle.station_crew.proofs.ListLaws.{all_taken, none_left, pairs_keep, pairs_length}
+use Rattle.station_crew.specs.Leaving.{link_of, log_of, poll_pass, radio_pass, serve_pass, server_link}
+use Rattle.station_crew.specs.Served.{IsBlank}
+use Rattle.station_crew.proofs.named.man_crew.Goals as goal
+
+pub man_radios-requires-clause-blank : goal.man_radios-requires-clause-blank
+man_radios-requires-clause-blank g c κs within =
+    pairs_keep (λ r. Unit {0}) (λ b. (goal.Receiver-dyn g (b.vtable, b.value)).least_start b.value ≡ 0) (IsBlank (λ b h. (goal.Receiver-dyn g (b.vtable, b.value)).stands_for b.value h) (λ b. (goal.Receiver-dyn g (b.vtable, b.value)).least_start b.value)) (λ r b h _. h.least_start) c.args.station.now.radios c.args.receivers.items c.requires.blank (λ i d lt. tt)
+
+pub man_radios-requires-clause-receivers : goal.man_radios-requires-clause-receivers
+man_radios-requires-clause-receivers g c κs within =
+    let one : vec_len c.args.receivers ≡ length c.args.receivers.items = search rules in
+    one ∙ pairs_length (IsBlank (λ b h. (goal.Receiver-dyn g (b.vtable, b.value)).stands_for b.value h) (λ b. (goal.Receiver-dyn g (b.vtable, b.value)).least_start b.value)) c.args.station.now.radios c.args.receivers.items c.requires.blank ∙ sym c.requires.gear.logs
+
+pub man_pollers-requires-clause-feeds : goal.man_pollers-requires-clause-feeds
+man_pollers-requires-clause-feeds g c =
+    let old = c.args.passes.feeds in
+    let rest = c.man_radios.new.feeds in
+    let jobs = c.man_radios.new.jobs in
+    let one : vec_len rest ≡ length rest.items = search rules in
+    let two : vec_len old ≡ length old.items = search rules in
+    let three : vec_len c.args.gear.logs ≡ length c.args.gear.logs.items = search rules in
+    let k = c.requires.feeds in
+    let p = ap length c.man_radios.ensures.feeds in
+    let q = ap length c.man_radios.ensures.logs in
+    omega (arith, one, two, three, k, p, q, length-append (map radio_pass jobs.items) rest.items, length-map jobs.items radio_pass, length-map jobs.items log_of)
+
+pub returns-clause-feeds : goal.returns-clause-feeds
+returns-clause-feeds g c =
+    let old = c.args.passes.feeds in
+    let js = c.man_radios.new.jobs in
+    let ps = c.man_pollers.new.jobs in
+    let two : vec_len old ≡ length old.items = search rules in
+    let three : vec_len c.args.gear.logs ≡ length c.args.gear.logs.items = search rules in
+    let four : vec_len c.args.gear.servers ≡ length c.args.gear.servers.items = search rules in
+    let k = c.requires.feeds in
+    let q = ap length c.man_radios.ensures.logs in
+    let r = ap length c.man_pollers.ensures.links in
+    all_taken (map radio_pass js.items) (map poll_pass ps.items) c.man_pollers.new.feeds.items c.man_radios.new.feeds.items old.items c.man_radios.ensures.feeds c.man_pollers.ensures.feeds
+    (omega (arith, two, three, four, k, q, r, length-map js.items radio_pass, length-map js.items log_of, length-map ps.items poll_pass, length-map ps.items server_link))
+
+pub returns-clause-readers : goal.returns-clause-readers
+returns-clause-readers g c =
+    let old = c.args.passes.readers in
+    let xs = c.man_responders.new.jobs in
+    let two : vec_len old ≡ length old.items = search rules in
+    let three : vec_len c.args.gear.links ≡ length c.args.gear.links.items = search rules in
+    let k = c.requires.readers in
+    let q = ap length c.man_responders.ensures.links in
+    none_left (map serve_pass xs.items) c.man_responders.new.readers.items old.items c.man_responders.ensures.readers
+    (omega (arith, two, three, k, q, length-map xs.items serve_pass, length-map xs.items link_of))

@@ -1,0 +1,20 @@
+-- What the search leaves open of `telling::tell_all`.
+use Rattle.std.proofs.Common.{rules, ◌≡◌, ◌<◌, ◌≤◌, slice_index_or, length, refl, sym, ap, ◌∙◌, subst, arith}
+use Rattle.page_cell.specs.Passes.{Known, claim_of}
+use Rattle.station_crew.specs.Telling.{HasLearnt}
+use Rattle.station_crew.proofs.ListLaws.{told_more, told_all, same_set}
+use Rattle.station_crew.proofs.telling.tell_all.Goals as goal
+
+pub loop-i-preserved : goal.loop-i-preserved
+loop-i-preserved c =
+    let i = c.loop-i.invariant in
+    let e = c.tell.ensures in
+    let lt : c.loop-i.i < length c.args.feeds.now = search rules in
+    record {
+      same = same_set _ c.loop-i.i _ _ e.same ∙ i.same;
+      learnt = search rules;
+      seen = told_more (λ (f : Known). length (claim_of f.view).seen) c.args.feeds.now c.loop-i.i c.loop-i.reader.view.seen _ _ lt e.learnt.seen (subst (λ l. length (claim_of (slice_index_or l c.loop-i.i c.index-feeds-i.result).view).seen ≤ c.tell.new.reader.view.seen) i.same e.seen) i.seen;
+    }
+
+pub returns-clause-seen : goal.returns-clause-seen
+returns-clause-seen c = told_all (λ (f : Known). length (claim_of f.view).seen ≤ c.loop-i.reader.view.seen) c.args.feeds.now c.loop-i.i (search rules) c.loop-i.invariant.seen

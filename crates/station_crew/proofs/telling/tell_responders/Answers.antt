@@ -1,0 +1,36 @@
+-- What the search leaves open of `telling::tell_responders`.
+use Rattle.std.proofs.Common.{rules, ◌≡◌, ◌∙◌, [], refl, sym, ap, subst}
+use Rattle.std.specs.Vec.Iter.{into_iter_items}
+use Rattle.std.proofs.lemmas.List.{nil_from_length}
+use Rattle.station_crew.specs.Lists.{Pairs, PairsFront}
+use Rattle.station_crew.specs.Telling.{WasTold}
+use Rattle.station_crew.proofs.ListLaws.{all_rest, front_none, front_more, front_whole}
+use Rattle.station_crew.proofs.telling.tell_responders.Goals as goal
+
+pub loop-job-init : goal.loop-job-init
+loop-job-init g c = record {
+  same = search rules;
+  told = front_none (WasTold c.args.feeds.now) (into_iter_items c.into_iter-job-iterator.result) c.args.told.now.items c.requires.none;
+  readers = search rules;
+  size = search rules;
+  few = search rules;
+  room = search rules;
+}
+
+pub loop-job-preserved : goal.loop-job-preserved
+loop-job-preserved g c =
+    let i = c.loop-job.invariant in
+    let e = c.in-Some.ensures.steps.0 in
+    record {
+      same = search rules;
+      told = front_more (WasTold c.args.feeds.now) _ _ _ _ _ _ _ e c.push_reserved.ensures.items i.told (subst (λ fs. WasTold fs c.in-Some.job c.tell_responder.result) i.same c.tell_responder.ensures.told);
+      readers = all_rest (λ j. j.responder.pass.table ≡ c.args.cell.now.table) _ _ _ e i.readers;
+      size = search rules;
+      few = search rules;
+      room = search rules;
+    }
+
+pub returns-clause-told : goal.returns-clause-told
+returns-clause-told g c =
+    let none : into_iter_items c.loop-job.job-iterator ≡ [] = nil_from_length _ (c.loop-job.invariant.size ∙ c.in-None.ensures.steps.0) in
+    subst (λ xs. Pairs (WasTold c.args.feeds.now) xs c.loop-job.told.items) c.into_iter-job-iterator.ensures.into_iter_gives.0 (front_whole (WasTold c.args.feeds.now) _ _ _ none c.loop-job.invariant.told)

@@ -1,0 +1,94 @@
+-- Scaffolding: what all workers of a station do.
+use Rattle.std.specs.Prelude.{◌≡◌, ◌≤◌, ℕ, ◌+◌, List, [], ◌++◌, All, None, length, map, vec_capacity}
+use Rattle.atomic_table.specs.Seated.{TableId}
+use Rattle.feed_link.specs.Told.{SourceState, LinkState}
+use Rattle.page_cell.specs.Passes.{Known, KnownReader}
+use Rattle.radio_receiver.specs.Histories.{History}
+use Rattle.station_config.specs.Station.{StationFields}
+use Rattle.station_crew.specs.Jobs.{IsManned, RadioRan, PollRan}
+use Rattle.station_crew.specs.Leaving.{link_of, log_of, poll_pass, radio_pass, serve_pass, server_link, server_of}
+use Rattle.station_crew.specs.Lists.{Each, Pairs}
+use Rattle.station_crew.specs.Telling.{HasServedTwice}
+use Rattle.station_crew.specs.declared.crew.Crew.{Crew}
+use Rattle.station_crew.specs.declared.crew.Left.{Left}
+use Rattle.station_crew.specs.declared.jobs.PollJob.{PollJob}
+use Rattle.station_crew.specs.declared.jobs.RadioJob.{RadioJob}
+use Rattle.station_crew.specs.declared.jobs.ServeJob.{ServeJob}
+use Rattle.station_crew.specs.declared.named.Room.{Room}
+use Rattle.station_gear.specs.declared.gear.Gear.{Gear}
+
+-- a reader's pass of this cell that has seen and read nothing
+pub record IsNewReader (table : TableId) (r : KnownReader) : Type 0 where
+  pub table_is : r.table ≡ table
+  pub unseen : r.view.seen ≡ 0
+  pub unread : r.view.readings ≡ []
+  pub untorn : r.view.watch.torn ≡ 0
+
+-- room for the workers of so many radios, servers and links
+pub record HasRoomFor {L T B : Type 0} (of_radios of_servers of_links : ℕ) (crew : Crew L T B) : Type 0 where
+  pub no_radios : crew.radios.items ≡ []
+  pub no_pollers : crew.pollers.items ≡ []
+  pub no_responders : crew.responders.items ≡ []
+  pub radios : of_radios ≤ vec_capacity crew.radios
+  pub pollers : of_servers ≤ vec_capacity crew.pollers
+  pub responders : of_links ≤ vec_capacity crew.responders
+
+-- room for logs and links
+pub record HasRoomForGear {L T : Type 0} (of_radios of_servers of_links : ℕ) (gear : Gear L T) : Type 0 where
+  pub no_logs : gear.logs.items ≡ []
+  pub no_servers : gear.servers.items ≡ []
+  pub no_links : gear.links.items ≡ []
+  pub logs : of_radios ≤ vec_capacity gear.logs
+  pub servers : of_servers ≤ vec_capacity gear.servers
+  pub links : of_links ≤ vec_capacity gear.links
+
+-- room for what the workers leave
+pub record HasRoomToLeave {L T : Type 0} (of_radios of_servers of_links : ℕ) (left : Left L T) : Type 0 where
+  pub gear : HasRoomForGear of_radios of_servers of_links left.gear
+  pub no_log_works : left.radios.items ≡ []
+  pub no_poll_works : left.servers.items ≡ []
+  pub no_link_works : left.links.items ≡ []
+  pub no_feeds : left.feeds.items ≡ []
+  pub no_readers : left.readers.items ≡ []
+  pub log_works : of_radios ≤ vec_capacity left.radios
+  pub poll_works : of_servers ≤ vec_capacity left.servers
+  pub link_works : of_links ≤ vec_capacity left.links
+  pub feeds : of_radios + of_servers ≤ vec_capacity left.feeds
+  pub readers : of_links ≤ vec_capacity left.readers
+
+-- room for all of it, and for the responders of the second phase
+pub record HasRoom {L T B : Type 0} (of_radios of_servers of_links : ℕ) (room : Room L T B) : Type 0 where
+  pub crew : HasRoomFor of_radios of_servers of_links room.crew
+  pub none_told : room.told.items ≡ []
+  pub told : of_links ≤ vec_capacity room.told
+  pub left : HasRoomToLeave of_radios of_servers of_links room.left
+
+-- each worker has its receiver, its log or its link, and its server, in the station's order
+pub record CrewManned {L T B : Type 0} (stands : B → History → Type 0) (least : B → ℕ) (station : StationFields) (receivers : List B) (gear : Gear L T) (crew : Crew L T B) : Type 0 where
+  pub receivers_are : Pairs (IsManned stands least) receivers crew.radios.items
+  pub logs : map log_of crew.radios.items ≡ gear.logs.items
+  pub servers : map server_link crew.pollers.items ≡ gear.servers.items
+  pub asked : map server_of crew.pollers.items ≡ station.servers
+  pub links : map link_of crew.responders.items ≡ gear.links.items
+  pub unserved : All (λ j. j.work.second ≡ None) crew.responders.items
+
+-- both phases were run, and this is what the workers left
+pub record CrewRan {L T B : Type 0} (stands : B → History → Type 0) (log_state : L → SourceState) (log_opening : L → ℕ) (state : T → LinkState) (opening : T → ℕ)
+    (limit during after : ℕ) (crew : Crew L T B) (left : Left L T) : Type 0 where
+  pub radios : List (RadioJob L B)
+  pub pollers : List (PollJob T)
+  pub responders : List (ServeJob T)
+  pub radio_count : length radios ≡ length crew.radios.items
+  pub poller_count : length pollers ≡ length crew.pollers.items
+  pub responder_count : length responders ≡ length crew.responders.items
+  pub radios_ran : Each (RadioRan stands log_state log_opening limit) crew.radios.items radios
+  pub pollers_ran : Each (PollRan state opening limit) crew.pollers.items pollers
+  pub served : Each (HasServedTwice state opening during after (map radio_pass radios ++ map poll_pass pollers)) crew.responders.items responders
+  pub logs : left.gear.logs.items ≡ map log_of radios
+  pub servers : left.gear.servers.items ≡ map server_link pollers
+  pub links : left.gear.links.items ≡ map link_of responders
+  pub log_works : left.radios.items ≡ map (λ j. j.work) radios
+  pub poll_works : left.servers.items ≡ map (λ j. j.work) pollers
+  pub link_works : left.links.items ≡ map (λ j. j.work) responders
+  pub feeds : left.feeds.items ≡ map radio_pass radios ++ map poll_pass pollers
+  pub readers : left.readers.items ≡ map serve_pass responders

@@ -1,0 +1,62 @@
+-- Scaffolding: what each worker does.
+use Rattle.std.specs.Prelude.{◌≡◌, ◌≢◌, ℕ, List, [], Option, Some, None}
+use Rattle.atomic_table.specs.Seated.{TableId}
+use Rattle.feed_link.specs.Told.{SourceState, LinkState}
+use Rattle.feed_workers.specs.Keeping.{IsOfFeed}
+use Rattle.feed_workers.specs.Logs.{RunsLog, most_of_a_log}
+use Rattle.feed_workers.specs.Polling.{RunsPolls}
+use Rattle.log_decoder.specs.Decoding.{HasDecoded, IsReady, feed_of}
+use Rattle.page_cell.specs.Passes.{Known, claim_of}
+use Rattle.radio_receiver.specs.Histories.{History}
+use Rattle.responder.specs.Serving.{IsSame, Serves}
+use Rattle.responder.specs.declared.served.End.TheVariants.{Count}
+use Rattle.responder.specs.declared.served.Served.{Served}
+use Rattle.station_crew.specs.declared.jobs.PollJob.{PollJob}
+use Rattle.station_crew.specs.declared.jobs.RadioJob.{RadioJob}
+use Rattle.station_crew.specs.declared.jobs.ServeJob.{ServeJob}
+use Rattle.tick_units.specs.declared.marks.Plan.{Plan}
+
+-- a radio's worker that decodes the log of its pass's feed, and has decoded nothing yet: what its receiver stands for is what it begins with
+pub record IsManned {L B : Type 0} (stands : B → History → Type 0) (least : B → ℕ) (receiver : B) (j : RadioJob L B) : Type 0 where
+  pub ready : IsReady least j.worker.decoder
+  pub feed : feed_of j.worker.decoder ≡ (claim_of j.worker.pass.view).number
+  pub start : (plan : Plan) (delay : ℕ) → stands receiver (record { plan = plan; delay = delay; reductions = [] })
+      → HasDecoded stands j.worker.decoder (claim_of j.worker.pass.view).number plan delay []
+
+-- a radio's worker with a pass of this cell, for one of so many sources
+pub record MayHear {L B : Type 0} (least : B → ℕ) (table : TableId) (sources : ℕ) (j : RadioJob L B) : Type 0 where
+  pub ready : IsReady least j.worker.decoder
+  pub pass : IsOfFeed table sources (feed_of j.worker.decoder) j.worker.pass
+  pub feed : feed_of j.worker.decoder ≡ (claim_of j.worker.pass.view).number
+
+-- a server's worker with a pass of this cell, for one of so many sources
+pub record MayPoll {T : Type 0} (table : TableId) (sources : ℕ) (j : PollJob T) : Type 0 where
+  pub pass : IsOfFeed table sources (claim_of j.worker.pass.view).number j.worker.pass
+
+-- a radio's worker has run
+pub record RadioRan {L B : Type 0} (stands : B → History → Type 0) (state : L → SourceState) (opening : L → ℕ) (limit : ℕ) (a b : RadioJob L B) : Type 0 where
+  pub log : opening b.worker.log ≡ opening a.worker.log
+  pub table : b.worker.pass.table ≡ a.worker.pass.table
+  pub feed : (claim_of b.worker.pass.view).number ≡ (claim_of a.worker.pass.view).number
+  pub runs : (plan : Plan) (delay : ℕ) → HasDecoded stands a.worker.decoder (claim_of a.worker.pass.view).number plan delay []
+      → RunsLog plan delay most_of_a_log (state a.worker.log) (state b.worker.log) (claim_of a.worker.pass.view) (claim_of b.worker.pass.view) limit b.work
+
+-- a server's worker has run
+pub record PollRan {T : Type 0} (state : T → LinkState) (opening : T → ℕ) (limit : ℕ) (a b : PollJob T) : Type 0 where
+  pub link : opening b.worker.link ≡ opening a.worker.link
+  pub table : b.worker.pass.table ≡ a.worker.pass.table
+  pub feed : (claim_of b.worker.pass.view).number ≡ (claim_of a.worker.pass.view).number
+  pub runs : RunsPolls a.worker.server a.worker.polls (state a.worker.link) (state b.worker.link) (claim_of a.worker.pass.view) (claim_of b.worker.pass.view) limit b.work
+
+-- a responder's first phase
+pub record HasServed {T : Type 0} (state : T → LinkState) (opening : T → ℕ) (budget : ℕ) (a b : ServeJob T) : Type 0 where
+  pub same : IsSame (opening a.responder.link) (opening b.responder.link) a.responder.pass b.responder.pass a.responder.number b.responder.number
+  pub serves : Serves (state a.responder.link) (state b.responder.link) a.responder.pass.view b.responder.pass.view budget b.work.first
+  pub second : b.work.second ≡ a.work.second
+
+-- a responder's second phase, where its first one made as many hearings as it was asked for
+pub record HasServedAgain {T : Type 0} (state : T → LinkState) (opening : T → ℕ) (budget : ℕ) (a b : ServeJob T) : Type 0 where
+  pub same : IsSame (opening a.responder.link) (opening b.responder.link) a.responder.pass b.responder.pass a.responder.number b.responder.number
+  pub first : b.work.first ≡ a.work.first
+  pub again : a.work.first.end ≡ Count → (served : Served) × (b.work.second ≡ Some served) × Serves (state a.responder.link) (state b.responder.link) a.responder.pass.view b.responder.pass.view budget served
+  pub not : a.work.first.end ≢ Count → (b.work.second ≡ a.work.second) × (b.responder.link ≡ a.responder.link) × (b.responder.pass ≡ a.responder.pass)

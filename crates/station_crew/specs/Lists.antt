@@ -1,0 +1,23 @@
+-- Scaffolding: lists side by side.
+use Rattle.std.specs.Prelude.{◌≡◌, ℕ, ◌<◌, List, [], ◌∷◌, ◌++◌, All, length, slice_index_or}
+
+-- each is so
+pub record Every {J : Type 0} (P : J → Type 0) (xs : List J) : Type 0 where
+  pub all : All P xs
+
+-- each went from its state before to its state now in this way
+pub record Each {J : Type 0} (ran : J → J → Type 0) (before now : List J) : Type 0 where
+  pub at : (i : ℕ) (d : J) → i < length before → ran (slice_index_or before i d) (slice_index_or now i d)
+
+-- two lists of one length, of which each two at one place belong together
+abbrev pub Pairs : {X Y : Type 0} → (X → Y → Type 0) → List X → List Y → Type 0
+Pairs belong [] [] = Unit {0}
+Pairs belong [] (y ∷ ys) = ⊥
+Pairs belong (x ∷ xs) [] = ⊥
+Pairs belong (x ∷ xs) (y ∷ ys) = belong x y × Pairs belong xs ys
+
+-- the same of a front of a list, of which the rest is still to come
+pub record PairsFront {X Y : Type 0} (belong : X → Y → Type 0) (all rest : List X) (ys : List Y) : Type 0 where
+  pub front : List X
+  pub is : front ++ rest ≡ all
+  pub pairs : Pairs belong front ys

@@ -1,0 +1,161 @@
+// All workers of a station, in both phases.
+ghost use Rattle.std.specs.Prelude.{◌≡◌, ◌≤◌, [], All, length, vec_capacity, vec_len};
+ghost use Rattle.station_crew.specs.Crews.{CrewRan, HasRoomFor, HasRoomToLeave};
+ghost use Rattle.station_crew.specs.Jobs.{HasServed, HasServedAgain, MayHear, MayPoll, PollRan, RadioRan};
+ghost use Rattle.station_crew.specs.Lists.{Each, Every, Pairs};
+ghost use Rattle.station_crew.specs.Telling.{WasTold};
+
+use crate::jobs::{PollJob, RadioJob, ServeJob};
+use crate::leaving::{leave_pollers, leave_radios, leave_responders};
+use crate::phases::{run_first, run_second};
+use crate::telling::tell_responders;
+use crate::work::{Budget, LinkWork};
+use feed_link::{Gate, Link, Source};
+use feed_workers::{LogWork, PollWork};
+use page_cell::{FeedPass, PageCell, ReadPass};
+use radio_receiver::{BoxedReceiver, Receiver};
+use station_gear::Gear;
+use std::sync::Wait;
+use std::thread::Threads;
+use verdict_journal::{Hub, HubName};
+
+/// The workers of a station, each in the station's order.
+#[derive(Drop)]
+pub struct Crew<L: Drop, T: Drop, B: Drop> {
+    pub radios: Vec<RadioJob<L, B>>,
+    pub pollers: Vec<PollJob<T>>,
+    pub responders: Vec<ServeJob<T>>,
+}
+
+/// What the workers leave, each in the station's order: logs and links, what was done, and the passes.
+#[derive(Drop)]
+pub struct Left<L: Drop, T: Drop> {
+    pub gear: Gear<L, T>,
+    pub radios: Vec<LogWork>,
+    pub servers: Vec<PollWork>,
+    pub links: Vec<LinkWork>,
+    pub feeds: Vec<FeedPass>,
+    pub readers: Vec<ReadPass>,
+}
+
+// The first phase of a crew.
+fn begin<
+    N: HubName + Send + Sync,
+    R: Threads + Wait + Sync,
+    L: Source + Drop,
+    T: Link + Drop,
+    G: Gate,
+>(rt: &R, hub: &Hub<N>, gate: &G, budget: u64, crew: &mut Crew<L, T, BoxedReceiver>)
+    requires radios { Every (λ j. MayHear (λ b. least_start b) N.table (length N.settings.sources) j) crew.old.radios.items }
+    requires pollers { Every (λ j. MayPoll N.table (length N.settings.sources) j) crew.old.pollers.items }
+    requires responders { Every (λ j. j.responder.pass.table ≡ N.table) crew.old.responders.items }
+    ensures radios { Each (RadioRan (λ b h. stands_for b h) L.state L.opening N.limit) crew.old.radios.items crew.new.radios.items }
+    ensures pollers { Each (PollRan T.state T.opening N.limit) crew.old.pollers.items crew.new.pollers.items }
+    ensures responders { Each (HasServed T.state T.opening budget) crew.old.responders.items crew.new.responders.items }
+    ensures counts { (vec_len crew.new.radios ≡ vec_len crew.old.radios) × (vec_len crew.new.pollers ≡ vec_len crew.old.pollers) × (vec_len crew.new.responders ≡ vec_len crew.old.responders) }
+{
+    let Crew {
+        radios,
+        pollers,
+        responders,
+    } = crew;
+    run_first(
+        rt,
+        hub,
+        gate,
+        budget,
+        radios.as_mut_slice(),
+        pollers.as_mut_slice(),
+        responders.as_mut_slice(),
+    );
+}
+
+// Each responder is told how much every feed has seen.
+fn tell_crew<T: Link + Drop>(
+    cell: &PageCell,
+    feeds: &mut Vec<FeedPass>,
+    jobs: Vec<ServeJob<T>>,
+    told: &mut Vec<ServeJob<T>>,
+)
+    requires feeds { All (λ f. f.table ≡ cell.now.table) feeds.old.items }
+    requires readers { All (λ j. j.responder.pass.table ≡ cell.now.table) jobs.items }
+    requires few { vec_len jobs ≤ 8 }
+    requires none { told.old.items ≡ [] }
+    requires room { vec_len jobs ≤ vec_capacity told.old }
+    ensures same { feeds.new.items ≡ feeds.old.items }
+    ensures told { Pairs (WasTold feeds.old.items) jobs.items told.new.items }
+{
+    tell_responders(cell, feeds.as_mut_slice(), jobs, told);
+}
+
+// The second phase of the responders.
+fn go_on<N: HubName + Send + Sync, R: Threads + Wait + Sync, T: Link + Drop, G: Gate>(
+    rt: &R,
+    hub: &Hub<N>,
+    gate: &G,
+    budget: u64,
+    jobs: &mut Vec<ServeJob<T>>,
+)
+    requires passes { All (λ j. j.responder.pass.table ≡ N.table) jobs.old.items }
+    ensures served { Each (HasServedAgain T.state T.opening budget) jobs.old.items jobs.new.items }
+    ensures count { vec_len jobs.new ≡ vec_len jobs.old }
+{
+    run_second(rt, hub, gate, budget, jobs.as_mut_slice());
+}
+
+/// Runs both phases: the feeds' workers beside the responders; then the responders are told how much every feed has seen, and those
+/// whose link goes on serve again. `told` has room for the responders of the second phase, `left` for all that is left.
+pub fn run_crew<
+    N: HubName + Send + Sync,
+    R: Threads + Wait + Sync,
+    L: Source + Drop,
+    T: Link + Drop,
+    G: Gate,
+>(
+    rt: &R,
+    hub: &Hub<N>,
+    gate: &G,
+    budget: Budget,
+    crew: Crew<L, T, BoxedReceiver>,
+    told: Vec<ServeJob<T>>,
+    left: Left<L, T>,
+) -> Left<L, T>
+    requires radios { Every (λ j. MayHear (λ b. least_start b) N.table (length N.settings.sources) j) crew.radios.items }
+    requires pollers { Every (λ j. MayPoll N.table (length N.settings.sources) j) crew.pollers.items }
+    requires responders { Every (λ j. j.responder.pass.table ≡ N.table) crew.responders.items }
+    requires few { vec_len crew.responders ≤ 8 }
+    requires told { (told.items ≡ []) × (vec_len crew.responders ≤ vec_capacity told) }
+    requires left { HasRoomToLeave (vec_len crew.radios) (vec_len crew.pollers) (vec_len crew.responders) left }
+    ensures { CrewRan (λ b h. stands_for b h) L.state L.opening T.state T.opening N.limit budget.during budget.after crew result }
+{
+    let mut crew = crew;
+    let mut told = told;
+    let mut left = left;
+    begin(rt, hub, gate, budget.during, &mut crew);
+    let Crew {
+        radios,
+        pollers,
+        responders,
+    } = crew;
+    leave_radios(
+        radios,
+        &mut left.gear.logs,
+        &mut left.radios,
+        &mut left.feeds,
+    );
+    leave_pollers(
+        pollers,
+        &mut left.gear.servers,
+        &mut left.servers,
+        &mut left.feeds,
+    );
+    tell_crew(hub.cell(), &mut left.feeds, responders, &mut told);
+    go_on(rt, hub, gate, budget.after, &mut told);
+    leave_responders(
+        told,
+        &mut left.gear.links,
+        &mut left.links,
+        &mut left.readers,
+    );
+    left
+}

@@ -1,0 +1,26 @@
+// Workers, and what each has done.
+
+use crate::work::LinkWork;
+use feed_workers::{LogWork, PollWork, PollWorker, WorkerOf};
+use responder::Responder;
+
+/// A radio's worker, and what it did.
+#[derive(Drop)]
+pub struct RadioJob<L: Drop, B: Drop> {
+    pub worker: WorkerOf<L, B>,
+    pub work: LogWork,
+}
+
+/// A server's worker, and what it did.
+#[derive(Drop)]
+pub struct PollJob<T: Drop> {
+    pub worker: PollWorker<T>,
+    pub work: PollWork,
+}
+
+/// A responder, and what it did in each phase.
+#[derive(Drop)]
+pub struct ServeJob<T: Drop> {
+    pub responder: Responder<T>,
+    pub work: LinkWork,
+}

@@ -1,0 +1,80 @@
+// What workers give back: logs and links, what they did, and their passes.
+ghost use Rattle.std.specs.Prelude.{◌≡◌, ◌≤◌, ◌+◌, ◌++◌, map, vec_capacity, vec_len};
+ghost use Rattle.station_crew.specs.Leaving.{link_of, log_of, poll_pass, radio_pass, serve_pass, server_link};
+
+use crate::jobs::{PollJob, RadioJob, ServeJob};
+use crate::work::LinkWork;
+use feed_link::{Link, Source};
+use feed_workers::{LogWork, PollWork};
+use page_cell::{FeedPass, ReadPass};
+use radio_receiver::BoxedReceiver;
+
+/// The radios' workers give back.
+pub fn leave_radios<L: Source + Drop>(
+    jobs: Vec<RadioJob<L, BoxedReceiver>>,
+    logs: &mut Vec<L>,
+    works: &mut Vec<LogWork>,
+    feeds: &mut Vec<FeedPass>,
+)
+    requires logs { vec_len logs.old + vec_len jobs ≤ vec_capacity logs.old }
+    requires works { vec_len works.old + vec_len jobs ≤ vec_capacity works.old }
+    requires feeds { vec_len feeds.old + vec_len jobs ≤ vec_capacity feeds.old }
+    ensures logs { logs.new.items ≡ logs.old.items ++ map log_of jobs.items }
+    ensures works { works.new.items ≡ works.old.items ++ map (λ j. j.work) jobs.items }
+    ensures feeds { feeds.new.items ≡ feeds.old.items ++ map radio_pass jobs.items }
+    ensures room { vec_capacity feeds.new ≡ vec_capacity feeds.old }
+{
+    for job in jobs {
+        let RadioJob { worker, work } = job;
+        let (log, pass) = worker.give_back();
+        logs.push_reserved(log);
+        works.push_reserved(work);
+        feeds.push_reserved(pass);
+    }
+}
+
+/// The servers' workers give back.
+pub fn leave_pollers<T: Link + Drop>(
+    jobs: Vec<PollJob<T>>,
+    links: &mut Vec<T>,
+    works: &mut Vec<PollWork>,
+    feeds: &mut Vec<FeedPass>,
+)
+    requires links { vec_len links.old + vec_len jobs ≤ vec_capacity links.old }
+    requires works { vec_len works.old + vec_len jobs ≤ vec_capacity works.old }
+    requires feeds { vec_len feeds.old + vec_len jobs ≤ vec_capacity feeds.old }
+    ensures links { links.new.items ≡ links.old.items ++ map server_link jobs.items }
+    ensures works { works.new.items ≡ works.old.items ++ map (λ j. j.work) jobs.items }
+    ensures feeds { feeds.new.items ≡ feeds.old.items ++ map poll_pass jobs.items }
+{
+    for job in jobs {
+        let PollJob { worker, work } = job;
+        let (link, pass) = worker.give_back();
+        links.push_reserved(link);
+        works.push_reserved(work);
+        feeds.push_reserved(pass);
+    }
+}
+
+/// The responders give back.
+pub fn leave_responders<T: Link + Drop>(
+    jobs: Vec<ServeJob<T>>,
+    links: &mut Vec<T>,
+    works: &mut Vec<LinkWork>,
+    readers: &mut Vec<ReadPass>,
+)
+    requires links { vec_len links.old + vec_len jobs ≤ vec_capacity links.old }
+    requires works { vec_len works.old + vec_len jobs ≤ vec_capacity works.old }
+    requires readers { vec_len readers.old + vec_len jobs ≤ vec_capacity readers.old }
+    ensures links { links.new.items ≡ links.old.items ++ map link_of jobs.items }
+    ensures works { works.new.items ≡ works.old.items ++ map (λ j. j.work) jobs.items }
+    ensures readers { readers.new.items ≡ readers.old.items ++ map serve_pass jobs.items }
+{
+    for job in jobs {
+        let ServeJob { responder, work } = job;
+        let (link, pass) = responder.give_back();
+        links.push_reserved(link);
+        works.push_reserved(work);
+        readers.push_reserved(pass);
+    }
+}

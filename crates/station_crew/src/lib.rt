@@ -1,0 +1,20 @@
+//! The crew of a station: the workers of its feeds beside the responders of its links, in two phases, over one shared page and one
+//! journal.
+#![tactic(auto)]
+
+mod crew;
+mod jobs;
+mod leaving;
+mod manning;
+mod named;
+mod phases;
+mod station;
+mod telling;
+mod work;
+
+pub use named::Ended;
+pub use station::serve_station;
+pub use work::{Budget, LinkWork};
+
+#[cfg(test)]
+mod tests;

@@ -1,0 +1,137 @@
+// Workers, each with a pass of the cell.
+ghost use Rattle.std.specs.Prelude.{◌≡◌, ◌≤◌, ◌<◌, ◌+◌, ◌++◌, [], All, None, drop, length, map, slice_get, vec_capacity, vec_len};
+ghost use Rattle.page_cell.specs.Passes.{claim_of};
+ghost use Rattle.station_config.specs.Station.{IsStation};
+ghost use Rattle.station_config.specs.KeptStation.{server_fields};
+ghost use Rattle.station_crew.specs.Jobs.{IsManned};
+ghost use Rattle.station_crew.specs.Leaving.{link_of, log_of, poll_pass, radio_pass, serve_pass, server_link, server_of};
+ghost use Rattle.station_crew.specs.Lists.{Pairs};
+
+use crate::jobs::{PollJob, RadioJob, ServeJob};
+use crate::work::LinkWork;
+use feed_link::{Link, Source};
+use feed_workers::{LogEnd, LogWork, PollEnd, PollWork, PollWorker, RadioWorker};
+use page_cell::{FeedPass, ReadPass};
+use radio_receiver::{BoxedReceiver, Receiver};
+use responder::{End, Responder, Served};
+use station_config::{ServerRow, Station};
+
+// What is put down of a worker that hasn't run yet.
+const UNREAD: LogWork = LogWork {
+    end: LogEnd::Whole,
+    full: false,
+};
+
+const UNASKED: PollWork = PollWork {
+    end: PollEnd::Rounds,
+    full: false,
+};
+
+const UNSERVED: Served = Served {
+    answered: 0,
+    dropped: 0,
+    again: 0,
+    end: End::Count,
+};
+
+// A radio's worker.
+fn man_radio<L: Source + Drop>(
+    receiver: BoxedReceiver,
+    log: L,
+    pass: FeedPass,
+) -> RadioJob<L, BoxedReceiver>
+    requires { least_start receiver ≡ 0 }
+    ensures is { (result.worker.log ≡ log) × (result.worker.pass ≡ pass) }
+    ensures manned { IsManned (λ b h. stands_for b h) (λ b. least_start b) receiver result }
+{
+    RadioJob {
+        worker: RadioWorker::new(receiver, log, pass),
+        work: UNREAD,
+    }
+}
+
+/// A worker for each radio, with its receiver, its log and the pass of its feed.
+pub fn man_radios<L: Source + Drop>(
+    receivers: Vec<BoxedReceiver>,
+    logs: Vec<L>,
+    feeds: &mut Vec<FeedPass>,
+    jobs: &mut Vec<RadioJob<L, BoxedReceiver>>,
+)
+    requires blank { All (λ b. least_start b ≡ 0) receivers.items }
+    requires receivers { vec_len receivers ≡ vec_len logs }
+    requires feeds { vec_len logs ≤ vec_len feeds.old }
+    requires none { jobs.old.items ≡ [] }
+    requires room { vec_len logs ≤ vec_capacity jobs.old }
+    ensures logs { map log_of jobs.new.items ≡ logs.items }
+    ensures feeds { map radio_pass jobs.new.items ++ feeds.new.items ≡ feeds.old.items }
+    ensures manned { Pairs (λ b j. IsManned (λ b h. stands_for b h) (λ b. least_start b) b j) receivers.items jobs.new.items }
+{
+    let mut receivers = receivers;
+    for log in logs {
+        let receiver = receivers.remove(0);
+        let pass = feeds.remove(0);
+        jobs.push_reserved(man_radio(receiver, log, pass));
+    }
+}
+
+// The server at a place.
+fn server_at(station: &Station, place: usize) -> ServerRow
+    requires { place < length station.now.servers }
+    ensures { slice_get station.now.servers place ≡ Some (server_fields result) }
+{
+    match station.server(place) {
+        Some(server) => server,
+        None => unreachable!(),
+    }
+}
+
+/// A worker for each server, with its link and the pass of its feed.
+pub fn man_pollers<T: Link + Drop>(
+    station: &Station,
+    links: Vec<T>,
+    feeds: &mut Vec<FeedPass>,
+    jobs: &mut Vec<PollJob<T>>,
+)
+    requires links { vec_len links ≡ length station.now.servers }
+    requires feeds { vec_len links ≤ vec_len feeds.old }
+    requires none { jobs.old.items ≡ [] }
+    requires room { vec_len links ≤ vec_capacity jobs.old }
+    ensures links { map server_link jobs.new.items ≡ links.items }
+    ensures servers { map server_of jobs.new.items ≡ station.now.servers }
+    ensures feeds { map poll_pass jobs.new.items ++ feeds.new.items ≡ feeds.old.items }
+{
+    for link in links {
+        let ServerRow { address, polls } = server_at(station, jobs.len());
+        jobs.push_reserved(PollJob {
+            worker: PollWorker::new(address, polls, link, feeds.remove(0)),
+            work: UNASKED,
+        });
+    }
+}
+
+/// A responder for each link that the station serves on, with the pass of a reader.
+pub fn man_responders<T: Link + Drop>(
+    links: Vec<T>,
+    readers: &mut Vec<ReadPass>,
+    jobs: &mut Vec<ServeJob<T>>,
+)
+    requires readers { vec_len links ≤ vec_len readers.old }
+    requires few { vec_len links ≤ 8 }
+    requires none { jobs.old.items ≡ [] }
+    requires room { vec_len links ≤ vec_capacity jobs.old }
+    ensures links { map link_of jobs.new.items ≡ links.items }
+    ensures readers { map serve_pass jobs.new.items ++ readers.new.items ≡ readers.old.items }
+    ensures none { All (λ j. j.work.second ≡ None) jobs.new.items }
+{
+    for link in links {
+        let number = jobs.len() as u32;
+        let pass = readers.remove(0);
+        jobs.push_reserved(ServeJob {
+            responder: Responder::new(link, pass, number),
+            work: LinkWork {
+                first: UNSERVED,
+                second: None,
+            },
+        });
+    }
+}

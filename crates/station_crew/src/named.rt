@@ -1,0 +1,182 @@
+// A station's hub under a name of its own, from its opening to its closing.
+ghost use Rattle.std.specs.Prelude.{◌≡◌, ◌<◌, ◌≤◌, ◌+◌, ◌++◌, [], All, IfErr, IfOk, length, map, vec_len};
+ghost use Rattle.std.specs.List.{range_with_len};
+ghost use Rattle.page_cell.specs.Passes.{claim_of, key_of};
+ghost use Rattle.page_cell.specs.Views.{new_claim};
+ghost use Rattle.station_config.specs.Station.{IsStation, settings_of};
+ghost use Rattle.station_crew.specs.Crews.{CrewManned, HasRoom, HasRoomFor, IsNewReader};
+ghost use Rattle.station_crew.specs.Leaving.{poll_pass, radio_pass, serve_pass};
+ghost use Rattle.station_gear.specs.Opens.{IsWhole};
+ghost use Rattle.station_crew.specs.Served.{AreBlank, IsJournalOf, LinksServed, RadiosServed, ServersServed};
+
+use crate::crew::{Crew, Left, run_crew};
+use crate::jobs::ServeJob;
+use crate::manning::{man_pollers, man_radios, man_responders};
+use crate::work::{Budget, LinkWork};
+use feed_link::{Gate, Link, Source};
+use feed_workers::{LogWork, PollWork};
+use page_cell::{CellParts, FeedPass, ReadPass};
+use radio_receiver::{BoxedReceiver, Receiver};
+use station_config::Station;
+use station_gear::Gear;
+use std::alloc::Global;
+use std::sync::Wait;
+use std::thread::Threads;
+use verdict_journal::{Hub, HubName, HubParts, Journal};
+
+/// What a station leaves: its journal, its logs and links, and what was done with each, in the station's order.
+#[derive(Drop)]
+pub struct Ended<L: Drop, T: Drop> {
+    pub journal: Journal,
+    pub gear: Gear<L, T>,
+    pub radios: Vec<LogWork>,
+    pub servers: Vec<PollWork>,
+    pub links: Vec<LinkWork>,
+}
+
+/// Room for the workers of a station, and for what they leave.
+#[derive(Drop)]
+pub struct Room<L: Drop, T: Drop, B: Drop> {
+    pub crew: Crew<L, T, B>,
+    pub told: Vec<ServeJob<T>>,
+    pub left: Left<L, T>,
+}
+
+// The passes of a cell.
+#[derive(Drop)]
+struct Passes {
+    feeds: Vec<FeedPass>,
+    readers: Vec<ReadPass>,
+}
+
+// The workers of a station, each with its pass.
+fn man_crew<L: Source + Drop, T: Link + Drop>(
+    station: &Station,
+    passes: Passes,
+    receivers: Vec<BoxedReceiver>,
+    gear: Gear<L, T>,
+    crew: Crew<L, T, BoxedReceiver>,
+) -> Crew<L, T, BoxedReceiver>
+    requires station { IsStation station.now }
+    requires blank { AreBlank (λ b h. stands_for b h) (λ b. least_start b) station.now.radios receivers.items }
+    requires gear { IsWhole station.now gear }
+    requires feeds { vec_len passes.feeds ≡ vec_len gear.logs + vec_len gear.servers }
+    requires readers { vec_len passes.readers ≡ vec_len gear.links }
+    requires room { HasRoomFor (vec_len gear.logs) (vec_len gear.servers) (vec_len gear.links) crew }
+    ensures manned { CrewManned (λ b h. stands_for b h) (λ b. least_start b) station.now receivers.items gear result }
+    ensures feeds { map radio_pass result.radios.items ++ map poll_pass result.pollers.items ≡ passes.feeds.items }
+    ensures readers { map serve_pass result.responders.items ≡ passes.readers.items }
+{
+    let Passes {
+        mut feeds,
+        mut readers,
+    } = passes;
+    let Gear {
+        logs,
+        servers,
+        links,
+    } = gear;
+    let mut crew = crew;
+    man_radios(receivers, logs, &mut feeds, &mut crew.radios);
+    man_pollers(station, servers, &mut feeds, &mut crew.pollers);
+    man_responders(links, &mut readers, &mut crew.responders);
+    crew
+}
+
+// Mans the station, runs both phases and closes the hub.
+fn run_hub<
+    N: HubName + Send + Sync,
+    R: Threads + Wait + Sync,
+    L: Source + Drop,
+    T: Link + Drop,
+    G: Gate,
+>(
+    rt: &R,
+    parts: HubParts<N>,
+    gate: &G,
+    station: &Station,
+    budget: Budget,
+    receivers: Vec<BoxedReceiver>,
+    gear: Gear<L, T>,
+    room: Room<L, T, BoxedReceiver>,
+) -> Ended<L, T>
+    requires station { IsStation station.now }
+    requires settings { settings_of station.now ≡ N.settings }
+    requires blank { AreBlank (λ b h. stands_for b h) (λ b. least_start b) station.now.radios receivers.items }
+    requires gear { IsWhole station.now gear }
+    requires claims { map (λ f. claim_of f.view) parts.feeds.items ≡ map new_claim (range_with_len 0 (length N.settings.sources)) }
+    requires feeds { All (λ f. f.table ≡ N.table) parts.feeds.items }
+    requires readers { All (IsNewReader N.table) parts.readers.items }
+    requires count { vec_len parts.readers ≡ vec_len gear.links }
+    requires room { HasRoom (vec_len gear.logs) (vec_len gear.servers) (vec_len gear.links) room }
+    ensures journal { IsJournalOf N.settings N.limit result.journal }
+    ensures radios { RadiosServed L.state L.opening station.now.radios N.limit result.journal.entries gear.logs.items result.gear.logs.items result.radios.items }
+    ensures servers { ServersServed T.state T.opening station.now.servers (length station.now.radios) N.limit result.journal.entries gear.servers.items result.gear.servers.items result.servers.items }
+    ensures links { LinksServed T.state T.opening N.settings result.journal.entries budget.during budget.after gear.links.items result.gear.links.items result.links.items }
+{
+    let HubParts {
+        hub,
+        feeds,
+        readers,
+    } = parts;
+    let Room { crew, told, left } = room;
+    let passes = Passes { feeds, readers };
+    let crew = man_crew(station, passes, receivers, gear, crew);
+    let Left {
+        gear,
+        radios,
+        servers,
+        links,
+        feeds,
+        readers,
+    } = run_crew(rt, &hub, gate, budget, crew, told, left);
+    Ended {
+        journal: hub.close(feeds, readers),
+        gear,
+        radios,
+        servers,
+        links,
+    }
+}
+
+/// Opens the hub of the name's cell and runs the station in it. Want of memory gives the gear back.
+pub fn run_named<
+    N: HubName + Send + Sync,
+    R: Threads + Wait + Sync,
+    L: Source + Drop,
+    T: Link + Drop,
+    G: Gate,
+>(
+    rt: &R,
+    alloc: Global,
+    gate: &G,
+    station: &Station,
+    limit: u32,
+    budget: Budget,
+    parts: CellParts,
+    receivers: Vec<BoxedReceiver>,
+    gear: Gear<L, T>,
+    room: Room<L, T, BoxedReceiver>,
+) -> Result<Ended<L, T>, Gear<L, T>>
+    requires cell { (parts.cell.table ≡ N.table) × (parts.baton.table ≡ N.table) }
+    requires settings { (key_of parts.baton.view ≡ settings_of station.now) × (settings_of station.now ≡ N.settings) }
+    requires fresh { parts.baton.view.list ≡ [] }
+    requires limit { (limit ≡ N.limit) × (0 < limit) × (limit ≤ 4194304) }
+    requires blank { AreBlank (λ b h. stands_for b h) (λ b. least_start b) station.now.radios receivers.items }
+    requires gear { IsWhole station.now gear }
+    requires claims { map (λ f. claim_of f.view) parts.feeds.items ≡ map new_claim (range_with_len 0 (length N.settings.sources)) }
+    requires feeds { All (λ f. f.table ≡ N.table) parts.feeds.items }
+    requires readers { All (IsNewReader N.table) parts.readers.items }
+    requires count { vec_len parts.readers ≡ vec_len gear.links }
+    requires room { HasRoom (vec_len gear.logs) (vec_len gear.servers) (vec_len gear.links) room }
+    ensures journal { IfOk result (λ e. IsJournalOf (settings_of station.now) limit e.journal) }
+    ensures radios { IfOk result (λ e. RadiosServed L.state L.opening station.now.radios limit e.journal.entries gear.logs.items e.gear.logs.items e.radios.items) }
+    ensures servers { IfOk result (λ e. ServersServed T.state T.opening station.now.servers (length station.now.radios) limit e.journal.entries gear.servers.items e.gear.servers.items e.servers.items) }
+    ensures links { IfOk result (λ e. LinksServed T.state T.opening (settings_of station.now) e.journal.entries budget.during budget.after gear.links.items e.gear.links.items e.links.items) }
+    ensures memory { IfErr result (λ g. g ≡ gear) }
+{
+    match Hub::<N>::open(alloc, parts, station.settings(), limit) {
+        Ok(parts) => Ok(run_hub(rt, parts, gate, station, budget, receivers, gear, room)),
+        Err(_) => Err(gear),
+    }
+}

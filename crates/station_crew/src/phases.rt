@@ -1,0 +1,225 @@
+// The workers side by side.
+ghost use Rattle.std.specs.Prelude.{◌≡◌, All, length};
+ghost use Rattle.station_crew.specs.Jobs.{HasServed, HasServedAgain, MayHear, MayPoll, PollRan, RadioRan};
+ghost use Rattle.station_crew.specs.Lists.{Each, Every};
+
+use crate::jobs::{PollJob, RadioJob, ServeJob};
+use feed_link::{Gate, Link, Source};
+use radio_receiver::{BoxedReceiver, Receiver};
+use responder::End;
+use std::sync::Wait;
+use std::thread;
+use std::thread::{Threads, join_mut};
+use verdict_journal::{Hub, HubName};
+
+// The most feeds of a station, and the most links that it serves on.
+const FEEDS: usize = 16;
+
+const LINKS: usize = 8;
+
+fn run_radio<N: HubName, R: Wait, L: Source + Drop, G: Gate>(
+    rt: &R,
+    hub: &Hub<N>,
+    gate: &G,
+    radio: &mut RadioJob<L, BoxedReceiver>,
+)
+    requires { MayHear (λ b. least_start b) N.table (length N.settings.sources) radio.old }
+    ensures { RadioRan (λ b h. stands_for b h) L.state L.opening N.limit radio.old radio.new }
+{
+    radio.work = radio.worker.run(rt, hub, gate);
+}
+
+fn run_radios<N: HubName + Send + Sync, R: Threads + Wait + Sync, L: Source + Drop, G: Gate>(
+    rt: &R,
+    hub: &Hub<N>,
+    gate: &G,
+    jobs: &mut [RadioJob<L, BoxedReceiver>],
+)
+    requires { All (λ j. MayHear (λ b. least_start b) N.table (length N.settings.sources) j) jobs.old }
+    ensures { Each (RadioRan (λ b h. stands_for b h) L.state L.opening N.limit) jobs.old jobs.new }
+{
+    thread::for_each_mut(
+        rt,
+        jobs,
+        FEEDS,
+        &|_i: usize, job: &mut RadioJob<L, BoxedReceiver>|
+            requires { MayHear (λ b. least_start b) N.table (length N.settings.sources) job.old }
+            ensures { RadioRan (λ b h. stands_for b h) L.state L.opening N.limit job.old job.new }
+        { run_radio(rt, hub, gate, job) },
+    );
+}
+
+fn run_poller<N: HubName, R: Wait, T: Link + Drop, G: Gate>(
+    rt: &R,
+    hub: &Hub<N>,
+    gate: &G,
+    poller: &mut PollJob<T>,
+)
+    requires { MayPoll N.table (length N.settings.sources) poller.old }
+    ensures { PollRan T.state T.opening N.limit poller.old poller.new }
+{
+    poller.work = poller.worker.run(rt, hub, gate);
+}
+
+fn run_pollers<N: HubName + Send + Sync, R: Threads + Wait + Sync, T: Link + Drop, G: Gate>(
+    rt: &R,
+    hub: &Hub<N>,
+    gate: &G,
+    jobs: &mut [PollJob<T>],
+)
+    requires { All (λ j. MayPoll N.table (length N.settings.sources) j) jobs.old }
+    ensures { Each (PollRan T.state T.opening N.limit) jobs.old jobs.new }
+{
+    thread::for_each_mut(
+        rt,
+        jobs,
+        FEEDS,
+        &|_i: usize, job: &mut PollJob<T>|
+            requires { MayPoll N.table (length N.settings.sources) job.old }
+            ensures { PollRan T.state T.opening N.limit job.old job.new }
+        { run_poller(rt, hub, gate, job) },
+    );
+}
+
+fn run_responder<N: HubName, R: Wait, T: Link + Drop, G: Gate>(
+    rt: &R,
+    hub: &Hub<N>,
+    gate: &G,
+    budget: u64,
+    job: &mut ServeJob<T>,
+)
+    requires { job.old.responder.pass.table ≡ N.table }
+    ensures { HasServed T.state T.opening budget job.old job.new }
+{
+    job.work.first = job.responder.serve(rt, hub.cell(), gate, budget);
+}
+
+// The responders side by side, for so many hearings each.
+fn run_responders<N: HubName + Send + Sync, R: Threads + Wait + Sync, T: Link + Drop, G: Gate>(
+    rt: &R,
+    hub: &Hub<N>,
+    gate: &G,
+    budget: u64,
+    jobs: &mut [ServeJob<T>],
+)
+    requires { All (λ j. j.responder.pass.table ≡ N.table) jobs.old }
+    ensures { Each (HasServed T.state T.opening budget) jobs.old jobs.new }
+{
+    thread::for_each_mut(
+        rt,
+        jobs,
+        LINKS,
+        &|_i: usize, job: &mut ServeJob<T>|
+            requires { job.old.responder.pass.table ≡ N.table }
+            ensures { HasServed T.state T.opening budget job.old job.new }
+        { run_responder(rt, hub, gate, budget, job) },
+    );
+}
+
+// A responder serves again where its link goes on.
+fn serve_again<N: HubName, R: Wait, T: Link + Drop, G: Gate>(
+    rt: &R,
+    hub: &Hub<N>,
+    gate: &G,
+    budget: u64,
+    job: &mut ServeJob<T>,
+)
+    requires { job.old.responder.pass.table ≡ N.table }
+    ensures { HasServedAgain T.state T.opening budget job.old job.new }
+{
+    if let End::Count = job.work.first.end {
+        job.work.second = Some(job.responder.serve(rt, hub.cell(), gate, budget));
+    }
+}
+
+/// The second phase: those responders whose link goes on, for so many hearings more.
+pub fn run_second<N: HubName + Send + Sync, R: Threads + Wait + Sync, T: Link + Drop, G: Gate>(
+    rt: &R,
+    hub: &Hub<N>,
+    gate: &G,
+    budget: u64,
+    jobs: &mut [ServeJob<T>],
+)
+    requires { All (λ j. j.responder.pass.table ≡ N.table) jobs.old }
+    ensures { Each (HasServedAgain T.state T.opening budget) jobs.old jobs.new }
+{
+    thread::for_each_mut(
+        rt,
+        jobs,
+        LINKS,
+        &|_i: usize, job: &mut ServeJob<T>|
+            requires { job.old.responder.pass.table ≡ N.table }
+            ensures { HasServedAgain T.state T.opening budget job.old job.new }
+        { serve_again(rt, hub, gate, budget, job) },
+    );
+}
+
+// The feeds' workers side by side.
+fn run_feeds<
+    N: HubName + Send + Sync,
+    R: Threads + Wait + Sync,
+    L: Source + Drop,
+    T: Link + Drop,
+    G: Gate,
+>(
+    rt: &R,
+    hub: &Hub<N>,
+    gate: &G,
+    radios: &mut [RadioJob<L, BoxedReceiver>],
+    pollers: &mut [PollJob<T>],
+)
+    requires radios { Every (λ j. MayHear (λ b. least_start b) N.table (length N.settings.sources) j) radios.old }
+    requires pollers { Every (λ j. MayPoll N.table (length N.settings.sources) j) pollers.old }
+    ensures radios { Each (RadioRan (λ b h. stands_for b h) L.state L.opening N.limit) radios.old radios.new }
+    ensures pollers { Each (PollRan T.state T.opening N.limit) pollers.old pollers.new }
+{
+    join_mut(
+        rt,
+        &mut ||
+            requires { Every (λ j. MayHear (λ b. least_start b) N.table (length N.settings.sources) j) radios.now }
+            ensures { Each (RadioRan (λ b h. stands_for b h) L.state L.opening N.limit) radios.entry.now radios.exit.now }
+        { run_radios(rt, hub, gate, radios) },
+        &mut ||
+            requires { Every (λ j. MayPoll N.table (length N.settings.sources) j) pollers.now }
+            ensures { Each (PollRan T.state T.opening N.limit) pollers.entry.now pollers.exit.now }
+        { run_pollers(rt, hub, gate, pollers) },
+    );
+}
+
+/// The first phase: the feeds' workers beside the responders.
+pub fn run_first<
+    N: HubName + Send + Sync,
+    R: Threads + Wait + Sync,
+    L: Source + Drop,
+    T: Link + Drop,
+    G: Gate,
+>(
+    rt: &R,
+    hub: &Hub<N>,
+    gate: &G,
+    budget: u64,
+    radios: &mut [RadioJob<L, BoxedReceiver>],
+    pollers: &mut [PollJob<T>],
+    responders: &mut [ServeJob<T>],
+)
+    requires radios { Every (λ j. MayHear (λ b. least_start b) N.table (length N.settings.sources) j) radios.old }
+    requires pollers { Every (λ j. MayPoll N.table (length N.settings.sources) j) pollers.old }
+    requires responders { Every (λ j. j.responder.pass.table ≡ N.table) responders.old }
+    ensures radios { Each (RadioRan (λ b h. stands_for b h) L.state L.opening N.limit) radios.old radios.new }
+    ensures pollers { Each (PollRan T.state T.opening N.limit) pollers.old pollers.new }
+    ensures responders { Each (HasServed T.state T.opening budget) responders.old responders.new }
+{
+    join_mut(
+        rt,
+        &mut ||
+            requires radios { Every (λ j. MayHear (λ b. least_start b) N.table (length N.settings.sources) j) radios.now }
+            requires pollers { Every (λ j. MayPoll N.table (length N.settings.sources) j) pollers.now }
+            ensures radios { Each (RadioRan (λ b h. stands_for b h) L.state L.opening N.limit) radios.entry.now radios.exit.now }
+            ensures pollers { Each (PollRan T.state T.opening N.limit) pollers.entry.now pollers.exit.now }
+        { run_feeds(rt, hub, gate, radios, pollers) },
+        &mut ||
+            requires { Every (λ j. j.responder.pass.table ≡ N.table) responders.now }
+            ensures { Each (HasServed T.state T.opening budget) responders.entry.now responders.exit.now }
+        { run_responders(rt, hub, gate, budget, responders) },
+    );
+}

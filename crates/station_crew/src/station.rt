@@ -1,0 +1,122 @@
+//! A station whose logs and links are open is served.
+ghost use Rattle.std.specs.Prelude.{◌≡◌, ◌<◌, ◌≤◌, ◌^◌, ◌+◌, IfErr, IfOk, length};
+ghost use Rattle.station_config.specs.Station.{settings_of};
+ghost use Rattle.station_crew.specs.Crews.{HasRoom, HasRoomFor, HasRoomForGear, HasRoomToLeave};
+ghost use Rattle.station_gear.specs.Opens.{IsWhole};
+ghost use Rattle.station_crew.specs.Served.{AreBlank, IsJournalOf, LinksServed, RadiosServed, ServersServed};
+
+use crate::crew::{Crew, Left};
+use crate::named::{Ended, Room, run_named};
+use crate::work::Budget;
+use feed_link::{Gate, Link, Source};
+use page_cell::PageCell;
+use radio_receiver::{BoxedReceiver, Receiver};
+use station_config::Station;
+use station_gear::Gear;
+use std::alloc::{AllocError, Global};
+use std::marker::Brand;
+use std::sync::Wait;
+use std::thread::Threads;
+
+// How many radios, servers and links a station has.
+#[derive(Clone, Copy)]
+struct Counts {
+    radios: usize,
+    servers: usize,
+    links: usize,
+}
+
+// Room for the workers.
+fn make_crew<L: Drop, T: Drop, B: Drop>(
+    alloc: Global,
+    counts: Counts,
+) -> Result<Crew<L, T, B>, AllocError>
+    ensures { IfOk result (HasRoomFor counts.radios counts.servers counts.links) }
+{
+    Ok(Crew {
+        radios: Vec::with_capacity(alloc, counts.radios)?,
+        pollers: Vec::with_capacity(alloc, counts.servers)?,
+        responders: Vec::with_capacity(alloc, counts.links)?,
+    })
+}
+
+// Room for logs and links.
+fn make_gear<L: Drop, T: Drop>(alloc: Global, counts: Counts) -> Result<Gear<L, T>, AllocError>
+    ensures { IfOk result (HasRoomForGear counts.radios counts.servers counts.links) }
+{
+    Ok(Gear {
+        logs: Vec::with_capacity(alloc, counts.radios)?,
+        servers: Vec::with_capacity(alloc, counts.servers)?,
+        links: Vec::with_capacity(alloc, counts.links)?,
+    })
+}
+
+// Room for what the workers leave.
+fn make_left<L: Drop, T: Drop>(alloc: Global, counts: Counts) -> Result<Left<L, T>, AllocError>
+    requires { counts.radios + counts.servers < 2 ^ 63 }
+    ensures { IfOk result (HasRoomToLeave counts.radios counts.servers counts.links) }
+{
+    Ok(Left {
+        gear: make_gear(alloc, counts)?,
+        radios: Vec::with_capacity(alloc, counts.radios)?,
+        servers: Vec::with_capacity(alloc, counts.servers)?,
+        links: Vec::with_capacity(alloc, counts.links)?,
+        feeds: Vec::with_capacity(alloc, counts.radios + counts.servers)?,
+        readers: Vec::with_capacity(alloc, counts.links)?,
+    })
+}
+
+// Room for all.
+fn make_room<L: Drop, T: Drop, B: Drop>(
+    alloc: Global,
+    counts: Counts,
+) -> Result<Room<L, T, B>, AllocError>
+    requires { counts.radios + counts.servers < 2 ^ 63 }
+    ensures { IfOk result (HasRoom counts.radios counts.servers counts.links) }
+{
+    Ok(Room {
+        crew: make_crew(alloc, counts)?,
+        told: Vec::with_capacity(alloc, counts.links)?,
+        left: make_left(alloc, counts)?,
+    })
+}
+
+/// Serves a station. In the first phase its radios' logs are read and its servers are polled into one journal of at most `limit` entries,
+/// 1 to 4194304, while the clients of its links are answered from the page of the journal so far, for `budget.during` hearings a link. In the
+/// second phase those links that go on are served for `budget.after` hearings more, from the page of the whole journal. The receivers are
+/// those of the radios, in order, and have heard nothing. All memory is taken before any log or link is used; where there isn't enough, the
+/// gear comes back as it was.
+pub fn serve_station<R: Threads + Wait + Sync, L: Source + Drop, T: Link + Drop, G: Gate>(
+    rt: &R,
+    alloc: Global,
+    gate: &G,
+    station: &Station,
+    limit: u32,
+    budget: Budget,
+    receivers: Vec<BoxedReceiver>,
+    gear: Gear<L, T>,
+) -> Result<Ended<L, T>, Gear<L, T>>
+    requires limit { (0 < limit) × (limit ≤ 4194304) }
+    requires blank { AreBlank (λ b h. stands_for b h) (λ b. least_start b) station.now.radios receivers.items }
+    requires gear { IsWhole station.now gear }
+    ensures journal { IfOk result (λ e. IsJournalOf (settings_of station.now) limit e.journal) }
+    ensures radios { IfOk result (λ e. RadiosServed L.state L.opening station.now.radios limit e.journal.entries gear.logs.items e.gear.logs.items e.radios.items) }
+    ensures servers { IfOk result (λ e. ServersServed T.state T.opening station.now.servers (length station.now.radios) limit e.journal.entries gear.servers.items e.gear.servers.items e.servers.items) }
+    ensures links { IfOk result (λ e. LinksServed T.state T.opening (settings_of station.now) e.journal.entries budget.during budget.after gear.links.items e.gear.links.items e.links.items) }
+    ensures memory { IfErr result (λ g. g ≡ gear) }
+{
+    let counts = Counts {
+        radios: station.radios(),
+        servers: station.servers(),
+        links: station.links(),
+    };
+    let Ok(room) = make_room(alloc, counts) else {
+        return Err(gear);
+    };
+    let Ok(parts) = PageCell::open(alloc, station.settings(), counts.links as u32) else {
+        return Err(gear);
+    };
+    run_named::<Brand, R, L, T, G>(
+        rt, alloc, gate, station, limit, budget, parts, receivers, gear, room,
+    )
+}

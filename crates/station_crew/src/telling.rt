@@ -1,0 +1,78 @@
+// Between the phases: each responder is told how much every feed has seen.
+ghost use Rattle.std.specs.Prelude.{◌≡◌, ◌≤◌, ◌+◌, [], All, length, vec_capacity, vec_len};
+ghost use Rattle.page_cell.specs.Passes.{claim_of};
+ghost use Rattle.station_crew.specs.Lists.{Pairs};
+ghost use Rattle.station_crew.specs.Telling.{HasLearnt, HasSeenAll, WasTold};
+
+use crate::jobs::ServeJob;
+use feed_link::Link;
+use page_cell::{FeedPass, PageCell, ReadPass};
+use responder::Responder;
+
+// The reader's pass learns a receipt of the feed's.
+fn tell(cell: &PageCell, feed: &mut FeedPass, reader: &mut ReadPass)
+    requires feed { feed.old.table ≡ cell.now.table }
+    requires reader { reader.old.table ≡ cell.now.table }
+    ensures same { feed.new ≡ feed.old }
+    ensures learnt { HasLearnt reader.old reader.new }
+    ensures seen { length (claim_of feed.old.view).seen ≤ reader.new.view.seen }
+{
+    let receipt = cell.receipt(feed);
+    cell.learn(reader, receipt);
+}
+
+// The reader's pass learns a receipt of every feed's.
+fn tell_all(cell: &PageCell, feeds: &mut [FeedPass], reader: &mut ReadPass)
+    requires feeds { All (λ f. f.table ≡ cell.now.table) feeds.old }
+    requires reader { reader.old.table ≡ cell.now.table }
+    ensures same { feeds.new ≡ feeds.old }
+    ensures learnt { HasLearnt reader.old reader.new }
+    ensures seen { HasSeenAll feeds.old reader.new }
+{
+    for i in 0..feeds.len() {
+        tell(cell, &mut feeds[i], reader);
+    }
+}
+
+// A responder of the second phase, which has seen as much as every feed.
+fn tell_responder<T: Link + Drop>(
+    cell: &PageCell,
+    feeds: &mut [FeedPass],
+    job: ServeJob<T>,
+    number: u32,
+) -> ServeJob<T>
+    requires feeds { All (λ f. f.table ≡ cell.now.table) feeds.old }
+    requires reader { job.responder.pass.table ≡ cell.now.table }
+    requires number { number + 1 ≤ 8 }
+    ensures same { feeds.new ≡ feeds.old }
+    ensures told { WasTold feeds.old job result }
+{
+    let ServeJob { responder, work } = job;
+    let (link, mut pass) = responder.give_back();
+    tell_all(cell, feeds, &mut pass);
+    ServeJob {
+        responder: Responder::new(link, pass, number),
+        work,
+    }
+}
+
+/// The responders of the second phase, each of which has seen as much as every feed.
+pub fn tell_responders<T: Link + Drop>(
+    cell: &PageCell,
+    feeds: &mut [FeedPass],
+    jobs: Vec<ServeJob<T>>,
+    told: &mut Vec<ServeJob<T>>,
+)
+    requires feeds { All (λ f. f.table ≡ cell.now.table) feeds.old }
+    requires readers { All (λ j. j.responder.pass.table ≡ cell.now.table) jobs.items }
+    requires few { vec_len jobs ≤ 8 }
+    requires none { told.old.items ≡ [] }
+    requires room { vec_len jobs ≤ vec_capacity told.old }
+    ensures same { feeds.new ≡ feeds.old }
+    ensures told { Pairs (WasTold feeds.old) jobs.items told.new.items }
+{
+    for job in jobs {
+        let number = told.len() as u32;
+        told.push_reserved(tell_responder(cell, feeds, job, number));
+    }
+}
