@@ -1,2 +1,1 @@
--- Lemmas that several proofs of this crate use.
-pub mod EmptyRack
+-- The proofs of this crate need no lemmas of their own.

@@ -116,7 +116,7 @@ serves_link {T = T} state opening s j during after feeds a b unseen unread untor
     gone second q ends =
         let whole : b.responder.pass.view.readings ≡ map kept (flat_map readings_of (first ++ second)) = q.readings ∙ ap (λ l. l ++ map kept (flat_map readings_of second)) readings_told ∙ sym (map-append kept (flat_map readings_of first) (flat_map readings_of second)) ∙ ap (λ l. map kept l) (sym (flat_map-append readings_of first second)) in
         let pages = reads_of s j (flat_map readings_of (first ++ second)) (subst (All (IsReading s j)) whole h.readings)
-            (subst (All IsRead) (sym (flat_map-append readings_of first second)) (All-append IsRead (flat_map readings_of first) (flat_map readings_of second) p.pages q.pages)) in
+        (subst (All IsRead) (sym (flat_map-append readings_of first second)) (All-append IsRead (flat_map readings_of first) (flat_map readings_of second) p.pages q.pages)) in
         let gap = rises_gap 0 _ v.seen _ (flat_map readings_of first) (flat_map readings_of second) rises t.learnt.learnt.seen q.rising in
         let back = all_right (IsReadOf s j) (flat_map readings_of first) (flat_map readings_of second) (subst (All (IsReadOf s j)) (flat_map-append readings_of first second) pages) in
         let great = h.tally.1 in
