@@ -292,7 +292,7 @@ fn a_link_is_answered_in_both_phases(rt: HostRuntime) -> Result<(), Fail> {
         second: Some(counts(1, End::Count)),
     };
     assert_eq!(rt; ended.links.get(0).copied(), Some(work));
-    let link = ended.gear.links.get(0).unwrap();
+    let link = ended.gear.links.get(0).ok_or("no link")?;
     let init = *b"INIT";
     let dcf = [0x44, 0x43, 0x46, 0x00];
     let second = [0xed, 0x00, 0xe1, 0x6d];
@@ -317,7 +317,7 @@ fn the_first_phase_answers_from_the_journal_so_far(rt: HostRuntime) -> Result<()
     };
     let gate = HoldGate::new(100, 2, 0, 4, 6, 1_000_000_000);
     let ended = serve(&rt, alloc, &gate, text.as_str(), 9, budget, gear)?;
-    let link = ended.gear.links.get(0).unwrap();
+    let link = ended.gear.links.get(0).ok_or("no link")?;
     let dcf = [0x44, 0x43, 0x46, 0x00];
     let second = [0xed, 0x00, 0xe1, 0x6d];
     assert_eq!(rt; reply(link, 0), Some((0x24, 1, dcf, second)));
@@ -390,11 +390,9 @@ fn a_link_that_ends_has_no_second_phase(rt: HostRuntime) -> Result<(), Fail> {
     };
     assert_eq!(rt; ended.links.get(0).copied(), Some(one));
     assert_eq!(rt; ended.links.get(1).copied(), Some(two));
-    let events = (
-        ended.gear.links.get(0).unwrap().count(),
-        ended.gear.links.get(1).unwrap().count(),
-    );
-    assert_eq!(rt; events, (4, 10));
+    let first = ended.gear.links.get(0).ok_or("no link")?;
+    let second = ended.gear.links.get(1).ok_or("no link")?;
+    assert_eq!(rt; (first.count(), second.count()), (4, 10));
     Ok(())
 }
 

@@ -9,4 +9,4 @@ use Rattle.station_crew.proofs.tests.serve.Goals as goal
 pub serve_with-requires-clause-stands : goal.serve_with-requires-clause-stands
 serve_with-requires-clause-stands g c κs within =
     let same = read_made own-1 _ (inl tt) refl (History → Type 0) (λ j y h. j.1.stands_for y h) _ _ _ c.into_dyn_box.ensures.1 in
-    subst (λ (P : History → Type 0). P (blank_of Dcf)) (sym same) (subst (λ v. (own-1.entry (inl tt)).1.stands_for v (blank_of Dcf)) (sym c.in_ok-new.ensures.ok) c.new.ensures.stands)
+    subst (λ (P : History → Type 0). P (blank_of Dcf)) (sym same) (subst (λ v. (own-1.entry (inl tt)).1.stands_for v (blank_of Dcf)) (sym c.in_ok-receiver.ensures.ok) c.new.ensures.stands)
