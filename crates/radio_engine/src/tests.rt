@@ -3,6 +3,7 @@
 use super::*;
 use feed_link::{FakeOpen, MemoryOutside, MemorySink, MemorySource, NamedLog, OpenGate};
 use radio_receiver::{DcfReceiver, MsfReceiver, WwvbReceiver};
+use receiver_rack::put_in_rack;
 use script_player::BoxedReceiver;
 use std::alloc::{AllocError, Global};
 use std::process::Abort;
