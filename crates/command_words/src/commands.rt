@@ -16,6 +16,14 @@ pub enum Command<'a> {
         script: &'a str,
         limit: u32,
     },
+    /// `serve`: a station is to be served, with at most `limit` entries (1 to 4194304). Each serving link has `during` hearings beside the
+    /// feeds, and `after` hearings behind them (0 to 1000000 each).
+    Serve {
+        station: &'a str,
+        during: u64,
+        after: u64,
+        limit: u32,
+    },
     /// `migrate`: a journal of a station is to be written anew, in the second form of its lines.
     Migrate {
         station: &'a str,

@@ -7,7 +7,9 @@ use clap::{Arg, ArgAction, Command};
 use std::alloc::{AllocError, Global};
 
 // The options of all commands.
-pub const OPTIONS: [&str; 6] = ["plan", "log", "station", "script", "journal", "limit"];
+pub const OPTIONS: [&str; 8] = [
+    "plan", "log", "station", "script", "journal", "during", "after", "limit",
+];
 
 fn option<'a>(alloc: Global, name: &'a str) -> Arg<'a>
     ensures rule { rule_of result ≡ option_rule name.entry.now }

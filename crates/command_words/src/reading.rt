@@ -1,6 +1,6 @@
 //! Reads the words of a command line.
 ghost use Rattle.std.specs.Prelude.{◌≡◌, map, IfOk, IfErr};
-ghost use Rattle.command_words.specs.Commands.{Asked, asked, AskFor};
+ghost use Rattle.command_words.specs.Commands.{Asked, asked, AskFor, HasLimit};
 
 use crate::commands::{Command, WordsFault};
 use crate::grammar::grammar;
@@ -13,6 +13,7 @@ use std::alloc::Global;
 /// Fails with `Usage` exactly where the words ask for no command, and with `Memory` where memory runs out.
 pub fn read_words<'a>(alloc: Global, words: &'a [&'a str]) -> Result<Command<'a>, WordsFault>
     ensures asked { IfOk result (λ c. AskFor (map (λ w. w.now) words.entry.now) (asked c)) }
+    ensures limits { IfOk result HasLimit }
     ensures only { (a : Asked) → AskFor (map (λ w. w.now) words.entry.now) a → IfOk result (λ c. asked c ≡ a) }
 
     // Words that are refused for themselves are nobody's.

@@ -1,11 +1,11 @@
 //! The values of a command's options.
-ghost use Rattle.std.specs.Prelude.{◌≡◌, ℕ, IfSome, Some, map, option_map, codes, List};
+ghost use Rattle.std.specs.Prelude.{◌≡◌, ◌<◌, ◌≤◌, ◌^◌, ℕ, IfSome, Some, map, option_map, codes, List};
 ghost use Rattle.std.specs.List.{list_all, list_any};
 ghost use Rattle.std.specs.Str.{bytes_eq};
 ghost use Rattle.clap.specs.Words.{first_of, rows_of, found_of};
 ghost use Rattle.tick_units.specs.declared.marks.Plan.{Plan};
 ghost use Rattle.command_words.specs.CommandLine.{is_value};
-ghost use Rattle.command_words.specs.Commands.{Asked, asked, name_of, IsLimit, decode, migrate, replay};
+ghost use Rattle.command_words.specs.Commands.{Asked, asked, name_of, HasLimit, IsHearings, IsLimit, IsNumber, decode, migrate, replay, serve};
 ghost use Rattle.command_words.specs.Matches.{text_of, may_have, has_only, Fit, AreFor};
 
 use crate::commands::Command;
@@ -19,12 +19,21 @@ const DECODE: [&str; 2] = ["plan", "log"];
 
 const REPLAY: [&str; 3] = ["station", "script", "limit"];
 
+const SERVE: [&str; 4] = ["station", "during", "after", "limit"];
+
 const MIGRATE: [&str; 2] = ["station", "journal"];
 
 // Entries of a journal.
-const LIMIT: u32 = 1_048_576;
+const LIMIT: u64 = 1_048_576;
 
 const MOST: u64 = 4_194_304;
+
+// Hearings of a link.
+const DURING: u64 = 16;
+
+const AFTER: u64 = 0;
+
+const MOST_HEARINGS: u64 = 1_000_000;
 
 // The value that was read under a name.
 fn value<'a>(matches: &ArgMatches<'a>, name: &str) -> Option<&'a str>
@@ -74,24 +83,39 @@ fn has_only(matches: &ArgMatches<'_>, row: &[&str]) -> bool
     may_all_have(matches, row, &OPTIONS)
 }
 
+// A number from `least` to `most`; or the default, where none is given.
+fn number(given: Option<&str>, default: u64, least: u64, most: u64) -> Option<u64>
+    requires { most < 2 ^ 60 }
+    ensures said { IfSome result (λ n. IsNumber default least most (text_of given.entry) n) }
+    ensures every { (n : ℕ) → IsNumber default least most (text_of given.entry) n → result ≡ Some n }
+{
+    let Some(text) = given else {
+        return Some(default);
+    };
+    let number = whole_number(text.as_bytes(), most)?;
+    if least <= number { Some(number) } else { None }
+}
+
 fn limit(given: Option<&str>) -> Option<u32>
     ensures said { IfSome result (λ n. IsLimit (text_of given.entry) n) }
     ensures every { (n : ℕ) → IsLimit (text_of given.entry) n → result ≡ Some n }
+    ensures within { IfSome result (λ n. (0 < n) × (n ≤ 4194304)) }
 {
-    let Some(text) = given else {
-        return Some(LIMIT);
-    };
-    let entries = whole_number(text.as_bytes(), MOST)?;
-    if 1 <= entries {
-        Some(entries as u32)
-    } else {
-        None
-    }
+    let entries = number(given, LIMIT, 1, MOST)?;
+    Some(entries as u32)
+}
+
+fn hearings(given: Option<&str>, default: u64) -> Option<u64>
+    ensures said { IfSome result (λ n. IsHearings default (text_of given.entry) n) }
+    ensures every { (n : ℕ) → IsHearings default (text_of given.entry) n → result ≡ Some n }
+{
+    number(given, default, 0, MOST_HEARINGS)
 }
 
 fn decode<'a>(matches: &ArgMatches<'a>) -> Option<Command<'a>>
     ensures asked { IfSome result (λ c. (name_of (asked c) ≡ codes "decode") × Fit (rows_of (found_of matches.now)) (asked c)) }
     ensures every { (p : Plan) (log : List ℕ) → Fit (rows_of (found_of matches.now)) (decode p log) → option_map asked result ≡ Some (decode p log) }
+    ensures limits { IfSome result HasLimit }
 {
     if !has_only(matches, &DECODE) {
         return None;
@@ -105,6 +129,7 @@ fn decode<'a>(matches: &ArgMatches<'a>) -> Option<Command<'a>>
 fn replay<'a>(matches: &ArgMatches<'a>) -> Option<Command<'a>>
     ensures asked { IfSome result (λ c. (name_of (asked c) ≡ codes "replay") × Fit (rows_of (found_of matches.now)) (asked c)) }
     ensures every { (station script : List ℕ) (n : ℕ) → Fit (rows_of (found_of matches.now)) (replay station script n) → option_map asked result ≡ Some (replay station script n) }
+    ensures limits { IfSome result HasLimit }
 {
     if !has_only(matches, &REPLAY) {
         return None;
@@ -116,9 +141,26 @@ fn replay<'a>(matches: &ArgMatches<'a>) -> Option<Command<'a>>
     })
 }
 
+fn serve<'a>(matches: &ArgMatches<'a>) -> Option<Command<'a>>
+    ensures asked { IfSome result (λ c. (name_of (asked c) ≡ codes "serve") × Fit (rows_of (found_of matches.now)) (asked c)) }
+    ensures every { (station : List ℕ) (d a n : ℕ) → Fit (rows_of (found_of matches.now)) (serve station d a n) → option_map asked result ≡ Some (serve station d a n) }
+    ensures limits { IfSome result HasLimit }
+{
+    if !has_only(matches, &SERVE) {
+        return None;
+    }
+    Some(Command::Serve {
+        station: value(matches, "station")?,
+        during: hearings(value(matches, "during"), DURING)?,
+        after: hearings(value(matches, "after"), AFTER)?,
+        limit: limit(value(matches, "limit"))?,
+    })
+}
+
 fn migrate<'a>(matches: &ArgMatches<'a>) -> Option<Command<'a>>
     ensures asked { IfSome result (λ c. (name_of (asked c) ≡ codes "migrate") × Fit (rows_of (found_of matches.now)) (asked c)) }
     ensures every { (station journal : List ℕ) → Fit (rows_of (found_of matches.now)) (migrate station journal) → option_map asked result ≡ Some (migrate station journal) }
+    ensures limits { IfSome result HasLimit }
 {
     if !has_only(matches, &MIGRATE) {
         return None;
@@ -133,10 +175,12 @@ fn migrate<'a>(matches: &ArgMatches<'a>) -> Option<Command<'a>>
 pub fn command<'a>(matches: &ArgMatches<'a>) -> Option<Command<'a>>
     ensures asked { IfSome result (λ c. AreFor (rows_of (found_of matches.now)) (asked c)) }
     ensures every { (a : Asked) → AreFor (rows_of (found_of matches.now)) a → option_map asked result ≡ Some a }
+    ensures limits { IfSome result HasLimit }
 {
     match value(matches, "command")? {
         "decode" => decode(matches),
         "replay" => replay(matches),
+        "serve" => serve(matches),
         "migrate" => migrate(matches),
         _ => None,
     }

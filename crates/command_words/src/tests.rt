@@ -1,4 +1,6 @@
 //! Command lines, lawful ones and refused ones.
+ghost use Rattle.std.specs.Prelude.{◌<◌, ◌≤◌};
+
 use crate::{Command, WordsFault, read_words};
 use std::alloc::Global;
 use std::test::Fail;
@@ -14,6 +16,51 @@ fn replay<'a>(limit: u32) -> Result<Command<'a>, WordsFault> {
         script: "t",
         limit,
     })
+}
+
+fn serve<'a>(during: u64, after: u64, limit: u32) -> Result<Command<'a>, WordsFault> {
+    Ok(Command::Serve {
+        station: "s",
+        during,
+        after,
+        limit,
+    })
+}
+
+// A caller's function that asks for a limit in its range.
+fn handed_on(limit: u32) -> u32
+    requires { (0 < limit) × (limit ≤ 4194304) }
+{
+    limit
+}
+
+// The limit that words ask for, as a caller hands it on.
+fn limit_of(alloc: Global, words: &[&str]) -> Option<u32> {
+    match read_words(alloc, words) {
+        Ok(
+            Command::Serve {
+                station: _,
+                during: _,
+                after: _,
+                limit,
+            },
+        ) => Some(handed_on(limit)),
+        Ok(
+            Command::Replay {
+                station: _,
+                script: _,
+                limit,
+            },
+        ) => Some(handed_on(limit)),
+        Ok(Command::Decode { plan: _, log: _ }) => None,
+        Ok(
+            Command::Migrate {
+                station: _,
+                journal: _,
+            },
+        ) => None,
+        Err(_) => None,
+    }
 }
 
 // The first words of a table that are not refused.
@@ -96,6 +143,152 @@ fn words_of_replay(rt: HostRuntime) -> Result<(), Fail> {
         };
         assert_eq!(rt; read_words(alloc, &words), want, "{limit:?}");
     }
+    Ok(())
+}
+
+// A serving link has 16 hearings beside the feeds and none behind them, where words say no other numbers.
+#[test]
+fn words_of_serve(rt: HostRuntime) -> Result<(), Fail> {
+    let alloc = rt.alloc();
+    let table: [(&[&str], u64, u64, u32); 7] = [
+        (&["serve", "--station", "s"], 16, 0, 1_048_576),
+        (&["serve", "--station=s", "--after=3"], 16, 3, 1_048_576),
+        (&["serve", "--during", "5", "--station=s"], 5, 0, 1_048_576),
+        (&["serve", "--station=s", "--limit=9"], 16, 0, 9),
+        (
+            &["--after", "8", "serve", "--during=7", "--station", "s"],
+            7,
+            8,
+            1_048_576,
+        ),
+        (
+            &[
+                "--limit=1",
+                "--after=2",
+                "--during",
+                "3",
+                "--station=s",
+                "--",
+                "serve",
+            ],
+            3,
+            2,
+            1,
+        ),
+        (
+            &["serve", "--station=s", "--during=0", "--after=16"],
+            0,
+            16,
+            1_048_576,
+        ),
+    ];
+    for (words, during, after, limit) in table {
+        assert_eq!(rt;
+            read_words(alloc, words),
+            serve(during, after, limit),
+            "{words:?}"
+        );
+    }
+    Ok(())
+}
+
+// How many hearings is 0 to 10^6, beside the feeds and behind them.
+#[test]
+fn hearings_of_serve(rt: HostRuntime) -> Result<(), Fail> {
+    let alloc = rt.alloc();
+    let table = [
+        ("0", Some(0)),
+        ("1", Some(1)),
+        ("10", Some(10)),
+        ("999999", Some(999_999)),
+        ("1000000", Some(1_000_000)),
+        ("1000001", None),
+        ("4294967296", None),
+        ("18446744073709551616", None),
+        ("00", None),
+        ("07", None),
+        ("+1", None),
+        ("-1", None),
+        ("-0", None),
+        (" 1", None),
+        ("1e3", None),
+        ("1_000", None),
+        ("", None),
+    ];
+    for (number, want) in table {
+        let (during, after) = match want {
+            Some(n) => (serve(n, 0, 1_048_576), serve(16, n, 1_048_576)),
+            None => (Err(WordsFault::Usage), Err(WordsFault::Usage)),
+        };
+        let beside = ["serve", "--during", number, "--station=s"];
+        assert_eq!(rt; read_words(alloc, &beside), during, "{number:?}");
+        let behind = ["serve", "--station=s", "--after", number];
+        assert_eq!(rt; read_words(alloc, &behind), after, "{number:?}");
+    }
+    Ok(())
+}
+
+#[test]
+fn limit_of_serve(rt: HostRuntime) -> Result<(), Fail> {
+    let alloc = rt.alloc();
+    let table = [
+        ("0", None),
+        ("1", Some(1)),
+        ("4194304", Some(4_194_304)),
+        ("4194305", None),
+        ("4294967297", None),
+        ("07", None),
+        ("+1", None),
+        ("-1", None),
+        ("", None),
+    ];
+    for (limit, want) in table {
+        let words = ["serve", "--station=s", "--limit", limit];
+        let said = match want {
+            Some(limit) => serve(16, 0, limit),
+            None => Err(WordsFault::Usage),
+        };
+        assert_eq!(rt; read_words(alloc, &words), said, "{limit:?}");
+        assert_eq!(rt; limit_of(alloc, &words), want, "{limit:?}");
+        let words = ["replay", "--station=s", "--script=t", "--limit", limit];
+        assert_eq!(rt; limit_of(alloc, &words), want, "{limit:?}");
+    }
+    Ok(())
+}
+
+// Without its station, with an option twice, or with another command's.
+#[test]
+fn other_words_of_serve_are_refused(rt: HostRuntime) -> Result<(), Fail> {
+    let alloc = rt.alloc();
+    let table: [&[&str]; 18] = [
+        &["serve"],
+        &["serve", "--during=1", "--after=1", "--limit=1"],
+        &["serve", "--station"],
+        &["serve", "--station="],
+        &["serve", "--station=-s"],
+        &["--station=s"],
+        &["serve", "s"],
+        &["serve", "serve", "--station=s"],
+        &["serve", "replay", "--station=s"],
+        &["serve", "--station=s", "--station=s"],
+        &["serve", "--station=s", "--during=1", "--during=1"],
+        &["serve", "--station=s", "--after=1", "--after", "1"],
+        &["serve", "--station=s", "--limit=1", "--limit=1"],
+        &["serve", "--station=s", "--during"],
+        &["serve", "--station=s", "--script=t"],
+        &["serve", "--station=s", "--journal=j"],
+        &["serve", "--station=s", "--plan=dcf"],
+        &["serve", "--station=s", "--log=a"],
+    ];
+    assert_eq!(rt; not_refused(alloc, &table), None);
+    let others: [&[&str]; 5] = [
+        &["decode", "--plan=dcf", "--log=a", "--during=1"],
+        &["replay", "--station=s", "--script=t", "--during=1"],
+        &["replay", "--station=s", "--script=t", "--after=1"],
+        &["migrate", "--station=s", "--journal=j", "--during=1"],
+        &["migrate", "--station=s", "--journal=j", "--after=1"],
+    ];
+    assert_eq!(rt; not_refused(alloc, &others), None);
     Ok(())
 }
 
@@ -184,14 +377,14 @@ fn other_options_are_refused(rt: HostRuntime) -> Result<(), Fail> {
     Ok(())
 }
 
-// A command that is to come.
+// No command of this program.
 #[test]
 fn unknown_commands_are_refused(rt: HostRuntime) -> Result<(), Fail> {
     let alloc = rt.alloc();
     let table: [&[&str]; 3] = [
-        &["serve", "--station", "s", "--limit", "07"],
-        &["serve", "--station", "s"],
         &["drill", "--seed", "7"],
+        &["drill", "--station=s"],
+        &["Serve", "--station=s"],
     ];
     assert_eq!(rt; not_refused(alloc, &table), None);
     Ok(())
