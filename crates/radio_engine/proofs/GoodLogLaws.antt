@@ -53,7 +53,7 @@ whole_text bytes extra rest text e none nothing =
 -- such a log is read to its end
 module _ (opened back : SourceState) (good : IsGoodLog opened back) (bytes : List ℕ) where
   -- a reading that ended so took a front of the text
-  front_by : (end : FileEnd) (read : EndsReading end most_of_a_log opened back bytes) → (rest : List ℕ) × (back.left ≡ Some rest) × (good.text ≡ (bytes ++ read.extra) ++ rest)
+  pub front_by : (end : FileEnd) (read : EndsReading end most_of_a_log opened back bytes) → (rest : List ℕ) × (back.left ≡ Some rest) × (good.text ≡ (bytes ++ read.extra) ++ rest)
   front_by end read = front_of opened.left back.left good.text (bytes ++ read.extra) good.told good.tells read.taken
 
   front_so_far : HasReadFront most_of_a_log opened back bytes → (rest : List ℕ) × (back.left ≡ Some rest) × (good.text ≡ (bytes ++ []) ++ rest)
@@ -61,7 +61,7 @@ module _ (opened back : SourceState) (good : IsGoodLog opened back) (bytes : Lis
       let front = front_of opened.left back.left good.text bytes good.told good.tells read.taken in
       (front.0, front.1, front.2 ∙ ap (λ (b : List ℕ). b ++ front.0) (sym (append-nil bytes)))
 
-  good_reach : (reach : Reach) → ReadsLines reach most_of_a_log opened back bytes (bad_line bytes) → reach ≡ AtEnd Whole
+  pub good_reach : (reach : Reach) → ReadsLines reach most_of_a_log opened back bytes (bad_line bytes) → reach ≡ AtEnd Whole
   good_reach (AtEnd Whole) h = refl
   good_reach (AtEnd Fault) h = absurd (good.no_fault (rose_by_one opened.faults back.faults h.0.cause.1))
   good_reach (AtEnd TooLong) h =

@@ -1,6 +1,11 @@
 -- Lemmas that several proofs of this crate use.
+pub mod CauseLaws
+pub mod CountLaws
 pub mod DecodingLaws
+pub mod EachLaws
 pub mod GoodLogLaws
+pub mod GoodStationLaws
+pub mod JournalTextLaws
 pub mod LineFileLaws
 pub mod LineTakingLaws
 pub mod MovingLaws
@@ -8,7 +13,9 @@ pub mod OpeningLaws
 pub mod PlayingLaws
 pub mod ReachLaws
 pub mod RunLaws
+pub mod RunOfLaws
 pub mod ScriptLaws
+pub mod ServingLaws
 pub mod StationFileLaws
 pub mod TakingLaws
 pub mod WritingLaws

@@ -207,14 +207,14 @@ file_done f readable opened back out out_now result r p no_write = elim r [
 ]
 
 -- a file says one station
-one_station : (bytes : List ℕ) (a b : StationFields) → Says bytes a → Says bytes b → a ≡ b
+pub one_station : (bytes : List ℕ) (a b : StationFields) → Says bytes a → Says bytes b → a ≡ b
 one_station bytes a b h k =
     let parsed = sym h.document.parsed ∙ k.document.parsed in
     let same : h.top ≡ k.top = cc in
     h.same ∙ ap station_of same ∙ sym k.same
 
 -- the station that was read is that of the file
-read_station : (of said : StationFields) (opened back : SourceState) → IsStation of opened back → HasStation opened back said → said ≡ of
+pub read_station : (of said : StationFields) (opened back : SourceState) → IsStation of opened back → HasStation opened back said → said ≡ of
 read_station of said opened back h is =
     let front = front_of opened.left back.left h.text (is.bytes ++ is.read.extra) h.told h.tells is.read.taken in
     let same = whole_text is.bytes is.read.extra front.0 h.text front.2 is.read.cause.0 (none_left back.left front.0 front.1 is.read.cause.1) in

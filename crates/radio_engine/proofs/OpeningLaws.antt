@@ -8,7 +8,7 @@ use Rattle.feed_link.specs.Openings.State.{OfLog}
 use Rattle.feed_link.specs.Openings.Wanted.{LogOf}
 
 -- what was added is what is told behind those that were there
-same_more : (was now : Option (List Opening)) (before more told : List Opening) → Adds was now more → was ≡ Some before → now ≡ Some (before ++ told) → more ≡ told
+pub same_more : (was now : Option (List Opening)) (before more told : List Opening) → Adds was now more → was ≡ Some before → now ≡ Some (before ++ told) → more ≡ told
 same_more was None before more told adds were are = cc
 same_more None (Some now) before more told adds were are = absurd adds
 same_more (Some was) (Some now) before more told adds were are =
@@ -22,18 +22,18 @@ log_states a b e = cc
 unopened : (state : State) → ◌≡◌ {A = Option State} None (Some state) → ⊥
 unopened state e = cc
 
-first_of : (a b : Opening) (front back : List Opening) → a ∷ front ≡ b ∷ back → a ≡ b
+pub first_of : (a b : Opening) (front back : List Opening) → a ∷ front ≡ b ∷ back → a ≡ b
 first_of a b front back e = cc
 
-rest_of : (a b : Opening) (front back : List Opening) → a ∷ front ≡ b ∷ back → front ≡ back
+pub rest_of : (a b : Opening) (front back : List Opening) → a ∷ front ≡ b ∷ back → front ≡ back
 rest_of a b front back e = cc
 
 -- openings that are equal told the same
-same_states : (name : List ℕ) (a b c d : SourceState) → visited (log_visit name a b) ≡ visited (log_visit name c d) → (a ≡ c) × (b ≡ d)
+pub same_states : (name : List ℕ) (a b c d : SourceState) → visited (log_visit name a b) ≡ visited (log_visit name c d) → (a ≡ c) × (b ≡ d)
 same_states name a b c d e = (log_states a c (ap (λ (o : Opening). o.opened) e), log_states b d (ap (λ (o : Opening). o.back) e))
 
 -- an opening that was answered isn't one that failed
-not_failed : (name other : List ℕ) (a b : SourceState) → failed (LogOf name) ≡ visited (log_visit other a b) → ⊥
+pub not_failed : (name other : List ℕ) (a b : SourceState) → failed (LogOf name) ≡ visited (log_visit other a b) → ⊥
 not_failed name other a b e = unopened (OfLog a) (ap (λ (o : Opening). o.opened) e)
 
 module _ (outside outside_now : OutsideState) (before : List Opening) (were : outside.openings ≡ Some before) where

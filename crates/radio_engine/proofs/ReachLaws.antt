@@ -10,7 +10,7 @@ use Rattle.radio_engine.specs.declared.reading.Reach.{Reach}
 use Rattle.radio_engine.specs.declared.reading.Reach.TheVariants.{AtEnd, AtBadLine}
 
 -- a reading that came to the end took all that it read
-front_of_whole : (limit : ℕ) (file file_now : SourceState) (bytes : List ℕ) → EndsReading Whole limit file file_now bytes → HasReadFront limit file file_now bytes
+pub front_of_whole : (limit : ℕ) (file file_now : SourceState) (bytes : List ℕ) → EndsReading Whole limit file file_now bytes → HasReadFront limit file file_now bytes
 front_of_whole limit file file_now bytes h = record {
   taken = subst (λ (b : List ℕ). Takes file.left file_now.left b) (append-nil bytes) (subst (λ (e : List ℕ). Takes file.left file_now.left (bytes ++ e)) h.cause.0 h.taken);
   most = h.most;

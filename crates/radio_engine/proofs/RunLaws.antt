@@ -1,15 +1,15 @@
 -- A command without a fault is done, and one that opened nothing is none.
-use Rattle.std.proofs.Common.{◌≡◌, ℕ, ◌≤◌, ◌^◌, ◌⊎◌, Option, Some, None, List, [], ◌∷◌, ◌++◌, length, ap, sym, ◌∙◌, subst, inl, inr, arith}
+use Rattle.std.proofs.Common.{◌≡◌, ℕ, ◌⊎◌, Option, Some, None, List, [], ◌∷◌, ◌++◌, length, ap, sym, ◌∙◌, subst, inl, inr, arith}
 use Rattle.std.proofs.lemmas.List.{length-append}
-use Rattle.command_words.specs.Commands.{Asked, AskFor, IsLimit}
-use Rattle.command_words.specs.Commands.Asked.{decode, migrate, replay}
+use Rattle.command_words.specs.Commands.{Asked, AskFor}
+use Rattle.command_words.specs.Commands.Asked.{decode, migrate, replay, serve}
 use Rattle.feed_link.specs.Faults.{Rose}
 use Rattle.feed_link.specs.Told.{SinkState}
 use Rattle.feed_link.specs.Openings.{Opening, OutsideState, log_visit, visited}
-use Rattle.radio_engine.specs.Run.{Lacks, Runs, IsFaultless, IsRun}
+use Rattle.radio_engine.specs.Run.{Lacks, Runs, IsComplete, IsFaultless, IsRun}
 use Rattle.radio_engine.specs.declared.ending.status.Status.{Status}
-use Rattle.radio_engine.specs.declared.ending.status.Status.TheVariants.{Done}
 use Rattle.radio_engine.proofs.GoodLogLaws.{log_done}
+use Rattle.radio_engine.proofs.GoodStationLaws.{station_done}
 use Rattle.radio_engine.proofs.LineFileLaws.{IsReadable, against_done}
 use Rattle.radio_engine.proofs.ScriptLaws.{says_one, says_short}
 use Rattle.radio_engine.proofs.MovingLaws.{one_line, short_line}
@@ -29,6 +29,7 @@ not_more told before more one were are =
 pub untouched : (asked : Asked) (outside : OutsideState) → IsFaultless asked outside outside → ⊥
 untouched (decode plan log) outside p = not_more outside.openings p.before [] (visited (log_visit log p.opened p.back)) p.were p.are
 untouched (replay station script limit) outside p = not_more outside.openings p.before _ (visited (log_visit station p.opened p.back)) p.were p.are
+untouched (serve station during after limit) outside p = not_more outside.openings p.before _ (visited (log_visit station p.opened p.back)) p.were p.are
 untouched (migrate station journal) outside p = not_more outside.openings p.before _ (visited (log_visit station p.opened p.back)) p.were p.are
 
 script_readable : (limit : ℕ) (of : StationFields) → IsReadable (script_of limit of)
@@ -39,19 +40,12 @@ journal_readable of = record { one = one_line (settings_of of); short = short_li
 
 pub runs_done : (asked : Asked) (outside outside_now : OutsideState) (out out_now : SinkState) (result : Status) →
     IsFaultless asked outside outside_now → (Rose out.faults out_now.faults → ⊥) →
-    Lacks outside outside_now out out_now result ⊎ Runs asked outside outside_now out out_now result → result ≡ Done
+    Lacks outside outside_now out out_now result ⊎ Runs asked outside outside_now out out_now result → IsComplete asked result
 runs_done asked outside outside_now out out_now result good no_write (inl lacks) = absurd (untouched asked outside (subst (λ (o : OutsideState). IsFaultless asked outside o) lacks.unchanged good))
 runs_done (decode plan log) outside outside_now out out_now result good no_write (inr did) = log_done plan log outside outside_now out out_now result good no_write did
 runs_done (replay station script limit) outside outside_now out out_now result good no_write (inr did) = against_done Script (script_of limit) (script_readable limit) station script outside outside_now out out_now result good no_write did
+runs_done (serve station during after limit) outside outside_now out out_now result good no_write (inr did) = station_done station during after limit outside outside_now out out_now result good no_write did
 runs_done (migrate station journal) outside outside_now out out_now result good no_write (inr did) = against_done Journal journal_of journal_readable station journal outside outside_now out out_now result good no_write did
-
-limit_by : (value : Option (List ℕ)) (n : ℕ) → IsLimit value n → n ≤ 2 ^ 22
-limit_by None n h = omega arith
-limit_by (Some text) n h = h.2
-
--- the limit that words ask for
-pub limit_of : (words : List (List ℕ)) (a b : List ℕ) (n : ℕ) → AskFor words (replay a b n) → n ≤ 2 ^ 22
-limit_of words a b n h = limit_by _ n h.says.2
 
 -- nothing was opened, since no memory was found
 pub run_unbegun : (words : List (List ℕ)) (outside outside_now : OutsideState) (out out_now : SinkState) (result : Status) → Lacks outside outside_now out out_now result →

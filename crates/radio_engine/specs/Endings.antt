@@ -2,7 +2,7 @@
 use Rattle.std.specs.Prelude.{ℕ, List, ◌++◌, codes, decimal}
 use Rattle.file_reader.specs.declared.reader.FileEnd.TheVariants as file
 use Rattle.radio_engine.specs.declared.ending.Ending.{Ending}
-use Rattle.radio_engine.specs.declared.ending.Ending.TheVariants.{Whole, WrongWords, NotOpened, NotRead, WrongLine, Full, NoMemory, Long}
+use Rattle.radio_engine.specs.declared.ending.Ending.TheVariants.{Whole, WrongWords, NotOpened, NotRead, WrongLine, Full, NoMemory, LinkFailed, Long}
 use Rattle.radio_engine.specs.declared.reading.Reach.{Reach}
 use Rattle.radio_engine.specs.declared.reading.Reach.TheVariants.{AtEnd, AtBadLine}
 use Rattle.radio_engine.specs.declared.ending.status.Status.{Status}
@@ -30,6 +30,7 @@ status_of (NotOpened what) = OpenFault
 status_of (NotRead what) = ReadFault
 status_of (WrongLine what line) = BadLine
 status_of (Full limit) = JournalFull
+status_of (LinkFailed what) = LinkFault
 status_of NoMemory = Memory
 status_of (Long what) = TooLong
 
@@ -57,6 +58,7 @@ status_line (NotOpened what) = codes "status 2 open " ++ name_of what ++ codes "
 status_line (NotRead what) = codes "status 4 read " ++ name_of what ++ codes "\n"
 status_line (WrongLine what line) = codes "status 5 " ++ place_of what ++ codes " " ++ decimal line ++ codes "\n"
 status_line (Full limit) = codes "status 6 full " ++ decimal limit ++ codes "\n"
+status_line (LinkFailed what) = codes "status 7 " ++ name_of what ++ codes "\n"
 status_line NoMemory = codes "status 9 memory\n"
 status_line (Long what) = codes "status 10 long " ++ name_of what ++ codes "\n"
 

@@ -13,6 +13,9 @@ pub mod LineFiles
 pub mod Script
 pub mod Replaying
 pub mod Migrating
+pub mod Headline
+pub mod Serving
+pub mod Crewing
 pub mod Keeping
 pub mod Taking
 pub mod LogTaking

@@ -1,7 +1,7 @@
 -- What the program does: each command that words may ask for, what becomes of it, and when nothing has a fault.
 use Rattle.std.specs.Prelude.{◌≡◌, ℕ, ◌⊎◌, List}
 use Rattle.command_words.specs.Commands.{Asked, AskFor}
-use Rattle.command_words.specs.Commands.Asked.{decode, migrate, replay}
+use Rattle.command_words.specs.Commands.Asked.{decode, migrate, replay, serve}
 use Rattle.feed_link.specs.Faults.{Rose}
 use Rattle.feed_link.specs.Told.{SinkState}
 use Rattle.feed_link.specs.Openings.{OutsideState}
@@ -9,11 +9,12 @@ use Rattle.radio_engine.specs.Decoding.{RunsDecode, HasGoodLog}
 use Rattle.radio_engine.specs.Endings.{status_of, status_line}
 use Rattle.radio_engine.specs.Migrating.{RunsMigrate, HasGoodJournal}
 use Rattle.radio_engine.specs.Replaying.{RunsReplay, HasGoodScript}
+use Rattle.radio_engine.specs.Serving.{RunsServe, HasGoodStation}
 use Rattle.radio_engine.specs.Writing.{Answers}
 use Rattle.radio_engine.specs.declared.ending.Ending.{Ending}
 use Rattle.radio_engine.specs.declared.ending.Ending.TheVariants.{WrongWords, NoMemory}
 use Rattle.radio_engine.specs.declared.ending.status.Status.{Status}
-use Rattle.radio_engine.specs.declared.ending.status.Status.TheVariants.{Done}
+use Rattle.radio_engine.specs.declared.ending.status.Status.TheVariants.{Done, Memory}
 
 -- nothing is opened, and the status line alone is written
 pub record EndsUnopened (ending : Ending) (outside outside_now : OutsideState) (out out_now : SinkState) (result : Status) : Type 0 where
@@ -33,15 +34,24 @@ abbrev pub Runs : Asked → OutsideState → OutsideState → SinkState → Sink
 Runs (decode plan log) outside outside_now out out_now result = RunsDecode plan log outside outside_now out out_now result
 Runs (replay station script limit) outside outside_now out out_now result = RunsReplay station script limit outside outside_now out out_now result
 Runs (migrate station journal) outside outside_now out out_now result = RunsMigrate station journal outside outside_now out out_now result
+Runs (serve station during after limit) outside outside_now out out_now result = RunsServe station during after limit outside outside_now out out_now result
 
 -- all that a command opens was opened and given back, told its bytes, and has no fault
 abbrev pub IsFaultless : Asked → OutsideState → OutsideState → Type 0
 IsFaultless (decode plan log) outside outside_now = HasGoodLog log outside outside_now
 IsFaultless (replay station script limit) outside outside_now = HasGoodScript station script limit outside outside_now
 IsFaultless (migrate station journal) outside outside_now = HasGoodJournal station journal outside outside_now
+IsFaultless (serve station during after limit) outside outside_now = HasGoodStation station limit outside outside_now
+
+-- then all is done. A command to serve takes memory once all is open, and may find none then
+abbrev pub IsComplete : Asked → Status → Type 0
+IsComplete (decode plan log) result = result ≡ Done
+IsComplete (replay station script limit) result = result ≡ Done
+IsComplete (migrate station journal) result = result ≡ Done
+IsComplete (serve station during after limit) result = (result ≡ Done) ⊎ (result ≡ Memory)
 
 -- all that the one call promises of these words: `run_station` says it clause by clause, and who hands its words on says it so
 pub record IsRun (words : List (List ℕ)) (outside outside_now : OutsideState) (out out_now : SinkState) (result : Status) : Type 0 where
   pub refused : ((asked : Asked) → AskFor words asked → ⊥) → Refuses outside outside_now out out_now result ⊎ Lacks outside outside_now out out_now result
   pub runs : (asked : Asked) → AskFor words asked → Lacks outside outside_now out out_now result ⊎ Runs asked outside outside_now out out_now result
-  pub complete : (asked : Asked) → AskFor words asked → IsFaultless asked outside outside_now → (Rose out.faults out_now.faults → ⊥) → result ≡ Done
+  pub complete : (asked : Asked) → AskFor words asked → IsFaultless asked outside outside_now → (Rose out.faults out_now.faults → ⊥) → IsComplete asked result

@@ -20,6 +20,7 @@ pub enum Ending {
     NotRead(Subject),
     WrongLine(Subject, u64),
     Full(u32),
+    LinkFailed(Subject),
     NoMemory,
     Long(Subject),
 }
@@ -35,6 +36,7 @@ pub fn status_by(ending: Ending) -> Status
         Ending::NotRead(_) => Status::ReadFault,
         Ending::WrongLine(..) => Status::BadLine,
         Ending::Full(_) => Status::JournalFull,
+        Ending::LinkFailed(_) => Status::LinkFault,
         Ending::NoMemory => Status::Memory,
         Ending::Long(_) => Status::TooLong,
     }

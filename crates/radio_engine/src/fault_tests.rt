@@ -3,7 +3,9 @@ use crate::Status;
 use crate::replay_tests::{EMPTY_PAGE, Failing, NONE, WORDS, request, run};
 use std::alloc::{AllocError, Global};
 use std::process::Abort;
+use std::sync::Wait;
 use std::test::Fail;
+use std::thread::Threads;
 
 const DECODE: [&str; 5] = ["decode", "--plan", "dcf", "--log", "p"];
 
@@ -69,7 +71,7 @@ fn front(alloc: Global, count: usize, end: &str) -> Result<String, AllocError> {
 
 // The script, with these calls failing, writes this text and ends so.
 fn gives(
-    rt: &impl Abort,
+    rt: &(impl Abort + Threads + Wait + Sync),
     alloc: Global,
     failing: Failing,
     want: &str,
@@ -77,7 +79,14 @@ fn gives(
 ) -> Result<(), Fail> {
     let station = station(alloc)?;
     let script = script(alloc)?;
-    let (written, status) = run(alloc, &WORDS, station.as_bytes(), script.as_str(), failing)?;
+    let (written, status) = run(
+        rt,
+        alloc,
+        &WORDS,
+        station.as_bytes(),
+        script.as_str(),
+        failing,
+    )?;
     assert_eq!(rt; written.as_slice(), want.as_bytes());
     assert_eq!(rt; status, end);
     Ok(())
@@ -147,7 +156,7 @@ fn calls_past_the_last_fail_nothing(rt: HostRuntime) -> Result<(), Fail> {
 
 // The words write these pieces one by one and end so. Where a writing fails, the pieces before it stand and nothing else.
 fn stops_at_each_writing(
-    rt: &impl Abort,
+    rt: &(impl Abort + Threads + Wait + Sync),
     alloc: Global,
     words: &[&str],
     station: &str,
@@ -159,14 +168,14 @@ fn stops_at_each_writing(
     let mut write = 1u64;
     for piece in pieces {
         let failing = Failing { write, ..NONE };
-        let (written, status) = run(alloc, words, station.as_bytes(), script, failing)?;
+        let (written, status) = run(rt, alloc, words, station.as_bytes(), script, failing)?;
         assert_eq!(rt; written.as_slice(), want.as_bytes(), "at {write}");
         assert_eq!(rt; status, Status::WriteFault);
         want.push_str(piece)?;
         write = write.saturating_add(1);
     }
     let failing = Failing { write, ..NONE };
-    let (written, status) = run(alloc, words, station.as_bytes(), script, failing)?;
+    let (written, status) = run(rt, alloc, words, station.as_bytes(), script, failing)?;
     assert_eq!(rt; written.as_slice(), want.as_bytes());
     assert_eq!(rt; status, end);
     Ok(())
@@ -238,7 +247,7 @@ fn a_failed_writing_comes_before_other_faults(rt: HostRuntime) -> Result<(), Fai
 // Runs words where memory may be refused. What they write is the whole text, or the status of want of memory alone, or, where
 // the output in memory found no room for more, a front of the text. Where the run wasn't reached nothing is judged.
 fn is_whole_or_wants_memory(
-    rt: &impl Abort,
+    rt: &(impl Abort + Threads + Wait + Sync),
     alloc: Global,
     words: &[&str],
     station: &str,
@@ -246,7 +255,7 @@ fn is_whole_or_wants_memory(
     whole: &str,
     end: Status,
 ) {
-    let Ok((written, status)) = run(alloc, words, station.as_bytes(), script, NONE) else {
+    let Ok((written, status)) = run(rt, alloc, words, station.as_bytes(), script, NONE) else {
         return;
     };
     let written = written.as_slice();

@@ -7,6 +7,7 @@ mod migrate;
 mod reading;
 mod replay;
 mod run;
+mod serve;
 mod station_file;
 
 pub use ending::status::Status;
@@ -18,5 +19,7 @@ mod fault_tests;
 mod migrate_tests;
 #[cfg(test)]
 mod replay_tests;
+#[cfg(test)]
+mod serve_tests;
 #[cfg(test)]
 mod tests;

@@ -66,7 +66,8 @@ fn open_and_move<O: Outside, K: Sink>(
     out: &mut K,
 ) -> Status
     requires { IsEven mover }
-    ensures { (of : StationFields) → IsMovedBy mover of [] [] None →
+    ensures gate { O.gate_out outside.new ≡ O.gate_out outside.old }
+    ensures tried { (of : StationFields) → IsMovedBy mover of [] [] None →
         TriesFile Subject.Journal (journal_of of) name.now (O.state outside.old) (O.state outside.new) (K.state out.old) (K.state out.new) result }
 {
     let mut mover = mover;
@@ -98,7 +99,8 @@ pub fn run_migrate<O: Outside, K: Sink>(
     outside: &mut O,
     out: &mut K,
 ) -> Status
-    ensures { Lacks (O.state outside.old) (O.state outside.new) (K.state out.old) (K.state out.new) result
+    ensures gate { O.gate_out outside.new ≡ O.gate_out outside.old }
+    ensures runs { Lacks (O.state outside.old) (O.state outside.new) (K.state out.old) (K.state out.new) result
         ⊎ RunsMigrate station.now journal.now (O.state outside.old) (O.state outside.new) (K.state out.old) (K.state out.new) result }
 {
     let Ok(mut text) = Vec::with_capacity(alloc, station_file::LIMIT) else {

@@ -4,7 +4,9 @@ use crate::Status;
 use crate::replay_tests::{Failing, NONE, run};
 use std::alloc::Global;
 use std::process::Abort;
+use std::sync::Wait;
 use std::test::Fail;
+use std::thread::Threads;
 
 const WORDS: [&str; 5] = ["migrate", "--station", "s", "--journal", "p"];
 
@@ -21,26 +23,34 @@ const NONE_KEPT: &str = "page 0 0 0 494e4954 0 0 0 0 1048576 0000000000000000 0 
 
 // A journal is moved to this text, and the command ends so.
 fn moves(
-    rt: &impl Abort,
+    rt: &(impl Abort + Threads + Wait + Sync),
     alloc: Global,
     journal: &str,
     want: &str,
     end: Status,
 ) -> Result<(), Fail> {
-    let (written, status) = run(alloc, &WORDS, STATION.as_bytes(), journal, NONE)?;
+    let (written, status) = run(rt, alloc, &WORDS, STATION.as_bytes(), journal, NONE)?;
     assert_eq!(rt; written.as_slice(), want.as_bytes(), "{journal}");
     assert_eq!(rt; status, end);
     Ok(())
 }
 
 // The first line of a journal is bad, and nothing of it is kept.
-fn refuses(rt: &impl Abort, alloc: Global, journal: &str) -> Result<(), Fail> {
+fn refuses(
+    rt: &(impl Abort + Threads + Wait + Sync),
+    alloc: Global,
+    journal: &str,
+) -> Result<(), Fail> {
     let want = format!(in alloc; "{NONE_KEPT}status 5 journal 1\n")?;
     moves(rt, alloc, journal, want.as_str(), Status::BadLine)
 }
 
 // The second line is bad, behind a minute that was told once.
-fn refuses_the_second(rt: &impl Abort, alloc: Global, line: &str) -> Result<(), Fail> {
+fn refuses_the_second(
+    rt: &(impl Abort + Threads + Wait + Sync),
+    alloc: Global,
+    line: &str,
+) -> Result<(), Fail> {
     let journal = format!(in alloc; "0 62000000 lone 3976257600\n{line}\n")?;
     let want = format!(in alloc;
         "j2 1 0 0 62000000 lone 3976257600\npage 1 0 0 494e4954 0 62000000 0 0 1048576 0000000000000000 0 0\nstatus 5 journal 2\n"
@@ -157,13 +167,13 @@ fn a_line_of_300_bytes(rt: HostRuntime) -> Result<(), Fail> {
 
 // What is written where these calls fail.
 fn fails(
-    rt: &impl Abort,
+    rt: &(impl Abort + Threads + Wait + Sync),
     alloc: Global,
     failing: Failing,
     want: &str,
     end: Status,
 ) -> Result<(), Fail> {
-    let (written, status) = run(alloc, &WORDS, STATION.as_bytes(), BARE, failing)?;
+    let (written, status) = run(rt, alloc, &WORDS, STATION.as_bytes(), BARE, failing)?;
     assert_eq!(rt; written.as_slice(), want.as_bytes());
     assert_eq!(rt; status, end);
     Ok(())
@@ -229,7 +239,7 @@ fn writings_that_fail(rt: HostRuntime) -> Result<(), Fail> {
 #[test]
 fn a_station_with_a_fault_moves_nothing(rt: HostRuntime) -> Result<(), Fail> {
     let alloc = rt.alloc();
-    let (written, status) = run(alloc, &WORDS, b"holdover = 600\n", BARE, NONE)?;
+    let (written, status) = run(&rt, alloc, &WORDS, b"holdover = 600\n", BARE, NONE)?;
     assert_eq!(rt;
         written.as_slice(),
         b"status 3 station unknown holdover\n".as_slice()

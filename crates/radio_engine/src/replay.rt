@@ -90,7 +90,8 @@ fn open_and_play<O: Outside, K: Sink>(
     out: &mut K,
 ) -> Status
     requires { IsReady (λ b. least_start b) player }
-    ensures { (station : StationFields) → HasPlayed (λ b h. stands_for b h) player station limit [] →
+    ensures gate { O.gate_out outside.new ≡ O.gate_out outside.old }
+    ensures tried { (station : StationFields) → HasPlayed (λ b h. stands_for b h) player station limit [] →
         TriesFile Subject.Script (script_of limit station) name.now (O.state outside.old) (O.state outside.new) (K.state out.old) (K.state out.new) result }
 {
     let Ok(mut script) = outside.open_log(name) else {
@@ -137,7 +138,8 @@ pub fn run_replay<O: Outside, K: Sink>(
 ) -> Status
     requires rack { IsRack (λ b h. stands_for b h) rack.items }
     requires most { limit ≤ 2 ^ 22 }
-    ensures { Lacks (O.state outside.old) (O.state outside.new) (K.state out.old) (K.state out.new) result
+    ensures gate { O.gate_out outside.new ≡ O.gate_out outside.old }
+    ensures runs { Lacks (O.state outside.old) (O.state outside.new) (K.state out.old) (K.state out.new) result
         ⊎ RunsReplay station.now script.now limit (O.state outside.old) (O.state outside.new) (K.state out.old) (K.state out.new) result }
 {
     let Ok(mut text) = Vec::with_capacity(alloc, station_file::LIMIT) else {

@@ -5,7 +5,9 @@ use crate::tests::{outside_of, run_over};
 use feed_link::{FakeOpen, MemorySink, MemorySource, NamedLog};
 use std::alloc::{AllocError, Global};
 use std::process::Abort;
+use std::sync::Wait;
 use std::test::Fail;
+use std::thread::Threads;
 
 pub const WORDS: [&str; 5] = ["replay", "--station", "s", "--script", "p"];
 
@@ -93,7 +95,8 @@ fn named(alloc: Global, name: &str, text: &[u8], fails: u64) -> Result<NamedLog,
 }
 
 // What the words write over a station file "s" and a script "p", and their status.
-pub fn run(
+pub fn run<R: Threads + Wait + Sync>(
+    rt: &R,
     alloc: Global,
     words: &[&str],
     station: &[u8],
@@ -105,13 +108,13 @@ pub fn run(
     logs.push(named(alloc, "p", script.as_bytes(), failing.script)?)?;
     let mut outside = outside_of(alloc, logs, failing.open)?;
     let mut out = MemorySink::new(alloc, vec![in alloc; failing.write]?);
-    let status = run_over(alloc, words, &mut outside, &mut out)?;
+    let status = run_over(rt, alloc, words, &mut outside, &mut out)?;
     Ok((out.into_bytes(), status))
 }
 
 // A station and a script write this text, and end so.
 fn writes(
-    rt: &impl Abort,
+    rt: &(impl Abort + Threads + Wait + Sync),
     alloc: Global,
     words: &[&str],
     station: &str,
@@ -119,7 +122,7 @@ fn writes(
     want: &str,
     end: Status,
 ) -> Result<(), Fail> {
-    let (written, status) = run(alloc, words, station.as_bytes(), script, NONE)?;
+    let (written, status) = run(rt, alloc, words, station.as_bytes(), script, NONE)?;
     assert_eq!(rt; written.as_slice(), want.as_bytes());
     assert_eq!(rt; status, end);
     Ok(())
@@ -157,7 +160,14 @@ fn a_page_ends(rt: HostRuntime) -> Result<(), Fail> {
     let mut script = five_minutes(rt.alloc())?;
     request(&mut script, 4_364_906_901, 4_364_906_901, "23", 0)?;
     request(&mut script, 4_364_906_902, 4_364_906_902, "23", 0)?;
-    let (written, status) = run(rt.alloc(), &WORDS, DCF.as_bytes(), script.as_str(), NONE)?;
+    let (written, status) = run(
+        &rt,
+        rt.alloc(),
+        &WORDS,
+        DCF.as_bytes(),
+        script.as_str(),
+        NONE,
+    )?;
     let mut lines = written.split(|byte| *byte == b'\n').skip(7);
     let near = lines.next().ok_or("a reply")?;
     let past = lines.next().ok_or("another")?;
@@ -189,7 +199,14 @@ fn a_reply_follows_the_rate(rt: HostRuntime) -> Result<(), Fail> {
     }
     script.push_str("pulse 0 362003000 100000\n")?;
     request(&mut script, 372_003_000, 372_003_000, "23", 0)?;
-    let (written, status) = run(rt.alloc(), &WORDS, DCF.as_bytes(), script.as_str(), NONE)?;
+    let (written, status) = run(
+        &rt,
+        rt.alloc(),
+        &WORDS,
+        DCF.as_bytes(),
+        script.as_str(),
+        NONE,
+    )?;
     assert!(rt; written.ends_with(LATE_END.as_bytes()));
     assert_eq!(rt; status, Status::Done);
     Ok(())
@@ -205,6 +222,7 @@ fn a_page_above_its_bound_tells_no_time(rt: HostRuntime) -> Result<(), Fail> {
     station.push_str(DCF)?;
     let script = five_minutes(rt.alloc())?;
     let (written, status) = run(
+        &rt,
         rt.alloc(),
         &WORDS,
         station.as_bytes(),
@@ -241,7 +259,14 @@ fn a_full_journal_goes_on(rt: HostRuntime) -> Result<(), Fail> {
     let mut script = String::new(rt.alloc());
     pulses(&mut script, 0, 182_000_000)?;
     request(&mut script, 183_000_000, 183_000_000, "23", 0)?;
-    let (written, status) = run(rt.alloc(), &LIMIT_2, DCF.as_bytes(), script.as_str(), NONE)?;
+    let (written, status) = run(
+        &rt,
+        rt.alloc(),
+        &LIMIT_2,
+        DCF.as_bytes(),
+        script.as_str(),
+        NONE,
+    )?;
     assert!(rt;
         written.starts_with(
             b"j2 1 0 0 62000000 lone 3976257600\nj2 2 0 0 122000000 verdict 3976257660 0\nreply e40006ec"
@@ -255,7 +280,14 @@ fn a_full_journal_goes_on(rt: HostRuntime) -> Result<(), Fail> {
     assert_eq!(rt; status, Status::JournalFull);
     // A bad line comes before it.
     script.push_str("\n")?;
-    let (written, status) = run(rt.alloc(), &LIMIT_2, DCF.as_bytes(), script.as_str(), NONE)?;
+    let (written, status) = run(
+        &rt,
+        rt.alloc(),
+        &LIMIT_2,
+        DCF.as_bytes(),
+        script.as_str(),
+        NONE,
+    )?;
     assert!(rt;
         written.ends_with(
             b"\npage 2 0 0 494e4954 0 122000000 0 0 1048576 0000000000000000 0 0\nstatus 5 script 181\n"
@@ -279,7 +311,14 @@ fn servers_are_asked(rt: HostRuntime) -> Result<(), Fail> {
     want.push_str(
         "8000000100000000\nj2 1 0 0 1010000 sample 17077897383243199545 40802189 8837 2 7f000001 256 512\nj2 2 0 0 1010000 declined 3\n",
     )?;
-    let (written, status) = run(rt.alloc(), &WORDS, SERVER.as_bytes(), script.as_str(), NONE)?;
+    let (written, status) = run(
+        &rt,
+        rt.alloc(),
+        &WORDS,
+        SERVER.as_bytes(),
+        script.as_str(),
+        NONE,
+    )?;
     assert!(rt; written.starts_with(want.as_bytes()));
     assert_eq!(rt; status, Status::Done);
     Ok(())
@@ -291,7 +330,14 @@ fn a_swap_loses_its_half_frame(rt: HostRuntime) -> Result<(), Fail> {
     pulses(&mut script, 0, 90_000_000)?;
     script.push_str("swap 0\n")?;
     pulses(&mut script, 90_000_000, 182_000_000)?;
-    let (written, status) = run(rt.alloc(), &WORDS, DCF.as_bytes(), script.as_str(), NONE)?;
+    let (written, status) = run(
+        &rt,
+        rt.alloc(),
+        &WORDS,
+        DCF.as_bytes(),
+        script.as_str(),
+        NONE,
+    )?;
     assert!(rt;
         written.starts_with(
             b"j2 1 0 0 62000000 lone 3976257600\nj2 2 0 0 182000000 lone 3976257720\npage 2 "
@@ -381,7 +427,7 @@ fn a_station_with_a_fault(rt: HostRuntime) -> Result<(), Fail> {
             Status::Station,
         )?;
     }
-    let (written, status) = run(rt.alloc(), &WORDS, b"bound = \xff\n", "", NONE)?;
+    let (written, status) = run(&rt, rt.alloc(), &WORDS, b"bound = \xff\n", "", NONE)?;
     assert_eq!(rt; written.as_slice(), b"status 3 station toml\n".as_slice());
     assert_eq!(rt; status, Status::Station);
     Ok(())
@@ -484,7 +530,14 @@ j2 9 0 0 543000000 verdict 3692217780 0\npage 9 1 1 44434600 1585795228264248115
 #[test]
 fn a_leap_second_ends_a_page(rt: HostRuntime) -> Result<(), Fail> {
     let script = leap_script(rt.alloc())?;
-    let (written, status) = run(rt.alloc(), &WORDS, DCF.as_bytes(), script.as_str(), NONE)?;
+    let (written, status) = run(
+        &rt,
+        rt.alloc(),
+        &WORDS,
+        DCF.as_bytes(),
+        script.as_str(),
+        NONE,
+    )?;
     let past = written
         .split(|byte| *byte == b'\n')
         .nth(6)

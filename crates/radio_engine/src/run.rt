@@ -1,9 +1,9 @@
 //! The one call that the program makes.
-ghost use Rattle.std.specs.Prelude.{◌≡◌, ◌≤◌, ◌^◌, ◌⊎◌, map};
+ghost use Rattle.std.specs.Prelude.{◌≡◌, ◌⊎◌, false, map};
 ghost use Rattle.command_words.specs.Commands.{Asked, AskFor};
 ghost use Rattle.feed_link.specs.Faults.{Rose};
 ghost use Rattle.radio_engine.specs.Endings.{status_of, status_line};
-ghost use Rattle.radio_engine.specs.Run.{Refuses, Lacks, Runs, IsFaultless};
+ghost use Rattle.radio_engine.specs.Run.{Refuses, Lacks, Runs, IsComplete, IsFaultless};
 ghost use Rattle.radio_engine.specs.Writing.{Answers};
 ghost use Rattle.radio_engine.specs.declared.ending.Ending.TheVariants.{NoMemory};
 ghost use Rattle.receiver_rack.specs.Racks.{IsRack};
@@ -14,21 +14,14 @@ use crate::ending::status::Status;
 use crate::ending::writing::finish;
 use crate::migrate::run_migrate;
 use crate::replay::run_replay;
+use crate::serve::{Orders, run_serve};
 use command_words::{Command, WordsFault, read_words};
 use feed_link::{Outside, Sink};
 use radio_receiver::Receiver;
+use station_crew::Budget;
 use std::alloc::Global;
-
-// The most entries that words may ask for.
-const MOST: u32 = 4_194_304;
-
-// A limit that words ask for is within the most.
-fn within(limit: u32) -> u32
-    ensures most { result ≤ 2 ^ 22 }
-    ensures same { limit ≤ 2 ^ 22 → result ≡ limit }
-{
-    limit.min(MOST)
-}
+use std::sync::Wait;
+use std::thread::Threads;
 
 /// Ends a command for which no memory was found before anything was opened: the status line is written.
 pub fn end_without_memory<K: Sink>(out: &mut K) -> Status
@@ -43,14 +36,17 @@ pub fn end_without_memory<K: Sink>(out: &mut K) -> Status
 /// moves its journal over line by line, and writes the page of the entries and the status line behind it.
 ///
 /// The rack holds at least four blank receivers of each plan. Those of a plan are used in the rack's order.
-pub fn run_station<O: Outside, K: Sink>(
+pub fn run_station<R: Threads + Wait + Sync, O: Outside, K: Sink>(
+    rt: &R,
     alloc: Global,
     words: &[&str],
     rack: Vec<Box<dyn Receiver + Send>>,
     outside: &mut O,
     out: &mut K,
 ) -> Status
-    requires { IsRack (λ b h. stands_for b h) rack.items }
+    requires rack { IsRack (λ b h. stands_for b h) rack.items }
+    requires gate { O.gate_out outside.old ≡ false }
+    ensures gate { O.gate_out outside.new ≡ O.gate_out outside.old }
 
     // Words that ask for no command are refused, and nothing is opened.
     ensures refused { ((asked : Asked) → AskFor (map (λ w. w.now) words.now) asked → ⊥) →
@@ -65,7 +61,7 @@ pub fn run_station<O: Outside, K: Sink>(
     // Where nothing has a fault, all is done.
     ensures complete { (asked : Asked) → AskFor (map (λ w. w.now) words.now) asked →
         IsFaultless asked (O.state outside.old) (O.state outside.new) → (Rose (K.state out.old).faults (K.state out.new).faults → ⊥) →
-        result ≡ Status.Done }
+        IsComplete asked result }
 {
     match read_words(alloc, words) {
         Ok(Command::Decode { plan, log }) => open_and_decode(plan, log, outside, out),
@@ -75,9 +71,28 @@ pub fn run_station<O: Outside, K: Sink>(
                 script,
                 limit,
             },
-        ) => run_replay(alloc, station, script, within(limit), rack, outside, out),
+        ) => run_replay(alloc, station, script, limit, rack, outside, out),
         Ok(Command::Migrate { station, journal }) => {
             run_migrate(alloc, station, journal, outside, out)
+        }
+        Ok(
+            Command::Serve {
+                station,
+                during,
+                after,
+                limit,
+            },
+        ) => {
+            let budget = Budget { during, after };
+            run_serve(
+                rt,
+                alloc,
+                station,
+                Orders { limit, budget },
+                rack,
+                outside,
+                out,
+            )
         }
         Err(WordsFault::Usage) => finish(Ending::WrongWords, out),
         Err(WordsFault::Memory) => finish(Ending::NoMemory, out),

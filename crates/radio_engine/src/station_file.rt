@@ -27,7 +27,8 @@ pub fn open_station<O: Outside>(
 ) -> Result<FileEnd, Failed>
     requires empty { text.old.items ≡ [] }
     requires room { 65536 ≤ vec_capacity text.old }
-    ensures { TriesStation name.now (O.state outside.old) (O.state outside.new) text.new.items result }
+    ensures gate { O.gate_out outside.new ≡ O.gate_out outside.old }
+    ensures tried { TriesStation name.now (O.state outside.old) (O.state outside.new) text.new.items result }
 {
     let Ok(mut file) = outside.open_log(name) else {
         return Err(Failed);

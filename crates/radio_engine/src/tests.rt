@@ -1,13 +1,17 @@
 //! Tests of `decode` over the fakes, and of words that are refused; the other tests take what they share from here.
+ghost use Rattle.std.specs.Prelude.{◌≡◌, IfOk, false};
+ghost use Rattle.feed_link.specs.MemoryOutside.{is_gate_out};
 
 use super::*;
-use feed_link::{FakeOpen, MemoryOutside, MemorySink, MemorySource, NamedLog, OpenGate};
+use feed_link::{FakeOpen, Gate, MemoryOutside, MemorySink, MemorySource, NamedLog, OpenGate};
 use radio_receiver::{DcfReceiver, MsfReceiver, WwvbReceiver};
 use receiver_rack::put_in_rack;
 use script_player::BoxedReceiver;
 use std::alloc::{AllocError, Global};
 use std::process::Abort;
+use std::sync::Wait;
 use std::test::Fail;
+use std::thread::Threads;
 use tick_units::Plan;
 
 const WORDS: [&str; 5] = ["decode", "--plan", "dcf", "--log", "log"];
@@ -135,13 +139,16 @@ pub fn outside_of(
     alloc: Global,
     logs: Vec<NamedLog>,
     failing: u64,
-) -> Result<MemoryOutside<OpenGate>, FakeOpen> {
+) -> Result<MemoryOutside<OpenGate>, FakeOpen>
+    ensures { IfOk result (λ outside. is_gate_out outside ≡ false) }
+{
     let fails = vec![in alloc; failing]?;
     MemoryOutside::new(alloc, logs, Vec::new(alloc), OpenGate::new(), fails, 4, 100)
 }
 
 // What the words write over a log of this text under the name "log", and their status.
-fn run(
+fn run<R: Threads + Wait + Sync>(
+    rt: &R,
     alloc: Global,
     words: &[&str],
     text: &str,
@@ -155,17 +162,20 @@ fn run(
     logs.push(NamedLog::new(String::from_str(alloc, "log")?, source))?;
     let mut outside = outside_of(alloc, logs, failing.open)?;
     let mut out = MemorySink::new(alloc, Vec::new(alloc));
-    let status = run_over(alloc, words, &mut outside, &mut out)?;
+    let status = run_over(rt, alloc, words, &mut outside, &mut out)?;
     Ok((out.into_bytes(), status))
 }
 
 // Runs the words with four receivers of each plan.
-pub fn run_over(
+pub fn run_over<R: Threads + Wait + Sync, G: Gate + Drop>(
+    rt: &R,
     alloc: Global,
     words: &[&str],
-    outside: &mut MemoryOutside<OpenGate>,
+    outside: &mut MemoryOutside<G>,
     out: &mut MemorySink,
-) -> Result<Status, AllocError> {
+) -> Result<Status, AllocError>
+    requires { is_gate_out outside.old ≡ false }
+{
     let mut rack: Vec<BoxedReceiver> = Vec::new(alloc);
     put_in_rack(&mut rack, Box::new(alloc, DcfReceiver::new())?, Plan::Dcf)?;
     put_in_rack(&mut rack, Box::new(alloc, MsfReceiver::new())?, Plan::Msf)?;
@@ -179,12 +189,12 @@ pub fn run_over(
     put_in_rack(&mut rack, Box::new(alloc, DcfReceiver::new())?, Plan::Dcf)?;
     put_in_rack(&mut rack, Box::new(alloc, MsfReceiver::new())?, Plan::Msf)?;
     put_in_rack(&mut rack, Box::new(alloc, WwvbReceiver::new())?, Plan::Wwvb)?;
-    Ok(run_station(alloc, words, rack, outside, out))
+    Ok(run_station(rt, alloc, words, rack, outside, out))
 }
 
 // What a log of these frames writes is this text.
 fn decodes(
-    rt: &impl Abort,
+    rt: &(impl Abort + Threads + Wait + Sync),
     alloc: Global,
     frames: &[Frame<'_>],
     changes: &[Change],
@@ -192,7 +202,7 @@ fn decodes(
     want: &str,
 ) -> Result<(), Fail> {
     let text = log_of(alloc, frames, changes, close)?;
-    let (written, status) = run(alloc, &WORDS, text.as_str(), NONE)?;
+    let (written, status) = run(rt, alloc, &WORDS, text.as_str(), NONE)?;
     assert_eq!(rt; written.as_slice(), want.as_bytes());
     assert_eq!(rt; status, Status::Done);
     Ok(())
@@ -367,8 +377,13 @@ fn msf_log(
 }
 
 // What an MSF log writes is this text.
-fn decodes_msf(rt: &impl Abort, alloc: Global, text: &str, want: &str) -> Result<(), Fail> {
-    let (written, status) = run(alloc, &MSF, text, NONE)?;
+fn decodes_msf(
+    rt: &(impl Abort + Threads + Wait + Sync),
+    alloc: Global,
+    text: &str,
+    want: &str,
+) -> Result<(), Fail> {
+    let (written, status) = run(rt, alloc, &MSF, text, NONE)?;
     assert_eq!(rt; written.as_slice(), want.as_bytes());
     assert_eq!(rt; status, Status::Done);
     Ok(())
@@ -441,7 +456,7 @@ fn wwvb_minutes_are_read(rt: HostRuntime) -> Result<(), Fail> {
     ];
     for (ones, more, want) in table {
         let text = wwvb_log(rt.alloc(), ones, more)?;
-        let (written, status) = run(rt.alloc(), &WWVB, text.as_str(), NONE)?;
+        let (written, status) = run(&rt, rt.alloc(), &WWVB, text.as_str(), NONE)?;
         assert_eq!(rt; written.as_slice(), want.as_bytes(), "with {more}");
         assert_eq!(rt; status, Status::Done);
     }
@@ -464,7 +479,7 @@ fn a_log_ends_at_its_first_bad_line(rt: HostRuntime) -> Result<(), Fail> {
         ("1 1\n2 1\n11111111111111111111111111111111111111", 3),
     ];
     for (text, line) in table {
-        let (written, status) = run(rt.alloc(), &WORDS, text, NONE)?;
+        let (written, status) = run(&rt, rt.alloc(), &WORDS, text, NONE)?;
         let mut want = String::new(rt.alloc());
         writeln!(want, "status 5 line 0 {line}")?;
         assert_eq!(rt; written.as_slice(), want.as_bytes(), "at {text}");
@@ -476,7 +491,7 @@ fn a_log_ends_at_its_first_bad_line(rt: HostRuntime) -> Result<(), Fail> {
 #[test]
 fn what_is_lawful_is_taken(rt: HostRuntime) -> Result<(), Fail> {
     for text in ["", "0 1\n", "1125899906842623 2000000\n"] {
-        let (written, status) = run(rt.alloc(), &WORDS, text, NONE)?;
+        let (written, status) = run(&rt, rt.alloc(), &WORDS, text, NONE)?;
         assert_eq!(rt; written.as_slice(), b"status 0\n".as_slice(), "at {text}");
         assert_eq!(rt; status, Status::Done);
     }
@@ -487,7 +502,7 @@ fn what_is_lawful_is_taken(rt: HostRuntime) -> Result<(), Fail> {
 fn entries_before_a_bad_line_stand(rt: HostRuntime) -> Result<(), Fail> {
     let mut text = two_frames(rt.alloc())?;
     text.push_str("122000000 100000\n")?;
-    let (written, status) = run(rt.alloc(), &WORDS, text.as_str(), NONE)?;
+    let (written, status) = run(&rt, rt.alloc(), &WORDS, text.as_str(), NONE)?;
     let want =
         "0 62000000 lone 3976257600\n0 122000000 verdict 3976257660 0\nstatus 5 line 0 121\n";
     assert_eq!(rt; written.as_slice(), want.as_bytes());
@@ -511,12 +526,12 @@ fn a_read_that_fails_ends_the_log(rt: HostRuntime) -> Result<(), Fail> {
     ];
     for (read, want) in table {
         let failing = Failing { read, ..NONE };
-        let (written, status) = run(rt.alloc(), &WORDS, text.as_str(), failing)?;
+        let (written, status) = run(&rt, rt.alloc(), &WORDS, text.as_str(), failing)?;
         assert_eq!(rt; written.as_slice(), want.as_bytes(), "at {read}");
         assert_eq!(rt; status, Status::ReadFault);
     }
     let past = Failing { read: 6, ..NONE };
-    let (written, status) = run(rt.alloc(), &WORDS, text.as_str(), past)?;
+    let (written, status) = run(&rt, rt.alloc(), &WORDS, text.as_str(), past)?;
     assert_eq!(rt; written.as_slice(), TWO_FRAMES.as_bytes());
     assert_eq!(rt; status, Status::Done);
     Ok(())
@@ -527,7 +542,7 @@ fn a_log_that_cannot_be_opened(rt: HostRuntime) -> Result<(), Fail> {
     let other = ["decode", "--plan", "dcf", "--log", "other"];
     let failing = Failing { open: 1, ..NONE };
     for (words, failing) in [(other, NONE), (WORDS, failing)] {
-        let (written, status) = run(rt.alloc(), &words, "", failing)?;
+        let (written, status) = run(&rt, rt.alloc(), &words, "", failing)?;
         assert_eq!(rt; written.as_slice(), b"status 2 open feed 0\n".as_slice());
         assert_eq!(rt; status, Status::OpenFault);
     }
@@ -546,7 +561,7 @@ fn other_words_are_usage(rt: HostRuntime) -> Result<(), Fail> {
         &["decode", "--plan", "dcf", "--log", "log", "log"],
     ];
     for words in table {
-        let (written, status) = run(rt.alloc(), words, "", NONE)?;
+        let (written, status) = run(&rt, rt.alloc(), words, "", NONE)?;
         assert_eq!(rt; written.as_slice(), b"status 1 usage\n".as_slice());
         assert_eq!(rt; status, Status::Usage);
     }

@@ -2,7 +2,7 @@
 //! call that does all, and ends with that call's status.
 #![tactic(auto)]
 
-ghost use Rattle.std.specs.Prelude.{◌≡◌, IfOk, MatchResult, drop, map};
+ghost use Rattle.std.specs.Prelude.{◌≡◌, IfOk, MatchResult, drop, false, map};
 ghost use Rattle.std.specs.Process.{exit_status};
 ghost use Rattle.std.specs.String.{string_bytes};
 ghost use Rattle.std.specs.Vec.Iter.{into_iter_items};
@@ -18,6 +18,8 @@ use std::env::Args;
 use std::fs::{self, Files};
 use std::os::fd::AsRawFd;
 use std::process::ExitCode;
+use std::sync::Wait;
+use std::thread::Threads;
 use std::{env, io};
 use tick_units::Plan;
 
@@ -26,7 +28,7 @@ fn main(rt: HostRuntime) -> ExitCode {
     let mut outside = HostOutside::new(&rt);
     let mut out = StreamSink::new(io::writer(&rt));
     let status = match words(&rt) {
-        Ok(words) => run_words(rt.alloc(), words.as_slice(), &mut outside, &mut out),
+        Ok(words) => run_words(&rt, rt.alloc(), words.as_slice(), &mut outside, &mut out),
         Err(AllocError) => end_without_memory(&mut out),
     };
     exit_code(status)
@@ -110,27 +112,31 @@ fn texts_of<'a>(alloc: Global, words: &'a [String]) -> Result<Vec<&'a str>, Allo
 }
 
 // Runs the command that words ask for. Where no memory is found before it begins, nothing is opened and the status line is written.
-fn run_words<O: Outside, K: Sink>(
+fn run_words<R: Threads + Wait + Sync, O: Outside, K: Sink>(
+    rt: &R,
     alloc: Global,
     words: &[String],
     outside: &mut O,
     out: &mut K,
 ) -> Status
+    requires { O.gate_out outside.old ≡ false }
     ensures { IsRun (map (λ w. string_bytes w) words.now) (O.state outside.old) (O.state outside.new) (K.state out.old) (K.state out.new) result }
 {
-    match run(alloc, words, outside, out) {
+    match run(rt, alloc, words, outside, out) {
         Ok(status) => status,
         Err(AllocError) => end_without_memory(out),
     }
 }
 
 // Runs the words with four receivers of each plan, where there is memory for them.
-fn run<O: Outside, K: Sink>(
+fn run<R: Threads + Wait + Sync, O: Outside, K: Sink>(
+    rt: &R,
     alloc: Global,
     words: &[String],
     outside: &mut O,
     out: &mut K,
 ) -> Result<Status, AllocError>
+    requires { O.gate_out outside.old ≡ false }
     ensures { MatchResult result
         (λ status. IsRun (map (λ w. string_bytes w) words.now) (O.state outside.old) (O.state outside.new) (K.state out.old) (K.state out.new) status)
         (λ _. (O.state outside.new ≡ O.state outside.old) × (K.state out.new ≡ K.state out.old)) }
@@ -149,5 +155,5 @@ fn run<O: Outside, K: Sink>(
     put_in_rack(&mut rack, Box::new(alloc, DcfReceiver::new())?, Plan::Dcf)?;
     put_in_rack(&mut rack, Box::new(alloc, MsfReceiver::new())?, Plan::Msf)?;
     put_in_rack(&mut rack, Box::new(alloc, WwvbReceiver::new())?, Plan::Wwvb)?;
-    Ok(run_station(alloc, texts.as_slice(), rack, outside, out))
+    Ok(run_station(rt, alloc, texts.as_slice(), rack, outside, out))
 }

@@ -119,6 +119,7 @@ pub fn status_text(ending: Ending) -> Line
         Ending::NotRead(subject) => ended(named(b"status 4 read ", subject)),
         Ending::WrongLine(subject, line) => numbered(placed(b"status 5 ", subject), line),
         Ending::Full(limit) => numbered(joined(b"status 6 full", b""), u64::from(limit)),
+        Ending::LinkFailed(subject) => ended(named(b"status 7 ", subject)),
         Ending::NoMemory => joined(b"status 9 memory\n", b""),
         Ending::Long(subject) => ended(named(b"status 10 long ", subject)),
     }

@@ -7,8 +7,8 @@ use Rattle.radio_engine.proofs.decode.open_and_decode.Goals as goal
 pub give_back_log-requires : goal.give_back_log-requires
 give_back_log-requires g c = out_after _ _ _ _ _ _ c.in-Ok.ensures.opened c.in-Ok.ensures.number c.decode-status.ensures.number
 
-pub returns : goal.returns
-returns g c =
+pub returns-clause-runs : goal.returns-clause-runs
+returns-clause-runs g c =
     let was = g.O.Log.Source.state c.in-Ok.log in
     let is = g.O.Log.Source.state c.decode-status.new.log in
     inr (record {

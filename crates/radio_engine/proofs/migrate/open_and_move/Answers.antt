@@ -7,8 +7,8 @@ use Rattle.radio_engine.proofs.migrate.open_and_move.Goals as goal
 pub give_back_log-requires : goal.give_back_log-requires
 give_back_log-requires g c = out_after _ _ _ _ _ _ c.in-Ok.ensures.opened c.in-Ok.ensures.number c.move_whole-status.ensures.number
 
-pub returns : goal.returns
-returns g c = λ of h.
+pub returns-clause-tried : goal.returns-clause-tried
+returns-clause-tried g c = λ of h.
     let was = g.O.Log.Source.state c.in-Ok.journal in
     let is = g.O.Log.Source.state c.move_whole-status.new.journal in
     inr (record {

@@ -10,13 +10,13 @@ use Rattle.radio_engine.specs.declared.ending.subject.Subject.TheVariants.{Journ
 use Rattle.radio_engine.proofs.StationFileLaws.{told_by}
 use Rattle.radio_engine.proofs.migrate.run_migrate.Goals as goal
 
-pub returns-in-Ok-prepare : goal.returns-in-Ok-prepare
-returns-in-Ok-prepare g c =
+pub returns-in-Ok-prepare-clause-runs : goal.returns-in-Ok-prepare-clause-runs
+returns-in-Ok-prepare-clause-runs g c =
     let judged = c.in-Ok-prepare.ensures.judged in
-    let opens = subst (λ (end : FileEnd). OpensStation c.args.station.now (g.O.Outside.state c.args.outside.now) (g.O.Outside.state c.open_station.new.outside) end c.open_station.new.text.items) judged.0 c.in-Ok-open_station.ensures in
-    inr (file_tried Journal journal_of c.args.station.now c.args.journal.now _ _ _ _ _ _ _ judged.1.0 opens (subst (λ (b : List ℕ). Says b judged.1.0) c.as_slice.ensures.value judged.1.1) (c.open_and_move.ensures judged.1.0 judged.1.2))
+    let opens = subst (λ (end : FileEnd). OpensStation c.args.station.now (g.O.Outside.state c.args.outside.now) (g.O.Outside.state c.open_station.new.outside) end c.open_station.new.text.items) judged.0 c.in-Ok-open_station.ensures.tried in
+    inr (file_tried Journal journal_of c.args.station.now c.args.journal.now _ _ _ _ _ _ _ judged.1.0 opens (subst (λ (b : List ℕ). Says b judged.1.0) c.as_slice.ensures.value judged.1.1) (c.open_and_move.ensures.tried judged.1.0 judged.1.2))
 
-pub returns : goal.returns
-returns g c =
+pub returns-clause-runs : goal.returns-clause-runs
+returns-clause-runs g c =
     let cause = subst (λ (b : List ℕ). IsObstacle c.in-Ok-open_station.end b c.in-Err.obstacle) c.as_slice.ensures.value c.in-Err.ensures.judged in
-    inr (ends_at Journal journal_of c.args.station.now c.args.journal.now _ _ _ _ _ c.in-Ok-open_station.end _ c.in-Err.obstacle c.in-Ok-open_station.ensures cause (c.finish_at.ensures (told_by c.in-Ok-open_station.end _ c.in-Err.obstacle cause)))
+    inr (ends_at Journal journal_of c.args.station.now c.args.journal.now _ _ _ _ _ c.in-Ok-open_station.end _ c.in-Err.obstacle c.in-Ok-open_station.ensures.tried cause (c.finish_at.ensures (told_by c.in-Ok-open_station.end _ c.in-Err.obstacle cause)))

@@ -7,8 +7,8 @@ use Rattle.radio_engine.proofs.replay.open_and_play.Goals as goal
 pub give_back_log-requires : goal.give_back_log-requires
 give_back_log-requires g c = out_after _ _ _ _ _ _ c.in-Ok.ensures.opened c.in-Ok.ensures.number c.play-status.ensures.number
 
-pub returns : goal.returns
-returns g c = λ station h.
+pub returns-clause-tried : goal.returns-clause-tried
+returns-clause-tried g c = λ station h.
     let was = g.O.Log.Source.state c.in-Ok.script in
     let is = g.O.Log.Source.state c.play-status.new.script in
     inr (record {

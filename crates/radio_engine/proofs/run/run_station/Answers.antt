@@ -1,16 +1,15 @@
 -- What the search leaves open of `run::run_station`.
-use Rattle.std.proofs.Common.{ℕ, ◌⊎◌, inr, subst}
+use Rattle.std.proofs.Common.{◌⊎◌, inr, subst}
 use Rattle.command_words.specs.Commands.{Asked}
-use Rattle.command_words.specs.Commands.Asked.{replay}
 use Rattle.radio_engine.specs.Run.{Lacks, Runs}
-use Rattle.radio_engine.proofs.RunLaws.{runs_done, untouched, limit_of}
+use Rattle.radio_engine.proofs.RunLaws.{runs_done, untouched}
 use Rattle.radio_engine.proofs.run.run_station.Goals as goal
 
 pub returns-in-Ok-Decode-clause-runs : goal.returns-in-Ok-Decode-clause-runs
 returns-in-Ok-Decode-clause-runs g c = λ asked h.
     subst (λ (a : Asked). Lacks (g.O.Outside.state c.args.outside.now) (g.O.Outside.state c.open_and_decode.new.outside) (g.K.Sink.state c.args.out.now) (g.K.Sink.state c.open_and_decode.new.out) c.open_and_decode.result
     ⊎ Runs a (g.O.Outside.state c.args.outside.now) (g.O.Outside.state c.open_and_decode.new.outside) (g.K.Sink.state c.args.out.now) (g.K.Sink.state c.open_and_decode.new.out) c.open_and_decode.result)
-    (rw c.in-Ok-Decode.field-0-is at (c.in-Ok-Decode.ensures.only asked h)) (inr c.open_and_decode.ensures)
+    (rw c.in-Ok-Decode.field-0-is at (c.in-Ok-Decode.ensures.only asked h)) (inr c.open_and_decode.ensures.runs)
 
 pub returns-in-Ok-Decode-clause-complete : goal.returns-in-Ok-Decode-clause-complete
 returns-in-Ok-Decode-clause-complete g c = λ asked h good no_write.
@@ -21,9 +20,7 @@ returns-in-Ok-Replay-clause-runs g c = λ asked h.
     subst (λ (a : Asked). Lacks (g.O.Outside.state c.args.outside.now) (g.O.Outside.state c.run_replay.new.outside) (g.K.Sink.state c.args.out.now) (g.K.Sink.state c.run_replay.new.out) c.run_replay.result
     ⊎ Runs a (g.O.Outside.state c.args.outside.now) (g.O.Outside.state c.run_replay.new.outside) (g.K.Sink.state c.args.out.now) (g.K.Sink.state c.run_replay.new.out) c.run_replay.result)
     (rw c.in-Ok-Replay.field-0-is at (c.in-Ok-Replay.ensures.only asked h))
-    (subst (λ (k : ℕ). Lacks (g.O.Outside.state c.args.outside.now) (g.O.Outside.state c.run_replay.new.outside) (g.K.Sink.state c.args.out.now) (g.K.Sink.state c.run_replay.new.out) c.run_replay.result
-    ⊎ Runs (replay c.in-Ok-Replay.station.now c.in-Ok-Replay.script.now k) (g.O.Outside.state c.args.outside.now) (g.O.Outside.state c.run_replay.new.outside) (g.K.Sink.state c.args.out.now) (g.K.Sink.state c.run_replay.new.out) c.run_replay.result)
-    (c.within.ensures.same (limit_of _ _ _ _ (rw c.in-Ok-Replay.field-0-is at c.in-Ok-Replay.ensures.asked))) c.run_replay.ensures)
+    c.run_replay.ensures.runs
 
 pub returns-in-Ok-Replay-clause-complete : goal.returns-in-Ok-Replay-clause-complete
 returns-in-Ok-Replay-clause-complete g c = λ asked h good no_write.
@@ -33,11 +30,21 @@ pub returns-in-Ok-Migrate-clause-runs : goal.returns-in-Ok-Migrate-clause-runs
 returns-in-Ok-Migrate-clause-runs g c = λ asked h.
     subst (λ (a : Asked). Lacks (g.O.Outside.state c.args.outside.now) (g.O.Outside.state c.run_migrate.new.outside) (g.K.Sink.state c.args.out.now) (g.K.Sink.state c.run_migrate.new.out) c.run_migrate.result
     ⊎ Runs a (g.O.Outside.state c.args.outside.now) (g.O.Outside.state c.run_migrate.new.outside) (g.K.Sink.state c.args.out.now) (g.K.Sink.state c.run_migrate.new.out) c.run_migrate.result)
-    (rw c.in-Ok-Migrate.field-0-is at (c.in-Ok-Migrate.ensures.only asked h)) c.run_migrate.ensures
+    (rw c.in-Ok-Migrate.field-0-is at (c.in-Ok-Migrate.ensures.only asked h)) c.run_migrate.ensures.runs
 
 pub returns-in-Ok-Migrate-clause-complete : goal.returns-in-Ok-Migrate-clause-complete
 returns-in-Ok-Migrate-clause-complete g c = λ asked h good no_write.
     runs_done asked _ _ _ _ _ good no_write (returns-in-Ok-Migrate-clause-runs g c asked h)
+
+pub returns-in-Ok-Serve-clause-runs : goal.returns-in-Ok-Serve-clause-runs
+returns-in-Ok-Serve-clause-runs g c = λ asked h.
+    subst (λ (a : Asked). Lacks (g.O.Outside.state c.args.outside.now) (g.O.Outside.state c.run_serve.new.outside) (g.K.Sink.state c.args.out.now) (g.K.Sink.state c.run_serve.new.out) c.run_serve.result
+    ⊎ Runs a (g.O.Outside.state c.args.outside.now) (g.O.Outside.state c.run_serve.new.outside) (g.K.Sink.state c.args.out.now) (g.K.Sink.state c.run_serve.new.out) c.run_serve.result)
+    (rw c.in-Ok-Serve.field-0-is at (c.in-Ok-Serve.ensures.only asked h)) c.run_serve.ensures.runs
+
+pub returns-in-Ok-Serve-clause-complete : goal.returns-in-Ok-Serve-clause-complete
+returns-in-Ok-Serve-clause-complete g c = λ asked h good no_write.
+    runs_done asked _ _ _ _ _ good no_write (returns-in-Ok-Serve-clause-runs g c asked h)
 
 pub returns-in-Err-Usage-clause-runs : goal.returns-in-Err-Usage-clause-runs
 returns-in-Err-Usage-clause-runs g c = λ asked h. absurd (c.in-Err-Usage.ensures.usage c.in-Err-Usage.field-0-is asked h)

@@ -6,8 +6,8 @@ use Rattle.radio_engine.proofs.station_file.open_station.Goals as goal
 pub give_back_log-requires : goal.give_back_log-requires
 give_back_log-requires g c = out_after _ _ _ _ _ _ c.in-Ok.ensures.opened c.in-Ok.ensures.number c.read_whole-end.ensures.number
 
-pub returns : goal.returns
-returns g c =
+pub returns-clause-tried : goal.returns-clause-tried
+returns-clause-tried g c =
     let was = g.O.Log.Source.state c.in-Ok.file in
     let is = g.O.Log.Source.state c.read_whole-end.new.file in
     (record {

@@ -1,0 +1,6 @@
+-- What the search leaves open of `serve::serve`.
+use Rattle.radio_engine.proofs.ServingLaws.{never_opened}
+use Rattle.radio_engine.proofs.serve.serve.Goals as goal
+
+pub returns-in-Err-clause-tried : goal.returns-in-Err-clause-tried
+returns-in-Err-clause-tried g c = never_opened _ _

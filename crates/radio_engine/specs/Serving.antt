@@ -1,0 +1,110 @@
+-- What becomes of a command to serve a station: what is opened and given back, what keeps a station from being served, and when nothing
+-- has a fault.
+use Rattle.std.specs.Prelude.{◌≡◌, ◌⊎◌, ℕ, ◌+◌, ◌-◌, ◌≤◌, nat_lt, Option, None, Some, List, [], ◌∷◌, ◌++◌, All, length, map, if◌then◌else◌}
+use Rattle.feed_link.specs.Faults.{Rose}
+use Rattle.feed_link.specs.Told.{SourceState, SinkState, LinkState, NetEvent}
+use Rattle.feed_link.specs.Openings.{Opening, OutsideState, State, Visit, Wanted, MakesOpenings, log_visit, visited}
+use Rattle.feed_link.specs.Openings.State.{OfLog, OfLink}
+use Rattle.feed_link.specs.Openings.Wanted.{LogOf}
+use Rattle.station_config.specs.Station.{StationFields}
+use Rattle.station_gear.specs.Gears.{wanted_by}
+use Rattle.radio_engine.specs.Decoding.{IsGoodLog}
+use Rattle.radio_engine.specs.Endings.{status_of, status_line}
+use Rattle.radio_engine.specs.Headline.{LogRun, PollRun, LinkRun, StationRun, IsServed, due_in_all}
+use Rattle.radio_engine.specs.Opening.{CannotOpen}
+use Rattle.radio_engine.specs.StationFile.{EndsAtStation, HasStation, IsStation, most_of_a_station}
+use Rattle.radio_engine.specs.Writing.{Answers}
+use Rattle.radio_engine.specs.declared.ending.Ending.{Ending}
+use Rattle.radio_engine.specs.declared.ending.Ending.TheVariants.{NoMemory, NotOpened}
+use Rattle.radio_engine.specs.declared.ending.status.Status.{Status}
+use Rattle.radio_engine.specs.declared.ending.subject.Subject.{Subject}
+use Rattle.radio_engine.specs.declared.ending.subject.Subject.TheVariants.{Feed, Link, Station}
+
+-- what stands at a place of those that a station opens: the log or link of the feed of that number, or a serving link by its own number
+abbrev pub subject_at : StationFields → ℕ → Subject
+subject_at of place = let feeds = length of.radios + length of.servers in if nat_lt place feeds then Feed place else Link (place - feeds)
+
+-- one of them couldn't be opened, the one behind those that were; or no memory was found
+abbrev pub LacksOne : StationFields → ℕ → Option Wanted → Ending → Type 0
+LacksOne of place None due = due ≡ NoMemory
+LacksOne of place (Some what) due = due ≡ NotOpened (subject_at of place)
+
+-- The station isn't served: its logs and links are opened in order up to the one that fails, or as far as memory was found. What was
+-- opened is given back as it was, and the status line alone is written
+pub record EndsUnserved (name : List ℕ) (outside outside_now : OutsideState) (out out_now : SinkState) (result : Status) : Type 0 where
+  pub of : StationFields
+  pub opened : SourceState
+  pub back : SourceState
+  pub station : HasStation opened back of
+  pub visits : List Visit
+  pub failing : Option Wanted
+  pub opens : MakesOpenings (LogOf name ∷ wanted_by of) outside outside_now (log_visit name opened back ∷ visits) failing
+  pub unused : All (λ visit. visit.back ≡ visit.opened) visits
+  pub due : Ending
+  pub cause : LacksOne of (length visits) failing due
+  pub written : Answers (status_of due) result out out_now (status_line due)
+
+-- what a station's logs and links told when they were opened, in the order of their openings, and when they were given back
+abbrev pub opened_in : StationRun → List State
+opened_in run = map (λ log. OfLog log.opened) run.radios ++ (map (λ poll. OfLink poll.opened) run.servers ++ map (λ link. OfLink link.opened) run.links)
+
+abbrev pub back_in : StationRun → List State
+back_in run = map (λ log. OfLog log.back) run.radios ++ (map (λ poll. OfLink poll.back) run.servers ++ map (λ link. OfLink link.back) run.links)
+
+-- The station, its logs and its links are opened in order, each once, and all are given back. What its workers do with them is the
+-- headline
+pub record ServesStation (name : List ℕ) (during after limit : ℕ) (outside outside_now : OutsideState) (out out_now : SinkState) (result : Status) : Type 0 where
+  pub of : StationFields
+  pub opened : SourceState
+  pub back : SourceState
+  pub station : HasStation opened back of
+  pub run : StationRun
+  pub visits : List Visit
+  pub opens : MakesOpenings (LogOf name ∷ wanted_by of) outside outside_now (log_visit name opened back ∷ visits) None
+  pub opened_are : map (λ visit. visit.opened) visits ≡ opened_in run
+  pub back_are : map (λ visit. visit.back) visits ≡ back_in run
+  pub served : IsServed of limit during after run out out_now result
+
+-- what becomes of a command to serve a station
+abbrev pub RunsServe : List ℕ → ℕ → ℕ → ℕ → OutsideState → OutsideState → SinkState → SinkState → Status → Type 0
+RunsServe name during after limit outside outside_now out out_now result =
+    CannotOpen (LogOf name ∷ []) [] (LogOf name) Station outside outside_now out out_now result
+    ⊎ (EndsAtStation (LogOf name ∷ []) name outside outside_now out out_now result
+    ⊎ (EndsUnserved name outside outside_now out out_now result
+    ⊎ ServesStation name during after limit outside outside_now out out_now result))
+
+-- ---- a station without a fault
+
+-- a log without a fault, of which these are the bytes
+pub record IsGoodLogRun (log : LogRun) : Type 0 where
+  pub good : IsGoodLog log.opened log.back
+  pub bytes_are : good.text ≡ log.bytes
+
+-- a link that tells its events and has no fault
+pub record IsGoodLink (opened back : LinkState) (events : List NetEvent) : Type 0 where
+  pub before : List NetEvent
+  pub were : opened.events ≡ Some before
+  pub are : back.events ≡ Some (before ++ events)
+  pub no_fault : Rose opened.faults back.faults → ⊥
+
+-- A station and all that it opens were opened and given back, told their contents, and have no fault; and no more entries are due than its
+-- journal may have
+pub record HasGoodStation (name : List ℕ) (limit : ℕ) (outside outside_now : OutsideState) : Type 0 where
+  pub before : List Opening
+  pub opened : SourceState
+  pub back : SourceState
+  pub visits : List Visit
+  pub were : outside.openings ≡ Some before
+  pub are : outside_now.openings ≡ Some (before ++ map visited (log_visit name opened back ∷ visits))
+  pub of : StationFields
+  pub is_station : IsStation of opened back
+  pub most : length is_station.text ≤ most_of_a_station
+  pub no_fault : Rose opened.faults back.faults → ⊥
+  pub run : StationRun
+  pub each : length run.servers ≡ length of.servers
+  pub opened_are : map (λ visit. visit.opened) visits ≡ opened_in run
+  pub back_are : map (λ visit. visit.back) visits ≡ back_in run
+  pub logs : All IsGoodLogRun run.radios
+  pub polls : All (λ poll. IsGoodLink poll.opened poll.back poll.events) run.servers
+  pub links : All (λ link. Rose link.opened.faults link.back.faults → ⊥) run.links
+  pub room : due_in_all of run ≤ limit

@@ -1,0 +1,239 @@
+//! `serve`: a station is served, and then its journal is written, what became of its links, and the page of the journal.
+ghost use Rattle.std.specs.Prelude.{◌≡◌, ◌<◌, ◌≤◌, ◌⊎◌, [], All, IfOk, MatchResult, false, true, length, vec_len};
+ghost use Rattle.radio_engine.specs.Crewing.{EndsAll, GivesServed, GivesUnused, TriesServe, subject_of};
+ghost use Rattle.radio_engine.specs.Run.{Lacks};
+ghost use Rattle.feed_link.specs.ManyOut.{AreOut};
+ghost use Rattle.radio_engine.specs.Serving.{RunsServe};
+ghost use Rattle.receiver_rack.specs.Racks.{IsRack};
+ghost use Rattle.station_config.specs.Station.{IsStation};
+ghost use Rattle.station_crew.specs.Served.{AreBlank};
+ghost use Rattle.station_gear.specs.Gears.{IsEmptyFor, numbers_of};
+ghost use Rattle.station_gear.specs.Opens.{IsWhole};
+
+mod cause;
+mod text;
+
+use crate::ending::Ending;
+use crate::ending::status::Status;
+use crate::ending::subject::Subject;
+use crate::ending::writing::finish;
+use crate::station_file::obstacle::finish_at;
+use crate::station_file::{self, judge, open_station};
+use feed_link::{Outside, Sink};
+use feed_workers::{LogWork, PollWork};
+use radio_receiver::{BoxedReceiver, Receiver};
+use receiver_rack::fit_radios;
+use station_config::Station;
+use station_crew::{Budget, Ended, LinkWork, serve_station};
+use station_gear::{Gear, Missing, give_back_gear, open_gear};
+use std::alloc::{AllocError, Global};
+use std::sync::Wait;
+use std::thread::Threads;
+use text::finish_served;
+use verdict_journal::Journal;
+
+// How a station is to be served: how many entries its journal may have, and how many hearings its links have in each phase.
+#[derive(Clone, Copy)]
+pub struct Orders {
+    pub limit: u32,
+    pub budget: Budget,
+}
+
+// What the workers of a station have left once its logs and links are given back.
+#[derive(Drop)]
+pub struct Done {
+    pub journal: Journal,
+    pub radios: Vec<LogWork>,
+    pub servers: Vec<PollWork>,
+    pub links: Vec<LinkWork>,
+}
+
+// What a station needs before anything is opened: the receivers of its radios, and room for its logs and links.
+#[derive(Drop)]
+struct Kit<L: Drop, T: Drop> {
+    receivers: Vec<BoxedReceiver>,
+    gear: Gear<L, T>,
+}
+
+// What stands for a missing log or link in the status line.
+fn subject_of(missing: Missing) -> Subject
+    ensures { result ≡ subject_of missing }
+{
+    match missing {
+        Missing::Feed(number) => Subject::Feed(number),
+        Missing::Link(number) => Subject::Link(number),
+    }
+}
+
+fn make_kit<L: Drop, T: Drop>(
+    alloc: Global,
+    station: &Station,
+    rack: Vec<BoxedReceiver>,
+) -> Result<Kit<L, T>, AllocError>
+    requires { IsRack (λ b h. stands_for b h) rack.items }
+    ensures receivers { IfOk result (λ kit. AreBlank (λ b h. stands_for b h) (λ b. least_start b) station.now.radios kit.receivers.items) }
+    ensures gear { IfOk result (λ kit. IsEmptyFor station.now kit.gear) }
+{
+    Ok(Kit {
+        receivers: fit_radios(alloc, station, rack)?,
+        gear: Gear::with_room(alloc, station)?,
+    })
+}
+
+// Serves a station whose logs and links are open, with the outside's gate.
+fn serve_gated<R: Threads + Wait + Sync, O: Outside>(
+    rt: &R,
+    alloc: Global,
+    station: &Station,
+    orders: Orders,
+    kit: Kit<O::Log, O::Net>,
+    outside: &mut O,
+) -> Result<Ended<O::Log, O::Net>, Gear<O::Log, O::Net>>
+    requires limit { (0 < orders.limit) × (orders.limit ≤ 4194304) }
+    requires blank { AreBlank (λ b h. stands_for b h) (λ b. least_start b) station.now.radios kit.receivers.items }
+    requires gear { IsWhole station.now kit.gear }
+    requires gate { O.gate_out outside.old ≡ false }
+    ensures same { O.state outside.new ≡ O.state outside.old }
+    ensures gate { O.gate_out outside.new ≡ O.gate_out outside.old }
+    ensures served { MatchResult result
+        (λ ended. EndsAll (λ log. O.Log.state log) (λ log. O.Log.opening log) (λ net. O.Net.state net) (λ net. O.Net.opening net) station.now orders kit.gear ended)
+        (λ gear. gear ≡ kit.gear) }
+{
+    let Kit { receivers, gear } = kit;
+    let gate = outside.gate();
+    let ended = serve_station(
+        rt,
+        alloc,
+        &gate,
+        station,
+        orders.limit,
+        orders.budget,
+        receivers,
+        gear,
+    );
+    outside.give_back_gate(gate);
+    ended
+}
+
+// Serves a station whose logs and links are open, and gives them back.
+fn serve_open<R: Threads + Wait + Sync, O: Outside>(
+    rt: &R,
+    alloc: Global,
+    station: &Station,
+    orders: Orders,
+    kit: Kit<O::Log, O::Net>,
+    outside: &mut O,
+) -> Result<Done, Ending>
+    requires limit { (0 < orders.limit) × (orders.limit ≤ 4194304) }
+    requires blank { AreBlank (λ b h. stands_for b h) (λ b. least_start b) station.now.radios kit.receivers.items }
+    requires gear { IsWhole station.now kit.gear }
+    requires gate { O.gate_out outside.old ≡ false }
+    requires out { AreOut (O.state outside.old).openings (numbers_of (λ log. O.Log.opening log) (λ net. O.Net.opening net) kit.gear) }
+    ensures gate { O.gate_out outside.new ≡ O.gate_out outside.old }
+    ensures served { MatchResult result
+        (λ done. GivesServed (λ log. O.Log.state log) (λ log. O.Log.opening log) (λ net. O.Net.state net) (λ net. O.Net.opening net) station.now orders kit.gear (O.state outside.old) (O.state outside.new) done)
+        (λ due. GivesUnused (λ log. O.Log.state log) (λ log. O.Log.opening log) (λ net. O.Net.state net) (λ net. O.Net.opening net) kit.gear (O.state outside.old) (O.state outside.new) due) }
+{
+    match serve_gated(rt, alloc, station, orders, kit, outside) {
+        Ok(ended) => {
+            let Ended {
+                journal,
+                gear,
+                radios,
+                servers,
+                links,
+            } = ended;
+            give_back_gear(outside, gear);
+            Ok(Done {
+                journal,
+                radios,
+                servers,
+                links,
+            })
+        }
+        Err(gear) => {
+            give_back_gear(outside, gear);
+            Err(Ending::NoMemory)
+        }
+    }
+}
+
+// Opens the logs and links of a station, serves it and gives them back.
+fn open_and_serve<R: Threads + Wait + Sync, O: Outside>(
+    rt: &R,
+    alloc: Global,
+    station: &Station,
+    orders: Orders,
+    kit: Kit<O::Log, O::Net>,
+    outside: &mut O,
+) -> Result<Done, Ending>
+    requires limit { (0 < orders.limit) × (orders.limit ≤ 4194304) }
+    requires blank { AreBlank (λ b h. stands_for b h) (λ b. least_start b) station.now.radios kit.receivers.items }
+    requires gear { IsEmptyFor station.now kit.gear }
+    requires gate { O.gate_out outside.old ≡ false }
+    ensures gate { O.gate_out outside.new ≡ O.gate_out outside.old }
+    ensures tried { TriesServe station.now orders (O.state outside.old) (O.state outside.new) result }
+{
+    let mut kit = kit;
+    match open_gear(outside, station, &mut kit.gear) {
+        Ok(()) => serve_open(rt, alloc, station, orders, kit, outside),
+        Err(missing) => {
+            give_back_gear(outside, kit.gear);
+            Err(Ending::NotOpened(subject_of(missing)))
+        }
+    }
+}
+
+// Serves a station that was read.
+fn serve<R: Threads + Wait + Sync, O: Outside>(
+    rt: &R,
+    alloc: Global,
+    station: &Station,
+    orders: Orders,
+    rack: Vec<BoxedReceiver>,
+    outside: &mut O,
+) -> Result<Done, Ending>
+    requires limit { (0 < orders.limit) × (orders.limit ≤ 4194304) }
+    requires rack { IsRack (λ b h. stands_for b h) rack.items }
+    requires gate { O.gate_out outside.old ≡ false }
+    ensures gate { O.gate_out outside.new ≡ O.gate_out outside.old }
+    ensures tried { TriesServe station.now orders (O.state outside.old) (O.state outside.new) result }
+{
+    match make_kit(alloc, station, rack) {
+        Ok(kit) => open_and_serve(rt, alloc, station, orders, kit, outside),
+        Err(AllocError) => Err(Ending::NoMemory),
+    }
+}
+
+// Serves a station by its name: what was done is written once all is given back.
+pub fn run_serve<R: Threads + Wait + Sync, O: Outside, K: Sink>(
+    rt: &R,
+    alloc: Global,
+    name: &str,
+    orders: Orders,
+    rack: Vec<BoxedReceiver>,
+    outside: &mut O,
+    out: &mut K,
+) -> Status
+    requires limit { (0 < orders.limit) × (orders.limit ≤ 4194304) }
+    requires rack { IsRack (λ b h. stands_for b h) rack.items }
+    requires gate { O.gate_out outside.old ≡ false }
+    ensures gate { O.gate_out outside.new ≡ O.gate_out outside.old }
+    ensures runs { Lacks (O.state outside.old) (O.state outside.new) (K.state out.old) (K.state out.new) result
+        ⊎ RunsServe name.now orders.budget.during orders.budget.after orders.limit (O.state outside.old) (O.state outside.new) (K.state out.old) (K.state out.new) result }
+{
+    let Ok(mut text) = Vec::with_capacity(alloc, station_file::LIMIT) else {
+        return finish(Ending::NoMemory, out);
+    };
+    let Ok(end) = open_station(name, &mut text, outside) else {
+        return finish(Ending::NotOpened(Subject::Station), out);
+    };
+    let station = match judge(alloc, end, text.as_slice()) {
+        Ok(station) => station,
+        Err(obstacle) => return finish_at(&obstacle, out),
+    };
+    match serve(rt, alloc, &station, orders, rack, outside) {
+        Ok(done) => finish_served(&station, &done, orders.limit, out),
+        Err(ending) => finish(ending, out),
+    }
+}

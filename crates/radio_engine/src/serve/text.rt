@@ -1,0 +1,153 @@
+//! What is written of a station that was served.
+ghost use Rattle.std.specs.Prelude.{◌≡◌, ◌+◌, ◌++◌, ◌≤◌, OnOk, OnErr, None, Some, codes, length, take, vec_len};
+ghost use Rattle.journal_entry.specs.Numbers.{numbered_text};
+ghost use Rattle.journal_entry.specs.declared.writer.TheConstants.{LINE_ROOM};
+ghost use Rattle.radio_engine.specs.Crewing.{FinishesDone, HasEach, line_of_work, totals_by, totals_of};
+ghost use Rattle.radio_engine.specs.Headline.{each_text, end_word, link_line};
+ghost use Rattle.radio_engine.specs.Migrating.{journal_text};
+ghost use Rattle.radio_engine.specs.Writing.{WritesAll, WritesFront};
+
+use super::Done;
+use super::cause::ending_of;
+use crate::ending::page::finish_page;
+use crate::ending::status::Status;
+use crate::ending::writing::write_all;
+use crate::reading::Line;
+use feed_link::{Failed, Sink};
+use journal_entry::{LINE_ROOM, Numbered, TextWriter, write_numbered};
+use responder::{End, Served};
+use station_config::Station;
+use station_crew::LinkWork;
+use verdict_journal::Journal;
+
+// Writes a numbered entry at the front of `line`, with its line feed. The answer is its number of bytes.
+pub fn write_numbered_line(numbered: &Numbered, line: &mut Line) -> usize
+    ensures text { take result line.new ≡ numbered_text numbered.now ++ codes "\n" }
+    ensures within { result ≤ LINE_ROOM }
+{
+    let end = write_numbered(numbered, line);
+    line[end] = b'\n';
+    end + 1
+}
+
+// Writes the lines of a journal.
+fn write_journal<K: Sink>(journal: &Journal, out: &mut K) -> Result<(), Failed>
+    ensures ok { OnOk result (WritesAll (K.state out.old) (K.state out.new) (journal_text journal.now.settings journal.now.entries)) }
+    ensures err { OnErr result (WritesFront (K.state out.old) (K.state out.new) (journal_text journal.now.settings journal.now.entries)) }
+{
+    let mut line = [0; LINE_ROOM];
+    for place in 0..journal.len() {
+        let numbered = journal.numbered(place).unwrap();
+        let length = write_numbered_line(&numbered, &mut line);
+        write_all(out, &line[..length])?;
+    }
+    Ok(())
+}
+
+// What the responder of a link did in both phases, and how it ended.
+#[derive(Clone, Copy)]
+struct Totals {
+    answered: u128,
+    dropped: u128,
+    again: u128,
+    end: End,
+}
+
+// What was done in the first phase alone.
+fn of_one(first: Served) -> Totals
+    ensures { result ≡ totals_by first None }
+{
+    Totals {
+        answered: u128::from(first.answered),
+        dropped: u128::from(first.dropped),
+        again: u128::from(first.again),
+        end: first.end,
+    }
+}
+
+// What was done in both.
+fn of_both(first: Served, second: Served) -> Totals
+    ensures { result ≡ totals_by first (Some second) }
+{
+    Totals {
+        answered: u128::from(first.answered) + u128::from(second.answered),
+        dropped: u128::from(first.dropped) + u128::from(second.dropped),
+        again: u128::from(first.again) + u128::from(second.again),
+        end: second.end,
+    }
+}
+
+fn totals_of(work: &LinkWork) -> Totals
+    ensures { result ≡ totals_of work.now }
+{
+    match work.second {
+        None => of_one(work.first),
+        Some(second) => of_both(work.first, second),
+    }
+}
+
+fn end_word(end: End) -> &'static [u8]
+    ensures text { result.now ≡ end_word end }
+    ensures short { length result.now ≤ 9 }
+{
+    match end {
+        End::Count => b"count",
+        End::LinkEnd => b"linkend",
+        End::LinkFault => b"linkfault",
+    }
+}
+
+// Writes the line of a link at the front of `line`. The answer is its number of bytes.
+fn write_link_line(number: usize, work: &LinkWork, line: &mut Line) -> usize
+    ensures text { take result line.new ≡ line_of_work number work.now }
+    ensures within { result ≤ LINE_ROOM }
+{
+    let totals = totals_of(work);
+    let mut text = TextWriter::new(line);
+    text.add(b"link");
+    text.number(number);
+    text.field(b"answered");
+    text.number(totals.answered);
+    text.field(b"dropped");
+    text.number(totals.dropped);
+    text.field(b"again");
+    text.number(totals.again);
+    text.field(b"end");
+    text.field(end_word(totals.end));
+    text.add(b"\n");
+    text.len()
+}
+
+// Writes the lines of the links.
+fn write_links<K: Sink>(works: &[LinkWork], out: &mut K) -> Result<(), Failed>
+    ensures ok { OnOk result (WritesAll (K.state out.old) (K.state out.new) (each_text line_of_work 0 works.now)) }
+    ensures err { OnErr result (WritesFront (K.state out.old) (K.state out.new) (each_text line_of_work 0 works.now)) }
+{
+    let mut line = [0; LINE_ROOM];
+    for number in 0..works.len() {
+        let length = write_link_line(number, &works[number], &mut line);
+        write_all(out, &line[..length])?;
+    }
+    Ok(())
+}
+
+// Writes the lines of the journal and of the links.
+fn write_lines<K: Sink>(done: &Done, out: &mut K) -> Result<(), Failed>
+    ensures ok { OnOk result (WritesAll (K.state out.old) (K.state out.new) (journal_text done.now.journal.settings done.now.journal.entries ++ each_text line_of_work 0 done.now.links.items)) }
+    ensures err { OnErr result (WritesFront (K.state out.old) (K.state out.new) (journal_text done.now.journal.settings done.now.journal.entries ++ each_text line_of_work 0 done.now.links.items)) }
+{
+    write_journal(&done.journal, out)?;
+    write_links(done.links.as_slice(), out)
+}
+
+// Writes what a station has left: its journal, its links, the page of the journal, and the status line.
+pub fn finish_served<K: Sink>(station: &Station, done: &Done, limit: u32, out: &mut K) -> Status
+    requires { HasEach station.now done.now }
+    ensures { FinishesDone limit done.now (K.state out.old) (K.state out.new) result }
+{
+    let ending = ending_of(station, done, limit);
+    match write_lines(done, out) {
+        Ok(()) => finish_page(&done.journal.page(), ending, out),
+        Err(Failed) => Status::WriteFault,
+    }
+}

@@ -1,0 +1,701 @@
+//! Tests of `serve` over the fakes: logs of DCF77 by PTB's table of 1 January 2026, 13:00 (12:00 UTC) and the minutes behind it, a server's
+//! answer that was worked by hand from RFC 5905, section 8, and clients whose answers are those of section 7.3 there.
+ghost use Rattle.std.specs.Prelude.{◌≡◌, IfOk, false};
+ghost use Rattle.feed_link.specs.MemoryOutside.{is_gate_out};
+
+use crate::Status;
+use crate::tests::run_over;
+use feed_link::{
+    Address, FakeOpen, Gate, HoldGate, LinkEvent, MemoryLink, MemoryOutside, MemorySink,
+    MemorySource, NamedLog, OpenGate, Planned,
+};
+use std::alloc::{AllocError, Global};
+use std::process::Abort;
+use std::sync::Wait;
+use std::test::Fail;
+use std::thread::Threads;
+use tick_units::Local;
+
+const WORDS: [&str; 3] = ["serve", "--station", "s"];
+
+const DURING_2: [&str; 5] = ["serve", "--station", "s", "--during", "2"];
+
+const AFTER_4: [&str; 7] = ["serve", "--station", "s", "--during", "0", "--after", "4"];
+
+const FOUR_AND_ONE: [&str; 7] = ["serve", "--station", "s", "--during", "4", "--after", "1"];
+
+const LIMIT_1: [&str; 7] = ["serve", "--station", "s", "--during", "0", "--limit", "1"];
+
+const LIMIT_3: [&str; 9] = [
+    "serve",
+    "--station",
+    "s",
+    "--limit",
+    "3",
+    "--during",
+    "0",
+    "--after",
+    "1",
+];
+
+const RADIO: &str = "[[radio]]\nplan = \"dcf\"\nlog = \"a\"\n";
+
+const TWO_RADIOS: &str =
+    "[[radio]]\nplan = \"dcf\"\nlog = \"a\"\n[[radio]]\nplan = \"dcf\"\nlog = \"b\"\n";
+
+const SERVER: &str = "[[server]]\naddress = \"127.0.0.1\"\nport = 123\npolls = 1\n";
+
+const SERVER_3: &str = "[[server]]\naddress = \"127.0.0.1\"\nport = 123\npolls = 3\n";
+
+const LINK: &str = "[[link]]\nport = 5123\n";
+
+const SAME_LOG: &str =
+    "[[radio]]\nplan = \"dcf\"\nlog = \"a\"\n[[radio]]\nplan = \"dcf\"\nlog = \"a\"\n";
+
+const ALL: &str =
+    "[[link]]\nport = 5123\n[[server]]\naddress = \"127.0.0.1\"\nport = 123\n[[radio]]\nplan = \"dcf\"\nlog = \"a\"\n";
+
+const THREE_RADIOS_TWO_LINKS: &str =
+    "[[radio]]\nplan = \"dcf\"\nlog = \"a\"\n[[radio]]\nplan = \"dcf\"\nlog = \"b\"\n[[radio]]\nplan = \"dcf\"\nlog = \"c\"\n[[link]]\nport = 5123\n[[link]]\nport = 5124\n";
+
+const TWO_LINKS: &str = "[[link]]\nport = 5123\n[[link]]\nport = 5124\n";
+
+const EMPTY_PAGE: &str = "page 0 0 0 494e4954 0 0 0 0 1048576 0000000000000000 0 0\n";
+
+const LONE: &str = "j2 1 0 0 62000000 lone 3976257600\n";
+
+const LONE_PAGE: &str = "page 1 0 0 494e4954 0 62000000 0 0 1048576 0000000000000000 0 0\n";
+
+const VERDICT: &str = "j2 2 0 0 122000000 verdict 3976257660 0\n";
+
+const VERDICT_PAGE: &str = "page 2 0 0 494e4954 0 122000000 0 0 1048576 0000000000000000 0 0\n";
+
+// The page of five minutes that as many radios have heard alike.
+const FIVE_OF_3: &str =
+    "page 15 1 1 44434600 17077896086183477248 302000000 4364906902 0 61542 ed00e13000000000 0 0\n";
+
+const CLIENT: Address = Address {
+    ip: 0x7f00_0001,
+    port: 5000,
+};
+
+const ASKED: Address = Address {
+    ip: 0x7f00_0001,
+    port: 123,
+};
+
+const STRANGER: Address = Address {
+    ip: 0x7f00_0001,
+    port: 124,
+};
+
+// A request of version 4 with a poll of 64 s, sent at 0x1122334455667788 by the client's clock.
+const REQUEST: [u8; 48] = [
+    0x23, 0x00, 0x06, 0xec, 0x00, 0x00, 0x00, 0x00, 0x00, 0x00, 0x00, 0x00, 0x00, 0x00, 0x00, 0x00, // to the refid
+    0x00, 0x00, 0x00, 0x00, 0x00, 0x00, 0x00, 0x00, 0x00, 0x00, 0x00, 0x00, 0x00, 0x00, 0x00, 0x00, // to the origin
+    0x00, 0x00, 0x00, 0x00, 0x00, 0x00, 0x00, 0x00, 0x11, 0x22, 0x33, 0x44, 0x55, 0x66, 0x77, 0x88,
+];
+
+// The reply to it from the page of five minutes, where it came and was answered at 303 s, which is 12:04:01 UTC.
+const REPLY: [u8; 48] = [
+    0x24, 0x01, 0x06, 0xec, 0x00, 0x00, 0x00, 0x00, 0x00, 0x00, 0xf0, 0x67, 0x44, 0x43, 0x46, 0x00, // to the refid
+    0xed, 0x00, 0xe1, 0x30, 0x00, 0x00, 0x00, 0x00, 0x11, 0x22, 0x33, 0x44, 0x55, 0x66, 0x77, 0x88, // to the origin
+    0xed, 0x00, 0xe1, 0x31, 0x00, 0x00, 0x00, 0x00, 0xed, 0x00, 0xe1, 0x31, 0x00, 0x00, 0x00, 0x00,
+];
+
+// The answer of a server of stratum 2 to the request of 1 s, received at 2026-01-01 12:05:05 UTC and answered half a millisecond later.
+const ANSWER: [u8; 48] = [
+    0x24, 0x02, 0x06, 0xec, 0x00, 0x00, 0x01, 0x00, 0x00, 0x00, 0x02, 0x00, 0x0a, 0x00, 0x00, 0x01, // to the refid
+    0x00, 0x00, 0x00, 0x00, 0x00, 0x00, 0x00, 0x00, 0x80, 0x00, 0x00, 0x01, 0x00, 0x00, 0x00, 0x00, // to the origin
+    0xed, 0x00, 0xe1, 0x31, 0x00, 0x00, 0x00, 0x00, 0xed, 0x00, 0xe1, 0x31, 0x00, 0x20, 0xc4, 0x9b,
+];
+
+const NOON: [&[u64]; 5] = [
+    &[18, 20, 29, 30, 33, 35, 36, 44, 45, 51, 52, 55],
+    &[18, 20, 21, 28, 29, 30, 33, 35, 36, 44, 45, 51, 52, 55],
+    &[18, 20, 22, 28, 29, 30, 33, 35, 36, 44, 45, 51, 52, 55],
+    &[18, 20, 21, 22, 29, 30, 33, 35, 36, 44, 45, 51, 52, 55],
+    &[18, 20, 23, 28, 29, 30, 33, 35, 36, 44, 45, 51, 52, 55],
+];
+
+fn moment(microseconds: u32) -> Local {
+    Local::new(u64::from(microseconds)).unwrap()
+}
+
+// The lines of so many frames from 2 s on, behind a first one at 0, and with the one that closes the last.
+fn minutes(alloc: Global, count: usize) -> Result<String, AllocError> {
+    let mut text = String::from_str(alloc, "0 100000\n")?;
+    let mut start = 2u64;
+    for ones in NOON.iter().take(count) {
+        for place in 0..59u64 {
+            let at = start.saturating_add(place).saturating_mul(1_000_000);
+            let width = if ones.contains(&place) {
+                200_000
+            } else {
+                100_000
+            };
+            writeln!(text, "{at} {width}")?;
+        }
+        start = start.saturating_add(60);
+    }
+    writeln!(text, "{start}000000 100000")?;
+    Ok(text)
+}
+
+fn log(alloc: Global, name: &str, text: &str, fails: u64) -> Result<NamedLog, AllocError> {
+    let bytes = Vec::from_slice(alloc, text.as_bytes())?;
+    let source = MemorySource::new(bytes, vec![in alloc; fails]?);
+    Ok(NamedLog::new(String::from_str(alloc, name)?, source))
+}
+
+// A link that hears so many requests at 303 s, and then its end; its call of this number fails.
+fn asked(alloc: Global, count: u32, fails: u64) -> Result<MemoryLink, FakeOpen> {
+    let mut hearings = Vec::new(alloc);
+    for _ in 0..count {
+        hearings.push(Planned::Datagram {
+            from: CLIENT,
+            at: moment(303_000_000),
+            bytes: Vec::from_slice(alloc, &REQUEST)?,
+        })?;
+    }
+    let fails = vec![in alloc; fails]?;
+    MemoryLink::new(alloc, hearings, Vec::new(alloc), fails, 60, 6000)
+}
+
+// A link whose first moment is 1 s, over which the answer comes twice: first from this sender, then from the server.
+fn answered(alloc: Global, first: Address, fails: u64) -> Result<MemoryLink, FakeOpen> {
+    let mut hearings = Vec::new(alloc);
+    for from in [first, ASKED] {
+        hearings.push(Planned::Datagram {
+            from,
+            at: moment(1_010_000),
+            bytes: Vec::from_slice(alloc, &ANSWER)?,
+        })?;
+    }
+    let moments = vec![in alloc; moment(1_000_000)]?;
+    let fails = vec![in alloc; fails]?;
+    MemoryLink::new(alloc, hearings, moments, fails, 60, 6000)
+}
+
+// An outside with a station file "s", these logs behind it and these links, and this gate; its opening of this number fails.
+fn outside_of<G: Gate + Drop>(
+    alloc: Global,
+    station: &str,
+    logs: Vec<NamedLog>,
+    links: Vec<MemoryLink>,
+    gate: G,
+    fails: u64,
+) -> Result<MemoryOutside<G>, FakeOpen>
+    ensures { IfOk result (λ outside. is_gate_out outside ≡ false) }
+{
+    let mut all = Vec::new(alloc);
+    all.push(log(alloc, "s", station, 0)?)?;
+    for log in logs {
+        all.push(log)?;
+    }
+    let fails = vec![in alloc; fails]?;
+    MemoryOutside::new(alloc, all, links, gate, fails, 12, 100)
+}
+
+// What the words write over this outside, and their status; the writing of this number fails.
+fn run<R: Threads + Wait + Sync, G: Gate + Drop>(
+    rt: &R,
+    alloc: Global,
+    words: &[&str],
+    outside: &mut MemoryOutside<G>,
+    fails: u64,
+) -> Result<(Vec<u8>, Status), AllocError>
+    requires { is_gate_out outside.old ≡ false }
+{
+    let mut out = MemorySink::new(alloc, vec![in alloc; fails]?);
+    let status = run_over(rt, alloc, words, outside, &mut out)?;
+    Ok((out.into_bytes(), status))
+}
+
+// A station with these logs and links writes this text and ends so.
+fn writes(
+    rt: &(impl Abort + Threads + Wait + Sync),
+    alloc: Global,
+    words: &[&str],
+    station: &str,
+    logs: Vec<NamedLog>,
+    links: Vec<MemoryLink>,
+    want: &str,
+    end: Status,
+) -> Result<(), Fail> {
+    let mut outside = outside_of(alloc, station, logs, links, OpenGate::new(), 0)?;
+    let (written, status) = run(rt, alloc, words, &mut outside, 0)?;
+    assert_eq!(rt; written.as_slice(), want.as_bytes());
+    assert_eq!(rt; status, end);
+    Ok(())
+}
+
+// These texts, one behind the other.
+fn joined(alloc: Global, texts: &[&str]) -> Result<String, AllocError> {
+    let mut all = String::new(alloc);
+    for text in texts {
+        all.push_str(text)?;
+    }
+    Ok(all)
+}
+
+fn logs_of(alloc: Global, log: NamedLog) -> Result<Vec<NamedLog>, AllocError> {
+    let mut logs = Vec::new(alloc);
+    logs.push(log)?;
+    Ok(logs)
+}
+
+fn links_of(alloc: Global, link: MemoryLink) -> Result<Vec<MemoryLink>, AllocError> {
+    let mut links = Vec::new(alloc);
+    links.push(link)?;
+    Ok(links)
+}
+
+// The last reply on a link, and how many there are.
+fn replies(link: &MemoryLink) -> (usize, Option<&[u8]>) {
+    let mut count = 0usize;
+    let mut last = None;
+    for place in 0..link.count() {
+        if let Some(LinkEvent::Sent { to, bytes }) = link.event(place) {
+            if to == CLIENT {
+                count = count.saturating_add(1);
+                last = Some(bytes);
+            }
+        }
+    }
+    (count, last)
+}
+
+// Whether a text ends with another.
+fn ends_with(text: &[u8], end: &str) -> bool {
+    text.ends_with(end.as_bytes())
+}
+
+#[test]
+fn a_station_with_nothing_in_it_is_served(rt: HostRuntime) -> Result<(), Fail> {
+    let alloc = rt.alloc();
+    let want = joined(alloc, &[EMPTY_PAGE, "status 0\n"])?;
+    let (logs, links) = (Vec::new(alloc), Vec::new(alloc));
+    writes(
+        &rt,
+        alloc,
+        &WORDS,
+        "",
+        logs,
+        links,
+        want.as_str(),
+        Status::Done,
+    )
+}
+
+#[test]
+fn a_link_that_ends_is_told(rt: HostRuntime) -> Result<(), Fail> {
+    let alloc = rt.alloc();
+    let links = links_of(alloc, asked(alloc, 1, 0)?)?;
+    let mut outside = outside_of(alloc, LINK, Vec::new(alloc), links, OpenGate::new(), 0)?;
+    let (written, status) = run(&rt, alloc, &DURING_2, &mut outside, 0)?;
+    let line = "link 0 answered 1 dropped 0 again 0 end linkend\n";
+    let want = joined(alloc, &[line, EMPTY_PAGE, "status 0\n"])?;
+    assert_eq!(rt; written.as_slice(), want.as_str().as_bytes());
+    assert_eq!(rt; status, Status::Done);
+    let link = outside.link(0).ok_or("no link")?;
+    let (count, last) = replies(link);
+    assert_eq!(rt; count, 1);
+    assert!(rt; last.is_some_and(|reply| reply.starts_with(&[0xe4, 0x00, 0x06, 0xec])));
+    assert!(rt; outside.turns().is_some());
+    Ok(())
+}
+
+#[test]
+fn a_server_is_polled(rt: HostRuntime) -> Result<(), Fail> {
+    let alloc = rt.alloc();
+    let links = links_of(alloc, answered(alloc, STRANGER, 0)?)?;
+    let want = joined(
+        alloc,
+        &[
+            "j2 1 0 0 1010000 declined 1\n",
+            "j2 2 0 0 1010000 sample 17077897383243199545 40802189 8837 2 7f000001 256 512\n",
+            "page 2 0 0 494e4954 0 1010000 0 0 1048576 0000000000000000 0 0\n",
+            "status 0\n",
+        ],
+    )?;
+    let logs = Vec::new(alloc);
+    writes(
+        &rt,
+        alloc,
+        &WORDS,
+        SERVER,
+        logs,
+        links,
+        want.as_str(),
+        Status::Done,
+    )
+}
+
+// The link's second call sends, and its third hears.
+#[test]
+fn a_poller_ends_by_a_fault(rt: HostRuntime) -> Result<(), Fail> {
+    let alloc = rt.alloc();
+    let links = links_of(alloc, answered(alloc, ASKED, 3)?)?;
+    let want = joined(
+        alloc,
+        &[
+            "j2 1 0 0 1010000 sample 17077897383243199545 40802189 8837 2 7f000001 256 512\n",
+            "page 1 0 0 494e4954 0 1010000 0 0 1048576 0000000000000000 0 0\n",
+            "status 7 feed 0\n",
+        ],
+    )?;
+    let logs = Vec::new(alloc);
+    let end = Status::LinkFault;
+    writes(
+        &rt,
+        alloc,
+        &WORDS,
+        SERVER_3,
+        logs,
+        links,
+        want.as_str(),
+        end,
+    )
+}
+
+// Each of the first three sendings is the second call of its turn.
+#[test]
+fn the_third_sending_fails(rt: HostRuntime) -> Result<(), Fail> {
+    let alloc = rt.alloc();
+    let text = minutes(alloc, 2)?;
+    let logs = logs_of(alloc, log(alloc, "a", text.as_str(), 0)?)?;
+    let links = links_of(alloc, asked(alloc, 5, 6)?)?;
+    let station = joined(alloc, &[RADIO, LINK])?;
+    let mut outside = outside_of(alloc, station.as_str(), logs, links, OpenGate::new(), 0)?;
+    let (written, status) = run(&rt, alloc, &AFTER_4, &mut outside, 0)?;
+    let line = "link 0 answered 2 dropped 0 again 0 end linkfault\n";
+    let want = joined(
+        alloc,
+        &[LONE, VERDICT, line, VERDICT_PAGE, "status 7 link 0\n"],
+    )?;
+    assert_eq!(rt; written.as_slice(), want.as_str().as_bytes());
+    assert_eq!(rt; status, Status::LinkFault);
+    let link = outside.link(0).ok_or("no link")?;
+    assert_eq!(rt; replies(link).0, 2);
+    Ok(())
+}
+
+#[test]
+fn a_hearing_fails(rt: HostRuntime) -> Result<(), Fail> {
+    let alloc = rt.alloc();
+    let links = links_of(alloc, asked(alloc, 5, 3)?)?;
+    let line = "link 0 answered 1 dropped 0 again 0 end linkfault\n";
+    let want = joined(alloc, &[line, EMPTY_PAGE, "status 7 link 0\n"])?;
+    let logs = Vec::new(alloc);
+    let end = Status::LinkFault;
+    writes(&rt, alloc, &DURING_2, LINK, logs, links, want.as_str(), end)
+}
+
+// The lines of 1,024 bytes are read, among them that of 62 s.
+#[test]
+fn a_read_fails_in_the_middle(rt: HostRuntime) -> Result<(), Fail> {
+    let alloc = rt.alloc();
+    let text = minutes(alloc, 2)?;
+    let logs = logs_of(alloc, log(alloc, "a", text.as_str(), 3)?)?;
+    let want = joined(alloc, &[LONE, LONE_PAGE, "status 4 read feed 0\n"])?;
+    let links = Vec::new(alloc);
+    let end = Status::ReadFault;
+    writes(&rt, alloc, &WORDS, RADIO, logs, links, want.as_str(), end)
+}
+
+#[test]
+fn a_bad_line_ends_its_feed_alone(rt: HostRuntime) -> Result<(), Fail> {
+    let alloc = rt.alloc();
+    let text = minutes(alloc, 2)?;
+    let mut logs = Vec::new(alloc);
+    logs.push(log(alloc, "a", "1000000 100000\n900000 100000\n", 0)?)?;
+    logs.push(log(alloc, "b", text.as_str(), 0)?)?;
+    let want = joined(
+        alloc,
+        &[
+            "j2 1 0 1 62000000 lone 3976257600\n",
+            "j2 2 0 1 122000000 verdict 3976257660 0\n",
+            VERDICT_PAGE,
+            "status 5 line 0 2\n",
+        ],
+    )?;
+    let links = Vec::new(alloc);
+    let end = Status::BadLine;
+    writes(
+        &rt,
+        alloc,
+        &WORDS,
+        TWO_RADIOS,
+        logs,
+        links,
+        want.as_str(),
+        end,
+    )
+}
+
+#[test]
+fn a_full_journal_is_told(rt: HostRuntime) -> Result<(), Fail> {
+    let alloc = rt.alloc();
+    let text = minutes(alloc, 2)?;
+    let logs = logs_of(alloc, log(alloc, "a", text.as_str(), 0)?)?;
+    let want = joined(alloc, &[LONE, LONE_PAGE, "status 6 full 1\n"])?;
+    let links = Vec::new(alloc);
+    let end = Status::JournalFull;
+    writes(&rt, alloc, &LIMIT_1, RADIO, logs, links, want.as_str(), end)
+}
+
+// A bad line has a lesser number than a full journal, and a read that failed than a bad line, on whatever feed.
+#[test]
+fn the_least_number_is_told(rt: HostRuntime) -> Result<(), Fail> {
+    let alloc = rt.alloc();
+    let mut text = minutes(alloc, 2)?;
+    text.push_str("bad\n")?;
+    let logs = logs_of(alloc, log(alloc, "a", text.as_str(), 0)?)?;
+    let want = joined(alloc, &[LONE, LONE_PAGE, "status 5 line 0 121\n"])?;
+    let links = Vec::new(alloc);
+    let end = Status::BadLine;
+    writes(&rt, alloc, &LIMIT_1, RADIO, logs, links, want.as_str(), end)?;
+    let mut logs = Vec::new(alloc);
+    logs.push(log(alloc, "a", "bad\n", 0)?)?;
+    logs.push(log(alloc, "b", "", 1)?)?;
+    let want = joined(alloc, &[EMPTY_PAGE, "status 4 read feed 1\n"])?;
+    let links = Vec::new(alloc);
+    let end = Status::ReadFault;
+    writes(
+        &rt,
+        alloc,
+        &WORDS,
+        TWO_RADIOS,
+        logs,
+        links,
+        want.as_str(),
+        end,
+    )
+}
+
+// Of two with one number the first is told; the rest of the station goes on.
+#[test]
+fn the_first_of_two_is_told(rt: HostRuntime) -> Result<(), Fail> {
+    let alloc = rt.alloc();
+    let mut links = Vec::new(alloc);
+    links.push(asked(alloc, 5, 3)?)?;
+    links.push(asked(alloc, 5, 1)?)?;
+    let want = joined(
+        alloc,
+        &[
+            "link 0 answered 1 dropped 0 again 0 end linkfault\n",
+            "link 1 answered 0 dropped 0 again 0 end linkfault\n",
+            EMPTY_PAGE,
+            "status 7 link 0\n",
+        ],
+    )?;
+    let logs = Vec::new(alloc);
+    let end = Status::LinkFault;
+    writes(
+        &rt,
+        alloc,
+        &DURING_2,
+        TWO_LINKS,
+        logs,
+        links,
+        want.as_str(),
+        end,
+    )?;
+    let mut links = Vec::new(alloc);
+    links.push(asked(alloc, 2, 0)?)?;
+    links.push(asked(alloc, 5, 3)?)?;
+    let want = joined(
+        alloc,
+        &[
+            "link 0 answered 2 dropped 0 again 0 end count\n",
+            "link 1 answered 1 dropped 0 again 0 end linkfault\n",
+            EMPTY_PAGE,
+            "status 7 link 1\n",
+        ],
+    )?;
+    let logs = Vec::new(alloc);
+    writes(
+        &rt,
+        alloc,
+        &DURING_2,
+        TWO_LINKS,
+        logs,
+        links,
+        want.as_str(),
+        end,
+    )
+}
+
+// The feeds of a station are numbered behind one another, the radios first. What was opened was not used.
+#[test]
+fn each_opening_may_fail(rt: HostRuntime) -> Result<(), Fail> {
+    let alloc = rt.alloc();
+    for (open, want) in [
+        (1, "status 2 open station\n"),
+        (2, "status 2 open feed 0\n"),
+        (3, "status 2 open feed 1\n"),
+        (4, "status 2 open link 0\n"),
+    ] {
+        let logs = logs_of(alloc, log(alloc, "a", "bad\n", 0)?)?;
+        let mut links = Vec::new(alloc);
+        links.push(answered(alloc, ASKED, 0)?)?;
+        links.push(asked(alloc, 1, 0)?)?;
+        let mut outside = outside_of(alloc, ALL, logs, links, OpenGate::new(), open)?;
+        let (written, status) = run(&rt, alloc, &WORDS, &mut outside, 0)?;
+        assert_eq!(rt; written.as_slice(), want.as_bytes());
+        assert_eq!(rt; status, Status::OpenFault);
+        for place in 0..2usize {
+            assert!(rt; outside.link(place).is_some_and(|link| link.count() == 0));
+        }
+    }
+    Ok(())
+}
+
+#[test]
+fn one_log_of_two_radios_is_opened_once(rt: HostRuntime) -> Result<(), Fail> {
+    let alloc = rt.alloc();
+    let logs = logs_of(alloc, log(alloc, "a", "", 0)?)?;
+    let links = Vec::new(alloc);
+    let want = "status 2 open feed 1\n";
+    let end = Status::OpenFault;
+    writes(&rt, alloc, &WORDS, SAME_LOG, logs, links, want, end)
+}
+
+#[test]
+fn a_faulty_station_is_not_served(rt: HostRuntime) -> Result<(), Fail> {
+    let alloc = rt.alloc();
+    let (logs, links) = (Vec::new(alloc), Vec::new(alloc));
+    let want = "status 3 station unknown holdover\n";
+    let end = Status::Station;
+    writes(
+        &rt,
+        alloc,
+        &WORDS,
+        "holdover = 600\n",
+        logs,
+        links,
+        want,
+        end,
+    )
+}
+
+// The lines of the journal, of the link, of the page, and the status line, each of which may not be taken.
+#[test]
+fn each_writing_may_fail(rt: HostRuntime) -> Result<(), Fail> {
+    let alloc = rt.alloc();
+    let line = "link 0 answered 4 dropped 0 again 0 end count\n";
+    let lines = [LONE, VERDICT, line, VERDICT_PAGE, "status 0\n"];
+    let station = joined(alloc, &[RADIO, LINK])?;
+    let text = minutes(alloc, 2)?;
+    for fails in 1..7usize {
+        let logs = logs_of(alloc, log(alloc, "a", text.as_str(), 0)?)?;
+        let links = links_of(alloc, asked(alloc, 5, 0)?)?;
+        let gate = OpenGate::new();
+        let mut outside = outside_of(alloc, station.as_str(), logs, links, gate, 0)?;
+        let (written, status) = run(&rt, alloc, &AFTER_4, &mut outside, fails as u64)?;
+        let mut want = String::new(alloc);
+        for line in lines.iter().take(fails.saturating_sub(1)) {
+            want.push_str(line)?;
+        }
+        assert_eq!(rt; written.as_slice(), want.as_str().as_bytes());
+        let end = if fails <= 5 {
+            Status::WriteFault
+        } else {
+            Status::Done
+        };
+        assert_eq!(rt; status, end);
+    }
+    Ok(())
+}
+
+// Three radios that hear alike and two links, with a gate; what is written, and the outside.
+fn three_radios<R: Threads + Wait + Sync>(
+    rt: &R,
+    alloc: Global,
+    gate: HoldGate,
+) -> Result<(Vec<u8>, Status, MemoryOutside<HoldGate>), Fail> {
+    let text = minutes(alloc, 5)?;
+    let mut logs = Vec::new(alloc);
+    for name in ["a", "b", "c"] {
+        logs.push(log(alloc, name, text.as_str(), 0)?)?;
+    }
+    let mut links = Vec::new(alloc);
+    links.push(asked(alloc, 5, 0)?)?;
+    links.push(asked(alloc, 5, 0)?)?;
+    let mut outside = outside_of(alloc, THREE_RADIOS_TWO_LINKS, logs, links, gate, 0)?;
+    let (written, status) = run(rt, alloc, &FOUR_AND_ONE, &mut outside, 0)?;
+    Ok((written, status, outside))
+}
+
+// The worker that a gate held has passed its place, and waited no longer than it was to; the reply of the second phase is from the page of all
+// entries on both links.
+fn held<R: Threads + Wait + Sync + Abort>(
+    rt: &R,
+    alloc: Global,
+    written: &[u8],
+    status: Status,
+    outside: &MemoryOutside<HoldGate>,
+) -> Result<(), Fail> {
+    let gate = outside.turns().ok_or("the gate is out")?;
+    assert!(rt; gate.passed(rt) >= 1);
+    assert!(rt; !gate.ran_out(rt));
+    assert_eq!(rt; status, Status::Done);
+    let end = joined(alloc, &[FIVE_OF_3, "status 0\n"])?;
+    assert!(rt; ends_with(written, end.as_str()));
+    for place in 0..2usize {
+        let link = outside.link(place).ok_or("a link is out")?;
+        assert_eq!(rt; replies(link).1, Some(&REPLY[..]));
+    }
+    Ok(())
+}
+
+// The first feed waits at its first entry until a responder has answered.
+#[test]
+fn a_feed_waits_for_a_responder(rt: HostRuntime) -> Result<(), Fail> {
+    let alloc = rt.alloc();
+    let gate = HoldGate::new(0, 1, 100, 3, 1, 1_000_000_000);
+    let (written, status, outside) = three_radios(&rt, alloc, gate)?;
+    held(&rt, alloc, written.as_slice(), status, &outside)
+}
+
+// A responder waits with its first datagram until the first feed has put five entries into the journal; so the page that it reads then has them.
+#[test]
+fn a_responder_waits_for_a_feed(rt: HostRuntime) -> Result<(), Fail> {
+    let alloc = rt.alloc();
+    let gate = HoldGate::new(100, 2, 0, 4, 5, 1_000_000_000);
+    let (written, status, outside) = three_radios(&rt, alloc, gate)?;
+    held(&rt, alloc, written.as_slice(), status, &outside)?;
+    let link = outside.link(0).ok_or("a link is out")?;
+    let Some(LinkEvent::Sent { bytes, .. }) = link.event(2) else {
+        return Err("the first datagram isn't answered")?;
+    };
+    assert!(rt; bytes.starts_with(&[0x24, 0x01, 0x06, 0xec]));
+    Ok(())
+}
+
+// Of each feed the journal has a front of the five entries.
+#[test]
+fn two_radios_fill_a_journal(rt: HostRuntime) -> Result<(), Fail> {
+    let alloc = rt.alloc();
+    let text = minutes(alloc, 5)?;
+    let mut logs = Vec::new(alloc);
+    logs.push(log(alloc, "a", text.as_str(), 0)?)?;
+    logs.push(log(alloc, "b", text.as_str(), 0)?)?;
+    let links = links_of(alloc, asked(alloc, 5, 0)?)?;
+    let station = joined(alloc, &[TWO_RADIOS, LINK])?;
+    let mut outside = outside_of(alloc, station.as_str(), logs, links, OpenGate::new(), 0)?;
+    let (written, status) = run(&rt, alloc, &LIMIT_3, &mut outside, 0)?;
+    assert_eq!(rt; status, Status::JournalFull);
+    assert!(rt; ends_with(written.as_slice(), "status 6 full 3\n"));
+    let entries = written
+        .as_slice()
+        .split(|byte| *byte == b'\n')
+        .filter(|line| line.starts_with(b"j2 "));
+    assert_eq!(rt; entries.count(), 3);
+    let link = outside.link(0).ok_or("a link is out")?;
+    let (count, last) = replies(link);
+    assert_eq!(rt; count, 1);
+    assert!(rt; last.is_some_and(|reply| reply.starts_with(&[0xe4, 0x00, 0x06, 0xec])));
+    Ok(())
+}
