@@ -1,14 +1,13 @@
 -- Lists whose items are told one by one, by their places.
-use Rattle.std.proofs.Common.{◌≡◌, ℕ, zero, suc, ◌+◌, ◌<◌, Bool, true, false, ◌||◌, Option, List, [], ◌∷◌, ◌++◌, drop, length, map, refl, sym, ap, ◌∙◌, subst, arith, append_assoc}
+use Rattle.std.proofs.Common.{◌≡◌, ℕ, zero, suc, ◌+◌, ◌<◌, Option, List, [], ◌∷◌, ◌++◌, drop, length, refl, sym, ap, ◌∙◌, subst, arith, append_assoc}
 use Rattle.std.specs.Prelude.{IsSome, OnErr, Result, Ok, Err, Some, get_or, slice_get}
-use Rattle.std.specs.List.{list_any}
 use Rattle.std.specs.Option.{option_to_list}
 use Rattle.std.proofs.lemmas.List.{append-nil}
 use Rattle.feed_link.specs.Told.{SinkState}
 use Rattle.journal_entry.specs.Texts.{spaced}
 use Rattle.radio_engine.specs.Crewing.{HasLeast}
 use Rattle.radio_engine.specs.Headline.{each_cause, each_text}
-use Rattle.radio_engine.specs.Writing.{IsFrontOf, WritesAll, WritesFront}
+use Rattle.radio_engine.specs.Writing.{WritesAll, WritesFront}
 use Rattle.radio_engine.specs.declared.ending.Ending.{Ending}
 use Rattle.radio_engine.proofs.WritingLaws.{front_of_more, writes_front, writes_more}
 

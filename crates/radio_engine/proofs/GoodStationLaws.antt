@@ -1,12 +1,12 @@
 -- A station without a fault is served to the end.
-use Rattle.std.proofs.Common.{◌≡◌, ◌≢◌, ℕ, zero, suc, ◌+◌, ◌<◌, ◌≤◌, ◌⊎◌, inl, inr, Bool, true, false, Option, Some, None, List, [], ◌∷◌, ◌++◌, drop, length, map, refl, sym, ap, ◌∙◌, subst, arith, length-append}
+use Rattle.std.proofs.Common.{◌≡◌, ℕ, suc, ◌≤◌, ◌⊎◌, inl, inr, false, Option, Some, None, List, [], ◌∷◌, ◌++◌, drop, length, map, refl, sym, ap, ◌∙◌, subst, arith, length-append}
 use Rattle.std.specs.Prelude.{All, get_or, nat_lt, slice_get}
 use Rattle.std.specs.List.{sum_by}
 use Rattle.std.specs.Option.{option_to_list}
 use Rattle.std.proofs.lemmas.Bool.Decides.{nat_tests}
 use Rattle.std.proofs.lemmas.List.{append-nil, append_cancel_left, length-map}
 use Rattle.std.proofs.lemmas.List.Elements.{All-head, All-tail}
-use Rattle.feed_link.specs.Faults.{Rose, RoseByOne}
+use Rattle.feed_link.specs.Faults.{Rose}
 use Rattle.feed_link.specs.Openings.{Opening, OutsideState, State, Visit, Wanted, failed, log_visit, visited}
 use Rattle.feed_link.specs.Openings.State.{OfLog, OfLink}
 use Rattle.feed_link.specs.Openings.Wanted.{LogOf}
@@ -21,7 +21,6 @@ use Rattle.file_reader.specs.Ends.{EndsReading}
 use Rattle.file_reader.specs.declared.reader.FileEnd.{FileEnd}
 use Rattle.file_reader.specs.declared.reader.FileEnd.TheVariants as file
 use Rattle.journal_entry.specs.declared.entry.Entry.{Entry}
-use Rattle.responder.specs.Serving.{EndsBy}
 use Rattle.responder.specs.declared.served.End.{End}
 use Rattle.responder.specs.declared.served.End.TheVariants.{Count, LinkEnd, LinkFault}
 use Rattle.station_config.specs.Faults.{Fault, Says, IsFirst, faults_of, Refuses as RefusesStation}
@@ -30,9 +29,8 @@ use Rattle.station_config.specs.declared.fault.StationFault.{StationFault}
 use Rattle.station_config.specs.declared.fault.StationFault.TheVariants as fault
 use Rattle.station_crew.specs.Lists.{Pairs}
 use Rattle.radio_engine.specs.Decoding.{IsGoodLog}
-use Rattle.radio_engine.specs.Endings.{status_of, status_line}
-use Rattle.radio_engine.specs.Headline.{EndsPhases, IsAnswered, IsFirstOfLeast, IsPolled, IsTold, LinkRun, LogRun, PollRun, StationRun, causes, due_in_all, dues, each_cause, full_cause, link_cause, log_cause, poll_cause, radio_dues, server_dues}
-use Rattle.radio_engine.specs.Reading.{ReadsLines}
+use Rattle.radio_engine.specs.Endings.{status_of}
+use Rattle.radio_engine.specs.Headline.{EndsPhases, IsAnswered, IsPolled, IsTold, LinkRun, LogRun, PollRun, StationRun, causes, due_in_all, dues, each_cause, full_cause, link_cause, log_cause, poll_cause, radio_dues, server_dues}
 use Rattle.radio_engine.specs.Serving.{EndsUnserved, HasGoodStation, IsGoodLink, IsGoodLogRun, RunsServe, ServesStation, back_in, opened_in}
 use Rattle.radio_engine.specs.StationFile.{EndsAtStation, IsObstacle, IsStation, line_at, most_of_a_station, status_at}
 use Rattle.radio_engine.specs.Writing.{Answers}
@@ -40,7 +38,6 @@ use Rattle.radio_engine.specs.declared.ending.Ending.{Ending}
 use Rattle.radio_engine.specs.declared.ending.Ending.TheVariants as ending
 use Rattle.radio_engine.specs.declared.ending.status.Status.{Status}
 use Rattle.radio_engine.specs.declared.ending.status.Status.TheVariants.{Done, Memory}
-use Rattle.radio_engine.specs.declared.reading.Reach.{Reach}
 use Rattle.radio_engine.specs.declared.reading.Reach.TheVariants.{AtEnd, AtBadLine}
 use Rattle.radio_engine.specs.declared.station_file.obstacle.Obstacle.{Obstacle}
 use Rattle.radio_engine.proofs.GoodLogLaws.{front_by, front_of, good_reach, none_left, rose_by_one, whole_text}
@@ -230,6 +227,9 @@ good_clients during after settings journal place (r ∷ runs) (g ∷ goods) serv
     let rest = good_clients during after settings journal (suc place) runs goods (All-tail (IsAnswered settings journal during after) r runs served) (All-tail (λ (l : LinkRun). Rose l.opened.faults l.back.faults → ⊥) g goods good) (rest_states (OfLink r.opened) (OfLink g.opened) _ _ same) (rest_states (OfLink r.back) (OfLink g.back) _ _ too) in
     ap (λ o. option_to_list o ++ each_cause (λ n (l : LinkRun). link_cause n l.end) (suc place) runs) none ∙ rest
 
+none_of_four : (a b c d : List Ending) → a ≡ [] → b ≡ [] → c ≡ [] → d ≡ [] → a ++ (b ++ (c ++ d)) ≡ []
+none_of_four a b c d p q r s = ap (λ l. l ++ (b ++ (c ++ d))) p ∙ ap (λ l. l ++ (c ++ d)) q ∙ ap (λ l. l ++ d) r ∙ s
+
 nothing_told : (all : List Ending) (due : Ending) → all ≡ [] → IsTold all due → due ≡ ending.Whole
 nothing_told all due none (inl h) = h.1
 nothing_told all due none (inr h) = absurd (let e = ap length (sym none ∙ h.is) in omega (arith, e, length-append h.before (due ∷ h.behind)))
@@ -335,7 +335,7 @@ module _ (name : List ℕ) (during after limit : ℕ) (outside outside_now : Out
     not_full = (let same = ap (sum_by (λ (l : List Entry). length l)) same_dues in let room = p.room in grind (arith, nat_tests))
 
     no_cause : causes h.of limit h.run ≡ []
-    no_cause = ap (λ l. l ++ _) logs.0 ∙ ap (λ l. l ++ _) polls.0 ∙ ap (λ l. l ++ _) clients ∙ ap (λ b. option_to_list (full_cause limit b)) not_full
+    no_cause = none_of_four _ _ _ _ logs.0 polls.0 clients (ap (λ b. option_to_list (full_cause limit b)) not_full)
 
     all_whole : result ≡ Done
     all_whole = answered _ result out out_now _ h.served.text.written no_write ∙ ap status_of (nothing_told (causes h.of limit h.run) h.served.due no_cause h.served.cause)

@@ -1,5 +1,5 @@
 -- How a command ends that runs through a file of lines.
-use Rattle.std.proofs.Common.{◌≡◌, ℕ, ◌+◌, ◌<◌, Bool, true, false, Option, None, Some, List, [], ◌∷◌, ◌++◌, length, refl, ap, sym, ◌∙◌, subst, inl, inr, arith}
+use Rattle.std.proofs.Common.{◌≡◌, ℕ, ◌<◌, false, Option, None, Some, List, [], ◌∷◌, ◌++◌, length, refl, ap, sym, ◌∙◌, subst, inl, inr, arith}
 use Rattle.std.proofs.lemmas.List.{append-nil, length-append}
 use Rattle.clock_page.specs.Page.{PageFields}
 use Rattle.feed_link.specs.Faults.{Rose, RoseByOne}
@@ -33,7 +33,7 @@ use Rattle.radio_engine.specs.Reading.{ReadsLines}
 use Rattle.radio_engine.specs.StationFile.{HasStation, IsObstacle, IsStation, status_at, line_at}
 use Rattle.radio_engine.specs.Taking.{EndsItself, EndsStopped}
 use Rattle.radio_engine.specs.Text.{page_text}
-use Rattle.radio_engine.specs.Writing.{WritesAll, WritesFront, Answers}
+use Rattle.radio_engine.specs.Writing.{WritesAll, Answers}
 use Rattle.radio_engine.proofs.GoodLogLaws.{front_of, none_left, whole_text, rose_by_one}
 use Rattle.radio_engine.proofs.OpeningLaws.{two_failed_first, two_only_first, two_failed_next, two_opened}
 

@@ -1,12 +1,12 @@
 -- The lines of a journal: each text says one, and they are short.
-use Rattle.std.proofs.Common.{◌≡◌, ℕ, ◌+◌, ◌<◌, ◌≤◌, Bool, true, false, cond, nat_eq, Option, None, Some, List, [], ◌∷◌, ◌++◌, length, map, codes, append_assoc, refl, ap, sym, ◌∙◌, subst, arith}
-use Rattle.std.proofs.lemmas.List.{append-nil, length-append, length-map, map-append}
+use Rattle.std.proofs.Common.{◌≡◌, ℕ, ◌+◌, ◌<◌, Bool, true, false, cond, nat_eq, Option, None, Some, List, [], ◌∷◌, ◌++◌, length, codes, append_assoc, refl, ap, sym, ◌∙◌, subst, arith}
+use Rattle.std.proofs.lemmas.List.{append-nil, length-map, map-append}
 use Rattle.std.proofs.lemmas.Bool.{eqb-true}
 use Rattle.std.proofs.lemmas.List.FromFn.{length-enumerate_from}
 use Rattle.std.specs.List.{enumerate_from, flat_map}
 use Rattle.clock_page.specs.Page.{PageFields}
 use Rattle.journal_entry.specs.Lawful.{IsLawful}
-use Rattle.journal_entry.specs.Lines.{IsLineText, entry_of, form_of}
+use Rattle.journal_entry.specs.Lines.{entry_of, form_of}
 use Rattle.journal_entry.specs.declared.line.Form.{Form}
 use Rattle.system_fold.specs.KeptFold.{FoldFields, StandsForJournal}
 use Rattle.system_fold.specs.Page.{page_of}
@@ -14,7 +14,6 @@ use Rattle.journal_entry.specs.Numbers.{numbered_text}
 use Rattle.journal_entry.specs.declared.entry.Entry.{Entry}
 use Rattle.journal_entry.specs.declared.numbered.Numbered.{Numbered as NumberedEntry}
 use Rattle.journal_entry.specs.declared.line.JournalLine.{JournalLine}
-use Rattle.journal_entry.specs.declared.line.JournalLine.TheVariants.{Bare, Numbered}
 use Rattle.journal_entry.proofs.LengthLaws.{short_text}
 use Rattle.journal_entry.proofs.SameLaws.{same_line}
 use Rattle.system_fold.specs.Numbered.{numbered, numbered_after, numbered_behind}

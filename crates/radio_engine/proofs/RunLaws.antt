@@ -1,7 +1,7 @@
 -- A command without a fault is done, and one that opened nothing is none.
-use Rattle.std.proofs.Common.{◌≡◌, ℕ, ◌⊎◌, Option, Some, None, List, [], ◌∷◌, ◌++◌, length, ap, sym, ◌∙◌, subst, inl, inr, arith}
+use Rattle.std.proofs.Common.{◌≡◌, ℕ, ◌⊎◌, Option, Some, List, [], ◌∷◌, ◌++◌, length, ap, sym, ◌∙◌, subst, inl, inr, arith}
 use Rattle.std.proofs.lemmas.List.{length-append}
-use Rattle.command_words.specs.Commands.{Asked, AskFor}
+use Rattle.command_words.specs.Commands.{Asked}
 use Rattle.command_words.specs.Commands.Asked.{decode, migrate, replay, serve}
 use Rattle.feed_link.specs.Faults.{Rose}
 use Rattle.feed_link.specs.Told.{SinkState}

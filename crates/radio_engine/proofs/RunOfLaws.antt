@@ -1,15 +1,14 @@
 -- What the workers of a station leave, place by place, is a run of the station.
-use Rattle.std.proofs.Common.{◌≡◌, ◌≢◌, ℕ, zero, suc, ◌+◌, ◌<◌, ◌≤◌, ◌*◌, ◌⊎◌, inl, inr, Bool, Option, Some, None, List, [], ◌∷◌, ◌++◌, length, map, refl, sym, ap, ◌∙◌, subst, arith, length-append, append_assoc}
-use Rattle.std.specs.Prelude.{All, option_map, slice_index_or, get_or}
+use Rattle.std.proofs.Common.{◌≡◌, ◌≢◌, ℕ, suc, ◌+◌, ◌<◌, inl, inr, Option, List, [], ◌∷◌, ◌++◌, length, map, refl, sym, ap, ◌∙◌, subst, arith}
+use Rattle.std.specs.Prelude.{All, option_map, slice_index_or}
 use Rattle.std.specs.List.{flat_map, sum_by}
 use Rattle.std.proofs.lemmas.Grind.{flat_map-append}
 use Rattle.std.proofs.lemmas.List.{append-nil}
 use Rattle.std.proofs.lemmas.List.Elements.{All-nil, All-cons, All-head, All-tail}
 use Rattle.std.proofs.lemmas.List.Sums.{sum_by-append}
-use Rattle.feed_link.specs.Told.{SourceState, LinkState, NetEvent, Adds}
-use Rattle.feed_link.specs.Openings.{State}
+use Rattle.feed_link.specs.Told.{SourceState, LinkState, Adds}
 use Rattle.feed_link.specs.Openings.State.{OfLog, OfLink}
-use Rattle.feed_link.proofs.ToldLaws.{Adds-more, Adds-none}
+use Rattle.feed_link.proofs.ToldLaws.{Adds-more}
 use Rattle.feed_workers.specs.Logs.{EndsLog, most_of_a_log}
 use Rattle.feed_workers.specs.declared.work.LogWork.{LogWork}
 use Rattle.feed_workers.specs.declared.work.PollWork.{PollWork}
@@ -17,18 +16,18 @@ use Rattle.journal_entry.specs.declared.entry.Entry.{Entry}
 use Rattle.radio_receiver.specs.Histories.{History}
 use Rattle.receiver_rack.specs.Racks.{AreOf, silent}
 use Rattle.responder.specs.Serving.{EndsBy}
-use Rattle.responder.specs.Turns.{Turn, events_of, GoesOn, answered_of, dropped_of, torn_of}
+use Rattle.responder.specs.Turns.{Turn, events_of, answered_of, dropped_of, torn_of}
 use Rattle.responder.specs.declared.served.End.{End}
 use Rattle.responder.specs.declared.served.End.TheVariants.{Count, LinkEnd, LinkFault}
 use Rattle.responder.specs.declared.served.Served.{Served}
 use Rattle.station_config.specs.Station.{RadioFields, ServerFields}
 use Rattle.station_crew.specs.Lists.{Pairs}
-use Rattle.station_crew.specs.Served.{AreBlank, AsksServer, HearsRadio, HasSecond, ServesLink, ServesPhase}
+use Rattle.station_crew.specs.Served.{AreBlank, AsksServer, HearsRadio, ServesLink, ServesPhase}
 use Rattle.station_crew.specs.declared.work.LinkWork.{LinkWork}
 use Rattle.station_gear.specs.Gears.{link_states, log_states}
 use Rattle.system_fold.specs.Settings.{SettingsFields}
 use Rattle.radio_engine.specs.Crewing.{end_of, end_by, in_both, line_of_work}
-use Rattle.radio_engine.specs.Headline.{IsAnswered, IsPolled, LinkRun, LogRun, PollRun, each_text, end_word, line_of_link, link_line, radio_dues, server_dues}
+use Rattle.radio_engine.specs.Headline.{IsAnswered, IsPolled, LinkRun, LogRun, PollRun, each_text, line_of_link, link_line, radio_dues, server_dues}
 use Rattle.radio_engine.proofs.CountLaws.{HaveDue}
 
 -- receivers that stand for silent ones of the radios, of which nothing was heard

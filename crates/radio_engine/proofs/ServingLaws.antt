@@ -1,6 +1,6 @@
 -- What is opened, done and given back, put together to what becomes of a command to serve.
-use Rattle.std.proofs.Common.{◌≡◌, ℕ, zero, suc, ◌+◌, ◌-◌, ◌<◌, ◌⊎◌, inl, inr, Bool, true, false, ◌||◌, Option, Some, None, List, [], ◌∷◌, ◌++◌, length, map, if◌then◌else◌, refl, sym, ap, ◌∙◌, subst, arith, length-append}
-use Rattle.std.specs.Prelude.{All, MatchResult, Result, Ok, Err, min, nat_lt, slice_get, slice_index_or, vec_len}
+use Rattle.std.proofs.Common.{◌≡◌, ℕ, zero, suc, ◌+◌, ◌-◌, ◌<◌, inl, inr, Bool, true, false, ◌||◌, Option, Some, None, List, [], ◌∷◌, ◌++◌, length, map, refl, sym, ap, ◌∙◌, subst, arith, length-append}
+use Rattle.std.specs.Prelude.{All, MatchResult, Result, Ok, Err, nat_lt, slice_get, slice_index_or, vec_len}
 use Rattle.std.specs.List.{list_any, range_with_len, sum_by}
 use Rattle.std.specs.Option.{option_to_list}
 use Rattle.std.proofs.lemmas.Bool.Decides.{nat_tests}
@@ -8,52 +8,46 @@ use Rattle.std.proofs.lemmas.List.{length-map}
 use Rattle.std.proofs.lemmas.List.Folds.{list_any-append}
 use Rattle.std.proofs.lemmas.List.Elements.{All-nil, All-cons}
 use mathlib.Core.List.{IsPrefix}
-use Rattle.feed_link.specs.ManyOut.{AreOut, GivesAllBack, Held, returned}
-use Rattle.feed_link.specs.Openings.{MakesOpenings, OutsideState, State, Visit, Wanted, log_visit}
-use Rattle.feed_link.specs.Openings.State.{OfLog, OfLink}
+use Rattle.feed_link.specs.ManyOut.{GivesAllBack, Held, returned}
+use Rattle.feed_link.specs.Openings.{OutsideState, State, Visit, Wanted, log_visit}
 use Rattle.feed_link.specs.Openings.Wanted.{LogOf}
 use Rattle.feed_link.specs.Told.{LinkState, SinkState, SourceState}
 use Rattle.feed_link.proofs.OpeningLaws.{GrowsBy-none}
-use Rattle.feed_workers.specs.declared.work.LogEnd.{LogEnd}
 use Rattle.feed_workers.specs.declared.work.LogWork.{LogWork}
-use Rattle.feed_workers.specs.declared.work.PollEnd.{PollEnd}
 use Rattle.feed_workers.specs.declared.work.PollWork.{PollWork}
 use Rattle.file_reader.specs.declared.reader.FileEnd.{FileEnd}
 use Rattle.file_reader.specs.declared.reader.FileEnd.TheVariants.{Whole}
 use Rattle.journal_entry.specs.declared.entry.Entry.{Entry}
 use Rattle.page_cell.specs.Claims.{of_feed}
-use Rattle.responder.specs.declared.served.End.{End}
 use Rattle.station_config.specs.Faults.{Says}
 use Rattle.station_config.specs.Station.{ServerFields, StationFields, kind_of_radio, kind_of_server, settings_of}
 use Rattle.station_crew.specs.Served.{HearsRadio}
-use Rattle.station_crew.specs.declared.work.LinkWork.{LinkWork}
 use Rattle.station_crew.proofs.JournalLaws.{feeds-counted}
-use Rattle.station_gear.specs.Gears.{link_states, log_states, logs_needed, links_needed, numbers_of, servers_needed, states_of, wanted_by}
+use Rattle.station_gear.specs.Gears.{logs_needed, numbers_of, servers_needed, states_of, wanted_by}
 use Rattle.station_gear.specs.Opens.{HoldsOpenings, IsUpTo, IsWhole, OpensAll, StopsAt}
 use Rattle.station_gear.specs.declared.gear.Gear.{Gear}
 use Rattle.station_gear.specs.declared.gear.Missing.{Missing}
 use Rattle.station_gear.specs.declared.gear.Missing.TheVariants as missing
-use Rattle.station_gear.proofs.GearLaws.{all_visited, are_out, gear_sizes, same_numbers, visited_before}
+use Rattle.station_gear.proofs.GearLaws.{all_visited, gear_sizes, same_numbers, visited_before}
 use Rattle.system_fold.specs.Page.{page_of}
 use Rattle.radio_engine.specs.Crewing.{CannotServe, FinishesDone, GivesServed, GivesUnused, HasEach, IsLeftOf, ServesAll, any_full, causes_left, end_of, TriesServe, line_of_work, lines_left, subject_of}
 use Rattle.radio_engine.specs.Endings.{status_of, status_line}
-use Rattle.radio_engine.specs.Headline.{HasDueEntries, IsTold, LinkRun, LogRun, PollRun, StationRun, causes, due_in_all, dues, each_cause, each_text, full_cause, line_of_link, link_cause, log_cause, poll_cause, radio_dues, served_text, server_dues}
+use Rattle.radio_engine.specs.Headline.{HasDueEntries, IsTold, LinkRun, LogRun, PollRun, StationRun, causes, dues, each_cause, each_text, full_cause, link_cause, log_cause, poll_cause, radio_dues, served_text, server_dues}
 use Rattle.radio_engine.specs.Keeping.{OpensStation}
 use Rattle.radio_engine.specs.Migrating.{journal_text}
-use Rattle.radio_engine.specs.Serving.{EndsUnserved, LacksOne, RunsServe, ServesStation, back_in, opened_in, subject_at}
+use Rattle.radio_engine.specs.Serving.{LacksOne, RunsServe, subject_at}
 use Rattle.radio_engine.specs.StationFile.{IsObstacle, line_at, status_at}
 use Rattle.radio_engine.specs.Text.{page_text}
 use Rattle.radio_engine.specs.Writing.{Answers}
 use Rattle.radio_engine.specs.declared.ending.Ending.{Ending}
 use Rattle.radio_engine.specs.declared.ending.Ending.TheVariants.{NoMemory, NotOpened}
 use Rattle.radio_engine.specs.declared.ending.status.Status.{Status}
-use Rattle.radio_engine.specs.declared.ending.subject.Subject.TheVariants.{Feed, Link, Station}
+use Rattle.radio_engine.specs.declared.ending.subject.Subject.TheVariants.{Feed, Link}
 use Rattle.radio_engine.specs.declared.serve.Done.{Done}
 use Rattle.radio_engine.specs.declared.serve.Orders.{Orders}
 use Rattle.radio_engine.specs.declared.station_file.obstacle.Obstacle.{Obstacle}
 use Rattle.radio_engine.proofs.CountLaws.{HaveDue, beginnings, have_both, is_counted, is_lost, is_so, none_lost, wholes}
 use Rattle.radio_engine.proofs.RunOfLaws.{LinksRun, LogsRun, PollsRun, links_run, logs_run, polled-length, polls_run, radio_dues-length}
-use Rattle.radio_engine.proofs.StationFileLaws.{told_by}
 
 -- ---- what is given back
 

@@ -7,11 +7,10 @@ use Rattle.feed_link.specs.Openings.{OutsideState, Visit, Wanted, MakesOpenings}
 use Rattle.feed_link.specs.ManyOut.{GivesAllBack}
 use Rattle.feed_workers.specs.declared.work.LogWork.{LogWork}
 use Rattle.feed_workers.specs.declared.work.PollWork.{PollWork}
-use Rattle.radio_receiver.specs.Histories.{History}
 use Rattle.responder.specs.declared.served.End.{End}
 use Rattle.responder.specs.declared.served.Served.{Served}
 use Rattle.station_config.specs.Station.{StationFields, settings_of}
-use Rattle.station_crew.specs.Served.{AreBlank, IsJournalOf, LinksServed, RadiosServed, ServersServed}
+use Rattle.station_crew.specs.Served.{IsJournalOf, LinksServed, RadiosServed, ServersServed}
 use Rattle.station_crew.specs.declared.named.Ended.{Ended}
 use Rattle.station_crew.specs.declared.work.LinkWork.{LinkWork}
 use Rattle.station_gear.specs.Gears.{numbers_of, states_of, wanted_by}

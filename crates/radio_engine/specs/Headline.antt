@@ -2,7 +2,7 @@
 -- exactly the entries that its code plan or polling rules give for its own input; and each datagram sent on a serving link is the reply
 -- (RFC 5905) to one received there, made from the page of a beginning of that journal, never a shorter one than that link used before.
 -- Six records say it, and `IsServed` at the end has all of them.
-use Rattle.std.specs.Prelude.{◌≡◌, ◌≢◌, ◌⊎◌, ℕ, zero, suc, ◌+◌, ◌*◌, ◌<◌, ◌≤◌, min, nat_lt, Bool, true, false, Option, None, Some, List, [], ◌∷◌, ◌++◌, All, length, map, slice_get, codes, decimal, if◌then◌else◌}
+use Rattle.std.specs.Prelude.{◌≡◌, ◌≢◌, ◌⊎◌, ℕ, suc, ◌*◌, ◌<◌, ◌≤◌, min, nat_lt, Bool, Option, None, Some, List, [], ◌∷◌, ◌++◌, All, length, slice_get, codes, decimal, if◌then◌else◌}
 use Rattle.std.specs.List.{flat_map, sum_by}
 use Rattle.std.specs.Option.{option_to_list}
 use mathlib.Core.List.{IsPrefix}

@@ -2,7 +2,6 @@
 -- for less of them; with the cutter of its lines and their count it stands for the bytes, and for the text that it has given for them.
 use Rattle.std.specs.Prelude.{◌≡◌, ℕ, ◌+◌, Option, None, Some, List, [], ◌∷◌, ◌++◌, length, take}
 use Rattle.line_cutter.specs.Cutting.{HasTaken}
-use Rattle.line_cutter.specs.Items.{Saying}
 use Rattle.line_cutter.specs.declared.cutter.LineCutter.{LineCutter}
 use Rattle.radio_engine.specs.LineFiles.{LineFile, HasItemsOf}
 use Rattle.radio_engine.specs.declared.reading.Gives.{Gives}

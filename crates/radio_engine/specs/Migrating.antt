@@ -1,5 +1,5 @@
 -- What it is to move a journal over: a file of lines of either form, which is read against a station and written in the second form.
-use Rattle.std.specs.Prelude.{◌≡◌, ℕ, ◌+◌, ◌<◌, ◌^◌, ◌==◌, Bool, List, [], ◌∷◌, ◌++◌, codes, length, map, if◌then◌else◌}
+use Rattle.std.specs.Prelude.{◌≡◌, ℕ, ◌+◌, ◌<◌, ◌^◌, ◌==◌, List, [], ◌∷◌, ◌++◌, codes, length, map, if◌then◌else◌}
 use Rattle.std.specs.List.{flat_map}
 use Rattle.feed_link.specs.Told.{SinkState}
 use Rattle.feed_link.specs.Openings.{OutsideState}

@@ -1,7 +1,7 @@
 -- Scaffolding: what a mover of a journal's lines stands for.
-use Rattle.std.specs.Prelude.{◌≡◌, ℕ, ◌+◌, Option, None, Some, List, [], ◌∷◌, ◌++◌, length, take, codes}
+use Rattle.std.specs.Prelude.{◌≡◌, ℕ, Option, None, Some, List, [], ◌∷◌, ◌++◌, length, take, codes}
 use Rattle.clock_page.specs.Page.{PageFields}
-use Rattle.journal_entry.specs.Lines.{IsLineText, entry_of, form_of}
+use Rattle.journal_entry.specs.Lines.{entry_of, form_of}
 use Rattle.journal_entry.specs.Numbers.{numbered_text}
 use Rattle.journal_entry.specs.declared.entry.Entry.{Entry}
 use Rattle.journal_entry.specs.declared.line.Form.{Form}

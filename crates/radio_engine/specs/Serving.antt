@@ -10,7 +10,7 @@ use Rattle.station_config.specs.Station.{StationFields}
 use Rattle.station_gear.specs.Gears.{wanted_by}
 use Rattle.radio_engine.specs.Decoding.{IsGoodLog}
 use Rattle.radio_engine.specs.Endings.{status_of, status_line}
-use Rattle.radio_engine.specs.Headline.{LogRun, PollRun, LinkRun, StationRun, IsServed, due_in_all}
+use Rattle.radio_engine.specs.Headline.{LogRun, StationRun, IsServed, due_in_all}
 use Rattle.radio_engine.specs.Opening.{CannotOpen}
 use Rattle.radio_engine.specs.StationFile.{EndsAtStation, HasStation, IsStation, most_of_a_station}
 use Rattle.radio_engine.specs.Writing.{Answers}

@@ -1,5 +1,5 @@
 -- What the search leaves open of `serve::serve_open`.
-use Rattle.std.proofs.Common.{subst, sym}
+use Rattle.std.proofs.Common.{subst}
 use Rattle.feed_link.specs.ManyOut.{GivesAllBack}
 use Rattle.station_gear.specs.Gears.{numbers_of, states_of}
 use Rattle.radio_engine.proofs.serve.serve_open.Goals as goal

@@ -1,5 +1,5 @@
 -- What the search leaves open of `reading::taking::take_piece`.
-use Rattle.std.proofs.Common.{rules, ℕ, List, Option, ◌++◌, length, take, refl, None, ap, arith, subst}
+use Rattle.std.proofs.Common.{rules, ℕ, List, Option, ◌++◌, length, take, refl, ap, arith, subst}
 use Rattle.std.proofs.lemmas.List.{length-drop}
 use Rattle.radio_engine.specs.Taking.{given, bad_of}
 use Rattle.radio_engine.proofs.TakingLaws.{taken_on, taken_bad, taken_stopped, taken_whole, none_of}

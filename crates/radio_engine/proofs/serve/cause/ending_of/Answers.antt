@@ -1,5 +1,5 @@
 -- What the search leaves open of `serve::cause::ending_of`.
-use Rattle.std.proofs.Common.{◌≡◌, ℕ, ◌+◌, List, [], ◌++◌, ap, append_assoc, length, refl, sym, ◌∙◌, subst}
+use Rattle.std.proofs.Common.{◌≡◌, List, [], ◌++◌, ap, append_assoc, length, refl, sym, ◌∙◌, subst}
 use Rattle.std.specs.Prelude.{unwrap_or}
 use Rattle.std.specs.Option.{option_to_list}
 use Rattle.feed_workers.specs.declared.work.LogWork.{LogWork}

@@ -1,5 +1,5 @@
 -- What the search leaves open of `serve::cause::with_next`.
-use Rattle.std.proofs.Common.{List, [], ◌∷◌, ◌++◌, Option, sym, subst}
+use Rattle.std.proofs.Common.{[], ◌∷◌, ◌++◌, Option, sym, subst}
 use Rattle.std.specs.Option.{option_to_list}
 use Rattle.radio_engine.specs.Crewing.{HasLeast}
 use Rattle.radio_engine.specs.Headline.{IsFirstOfLeast}

@@ -1,6 +1,5 @@
 -- What the search leaves open of `serve::cause::with_works`.
-use Rattle.std.proofs.Common.{◌≡◌, ◌+◌, ◌<◌, ap, arith, length, rules, sym, ◌∙◌}
-use Rattle.std.specs.Prelude.{slice_index_or}
+use Rattle.std.proofs.Common.{◌≡◌, ◌<◌, ap, arith, length, rules, ◌∙◌}
 use Rattle.radio_engine.proofs.EachLaws.{looked_all, looked_more, none_behind}
 use Rattle.radio_engine.proofs.serve.cause.with_works.Goals as goal
 

@@ -1,8 +1,7 @@
 -- What the search leaves open of `serve::text::finish_served`.
 use Rattle.std.proofs.Common.{◌≡◌, List, ℕ, ◌++◌, append_assoc, ap, ◌∙◌, sym, subst}
-use Rattle.std.specs.Prelude.{length}
 use Rattle.clock_page.specs.Page.{PageFields}
-use Rattle.radio_engine.specs.Crewing.{lines_left, line_of_work}
+use Rattle.radio_engine.specs.Crewing.{line_of_work}
 use Rattle.radio_engine.specs.Endings.{status_of, status_line}
 use Rattle.radio_engine.specs.Headline.{each_text}
 use Rattle.radio_engine.specs.Migrating.{journal_text}

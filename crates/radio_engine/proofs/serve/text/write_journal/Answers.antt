@@ -1,8 +1,7 @@
 -- What the search leaves open of `serve::text::write_journal`.
-use Rattle.std.proofs.Common.{◌≡◌, ℕ, ◌+◌, ◌<◌, Option, Some, List, ap, arith, length, rules, subst, sym, ◌∙◌}
+use Rattle.std.proofs.Common.{◌≡◌, ℕ, ◌<◌, Some, List, ap, arith, length, rules, subst, sym, ◌∙◌}
 use Rattle.std.specs.Prelude.{IsSome, slice_get}
 use Rattle.std.specs.List.{flat_map}
-use Rattle.journal_entry.specs.declared.numbered.Numbered.{Numbered}
 use Rattle.verdict_journal.specs.Journals.{numbered_of}
 use Rattle.radio_engine.specs.Writing.{WritesAll, WritesFront}
 use Rattle.radio_engine.proofs.EachLaws.{drop_got, none_behind, on_err, some_at, written_all, written_front, written_more}

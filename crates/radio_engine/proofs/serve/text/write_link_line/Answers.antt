@@ -1,5 +1,5 @@
 -- What the search leaves open of `serve::text::write_link_line`.
-use Rattle.std.proofs.Common.{◌≡◌, ℕ, List, [], ◌∷◌, ◌++◌, ap, rules, sym, ◌∙◌, take}
+use Rattle.std.proofs.Common.{◌≡◌, [], ◌∷◌, ◌++◌, ap, rules, ◌∙◌, take}
 use Rattle.std.specs.Prelude.{codes, decimal}
 use Rattle.journal_entry.specs.Writing.{room_of, text_in}
 use Rattle.radio_engine.specs.Crewing.{line_by, line_of_work}

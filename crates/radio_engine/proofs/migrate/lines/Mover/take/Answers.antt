@@ -1,5 +1,5 @@
 -- What the search leaves open of `migrate::lines::Mover::take`.
-use Rattle.std.proofs.Common.{◌≡◌, ◌∙◌, ◌++◌, ◌∷◌, ℕ, [], Some, None, length, refl, ap, sym, subst}
+use Rattle.std.proofs.Common.{◌≡◌, ◌∙◌, ◌++◌, ◌∷◌, [], Some, None, length, refl, ap, sym, subst}
 use Rattle.journal_entry.specs.Lines.{entry_of}
 use Rattle.journal_entry.specs.Lawful.{IsLawful}
 use Rattle.journal_entry.specs.declared.entry.Entry.{Entry}

@@ -1,5 +1,5 @@
 -- What the search leaves open of `migrate::mover::JournalMoverTaker::take`.
-use Rattle.std.proofs.Common.{◌≡◌, ◌+◌, ◌<◌, ◌++◌, ℕ, [], Some, take, ap, subst, sym, ◌∙◌, arith}
+use Rattle.std.proofs.Common.{◌≡◌, ◌+◌, ◌++◌, ℕ, [], Some, take, ap, subst, sym, ◌∙◌, arith}
 use Rattle.station_config.specs.Station.{settings_of}
 use Rattle.radio_engine.specs.LineTaking.{IsTakenBy}
 use Rattle.radio_engine.specs.Moving.{HasMoved}

@@ -1,5 +1,5 @@
 -- What the search leaves open of `replay::replayer::ReplayerBoxedReceiverTaker::take`.
-use Rattle.std.proofs.Common.{◌≤◌, ◌<◌, ℕ, arith}
+use Rattle.std.proofs.Common.{◌<◌, ℕ, arith}
 use Rattle.radio_engine.specs.Replaying.{script_of}
 use Rattle.radio_engine.specs.Script.{script_line_limit}
 use Rattle.radio_engine.proofs.LineTakingLaws.{took_more, took_line, took_long}
