@@ -69,8 +69,8 @@ put_in_rack-requires-12 g c =
     let same = read_made own-1 _ (inr (inr (inl tt))) refl (History → Type 0) (λ j y h. j.1.stands_for y h) _ _ _ c.into_dyn_box-in_ok-new-12.ensures.1 in
     subst (λ (P : History → Type 0). P (blank_of Wwvb)) (sym same) (subst (λ v. (own-1.entry (inr (inr (inl tt)))).1.stands_for v (blank_of Wwvb)) (sym c.in_ok-new-12.ensures.ok) c.new-23.ensures.stands)
 
-pub run_station-requires-after_bounds : goal.run_station-requires-after_bounds
-run_station-requires-after_bounds g c =
+pub run_station-requires-clause-rack : goal.run_station-requires-clause-rack
+run_station-requires-clause-rack g c κs within =
     let has-1 = c.in_ok-put_in_rack.ensures 0 0 0 (none_yet _ _ (search rules)) in
     let has-2 = c.in_ok-put_in_rack-2.ensures 1 0 0 has-1 in
     let has-3 = c.in_ok-put_in_rack-3.ensures 1 1 0 has-2 in

@@ -8,67 +8,67 @@ use Rattle.radio_engine.proofs.tests.run_over.OwnLists.{own-1}
 use Rattle.radio_engine.proofs.tests.run_over.Goals as goal
 
 pub put_in_rack-requires : goal.put_in_rack-requires
-put_in_rack-requires c =
+put_in_rack-requires g c =
     let same = read_made own-1 _ (inl tt) refl (History → Type 0) (λ j y h. j.1.stands_for y h) _ _ _ c.into_dyn_box.ensures.1 in
     subst (λ (P : History → Type 0). P (blank_of Dcf)) (sym same) (subst (λ v. (own-1.entry (inl tt)).1.stands_for v (blank_of Dcf)) (sym c.in_ok-new.ensures.ok) c.new.ensures.stands)
 
 pub put_in_rack-requires-2 : goal.put_in_rack-requires-2
-put_in_rack-requires-2 c =
+put_in_rack-requires-2 g c =
     let same = read_made own-1 _ (inr (inl tt)) refl (History → Type 0) (λ j y h. j.1.stands_for y h) _ _ _ c.into_dyn_box-in_ok-new-2.ensures.1 in
     subst (λ (P : History → Type 0). P (blank_of Msf)) (sym same) (subst (λ v. (own-1.entry (inr (inl tt))).1.stands_for v (blank_of Msf)) (sym c.in_ok-new-2.ensures.ok) c.new-3.ensures.stands)
 
 pub put_in_rack-requires-3 : goal.put_in_rack-requires-3
-put_in_rack-requires-3 c =
+put_in_rack-requires-3 g c =
     let same = read_made own-1 _ (inr (inr (inl tt))) refl (History → Type 0) (λ j y h. j.1.stands_for y h) _ _ _ c.into_dyn_box-in_ok-new-3.ensures.1 in
     subst (λ (P : History → Type 0). P (blank_of Wwvb)) (sym same) (subst (λ v. (own-1.entry (inr (inr (inl tt)))).1.stands_for v (blank_of Wwvb)) (sym c.in_ok-new-3.ensures.ok) c.new-5.ensures.stands)
 
 pub put_in_rack-requires-4 : goal.put_in_rack-requires-4
-put_in_rack-requires-4 c =
+put_in_rack-requires-4 g c =
     let same = read_made own-1 _ (inl tt) refl (History → Type 0) (λ j y h. j.1.stands_for y h) _ _ _ c.into_dyn_box-in_ok-new-4.ensures.1 in
     subst (λ (P : History → Type 0). P (blank_of Dcf)) (sym same) (subst (λ v. (own-1.entry (inl tt)).1.stands_for v (blank_of Dcf)) (sym c.in_ok-new-4.ensures.ok) c.new-7.ensures.stands)
 
 pub put_in_rack-requires-5 : goal.put_in_rack-requires-5
-put_in_rack-requires-5 c =
+put_in_rack-requires-5 g c =
     let same = read_made own-1 _ (inr (inl tt)) refl (History → Type 0) (λ j y h. j.1.stands_for y h) _ _ _ c.into_dyn_box-in_ok-new-5.ensures.1 in
     subst (λ (P : History → Type 0). P (blank_of Msf)) (sym same) (subst (λ v. (own-1.entry (inr (inl tt))).1.stands_for v (blank_of Msf)) (sym c.in_ok-new-5.ensures.ok) c.new-9.ensures.stands)
 
 pub put_in_rack-requires-6 : goal.put_in_rack-requires-6
-put_in_rack-requires-6 c =
+put_in_rack-requires-6 g c =
     let same = read_made own-1 _ (inr (inr (inl tt))) refl (History → Type 0) (λ j y h. j.1.stands_for y h) _ _ _ c.into_dyn_box-in_ok-new-6.ensures.1 in
     subst (λ (P : History → Type 0). P (blank_of Wwvb)) (sym same) (subst (λ v. (own-1.entry (inr (inr (inl tt)))).1.stands_for v (blank_of Wwvb)) (sym c.in_ok-new-6.ensures.ok) c.new-11.ensures.stands)
 
 pub put_in_rack-requires-7 : goal.put_in_rack-requires-7
-put_in_rack-requires-7 c =
+put_in_rack-requires-7 g c =
     let same = read_made own-1 _ (inl tt) refl (History → Type 0) (λ j y h. j.1.stands_for y h) _ _ _ c.into_dyn_box-in_ok-new-7.ensures.1 in
     subst (λ (P : History → Type 0). P (blank_of Dcf)) (sym same) (subst (λ v. (own-1.entry (inl tt)).1.stands_for v (blank_of Dcf)) (sym c.in_ok-new-7.ensures.ok) c.new-13.ensures.stands)
 
 pub put_in_rack-requires-8 : goal.put_in_rack-requires-8
-put_in_rack-requires-8 c =
+put_in_rack-requires-8 g c =
     let same = read_made own-1 _ (inr (inl tt)) refl (History → Type 0) (λ j y h. j.1.stands_for y h) _ _ _ c.into_dyn_box-in_ok-new-8.ensures.1 in
     subst (λ (P : History → Type 0). P (blank_of Msf)) (sym same) (subst (λ v. (own-1.entry (inr (inl tt))).1.stands_for v (blank_of Msf)) (sym c.in_ok-new-8.ensures.ok) c.new-15.ensures.stands)
 
 pub put_in_rack-requires-9 : goal.put_in_rack-requires-9
-put_in_rack-requires-9 c =
+put_in_rack-requires-9 g c =
     let same = read_made own-1 _ (inr (inr (inl tt))) refl (History → Type 0) (λ j y h. j.1.stands_for y h) _ _ _ c.into_dyn_box-in_ok-new-9.ensures.1 in
     subst (λ (P : History → Type 0). P (blank_of Wwvb)) (sym same) (subst (λ v. (own-1.entry (inr (inr (inl tt)))).1.stands_for v (blank_of Wwvb)) (sym c.in_ok-new-9.ensures.ok) c.new-17.ensures.stands)
 
 pub put_in_rack-requires-10 : goal.put_in_rack-requires-10
-put_in_rack-requires-10 c =
+put_in_rack-requires-10 g c =
     let same = read_made own-1 _ (inl tt) refl (History → Type 0) (λ j y h. j.1.stands_for y h) _ _ _ c.into_dyn_box-in_ok-new-10.ensures.1 in
     subst (λ (P : History → Type 0). P (blank_of Dcf)) (sym same) (subst (λ v. (own-1.entry (inl tt)).1.stands_for v (blank_of Dcf)) (sym c.in_ok-new-10.ensures.ok) c.new-19.ensures.stands)
 
 pub put_in_rack-requires-11 : goal.put_in_rack-requires-11
-put_in_rack-requires-11 c =
+put_in_rack-requires-11 g c =
     let same = read_made own-1 _ (inr (inl tt)) refl (History → Type 0) (λ j y h. j.1.stands_for y h) _ _ _ c.into_dyn_box-in_ok-new-11.ensures.1 in
     subst (λ (P : History → Type 0). P (blank_of Msf)) (sym same) (subst (λ v. (own-1.entry (inr (inl tt))).1.stands_for v (blank_of Msf)) (sym c.in_ok-new-11.ensures.ok) c.new-21.ensures.stands)
 
 pub put_in_rack-requires-12 : goal.put_in_rack-requires-12
-put_in_rack-requires-12 c =
+put_in_rack-requires-12 g c =
     let same = read_made own-1 _ (inr (inr (inl tt))) refl (History → Type 0) (λ j y h. j.1.stands_for y h) _ _ _ c.into_dyn_box-in_ok-new-12.ensures.1 in
     subst (λ (P : History → Type 0). P (blank_of Wwvb)) (sym same) (subst (λ v. (own-1.entry (inr (inr (inl tt)))).1.stands_for v (blank_of Wwvb)) (sym c.in_ok-new-12.ensures.ok) c.new-23.ensures.stands)
 
-pub run_station-requires-after_bounds : goal.run_station-requires-after_bounds
-run_station-requires-after_bounds c =
+pub run_station-requires-clause-rack : goal.run_station-requires-clause-rack
+run_station-requires-clause-rack g c κs within =
     let has-1 = c.in_ok-put_in_rack.ensures 0 0 0 (none_yet _ _ (search rules)) in
     let has-2 = c.in_ok-put_in_rack-2.ensures 1 0 0 has-1 in
     let has-3 = c.in_ok-put_in_rack-3.ensures 1 1 0 has-2 in
