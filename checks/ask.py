@@ -1,0 +1,186 @@
+#!/usr/bin/env python3
+"""A plain client, for the checks of `serve`: it asks a server and looks at each field of the answers. It shares no code with the
+program.
+
+    ask.py port                             a port that is free, below those that the host gives out by itself
+    ask.py ahead START                      how far the example's radios are ahead of the host's clock now, in seconds, where the
+                                            server's counter stands at START microseconds
+    ask.py local START                      the same for a server that has no time, which counts from 1900 on
+    ask.py wait PORT                        waits until a server answers, for ten seconds at most
+    ask.py look PORT COUNT AHEAD LEAP STRATUM REFID [DUMP]
+                                            asks so many times and looks at each answer; DUMP gets them for text2pcap
+    ask.py drain PORT PROCESS               asks until the process has ended, for a minute at most
+    ask.py near VALUE AHEAD                 whether a value that a client has printed is so many seconds, within one
+
+It ends with 1 and says why where something isn't as it should be.
+"""
+
+import datetime
+import os
+import random
+import socket
+import struct
+import sys
+import time
+
+UNIX = 2208988800  # the seconds from 1900 to 1970
+SECOND = 2**32
+# The example's first whole minute, and the counter's microseconds at which it begins.
+FIRST = datetime.datetime(2026, 1, 1, 12, 0, tzinfo=datetime.timezone.utc).timestamp()
+FIRST_AT = 2_000_000
+WAIT = 10
+
+
+def free_port():
+    """Ports from 32768 on may be taken by any socket that asks for none; so one below them."""
+    for _ in range(1000):
+        port = random.randrange(20000, 32000)
+        with socket.socket(socket.AF_INET, socket.SOCK_DGRAM) as trial:
+            try:
+                trial.bind(("0.0.0.0", port))
+                return port
+            except OSError:
+                pass
+    sys.exit("no port is free")
+
+
+def to_server(port):
+    """A socket that hears one server alone."""
+    client = socket.socket(socket.AF_INET, socket.SOCK_DGRAM)
+    client.connect(("127.0.0.1", port))
+    client.settimeout(WAIT)
+    return client
+
+
+def request(version, poll, sent, length=48):
+    """A client's request; behind its 48 bytes a server has nothing to look at."""
+    return bytes([version << 3 | 3, 0, poll, 0xEC]) + bytes(36) + struct.pack(">Q", sent) + bytes(length - 48)
+
+
+def answer(client, question):
+    """The answer, or None where nobody listens."""
+    try:
+        client.send(question)
+        return client.recv(2048)
+    except ConnectionRefusedError:
+        return None
+
+
+def wait_for(port):
+    """One request is heard at most: one that finds no socket is refused at once."""
+    end = time.monotonic() + WAIT
+    with to_server(port) as client:
+        while time.monotonic() < end:
+            if answer(client, request(4, 6, 1)) is not None:
+                return
+            time.sleep(0.01)
+    sys.exit(f"nobody listens on port {port}")
+
+
+def stamp_now():
+    return int((time.time() + UNIX) * SECOND) % 2**64
+
+
+def span(later, earlier):
+    """The seconds from one time stamp to another, which are less than 68 years apart."""
+    apart = (later - earlier) % 2**64
+    return (apart - 2**64 if apart >= 2**63 else apart) / SECOND
+
+
+def look_at(reply, question, left, came, ahead, leap, stratum, refid):
+    """Each field of an answer, against what was sent and what is known of the server."""
+    first, told_stratum, poll, precision, delay, dispersion, told_refid, known, origin, received, sent = struct.unpack(
+        ">BBBbII4sQQQQ", reply
+    )
+    has_time = leap != 3
+    shift = round(ahead * SECOND)
+    off = (span(received, left + shift) + span(sent, came + shift)) / 2
+    yield "the leap indicator", first >> 6, leap
+    yield "the version", first >> 3 & 7, question[0] >> 3 & 7
+    yield "the mode", first & 7, 4
+    yield "the stratum", told_stratum, stratum
+    yield "the poll", poll, question[2]
+    yield "the precision", precision, -20
+    yield "the root delay", delay, 0
+    yield "the reference ID", told_refid.rstrip(b"\0").decode("latin-1"), refid
+    yield "the origin", origin, left
+    # A radio's time is told 5 ms off at the least, and as no time from 1 s on. None is 16 s off.
+    yield f"that the root dispersion {dispersion} is in range", (328 <= dispersion <= 65536 if has_time else dispersion == 2**20), True
+    yield "that it was received before it was sent", 0 <= span(sent, received) < 1, True
+    # The newest minute of the radios came in the quarter of an hour before.
+    yield f"that the reference time {known:016x} is in range", (0 <= span(received, known) <= 900 if has_time else known == 0), True
+    yield f"that the offset, which is {off:.6f} s off, is {ahead:.6f} within a second", abs(off) < 1, True
+
+
+def dump(datagram):
+    """A datagram as text2pcap reads it."""
+    return f"000000 {datagram.hex(' ')}\n"
+
+
+def look(port, count, ahead, leap, stratum, refid, dump_name=None):
+    """Asks in each version, with several polls, and with bytes behind the 48."""
+    dumped = []
+    with to_server(port) as client:
+        for i in range(count):
+            left = stamp_now()
+            question = request(1 + i % 4, (6, 10, 0xFD, 127)[i // 4 % 4], left, (48, 48, 68, 1024)[i // 3 % 4])
+            reply = answer(client, question)
+            came = stamp_now()
+            if reply is None or len(reply) != 48:
+                sys.exit(f"request {i} is answered with {reply!r}")
+            dumped.append(dump(reply))
+            for what, told, due in look_at(reply, question, left, came, ahead, leap, stratum, refid):
+                if told != due:
+                    sys.exit(f"request {i}: {what} is {told!r} and not {due!r}: {reply.hex()}")
+    if dump_name:
+        with open(dump_name, "w", encoding="ascii") as out:
+            out.write("".join(dumped))
+
+
+def is_alive(process):
+    try:
+        os.kill(process, 0)
+        return True
+    except ProcessLookupError:
+        return False
+
+
+def drain(port, process):
+    end = time.monotonic() + 60
+    with to_server(port) as client:
+        client.settimeout(3)
+        while is_alive(process):
+            try:
+                if answer(client, request(4, 6, 1)) is None:
+                    return
+            except TimeoutError:
+                pass
+            if time.monotonic() > end:
+                sys.exit(f"process {process} goes on")
+
+
+def main():
+    command, words = sys.argv[1], sys.argv[2:]
+    if command == "port":
+        print(free_port())
+    elif command == "ahead":
+        print(FIRST + (int(words[0]) - FIRST_AT) / 1e6 - time.time())
+    elif command == "local":
+        print(int(words[0]) / 1e6 - UNIX - time.time())
+    elif command == "wait":
+        wait_for(int(words[0]))
+    elif command == "look":
+        port, count, ahead, leap, stratum, refid, *name = words
+        look(int(port), int(count), float(ahead), int(leap), int(stratum), refid, *name)
+    elif command == "drain":
+        drain(*map(int, words))
+    elif command == "near":
+        value, ahead = map(float, words)
+        if abs(value - ahead) >= 1:
+            sys.exit(f"{value} isn't {ahead} within a second")
+    else:
+        sys.exit(__doc__)
+
+
+if __name__ == "__main__":
+    main()
