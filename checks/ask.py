@@ -7,6 +7,7 @@ program.
                                             server's counter stands at START microseconds
     ask.py local START                      the same for a server that has no time, which counts from 1900 on
     ask.py wait PORT                        waits until a server answers, for ten seconds at most
+    ask.py soon PORT                        waits until a server has a time, for ten seconds at most, and asks ten times at most
     ask.py look PORT COUNT AHEAD LEAP STRATUM REFID [DUMP]
                                             asks so many times and looks at each answer; DUMP gets them for text2pcap
     ask.py drain PORT PROCESS               asks until the process has ended, for a minute at most
@@ -75,6 +76,16 @@ def wait_for(port):
                 return
             time.sleep(0.01)
     sys.exit(f"nobody listens on port {port}")
+
+
+def wait_for_time(port):
+    with to_server(port) as client:
+        for _ in range(10):
+            reply = answer(client, request(4, 6, 1))
+            if reply and reply[0] >> 6 != 3:
+                return
+            time.sleep(WAIT / 10)
+    sys.exit(f"the server on port {port} has no time")
 
 
 def stamp_now():
@@ -169,6 +180,8 @@ def main():
         print(int(words[0]) / 1e6 - UNIX - time.time())
     elif command == "wait":
         wait_for(int(words[0]))
+    elif command == "soon":
+        wait_for_time(int(words[0]))
     elif command == "look":
         port, count, ahead, leap, stratum, refid, *name = words
         look(int(port), int(count), float(ahead), int(leap), int(stratum), refid, *name)

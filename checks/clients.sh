@@ -129,7 +129,7 @@ fi
 
 if can 'busybox has no ntpd' sh -c 'busybox --list | grep -qx ntpd'; then
     timeout 3 busybox ntpd -n -w -d -p "127.0.0.1:$port" > "$work/busybox" 2>&1
-    says busybox 'status:0x24 strat:1 refid:0x44434600'
+    says busybox 'status:0x24 strat:1 refid:0x\(00464344\|44434600\) '
     says_ahead busybox "$(found 'offset:\([-+0-9.]*\)' "$work/busybox")"
 fi
 ask drain "$port" "$server" || wrong 'the server goes on'

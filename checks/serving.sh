@@ -42,20 +42,21 @@ station() {
     fi
 }
 
-# Starts a server with these words behind `serve --station FILE`, whose output is "$work/served". It is killed after a minute. `ahead`
-# is how far the time of the example's logs is ahead of the host's, in seconds.
+# Starts a server with these words behind `serve`, the first two of which name its station. It writes to "$work/serving", and is
+# killed after a minute. `ahead` is how far the time of the example's logs is ahead of the host's, in seconds.
 serve() {
     start=$(sed -n 's/^start = //p' "$2")
     ahead=$(ask ahead "${start:-0}")
-    timeout 60 ./radio_ntpd serve "$@" > "$work/served" &
+    timeout 60 ./radio_ntpd serve "$@" > "$work/serving" &
     server=$!
     servers="$servers $server"
 }
 
-# The server ends with the status $1 and the last line $2.
+# The server ends with the status $1 and the last line $2; what it wrote is in "$work/served".
 ended() {
     wait "$server"
     told=$?
+    cp "$work/serving" "$work/served"
     if [ "$told" != "$1" ] || [ "$(tail -n 1 "$work/served")" != "$2" ]; then
         wrong "it ends with $told and '$(tail -n 1 "$work/served")', not with $1 and '$2'"
     fi
