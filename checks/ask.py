@@ -10,14 +10,13 @@ program.
     ask.py soon PORT                        waits until a server has a time, for ten seconds at most, and asks ten times at most
     ask.py look PORT COUNT AHEAD LEAP STRATUM REFID [DUMP]
                                             asks so many times and looks at each answer; DUMP gets them for text2pcap
-    ask.py drain PORT PROCESS               asks until the process has ended, for a minute at most
+    ask.py drain PORT                       asks until the server has ended, for half a minute at most
     ask.py near VALUE AHEAD                 whether a value that a client has printed is so many seconds, within one
 
 It ends with 1 and says why where something isn't as it should be.
 """
 
 import datetime
-import os
 import random
 import socket
 import struct
@@ -148,26 +147,18 @@ def look(port, count, ahead, leap, stratum, refid, dump_name=None):
             out.write("".join(dumped))
 
 
-def is_alive(process):
-    try:
-        os.kill(process, 0)
-        return True
-    except ProcessLookupError:
-        return False
-
-
-def drain(port, process):
-    end = time.monotonic() + 60
+def drain(port):
+    """Where the server has ended, the host refuses what is sent."""
+    end = time.monotonic() + 30
     with to_server(port) as client:
-        client.settimeout(3)
-        while is_alive(process):
+        client.settimeout(1)
+        while time.monotonic() < end:
             try:
                 if answer(client, request(4, 6, 1)) is None:
                     return
             except TimeoutError:
                 pass
-            if time.monotonic() > end:
-                sys.exit(f"process {process} goes on")
+    sys.exit(f"the server on port {port} goes on")
 
 
 def main():
@@ -186,7 +177,7 @@ def main():
         port, count, ahead, leap, stratum, refid, *name = words
         look(int(port), int(count), float(ahead), int(leap), int(stratum), refid, *name)
     elif command == "drain":
-        drain(*map(int, words))
+        drain(int(words[0]))
     elif command == "near":
         value, ahead = map(float, words)
         if abs(value - ahead) >= 1:

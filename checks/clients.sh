@@ -69,7 +69,7 @@ if command -v chronyd > /dev/null; then
         "pidfile $work/pid" 'cmdport 0' 'bindcmdaddress /' > "$work/chronyd" 2>&1 && wrong 'chronyd takes the time of a server that has none'
     says chronyd 'Timeout reached'
 fi
-ask drain "$port" "$server" || wrong 'the server goes on'
+ask drain "$port" || wrong 'the server goes on'
 ended 0 'status 0'
 wrote 'page 0 0 0 494e4954 0 0 0 0 1048576 0000000000000000 0 0'
 
@@ -132,7 +132,7 @@ if can 'busybox has no ntpd' sh -c 'busybox --list | grep -qx ntpd'; then
     says busybox 'status:0x24 strat:1 refid:0x\(00464344\|44434600\) '
     says_ahead busybox "$(found 'offset:\([-+0-9.]*\)' "$work/busybox")"
 fi
-ask drain "$port" "$server" || wrong 'the server goes on'
+ask drain "$port" || wrong 'the server goes on'
 ended 0 'status 0'
 wrote 'link 0 answered [0-9]* dropped 0 again 0 end count'
 

@@ -13,6 +13,6 @@ serve --station "$work/station.toml" --during 0 --after 100
 echo "$ahead" > "$1.ahead"
 ask wait 123 || exit 1
 timeout 20 ntpdig -j 127.0.0.1 > "$1" 2>&1 || wrong "ntpdig ends with $?: $(cat "$1")"
-ask drain 123 "$server" || exit 1
+ask drain 123 || exit 1
 ended 0 'status 0'
 exit "$bad"

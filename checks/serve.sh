@@ -147,7 +147,7 @@ ask wait "$port" && ask look "$port" 10 "$(ask local 604000000)" 3 0 INIT || wro
 cat examples/radios/msf.log >&3
 ask soon "$port" && ask look "$port" 10 "$ahead" 0 1 MSF || wrong 'a server has no time of a log that goes on'
 exec 3>&-
-ask drain "$port" "$server" || wrong 'a server of a log that was written does not end'
+ask drain "$port" || wrong 'a server of a log that was written does not end'
 ended 0 'status 0'
 wrote 'link 0 answered 33 dropped 0 again 0 end count'
 checked=$((checked + 3))
@@ -181,7 +181,7 @@ import sys
 told, ahead, began = map(float, sys.argv[1:])
 sys.exit(abs(told / 2**32 - (ahead - began)) >= 1)
 PY
-ask drain "$port" "$server" || wrong 'the server that is asked goes on'
+ask drain "$port" || wrong 'the server that is asked goes on'
 ended 0 'status 0'
 wrote 'link 0 answered 17 dropped 0 again 0 end count'
 
