@@ -12,7 +12,8 @@ count=${1:-100000}
 
 port=$(ask port)
 station "$port" > "$work/station.toml"
-serve --station "$work/station.toml" --during $((count + count / 40 + 1000))
+# The first half comes beside the radios, the rest behind them.
+serve --station "$work/station.toml" --during $((count / 2)) --after $((count / 2 + count / 40 + 1000))
 ask wait "$port" || wrong 'there is no server'
 counts=$(python3 -B checks/hostile.py "$port" "$count") || exit 1
 read -r good bad_ones unheard <<COUNTS

@@ -5,6 +5,8 @@ PATH="$PATH:/usr/sbin:/sbin"
 work=$(mktemp -d) || exit 1
 bad=0
 servers=
+# It's built here where that hasn't been done; no words are a usage error.
+./radio_ntpd > "$work/built"
 
 # Ends what still runs: each server that was started, by its number.
 finish() {

@@ -1,0 +1,15 @@
+"""Asks a server at a port of 127.0.0.1 again and again, each time until it is answered or a fifth of a second has passed. It's for
+servers under callgrind, which end by themselves; the asking is ended from outside."""
+import socket
+import sys
+
+REQUEST = bytes.fromhex("230006ec" + "00" * 36 + "1122334455667788")
+
+with socket.socket(socket.AF_INET, socket.SOCK_DGRAM) as client:
+    client.settimeout(0.2)
+    while True:
+        try:
+            client.sendto(REQUEST, ("127.0.0.1", int(sys.argv[1])))
+            client.recv(1024)
+        except OSError:
+            pass
