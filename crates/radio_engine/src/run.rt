@@ -33,7 +33,10 @@ pub fn end_without_memory<K: Sink>(out: &mut K) -> Status
 /// Runs the command that the words spell. `decode` opens its log once, writes a line for each answer as it comes and then
 /// the status line, and gives the log back. `replay` reads its station, plays its script line by line with receivers of the
 /// rack, and writes what each line gives, then the page of the entries kept and the status line. `migrate` reads its station and
-/// moves its journal over line by line, and writes the page of the entries and the status line behind it.
+/// moves its journal over line by line, and writes the page of the entries and the status line behind it. `serve` reads its station,
+/// opens the logs and links of it in order, runs the workers of its feeds beside the responders of its serving links, and then these
+/// alone; it gives all back, the outside's gate too, and writes the journal, a line for each serving link, the page of the journal and the
+/// status line.
 ///
 /// The rack holds at least four blank receivers of each plan. Those of a plan are used in the rack's order.
 pub fn run_station<R: Threads + Wait + Sync, O: Outside, K: Sink>(

@@ -49,6 +49,9 @@ const SERVER_3: &str = "[[server]]\naddress = \"127.0.0.1\"\nport = 123\npolls =
 
 const LINK: &str = "[[link]]\nport = 5123\n";
 
+const DELAYED: &str =
+    "[[radio]]\nplan = \"msf\"\nlog = \"a\"\n[[radio]]\nplan = \"dcf\"\nlog = \"b\"\ndelay = 1400\n";
+
 const SAME_LOG: &str =
     "[[radio]]\nplan = \"dcf\"\nlog = \"a\"\n[[radio]]\nplan = \"dcf\"\nlog = \"a\"\n";
 
@@ -402,6 +405,28 @@ fn a_read_fails_in_the_middle(rt: HostRuntime) -> Result<(), Fail> {
     let links = Vec::new(alloc);
     let end = Status::ReadFault;
     writes(&rt, alloc, &WORDS, RADIO, logs, links, want.as_str(), end)
+}
+
+// A closing mark is told as much earlier as the signal was on its way.
+#[test]
+fn a_radio_is_heard_with_its_delay(rt: HostRuntime) -> Result<(), Fail> {
+    let alloc = rt.alloc();
+    let text = minutes(alloc, 2)?;
+    let mut logs = Vec::new(alloc);
+    logs.push(log(alloc, "a", "", 0)?)?;
+    logs.push(log(alloc, "b", text.as_str(), 0)?)?;
+    let want = joined(
+        alloc,
+        &[
+            "j2 1 0 1 61998600 lone 3976257600\n",
+            "j2 2 0 1 121998600 verdict 3976257660 0\n",
+            "page 2 0 0 494e4954 0 121998600 0 0 1048576 0000000000000000 0 0\n",
+            "status 0\n",
+        ],
+    )?;
+    let links = Vec::new(alloc);
+    let end = Status::Done;
+    writes(&rt, alloc, &WORDS, DELAYED, logs, links, want.as_str(), end)
 }
 
 #[test]

@@ -21,7 +21,7 @@ use station_crew::LinkWork;
 use verdict_journal::Journal;
 
 // Writes a numbered entry at the front of `line`, with its line feed. The answer is its number of bytes.
-pub fn write_numbered_line(numbered: &Numbered, line: &mut Line) -> usize
+fn write_numbered_line(numbered: &Numbered, line: &mut Line) -> usize
     ensures text { take result line.new ≡ numbered_text numbered.now ++ codes "\n" }
     ensures within { result ≤ LINE_ROOM }
 {
