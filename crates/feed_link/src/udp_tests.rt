@@ -143,12 +143,13 @@ fn a_link_of_the_host_hears_and_answers(rt: HostRuntime) -> Result<(), Fail> {
     assert_eq!(rt; link.send(to, b"abc"), Ok(()));
     let mut piece = [0u8; 1024];
     let (length, from) = server.receive(&mut piece)?;
-    assert_eq!(rt; (length, piece[..3].first()), (3, Some(&b'a')));
+    assert_eq!(rt; &piece[..length], b"abc".as_slice());
     let long = [7u8; 1100];
     assert_eq!(rt; server.transmit(from, &long)?, 1100);
     match link.hear(&mut piece)? {
         Hearing::Datagram(arrival) => {
             assert_eq!(rt; (arrival.from, arrival.length), (to, 1024));
+            assert_eq!(rt; piece.as_slice(), &long[..1024]);
             assert!(rt; arrival.at.get() >= first.get());
             assert!(rt; link.moment().get() >= arrival.at.get());
         }
