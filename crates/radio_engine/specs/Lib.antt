@@ -1,6 +1,8 @@
--- What a reader has to believe, in this order: Run (what the program does), Endings (statuses and status lines), Writing (what is
--- written, and what a failed write leaves), Reading (why a reading ended), Opening, Text, Decoding, StationFile, LineFiles (what it is
--- to run through a file of lines), Script, Replaying, Migrating. The other files are scaffolding of private functions.
+-- What a reader has to believe, in this order: Run (what the program does), Headline (what a station that was served has done, in six
+-- records), Endings (statuses and status lines), Writing (what is written, and what a failed write leaves), Reading (why a reading ended),
+-- Opening, Text, Decoding, StationFile, LineFiles (what it is to run through a file of lines), Script, Replaying, Migrating, Serving (what
+-- is opened to serve a station, what keeps it from being served, and when nothing has a fault). The other files are scaffolding of private
+-- functions.
 pub mod Run
 pub mod Endings
 pub mod Writing
