@@ -41,6 +41,8 @@ cc -O1 -shared -fPIC -o "$work/refuse.so" "$work/refuse.c" || exit 1
 printf 'status 9 memory\n' > "$work/memory"
 printf 'leap = 1\n' > "$work/fault.toml"
 printf 'bound =\n' > "$work/bad.toml"
+# One radio, so that the order of the journal's lines doesn't hang on threads.
+printf '[[radio]]\nplan = "dcf"\nlog = "examples/radios/dcf77.log"\n[[link]]\nport = 12301\n' > "$work/serve.toml"
 
 # Runs a command with its allocation of number $1 refused. `made` says whether there was one.
 refuse() {
@@ -93,6 +95,8 @@ fakes() {
 program replay --station examples/station.toml --script examples/exchange.script
 program replay --station "$work/fault.toml" --script examples/exchange.script
 program replay --station "$work/bad.toml" --script examples/exchange.script
+program serve --station "$work/serve.toml" --during 0
+program serve --station "$work/fault.toml"
 program decode --plan dcf --log examples/dcf77-hour.log
 program decode --plan dcf
 fakes fault_tests::want_of_memory_in_a_replay
