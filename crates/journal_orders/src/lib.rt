@@ -1,0 +1,8 @@
+//! The orders of a journal in which its page is the same.
+#![tactic(auto)]
+
+mod leaps;
+#[cfg(test)]
+mod tests;
+
+pub use leaps::names_no_leap;
