@@ -1,0 +1,10 @@
+-- The symbols of a minute, one of which may be spoilt.
+use Rattle.std.proofs.Common.{◌≡◌, ℕ, zero, suc, List, [], ◌∷◌, refl, ap, take}
+use Rattle.std.specs.Prelude.{set}
+
+-- of a front of a list the same item is changed
+pub front_set : {A : Type 0} (n : ℕ) (xs : List A) (i : ℕ) (x : A) → take n (set xs i x) ≡ set (take n xs) i x
+front_set zero xs i x = refl
+front_set (suc n) [] i x = refl
+front_set (suc n) (y ∷ ys) zero x = refl
+front_set (suc n) (y ∷ ys) (suc i) x = ap (λ l. y ∷ l) (front_set n ys i x)

@@ -1,0 +1,95 @@
+-- A made log: the reductions of its seconds, each late by a number of a generator, and its text. The generator is the one that
+-- the C standard (ISO/IEC 9899, `rand`) gives as an example, modulo 2^31; the widths lie inside the classes of the three plans,
+-- and which of them are taken is this project's own choice. Moments and widths are in microseconds.
+use Rattle.std.specs.Prelude.{ℕ, zero, suc, ◌+◌, ◌*◌, ◌%◌, ◌^◌, List, [], ◌∷◌, ◌++◌}
+use Rattle.std.specs.List.{flat_map}
+use Rattle.tick_units.specs.declared.marks.Plan.{Plan}
+use Rattle.tick_units.specs.declared.marks.Plan.TheVariants.{Dcf, Msf, Wwvb}
+use Rattle.tick_units.specs.declared.marks.Reduction.{Reduction}
+use Rattle.tick_units.specs.declared.marks.Symbol.{Symbol}
+use Rattle.tick_units.specs.declared.marks.Symbol.TheVariants.{Zero, One, OnlyB, Both, Long, Odd}
+use Rattle.pulse_log.specs.Writing.{line_of}
+use Rattle.pulse_maker.specs.Minutes.{seconds_of}
+use Rattle.pulse_maker.specs.declared.seconds.Second.{Second}
+
+abbrev pub number_of_plan : Plan → ℕ
+number_of_plan Dcf = 0
+number_of_plan Msf = 1
+number_of_plan Wwvb = 2
+
+-- number 0 of the generator
+abbrev pub seeded : Plan → ℕ → ℕ
+seeded plan seed = (seed + number_of_plan plan) % 2 ^ 31
+
+abbrev pub number_after : ℕ → ℕ
+number_after n = (1103515245 * n + 12345) % 2 ^ 31
+
+-- the j-th number after this one
+abbrev pub number_from : ℕ → ℕ → ℕ
+number_from start zero = start
+number_from start (suc j) = number_after (number_from start j)
+
+-- a width that is in no class of any plan
+abbrev pub odd_width : ℕ
+odd_width = 30000
+
+abbrev pub dcf_width : Symbol → ℕ
+dcf_width Zero = 100000
+dcf_width One = 200000
+dcf_width OnlyB = odd_width
+dcf_width Both = odd_width
+dcf_width Long = odd_width
+dcf_width Odd = odd_width
+
+-- that of OnlyB is the width of each of its two parts
+abbrev pub msf_width : Symbol → ℕ
+msf_width Zero = 100000
+msf_width One = 200000
+msf_width OnlyB = 100000
+msf_width Both = 300000
+msf_width Long = 500000
+msf_width Odd = odd_width
+
+abbrev pub wwvb_width : Symbol → ℕ
+wwvb_width Zero = 200000
+wwvb_width One = 500000
+wwvb_width OnlyB = odd_width
+wwvb_width Both = odd_width
+wwvb_width Long = 800000
+wwvb_width Odd = odd_width
+
+-- the width that says a symbol; one in no class stands for a symbol that the plan doesn't have
+abbrev pub width_of : Plan → Symbol → ℕ
+width_of Dcf symbol = dcf_width symbol
+width_of Msf symbol = msf_width symbol
+width_of Wwvb symbol = wwvb_width symbol
+
+-- second index 0 is at 5 s, and each mark is up to 2 ms late
+abbrev pub start_of : ℕ → ℕ → ℕ
+start_of index number = 5000000 + index * 1000000 + number % 2001
+
+-- the reductions that say a symbol from a start on; an MSF second in two parts has two
+abbrev pub parts_of : Plan → ℕ → Symbol → List Reduction
+parts_of plan start Zero = record { at = start; width = width_of plan Zero } ∷ []
+parts_of plan start One = record { at = start; width = width_of plan One } ∷ []
+parts_of plan start OnlyB = record { at = start; width = width_of plan OnlyB } ∷ record { at = start + 200000; width = width_of plan OnlyB } ∷ []
+parts_of plan start Both = record { at = start; width = width_of plan Both } ∷ []
+parts_of plan start Long = record { at = start; width = width_of plan Long } ∷ []
+parts_of plan start Odd = record { at = start; width = width_of plan Odd } ∷ []
+
+-- the reductions of these seconds, of which the first is the j-th of its log: it is late by the j-th number
+abbrev pub reductions_from : Plan → ℕ → ℕ → List Second → List Reduction
+reductions_from plan start j [] = []
+reductions_from plan start j (second ∷ more) = parts_of plan (start_of second.index (number_from start j)) second.symbol ++ reductions_from plan start (suc j) more
+
+-- seconds count from 1
+abbrev pub reductions_of : Plan → ℕ → List Second → List Reduction
+reductions_of plan start seconds = reductions_from plan start 1 seconds
+
+-- the lines of reductions, each with its line feed
+abbrev pub text_of : List Reduction → List ℕ
+text_of reductions = flat_map (λ r. line_of r ++ 10 ∷ []) reductions
+
+-- the made log of so many minutes, the first of which begins at the absolute second `first`
+abbrev pub made : Plan → ℕ → ℕ → ℕ → List Reduction
+made plan first minutes seed = reductions_of plan (seeded plan seed) (seconds_of plan first minutes seed)

@@ -1,0 +1,69 @@
+-- What a made log says at each of its seconds: minutes as PTB (DCF77), NPL (MSF) and NIST (SP 432, WWVB) spell them, one after
+-- another, and what stands before the first and behind the last of them. Which minutes are spoilt is this project's own choice.
+use Rattle.std.specs.Prelude.{ℕ, ◌+◌, ◌*◌, ◌%◌, Bool, false, not, ◌&&◌, ◌==◌, List, [], ◌∷◌, ◌++◌, set, if◌then◌else◌}
+use Rattle.std.specs.List.{flat_map, range_with_len}
+use Rattle.tick_units.specs.declared.marks.Plan.{Plan}
+use Rattle.tick_units.specs.declared.marks.Plan.TheVariants.{Dcf, Msf, Wwvb}
+use Rattle.tick_units.specs.declared.marks.Symbol.{Symbol}
+use Rattle.tick_units.specs.declared.marks.Symbol.TheVariants.{Zero, Long, Odd}
+use Rattle.tick_units.specs.declared.verdicts.Coded.{Coded}
+use Rattle.plan_dcf.specs.Spelling.{spelt as dcf_spelt}
+use Rattle.plan_msf.specs.Spelling.{spelt as msf_spelt}
+use Rattle.plan_wwvb.specs.Spelling.{spelt as wwvb_spelt}
+use Rattle.pulse_maker.specs.declared.seconds.Second.{Second}
+
+-- a minute of the log, counted from 0, is spoilt: every 50th, but never the first of all
+abbrev pub is_spoilt : ℕ → ℕ → Bool
+is_spoilt seed minute = not (minute == 0) && minute % 50 == seed % 50
+
+-- what the frame of a minute says: the second at which the minute behind it begins
+abbrev pub coded_of : ℕ → ℕ → Coded
+coded_of first minute = record { minute = first + 60 * (minute + 1); leap_at = 0; summer = false }
+
+abbrev pub spelt_by : Plan → Coded → List Symbol
+spelt_by Dcf c = dcf_spelt c
+spelt_by Msf c = msf_spelt c
+spelt_by Wwvb c = wwvb_spelt c
+
+-- in a spoilt minute the width of place 30 is in no class
+abbrev pub spoilt_if : Bool → List Symbol → List Symbol
+spoilt_if spoilt symbols = if spoilt then set symbols 30 Odd else symbols
+
+abbrev pub symbols_of : Plan → ℕ → ℕ → ℕ → List Symbol
+symbols_of plan first seed minute = spoilt_if (is_spoilt seed minute) (spelt_by plan (coded_of first minute))
+
+-- the seconds that have these symbols, one after another from this index on
+abbrev pub seconds_from : ℕ → List Symbol → List Second
+seconds_from index [] = []
+seconds_from index (symbol ∷ more) = record { index = index; symbol = symbol } ∷ seconds_from (index + 1) more
+
+-- what stands before the first minute, so that its begin can be told: in DCF77 the last mark of the minute before, behind which
+-- one second has none; in WWVB the last marker
+abbrev pub opening_symbols : Plan → List Symbol
+opening_symbols Dcf = Zero ∷ []
+opening_symbols Msf = []
+opening_symbols Wwvb = Long ∷ []
+
+abbrev pub opening_index : Plan → ℕ
+opening_index Dcf = 0
+opening_index Msf = 0
+opening_index Wwvb = 1
+
+-- what stands behind the last minute: the first mark of the next, which closes it; and in MSF one more, since only the reduction
+-- behind a mark tells that it has no second part
+abbrev pub closing_symbols : Plan → List Symbol
+closing_symbols Dcf = Zero ∷ []
+closing_symbols Msf = Long ∷ Zero ∷ []
+closing_symbols Wwvb = Long ∷ []
+
+-- minute 0 begins at second index 2
+abbrev pub index_of : ℕ → ℕ
+index_of minute = 2 + 60 * minute
+
+-- the first minutes of the log, with what stands before them
+abbrev pub begun : Plan → ℕ → ℕ → ℕ → List Second
+begun plan first seed minutes = seconds_from (opening_index plan) (opening_symbols plan) ++ flat_map (λ minute. seconds_from (index_of minute) (symbols_of plan first seed minute)) (range_with_len 0 minutes)
+
+-- the seconds of the log that have a mark
+abbrev pub seconds_of : Plan → ℕ → ℕ → ℕ → List Second
+seconds_of plan first minutes seed = begun plan first seed minutes ++ seconds_from (index_of minutes) (closing_symbols plan)

@@ -1,0 +1,92 @@
+//! What a log says in each of its minutes, and before and behind them.
+ghost use Rattle.std.specs.Prelude.{◌≡◌, ◌+◌, ◌*◌, ◌%◌, ◌≤◌, ◌<◌, ◌++◌, false, length, take, drop};
+ghost use Rattle.pulse_maker.specs.Minutes.{is_spoilt, coded_of, spelt_by, symbols_of, opening_symbols, opening_index, closing_symbols};
+
+use tick_units::{Coded, Plan, Symbol};
+
+/// The longest frame that there is, and one symbol more.
+pub const FRAME_ROOM: usize = 61;
+
+// The place whose width is in no class in a spoilt minute.
+const SPOILT_PLACE: usize = 30;
+
+// Whether a minute, counted from 0, is spoilt.
+fn is_spoilt(seed: u32, minute: u32) -> bool
+    ensures { result ≡ is_spoilt seed minute }
+{
+    minute != 0 && minute % 50 == seed % 50
+}
+
+// Writes the frame of this minute to the front of `out`, and gives the number of its symbols.
+fn spell(plan: Plan, c: &Coded, out: &mut [Symbol; 61]) -> usize
+    requires whole { c.now.minute % 60 ≡ 0 }
+    requires from { 3155760060 ≤ c.now.minute }
+    requires most { c.now.minute ≤ 6311347200 }
+    requires leap { c.now.leap_at ≡ 0 }
+    requires summer { c.now.summer ≡ false }
+    ensures count { result ≡ length (spelt_by plan c.now) }
+    ensures written { out.new ≡ spelt_by plan c.now ++ drop (length (spelt_by plan c.now)) out.old }
+{
+    match plan {
+        Plan::Dcf => plan_dcf::spell(c, out),
+        Plan::Msf => plan_msf::spell(c, out),
+        Plan::Wwvb => plan_wwvb::spell(c, out),
+    }
+}
+
+/// Writes what the log says in a minute, counted from 0, to the front of `out`, and gives the number of its symbols. The first
+/// minute of the log begins at the absolute second `first`.
+pub fn write_symbols(plan: Plan, first: u64, seed: u32, minute: u32, out: &mut [Symbol; 61]) -> usize
+    requires whole { first % 60 ≡ 0 }
+    requires from { 3155760000 ≤ first }
+    requires most { first ≤ 6311260800 }
+    requires few { minute < 1440 }
+    ensures symbols { take result out.new ≡ symbols_of plan first seed minute }
+    ensures within { result ≤ 61 }
+{
+    let coded = Coded {
+        minute: first + 60 * (u64::from(minute) + 1),
+        leap_at: 0,
+        summer: false,
+    };
+    let count = spell(plan, &coded, out);
+    if is_spoilt(seed, minute) {
+        out[SPOILT_PLACE] = Symbol::Odd;
+    }
+    count
+}
+
+/// The symbols before the first minute.
+pub fn opening_symbols(plan: Plan) -> &'static [Symbol]
+    ensures symbols { result.now ≡ opening_symbols plan }
+    ensures few { length result.now ≤ 61 }
+{
+    match plan {
+        Plan::Dcf => &[Symbol::Zero],
+        Plan::Msf => &[],
+        Plan::Wwvb => &[Symbol::Long],
+    }
+}
+
+/// The index of the first of them.
+pub fn opening_index(plan: Plan) -> u32
+    ensures value { result ≡ opening_index plan }
+    ensures most { result ≤ 1 }
+{
+    match plan {
+        Plan::Dcf | Plan::Msf => 0,
+        Plan::Wwvb => 1,
+    }
+}
+
+/// The symbols behind the last minute.
+pub fn closing_symbols(plan: Plan) -> &'static [Symbol]
+    ensures symbols { result.now ≡ closing_symbols plan }
+    ensures few { length result.now ≤ 61 }
+{
+    match plan {
+        Plan::Dcf => &[Symbol::Zero],
+        Plan::Msf => &[Symbol::Long, Symbol::Zero],
+        Plan::Wwvb => &[Symbol::Long],
+    }
+}
