@@ -1,4 +1,7 @@
 -- Lemmas that several proofs of this crate use.
+pub mod LineLaws
+pub mod MakingLaws
 pub mod MinuteLaws
 pub mod ProgressLaws
+pub mod SecondsLaws
 pub mod WritingLaws
