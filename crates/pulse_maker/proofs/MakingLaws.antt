@@ -5,6 +5,7 @@ use Rattle.std.proofs.lemmas.List.{append-nil}
 use Rattle.std.proofs.lemmas.List.Concat.{flat_map-append}
 use Rattle.feed_link.specs.Told.{SinkState}
 use Rattle.tick_units.specs.declared.marks.Plan.{Plan}
+use Rattle.tick_units.specs.declared.marks.Symbol.{Symbol}
 use Rattle.pulse_maker.specs.Minutes.{symbols_of, seconds_from, index_of, opening_index, opening_symbols, closing_symbols, begun, seconds_of}
 use Rattle.pulse_maker.specs.Progress.{HasStopped}
 use Rattle.pulse_maker.specs.declared.seconds.Second.{Second}
@@ -30,6 +31,19 @@ begun_more plan first seed m =
     ap (λ (l : List Second). opening ++ l)
             (ap (flat_map one) (range_push 0 m m (omega arith)) ∙ flat_map-append one (range_with_len 0 m) (m ∷ []) ∙ ap (λ (l : List Second). minutes ++ l) (append-nil (one m)))
         ∙ sym (append_assoc opening minutes (one m))
+
+-- what a writer is given for the opening and for the next minute
+pub opening_same : (plan : Plan) (first seed index : ℕ) (symbols : List Symbol) → index ≡ opening_index plan → symbols ≡ opening_symbols plan
+    → seconds_from index symbols ≡ begun plan first seed 0
+opening_same plan first seed index symbols e f = ap (λ (i : ℕ). seconds_from i symbols) e ∙ ap (seconds_from (opening_index plan)) f ∙ sym (begun_none plan first seed)
+
+pub minute_same : (plan : Plan) (first seed m index : ℕ) (symbols : List Symbol) → index ≡ index_of m → symbols ≡ symbols_of plan first seed m
+    → begun plan first seed m ++ seconds_from index symbols ≡ begun plan first seed (m + 1)
+minute_same plan first seed m index symbols e f =
+    let next : suc m ≡ m + 1 = omega arith in
+    ap (λ (i : ℕ). begun plan first seed m ++ seconds_from i symbols) e
+        ∙ ap (λ (l : List Symbol). begun plan first seed m ++ seconds_from (index_of m) l) f
+        ∙ sym (begun_more plan first seed m) ∙ ap (begun plan first seed) next
 
 -- the first minutes begin a log of more of them
 begun_front : (plan : Plan) (first seed m k n : ℕ) → n ≡ m + k → (more : List Second) × (begun plan first seed n ≡ begun plan first seed m ++ more)

@@ -1,14 +1,12 @@
 -- What is written of a log grows second by second.
-use Rattle.std.proofs.Common.{◌≡◌, ℕ, zero, suc, ◌+◌, List, [], ◌∷◌, ◌++◌, length, refl, sym, ap, ◌∙◌, subst, arith, append_assoc}
+use Rattle.std.proofs.Common.{◌≡◌, ℕ, suc, ◌+◌, List, [], ◌∷◌, ◌++◌, length, refl, sym, ap, ◌∙◌, subst, arith, append_assoc}
 use Rattle.std.proofs.lemmas.List.{append-nil, length-append}
 use Rattle.std.proofs.lemmas.List.Concat.{flat_map-append}
 use Rattle.feed_link.specs.Told.{SinkState}
 use Rattle.pulse_log.specs.Writing.{line_of}
 use Rattle.tick_units.specs.declared.marks.Plan.{Plan}
 use Rattle.tick_units.specs.declared.marks.Reduction.{Reduction}
-use Rattle.tick_units.specs.declared.marks.Symbol.{Symbol}
 use Rattle.pulse_maker.specs.Made.{number_after, number_from, start_of, parts_of, reductions_from, reductions_of, text_of}
-use Rattle.pulse_maker.specs.Minutes.{seconds_from}
 use Rattle.pulse_maker.specs.Progress.{text_from, HasWritten, HasStopped}
 use Rattle.pulse_maker.specs.Writing.{WritesAll, WritesFront}
 use Rattle.pulse_maker.specs.declared.seconds.Second.{Second}

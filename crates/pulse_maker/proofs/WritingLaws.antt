@@ -3,7 +3,7 @@ use Rattle.std.proofs.Common.{ℕ, List, ◌++◌, ap, sym, ◌∙◌, subst, ap
 use Rattle.feed_link.specs.Faults.{RoseByOne}
 use Rattle.feed_link.specs.Told.{SinkState}
 use Rattle.feed_link.proofs.ToldLaws.{Adds-more}
-use Rattle.pulse_maker.specs.Writing.{IsFrontOf, WritesAll, WritesFront}
+use Rattle.pulse_maker.specs.Writing.{WritesAll, WritesFront}
 
 -- a text, and then another
 pub writes_more : (a b c : SinkState) (x y : List ℕ) → WritesAll a b x → WritesAll b c y → WritesAll a c (x ++ y)

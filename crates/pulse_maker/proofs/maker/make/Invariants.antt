@@ -1,5 +1,5 @@
 -- What stays true in the loop of `maker::make`.
-use Rattle.std.proofs.Common.{ℕ, ◌+◌, ◌*◌, ◌≤◌}
+use Rattle.std.proofs.Common.{◌+◌, ◌*◌, ◌≤◌}
 use Rattle.pulse_maker.specs.Made.{seeded}
 use Rattle.pulse_maker.specs.Minutes.{begun}
 use Rattle.pulse_maker.specs.Progress.{HasWritten}

@@ -1,5 +1,5 @@
 -- What the search leaves open of `writer::LogWriter::write`.
-use Rattle.std.proofs.Common.{rules, arith, ◌≡◌, ℕ, ◌+◌, ◌<◌, List, ◌++◌, length, take, subst}
+use Rattle.std.proofs.Common.{rules, arith, ◌<◌, List, ◌++◌, length, take, subst}
 use Rattle.pulse_maker.specs.Minutes.{seconds_from}
 use Rattle.pulse_maker.specs.Progress.{HasWritten}
 use Rattle.pulse_maker.specs.declared.seconds.Second.{Second}

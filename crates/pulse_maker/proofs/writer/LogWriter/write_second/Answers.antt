@@ -1,5 +1,5 @@
 -- What the search leaves open of `writer::LogWriter::write_second`.
-use Rattle.std.proofs.Common.{◌≡◌, ℕ, ◌+◌, length, refl, ap, ◌∙◌, subst}
+use Rattle.std.proofs.Common.{◌+◌, length, refl, ap, ◌∙◌, subst}
 use Rattle.pulse_maker.specs.Made.{parts_of, text_of}
 use Rattle.pulse_maker.specs.Writing.{WritesAll, WritesFront}
 use Rattle.pulse_maker.proofs.LineLaws.{on_err}
