@@ -2,6 +2,8 @@
 pub mod LineLaws
 pub mod MakingLaws
 pub mod MinuteLaws
+pub mod OrderLaws
 pub mod ProgressLaws
+pub mod ReadLaws
 pub mod SecondsLaws
 pub mod WritingLaws

@@ -1,8 +1,9 @@
 -- A made log: the reductions of its seconds, each late by a number of a generator, and its text. The generator is the one that
 -- the C standard (ISO/IEC 9899, `rand`) gives as an example, modulo 2^31; the widths lie inside the classes of the three plans,
 -- and which of them are taken is this project's own choice. Moments and widths are in microseconds.
-use Rattle.std.specs.Prelude.{ℕ, zero, suc, ◌+◌, ◌*◌, ◌%◌, ◌^◌, List, [], ◌∷◌, ◌++◌}
+use Rattle.std.specs.Prelude.{◌≡◌, ℕ, zero, suc, None, ◌+◌, ◌*◌, ◌%◌, ◌^◌, List, [], ◌∷◌, ◌++◌}
 use Rattle.std.specs.List.{flat_map}
+use Rattle.tick_units.specs.Log.{pulses, bad_at_end}
 use Rattle.tick_units.specs.declared.marks.Plan.{Plan}
 use Rattle.tick_units.specs.declared.marks.Plan.TheVariants.{Dcf, Msf, Wwvb}
 use Rattle.tick_units.specs.declared.marks.Reduction.{Reduction}
@@ -93,3 +94,8 @@ text_of reductions = flat_map (λ r. line_of r ++ 10 ∷ []) reductions
 -- the made log of so many minutes, the first of which begins at the absolute second `first`
 abbrev pub made : Plan → ℕ → ℕ → ℕ → List Reduction
 made plan first minutes seed = reductions_of plan (seeded plan seed) (seconds_of plan first minutes seed)
+
+-- who reads this text as a log finds these reductions, and no bad line
+pub record IsReadAs (text : List ℕ) (reductions : List Reduction) : Type 0 where
+  pub found : pulses text ≡ reductions
+  pub bad : bad_at_end text ≡ None

@@ -1,6 +1,6 @@
 //! A made log, written whole.
 ghost use Rattle.std.specs.Prelude.{◌≡◌, ◌%◌, ◌≤◌, length, IfOk, OnOk, OnErr};
-ghost use Rattle.pulse_maker.specs.Made.{made, text_of};
+ghost use Rattle.pulse_maker.specs.Made.{made, text_of, IsReadAs};
 ghost use Rattle.pulse_maker.specs.Minutes.{index_of};
 ghost use Rattle.pulse_maker.specs.Writing.{WritesAll, WritesFront};
 
@@ -31,6 +31,9 @@ pub fn make<K: Sink>(plan: Plan, first: u64, minutes: u32, seed: u32, out: &mut 
     requires few { minutes ≤ 1440 }
     ensures written { OnOk result (WritesAll (K.state out.old) (K.state out.new) (text_of (made plan first minutes seed))) }
     ensures lines { IfOk result (λ n. n ≡ length (made plan first minutes seed)) }
+
+    // It is a lawful log, in which a reader finds just these reductions.
+    ensures read { IfOk result (λ _. IsReadAs (text_of (made plan first minutes seed)) (made plan first minutes seed)) }
     ensures failed { OnErr result (WritesFront (K.state out.old) (K.state out.new) (text_of (made plan first minutes seed))) }
 {
     let mut log = LogWriter::new(plan, seed);

@@ -6,6 +6,7 @@ use Rattle.pulse_maker.specs.Progress.{HasWritten, HasStopped}
 use Rattle.pulse_maker.specs.declared.seconds.Second.{Second}
 use Rattle.pulse_maker.proofs.LineLaws.{on_err}
 use Rattle.pulse_maker.proofs.MakingLaws.{opening_same, minute_same, stopped_at}
+use Rattle.pulse_maker.proofs.OrderLaws.{made_is_read}
 use Rattle.pulse_maker.proofs.maker.make.Goals as goal
 
 pub returns-in_err-write-clause-failed : goal.returns-in_err-write-clause-failed
@@ -55,3 +56,6 @@ loop-minute-preserved g c =
             (c.in_ok-write-2.ensures.ok plan start begin (begun plan c.args.first c.args.seed m) c.loop-minute.invariant.0),
         omega (arith, c.in_ok-write-2.ensures.few, c.loop-minute.invariant.1, short),
     )
+
+pub returns-clause-read : goal.returns-clause-read
+returns-clause-read g c = made_is_read c.args.plan c.args.first c.args.minutes c.args.seed c.requires.few
