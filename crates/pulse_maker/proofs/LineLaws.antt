@@ -36,16 +36,16 @@ pub first_stopped : (out out_now : SinkState) (plan : Plan) (start : ℕ) (symbo
 first_stopped out out_now plan start symbol h =
     let begins = begins_so plan start symbol in
     subst (λ t. WritesFront out out_now t) (sym (ap text_of begins.1 ∙ text_append (first_part plan start symbol ∷ []) begins.0))
-        (front_of_more out out_now (text_of (first_part plan start symbol ∷ [])) (text_of begins.0) h)
+    (front_of_more out out_now (text_of (first_part plan start symbol ∷ [])) (text_of begins.0) h)
 
 -- a write of the second part failed
 pub second_stopped : (a b c : SinkState) (plan : Plan) (start : ℕ) (symbol : Symbol) → symbol ≡ OnlyB
     → WritesAll a b (text_of (first_part plan start symbol ∷ [])) → WritesFront b c (text_of (first_part plan (start + 200000) symbol ∷ [])) → WritesFront a c (text_of (parts_of plan start symbol))
 second_stopped a b c plan start symbol is h k =
     subst (λ s. WritesAll a b (text_of (first_part plan start s ∷ [])) → WritesFront b c (text_of (first_part plan (start + 200000) s ∷ [])) → WritesFront a c (text_of (parts_of plan start s))) (sym is)
-        (λ x y. subst (λ t. WritesFront a c t) (sym (text_append (first_part plan start OnlyB ∷ []) (first_part plan (start + 200000) OnlyB ∷ [])))
-            (writes_front a b c (text_of (first_part plan start OnlyB ∷ [])) (text_of (first_part plan (start + 200000) OnlyB ∷ [])) x y))
-        h k
+    (λ x y. subst (λ t. WritesFront a c t) (sym (text_append (first_part plan start OnlyB ∷ []) (first_part plan (start + 200000) OnlyB ∷ [])))
+    (writes_front a b c (text_of (first_part plan start OnlyB ∷ [])) (text_of (first_part plan (start + 200000) OnlyB ∷ [])) x y))
+    h k
 
 -- what holds in any case holds of an error
 pub on_err : {T E P : Type 0} (r : Result T E) → P → OnErr r P

@@ -29,8 +29,8 @@ begun_more plan first seed m =
     let one = minute_seconds plan first seed in
     let minutes = flat_map one (range_with_len 0 m) in
     ap (λ (l : List Second). opening ++ l)
-            (ap (flat_map one) (range_push 0 m m (omega arith)) ∙ flat_map-append one (range_with_len 0 m) (m ∷ []) ∙ ap (λ (l : List Second). minutes ++ l) (append-nil (one m)))
-        ∙ sym (append_assoc opening minutes (one m))
+    (ap (flat_map one) (range_push 0 m m (omega arith)) ∙ flat_map-append one (range_with_len 0 m) (m ∷ []) ∙ ap (λ (l : List Second). minutes ++ l) (append-nil (one m)))
+    ∙ sym (append_assoc opening minutes (one m))
 
 -- what a writer is given for the opening and for the next minute
 pub opening_same : (plan : Plan) (first seed index : ℕ) (symbols : List Symbol) → index ≡ opening_index plan → symbols ≡ opening_symbols plan
@@ -42,8 +42,8 @@ pub minute_same : (plan : Plan) (first seed m index : ℕ) (symbols : List Symbo
 minute_same plan first seed m index symbols e f =
     let next : suc m ≡ m + 1 = omega arith in
     ap (λ (i : ℕ). begun plan first seed m ++ seconds_from i symbols) e
-        ∙ ap (λ (l : List Symbol). begun plan first seed m ++ seconds_from (index_of m) l) f
-        ∙ sym (begun_more plan first seed m) ∙ ap (begun plan first seed) next
+    ∙ ap (λ (l : List Symbol). begun plan first seed m ++ seconds_from (index_of m) l) f
+    ∙ sym (begun_more plan first seed m) ∙ ap (begun plan first seed) next
 
 -- the first minutes begin a log of more of them
 begun_front : (plan : Plan) (first seed m k n : ℕ) → n ≡ m + k → (more : List Second) × (begun plan first seed n ≡ begun plan first seed m ++ more)
@@ -63,4 +63,4 @@ stopped_at plan start first seed minutes m begin out_now le h =
     let front = begun_front plan first seed m (minutes - m) minutes (omega (arith, le)) in
     let closing = seconds_from (index_of minutes) (closing_symbols plan) in
     stopped_more plan start begin out_now (begun plan first seed minutes) closing
-        (subst (λ (l : List Second). HasStopped plan start begin out_now l) (sym front.1) (stopped_more plan start begin out_now (begun plan first seed m) front.0 h))
+    (subst (λ (l : List Second). HasStopped plan start begin out_now l) (sym front.1) (stopped_more plan start begin out_now (begun plan first seed m) front.0 h))

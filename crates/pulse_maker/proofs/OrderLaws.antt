@@ -63,7 +63,7 @@ parts_rise plan at Zero least next more le below on h = one_rises least at (widt
 parts_rise plan at One least next more le below on h = one_rises least at (width_of plan One) next more le (omega (arith, below)) (omega (arith, on)) (width_fits plan One) h
 parts_rise plan at OnlyB least next more le below on h =
     one_rises least at (width_of plan OnlyB) (at + 200000) (record { at = at + 200000; width = width_of plan OnlyB } ∷ more) le (omega (arith, below)) (omega arith) (width_fits plan OnlyB)
-        (one_rises (at + 200000) (at + 200000) (width_of plan OnlyB) next more (omega arith) (omega (arith, below)) (omega (arith, on)) (width_fits plan OnlyB) h)
+    (one_rises (at + 200000) (at + 200000) (width_of plan OnlyB) next more (omega arith) (omega (arith, below)) (omega (arith, on)) (width_fits plan OnlyB) h)
 parts_rise plan at Both least next more le below on h = one_rises least at (width_of plan Both) next more le (omega (arith, below)) (omega (arith, on)) (width_fits plan Both) h
 parts_rise plan at Long least next more le below on h = one_rises least at (width_of plan Long) next more le (omega (arith, below)) (omega (arith, on)) (width_fits plan Long) h
 parts_rise plan at Odd least next more le below on h = one_rises least at (width_of plan Odd) next more le (omega (arith, below)) (omega (arith, on)) (width_fits plan Odd) h
@@ -82,8 +82,8 @@ reductions_rise plan start j [] least h = tt
 reductions_rise plan start j (second ∷ more) least h =
     let late = number_from start j in
     parts_rise plan (start_of second.index late) second.symbol (5000000 + least * 1000000) (5000000 + (second.index + 1) * 1000000) (reductions_from plan start (suc j) more)
-        (omega (arith, h.0)) (omega (arith, h.1)) (omega arith)
-        (reductions_rise plan start (suc j) more (second.index + 1) h.2)
+    (omega (arith, h.0)) (omega (arith, h.1)) (omega arith)
+    (reductions_rise plan start (suc j) more (second.index + 1) h.2)
 
 seconds_in_order : (index : ℕ) (symbols : List Symbol) (least next : ℕ) (more : List Second) → least ≤ index → index + length symbols ≤ next → next ≤ 2 ^ 20 → InOrder next more
     → InOrder least (seconds_from index symbols ++ more)
@@ -114,8 +114,8 @@ minutes_in_order plan first seed m (suc k) n least more e few le h =
     let symbols = symbols_of plan first seed m in
     let short : length symbols ≤ 60 = omega (arith, spoilt_length (is_spoilt seed m) (spelt_by plan (coded_of first m)), spelt_short plan (coded_of first m)) in
     subst (λ (l : List Second). InOrder least l) (sym (append_assoc (one m) rest more))
-        (seconds_in_order (index_of m) symbols least (index_of (m + 1)) (rest ++ more) le (omega (arith, short)) (omega (arith, e, few))
-            (minutes_in_order plan first seed (m + 1) k n (index_of (m + 1)) more (omega (arith, e)) few (omega arith) h))
+    (seconds_in_order (index_of m) symbols least (index_of (m + 1)) (rest ++ more) le (omega (arith, short)) (omega (arith, e, few))
+    (minutes_in_order plan first seed (m + 1) k n (index_of (m + 1)) more (omega (arith, e)) few (omega arith) h))
 
 opening_short : (plan : Plan) → opening_index plan + length (opening_symbols plan) ≤ 2
 opening_short Dcf = omega arith
@@ -133,10 +133,10 @@ made_in_order plan first minutes seed few =
     let between = flat_map (minute_seconds plan first seed) (range_with_len 0 minutes) in
     let closing = seconds_from (index_of minutes) (closing_symbols plan) in
     let last : InOrder (index_of minutes) closing = subst (λ (l : List Second). InOrder (index_of minutes) l) (append-nil closing)
-        (seconds_in_order (index_of minutes) (closing_symbols plan) (index_of minutes) (index_of minutes + 2) [] (omega arith) (omega (arith, closing_short plan)) (omega (arith, few)) tt) in
+    (seconds_in_order (index_of minutes) (closing_symbols plan) (index_of minutes) (index_of minutes + 2) [] (omega arith) (omega (arith, closing_short plan)) (omega (arith, few)) tt) in
     subst (λ (l : List Second). InOrder 0 l) (sym (append_assoc opening between closing))
-        (seconds_in_order (opening_index plan) (opening_symbols plan) 0 2 (between ++ closing) (omega arith) (opening_short plan) (omega arith)
-            (minutes_in_order plan first seed 0 minutes minutes 2 closing (omega arith) few (omega arith) last))
+    (seconds_in_order (opening_index plan) (opening_symbols plan) 0 2 (between ++ closing) (omega arith) (opening_short plan) (omega arith)
+    (minutes_in_order plan first seed 0 minutes minutes 2 closing (omega arith) few (omega arith) last))
 
 -- so a reader finds all of it
 pub made_is_read : (plan : Plan) (first minutes seed : ℕ) → minutes ≤ 1440 → IsReadAs (text_of (made plan first minutes seed)) (made plan first minutes seed)

@@ -20,7 +20,7 @@ reductions_append plan start j n [] ys e = let same : j ≡ n = omega (arith, e)
 reductions_append plan start j n (x ∷ xs) ys e =
     let first = parts_of plan (start_of x.index (number_from start j)) x.symbol in
     ap (λ l. first ++ l) (reductions_append plan start (suc j) n xs ys (omega (arith, e)))
-        ∙ sym (append_assoc first (reductions_from plan start (suc j) xs) (reductions_from plan start n ys))
+    ∙ sym (append_assoc first (reductions_from plan start (suc j) xs) (reductions_from plan start n ys))
 
 pub text_append : (xs ys : List Reduction) → text_of (xs ++ ys) ≡ text_of xs ++ text_of ys
 text_append xs ys = flat_map-append (λ r. line_of r ++ 10 ∷ []) xs ys
@@ -33,7 +33,7 @@ pub reductions_push : (plan : Plan) (start : ℕ) (seconds : List Second) (secon
     → reductions_of plan start (seconds ++ second ∷ []) ≡ reductions_of plan start seconds ++ next_parts plan start seconds second
 reductions_push plan start seconds second =
     reductions_append plan start 1 (suc (length seconds)) seconds (second ∷ []) (omega arith)
-        ∙ ap (λ l. reductions_of plan start seconds ++ l) (append-nil (next_parts plan start seconds second))
+    ∙ ap (λ l. reductions_of plan start seconds ++ l) (append-nil (next_parts plan start seconds second))
 
 pub text_push : (plan : Plan) (start : ℕ) (seconds : List Second) (second : Second)
     → text_from plan start (seconds ++ second ∷ []) ≡ text_from plan start seconds ++ text_of (next_parts plan start seconds second)
@@ -45,7 +45,7 @@ parts_same : (plan by : Plan) (start number now : ℕ) (seconds : List Second) (
     → parts_of by (start_of second.index now) second.symbol ≡ next_parts plan start seconds second
 parts_same plan by start number now seconds second p n e =
     ap (λ q. parts_of q (start_of second.index now) second.symbol) p
-        ∙ ap (λ k. parts_of plan (start_of second.index k) second.symbol) (e ∙ ap number_after n)
+    ∙ ap (λ k. parts_of plan (start_of second.index k) second.symbol) (e ∙ ap number_after n)
 
 length_push : (xs : List Second) (x : Second) → length (xs ++ x ∷ []) ≡ suc (length xs)
 length_push [] x = refl
@@ -78,13 +78,13 @@ pub stopped_push : (plan : Plan) (start now : ℕ) (begin out out_now : SinkStat
     → HasWritten plan start begin log out seconds → HasStopped plan start begin out_now (seconds ++ second ∷ [])
 stopped_push plan start now begin out out_now log seconds second number text h =
     subst (λ t. WritesFront begin out_now t) (sym (text_push plan start seconds second))
-        (writes_front begin out out_now (text_from plan start seconds) (text_of (next_parts plan start seconds second)) h.text
-        (subst (λ (l : List Reduction). WritesFront out out_now (text_of l)) (parts_same plan log.plan start log.number now seconds second h.by h.number number) text))
+    (writes_front begin out out_now (text_from plan start seconds) (text_of (next_parts plan start seconds second)) h.text
+    (subst (λ (l : List Reduction). WritesFront out out_now (text_of l)) (parts_same plan log.plan start log.number now seconds second h.by h.number number) text))
 
 -- a front of the text of some seconds is one of the text of more of them
 pub stopped_more : (plan : Plan) (start : ℕ) (begin out_now : SinkState) (xs ys : List Second) → HasStopped plan start begin out_now xs → HasStopped plan start begin out_now (xs ++ ys)
 stopped_more plan start begin out_now xs ys h =
     let behind = reductions_from plan start (suc (length xs)) ys in
     subst (λ t. WritesFront begin out_now t)
-        (sym (ap text_of (reductions_append plan start 1 (suc (length xs)) xs ys (omega arith)) ∙ text_append (reductions_of plan start xs) behind))
-        (front_of_more begin out_now (text_from plan start xs) (text_of behind) h)
+    (sym (ap text_of (reductions_append plan start 1 (suc (length xs)) xs ys (omega arith)) ∙ text_append (reductions_of plan start xs) behind))
+    (front_of_more begin out_now (text_from plan start xs) (text_of behind) h)

@@ -26,7 +26,7 @@ put_digits (d ∷ ds) tail line lines unfinished are h =
     let low = range.0 in
     let other : eqb d 10 ≡ false = ne_eqb d 10 (omega arith) in
     subst (λ t. cond t (record { complete = [] ∷ (lines_of (ds ++ tail)).complete; unfinished = (lines_of (ds ++ tail)).unfinished }) (with_byte d (lines_of (ds ++ tail))) ≡ record { complete = (d ∷ (ds ++ line)) ∷ lines; unfinished = unfinished })
-        (sym other) (ap (with_byte d) (put_digits ds tail line lines unfinished range.1 h))
+    (sym other) (ap (with_byte d) (put_digits ds tail line lines unfinished range.1 h))
 
 line_in_front : (r : Reduction) (rest : List ℕ) → r.at < 2 ^ 50 → r.width ≤ 2000000
     → lines_of ((line_of r ++ 10 ∷ []) ++ rest) ≡ record { complete = line_of r ∷ (lines_of rest).complete; unfinished = (lines_of rest).unfinished }
@@ -35,22 +35,22 @@ line_in_front r rest below most =
     let unfinished = (lines_of rest).unfinished in
     let width = decimal r.width in
     let behind : lines_of (width ++ 10 ∷ rest) ≡ record { complete = width ∷ lines; unfinished = unfinished } =
-        put_digits width (10 ∷ rest) [] lines unfinished (digits_decimal own r.width (omega arith)) refl
-        ∙ ap (λ (l : List ℕ). record { complete = l ∷ lines; unfinished = unfinished }) (append-nil width) in
+    put_digits width (10 ∷ rest) [] lines unfinished (digits_decimal own r.width (omega arith)) refl
+    ∙ ap (λ (l : List ℕ). record { complete = l ∷ lines; unfinished = unfinished }) (append-nil width) in
     ap lines_of (append_assoc (line_of r) (10 ∷ []) rest ∙ append_assoc (decimal r.at) (32 ∷ width) (10 ∷ rest))
-        ∙ put_digits (decimal r.at) (32 ∷ (width ++ 10 ∷ rest)) (32 ∷ width) lines unfinished (digits_decimal own r.at (omega arith)) (ap (with_byte 32) behind)
+    ∙ put_digits (decimal r.at) (32 ∷ (width ++ 10 ∷ rest)) (32 ∷ width) lines unfinished (digits_decimal own r.at (omega arith)) (ap (with_byte 32) behind)
 
 text_lines : (least : ℕ) (rs : List Reduction) → Rises least rs → lines_of (text_of rs) ≡ record { complete = map line_of rs; unfinished = [] }
 text_lines least [] h = refl
 text_lines least (r ∷ more) h =
     line_in_front r (text_of more) h.1 h.3
-        ∙ ap (λ (l : Lines). record { complete = line_of r ∷ l.complete; unfinished = l.unfinished }) (text_lines (r.at + 1) more h.4)
+    ∙ ap (λ (l : Lines). record { complete = line_of r ∷ l.complete; unfinished = l.unfinished }) (text_lines (r.at + 1) more h.4)
 
 lines_say : (least : ℕ) (rs : List Reduction) → Rises least rs → map reduction_of (map line_of rs) ≡ map Some rs
 lines_say least [] h = refl
 lines_say least (r ∷ more) h =
     ap (λ (o : Option Reduction). o ∷ map reduction_of (map line_of more)) (says r.at r.width h.1 h.2 h.3)
-        ∙ ap (λ (l : List (Option Reduction)). Some r ∷ l) (lines_say (r.at + 1) more h.4)
+    ∙ ap (λ (l : List (Option Reduction)). Some r ∷ l) (lines_say (r.at + 1) more h.4)
 
 all_lawful : (least : ℕ) (rs : List Reduction) → Rises least rs → lawful (map Some rs) ≡ rs
 all_lawful least [] h = refl
@@ -59,7 +59,7 @@ all_lawful least (r ∷ next ∷ more) h =
     let above = h.4.0 in
     let test : ltb r.at next.at ≡ true = lt-ltb r.at next.at (omega arith) in
     subst (λ t. cond t (r ∷ lawful (map Some (next ∷ more))) (r ∷ []) ≡ r ∷ next ∷ more) (sym test)
-        (ap (λ (l : List Reduction). r ∷ l) (all_lawful (r.at + 1) (next ∷ more) h.4))
+    (ap (λ (l : List Reduction). r ∷ l) (all_lawful (r.at + 1) (next ∷ more) h.4))
 
 pub is_read : (least : ℕ) (rs : List Reduction) → Rises least rs → IsReadAs (text_of rs) rs
 is_read least rs h =
@@ -70,6 +70,6 @@ is_read least rs h =
     let same : length (pulses text) ≡ length rs = ap length found in
     let empty : length (lines_of text).unfinished ≡ 0 = ap (λ (l : Lines). length l.unfinished) lines in
     let good : bad_line text ≡ None =
-        rw (le-ltb (length (pulses text)) (length (lines_of text).complete) (omega arith), lt-leb 32 (length (lines_of text).unfinished) (omega arith)) refl in
+    rw (le-ltb (length (pulses text)) (length (lines_of text).complete) (omega arith), lt-leb 32 (length (lines_of text).unfinished) (omega arith)) refl in
     let end : or_unfinished None (lines_of text) ≡ None = rw (le-ltb 0 (length (lines_of text).unfinished) (omega arith)) refl in
     record { found = found; bad = ap (λ (o : Option ℕ). or_unfinished o (lines_of text)) good ∙ end }

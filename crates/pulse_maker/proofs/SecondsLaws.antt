@@ -22,10 +22,10 @@ pub next_second : (before : List Second) (index n : ℕ) (symbols : List Symbol)
 next_second before index n symbols i symbol lt e is =
     let next : suc i ≡ i + 1 = omega arith in
     append_assoc before (seconds_from index (take i symbols)) (record { index = n; symbol = symbol } ∷ [])
-        ∙ ap (λ (l : List Second). before ++ l)
-            (ap (λ (s : Symbol). seconds_from index (take i symbols) ++ record { index = n; symbol = s } ∷ []) is
-                ∙ sym (take_suc index n symbols i symbol lt e)
-                ∙ ap (λ (k : ℕ). seconds_from index (take k symbols)) next)
+    ∙ ap (λ (l : List Second). before ++ l)
+    (ap (λ (s : Symbol). seconds_from index (take i symbols) ++ record { index = n; symbol = s } ∷ []) is
+    ∙ sym (take_suc index n symbols i symbol lt e)
+    ∙ ap (λ (k : ℕ). seconds_from index (take k symbols)) next)
 
 -- the seconds of the first symbols are the first of all
 pub split_seconds : (index k : ℕ) (symbols : List Symbol) → (more : List Second) × (seconds_from index symbols ≡ seconds_from index (take k symbols) ++ more)
@@ -44,5 +44,5 @@ stopped_within plan start begin out_now before index n symbols i symbol lt e is 
     let split = split_seconds index (i + 1) symbols in
     let front = seconds_from index (take (i + 1) symbols) in
     subst (λ (l : List Second). HasStopped plan start begin out_now l) (append_assoc before front split.0 ∙ ap (λ (l : List Second). before ++ l) (sym split.1))
-        (stopped_more plan start begin out_now (before ++ front) split.0
-            (subst (λ (l : List Second). HasStopped plan start begin out_now l) (next_second before index n symbols i symbol lt e is) h))
+    (stopped_more plan start begin out_now (before ++ front) split.0
+    (subst (λ (l : List Second). HasStopped plan start begin out_now l) (next_second before index n symbols i symbol lt e is) h))

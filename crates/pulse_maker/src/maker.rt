@@ -23,7 +23,13 @@ fn index_of(minute: u32) -> u32
 ///
 /// `first` is a whole minute from 2000-01-02 to 2099-12-31, and there are at most as many minutes as a day has. Failed where a
 /// write failed: the sink's count rose, and what was written is a front of the log.
-pub fn make<K: Sink>(plan: Plan, first: u64, minutes: u32, seed: u32, out: &mut K) -> Result<u64, Failed>
+pub fn make<K: Sink>(
+    plan: Plan,
+    first: u64,
+    minutes: u32,
+    seed: u32,
+    out: &mut K,
+) -> Result<u64, Failed>
     requires whole { first % 60 ≡ 0 }
     requires from { 3155760000 ≤ first }
     requires until { first ≤ 6311260800 }

@@ -36,7 +36,13 @@ fn spell(plan: Plan, c: &Coded, out: &mut [Symbol; 61]) -> usize
 
 /// Writes what the log says in a minute, counted from 0, to the front of `out`, and gives the number of its symbols. The first
 /// minute of the log begins at the absolute second `first`.
-pub fn write_symbols(plan: Plan, first: u64, seed: u32, minute: u32, out: &mut [Symbol; 61]) -> usize
+pub fn write_symbols(
+    plan: Plan,
+    first: u64,
+    seed: u32,
+    minute: u32,
+    out: &mut [Symbol; 61],
+) -> usize
     requires whole { first % 60 ≡ 0 }
     requires from { 3155760000 ≤ first }
     requires most { first ≤ 6311260800 }

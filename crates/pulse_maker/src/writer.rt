@@ -107,7 +107,12 @@ impl LogWriter {
     }
 
     /// Writes the next seconds: those that have these symbols, one after another from this index on.
-    pub fn write<K: Sink>(&mut self, index: u32, symbols: &[Symbol], out: &mut K) -> Result<(), Failed>
+    pub fn write<K: Sink>(
+        &mut self,
+        index: u32,
+        symbols: &[Symbol],
+        out: &mut K,
+    ) -> Result<(), Failed>
         requires near { index < 2 ^ 19 }
         requires short { length symbols.now ≤ 61 }
         requires room { self.old.lines < 2 ^ 30 }

@@ -14,6 +14,6 @@ returns-then-is_spoilt-clause-symbols c =
     let out = c.spell-count.new.out in
     let spelt = spelt_by c.args.plan (coded_of c.args.first c.args.minute) in
     let taken : take count out ≡ spelt = subst (λ n. take count out ≡ spelt_by c.args.plan (coded_of c.args.first n)) c.from.ensures
-        (ap (take count) c.spell-count.ensures.written ∙ take_at _ _ count (sym c.spell-count.ensures.count)) in
+    (ap (take count) c.spell-count.ensures.written ∙ take_at _ _ count (sym c.spell-count.ensures.count)) in
     subst (λ b. take count (set out 30 Odd) ≡ spoilt_if b spelt) (sym c.if-is_spoilt.true ∙ c.is_spoilt.ensures)
-        (front_set count out 30 Odd ∙ ap (λ (l : List Symbol). set l 30 Odd) taken)
+    (front_set count out 30 Odd ∙ ap (λ (l : List Symbol). set l 30 Odd) taken)

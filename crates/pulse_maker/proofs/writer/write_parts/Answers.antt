@@ -11,4 +11,4 @@ pub returns-in_err-write_whole-2-clause-err : goal.returns-in_err-write_whole-2-
 returns-in_err-write_whole-2-clause-err g c =
     let is : c.args.symbol ≡ OnlyB = search rules in
     on_err c.from_residual-in_err-write_whole-2.result
-        (second_stopped _ _ _ c.args.plan c.args.start c.args.symbol is c.in_ok-write_whole.ensures.ok c.in_err-write_whole-2.ensures.err)
+    (second_stopped _ _ _ c.args.plan c.args.start c.args.symbol is c.in_ok-write_whole.ensures.ok c.in_err-write_whole-2.ensures.err)

@@ -12,5 +12,5 @@ abbrev pub invariant-loop-symbol : goal.invariant-loop-symbol
 invariant-loop-symbol g l = (l.next ≡ l.fn.index + l.symbol-index)
     × (l.self.lines ≤ l.fn.self.lines + 2 * l.symbol-index)
     × ((plan : Plan) (start : ℕ) (begin : SinkState) (seconds : List Second)
-        → HasWritten plan start begin l.fn.self (g.K.Sink.state l.fn.out) seconds
-        → HasWritten plan start begin l.self (g.K.Sink.state l.out) (seconds ++ seconds_from l.fn.index (take l.symbol-index l.fn.symbols)))
+    → HasWritten plan start begin l.fn.self (g.K.Sink.state l.fn.out) seconds
+    → HasWritten plan start begin l.self (g.K.Sink.state l.out) (seconds ++ seconds_from l.fn.index (take l.symbol-index l.fn.symbols)))
