@@ -1,4 +1,4 @@
-# an independent maker, from the formats paper
+# A maker of logs apart from the program, by the description in docs/FORMATS.md.
 import datetime,sys
 P31=2**31
 EPOCH=datetime.datetime(1900,1,1)

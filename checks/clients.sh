@@ -73,9 +73,17 @@ ask drain "$port" || wrong 'the server goes on'
 ended 0 'status 0'
 wrote 'page 0 0 0 494e4954 0 0 0 0 1048576 0000000000000000 0 0'
 
-# The others ask one server.
+# The others ask one server, which shares a key with some of them.
 port=$(ask port)
-station "$port" > "$work/station.toml"
+{
+    station "$port"
+    printf '\n[[key]]\nid = 1\nsecret = "longwave"\n'
+} > "$work/station.toml"
+(
+    umask 077
+    printf '1 MD5 longwave\n' > "$work/keys"
+    printf '1 MD5 longwavf\n' > "$work/wrong_keys"
+)
 serve --station "$work/station.toml" --during 0 --after 3000
 ask wait "$port" && ask look "$port" 40 "$ahead" 0 1 DCF "$work/all.dump" || wrong 'a plain client fails'
 
@@ -83,6 +91,16 @@ if is_there chronyd; then
     timeout 20 chronyd -Q -x -t 10 -U -u "$(id -un)" -f /dev/null "server 127.0.0.1 port $port iburst maxsamples 1" \
         "pidfile $work/pid" 'cmdport 0' 'bindcmdaddress /' > "$work/chronyd" 2>&1 || wrong "chronyd ends with $?"
     says_ahead chronyd "$(found 'System clock wrong by \(-\{0,1\}[0-9.]*\) seconds' "$work/chronyd")"
+fi
+
+# With the server's key it takes what is sealed by it; with another secret, of the same identifier, it takes nothing.
+if command -v chronyd > /dev/null; then
+    asked=$((asked + 1))
+    timeout 20 chronyd -Q -x -t 10 -U -u "$(id -un)" -f /dev/null "server 127.0.0.1 port $port iburst maxsamples 1 key 1" \
+        "keyfile $work/keys" "pidfile $work/pid" 'cmdport 0' 'bindcmdaddress /' > "$work/keyed" 2>&1 || wrong "chronyd with a key ends with $?: $(cat "$work/keyed")"
+    timeout 20 chronyd -Q -x -t 4 -U -u "$(id -un)" -f /dev/null "server 127.0.0.1 port $port iburst maxsamples 1 key 1" \
+        "keyfile $work/wrong_keys" "pidfile $work/pid" 'cmdport 0' 'bindcmdaddress /' > "$work/chronyd" 2>&1 && wrong 'chronyd takes a reply that another key would have sealed'
+    says chronyd 'Timeout reached'
 fi
 
 # The same as a client that goes on asking, which tells all fields of an answer and its ten tests of it. The last four speak of the
@@ -144,6 +162,10 @@ if is_there ntpdig; then
         says ntpdig '"stratum":1[,}]'
         says ntpdig '"leap":"no-leap"'
         says_ahead ntpdig "$(found '"offset":\([-0-9.]*\)' "$work/ntpdig")"
+        # And with the server's key.
+        cp "$work/ntpdig.keyed" "$work/keyed"
+        says keyed '"stratum":1[,}]'
+        says_ahead keyed "$(found '"offset":\([-0-9.]*\)' "$work/keyed")"
     fi
 fi
 

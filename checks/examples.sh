@@ -54,6 +54,13 @@ repeated() {
     done
 }
 
+# README.md, docs/OPERATING.md ("Without a receiver") and docs/FORMATS.md
+ends 0 'status 0' drill --seed 7
+for feed in 0 1 2; do wrote "feed $feed verdict 1381 lone 30 differs 0 refused 29\$"; done
+wrote 'page 4320 1 1 4d534600 17099604805104220025 86407001877 152740009690 0 328 ed4f51800047ba4e 0 -2987$'
+ends 6 'status 6 full 3' drill --limit=3 --seed=7
+ends 1 'status 1 usage' drill --seed 07
+
 # README.md
 ends 0 'status 0' decode --plan dcf --log examples/dcf77-hour.log
 wrote '0 67000606 lone 4004773200$'
@@ -160,6 +167,9 @@ station 'radio = 3\n' 'range radio'
 station "$(repeated 5 '[[radio]]\nplan = "dcf"\nlog = "a.log"\n')" 'many radio 5'
 station "$(repeated 17 '[[server]]\naddress = "127.0.0.1"\nport = 123\n')" 'many radio 17'
 station "$(repeated 9 '[[link]]\nport = 123\n')" 'many link 9'
+station '[[key]]\nid = 1\nsecret = "a"\n[[key]]\nid = 1\nsecret = "b"\n' 'range key.1.id'
+station '[[key]]\nid = 1\nsecret = "long wave"\n' 'range key.0.secret'
+station "$(for id in 1 2 3 4 5 6 7 8 9; do printf '[[key]]\\nid = %s\\nsecret = "a"\\n' "$id"; done)" 'many key 9'
 
 [ "$bad" = 0 ] && echo "examples: $checked as the pages say"
 exit "$bad"

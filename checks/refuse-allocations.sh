@@ -9,9 +9,9 @@
 #
 #     checks/refuse-allocations.sh
 #
-# Each line has the number, whether there was such an allocation, and how the run ended. It builds nothing: run `rt ci` before, or
-# `rt run` in crates/radio_ntpd and `rt test` in crates/radio_engine. It takes a few seconds, wants a C compiler and glibc, and is
-# no part of the gate.
+# Each line has the number, whether there was such an allocation, and how the run ended; the last says how many there were. It builds
+# nothing: run `rt ci` before, or `rt run` in crates/radio_ntpd and `rt test` in crates/radio_engine. It takes a few seconds, wants a C
+# compiler and glibc, and is no part of the gate.
 set -u
 cd "$(dirname "$0")/.." || exit 1
 program=crates/radio_ntpd/out/radio_ntpd
@@ -22,6 +22,7 @@ done
 work=$(mktemp -d) || exit 1
 trap 'rm -rf "$work"' EXIT
 bad=0
+refusals=0
 
 # Counts the calls of malloc and realloc, and refuses the one that REFUSE names. It then writes to descriptor 9.
 cat > "$work/refuse.c" <<'C'
@@ -44,6 +45,11 @@ printf 'bound =\n' > "$work/bad.toml"
 # One radio, so that the order of the journal's lines doesn't hang on threads.
 printf '[[radio]]\nplan = "dcf"\nlog = "examples/radios/dcf77.log"\n[[link]]\nport = 12301\n' > "$work/serve.toml"
 
+# Journals of both forms, and one whose third line is bad.
+"$program" replay --station examples/station.toml --script examples/exchange.script | grep '^j2 ' > "$work/numbered"
+sed 's/^j2 [0-9]* -\{0,1\}[0-9]* //' "$work/numbered" > "$work/journal"
+sed '3s/ /  /' "$work/numbered" > "$work/spoilt"
+
 # Runs a command with its allocation of number $1 refused. `made` says whether there was one.
 refuse() {
     number=$1
@@ -51,7 +57,10 @@ refuse() {
     REFUSE=$number LD_PRELOAD=$work/refuse.so "$@" > "$work/out" 2> "$work/err" 9> "$work/mark"
     status=$?
     made=no
-    if [ -s "$work/mark" ]; then made=yes; fi
+    if [ -s "$work/mark" ]; then
+        made=yes
+        refusals=$((refusals + 1))
+    fi
 }
 
 # How a run of the program ended, which ends whole with the text `whole` and the status $1.
@@ -98,8 +107,16 @@ program replay --station "$work/bad.toml" --script examples/exchange.script
 program serve --station "$work/serve.toml" --during 0
 program serve --station "$work/fault.toml"
 program decode --plan dcf --log examples/dcf77-hour.log
+program drill --seed 7 --limit 4320
 program decode --plan dcf
+program migrate --station examples/station.toml --journal "$work/journal"
+program migrate --station examples/station.toml --journal "$work/numbered"
+program migrate --station examples/station.toml --journal "$work/spoilt"
+program migrate --station "$work/fault.toml" --journal "$work/journal"
 fakes fault_tests::want_of_memory_in_a_replay
 fakes fault_tests::want_of_memory_in_a_log
 fakes fault_tests::want_of_memory_in_a_refusal
+fakes broken_tests::want_of_memory_in_a_serving
+fakes broken_tests::want_of_memory_in_a_journal
+[ "$bad" = 0 ] && echo "refuse-allocations: $refusals refused, each run whole or for want of memory"
 exit "$bad"

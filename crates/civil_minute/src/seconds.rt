@@ -27,9 +27,8 @@ pub fn weekday(second: u64) -> u8
     date_at(second).weekday().to_monday_one_offset() as u8
 }
 
-/// Whether a month of UTC begins at the second.
+/// Whether a month of UTC begins at the second, which may lie as far back as 1900-01-01.
 pub fn begins_month(second: u64) -> bool
-    requires from { first_told ≤ second }
     requires below { second < end_of_told }
     ensures { result ≡ begins_month second }
 {

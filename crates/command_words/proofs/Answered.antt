@@ -5,7 +5,7 @@ use Rattle.std.proofs.lemmas.Bool.{true≢false}
 use Rattle.std.specs.List.{list_all}
 use Rattle.clap.specs.Words.{fault_of, matches_of, first_of}
 use Rattle.command_words.specs.CommandLine.{IsOnce, Text, command_words, is_value, options, value_of}
-use Rattle.command_words.specs.Commands.{AskFor, Asked, IsLimit, IsHearings, Says, decode, is_of, migrate, name_of, replay, row_of, serve}
+use Rattle.command_words.specs.Commands.{AskFor, Asked, IsLimit, IsHearings, IsSeed, Says, decode, drill, is_of, migrate, name_of, replay, row_of, serve}
 use Rattle.command_words.specs.Matches.{AreFor, app, may_have, option_names}
 use Rattle.command_words.proofs.FitLaws.{AreGood, Single, Stand, good}
 use Rattle.command_words.proofs.LineLaws.{HasLine, command_of, given_of, lined, parts_of, parts_spelt}
@@ -27,18 +27,22 @@ says_along f g same (serve station during after limit) s = (
   subst (λ o. IsHearings 0 o after) (same (codes "after") refl) s.2,
   subst (λ o. IsLimit o limit) (same (codes "limit") refl) s.3,
 )
+says_along f g same (drill seed limit) s =
+    (subst (λ o. IsSeed o seed) (same (codes "seed") refl) s.0, subst (λ o. IsLimit o limit) (same (codes "limit") refl) s.1)
 says_along f g same (migrate station journal) s = (sym (same (codes "station") refl) ∙ s.0, sym (same (codes "journal") refl) ∙ s.1)
 
 row_known : (a : Asked) → list_all names_option (row_of a) ≡ true
 row_known (decode plan log) = refl
 row_known (replay station script limit) = refl
 row_known (serve station during after limit) = refl
+row_known (drill seed limit) = refl
 row_known (migrate station journal) = refl
 
 name_value : (a : Asked) → is_value (name_of a) ≡ true
 name_value (decode plan log) = refl
 name_value (replay station script limit) = refl
 name_value (serve station during after limit) = refl
+name_value (drill seed limit) = refl
 name_value (migrate station journal) = refl
 
 -- ---- where clap takes the words

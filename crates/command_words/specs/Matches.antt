@@ -10,7 +10,7 @@ use Rattle.command_words.specs.Commands.{Asked, Says, name_of, row_of}
 
 -- the options of all commands
 abbrev pub option_names : List Text
-option_names = codes "plan" ∷ codes "log" ∷ codes "station" ∷ codes "script" ∷ codes "journal" ∷ codes "during" ∷ codes "after" ∷ codes "limit" ∷ []
+option_names = codes "plan" ∷ codes "log" ∷ codes "station" ∷ codes "script" ∷ codes "journal" ∷ codes "during" ∷ codes "after" ∷ codes "seed" ∷ codes "limit" ∷ []
 
 abbrev pub option_rule : Text → Rule
 option_rule name = record (new_rule name) { long = Some name; action = Some Set }

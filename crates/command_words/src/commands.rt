@@ -24,6 +24,11 @@ pub enum Command<'a> {
         after: u64,
         limit: u32,
     },
+    /// `drill`: a day of three radios is to be made up from this seed and served, with at most `limit` entries (1 to 4194304).
+    Drill {
+        seed: u32,
+        limit: u32,
+    },
     /// `migrate`: a journal of a station is to be written anew, in the second form of its lines.
     Migrate {
         station: &'a str,

@@ -7,8 +7,8 @@ use clap::{Arg, ArgAction, Command};
 use std::alloc::{AllocError, Global};
 
 // The options of all commands.
-pub const OPTIONS: [&str; 8] = [
-    "plan", "log", "station", "script", "journal", "during", "after", "limit",
+pub const OPTIONS: [&str; 9] = [
+    "plan", "log", "station", "script", "journal", "during", "after", "seed", "limit",
 ];
 
 fn option<'a>(alloc: Global, name: &'a str) -> Arg<'a>

@@ -5,7 +5,7 @@ ghost use Rattle.std.specs.Str.{bytes_eq};
 ghost use Rattle.clap.specs.Words.{first_of, rows_of, found_of};
 ghost use Rattle.tick_units.specs.declared.marks.Plan.{Plan};
 ghost use Rattle.command_words.specs.CommandLine.{is_value};
-ghost use Rattle.command_words.specs.Commands.{Asked, asked, name_of, HasLimit, IsHearings, IsLimit, IsNumber, decode, migrate, replay, serve};
+ghost use Rattle.command_words.specs.Commands.{Asked, asked, name_of, HasLimit, IsHearings, IsLimit, IsNumber, IsSeed, decode, drill, migrate, replay, serve};
 ghost use Rattle.command_words.specs.Matches.{text_of, may_have, has_only, Fit, AreFor};
 
 use crate::commands::Command;
@@ -21,12 +21,17 @@ const REPLAY: [&str; 3] = ["station", "script", "limit"];
 
 const SERVE: [&str; 4] = ["station", "during", "after", "limit"];
 
+const DRILL: [&str; 2] = ["seed", "limit"];
+
 const MIGRATE: [&str; 2] = ["station", "journal"];
 
 // Entries of a journal.
 const LIMIT: u64 = 1_048_576;
 
 const MOST: u64 = 4_194_304;
+
+// The seed of a drill.
+const MOST_SEED: u64 = 4_294_967_295;
 
 // Hearings of a link.
 const DURING: u64 = 16;
@@ -112,6 +117,14 @@ fn hearings(given: Option<&str>, default: u64) -> Option<u64>
     number(given, default, 0, MOST_HEARINGS)
 }
 
+fn seed(given: Option<&str>) -> Option<u32>
+    ensures said { IfSome result (λ n. IsSeed (text_of given.entry) n) }
+    ensures every { (n : ℕ) → IsSeed (text_of given.entry) n → result ≡ Some n }
+{
+    let seed = whole_number(given?.as_bytes(), MOST_SEED)?;
+    Some(seed as u32)
+}
+
 fn decode<'a>(matches: &ArgMatches<'a>) -> Option<Command<'a>>
     ensures asked { IfSome result (λ c. (name_of (asked c) ≡ codes "decode") × Fit (rows_of (found_of matches.now)) (asked c)) }
     ensures every { (p : Plan) (log : List ℕ) → Fit (rows_of (found_of matches.now)) (decode p log) → option_map asked result ≡ Some (decode p log) }
@@ -157,6 +170,20 @@ fn serve<'a>(matches: &ArgMatches<'a>) -> Option<Command<'a>>
     })
 }
 
+fn drill<'a>(matches: &ArgMatches<'a>) -> Option<Command<'a>>
+    ensures asked { IfSome result (λ c. (name_of (asked c) ≡ codes "drill") × Fit (rows_of (found_of matches.now)) (asked c)) }
+    ensures every { (s n : ℕ) → Fit (rows_of (found_of matches.now)) (drill s n) → option_map asked result ≡ Some (drill s n) }
+    ensures limits { IfSome result HasLimit }
+{
+    if !has_only(matches, &DRILL) {
+        return None;
+    }
+    Some(Command::Drill {
+        seed: seed(value(matches, "seed"))?,
+        limit: limit(value(matches, "limit"))?,
+    })
+}
+
 fn migrate<'a>(matches: &ArgMatches<'a>) -> Option<Command<'a>>
     ensures asked { IfSome result (λ c. (name_of (asked c) ≡ codes "migrate") × Fit (rows_of (found_of matches.now)) (asked c)) }
     ensures every { (station journal : List ℕ) → Fit (rows_of (found_of matches.now)) (migrate station journal) → option_map asked result ≡ Some (migrate station journal) }
@@ -181,6 +208,7 @@ pub fn command<'a>(matches: &ArgMatches<'a>) -> Option<Command<'a>>
         "decode" => decode(matches),
         "replay" => replay(matches),
         "serve" => serve(matches),
+        "drill" => drill(matches),
         "migrate" => migrate(matches),
         _ => None,
     }

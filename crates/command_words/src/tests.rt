@@ -52,6 +52,7 @@ fn limit_of(alloc: Global, words: &[&str]) -> Option<u32> {
                 limit,
             },
         ) => Some(handed_on(limit)),
+        Ok(Command::Drill { seed: _, limit }) => Some(handed_on(limit)),
         Ok(Command::Decode { plan: _, log: _ }) => None,
         Ok(
             Command::Migrate {
@@ -229,7 +230,7 @@ fn hearings_of_serve(rt: HostRuntime) -> Result<(), Fail> {
 }
 
 #[test]
-fn limit_of_serve(rt: HostRuntime) -> Result<(), Fail> {
+fn limits(rt: HostRuntime) -> Result<(), Fail> {
     let alloc = rt.alloc();
     let table = [
         ("0", None),
@@ -251,6 +252,8 @@ fn limit_of_serve(rt: HostRuntime) -> Result<(), Fail> {
         assert_eq!(rt; read_words(alloc, &words), said, "{limit:?}");
         assert_eq!(rt; limit_of(alloc, &words), want, "{limit:?}");
         let words = ["replay", "--station=s", "--script=t", "--limit", limit];
+        assert_eq!(rt; limit_of(alloc, &words), want, "{limit:?}");
+        let words = ["drill", "--seed=7", "--limit", limit];
         assert_eq!(rt; limit_of(alloc, &words), want, "{limit:?}");
     }
     Ok(())
@@ -313,6 +316,50 @@ fn words_of_migrate(rt: HostRuntime) -> Result<(), Fail> {
         &["migrate", "--station=s", "--journal="],
         &["migrate", "--station=s", "--journal=j", "--limit=1"],
         &["migrate", "--station=s", "--journal=j", "--script=t"],
+    ];
+    assert_eq!(rt; not_refused(alloc, &refused), None);
+    Ok(())
+}
+
+// The seed has no default; it has 32 bits.
+#[test]
+fn words_of_drill(rt: HostRuntime) -> Result<(), Fail> {
+    let alloc = rt.alloc();
+    let table: [(&[&str], u32, u32); 5] = [
+        (&["drill", "--seed", "7"], 7, 1_048_576),
+        (&["--seed=0", "drill", "--limit=3"], 0, 3),
+        (
+            &["--limit", "4194304", "--seed=4294967295", "drill"],
+            4_294_967_295,
+            4_194_304,
+        ),
+        (&["--seed=10", "--", "drill"], 10, 1_048_576),
+        (
+            &["drill", "--seed=4294967294", "--limit=1"],
+            4_294_967_294,
+            1,
+        ),
+    ];
+    for (words, seed, limit) in table {
+        assert_eq!(rt;
+            read_words(alloc, words),
+            Ok(Command::Drill { seed, limit }),
+            "{words:?}"
+        );
+    }
+    let refused: [&[&str]; 12] = [
+        &["drill"],
+        &["drill", "--limit=3"],
+        &["drill", "--seed=4294967296"],
+        &["drill", "--seed=18446744073709551616"],
+        &["drill", "--seed=07"],
+        &["drill", "--seed=+7"],
+        &["drill", "--seed=-7"],
+        &["drill", "--seed="],
+        &["drill", "--seed=7", "--limit=0"],
+        &["drill", "--seed=7", "--limit=4194305"],
+        &["drill", "--seed=7", "--station=s"],
+        &["serve", "--station=s", "--seed=7"],
     ];
     assert_eq!(rt; not_refused(alloc, &refused), None);
     Ok(())
@@ -382,8 +429,8 @@ fn other_options_are_refused(rt: HostRuntime) -> Result<(), Fail> {
 fn unknown_commands_are_refused(rt: HostRuntime) -> Result<(), Fail> {
     let alloc = rt.alloc();
     let table: [&[&str]; 3] = [
-        &["drill", "--seed", "7"],
-        &["drill", "--station=s"],
+        &["drills", "--seed=7"],
+        &["made", "--station=s"],
         &["Serve", "--station=s"],
     ];
     assert_eq!(rt; not_refused(alloc, &table), None);

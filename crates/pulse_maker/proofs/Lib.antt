@@ -6,4 +6,3 @@ pub mod OrderLaws
 pub mod ProgressLaws
 pub mod ReadLaws
 pub mod SecondsLaws
-pub mod WritingLaws

@@ -1,6 +1,5 @@
 -- The lines of reductions, one and two.
 use Rattle.std.proofs.Common.{◌≡◌, ℕ, ◌+◌, List, [], ◌∷◌, ◌++◌, length, take, refl, sym, ap, ◌∙◌, subst}
-use Rattle.std.specs.Prelude.{Result, Ok, Err, OnErr}
 use Rattle.std.proofs.lemmas.List.{append-nil, length-append, take_at}
 use Rattle.feed_link.specs.Told.{SinkState}
 use Rattle.tick_units.specs.declared.marks.Plan.{Plan}
@@ -9,9 +8,9 @@ use Rattle.tick_units.specs.declared.marks.Symbol.{Symbol}
 use Rattle.tick_units.specs.declared.marks.Symbol.TheVariants.{Zero, One, OnlyB, Both, Long, Odd}
 use Rattle.pulse_log.specs.Writing.{line_of}
 use Rattle.pulse_maker.specs.Made.{width_of, parts_of, text_of}
-use Rattle.pulse_maker.specs.Writing.{WritesAll, WritesFront}
+use Rattle.sink_text.specs.Writing.{WritesAll, WritesFront}
 use Rattle.pulse_maker.proofs.ProgressLaws.{text_append}
-use Rattle.pulse_maker.proofs.WritingLaws.{writes_front, front_of_more}
+use Rattle.sink_text.proofs.WritingLaws.{writes_front, front_of_both}
 
 -- what stands at the front of a piece in which a line was written
 pub front_is_line : (r : Reduction) (count : ℕ) (piece rest : List ℕ) → piece ≡ line_of r ++ 10 ∷ [] ++ rest → count ≡ length (line_of r) + 1 → take count piece ≡ text_of (r ∷ [])
@@ -36,7 +35,7 @@ pub first_stopped : (out out_now : SinkState) (plan : Plan) (start : ℕ) (symbo
 first_stopped out out_now plan start symbol h =
     let begins = begins_so plan start symbol in
     subst (λ t. WritesFront out out_now t) (sym (ap text_of begins.1 ∙ text_append (first_part plan start symbol ∷ []) begins.0))
-    (front_of_more out out_now (text_of (first_part plan start symbol ∷ [])) (text_of begins.0) h)
+    (front_of_both out out_now (text_of (first_part plan start symbol ∷ [])) (text_of begins.0) h)
 
 -- a write of the second part failed
 pub second_stopped : (a b c : SinkState) (plan : Plan) (start : ℕ) (symbol : Symbol) → symbol ≡ OnlyB
@@ -46,8 +45,3 @@ second_stopped a b c plan start symbol is h k =
     (λ x y. subst (λ t. WritesFront a c t) (sym (text_append (first_part plan start OnlyB ∷ []) (first_part plan (start + 200000) OnlyB ∷ [])))
     (writes_front a b c (text_of (first_part plan start OnlyB ∷ [])) (text_of (first_part plan (start + 200000) OnlyB ∷ [])) x y))
     h k
-
--- what holds in any case holds of an error
-pub on_err : {T E P : Type 0} (r : Result T E) → P → OnErr r P
-on_err (Ok value) p = tt
-on_err (Err error) p = p

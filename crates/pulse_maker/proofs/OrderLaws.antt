@@ -138,7 +138,10 @@ made_in_order plan first minutes seed few =
     (seconds_in_order (opening_index plan) (opening_symbols plan) 0 2 (between ++ closing) (omega arith) (opening_short plan) (omega arith)
     (minutes_in_order plan first seed 0 minutes minutes 2 closing (omega arith) few (omega arith) last))
 
+pub made_rises : (plan : Plan) (first minutes seed : ℕ) → minutes ≤ 1440 → Rises (5000000 + 0 * 1000000) (made plan first minutes seed)
+made_rises plan first minutes seed few = reductions_rise plan (seeded plan seed) 1 (seconds_of plan first minutes seed) 0 (made_in_order plan first minutes seed few)
+
 -- so a reader finds all of it
 pub made_is_read : (plan : Plan) (first minutes seed : ℕ) → minutes ≤ 1440 → IsReadAs (text_of (made plan first minutes seed)) (made plan first minutes seed)
 made_is_read plan first minutes seed few =
-    is_read (5000000 + 0 * 1000000) (made plan first minutes seed) (reductions_rise plan (seeded plan seed) 1 (seconds_of plan first minutes seed) 0 (made_in_order plan first minutes seed few))
+    is_read (5000000 + 0 * 1000000) (made plan first minutes seed) (made_rises plan first minutes seed few)

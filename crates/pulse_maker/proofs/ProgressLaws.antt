@@ -8,10 +8,10 @@ use Rattle.tick_units.specs.declared.marks.Plan.{Plan}
 use Rattle.tick_units.specs.declared.marks.Reduction.{Reduction}
 use Rattle.pulse_maker.specs.Made.{number_after, number_from, start_of, parts_of, reductions_from, reductions_of, text_of}
 use Rattle.pulse_maker.specs.Progress.{text_from, HasWritten, HasStopped}
-use Rattle.pulse_maker.specs.Writing.{WritesAll, WritesFront}
+use Rattle.sink_text.specs.Writing.{WritesAll, WritesFront}
 use Rattle.pulse_maker.specs.declared.seconds.Second.{Second}
 use Rattle.pulse_maker.specs.declared.writer.LogWriter.{LogWriter}
-use Rattle.pulse_maker.proofs.WritingLaws.{writes_more, writes_front, front_of_more}
+use Rattle.sink_text.proofs.WritingLaws.{writes_more, writes_front, front_of_both}
 
 -- the reductions of some seconds and of those behind them
 pub reductions_append : (plan : Plan) (start j n : ℕ) (xs ys : List Second) → n ≡ j + length xs
@@ -87,4 +87,4 @@ stopped_more plan start begin out_now xs ys h =
     let behind = reductions_from plan start (suc (length xs)) ys in
     subst (λ t. WritesFront begin out_now t)
     (sym (ap text_of (reductions_append plan start 1 (suc (length xs)) xs ys (omega arith)) ∙ text_append (reductions_of plan start xs) behind))
-    (front_of_more begin out_now (text_from plan start xs) (text_of behind) h)
+    (front_of_both begin out_now (text_from plan start xs) (text_of behind) h)

@@ -1,6 +1,5 @@
--- Read Minutes (what a log says at each of its seconds) and Made (its reductions and its text), then Writing (what it is to
--- write a text). Progress is scaffolding.
+-- Read Minutes (what a log says at each of its seconds) and Made (its reductions and its text). Progress is
+-- scaffolding.
 pub mod Minutes
 pub mod Made
-pub mod Writing
 pub mod Progress

@@ -7,7 +7,6 @@ mod maker;
 mod minutes;
 mod seconds;
 mod writer;
-mod writing;
 
 pub use maker::make;
 

@@ -22,14 +22,15 @@ use Rattle.radio_engine.specs.LogTaking.{IsDecodedBy, IsFound, log_says}
 use Rattle.radio_engine.specs.Reading.{ReadsLines, bad_in_the_end}
 use Rattle.radio_engine.specs.Taking.{given, bad_of, EndsItself, EndsStopped}
 use Rattle.radio_engine.specs.Text.{log_text}
-use Rattle.radio_engine.specs.Writing.{WritesAll, Answers}
+use Rattle.sink_text.specs.Writing.{WritesAll}
+use Rattle.radio_engine.specs.Writing.{Answers}
 use Rattle.radio_engine.specs.declared.ending.status.Status.{Status}
 use Rattle.radio_engine.specs.declared.ending.status.Status.TheVariants.{WriteFault}
 use Rattle.radio_engine.specs.declared.ending.subject.Subject.TheVariants.{Feed}
 use Rattle.radio_engine.specs.declared.reading.Gives.{Gives}
 use Rattle.radio_engine.specs.declared.reading.Gives.TheVariants.{Nothing, Text, Bad}
 use Rattle.radio_engine.specs.declared.reading.Reach.{Reach}
-use Rattle.radio_engine.proofs.WritingLaws.{front_of_more}
+use Rattle.sink_text.proofs.WritingLaws.{front_of_more}
 
 text_none : (plan : Plan) → ◌≡◌ {A = List ℕ} [] (log_text plan [])
 text_none Dcf = refl

@@ -1,15 +1,15 @@
 -- Lists whose items are told one by one, by their places.
 use Rattle.std.proofs.Common.{◌≡◌, ℕ, zero, suc, ◌+◌, ◌<◌, Option, List, [], ◌∷◌, ◌++◌, drop, length, refl, sym, ap, ◌∙◌, subst, arith, append_assoc}
-use Rattle.std.specs.Prelude.{IsSome, OnErr, Result, Ok, Err, Some, get_or, slice_get}
+use Rattle.std.specs.Prelude.{IsSome, Some, get_or, slice_get}
 use Rattle.std.specs.Option.{option_to_list}
 use Rattle.std.proofs.lemmas.List.{append-nil}
 use Rattle.feed_link.specs.Told.{SinkState}
 use Rattle.journal_entry.specs.Texts.{spaced}
 use Rattle.radio_engine.specs.Crewing.{HasLeast}
 use Rattle.radio_engine.specs.Headline.{each_cause, each_text}
-use Rattle.radio_engine.specs.Writing.{WritesAll, WritesFront}
+use Rattle.sink_text.specs.Writing.{WritesAll, WritesFront}
 use Rattle.radio_engine.specs.declared.ending.Ending.{Ending}
-use Rattle.radio_engine.proofs.WritingLaws.{front_of_more, writes_front, writes_more}
+use Rattle.sink_text.proofs.WritingLaws.{front_of_more, writes_front, writes_more}
 
 pub drop_one : {X : Type 0} (xs : List X) (i : ℕ) (d : X) → i < length xs → drop i xs ≡ get_or xs i d ∷ drop (i + 1) xs
 drop_one [] i d lt = absurd (omega (arith, lt))
@@ -80,11 +80,6 @@ looked_all cause all whole place rest found none h =
 pub back : (w v u x y : List ℕ) → u ≡ v ++ y → v ≡ w ++ x → u ≡ w ++ (x ++ y)
 back w v u x y h k = h ∙ ap (λ l. l ++ y) k ∙ append_assoc w x y
 
--- what holds in any case holds of an error
-pub on_err : {T E P : Type 0} (r : Result T E) → P → OnErr r P
-on_err (Ok value) p = tt
-on_err (Err error) p = p
-
 -- an item that stands at a place
 pub some_at : {X : Type 0} (xs : List X) (i : ℕ) → i < length xs → IsSome (slice_get xs i)
 some_at [] i lt = absurd (omega (arith, lt))
@@ -101,10 +96,6 @@ drop_got (y ∷ xs) (suc i) x at =
 -- a text that nothing stands before
 pub from_none : (w u x : List ℕ) → u ≡ w ++ x → w ≡ [] → u ≡ x
 from_none w u x h none = h ∙ ap (λ l. l ++ x) none
-
-pub on_err_by : {T E P Q : Type 0} (r : Result T E) → (P → Q) → OnErr r P → OnErr r Q
-on_err_by (Ok value) f h = tt
-on_err_by (Err error) f h = f h
 
 -- fields, each behind a space, with a text at their end
 abbrev pub run_on : List (List ℕ) → List ℕ → List ℕ

@@ -1,7 +1,9 @@
 -- Lemmas that several proofs of this crate use.
 pub mod CauseLaws
 pub mod CountLaws
+pub mod CountingLaws
 pub mod DecodingLaws
+pub mod DrillLaws
 pub mod EachLaws
 pub mod GoodLogLaws
 pub mod GoodStationLaws

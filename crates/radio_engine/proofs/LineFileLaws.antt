@@ -33,7 +33,8 @@ use Rattle.radio_engine.specs.Reading.{ReadsLines}
 use Rattle.radio_engine.specs.StationFile.{HasStation, IsObstacle, IsStation, status_at, line_at}
 use Rattle.radio_engine.specs.Taking.{EndsItself, EndsStopped}
 use Rattle.radio_engine.specs.Text.{page_text}
-use Rattle.radio_engine.specs.Writing.{WritesAll, Answers}
+use Rattle.sink_text.specs.Writing.{WritesAll}
+use Rattle.radio_engine.specs.Writing.{Answers}
 use Rattle.radio_engine.proofs.GoodLogLaws.{front_of, none_left, whole_text, rose_by_one}
 use Rattle.radio_engine.proofs.OpeningLaws.{two_failed_first, two_only_first, two_failed_next, two_opened}
 

@@ -2,13 +2,15 @@
 use Rattle.std.proofs.Common.{◌≡◌, ℕ, ◌⊎◌, Option, Some, List, [], ◌∷◌, ◌++◌, length, ap, sym, ◌∙◌, subst, inl, inr, arith}
 use Rattle.std.proofs.lemmas.List.{length-append}
 use Rattle.command_words.specs.Commands.{Asked}
-use Rattle.command_words.specs.Commands.Asked.{decode, migrate, replay, serve}
+use Rattle.command_words.specs.Commands.Asked.{decode, drill, migrate, replay, serve}
 use Rattle.feed_link.specs.Faults.{Rose}
 use Rattle.feed_link.specs.Told.{SinkState}
 use Rattle.feed_link.specs.Openings.{Opening, OutsideState, log_visit, visited}
 use Rattle.radio_engine.specs.Run.{Lacks, Runs, IsComplete, IsFaultless, IsRun}
+use Rattle.radio_engine.specs.Writing.{Answers}
 use Rattle.radio_engine.specs.declared.ending.status.Status.{Status}
-use Rattle.radio_engine.proofs.GoodLogLaws.{log_done}
+use Rattle.radio_engine.specs.declared.ending.status.Status.TheVariants.{Done, Memory}
+use Rattle.radio_engine.proofs.GoodLogLaws.{log_done, rose_by_one}
 use Rattle.radio_engine.proofs.GoodStationLaws.{station_done}
 use Rattle.radio_engine.proofs.LineFileLaws.{IsReadable, against_done}
 use Rattle.radio_engine.proofs.ScriptLaws.{says_one, says_short}
@@ -19,6 +21,11 @@ use Rattle.station_config.specs.Station.{settings_of}
 use Rattle.radio_engine.specs.declared.ending.subject.Subject.TheVariants.{Journal, Script}
 use Rattle.station_config.specs.Station.{StationFields}
 
+-- where no write failed, the status is the one that was due
+answered : (due result : Status) (out out_now : SinkState) (text : List ℕ) → (Rose out.faults out_now.faults → ⊥) → Answers due result out out_now text → result ≡ due
+answered due result out out_now text no_write (inl all) = all.0
+answered due result out out_now text no_write (inr failed) = absurd (no_write (rose_by_one out.faults out_now.faults failed.1.3))
+
 -- openings that were told are there
 not_more : (told : Option (List Opening)) (before more : List Opening) (one : Opening) → told ≡ Some before → told ≡ Some (before ++ one ∷ more) → ⊥
 not_more told before more one were are =
@@ -26,11 +33,17 @@ not_more told before more one were are =
     let len = ap length same in
     absurd (omega (arith, length-append before (one ∷ more)))
 
-pub untouched : (asked : Asked) (outside : OutsideState) → IsFaultless asked outside outside → ⊥
-untouched (decode plan log) outside p = not_more outside.openings p.before [] (visited (log_visit log p.opened p.back)) p.were p.are
-untouched (replay station script limit) outside p = not_more outside.openings p.before _ (visited (log_visit station p.opened p.back)) p.were p.are
-untouched (serve station during after limit) outside p = not_more outside.openings p.before _ (visited (log_visit station p.opened p.back)) p.were p.are
-untouched (migrate station journal) outside p = not_more outside.openings p.before _ (visited (log_visit station p.opened p.back)) p.were p.are
+-- where no memory was found, nothing was opened, which a command that opens something has as a fault
+pub lacks_done : (asked : Asked) (outside outside_now : OutsideState) (out out_now : SinkState) (result : Status) →
+    IsFaultless asked outside outside_now → (Rose out.faults out_now.faults → ⊥) → Lacks outside outside_now out out_now result → IsComplete asked result
+lacks_done asked outside outside_now out out_now result good no_write lacks = by asked (subst (λ (o : OutsideState). IsFaultless asked outside o) lacks.unchanged good)
+  where
+    by : (asked : Asked) → IsFaultless asked outside outside → IsComplete asked result
+    by (decode plan log) p = absurd (not_more outside.openings p.before [] (visited (log_visit log p.opened p.back)) p.were p.are)
+    by (replay station script limit) p = absurd (not_more outside.openings p.before _ (visited (log_visit station p.opened p.back)) p.were p.are)
+    by (serve station during after limit) p = absurd (not_more outside.openings p.before _ (visited (log_visit station p.opened p.back)) p.were p.are)
+    by (drill seed limit) p = inr (answered Memory result out out_now _ no_write lacks.written)
+    by (migrate station journal) p = absurd (not_more outside.openings p.before _ (visited (log_visit station p.opened p.back)) p.were p.are)
 
 script_readable : (limit : ℕ) (of : StationFields) → IsReadable (script_of limit of)
 script_readable limit of = record { one = says_one of; short = says_short of }
@@ -41,10 +54,11 @@ journal_readable of = record { one = one_line (settings_of of); short = short_li
 pub runs_done : (asked : Asked) (outside outside_now : OutsideState) (out out_now : SinkState) (result : Status) →
     IsFaultless asked outside outside_now → (Rose out.faults out_now.faults → ⊥) →
     Lacks outside outside_now out out_now result ⊎ Runs asked outside outside_now out out_now result → IsComplete asked result
-runs_done asked outside outside_now out out_now result good no_write (inl lacks) = absurd (untouched asked outside (subst (λ (o : OutsideState). IsFaultless asked outside o) lacks.unchanged good))
+runs_done asked outside outside_now out out_now result good no_write (inl lacks) = lacks_done asked outside outside_now out out_now result good no_write lacks
 runs_done (decode plan log) outside outside_now out out_now result good no_write (inr did) = log_done plan log outside outside_now out out_now result good no_write did
 runs_done (replay station script limit) outside outside_now out out_now result good no_write (inr did) = against_done Script (script_of limit) (script_readable limit) station script outside outside_now out out_now result good no_write did
 runs_done (serve station during after limit) outside outside_now out out_now result good no_write (inr did) = station_done station during after limit outside outside_now out out_now result good no_write did
+runs_done (drill seed limit) outside outside_now out out_now result good no_write (inr did) = inl (answered Done result out out_now _ no_write (did.same good))
 runs_done (migrate station journal) outside outside_now out out_now result good no_write (inr did) = against_done Journal journal_of journal_readable station journal outside outside_now out out_now result good no_write did
 
 -- nothing was opened, since no memory was found

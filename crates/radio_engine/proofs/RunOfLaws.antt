@@ -13,6 +13,7 @@ use Rattle.feed_workers.specs.Logs.{EndsLog, most_of_a_log}
 use Rattle.feed_workers.specs.declared.work.LogWork.{LogWork}
 use Rattle.feed_workers.specs.declared.work.PollWork.{PollWork}
 use Rattle.journal_entry.specs.declared.entry.Entry.{Entry}
+use Rattle.packet_auth.specs.Keys.{KeyFields}
 use Rattle.radio_receiver.specs.Histories.{History}
 use Rattle.receiver_rack.specs.Racks.{AreOf, silent}
 use Rattle.responder.specs.Serving.{EndsBy}
@@ -138,11 +139,11 @@ polled-length (server ∷ servers) (run ∷ runs) p = ap suc (polled-length serv
 -- ---- links
 
 -- a link's run, and what its work says of it
-record LinkIs (settings : SettingsFields) (journal : List Entry) (during after : ℕ) (a b : LinkState) (work : LinkWork) : Type 0 where
+record LinkIs (keys : List KeyFields) (settings : SettingsFields) (journal : List Entry) (during after : ℕ) (a b : LinkState) (work : LinkWork) : Type 0 where
   pub run : LinkRun
   pub opened_is : run.opened ≡ a
   pub back_is : run.back ≡ b
-  pub answered : IsAnswered settings journal during after run
+  pub answered : IsAnswered keys settings journal during after run
   pub end_is : run.end ≡ end_of work
   pub line_is : (number : ℕ) → line_of_work number work ≡ line_of_link number run
 
@@ -156,8 +157,8 @@ alone count first second n is none = is ∙ ap (sum_by count) (sym (append-nil f
 same_line : (number a b c x y z : ℕ) (e f : End) → a ≡ x → b ≡ y → c ≡ z → e ≡ f → link_line number a b c e ≡ link_line number x y z f
 same_line number a b c x y z e f p q r s = ap (λ n. link_line number n b c e) p ∙ ap (λ n. link_line number x n c e) q ∙ ap (λ n. link_line number x y n e) r ∙ ap (λ n. link_line number x y z n) s
 
-module _ (settings : SettingsFields) (journal : List Entry) (during after : ℕ) (a b : LinkState) (work : LinkWork) (h : ServesLink settings journal during after a b work) where
-  goes_on : work.first.end ≡ Count → LinkIs settings journal during after a b work
+module _ (keys : List KeyFields) (settings : SettingsFields) (journal : List Entry) (during after : ℕ) (a b : LinkState) (work : LinkWork) (h : ServesLink keys settings journal during after a b work) where
+  goes_on : work.first.end ≡ Count → LinkIs keys settings journal during after a b work
   goes_on is =
       let told = h.second_phase.served is in
       let served : Served = told.0 in
@@ -186,7 +187,7 @@ module _ (settings : SettingsFields) (journal : List Entry) (during after : ℕ)
             (ap (end_by work.first.end) told.1);
       }
 
-  ends_first : work.first.end ≢ Count → LinkIs settings journal during after a b work
+  ends_first : work.first.end ≢ Count → LinkIs keys settings journal during after a b work
   ends_first not =
       let none = h.second_phase.not not in
       let no_second : h.second ≡ [] = none.2 in
@@ -216,26 +217,26 @@ module _ (settings : SettingsFields) (journal : List Entry) (during after : ℕ)
             refl;
       }
 
-  link_is : LinkIs settings journal during after a b work
+  link_is : LinkIs keys settings journal during after a b work
   link_is = by work.first.end refl
     where
-      by : (e : End) → work.first.end ≡ e → LinkIs settings journal during after a b work
+      by : (e : End) → work.first.end ≡ e → LinkIs keys settings journal during after a b work
       by Count is = goes_on is
       by LinkEnd is = ends_first (λ same. let wrong : LinkEnd ≡ Count = sym is ∙ same in cc)
       by LinkFault is = ends_first (λ same. let wrong : LinkFault ≡ Count = sym is ∙ same in cc)
 
-module _ {T : Type 0} (state : T → LinkState) (settings : SettingsFields) (journal : List Entry) (during after : ℕ) where
+module _ {T : Type 0} (state : T → LinkState) (keys : List KeyFields) (settings : SettingsFields) (journal : List Entry) (during after : ℕ) where
   pub record LinksRun (place : ℕ) (links now : List T) (works : List LinkWork) : Type 0 where
     pub runs : List LinkRun
     pub each : length runs ≡ length links
-    pub answered : All (IsAnswered settings journal during after) runs
+    pub answered : All (IsAnswered keys settings journal during after) runs
     pub opened_are : map (λ link. OfLink link.opened) runs ≡ link_states state links
     pub back_are : map (λ link. OfLink link.back) runs ≡ link_states state now
     pub ends_are : map (λ link. link.end) runs ≡ map end_of works
     pub lines_are : each_text line_of_work place works ≡ each_text line_of_link place runs
 
   abbrev pub ServeEach : List T → List T → List LinkWork → Type 0
-  ServeEach links now works = (i : ℕ) (a b : T) (work : LinkWork) → i < length links → ServesLink settings journal during after (state (slice_index_or links i a)) (state (slice_index_or now i b)) (slice_index_or works i work)
+  ServeEach links now works = (i : ℕ) (a b : T) (work : LinkWork) → i < length links → ServesLink keys settings journal during after (state (slice_index_or links i a)) (state (slice_index_or now i b)) (slice_index_or works i work)
 
   pub links_run : (place : ℕ) (links now : List T) (works : List LinkWork) → length now ≡ length links → length works ≡ length links → ServeEach links now works → LinksRun place links now works
   links_run place [] [] [] m k at = record { runs = []; each = refl; answered = All-nil _; opened_are = refl; back_are = refl; ends_are = refl; lines_are = refl }
@@ -244,12 +245,12 @@ module _ {T : Type 0} (state : T → LinkState) (settings : SettingsFields) (jou
   links_run place (a ∷ links) [] works m k at = absurd (omega (arith, m))
   links_run place (a ∷ links) (b ∷ now) [] m k at = absurd (omega (arith, k))
   links_run place (a ∷ links) (b ∷ now) (work ∷ works) m k at =
-      let one = link_is settings journal during after (state a) (state b) work (at 0 a b work (omega arith)) in
+      let one = link_is keys settings journal during after (state a) (state b) work (at 0 a b work (omega arith)) in
       let rest = links_run (suc place) links now works (omega (arith, m)) (omega (arith, k)) (λ i c d w lt. at (suc i) c d w (omega (arith, lt))) in
       record {
         runs = one.run ∷ rest.runs;
         each = ap suc rest.each;
-        answered = All-cons (IsAnswered settings journal during after) one.run rest.runs one.answered rest.answered;
+        answered = All-cons (IsAnswered keys settings journal during after) one.run rest.runs one.answered rest.answered;
         opened_are = ap (λ s. OfLink s ∷ map (λ (link : LinkRun). OfLink link.opened) rest.runs) one.opened_is ∙ ap (λ l. OfLink (state a) ∷ l) rest.opened_are;
         back_are = ap (λ s. OfLink s ∷ map (λ (link : LinkRun). OfLink link.back) rest.runs) one.back_is ∙ ap (λ l. OfLink (state b) ∷ l) rest.back_are;
         ends_are = ap (λ e. e ∷ map (λ (link : LinkRun). link.end) rest.runs) one.end_is ∙ ap (λ l. end_of work ∷ l) rest.ends_are;

@@ -30,7 +30,7 @@ use Rattle.station_gear.specs.declared.gear.Missing.{Missing}
 use Rattle.station_gear.specs.declared.gear.Missing.TheVariants as missing
 use Rattle.station_gear.proofs.GearLaws.{all_visited, gear_sizes, same_numbers, visited_before}
 use Rattle.system_fold.specs.Page.{page_of}
-use Rattle.radio_engine.specs.Crewing.{CannotServe, FinishesDone, GivesServed, GivesUnused, HasEach, IsLeftOf, ServesAll, any_full, causes_left, end_of, TriesServe, line_of_work, lines_left, subject_of}
+use Rattle.radio_engine.specs.Crewing.{CannotServe, FinishesDone, GivesServed, GivesUnused, HasEach, IsLeftOf, LeavesAll, ServesAll, TriesServe, any_full, causes_left, end_of, line_of_work, lines_left, subject_of}
 use Rattle.radio_engine.specs.Endings.{status_of, status_line}
 use Rattle.radio_engine.specs.Headline.{HasDueEntries, IsTold, LinkRun, LogRun, PollRun, StationRun, causes, dues, each_cause, each_text, full_cause, link_cause, log_cause, poll_cause, radio_dues, served_text, server_dues}
 use Rattle.radio_engine.specs.Keeping.{OpensStation}
@@ -188,30 +188,30 @@ three a b c x y z p q r = ap (λ l. l ++ (b ++ c)) p ∙ ap (λ l. x ++ (l ++ c)
 same_size : {X : Type 0} (f : X → ℕ) (xs ys : List X) → map f xs ≡ map f ys → length xs ≡ length ys
 same_size f xs ys same = sym (length-map xs f) ∙ ap (λ (l : List ℕ). length l) same ∙ length-map ys f
 
-module _ {L T : Type 0} (log_state : L → SourceState) (log_opening : L → ℕ) (state : T → LinkState) (opening : T → ℕ) (of : StationFields) (orders : Orders) (before mid now : OutsideState) (gear : Gear L T)
+module _ {L T : Type 0} (log_state : L → SourceState) (log_opening : L → ℕ) (state : T → LinkState) (opening : T → ℕ) (of : StationFields) (orders : Orders) (gear : Gear L T)
     (logs_open : length gear.logs.items ≡ length of.radios) (servers_open : length gear.servers.items ≡ length of.servers) (links_open : length gear.links.items ≡ length of.links)
-    (done : Done) (g : GivesServed log_state log_opening state opening of orders gear mid now done) where
-  abbrev journal : List Entry
+    (done : Done) (last : Gear L T) (left : LeavesAll log_state log_opening state opening of orders gear last done.journal done.radios.items done.servers.items done.links.items) where
+  abbrev pub journal : List Entry
   journal = done.journal.entries
 
-  radios_run : LogsRun log_state orders.limit journal of.radios 0 gear.logs.items g.now.logs.items done.radios.items
+  pub radios_run : LogsRun log_state orders.limit journal of.radios 0 gear.logs.items last.logs.items done.radios.items
   radios_run =
-      let r = g.left.radios_served in
-      logs_run log_state orders.limit journal of.radios 0 gear.logs.items g.now.logs.items done.radios.items logs_open (same_size log_opening _ _ r.openings) r.count
+      let r = left.radios_served in
+      logs_run log_state orders.limit journal of.radios 0 gear.logs.items last.logs.items done.radios.items logs_open (same_size log_opening _ _ r.openings) r.count
       (λ i radio a b work lt. let same : i ≡ 0 + i = omega arith in
-      subst (λ f. HearsRadio (slice_index_or of.radios i radio) f orders.limit journal (log_state (slice_index_or gear.logs.items i a)) (log_state (slice_index_or g.now.logs.items i b)) (slice_index_or done.radios.items i work)) same (r.at i radio a b work lt))
+      subst (λ f. HearsRadio (slice_index_or of.radios i radio) f orders.limit journal (log_state (slice_index_or gear.logs.items i a)) (log_state (slice_index_or last.logs.items i b)) (slice_index_or done.radios.items i work)) same (r.at i radio a b work lt))
 
-  servers_run : PollsRun state orders.limit journal of.servers (length of.radios) gear.servers.items g.now.servers.items done.servers.items
+  pub servers_run : PollsRun state orders.limit journal of.servers (length of.radios) gear.servers.items last.servers.items done.servers.items
   servers_run =
-      let r = g.left.servers_served in
-      polls_run state orders.limit journal of.servers (length of.radios) gear.servers.items g.now.servers.items done.servers.items servers_open (same_size opening _ _ r.openings) r.count r.at
+      let r = left.servers_served in
+      polls_run state orders.limit journal of.servers (length of.radios) gear.servers.items last.servers.items done.servers.items servers_open (same_size opening _ _ r.openings) r.count r.at
 
-  clients_run : LinksRun state (settings_of of) journal orders.budget.during orders.budget.after 0 gear.links.items g.now.links.items done.links.items
+  pub clients_run : LinksRun state of.keys (settings_of of) journal orders.budget.during orders.budget.after 0 gear.links.items last.links.items done.links.items
   clients_run =
-      let r = g.left.links_served in
-      links_run state (settings_of of) journal orders.budget.during orders.budget.after 0 gear.links.items g.now.links.items done.links.items (same_size opening _ _ r.openings) r.count r.at
+      let r = left.links_served in
+      links_run state of.keys (settings_of of) journal orders.budget.during orders.budget.after 0 gear.links.items last.links.items done.links.items (same_size opening _ _ r.openings) r.count r.at
 
-  abbrev run : StationRun
+  abbrev pub run : StationRun
   run = record { radios = radios_run.runs; servers = servers_run.runs; links = clients_run.runs; journal = journal }
 
   abbrev fulls : List Bool
@@ -239,49 +239,50 @@ module _ {L T : Type 0} (log_state : L → SourceState) (log_opening : L → ℕ
   )
 
   counted : length journal ≡ sum_by (λ feed. length (of_feed feed journal)) (range_with_len 0 (length (dues of run)))
-  counted = feeds-counted (settings_of of) journal g.left.of_station.lawful ∙ ap (λ n. sum_by (λ feed. length (of_feed feed journal)) (range_with_len 0 n)) sources
+  counted = feeds-counted (settings_of of) journal left.of_station.lawful ∙ ap (λ n. sum_by (λ feed. length (of_feed feed journal)) (range_with_len 0 n)) sources
 
-  entries : HasDueEntries of orders.limit run
+  pub entries : HasDueEntries of orders.limit run
   entries = record {
     whole = λ le feed due at. let same : feed ≡ 0 + feed = omega arith in
-        ap (λ n. of_feed n journal) same ∙ wholes orders.limit journal 0 fulls (dues of run) have_due (none_lost orders.limit journal fulls (dues of run) have_due g.left.of_station.within counted le) feed due at;
+        ap (λ n. of_feed n journal) same ∙ wholes orders.limit journal 0 fulls (dues of run) have_due (none_lost orders.limit journal fulls (dues of run) have_due left.of_station.within counted le) feed due at;
     beginning = λ feed due at. let same : 0 + feed ≡ feed = omega arith in
         subst (λ n. IsPrefix (of_feed n journal) due) same (beginnings orders.limit journal 0 fulls (dues of run) have_due feed due at);
-    count = is_counted orders.limit journal fulls (dues of run) have_due g.left.of_station.within counted;
-    lawful = g.left.of_station.lawful;
+    count = is_counted orders.limit journal fulls (dues of run) have_due left.of_station.within counted;
+    lawful = left.of_station.lawful;
   }
 
   any_is : any_full done.radios.items done.servers.items ≡ list_any is_so fulls
   any_is = sym (any_of_two (λ (w : LogWork). w.full) (λ (w : PollWork). w.full) done.radios.items done.servers.items)
 
-  causes_same : causes_left orders.limit done ≡ causes of orders.limit run
+  pub causes_same : causes_left orders.limit done ≡ causes of orders.limit run
   causes_same =
       let radios = same_causes log_cause (λ (w : LogWork). w.end) (λ (log : LogRun). log.end) 0 done.radios.items radios_run.runs (sym radios_run.ends_are) in
       let servers = same_causes poll_cause (λ (w : PollWork). w.end) (λ (poll : PollRun). poll.end) (length of.radios) done.servers.items servers_run.runs (sym servers_run.ends_are) in
       let clients = same_causes link_cause end_of (λ (link : LinkRun). link.end) 0 done.links.items clients_run.runs (sym clients_run.ends_are) in
-      let first : length done.radios.items ≡ length of.radios = g.left.radios_served.count ∙ logs_open in
-      let full = ap (λ b. option_to_list (full_cause orders.limit b)) (any_is ∙ sym (is_lost orders.limit journal fulls (dues of run) have_due g.left.of_station.within counted)) in
+      let first : length done.radios.items ≡ length of.radios = left.radios_served.count ∙ logs_open in
+      let full = ap (λ b. option_to_list (full_cause orders.limit b)) (any_is ∙ sym (is_lost orders.limit journal fulls (dues of run) have_due left.of_station.within counted)) in
       three _ _ _ _ _ _ radios (ap (λ n. each_cause (λ feed (w : PollWork). poll_cause feed w.end) n done.servers.items) first ∙ servers)
       (ap (λ l. l ++ option_to_list (full_cause orders.limit (any_full done.radios.items done.servers.items))) clients ∙ ap (λ l. each_cause (λ n (link : LinkRun). link_cause n link.end) 0 clients_run.runs ++ l) full)
 
-  each_left : HasEach of done
+  pub each_left : HasEach of done
   each_left = record {
-    of_radios = g.left.radios_served.count ∙ logs_open;
-    of_servers = g.left.servers_served.count ∙ servers_open;
-    of_links = g.left.links_served.count ∙ links_open;
+    of_radios = left.radios_served.count ∙ logs_open;
+    of_servers = left.servers_served.count ∙ servers_open;
+    of_links = left.links_served.count ∙ links_open;
   }
 
-  pub serves_all : OpensAll (wanted_by of) (numbers_of log_opening opening gear) (states_of log_state state gear) before mid → ServesAll of orders before now done
-  serves_all opens =
+  pub serves_all : (before mid now : OutsideState) → GivesAllBack mid now (numbers_of log_opening opening last) (states_of log_state state last) →
+      OpensAll (wanted_by of) (numbers_of log_opening opening gear) (states_of log_state state gear) before mid → ServesAll of orders before now done
+  serves_all before mid now gives opens =
       let held = opens.openings in
-      let states_now = states_of log_state state g.now in
-      let same = same_numbers _ _ _ _ _ _ g.left.radios_served.openings g.left.servers_served.openings g.left.links_served.openings in
-      let sizes = gear_sizes log_opening opening log_state state g.now in
+      let states_now = states_of log_state state last in
+      let same = same_numbers _ _ _ _ _ _ left.radios_served.openings left.servers_served.openings left.links_served.openings in
+      let sizes = gear_sizes log_opening opening log_state state last in
       let count : length states_now ≡ length held.outs = sizes ∙ ap (λ (l : List ℕ). length l) same ∙ held.count in
       record {
         run = run;
         visits = returned held.outs states_now;
-        opens = all_visited (wanted_by of) _ _ _ before mid None held same states_now now sizes g.gives;
+        opens = all_visited (wanted_by of) _ _ _ before mid None held same states_now now sizes gives;
         opened_are = returned-opened held.outs states_now count ∙ sym held.told ∙ sym (three _ _ _ _ _ _ radios_run.opened_are servers_run.opened_are clients_run.opened_are);
         back_are = returned-back held.outs states_now count ∙ sym (three _ _ _ _ _ _ radios_run.back_are servers_run.back_are clients_run.back_are);
         entries = entries;
@@ -289,7 +290,7 @@ module _ {L T : Type 0} (log_state : L → SourceState) (log_opening : L → ℕ
         polls = record { each = servers_run.polled };
         clients = record { each = clients_run.each ∙ links_open; served = clients_run.answered };
         left = record {
-          settings_are = g.left.of_station.settings_are;
+          settings_are = left.of_station.settings_are;
           entries_are = refl;
           causes_are = causes_same;
           lines_are = clients_run.lines_are;
@@ -304,7 +305,7 @@ module _ {L T : Type 0} (log_state : L → SourceState) (log_opening : L → ℕ
   pub tries_serve : (result : Result Done Ending) →
       MatchResult result (λ done. GivesServed log_state log_opening state opening of orders gear mid now done) (λ due. GivesUnused log_state log_opening state opening gear mid now due) → TriesServe of orders before now result
   tries_serve (Ok done) g =
-      serves_all log_state log_opening state opening of orders before mid now gear (sym of_logs ∙ whole.logs) (sym of_servers ∙ whole.servers) (sym of_links ∙ whole.links) done g opens
+      serves_all log_state log_opening state opening of orders gear (sym of_logs ∙ whole.logs) (sym of_servers ∙ whole.servers) (sym of_links ∙ whole.links) done g.now g.left before mid now g.gives opens
   tries_serve (Err due) g = lacks_memory log_state log_opening state opening of before mid now gear of_logs of_servers of_links due opens g
 
 -- ---- the station, and then all of it

@@ -5,8 +5,8 @@ use Rattle.std.proofs.lemmas.Bool.{true≢false}
 use Rattle.std.proofs.lemmas.Bool.Decides.{nat_tests}
 use Rattle.feed_link.specs.Told.{SinkState}
 use Rattle.radio_engine.specs.Taking.{Holds, Says, TakesAll, MeetsBad, Stops}
-use Rattle.radio_engine.specs.Writing.{WritesAll, WritesFront}
-use Rattle.radio_engine.proofs.WritingLaws.{writes_more}
+use Rattle.sink_text.specs.Writing.{WritesAll, WritesFront}
+use Rattle.sink_text.proofs.WritingLaws.{writes_more}
 
 -- of all these bytes this rest is still to be taken; the text of those before it is written
 pub record IsTakenSoFar (holds : Holds) (start out : SinkState) (all rest : List ℕ) : Type 0 where

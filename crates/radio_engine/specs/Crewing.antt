@@ -105,7 +105,7 @@ pub record LeavesAll {L T : Type 0} (log_state : L → SourceState) (log_opening
   pub of_station : IsJournalOf (settings_of of) orders.limit journal
   pub radios_served : RadiosServed log_state log_opening of.radios orders.limit journal.entries gear.logs.items now.logs.items radios
   pub servers_served : ServersServed state opening of.servers (length of.radios) orders.limit journal.entries gear.servers.items now.servers.items servers
-  pub links_served : LinksServed state opening (settings_of of) journal.entries orders.budget.during orders.budget.after gear.links.items now.links.items links
+  pub links_served : LinksServed state opening of.keys (settings_of of) journal.entries orders.budget.during orders.budget.after gear.links.items now.links.items links
 
 abbrev pub EndsAll : {L T : Type 0} → (L → SourceState) → (L → ℕ) → (T → LinkState) → (T → ℕ) → StationFields → Orders → Gear L T → Ended L T → Type 0
 EndsAll log_state log_opening state opening of orders gear ended =

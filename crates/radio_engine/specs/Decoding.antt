@@ -11,7 +11,8 @@ use Rattle.radio_engine.specs.Endings.{status_of, status_line, ending_at}
 use Rattle.radio_engine.specs.Opening.{CannotOpen}
 use Rattle.radio_engine.specs.Reading.{ReadsLines}
 use Rattle.radio_engine.specs.Text.{log_text}
-use Rattle.radio_engine.specs.Writing.{WritesAll, WritesFront, Answers}
+use Rattle.sink_text.specs.Writing.{WritesAll, WritesFront}
+use Rattle.radio_engine.specs.Writing.{Answers}
 use Rattle.radio_engine.specs.declared.ending.status.Status.{Status}
 use Rattle.radio_engine.specs.declared.ending.status.Status.TheVariants.{WriteFault}
 use Rattle.radio_engine.specs.declared.ending.subject.Subject.TheVariants.{Feed}

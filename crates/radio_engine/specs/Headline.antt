@@ -1,6 +1,7 @@
 -- The headline: what a station that was served has done. Whatever way its threads interleave, its journal holds, for each feed in order,
 -- exactly the entries that its code plan or polling rules give for its own input; and each datagram sent on a serving link is the reply
--- (RFC 5905) to one received there, made from the page of a beginning of that journal, never a shorter one than that link used before.
+-- (RFC 5905) to one received there, made from the page of a beginning of that journal, never a shorter one than that link used before, and
+-- authentic exactly where the one received is.
 -- Six records say it, and `IsServed` at the end has all of them.
 use Rattle.std.specs.Prelude.{◌≡◌, ◌≢◌, ◌⊎◌, ℕ, suc, ◌*◌, ◌<◌, ◌≤◌, min, nat_lt, Bool, Option, None, Some, List, [], ◌∷◌, ◌++◌, All, length, slice_get, codes, decimal, if◌then◌else◌}
 use Rattle.std.specs.List.{flat_map, sum_by}
@@ -17,6 +18,7 @@ use Rattle.feed_workers.specs.declared.work.PollEnd.TheVariants as poll
 use Rattle.journal_entry.specs.Texts.{spaced}
 use Rattle.journal_entry.specs.declared.entry.Entry.{Entry}
 use Rattle.log_decoder.specs.Due.{due_log}
+use Rattle.packet_auth.specs.Keys.{KeyFields}
 use Rattle.page_cell.specs.Claims.{of_feed}
 use Rattle.responder.specs.Serving.{EndsBy}
 use Rattle.responder.specs.Turns.{Turn, events_of, readings_of, IsTurn, GoesOn, answered_of, dropped_of, torn_of, Rises}
@@ -122,12 +124,12 @@ EndsPhases during after faults faults_now first second end =
     ⊎ ((end ≢ Count) × (second ≡ []) × EndsBy during faults faults_now first end)
 
 -- The events of a link are those of its turns: each reply goes to the sender of the datagram of its turn, and is its answer from the page
--- that was read in that turn. Each page is that of a beginning of the journal, and these beginnings never shorten; in the second phase each
+-- that was read in that turn, authentic exactly where that datagram is, and by the key that it names. Each page is that of a beginning of the journal, and these beginnings never shorten; in the second phase each
 -- is the whole journal, and no datagram is left for want of a page. Of those that were left so in the first phase, four times as many are
 -- no more than there are entries
-pub record IsAnswered (settings : SettingsFields) (journal : List Entry) (during after : ℕ) (link : LinkRun) : Type 0 where
+pub record IsAnswered (keys : List KeyFields) (settings : SettingsFields) (journal : List Entry) (during after : ℕ) (link : LinkRun) : Type 0 where
   pub told : Adds link.opened.events link.back.events (flat_map events_of (link.first ++ link.second))
-  pub replies : All IsTurn (link.first ++ link.second)
+  pub replies : All (IsTurn keys) (link.first ++ link.second)
   pub pages : All (IsReadOf settings journal) (flat_map readings_of (link.first ++ link.second))
   pub last : ℕ
   pub rising : Rises 0 (flat_map readings_of (link.first ++ link.second)) last
@@ -138,7 +140,7 @@ pub record IsAnswered (settings : SettingsFields) (journal : List Entry) (during
 
 pub record AnswersLinks (of : StationFields) (during after : ℕ) (run : StationRun) : Type 0 where
   pub each : length run.links ≡ length of.links
-  pub served : All (IsAnswered (settings_of of) run.journal during after) run.links
+  pub served : All (IsAnswered of.keys (settings_of of) run.journal during after) run.links
 
 -- ---- 5. All of it is written
 

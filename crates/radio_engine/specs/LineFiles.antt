@@ -16,7 +16,8 @@ use Rattle.radio_engine.specs.Opening.{CannotOpen}
 use Rattle.radio_engine.specs.Reading.{ReadsLines}
 use Rattle.radio_engine.specs.StationFile.{IsStation, HasStation, EndsAtStation}
 use Rattle.radio_engine.specs.Text.{page_text}
-use Rattle.radio_engine.specs.Writing.{WritesAll, WritesFront, Answers}
+use Rattle.sink_text.specs.Writing.{WritesAll, WritesFront}
+use Rattle.radio_engine.specs.Writing.{Answers}
 use Rattle.radio_engine.specs.declared.ending.Ending.{Ending}
 use Rattle.radio_engine.specs.declared.ending.Ending.TheVariants as ending
 use Rattle.radio_engine.specs.declared.ending.status.Status.{Status}

@@ -1,11 +1,12 @@
 -- What the program does: each command that words may ask for, what becomes of it, and when nothing has a fault.
-use Rattle.std.specs.Prelude.{◌≡◌, ℕ, ◌⊎◌, List}
+use Rattle.std.specs.Prelude.{◌≡◌, ℕ, ◌≤◌, ◌⊎◌, List}
 use Rattle.command_words.specs.Commands.{Asked, AskFor}
-use Rattle.command_words.specs.Commands.Asked.{decode, migrate, replay, serve}
+use Rattle.command_words.specs.Commands.Asked.{decode, drill, migrate, replay, serve}
 use Rattle.feed_link.specs.Faults.{Rose}
 use Rattle.feed_link.specs.Told.{SinkState}
 use Rattle.feed_link.specs.Openings.{OutsideState}
 use Rattle.radio_engine.specs.Decoding.{RunsDecode, HasGoodLog}
+use Rattle.radio_engine.specs.Drilling.{Drills}
 use Rattle.radio_engine.specs.Endings.{status_of, status_line}
 use Rattle.radio_engine.specs.Migrating.{RunsMigrate, HasGoodJournal}
 use Rattle.radio_engine.specs.Replaying.{RunsReplay, HasGoodScript}
@@ -33,20 +34,24 @@ Lacks = EndsUnopened NoMemory
 abbrev pub Runs : Asked → OutsideState → OutsideState → SinkState → SinkState → Status → Type 0
 Runs (decode plan log) outside outside_now out out_now result = RunsDecode plan log outside outside_now out out_now result
 Runs (replay station script limit) outside outside_now out out_now result = RunsReplay station script limit outside outside_now out out_now result
+Runs (drill seed limit) outside outside_now out out_now result = Drills seed limit outside outside_now out out_now result
 Runs (migrate station journal) outside outside_now out out_now result = RunsMigrate station journal outside outside_now out out_now result
 Runs (serve station during after limit) outside outside_now out out_now result = RunsServe station during after limit outside outside_now out out_now result
 
--- all that a command opens was opened and given back, told its bytes, and has no fault
+-- all that a command opens was opened and given back, told its bytes, and has no fault. A drill opens nothing; its journal has room for what
+-- is due
 abbrev pub IsFaultless : Asked → OutsideState → OutsideState → Type 0
 IsFaultless (decode plan log) outside outside_now = HasGoodLog log outside outside_now
 IsFaultless (replay station script limit) outside outside_now = HasGoodScript station script limit outside outside_now
+IsFaultless (drill seed limit) outside outside_now = 4320 ≤ limit
 IsFaultless (migrate station journal) outside outside_now = HasGoodJournal station journal outside outside_now
 IsFaultless (serve station during after limit) outside outside_now = HasGoodStation station limit outside outside_now
 
--- then all is done. A command to serve takes memory once all is open, and may find none then
+-- then all is done. A command to serve takes memory once all is open, and may find none then; a drill may find none at all
 abbrev pub IsComplete : Asked → Status → Type 0
 IsComplete (decode plan log) result = result ≡ Done
 IsComplete (replay station script limit) result = result ≡ Done
+IsComplete (drill seed limit) result = (result ≡ Done) ⊎ (result ≡ Memory)
 IsComplete (migrate station journal) result = result ≡ Done
 IsComplete (serve station during after limit) result = (result ≡ Done) ⊎ (result ≡ Memory)
 

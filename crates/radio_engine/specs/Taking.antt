@@ -6,7 +6,7 @@ use Rattle.file_reader.specs.declared.reader.FileEnd.TheVariants.{Whole, Fault, 
 use Rattle.file_reader.specs.Ends.{HasReadFront}
 use Rattle.journal_entry.specs.declared.writer.TheConstants.{LINE_ROOM}
 use Rattle.radio_engine.specs.Reading.{ReadsLines}
-use Rattle.radio_engine.specs.Writing.{WritesAll, WritesFront}
+use Rattle.sink_text.specs.Writing.{WritesAll, WritesFront}
 use Rattle.radio_engine.specs.declared.reading.Gives.{Gives}
 use Rattle.radio_engine.specs.declared.reading.Gives.TheVariants.{Nothing, Text, Bad}
 use Rattle.radio_engine.specs.declared.reading.Reach.{Reach}

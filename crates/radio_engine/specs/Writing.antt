@@ -1,21 +1,9 @@
--- What it is to write a text, and to end with it.
-use Rattle.std.specs.Prelude.{◌≡◌, ℕ, ◌⊎◌, List, ◌++◌}
-use Rattle.feed_link.specs.Faults.{RoseByOne}
-use Rattle.feed_link.specs.Told.{SinkState, Adds}
+-- What it is to end with a text.
+use Rattle.std.specs.Prelude.{◌≡◌, ℕ, ◌⊎◌, List}
+use Rattle.feed_link.specs.Told.{SinkState}
 use Rattle.radio_engine.specs.declared.ending.status.Status.{Status}
 use Rattle.radio_engine.specs.declared.ending.status.Status.TheVariants.{WriteFault}
-
--- a text is a front of another
-abbrev pub IsFrontOf : List ℕ → List ℕ → Type 0
-IsFrontOf front whole = (rest : List ℕ) × (whole ≡ front ++ rest)
-
--- a text was written whole, and no write failed
-abbrev pub WritesAll : SinkState → SinkState → List ℕ → Type 0
-WritesAll out out_now text = Adds out.held out_now.held text × (out_now.faults ≡ out.faults)
-
--- one write of this text failed: a front of it is held, and the sink's count rose by one
-abbrev pub WritesFront : SinkState → SinkState → List ℕ → Type 0
-WritesFront out out_now text = (front : List ℕ) × IsFrontOf front text × Adds out.held out_now.held front × RoseByOne out.faults out_now.faults
+use Rattle.sink_text.specs.Writing.{WritesAll, WritesFront}
 
 -- the text was written whole, and the answer is this status; or a write failed, and that is the answer
 abbrev pub Answers : Status → Status → SinkState → SinkState → List ℕ → Type 0

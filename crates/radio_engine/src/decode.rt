@@ -1,7 +1,5 @@
 //! `decode`: a log is decoded, and a line is written for each entry that it is due.
-ghost use Rattle.std.specs.Prelude.{◌≡◌, ◌≤◌, take};
-ghost use Rattle.journal_entry.specs.declared.writer.TheConstants.{LINE_ROOM};
-ghost use Rattle.log_decoder.specs.Due.{entry_line};
+ghost use Rattle.std.specs.Prelude.{◌≡◌};
 ghost use Rattle.radio_engine.specs.Decoding.{Decodes, RunsDecode};
 ghost use Rattle.radio_engine.specs.LogTaking.{IsFound};
 ghost use Rattle.radio_receiver.specs.Histories.{blank_of};
@@ -12,10 +10,11 @@ use crate::ending::Ending;
 use crate::ending::status::Status;
 use crate::ending::subject::Subject;
 use crate::ending::writing::finish;
+use crate::lines::write_entry_line;
 use crate::reading::{Gives, Line, Reach, Taker, Took, ending_at, read_lines};
 use feed_link::{Failed, Outside, Sink, Source};
 use file_reader::FileEnd;
-use journal_entry::{Entry, LINE_ROOM, write_entry};
+use journal_entry::Entry;
 use log_decoder::LogDecoder;
 use pulse_log::BadLine;
 use radio_receiver::{DcfReceiver, MsfReceiver, Receiver, WwvbReceiver};
@@ -23,16 +22,6 @@ use tick_units::Plan;
 
 // The most bytes of a log.
 const LIMIT: usize = 1 << 30;
-
-// Writes the line of an entry at the front of `line`. The answer is its number of bytes.
-fn write_entry_line(entry: &Entry, line: &mut Line) -> usize
-    ensures text { take result line.new ≡ entry_line entry.now }
-    ensures within { result ≤ LINE_ROOM }
-{
-    let end = write_entry(entry, line);
-    line[end] = b'\n';
-    end + 1
-}
 
 // What a decoder found: the line of an entry, which is then the front of `line`, nothing, or a bad line.
 fn give_found(found: Result<Option<Entry>, BadLine>, line: &mut Line) -> Gives

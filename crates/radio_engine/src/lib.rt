@@ -2,7 +2,9 @@
 #![tactic(auto)]
 
 mod decode;
+mod drill;
 mod ending;
+mod lines;
 mod migrate;
 mod reading;
 mod replay;
@@ -14,6 +16,12 @@ pub use ending::status::Status;
 pub use run::{end_without_memory, run_station};
 
 #[cfg(test)]
+mod broken_tests;
+#[cfg(test)]
+mod counting_tests;
+#[cfg(test)]
+mod drill_tests;
+#[cfg(test)]
 mod fault_tests;
 #[cfg(test)]
 mod migrate_tests;
@@ -21,5 +29,7 @@ mod migrate_tests;
 mod replay_tests;
 #[cfg(test)]
 mod serve_tests;
+#[cfg(test)]
+mod test_station;
 #[cfg(test)]
 mod tests;

@@ -7,10 +7,10 @@ mod taking;
 
 use crate::ending::Ending;
 use crate::ending::subject::Subject;
-use crate::ending::writing::write_all;
 use feed_link::{Failed, Sink};
 use file_reader::FileEnd;
 use journal_entry::LINE_ROOM;
+use sink_text::write_all;
 pub use taking::{Taker, read_lines};
 
 // A line that is written, in its room.

@@ -1,6 +1,7 @@
 //! Tests of `replay` over the fakes: worked scripts, and each fault on their way.
 
 use crate::Status;
+use crate::test_station::EMPTY_PAGE;
 use crate::tests::{outside_of, run_over};
 use feed_link::{FakeOpen, MemorySink, MemorySource, NamedLog};
 use std::alloc::{AllocError, Global};
@@ -346,8 +347,6 @@ fn a_swap_loses_its_half_frame(rt: HostRuntime) -> Result<(), Fail> {
     assert_eq!(rt; status, Status::Done);
     Ok(())
 }
-
-pub const EMPTY_PAGE: &str = "page 0 0 0 494e4954 0 0 0 0 1048576 0000000000000000 0 0\n";
 
 #[test]
 fn a_script_ends_at_its_first_bad_line(rt: HostRuntime) -> Result<(), Fail> {

@@ -9,6 +9,7 @@ ghost use Rattle.radio_engine.specs.declared.ending.Ending.TheVariants.{NoMemory
 ghost use Rattle.receiver_rack.specs.Racks.{IsRack};
 
 use crate::decode::open_and_decode;
+use crate::drill::run_drill;
 use crate::ending::Ending;
 use crate::ending::status::Status;
 use crate::ending::writing::finish;
@@ -36,7 +37,8 @@ pub fn end_without_memory<K: Sink>(out: &mut K) -> Status
 /// moves its journal over line by line, and writes the page of the entries and the status line behind it. `serve` reads its station,
 /// opens the logs and links of it in order, runs the workers of its feeds beside the responders of its serving links, and then these
 /// alone; it gives all back, the outside's gate too, and writes the journal, a line for each serving link, the page of the journal and the
-/// status line.
+/// status line. `drill` makes up a day of three radios in memory, runs the workers of these radios with the outside's gate, and writes how
+/// often each was answered in which way, the page of the journal and the status line; it opens nothing.
 ///
 /// The rack holds at least four blank receivers of each plan. Those of a plan are used in the rack's order.
 pub fn run_station<R: Threads + Wait + Sync, O: Outside, K: Sink>(
@@ -75,6 +77,9 @@ pub fn run_station<R: Threads + Wait + Sync, O: Outside, K: Sink>(
                 limit,
             },
         ) => run_replay(alloc, station, script, limit, rack, outside, out),
+        Ok(Command::Drill { seed, limit }) => {
+            run_drill(rt, alloc, seed, limit, rack, outside, out)
+        }
         Ok(Command::Migrate { station, journal }) => {
             run_migrate(alloc, station, journal, outside, out)
         }

@@ -10,7 +10,7 @@ ghost use Rattle.station_crew.specs.Served.{AreBlank};
 ghost use Rattle.station_gear.specs.Gears.{IsEmptyFor, numbers_of};
 ghost use Rattle.station_gear.specs.Opens.{IsWhole};
 
-mod cause;
+pub mod cause;
 mod text;
 
 use crate::ending::Ending;
@@ -19,7 +19,7 @@ use crate::ending::subject::Subject;
 use crate::ending::writing::finish;
 use crate::station_file::obstacle::finish_at;
 use crate::station_file::{self, judge, open_station};
-use feed_link::{Outside, Sink};
+use feed_link::{Link, Outside, Sink, Source};
 use feed_workers::{LogWork, PollWork};
 use radio_receiver::{BoxedReceiver, Receiver};
 use receiver_rack::fit_radios;
@@ -48,11 +48,11 @@ pub struct Done {
     pub links: Vec<LinkWork>,
 }
 
-// What a station needs before anything is opened: the receivers of its radios, and room for its logs and links.
+// What a station is served with: the receivers of its radios, and its logs and links or room for them.
 #[derive(Drop)]
-struct Kit<L: Drop, T: Drop> {
-    receivers: Vec<BoxedReceiver>,
-    gear: Gear<L, T>,
+pub struct Kit<L: Drop, T: Drop> {
+    pub receivers: Vec<BoxedReceiver>,
+    pub gear: Gear<L, T>,
 }
 
 // What stands for a missing log or link in the status line.
@@ -81,14 +81,14 @@ fn make_kit<L: Drop, T: Drop>(
 }
 
 // Serves a station whose logs and links are open, with the outside's gate.
-fn serve_gated<R: Threads + Wait + Sync, O: Outside>(
+pub fn serve_gated<R: Threads + Wait + Sync, O: Outside, L: Source + Drop, T: Link + Drop>(
     rt: &R,
     alloc: Global,
     station: &Station,
     orders: Orders,
-    kit: Kit<O::Log, O::Net>,
+    kit: Kit<L, T>,
     outside: &mut O,
-) -> Result<Ended<O::Log, O::Net>, Gear<O::Log, O::Net>>
+) -> Result<Ended<L, T>, Gear<L, T>>
     requires limit { (0 < orders.limit) × (orders.limit ≤ 4194304) }
     requires blank { AreBlank (λ b h. stands_for b h) (λ b. least_start b) station.now.radios kit.receivers.items }
     requires gear { IsWhole station.now kit.gear }
@@ -96,7 +96,7 @@ fn serve_gated<R: Threads + Wait + Sync, O: Outside>(
     ensures same { O.state outside.new ≡ O.state outside.old }
     ensures gate { O.gate_out outside.new ≡ O.gate_out outside.old }
     ensures served { MatchResult result
-        (λ ended. EndsAll (λ log. O.Log.state log) (λ log. O.Log.opening log) (λ net. O.Net.state net) (λ net. O.Net.opening net) station.now orders kit.gear ended)
+        (λ ended. EndsAll (λ log. L.state log) (λ log. L.opening log) (λ net. T.state net) (λ net. T.opening net) station.now orders kit.gear ended)
         (λ gear. gear ≡ kit.gear) }
 {
     let Kit { receivers, gear } = kit;

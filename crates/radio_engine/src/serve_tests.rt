@@ -4,17 +4,20 @@ ghost use Rattle.std.specs.Prelude.{◌≡◌, IfOk, false};
 ghost use Rattle.feed_link.specs.MemoryOutside.{is_gate_out};
 
 use crate::Status;
+use crate::test_station::{
+    ANSWER, ASKED, CLIENT, EMPTY_PAGE, LONE, LONE_PAGE, VERDICT, VERDICT_PAGE, file, minutes,
+    moment, one,
+};
 use crate::tests::run_over;
 use feed_link::{
-    Address, FakeOpen, Gate, HoldGate, LinkEvent, MemoryLink, MemoryOutside, MemorySink,
-    MemorySource, NamedLog, OpenGate, Planned,
+    Address, FakeOpen, Gate, HoldGate, LinkEvent, MemoryLink, MemoryOutside, MemorySink, NamedLog,
+    OpenGate, Planned,
 };
 use std::alloc::{AllocError, Global};
 use std::process::Abort;
 use std::sync::Wait;
 use std::test::Fail;
 use std::thread::Threads;
-use tick_units::Local;
 
 const WORDS: [&str; 3] = ["serve", "--station", "s"];
 
@@ -63,29 +66,9 @@ const THREE_RADIOS_TWO_LINKS: &str =
 
 const TWO_LINKS: &str = "[[link]]\nport = 5123\n[[link]]\nport = 5124\n";
 
-const EMPTY_PAGE: &str = "page 0 0 0 494e4954 0 0 0 0 1048576 0000000000000000 0 0\n";
-
-const LONE: &str = "j2 1 0 0 62000000 lone 3976257600\n";
-
-const LONE_PAGE: &str = "page 1 0 0 494e4954 0 62000000 0 0 1048576 0000000000000000 0 0\n";
-
-const VERDICT: &str = "j2 2 0 0 122000000 verdict 3976257660 0\n";
-
-const VERDICT_PAGE: &str = "page 2 0 0 494e4954 0 122000000 0 0 1048576 0000000000000000 0 0\n";
-
 // The page of five minutes that as many radios have heard alike.
 const FIVE_OF_3: &str =
     "page 15 1 1 44434600 17077896086183477248 302000000 4364906902 0 61542 ed00e13000000000 0 0\n";
-
-const CLIENT: Address = Address {
-    ip: 0x7f00_0001,
-    port: 5000,
-};
-
-const ASKED: Address = Address {
-    ip: 0x7f00_0001,
-    port: 123,
-};
 
 const STRANGER: Address = Address {
     ip: 0x7f00_0001,
@@ -106,51 +89,6 @@ const REPLY: [u8; 48] = [
     0xed, 0x00, 0xe1, 0x31, 0x00, 0x00, 0x00, 0x00, 0xed, 0x00, 0xe1, 0x31, 0x00, 0x00, 0x00, 0x00,
 ];
 
-// The answer of a server of stratum 2 to the request of 1 s, received at 2026-01-01 12:05:05 UTC and answered half a millisecond later.
-const ANSWER: [u8; 48] = [
-    0x24, 0x02, 0x06, 0xec, 0x00, 0x00, 0x01, 0x00, 0x00, 0x00, 0x02, 0x00, 0x0a, 0x00, 0x00, 0x01, // to the refid
-    0x00, 0x00, 0x00, 0x00, 0x00, 0x00, 0x00, 0x00, 0x80, 0x00, 0x00, 0x01, 0x00, 0x00, 0x00, 0x00, // to the origin
-    0xed, 0x00, 0xe1, 0x31, 0x00, 0x00, 0x00, 0x00, 0xed, 0x00, 0xe1, 0x31, 0x00, 0x20, 0xc4, 0x9b,
-];
-
-const NOON: [&[u64]; 5] = [
-    &[18, 20, 29, 30, 33, 35, 36, 44, 45, 51, 52, 55],
-    &[18, 20, 21, 28, 29, 30, 33, 35, 36, 44, 45, 51, 52, 55],
-    &[18, 20, 22, 28, 29, 30, 33, 35, 36, 44, 45, 51, 52, 55],
-    &[18, 20, 21, 22, 29, 30, 33, 35, 36, 44, 45, 51, 52, 55],
-    &[18, 20, 23, 28, 29, 30, 33, 35, 36, 44, 45, 51, 52, 55],
-];
-
-fn moment(microseconds: u32) -> Local {
-    Local::new(u64::from(microseconds)).unwrap()
-}
-
-// The lines of so many frames from 2 s on, behind a first one at 0, and with the one that closes the last.
-fn minutes(alloc: Global, count: usize) -> Result<String, AllocError> {
-    let mut text = String::from_str(alloc, "0 100000\n")?;
-    let mut start = 2u64;
-    for ones in NOON.iter().take(count) {
-        for place in 0..59u64 {
-            let at = start.saturating_add(place).saturating_mul(1_000_000);
-            let width = if ones.contains(&place) {
-                200_000
-            } else {
-                100_000
-            };
-            writeln!(text, "{at} {width}")?;
-        }
-        start = start.saturating_add(60);
-    }
-    writeln!(text, "{start}000000 100000")?;
-    Ok(text)
-}
-
-fn log(alloc: Global, name: &str, text: &str, fails: u64) -> Result<NamedLog, AllocError> {
-    let bytes = Vec::from_slice(alloc, text.as_bytes())?;
-    let source = MemorySource::new(bytes, vec![in alloc; fails]?);
-    Ok(NamedLog::new(String::from_str(alloc, name)?, source))
-}
-
 // A link that hears so many requests at 303 s, and then its end; its call of this number fails.
 fn asked(alloc: Global, count: u32, fails: u64) -> Result<MemoryLink, FakeOpen> {
     let mut hearings = Vec::new(alloc);
@@ -163,6 +101,22 @@ fn asked(alloc: Global, count: u32, fails: u64) -> Result<MemoryLink, FakeOpen> 
     }
     let fails = vec![in alloc; fails]?;
     MemoryLink::new(alloc, hearings, Vec::new(alloc), fails, 60, 6000)
+}
+
+// A link that hears these datagrams at 303 s, and then its end.
+fn hears(alloc: Global, datagrams: &[Vec<u8>]) -> Result<MemoryLink, FakeOpen> {
+    let mut hearings = Vec::new(alloc);
+    for datagram in datagrams {
+        if datagram.len() > 1024 {
+            return Err(FakeOpen::Memory);
+        }
+        hearings.push(Planned::Datagram {
+            from: CLIENT,
+            at: moment(303_000_000),
+            bytes: Vec::from_slice(alloc, datagram.as_slice())?,
+        })?;
+    }
+    MemoryLink::new(alloc, hearings, Vec::new(alloc), Vec::new(alloc), 60, 6000)
 }
 
 // A link whose first moment is 1 s, over which the answer comes twice: first from this sender, then from the server.
@@ -192,7 +146,7 @@ fn outside_of<G: Gate + Drop>(
     ensures { IfOk result (λ outside. is_gate_out outside ≡ false) }
 {
     let mut all = Vec::new(alloc);
-    all.push(log(alloc, "s", station, 0)?)?;
+    all.push(file(alloc, "s", station, 0)?)?;
     for log in logs {
         all.push(log)?;
     }
@@ -242,18 +196,6 @@ fn joined(alloc: Global, texts: &[&str]) -> Result<String, AllocError> {
     Ok(all)
 }
 
-fn logs_of(alloc: Global, log: NamedLog) -> Result<Vec<NamedLog>, AllocError> {
-    let mut logs = Vec::new(alloc);
-    logs.push(log)?;
-    Ok(logs)
-}
-
-fn links_of(alloc: Global, link: MemoryLink) -> Result<Vec<MemoryLink>, AllocError> {
-    let mut links = Vec::new(alloc);
-    links.push(link)?;
-    Ok(links)
-}
-
 // The last reply on a link, and how many there are.
 fn replies(link: &MemoryLink) -> (usize, Option<&[u8]>) {
     let mut count = 0usize;
@@ -294,7 +236,7 @@ fn a_station_with_nothing_in_it_is_served(rt: HostRuntime) -> Result<(), Fail> {
 #[test]
 fn a_link_that_ends_is_told(rt: HostRuntime) -> Result<(), Fail> {
     let alloc = rt.alloc();
-    let links = links_of(alloc, asked(alloc, 1, 0)?)?;
+    let links = one(alloc, asked(alloc, 1, 0)?)?;
     let mut outside = outside_of(alloc, LINK, Vec::new(alloc), links, OpenGate::new(), 0)?;
     let (written, status) = run(&rt, alloc, &DURING_2, &mut outside, 0)?;
     let line = "link 0 answered 1 dropped 0 again 0 end linkend\n";
@@ -312,7 +254,7 @@ fn a_link_that_ends_is_told(rt: HostRuntime) -> Result<(), Fail> {
 #[test]
 fn a_server_is_polled(rt: HostRuntime) -> Result<(), Fail> {
     let alloc = rt.alloc();
-    let links = links_of(alloc, answered(alloc, STRANGER, 0)?)?;
+    let links = one(alloc, answered(alloc, STRANGER, 0)?)?;
     let want = joined(
         alloc,
         &[
@@ -335,11 +277,11 @@ fn a_server_is_polled(rt: HostRuntime) -> Result<(), Fail> {
     )
 }
 
-// The link's second call sends, and its third hears.
+// The link's third call, its second sending, fails.
 #[test]
 fn a_poller_ends_by_a_fault(rt: HostRuntime) -> Result<(), Fail> {
     let alloc = rt.alloc();
-    let links = links_of(alloc, answered(alloc, ASKED, 3)?)?;
+    let links = one(alloc, answered(alloc, ASKED, 3)?)?;
     let want = joined(
         alloc,
         &[
@@ -367,8 +309,8 @@ fn a_poller_ends_by_a_fault(rt: HostRuntime) -> Result<(), Fail> {
 fn the_third_sending_fails(rt: HostRuntime) -> Result<(), Fail> {
     let alloc = rt.alloc();
     let text = minutes(alloc, 2)?;
-    let logs = logs_of(alloc, log(alloc, "a", text.as_str(), 0)?)?;
-    let links = links_of(alloc, asked(alloc, 5, 6)?)?;
+    let logs = one(alloc, file(alloc, "a", text.as_str(), 0)?)?;
+    let links = one(alloc, asked(alloc, 5, 6)?)?;
     let station = joined(alloc, &[RADIO, LINK])?;
     let mut outside = outside_of(alloc, station.as_str(), logs, links, OpenGate::new(), 0)?;
     let (written, status) = run(&rt, alloc, &AFTER_4, &mut outside, 0)?;
@@ -387,7 +329,7 @@ fn the_third_sending_fails(rt: HostRuntime) -> Result<(), Fail> {
 #[test]
 fn a_hearing_fails(rt: HostRuntime) -> Result<(), Fail> {
     let alloc = rt.alloc();
-    let links = links_of(alloc, asked(alloc, 5, 3)?)?;
+    let links = one(alloc, asked(alloc, 5, 3)?)?;
     let line = "link 0 answered 1 dropped 0 again 0 end linkfault\n";
     let want = joined(alloc, &[line, EMPTY_PAGE, "status 7 link 0\n"])?;
     let logs = Vec::new(alloc);
@@ -400,7 +342,7 @@ fn a_hearing_fails(rt: HostRuntime) -> Result<(), Fail> {
 fn a_read_fails_in_the_middle(rt: HostRuntime) -> Result<(), Fail> {
     let alloc = rt.alloc();
     let text = minutes(alloc, 2)?;
-    let logs = logs_of(alloc, log(alloc, "a", text.as_str(), 3)?)?;
+    let logs = one(alloc, file(alloc, "a", text.as_str(), 3)?)?;
     let want = joined(alloc, &[LONE, LONE_PAGE, "status 4 read feed 0\n"])?;
     let links = Vec::new(alloc);
     let end = Status::ReadFault;
@@ -413,8 +355,8 @@ fn a_radio_is_heard_with_its_delay(rt: HostRuntime) -> Result<(), Fail> {
     let alloc = rt.alloc();
     let text = minutes(alloc, 2)?;
     let mut logs = Vec::new(alloc);
-    logs.push(log(alloc, "a", "", 0)?)?;
-    logs.push(log(alloc, "b", text.as_str(), 0)?)?;
+    logs.push(file(alloc, "a", "", 0)?)?;
+    logs.push(file(alloc, "b", text.as_str(), 0)?)?;
     let want = joined(
         alloc,
         &[
@@ -434,8 +376,8 @@ fn a_bad_line_ends_its_feed_alone(rt: HostRuntime) -> Result<(), Fail> {
     let alloc = rt.alloc();
     let text = minutes(alloc, 2)?;
     let mut logs = Vec::new(alloc);
-    logs.push(log(alloc, "a", "1000000 100000\n900000 100000\n", 0)?)?;
-    logs.push(log(alloc, "b", text.as_str(), 0)?)?;
+    logs.push(file(alloc, "a", "1000000 100000\n900000 100000\n", 0)?)?;
+    logs.push(file(alloc, "b", text.as_str(), 0)?)?;
     let want = joined(
         alloc,
         &[
@@ -463,7 +405,7 @@ fn a_bad_line_ends_its_feed_alone(rt: HostRuntime) -> Result<(), Fail> {
 fn a_full_journal_is_told(rt: HostRuntime) -> Result<(), Fail> {
     let alloc = rt.alloc();
     let text = minutes(alloc, 2)?;
-    let logs = logs_of(alloc, log(alloc, "a", text.as_str(), 0)?)?;
+    let logs = one(alloc, file(alloc, "a", text.as_str(), 0)?)?;
     let want = joined(alloc, &[LONE, LONE_PAGE, "status 6 full 1\n"])?;
     let links = Vec::new(alloc);
     let end = Status::JournalFull;
@@ -476,14 +418,14 @@ fn the_least_number_is_told(rt: HostRuntime) -> Result<(), Fail> {
     let alloc = rt.alloc();
     let mut text = minutes(alloc, 2)?;
     text.push_str("bad\n")?;
-    let logs = logs_of(alloc, log(alloc, "a", text.as_str(), 0)?)?;
+    let logs = one(alloc, file(alloc, "a", text.as_str(), 0)?)?;
     let want = joined(alloc, &[LONE, LONE_PAGE, "status 5 line 0 121\n"])?;
     let links = Vec::new(alloc);
     let end = Status::BadLine;
     writes(&rt, alloc, &LIMIT_1, RADIO, logs, links, want.as_str(), end)?;
     let mut logs = Vec::new(alloc);
-    logs.push(log(alloc, "a", "bad\n", 0)?)?;
-    logs.push(log(alloc, "b", "", 1)?)?;
+    logs.push(file(alloc, "a", "bad\n", 0)?)?;
+    logs.push(file(alloc, "b", "", 1)?)?;
     let want = joined(alloc, &[EMPTY_PAGE, "status 4 read feed 1\n"])?;
     let links = Vec::new(alloc);
     let end = Status::ReadFault;
@@ -562,7 +504,7 @@ fn each_opening_may_fail(rt: HostRuntime) -> Result<(), Fail> {
         (3, "status 2 open feed 1\n"),
         (4, "status 2 open link 0\n"),
     ] {
-        let logs = logs_of(alloc, log(alloc, "a", "bad\n", 0)?)?;
+        let logs = one(alloc, file(alloc, "a", "bad\n", 0)?)?;
         let mut links = Vec::new(alloc);
         links.push(answered(alloc, ASKED, 0)?)?;
         links.push(asked(alloc, 1, 0)?)?;
@@ -580,7 +522,7 @@ fn each_opening_may_fail(rt: HostRuntime) -> Result<(), Fail> {
 #[test]
 fn one_log_of_two_radios_is_opened_once(rt: HostRuntime) -> Result<(), Fail> {
     let alloc = rt.alloc();
-    let logs = logs_of(alloc, log(alloc, "a", "", 0)?)?;
+    let logs = one(alloc, file(alloc, "a", "", 0)?)?;
     let links = Vec::new(alloc);
     let want = "status 2 open feed 1\n";
     let end = Status::OpenFault;
@@ -614,8 +556,8 @@ fn each_writing_may_fail(rt: HostRuntime) -> Result<(), Fail> {
     let station = joined(alloc, &[RADIO, LINK])?;
     let text = minutes(alloc, 2)?;
     for fails in 1..7usize {
-        let logs = logs_of(alloc, log(alloc, "a", text.as_str(), 0)?)?;
-        let links = links_of(alloc, asked(alloc, 5, 0)?)?;
+        let logs = one(alloc, file(alloc, "a", text.as_str(), 0)?)?;
+        let links = one(alloc, asked(alloc, 5, 0)?)?;
         let gate = OpenGate::new();
         let mut outside = outside_of(alloc, station.as_str(), logs, links, gate, 0)?;
         let (written, status) = run(&rt, alloc, &AFTER_4, &mut outside, fails as u64)?;
@@ -643,7 +585,7 @@ fn three_radios<R: Threads + Wait + Sync>(
     let text = minutes(alloc, 5)?;
     let mut logs = Vec::new(alloc);
     for name in ["a", "b", "c"] {
-        logs.push(log(alloc, name, text.as_str(), 0)?)?;
+        logs.push(file(alloc, name, text.as_str(), 0)?)?;
     }
     let mut links = Vec::new(alloc);
     links.push(asked(alloc, 5, 0)?)?;
@@ -699,15 +641,15 @@ fn a_responder_waits_for_a_feed(rt: HostRuntime) -> Result<(), Fail> {
     Ok(())
 }
 
-// Of each feed the journal has a front of the five entries.
+// Ten entries are due, and the journal has room for three.
 #[test]
 fn two_radios_fill_a_journal(rt: HostRuntime) -> Result<(), Fail> {
     let alloc = rt.alloc();
     let text = minutes(alloc, 5)?;
     let mut logs = Vec::new(alloc);
-    logs.push(log(alloc, "a", text.as_str(), 0)?)?;
-    logs.push(log(alloc, "b", text.as_str(), 0)?)?;
-    let links = links_of(alloc, asked(alloc, 5, 0)?)?;
+    logs.push(file(alloc, "a", text.as_str(), 0)?)?;
+    logs.push(file(alloc, "b", text.as_str(), 0)?)?;
+    let links = one(alloc, asked(alloc, 5, 0)?)?;
     let station = joined(alloc, &[TWO_RADIOS, LINK])?;
     let mut outside = outside_of(alloc, station.as_str(), logs, links, OpenGate::new(), 0)?;
     let (written, status) = run(&rt, alloc, &LIMIT_3, &mut outside, 0)?;
@@ -722,5 +664,50 @@ fn two_radios_fill_a_journal(rt: HostRuntime) -> Result<(), Fail> {
     let (count, last) = replies(link);
     assert_eq!(rt; count, 1);
     assert!(rt; last.is_some_and(|reply| reply.starts_with(&[0xe4, 0x00, 0x06, 0xec])));
+    Ok(())
+}
+
+const KEY: &str = "[[key]]\nid = 1\nsecret = \"longwave\"\n";
+
+// Key 1, and what Python's hashlib gave as MD5 of `longwave` and the 48 bytes before.
+const BEHIND_REQUEST: [u8; 20] = [
+    0x00, 0x00, 0x00, 0x01, 0xb4, 0x08, 0xcf, 0x70, 0xf4, 0xde, 0x37, 0x98, 0xe7, 0x13, 0xf3, 0x1a,
+    0x2a, 0x88, 0x5f, 0x12,
+];
+
+const BEHIND_REPLY: [u8; 20] = [
+    0x00, 0x00, 0x00, 0x01, 0x55, 0xd9, 0xde, 0xba, 0x01, 0x77, 0xeb, 0x53, 0x47, 0x84, 0x82, 0xdf,
+    0x29, 0x23, 0x62, 0x77,
+];
+
+// The first request is authentic by the station's key. The second has a wrong last byte, and the third has no digest.
+#[test]
+fn a_reply_is_authentic_where_its_request_is(rt: HostRuntime) -> Result<(), Fail> {
+    let alloc = rt.alloc();
+    let mut authentic = Vec::from_slice(alloc, &REQUEST)?;
+    authentic.extend_from_slice(&BEHIND_REQUEST)?;
+    let mut wrong = Vec::from_slice(alloc, &REQUEST)?;
+    wrong.extend_from_slice(&BEHIND_REQUEST[..19])?;
+    wrong.push(0x13)?;
+    let mut datagrams = one(alloc, authentic)?;
+    datagrams.push(wrong)?;
+    datagrams.push(Vec::from_slice(alloc, &REQUEST)?)?;
+    let links = one(alloc, hears(alloc, datagrams.as_slice())?)?;
+    let text = minutes(alloc, 5)?;
+    let logs = one(alloc, file(alloc, "a", text.as_str(), 0)?)?;
+    let station = joined(alloc, &[RADIO, LINK, KEY])?;
+    let mut outside = outside_of(alloc, station.as_str(), logs, links, OpenGate::new(), 0)?;
+    let (_, status) = run(&rt, alloc, &AFTER_4, &mut outside, 0)?;
+    assert_eq!(rt; status, Status::Done);
+    let link = outside.link(0).ok_or("a link is out")?;
+    let mut sealed = Vec::from_slice(alloc, &REPLY)?;
+    sealed.extend_from_slice(&BEHIND_REPLY)?;
+    let wanted = [sealed.as_slice(), REPLY.as_slice(), REPLY.as_slice()];
+    for (turn, want) in wanted.iter().enumerate() {
+        let Some(LinkEvent::Sent { to: _, bytes }) = link.event(3 * turn + 2) else {
+            return Err("a datagram isn't answered")?;
+        };
+        assert_eq!(rt; bytes, *want, "{turn}");
+    }
     Ok(())
 }

@@ -2,13 +2,17 @@
 #![tactic(auto)]
 
 mod chain;
+mod counting;
 mod receiver;
 mod receivers;
 
+pub use counting::CountingReceiver;
 pub use receiver::{BoxedReceiver, Receiver};
 pub use receivers::{
     DcfPlan, DcfReceiver, MsfPlan, MsfReceiver, OfPlan, PlanReceiver, WwvbPlan, WwvbReceiver,
 };
 
+#[cfg(test)]
+mod counting_tests;
 #[cfg(test)]
 mod tests;

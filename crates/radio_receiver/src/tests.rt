@@ -20,7 +20,7 @@ const WWVB_ONES: [usize; 10] = [22, 23, 26, 27, 31, 32, 36, 38, 47, 51];
 const WWVB_MARKERS: [usize; 7] = [0, 9, 19, 29, 39, 49, 59];
 
 // The last answer to reductions, as far as their starts rise, of a receiver with a path delay.
-fn last_answer(
+pub fn last_answer(
     receiver: Box<dyn Receiver + Send>,
     delay_us: u32,
     reductions: &[Reduction],
@@ -56,7 +56,7 @@ fn start_of(place: usize) -> u64 {
     2_000_000u64.saturating_add(1_000_000u64.saturating_mul(place as u64))
 }
 
-fn dcf_minute(alloc: Global) -> Result<Vec<Reduction>, Fail> {
+pub fn dcf_minute(alloc: Global) -> Result<Vec<Reduction>, Fail> {
     let mut list = Vec::new(alloc);
     push(&mut list, 0, 100_000)?;
     for place in 0..59usize {
@@ -71,7 +71,7 @@ fn dcf_minute(alloc: Global) -> Result<Vec<Reduction>, Fail> {
     Ok(list)
 }
 
-fn msf_minute(alloc: Global) -> Result<Vec<Reduction>, Fail> {
+pub fn msf_minute(alloc: Global) -> Result<Vec<Reduction>, Fail> {
     let mut list = Vec::new(alloc);
     push(&mut list, 2_000_000, 500_000)?;
     for place in 1..60usize {
@@ -91,7 +91,7 @@ fn msf_minute(alloc: Global) -> Result<Vec<Reduction>, Fail> {
     Ok(list)
 }
 
-fn wwvb_minute(alloc: Global) -> Result<Vec<Reduction>, Fail> {
+pub fn wwvb_minute(alloc: Global) -> Result<Vec<Reduction>, Fail> {
     let mut list = Vec::new(alloc);
     push(&mut list, 1_000_000, 800_000)?;
     for place in 0..60usize {
@@ -108,7 +108,7 @@ fn wwvb_minute(alloc: Global) -> Result<Vec<Reduction>, Fail> {
     Ok(list)
 }
 
-fn lone(at: u64, second: u64) -> Option<Heard> {
+pub fn lone(at: u64, second: u64) -> Option<Heard> {
     Some(Heard {
         at: Local::new(at)?,
         kind: Kind::Lone { second },

@@ -1,14 +1,17 @@
 //! The answer to a datagram.
 ghost use Rattle.std.specs.Prelude.{◌≡◌, ◌<◌, ◌≤◌, IfErr, IfOk, OnOk, OnErr, length};
-ghost use Rattle.reply_core.specs.Reply.{answer, header_of, request_of, root_disp_at};
+ghost use Rattle.reply_core.specs.Reply.{answer, header_of, request_of, root_disp_at, untimed};
 
 use crate::{Dropped, REPLY_LENGTH, ReplyPacket};
 use clock_page::{INIT, Page, UNKNOWN_DISPERSION};
 use ntp_packet::{CLIENT, Header, PRECISION, SERVER, VERSION, read, write};
 use tick_units::{Local, Short, Span, Stamp, phi, to_short};
 
+// The leap indicator of a server that isn't synchronised (RFC 5905, section 7.3).
+const UNSYNCHRONISED: u8 = 3;
+
 // The request in a datagram.
-fn request_in(datagram: &[u8]) -> Result<Header, Dropped>
+pub(crate) fn request_in(datagram: &[u8]) -> Result<Header, Dropped>
     ensures { result ≡ request_of datagram.now }
 {
     let Some(request) = read(datagram) else {
@@ -31,13 +34,19 @@ fn root_disp(page: &Page, sent: Local) -> Short
     to_short(Span::from(page.root_disp) + phi(waited))
 }
 
-// The header of the answer to a request.
-fn header(page: &Page, request: &Header, arrived: Local, sent: Local) -> Header
-    ensures header { result ≡ header_of page.now request.now arrived sent }
+// The header of an answer that tells no time, with a reference ID that says why.
+pub(crate) fn untimed(
+    refid: u32,
+    page: &Page,
+    request: &Header,
+    arrived: Local,
+    sent: Local,
+) -> Header
+    ensures header { result ≡ untimed refid page.now request.now arrived sent }
     ensures leap { result.leap < 4 }
 {
-    let mut header = Header {
-        leap: page.leap_at_time(sent),
+    Header {
+        leap: UNSYNCHRONISED,
         version: request.version,
         mode: SERVER,
         stratum: 0,
@@ -45,13 +54,22 @@ fn header(page: &Page, request: &Header, arrived: Local, sent: Local) -> Header
         precision: PRECISION,
         root_delay: Short(0),
         root_disp: Short(UNKNOWN_DISPERSION),
-        refid: INIT,
+        refid,
         reference: Stamp(0),
         origin: request.transmit,
         receive: page.time_at(arrived),
         transmit: page.time_at(sent),
-    };
+    }
+}
+
+// The header of the answer to a request.
+fn header(page: &Page, request: &Header, arrived: Local, sent: Local) -> Header
+    ensures header { result ≡ header_of page.now request.now arrived sent }
+    ensures leap { result.leap < 4 }
+{
+    let mut header = untimed(INIT, page, request, arrived, sent);
     if page.synced_at(sent) {
+        header.leap = page.leap_at_time(sent);
         header.stratum = page.stratum;
         header.root_delay = page.root_delay;
         header.root_disp = root_disp(page, sent);

@@ -6,7 +6,7 @@ use clock_page::Page;
 use std::test::Fail;
 use tick_units::{Local, Short, Span, Stamp};
 
-fn moment(microseconds: u64) -> Result<Local, Fail>
+pub(crate) fn moment(microseconds: u64) -> Result<Local, Fail>
     ensures { IfOk result (λ l. l ≡ microseconds) }
 {
     match Local::new(microseconds) {
@@ -16,14 +16,14 @@ fn moment(microseconds: u64) -> Result<Local, Fail>
 }
 
 // A request of version 4 with a poll of 64 s, sent at 0x1122334455667788 by the client's clock.
-const REQUEST: [u8; 48] = [
+pub(crate) const REQUEST: [u8; 48] = [
     0x23, 0x00, 0x06, 0xec, 0x00, 0x00, 0x00, 0x00, 0x00, 0x00, 0x00, 0x00, 0x00, 0x00, 0x00, 0x00, // to the refid
     0x00, 0x00, 0x00, 0x00, 0x00, 0x00, 0x00, 0x00, 0x00, 0x00, 0x00, 0x00, 0x00, 0x00, 0x00, 0x00, // to the origin
     0x00, 0x00, 0x00, 0x00, 0x00, 0x00, 0x00, 0x00, 0x11, 0x22, 0x33, 0x44, 0x55, 0x66, 0x77, 0x88,
 ];
 
 // What is answered, of which a drop leaves nothing.
-fn answered(
+pub(crate) fn answered(
     page: &Page,
     datagram: &[u8],
     arrived: u64,
@@ -44,7 +44,7 @@ fn answered(
 }
 
 // A server with one DCF77 radio, whose counter began 62 s before noon of 2026-01-01, after its fifth minute.
-fn of_a_radio() -> Result<Page, Fail> {
+pub(crate) fn of_a_radio() -> Result<Page, Fail> {
     Ok(Page {
         length: 5,
         sync: true,
@@ -98,7 +98,7 @@ fn an_answer_of_a_synchronised_server(rt: HostRuntime) -> Result<(), Fail> {
 }
 
 // The same server, whose sixth minute comes 3 ms late: its counter gains 12.5 parts per million, and the answer follows that.
-fn of_a_fast_counter() -> Result<Page, Fail> {
+pub(crate) fn of_a_fast_counter() -> Result<Page, Fail> {
     Ok(Page {
         length: 6,
         sync: true,

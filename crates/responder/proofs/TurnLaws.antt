@@ -11,6 +11,7 @@ use Rattle.clock_page.specs.Page.{IsPage, PageFields, words}
 use Rattle.feed_link.specs.Told.{NetEvent}
 use Rattle.feed_link.specs.Told.{LinkState, Adds}
 use Rattle.feed_link.proofs.ToldLaws.{Adds-none, Adds-more}
+use Rattle.packet_auth.specs.Keys.{KeyFields}
 use Rattle.page_cell.specs.declared.view.View.{View}
 use Rattle.responder.specs.Turns.{Turn, Request, Reading, events_of, readings_of, IsRead, IsTurn, GoesOn, answered_of, dropped_of, torn_of, Rises, kept, came}
 use Rattle.responder.specs.Turns.Turn.{Still, Last, Answered, Dropped, Torn, Unsent}
@@ -33,13 +34,13 @@ none_or_some : (n : ℕ) → (n ≡ 0) ⊎ (0 < n)
 none_or_some zero = inl refl
 none_or_some (suc n) = inr (omega arith)
 
-pub took_none : (a : LinkState) (b : LinkState) (v : View) → Adds a.events b.events [] → Took a b v v []
-took_none a b v e = record { events = e; lawful = All-nil IsTurn; readings = sym (append-nil v.readings); pages = All-nil IsRead; rising = refl; torn = omega arith; greatest = omega arith; above = (λ h. absurd (omega arith)) }
+pub took_none : (keys : List KeyFields) (a : LinkState) (b : LinkState) (v : View) → Adds a.events b.events [] → Took keys a b v v []
+took_none keys a b v e = record { events = e; lawful = All-nil (IsTurn keys); readings = sym (append-nil v.readings); pages = All-nil IsRead; rising = refl; torn = omega arith; greatest = omega arith; above = (λ h. absurd (omega arith)) }
 
-pub took_one : (a b : LinkState) (v w : View) (t : Turn) → TookOne [] a b v w t → Took a b v w (t ∷ [])
-took_one a b v w t o = record {
+pub took_one : (keys : List KeyFields) (a b : LinkState) (v w : View) (t : Turn) → TookOne keys [] a b v w t → Took keys a b v w (t ∷ [])
+took_one keys a b v w t o = record {
   events = subst (λ l. Adds a.events b.events l) (sym o.split ∙ sym (append-nil (events_of t))) o.events;
-  lawful = All-cons IsTurn t [] o.lawful (All-nil IsTurn);
+  lawful = All-cons (IsTurn keys) t [] o.lawful (All-nil (IsTurn keys));
   readings = o.readings ∙ ap (λ l. v.readings ++ map kept l) (sym (append-nil (readings_of t)));
   pages = subst (λ l. All IsRead l) (sym (append-nil (readings_of t))) o.pages;
   rising = subst (λ l. Rises v.seen l w.seen) (sym (append-nil (readings_of t))) o.rising;
@@ -48,12 +49,12 @@ took_one a b v w t o = record {
   above = (λ h. o.above (omega arith));
 }
 
-pub took_both : (a b c : LinkState) (v w x : View) (ts us : List Turn) → Took a b v w ts → Took b c w x us → Took a c v x (ts ++ us)
-took_both a b c v w x ts us p q =
+pub took_both : (keys : List KeyFields) (a b c : LinkState) (v w x : View) (ts us : List Turn) → Took keys a b v w ts → Took keys b c w x us → Took keys a c v x (ts ++ us)
+took_both keys a b c v w x ts us p q =
     let le = rises_le v.seen w.seen (flat_map readings_of ts) p.rising in
     record {
       events = subst (λ l. Adds a.events c.events l) (sym (flat_map-append events_of ts us)) (Adds-more a.events b.events c.events (flat_map events_of ts) (flat_map events_of us) p.events q.events);
-      lawful = All-append IsTurn ts us p.lawful q.lawful;
+      lawful = All-append (IsTurn keys) ts us p.lawful q.lawful;
       readings = q.readings ∙ ap (λ l. l ++ map kept (flat_map readings_of us)) p.readings ∙ append_assoc v.readings (map kept (flat_map readings_of ts)) (map kept (flat_map readings_of us)) ∙ ap (λ l. v.readings ++ l) (sym (map-append kept (flat_map readings_of ts) (flat_map readings_of us)) ∙ ap (λ l. map kept l) (sym (flat_map-append readings_of ts us)));
       pages = subst (λ l. All IsRead l) (sym (flat_map-append readings_of ts us)) (All-append IsRead (flat_map readings_of ts) (flat_map readings_of us) p.pages q.pages);
       rising = subst (λ l. Rises v.seen l x.seen) (sym (flat_map-append readings_of ts us)) (rises_both v.seen w.seen x.seen (flat_map readings_of ts) (flat_map readings_of us) p.rising q.rising);
@@ -66,8 +67,8 @@ took_both a b c v w x ts us p q =
     above_one h (inl z) = let le = rises_le v.seen w.seen (flat_map readings_of ts) p.rising in let f = q.above (omega (arith, sum_by-append torn_of ts us)) in omega arith
     above_one h (inr s) = let f = p.above s in let g = q.greatest in omega arith
 
-pub with_past : (past : List NetEvent) (a b c : LinkState) (v w : View) (t : Turn) → Adds a.events b.events past → TookOne past b c v w t → TookOne [] a c v w t
-with_past past a b c v w t told o = record {
+pub with_past : (keys : List KeyFields) (past : List NetEvent) (a b c : LinkState) (v w : View) (t : Turn) → Adds a.events b.events past → TookOne keys past b c v w t → TookOne keys [] a c v w t
+with_past keys past a b c v w t told o = record {
   more = events_of t;
   split = refl;
   events = subst (λ l. Adds a.events c.events l) (sym o.split) (Adds-more a.events b.events c.events past o.more told o.events);
@@ -80,8 +81,8 @@ with_past past a b c v w t told o = record {
   above = o.above;
 }
 
-pub serving_none : (a : LinkState) (v : View) (s : Served) → s.answered ≡ 0 → s.dropped ≡ 0 → s.again ≡ 0 → s.end ≡ Count → Serving a a v v 0 s
-serving_none a v s e f g h = record { turns = []; took = took_none a a v (Adds-none a.events); go = All-nil GoesOn; length = refl; faults = refl; answered = e; dropped = f; again = g; end = h; most = (omega arith, omega arith, omega arith) }
+pub serving_none : (keys : List KeyFields) (a : LinkState) (v : View) (s : Served) → s.answered ≡ 0 → s.dropped ≡ 0 → s.again ≡ 0 → s.end ≡ Count → Serving keys a a v v 0 s
+serving_none keys a v s e f g h = record { turns = []; took = took_none keys a a v (Adds-none a.events); go = All-nil GoesOn; length = refl; faults = refl; answered = e; dropped = f; again = g; end = h; most = (omega arith, omega arith, omega arith) }
 
 counts_more : (t : Turn) (s : Served) → ((counted t s).answered ≡ s.answered + answered_of t) × ((counted t s).dropped ≡ s.dropped + dropped_of t) × ((counted t s).again ≡ s.again + torn_of t) × ((counted t s).end ≡ s.end) × (answered_of t ≤ 1) × (dropped_of t ≤ 1) × (torn_of t ≤ 1)
 counts_more Still s = (omega arith, omega arith, omega arith, refl, omega arith, omega arith, omega arith)
@@ -91,13 +92,13 @@ counts_more (Dropped d r m) s = (omega arith, refl, omega arith, refl, omega ari
 counts_more (Torn d) s = (omega arith, omega arith, refl, refl, omega arith, omega arith, omega arith)
 counts_more (Unsent d r m reply) s = (omega arith, omega arith, omega arith, refl, omega arith, omega arith, omega arith)
 
-pub serving_more : (a b c : LinkState) (v w x : View) (n : ℕ) (s r : Served) → Serving a b v w n s → Goes [] b c w x s r → Serving a c v x (n + 1) r
-serving_more a b c v w x n s r p g =
+pub serving_more : (keys : List KeyFields) (a b c : LinkState) (v w x : View) (n : ℕ) (s r : Served) → Serving keys a b v w n s → Goes keys [] b c w x s r → Serving keys a c v x (n + 1) r
+serving_more keys a b c v w x n s r p g =
     let most = p.most in
     let k = counts_more g.turn s in
     record {
       turns = p.turns ++ g.turn ∷ [];
-      took = took_both a b c v w x p.turns (g.turn ∷ []) p.took (took_one b c w x g.turn g.took);
+      took = took_both keys a b c v w x p.turns (g.turn ∷ []) p.took (took_one keys b c w x g.turn g.took);
       go = All-append GoesOn p.turns (g.turn ∷ []) p.go (All-cons GoesOn g.turn [] g.goes (All-nil GoesOn));
       length = (let l = p.length in omega (arith, length-append p.turns (g.turn ∷ [])));
       faults = g.faults ∙ p.faults;
@@ -108,8 +109,8 @@ serving_more a b c v w x n s r p g =
       most = subst (λ (z : Served). (z.answered ≤ n + 1) × (z.dropped ≤ n + 1) × (z.again ≤ n + 1)) (sym g.counted) (let m = most.0 in let e = k.0 in let o = k.4 in omega arith, let m = most.1 in let e = k.1 in let o = k.5 in omega arith, let m = most.2 in let e = k.2 in let o = k.6 in omega arith);
     }
 
-pub serves_all : (a b : LinkState) (v w : View) (n : ℕ) (s : Served) → Serving a b v w n s → Serves a b v w n s
-serves_all a b v w n s p = record {
+pub serves_all : (keys : List KeyFields) (a b : LinkState) (v w : View) (n : ℕ) (s : Served) → Serving keys a b v w n s → Serves keys a b v w n s
+serves_all keys a b v w n s p = record {
   turns = p.turns;
   took = p.took;
   most = (let l = p.length in omega arith);
@@ -130,12 +131,12 @@ ends_by n before mid now ts us Count go lt same l = absurd l
 ends_by n before mid now ts us LinkEnd go lt same l = (ts, ap (λ q. ts ++ q) l.0, go, l.1 ∙ same)
 ends_by n before mid now ts us LinkFault go lt same l = (ts, us, refl, go, l.0, lt, subst (λ m. RoseByOne m now) same l.1)
 
-pub serves_some : (a b c : LinkState) (v w x : View) (i n : ℕ) (s r : Served) → i < n → Serving a b v w i s → Stops b c w x s r → Serves a c v x n r
-serves_some a b c v w x i n s r lt p q =
+pub serves_some : (keys : List KeyFields) (a b c : LinkState) (v w x : View) (i n : ℕ) (s r : Served) → i < n → Serving keys a b v w i s → Stops keys b c w x s r → Serves keys a c v x n r
+serves_some keys a b c v w x i n s r lt p q =
     let k = last_counts b.faults c.faults q.turns r.end q.last in
     record {
       turns = p.turns ++ q.turns;
-      took = took_both a b c v w x p.turns q.turns p.took q.took;
+      took = took_both keys a b c v w x p.turns q.turns p.took q.took;
       most = (let l = p.length in let one = k.0 in omega (arith, length-append p.turns q.turns));
       ends = ends_by n a.faults b.faults c.faults p.turns q.turns r.end p.go (let l = p.length in omega (arith, l, lt)) p.faults q.last;
       answered = ap (λ (z : Served). z.answered) q.counted ∙ p.answered ∙ (let z = k.1 in omega (arith, sum_by-append answered_of p.turns q.turns));
@@ -144,8 +145,8 @@ serves_some a b c v w x i n s r lt p q =
     }
 
 -- a datagram for which the pass read no page
-pub torn_goes : (d : Request) (a : LinkState) (v w : View) (s : Served) → w.watch.torn ≡ v.watch.torn + 1 → w.seen ≡ v.seen → w.readings ≡ v.readings → v.seen < w.watch.greatest → v.watch.greatest ≤ w.watch.greatest → Goes (came d ∷ []) a a v w s (counted (Torn d) s)
-torn_goes d a v w s one seen same above more = record {
+pub torn_goes : (keys : List KeyFields) (d : Request) (a : LinkState) (v w : View) (s : Served) → w.watch.torn ≡ v.watch.torn + 1 → w.seen ≡ v.seen → w.readings ≡ v.readings → v.seen < w.watch.greatest → v.watch.greatest ≤ w.watch.greatest → Goes keys (came d ∷ []) a a v w s (counted (Torn d) s)
+torn_goes keys d a v w s one seen same above more = record {
   turn = Torn d;
   took = record { more = []; split = refl; events = Adds-none a.events; lawful = tt; readings = same ∙ sym (append-nil v.readings); pages = All-nil IsRead; rising = sym seen; torn = one; greatest = more; above = (λ _. above) };
   goes = refl;
@@ -154,9 +155,9 @@ torn_goes d a v w s one seen same above more = record {
 }
 
 -- a datagram for which the pass read a page
-pub read_one : (t : Turn) (d : Request) (p : PageFields) (more : List NetEvent) (a b : LinkState) (v w : View) → events_of t ≡ came d ∷ more → readings_of t ≡ record { length = w.seen; page = p } ∷ [] → torn_of t ≡ 0 → IsTurn t → Adds a.events b.events more
-    → w.watch.torn ≡ v.watch.torn → v.seen ≤ w.seen → w.readings ≡ v.readings ++ (w.seen, words p) ∷ [] → IsPage p → v.watch.greatest ≤ w.watch.greatest → TookOne (came d ∷ []) a b v w t
-read_one t d p more a b v w split read none lawful told torn later readings page great = record {
+pub read_one : (keys : List KeyFields) (t : Turn) (d : Request) (p : PageFields) (more : List NetEvent) (a b : LinkState) (v w : View) → events_of t ≡ came d ∷ more → readings_of t ≡ record { length = w.seen; page = p } ∷ [] → torn_of t ≡ 0 → IsTurn keys t → Adds a.events b.events more
+    → w.watch.torn ≡ v.watch.torn → v.seen ≤ w.seen → w.readings ≡ v.readings ++ (w.seen, words p) ∷ [] → IsPage p → v.watch.greatest ≤ w.watch.greatest → TookOne keys (came d ∷ []) a b v w t
+read_one keys t d p more a b v w split read none lawful told torn later readings page great = record {
   more = more;
   split = split;
   events = told;
@@ -170,19 +171,19 @@ read_one t d p more a b v w split read none lawful told torn later readings page
 }
 
 -- a datagram's turn, with its hearing
-pub whole_goes : (past : List NetEvent) (a b c : LinkState) (v w : View) (s r : Served) → Adds a.events b.events past → b.faults ≡ a.faults → Goes past b c v w s r → Goes [] a c v w s r
-whole_goes past a b c v w s r told same g = record {
+pub whole_goes : (keys : List KeyFields) (past : List NetEvent) (a b c : LinkState) (v w : View) (s r : Served) → Adds a.events b.events past → b.faults ≡ a.faults → Goes keys past b c v w s r → Goes keys [] a c v w s r
+whole_goes keys past a b c v w s r told same g = record {
   turn = g.turn;
-  took = with_past past a b c v w g.turn told g.took;
+  took = with_past keys past a b c v w g.turn told g.took;
   goes = g.goes;
   counted = g.counted;
   faults = g.faults ∙ same;
 }
 
-pub whole_unsent : (past : List NetEvent) (a b c : LinkState) (v w : View) (s r : Served) → Adds a.events b.events past → b.faults ≡ a.faults → StopsUnsent past b c v w s r → Stops a c v w s r
-whole_unsent past a b c v w s r told same g = record {
+pub whole_unsent : (keys : List KeyFields) (past : List NetEvent) (a b c : LinkState) (v w : View) (s r : Served) → Adds a.events b.events past → b.faults ≡ a.faults → StopsUnsent keys past b c v w s r → Stops keys a c v w s r
+whole_unsent keys past a b c v w s r told same g = record {
   turns = Unsent g.request g.reading g.moment g.reply ∷ [];
-  took = took_one a c v w (Unsent g.request g.reading g.moment g.reply) (with_past past a b c v w (Unsent g.request g.reading g.moment g.reply) told g.took);
+  took = took_one keys a c v w (Unsent g.request g.reading g.moment g.reply) (with_past keys past a b c v w (Unsent g.request g.reading g.moment g.reply) told g.took);
   last = subst (λ e. IsLast a.faults c.faults (Unsent g.request g.reading g.moment g.reply ∷ []) e) (sym (ap (λ (z : Served). z.end) g.counted)) (inr (g.request, g.reading, g.moment, g.reply, refl), subst (λ n. RoseByOne n c.faults) same g.rose);
   counted = g.counted ∙ ap (λ e. record s { end = e }) (sym (ap (λ (z : Served). z.end) g.counted));
 }

@@ -3,6 +3,8 @@ use Rattle.std.specs.Prelude.{◌≡◌, ℕ, ◌+◌, ◌≤◌, ◌<◌, ◌�
 use Rattle.std.specs.List.{flat_map, sum_by}
 use Rattle.feed_link.specs.Faults.{RoseByOne}
 use Rattle.feed_link.specs.Told.{LinkState, Adds}
+use Rattle.packet_auth.specs.Keys.{KeyFields}
+use Rattle.packet_auth.specs.declared.ring.KeyRing.{KeyRing}
 use Rattle.page_cell.specs.Passes.{KnownReader}
 use Rattle.page_cell.specs.declared.view.View.{View}
 use Rattle.responder.specs.Turns.{Turn, Request, Reading, events_of, readings_of, IsRead, IsTurn, GoesOn, answered_of, dropped_of, torn_of, Rises, kept}
@@ -11,12 +13,12 @@ use Rattle.responder.specs.declared.served.Served.{Served}
 use Rattle.responder.specs.declared.served.End.{End}
 use Rattle.responder.specs.declared.served.End.TheVariants.{Count, LinkEnd, LinkFault}
 
--- These turns were taken: the link's events are theirs, in order, and the pass has their readings, in order, each of a page, whose lengths never fall.
+-- These turns were taken by a responder with these keys: the link's events are theirs, in order, and the pass has their readings, in order, each of a page, whose lengths never fall.
 -- So many more of its calls answered Again as turns left their datagram; where there was one, something was published beyond what the
 -- pass had seen.
-pub record Took (before now : LinkState) (view view_now : View) (turns : List Turn) : Type 0 where
+pub record Took (keys : List KeyFields) (before now : LinkState) (view view_now : View) (turns : List Turn) : Type 0 where
   pub events : Adds before.events now.events (flat_map events_of turns)
-  pub lawful : All IsTurn turns
+  pub lawful : All (IsTurn keys) turns
   pub readings : view_now.readings ≡ view.readings ++ map kept (flat_map readings_of turns)
   pub pages : All IsRead (flat_map readings_of turns)
   pub rising : Rises view.seen (flat_map readings_of turns) view_now.seen
@@ -38,17 +40,18 @@ EndsBy budget faults faults_now turns LinkFault =
     (front : List Turn) × (last : List Turn) × (turns ≡ front ++ last) × All GoesOn front × IsFaulty last × (length front < budget) × RoseByOne faults faults_now
 
 -- what a call of `serve` did
-pub record Serves (before now : LinkState) (view view_now : View) (budget : ℕ) (served : Served) : Type 0 where
+pub record Serves (keys : List KeyFields) (before now : LinkState) (view view_now : View) (budget : ℕ) (served : Served) : Type 0 where
   pub turns : List Turn
-  pub took : Took before now view view_now turns
+  pub took : Took keys before now view view_now turns
   pub most : length turns ≤ budget
   pub ends : EndsBy budget before.faults now.faults turns served.end
   pub answered : served.answered ≡ sum_by answered_of turns
   pub dropped : served.dropped ≡ sum_by dropped_of turns
   pub again : served.again ≡ sum_by torn_of turns
 
--- it is still the responder of its link's opening, its cell and its number
-pub record IsSame (opening opening_now : ℕ) (pass pass_now : KnownReader) (number number_now : ℕ) : Type 0 where
+-- it is still the responder of its link's opening, its cell, its number and its keys
+pub record IsSame (opening opening_now : ℕ) (pass pass_now : KnownReader) (number number_now : ℕ) (ring ring_now : KeyRing) : Type 0 where
   pub link : opening_now ≡ opening
   pub table : pass_now.table ≡ pass.table
   pub same : number_now ≡ number
+  pub keys : ring_now ≡ ring

@@ -3,6 +3,7 @@ use Rattle.std.specs.Prelude.{◌≡◌, ℕ, ◌+◌, ◌-◌, ◌^◌, ◌≤�
 use Rattle.std.specs.List.{sum_by}
 use Rattle.feed_link.specs.Faults.{RoseByOne}
 use Rattle.feed_link.specs.Told.{NetEvent, LinkState, Adds}
+use Rattle.packet_auth.specs.Keys.{KeyFields}
 use Rattle.page_cell.specs.declared.view.View.{View}
 use Rattle.responder.specs.Turns.{Turn, Request, Reading, events_of, readings_of, IsRead, IsTurn, GoesOn, answered_of, dropped_of, torn_of, Rises, kept}
 use Rattle.responder.specs.Turns.Turn.{Still, Last, Answered, Dropped, Torn, Unsent}
@@ -16,11 +17,11 @@ abbrev pub HasRoom : Served → Type 0
 HasRoom served = (served.answered < 2 ^ 64 - 1) × (served.dropped < 2 ^ 64 - 1) × (served.again < 2 ^ 64 - 1)
 
 -- this turn was taken, of which these events were past
-pub record TookOne (past : List NetEvent) (before now : LinkState) (view view_now : View) (turn : Turn) : Type 0 where
+pub record TookOne (keys : List KeyFields) (past : List NetEvent) (before now : LinkState) (view view_now : View) (turn : Turn) : Type 0 where
   pub more : List NetEvent
   pub split : events_of turn ≡ past ++ more
   pub events : Adds before.events now.events more
-  pub lawful : IsTurn turn
+  pub lawful : IsTurn keys turn
   pub readings : view_now.readings ≡ view.readings ++ map kept (readings_of turn)
   pub pages : All IsRead (readings_of turn)
   pub rising : Rises view.seen (readings_of turn) view_now.seen
@@ -38,9 +39,9 @@ counted (Torn request) served = record served { again = served.again + 1 }
 counted (Unsent request reading sent reply) served = served
 
 -- a turn was taken after which another may come
-pub record Goes (past : List NetEvent) (before now : LinkState) (view view_now : View) (served served_now : Served) : Type 0 where
+pub record Goes (keys : List KeyFields) (past : List NetEvent) (before now : LinkState) (view view_now : View) (served served_now : Served) : Type 0 where
   pub turn : Turn
-  pub took : TookOne past before now view view_now turn
+  pub took : TookOne keys past before now view view_now turn
   pub goes : GoesOn turn
   pub counted : served_now ≡ counted turn served
   pub faults : now.faults ≡ before.faults
@@ -51,26 +52,26 @@ IsLast faults faults_now turns Count = ⊥
 IsLast faults faults_now turns LinkEnd = (turns ≡ Last ∷ []) × (faults_now ≡ faults)
 IsLast faults faults_now turns LinkFault = IsFaulty turns × RoseByOne faults faults_now
 
-pub record Stops (before now : LinkState) (view view_now : View) (served served_now : Served) : Type 0 where
+pub record Stops (keys : List KeyFields) (before now : LinkState) (view view_now : View) (served served_now : Served) : Type 0 where
   pub turns : List Turn
-  pub took : Took before now view view_now turns
+  pub took : Took keys before now view view_now turns
   pub last : IsLast before.faults now.faults turns served_now.end
   pub counted : served_now ≡ record served { end = served_now.end }
 
 -- a datagram was not answered, since the sending failed
-pub record StopsUnsent (past : List NetEvent) (before now : LinkState) (view view_now : View) (served served_now : Served) : Type 0 where
+pub record StopsUnsent (keys : List KeyFields) (past : List NetEvent) (before now : LinkState) (view view_now : View) (served served_now : Served) : Type 0 where
   pub request : Request
   pub reading : Reading
   pub moment : ℕ
   pub reply : List ℕ
-  pub took : TookOne past before now view view_now (Unsent request reading moment reply)
+  pub took : TookOne keys past before now view view_now (Unsent request reading moment reply)
   pub rose : RoseByOne before.faults now.faults
   pub counted : served_now ≡ record served { end = LinkFault }
 
 -- the turns so far, after each of which another may come
-pub record Serving (before now : LinkState) (view view_now : View) (count : ℕ) (served : Served) : Type 0 where
+pub record Serving (keys : List KeyFields) (before now : LinkState) (view view_now : View) (count : ℕ) (served : Served) : Type 0 where
   pub turns : List Turn
-  pub took : Took before now view view_now turns
+  pub took : Took keys before now view view_now turns
   pub go : All GoesOn turns
   pub length : length turns ≡ count
   pub faults : now.faults ≡ before.faults

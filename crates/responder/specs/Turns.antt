@@ -1,12 +1,13 @@
 -- The turns of a responder: what each is for the events of its link, for the readings of its pass, and for its counts. A reply is that
--- of a server to a client (RFC 5905, section 8, `fast_xmit` of appendix A); the turns are this project's own.
+-- of a server to a client (RFC 5905, section 8, `fast_xmit` of appendix A, and section 7.3 on digests); the turns are this project's own.
 use Rattle.std.specs.Prelude.{◌≡◌, ℕ, ◌≤◌, Bool, true, false, List, [], ◌∷◌, Ok, Err}
 use Rattle.feed_link.specs.Told.{NetEvent}
 use Rattle.feed_link.specs.Told.NetEvent.{Came, Silent, Ended, Timed, Went}
 use Rattle.feed_link.specs.declared.outside.Address.{Address}
 use Rattle.clock_page.specs.Page.{IsPage, PageFields, words}
-use Rattle.reply_core.specs.Reply.{answer}
+use Rattle.packet_auth.specs.Keys.{KeyFields}
 use Rattle.reply_core.specs.declared.dropped.Dropped.{Dropped as Reason}
+use Rattle.sealed_reply.specs.Replies.{reply_to}
 
 -- a datagram: its sender, when it came, its bytes
 pub record Request : Type 0 where
@@ -54,14 +55,15 @@ readings_of (Dropped request reading sent) = reading ∷ []
 readings_of (Torn request) = []
 readings_of (Unsent request reading sent reply) = reading ∷ []
 
--- each reply is the answer to its datagram from the page that was read in its turn; a datagram is dropped where there is none
-abbrev pub IsTurn : Turn → Type 0
-IsTurn Still = Unit {0}
-IsTurn Last = Unit {0}
-IsTurn (Answered request reading sent reply) = answer reading.page request.bytes request.at sent ≡ Ok reply
-IsTurn (Dropped request reading sent) = (why : Reason) × (answer reading.page request.bytes request.at sent ≡ Err why)
-IsTurn (Torn request) = Unit {0}
-IsTurn (Unsent request reading sent reply) = answer reading.page request.bytes request.at sent ≡ Ok reply
+-- each reply is the one to its datagram from the page that was read in its turn, sealed by one of these keys exactly where the datagram is
+-- authentic by it; a datagram is dropped where there is no reply
+abbrev pub IsTurn : List KeyFields → Turn → Type 0
+IsTurn keys Still = Unit {0}
+IsTurn keys Last = Unit {0}
+IsTurn keys (Answered request reading sent reply) = reply_to keys reading.page request.bytes request.at sent ≡ Ok reply
+IsTurn keys (Dropped request reading sent) = (why : Reason) × (reply_to keys reading.page request.bytes request.at sent ≡ Err why)
+IsTurn keys (Torn request) = Unit {0}
+IsTurn keys (Unsent request reading sent reply) = reply_to keys reading.page request.bytes request.at sent ≡ Ok reply
 
 -- whether another turn may come after it
 abbrev pub goes_on : Turn → Bool

@@ -2,13 +2,15 @@
 ghost use Rattle.std.specs.Prelude.{◌≡◌, ◌<◌, ◌-◌, ◌^◌, ◌∷◌, []};
 ghost use Rattle.std.specs.Bool.{OnTrue, OnFalse};
 ghost use Rattle.feed_link.specs.Told.NetEvent.{Came};
+ghost use Rattle.packet_auth.specs.Keys.{keys_of};
 ghost use Rattle.responder.specs.Serving.{IsSame, Serves};
 ghost use Rattle.responder.specs.Steps.{Goes, Stops, StopsUnsent, HasRoom};
 
 use crate::{End, Responder, Served};
 use feed_link::{Arrival, Failed, Gate, Hearing, Link};
+use packet_auth::KeyRing;
 use page_cell::{PageCell, ReadPass};
-use reply_core::{REPLY_LENGTH, reply};
+use sealed_reply::reply_to;
 use std::sync::Wait;
 
 // Responders have these numbers and their own at the gate.
@@ -20,12 +22,17 @@ const HEARD: u8 = 2;
 const SENT: u8 = 3;
 
 impl<L: Link + Drop> Responder<L> {
-    /// A responder on a link, with a reader's pass. Its number, from 0, is below 8.
-    pub fn new(link: L, pass: ReadPass, number: u32) -> Responder<L>
+    /// A responder on a link, with a reader's pass and the keys of the station. Its number, from 0, is below 8.
+    pub fn new(link: L, pass: ReadPass, number: u32, keys: KeyRing) -> Responder<L>
         requires { number < 8 }
-        ensures { (result.link ≡ link) × (result.pass ≡ pass) × (result.number ≡ number) }
+        ensures { (result.link ≡ link) × (result.pass ≡ pass) × (result.number ≡ number) × (result.keys ≡ keys) }
     {
-        Responder { link, pass, number }
+        Responder {
+            link,
+            pass,
+            number,
+            keys,
+        }
     }
 
     // Answers a datagram that came, of which the hearing is past. True where another turn may come.
@@ -41,9 +48,9 @@ impl<L: Link + Drop> Responder<L> {
         requires pass { self.old.pass.table ≡ cell.now.table }
         requires room { HasRoom served.old }
         requires at { (L.state self.old.link).latest ≡ arrival.now.at }
-        ensures same { IsSame (L.opening self.old.link) (L.opening self.new.link) self.old.pass self.new.pass self.old.number self.new.number }
-        ensures goes { OnTrue result (Goes (Came arrival.now.from arrival.now.at datagram.now ∷ []) (L.state self.old.link) (L.state self.new.link) self.old.pass.view self.new.pass.view served.old served.new) }
-        ensures stops { OnFalse result (StopsUnsent (Came arrival.now.from arrival.now.at datagram.now ∷ []) (L.state self.old.link) (L.state self.new.link) self.old.pass.view self.new.pass.view served.old served.new) }
+        ensures same { IsSame (L.opening self.old.link) (L.opening self.new.link) self.old.pass self.new.pass self.old.number self.new.number self.old.keys self.new.keys }
+        ensures goes { OnTrue result (Goes (keys_of self.old.keys) (Came arrival.now.from arrival.now.at datagram.now ∷ []) (L.state self.old.link) (L.state self.new.link) self.old.pass.view self.new.pass.view served.old served.new) }
+        ensures stops { OnFalse result (StopsUnsent (keys_of self.old.keys) (Came arrival.now.from arrival.now.at datagram.now ∷ []) (L.state self.old.link) (L.state self.new.link) self.old.pass.view self.new.pass.view served.old served.new) }
     {
         gate.pass(rt, AT_GATE + self.number, HEARD);
         let Ok(page) = cell.try_read(&mut self.pass) else {
@@ -51,9 +58,8 @@ impl<L: Link + Drop> Responder<L> {
             return true;
         };
         let sent = self.link.moment();
-        let mut out = [0u8; REPLY_LENGTH];
-        match reply(&page, datagram, arrival.at, sent, &mut out) {
-            Ok(()) => match self.link.send(arrival.from, &out) {
+        match reply_to(&self.keys, &page, datagram, arrival.at, sent) {
+            Ok(reply) => match self.link.send(arrival.from, reply.bytes()) {
                 Ok(()) => {
                     served.answered += 1;
                     gate.pass(rt, AT_GATE + self.number, SENT);
@@ -81,9 +87,9 @@ impl<L: Link + Drop> Responder<L> {
     ) -> bool
         requires pass { self.old.pass.table ≡ cell.now.table }
         requires room { HasRoom served.old }
-        ensures same { IsSame (L.opening self.old.link) (L.opening self.new.link) self.old.pass self.new.pass self.old.number self.new.number }
-        ensures goes { OnTrue result (Goes [] (L.state self.old.link) (L.state self.new.link) self.old.pass.view self.new.pass.view served.old served.new) }
-        ensures stops { OnFalse result (Stops (L.state self.old.link) (L.state self.new.link) self.old.pass.view self.new.pass.view served.old served.new) }
+        ensures same { IsSame (L.opening self.old.link) (L.opening self.new.link) self.old.pass self.new.pass self.old.number self.new.number self.old.keys self.new.keys }
+        ensures goes { OnTrue result (Goes (keys_of self.old.keys) [] (L.state self.old.link) (L.state self.new.link) self.old.pass.view self.new.pass.view served.old served.new) }
+        ensures stops { OnFalse result (Stops (keys_of self.old.keys) (L.state self.old.link) (L.state self.new.link) self.old.pass.view self.new.pass.view served.old served.new) }
     {
         let mut piece = [0u8; 1024];
         match self.link.hear(&mut piece) {
@@ -104,8 +110,8 @@ impl<L: Link + Drop> Responder<L> {
     }
 
     /// Serves for so many hearings, or until the link ends or fails. Each datagram that comes passes place 2 of the gate; then the page
-    /// is read, then the link's moment is taken, and the reply is sent to the sender, or the datagram is dropped. After a sending it
-    /// passes place 3. Where no page could be read, the datagram is left.
+    /// is read, then the link's moment is taken, and the reply is sent to the sender, sealed as the datagram is, or the datagram is
+    /// dropped. After a sending it passes place 3. Where no page could be read, the datagram is left.
     pub fn serve<R: Wait, G: Gate>(
         &mut self,
         rt: &R,
@@ -114,8 +120,8 @@ impl<L: Link + Drop> Responder<L> {
         budget: u64,
     ) -> Served
         requires { self.old.pass.table ≡ cell.now.table }
-        ensures same { IsSame (L.opening self.old.link) (L.opening self.new.link) self.old.pass self.new.pass self.old.number self.new.number }
-        ensures serves { Serves (L.state self.old.link) (L.state self.new.link) self.old.pass.view self.new.pass.view budget result }
+        ensures same { IsSame (L.opening self.old.link) (L.opening self.new.link) self.old.pass self.new.pass self.old.number self.new.number self.old.keys self.new.keys }
+        ensures serves { Serves (keys_of self.old.keys) (L.state self.old.link) (L.state self.new.link) self.old.pass.view self.new.pass.view budget result }
     {
         let mut served = Served {
             answered: 0,
@@ -129,6 +135,13 @@ impl<L: Link + Drop> Responder<L> {
             }
         }
         served
+    }
+
+    /// The keys of the station.
+    pub fn keys(&self) -> KeyRing
+        ensures { result ≡ self.now.keys }
+    {
+        self.keys
     }
 
     /// Gives the link and the pass back.

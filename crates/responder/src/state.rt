@@ -1,6 +1,7 @@
 //! A responder.
 ghost use Rattle.std.specs.Prelude.{◌<◌};
 
+use packet_auth::KeyRing;
 use page_cell::ReadPass;
 
 /// Serves the clients of a link from the shared page.
@@ -9,5 +10,6 @@ pub struct Responder<L: Drop> {
     pub(crate) link: L,
     pub(crate) pass: ReadPass,
     pub(crate) number: u32,
+    pub(crate) keys: KeyRing,
     ghost small: { number < 8 },
 }

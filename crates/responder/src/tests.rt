@@ -7,6 +7,7 @@ use crate::{End, Responder, Served};
 use feed_link::{
     Address, FakeOpen, HostOutside, Link, LinkEvent, MemoryLink, OpenGate, Outside, Planned,
 };
+use packet_auth::KeyRing;
 use page_cell::{PageCell, ReadPass};
 use std::alloc::Global;
 use std::net::{IpAddr, Ipv4Addr, SocketAddr, UdpSocket};
@@ -88,7 +89,7 @@ fn serve<R: Wait>(
     budget: u64,
 ) -> Result<(Served, MemoryLink), Fail> {
     let (cell, pass) = opened(alloc)?;
-    let mut responder = Responder::new(link, pass, 7);
+    let mut responder = Responder::new(link, pass, 7, KeyRing::new());
     let served = responder.serve(rt, &cell, &OpenGate::new(), budget);
     Ok((served, responder.give_back().0))
 }
@@ -141,6 +142,66 @@ fn each_datagram_is_answered_or_dropped(rt: HostRuntime) -> Result<(), Fail> {
         );
         assert_eq!(rt; sent(&link), want);
         assert_eq!(rt; link.count(), if want.is_some() { 3 } else { 2 });
+    }
+    Ok(())
+}
+
+// MD5 of `longwave` and the request, by Python's `hashlib`.
+const DIGEST: [u8; 16] = [
+    0xb4, 0x08, 0xcf, 0x70, 0xf4, 0xde, 0x37, 0x98, 0xe7, 0x13, 0xf3, 0x1a, 0x2a, 0x88, 0x5f, 0x12,
+];
+
+// The reply of a server that isn't synchronised to a request that came at 7 us and was answered at once; MD5 of `longwave` and its
+// first 48 bytes, by `hashlib`.
+const SEALED: [u8; 68] = [
+    0xe4, 0x00, 0x06, 0xec, 0x00, 0x00, 0x00, 0x00, 0x00, 0x10, 0x00, 0x00, 0x49, 0x4e, 0x49, 0x54,
+    0x00, 0x00, 0x00, 0x00, 0x00, 0x00, 0x00, 0x00, 0x11, 0x22, 0x33, 0x44, 0x55, 0x66, 0x77, 0x88,
+    0x00, 0x00, 0x00, 0x00, 0x00, 0x00, 0x75, 0x70, 0x00, 0x00, 0x00, 0x00, 0x00, 0x00, 0x75, 0x70,
+    0x00, 0x00, 0x00, 0x01, 0x56, 0x18, 0xe6, 0xd3, 0x2d, 0x50, 0x71, 0x75, 0x67, 0x1a, 0x0a, 0x40,
+    0x59, 0xf3, 0x0d, 0xdf,
+];
+
+// A link on which a request comes that names this key, with this digest.
+fn asking(alloc: Global, id: u8, digest: [u8; 16]) -> Result<MemoryLink, Fail> {
+    let mut bytes = vec![in alloc; 0u8; 68]?;
+    bytes[..48].copy_from_slice(&REQUEST);
+    bytes[51] = id;
+    bytes[52..].copy_from_slice(&digest);
+    let mut hearings = Vec::new(alloc);
+    hearings.push(Planned::Datagram {
+        from: CLIENT,
+        at: moment(7),
+        bytes,
+    })?;
+    Ok(link_of(alloc, hearings, 0, 9)?)
+}
+
+// Whether the last event of a link is that these bytes were sent to the client.
+fn has_sent(link: &MemoryLink, want: &[u8]) -> bool {
+    match link.event(link.count().saturating_sub(1)) {
+        Some(LinkEvent::Sent { to, bytes }) => to == CLIENT && bytes == want,
+        _ => false,
+    }
+}
+
+#[test]
+fn a_reply_is_sealed_where_its_request_is_authentic(rt: HostRuntime) -> Result<(), Fail> {
+    let mut ring = KeyRing::new();
+    ring.add(9, b"shortwave");
+    ring.add(1, b"longwave");
+    for (id, want) in [(1, 68), (9, 48), (2, 48), (0, 48)] {
+        let (cell, pass) = opened(rt.alloc())?;
+        let mut responder = Responder::new(asking(rt.alloc(), id, DIGEST)?, pass, 7, ring);
+        let served = responder.serve(&rt, &cell, &OpenGate::new(), 1);
+        assert_eq!(rt;
+            served,
+            Served {
+                answered: 1,
+                ..NONE
+            }
+        );
+        let (link, _) = responder.give_back();
+        assert!(rt; has_sent(&link, &SEALED[..want]), "key {id}");
     }
     Ok(())
 }
@@ -238,7 +299,7 @@ fn a_client_on_the_loopback_is_answered(rt: HostRuntime) -> Result<(), Fail> {
     };
     assert!(rt; link.send(to, b"come").is_ok());
     let (cell, pass) = opened(rt.alloc())?;
-    let mut responder = Responder::new(link, pass, 0);
+    let mut responder = Responder::new(link, pass, 0, KeyRing::new());
     let Ok(child) = thread::spawn(&rt, move || ask(&client)) else {
         return Err("no thread")?;
     };

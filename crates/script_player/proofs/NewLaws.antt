@@ -1,9 +1,8 @@
 -- A station before its first line, radio by radio and server by server.
-use Rattle.std.proofs.Common.{◌≡◌, ◌∙◌, ◌⊎◌, inl, inr, ℕ, zero, suc, ◌+◌, ◌<◌, ◌≤◌, Bool, true, Option, Some, None, IsSome, List, [], ◌∷◌, ◌++◌, length, get_or, take, All, refl, sym, ap, subst, arith, rules}
-use Rattle.std.proofs.lemmas.List.{length_push, take_all, take_more}
-use Rattle.std.proofs.lemmas.Option.{slice_get_cases, slice_get_within, get_or_from_slice_get}
-use Rattle.std.specs.List.{count_by, enumerate_from, slice_get}
-use Rattle.std.specs.Option.{option_map}
+use Rattle.std.proofs.Common.{◌≡◌, ◌∙◌, ◌⊎◌, inl, inr, ℕ, zero, suc, ◌+◌, ◌<◌, ◌≤◌, Some, List, [], ◌∷◌, ◌++◌, length, take, All, refl, sym, ap, subst, arith}
+use Rattle.std.proofs.lemmas.List.{length_push, take_all}
+use Rattle.std.proofs.lemmas.Option.{slice_get_within}
+use Rattle.std.specs.List.{enumerate_from, slice_get}
 use Rattle.radio_receiver.specs.Histories.{History, with_delay}
 use Rattle.poll_core.specs.Polling.{HasPolled}
 use Rattle.station_config.specs.Station.{IsStation, RadioFields, ServerFields, StationFields, is_same_plan, plan_count}

@@ -8,6 +8,7 @@ use Rattle.radio_receiver.specs.Histories.{History}
 use Rattle.ntp_packet.specs.Layout.{layout}
 use Rattle.poll_core.specs.Formulas.{request_header}
 use Rattle.system_fold.specs.Settings.{SettingsFields}
+use Rattle.packet_auth.specs.Keys.{keys_of}
 use Rattle.station_config.specs.Station.{StationFields, settings_of}
 use Rattle.script_line.specs.declared.line.ScriptLine.{ScriptLine}
 use Rattle.script_line.specs.declared.line.ScriptLine.TheVariants.{Pulse, Ask, Answer, Swap, Request}
@@ -39,38 +40,40 @@ more-journal old new station limit lines line e is keeps h =
 
 -- nothing was changed
 pub still : {B : Type 0} (stands : B → History → Type 0) (old new : Player B) (station : StationFields) (limit : ℕ) (lines : List ScriptLine) (lawful : Bool) →
-    new.servers ≡ old.servers → new.journal ≡ old.journal → (lawful ≡ false) × HasRadios stands new.radios station lines →
+    new.servers ≡ old.servers → new.journal ≡ old.journal → new.keys ≡ old.keys → (lawful ≡ false) × HasRadios stands new.radios station lines →
     HasPlayed stands old station limit lines → (lawful ≡ false) × HasPlayed stands new station limit lines
-still stands old new station limit lines lawful servers journal refused h = (
+still stands old new station limit lines lawful servers journal keys refused h = (
   refused.0,
   record {
     radios = refused.1;
     servers = subst (λ s. HasServers s station lines) (sym servers) h.servers;
     journal = subst (λ j. HasKept j (settings_of station) limit (due station lines)) (sym journal) h.journal;
+    keys = ap keys_of keys ∙ h.keys;
   },
 )
 
 pub still-servers : {B : Type 0} (stands : B → History → Type 0) (old new : Player B) (station : StationFields) (limit : ℕ) (lines : List ScriptLine) (lawful : Bool) →
-    new.radios ≡ old.radios → new.journal ≡ old.journal → (lawful ≡ false) × HasServers new.servers station lines →
+    new.radios ≡ old.radios → new.journal ≡ old.journal → new.keys ≡ old.keys → (lawful ≡ false) × HasServers new.servers station lines →
     HasPlayed stands old station limit lines → (lawful ≡ false) × HasPlayed stands new station limit lines
-still-servers stands old new station limit lines lawful radios journal refused h = (
+still-servers stands old new station limit lines lawful radios journal keys refused h = (
   refused.0,
   record {
     radios = subst (λ r. HasRadios stands r station lines) (sym radios) h.radios;
     servers = refused.1;
     journal = subst (λ j. HasKept j (settings_of station) limit (due station lines)) (sym journal) h.journal;
+    keys = ap keys_of keys ∙ h.keys;
   },
 )
 
 -- a pulse that completes a minute
 pub hears-entry : {B : Type 0} (stands : B → History → Type 0) (old new : Player B) (station : StationFields) (limit : ℕ) (lines : List ScriptLine) (feed : ℕ) (reduction : Reduction) (e : Entry) (given : Outcome) →
     (may_hear (radio_of station feed) feed reduction lines ≡ true) × HasHeardPulse stands new.radios station lines feed reduction (Some e) →
-    new.servers ≡ old.servers →
+    new.servers ≡ old.servers → new.keys ≡ old.keys →
     ((settings : SettingsFields) (limit : ℕ) (entries : List Entry) → HasKept old.journal settings limit entries → HasKept new.journal settings limit (entries ++ e ∷ [])) →
     ((settings : SettingsFields) (limit : ℕ) (entries : List Entry) → HasKept old.journal settings limit entries → given ≡ outcome_of_due settings limit entries (Some e)) →
     HasPlayed stands old station limit lines →
     (is_lawful station lines (Pulse feed reduction) ≡ true) × HasGiven stands new station limit lines (Pulse feed reduction) given
-hears-entry stands old new station limit lines feed reduction e given heard servers keeps gives h =
+hears-entry stands old new station limit lines feed reduction e given heard servers keys keeps gives h =
     let line = Pulse feed reduction in (
       heard.0,
       record {
@@ -78,6 +81,7 @@ hears-entry stands old new station limit lines feed reduction e given heard serv
           radios = heard.1.played;
           servers = HasServers-other new.servers station lines line (λ f a. refl) (λ f. refl) (subst (λ s. HasServers s station lines) (sym servers) h.servers);
           journal = more-journal old.journal new.journal station limit lines line e heard.1.due_is keeps h.journal;
+          keys = ap keys_of keys ∙ h.keys;
         };
         outcome_is = gives (settings_of station) limit (due station lines) h.journal ∙ ap (outcome_of_due (settings_of station) limit (due station lines)) heard.1.due_is;
       },
@@ -86,9 +90,9 @@ hears-entry stands old new station limit lines feed reduction e given heard serv
 -- a pulse that completes none
 pub hears-none : {B : Type 0} (stands : B → History → Type 0) (old new : Player B) (station : StationFields) (limit : ℕ) (lines : List ScriptLine) (feed : ℕ) (reduction : Reduction) →
     (may_hear (radio_of station feed) feed reduction lines ≡ true) × HasHeardPulse stands new.radios station lines feed reduction None →
-    new.servers ≡ old.servers → new.journal ≡ old.journal → HasPlayed stands old station limit lines →
+    new.servers ≡ old.servers → new.journal ≡ old.journal → new.keys ≡ old.keys → HasPlayed stands old station limit lines →
     (is_lawful station lines (Pulse feed reduction) ≡ true) × HasGiven stands new station limit lines (Pulse feed reduction) Nothing
-hears-none stands old new station limit lines feed reduction heard servers journal h =
+hears-none stands old new station limit lines feed reduction heard servers journal keys h =
     let line = Pulse feed reduction in (
       heard.0,
       record {
@@ -96,6 +100,7 @@ hears-none stands old new station limit lines feed reduction heard servers journ
           radios = heard.1.played;
           servers = HasServers-other new.servers station lines line (λ f a. refl) (λ f. refl) (subst (λ s. HasServers s station lines) (sym servers) h.servers);
           journal = same-journal new.journal station limit lines line (sym heard.1.due_is) (subst (λ j. HasKept j (settings_of station) limit (due station lines)) (sym journal) h.journal);
+          keys = ap keys_of keys ∙ h.keys;
         };
         outcome_is = ap (outcome_of_due (settings_of station) limit (due station lines)) heard.1.due_is;
       },
@@ -103,9 +108,9 @@ hears-none stands old new station limit lines feed reduction heard servers journ
 
 pub asks-server : {B : Type 0} (stands : B → History → Type 0) (old new : Player B) (station : StationFields) (limit : ℕ) (lines : List ScriptLine) (feed at : ℕ) (bytes : List ℕ) →
     (may_poll (server_of station feed) feed at lines ≡ true) × HasServers new.servers station (lines ++ Ask feed at ∷ []) → bytes ≡ layout (request_header at) →
-    new.radios ≡ old.radios → new.journal ≡ old.journal → HasPlayed stands old station limit lines →
+    new.radios ≡ old.radios → new.journal ≡ old.journal → new.keys ≡ old.keys → HasPlayed stands old station limit lines →
     (is_lawful station lines (Ask feed at) ≡ true) × HasGiven stands new station limit lines (Ask feed at) (Asked bytes)
-asks-server stands old new station limit lines feed at bytes asked is radios journal h =
+asks-server stands old new station limit lines feed at bytes asked is radios journal keys h =
     let line = Ask feed at in (
       asked.0,
       record {
@@ -113,6 +118,7 @@ asks-server stands old new station limit lines feed at bytes asked is radios jou
           radios = HasRadios-other stands new.radios station lines line (λ f. refl) (λ f. refl) (λ p. refl) (subst (λ r. HasRadios stands r station lines) (sym radios) h.radios);
           servers = asked.1;
           journal = same-journal new.journal station limit lines line refl (subst (λ j. HasKept j (settings_of station) limit (due station lines)) (sym journal) h.journal);
+          keys = ap keys_of keys ∙ h.keys;
         };
         outcome_is = ap Asked is;
       },
@@ -120,12 +126,12 @@ asks-server stands old new station limit lines feed at bytes asked is radios jou
 
 pub answers-server : {B : Type 0} (stands : B → History → Type 0) (old new : Player B) (station : StationFields) (limit : ℕ) (lines : List ScriptLine) (feed at : ℕ) (datagram : List ℕ) (e : Entry) (given : Outcome) →
     (may_poll (server_of station feed) feed at lines ≡ true) × HasAnswered new.servers station lines feed at datagram e →
-    new.radios ≡ old.radios →
+    new.radios ≡ old.radios → new.keys ≡ old.keys →
     ((settings : SettingsFields) (limit : ℕ) (entries : List Entry) → HasKept old.journal settings limit entries → HasKept new.journal settings limit (entries ++ e ∷ [])) →
     ((settings : SettingsFields) (limit : ℕ) (entries : List Entry) → HasKept old.journal settings limit entries → given ≡ outcome_of_due settings limit entries (Some e)) →
     HasPlayed stands old station limit lines →
     (is_lawful station lines (Answer feed at datagram) ≡ true) × HasGiven stands new station limit lines (Answer feed at datagram) given
-answers-server stands old new station limit lines feed at datagram e given answered radios keeps gives h =
+answers-server stands old new station limit lines feed at datagram e given answered radios keys keeps gives h =
     let line = Answer feed at datagram in (
       answered.0,
       record {
@@ -133,6 +139,7 @@ answers-server stands old new station limit lines feed at datagram e given answe
           radios = HasRadios-other stands new.radios station lines line (λ f. refl) (λ f. refl) (λ p. refl) (subst (λ r. HasRadios stands r station lines) (sym radios) h.radios);
           servers = answered.1.played;
           journal = more-journal old.journal new.journal station limit lines line e answered.1.due_is keeps h.journal;
+          keys = ap keys_of keys ∙ h.keys;
         };
         outcome_is = gives (settings_of station) limit (due station lines) h.journal ∙ ap (outcome_of_due (settings_of station) limit (due station lines)) answered.1.due_is;
       },
@@ -140,9 +147,9 @@ answers-server stands old new station limit lines feed at datagram e given answe
 
 pub swaps-radio : {B : Type 0} (stands : B → History → Type 0) (old new : Player B) (station : StationFields) (limit : ℕ) (lines : List ScriptLine) (feed : ℕ) →
     (may_swap station (radio_of station feed) lines ≡ true) × HasRadios stands new.radios station (lines ++ Swap feed ∷ []) →
-    new.servers ≡ old.servers → new.journal ≡ old.journal → HasPlayed stands old station limit lines →
+    new.servers ≡ old.servers → new.journal ≡ old.journal → new.keys ≡ old.keys → HasPlayed stands old station limit lines →
     (is_lawful station lines (Swap feed) ≡ true) × HasGiven stands new station limit lines (Swap feed) Nothing
-swaps-radio stands old new station limit lines feed swapped servers journal h =
+swaps-radio stands old new station limit lines feed swapped servers journal keys h =
     let line = Swap feed in (
       swapped.0,
       record {
@@ -150,6 +157,7 @@ swaps-radio stands old new station limit lines feed swapped servers journal h =
           radios = swapped.1;
           servers = HasServers-other new.servers station lines line (λ f a. refl) (λ f. refl) (subst (λ s. HasServers s station lines) (sym servers) h.servers);
           journal = same-journal new.journal station limit lines line refl (subst (λ j. HasKept j (settings_of station) limit (due station lines)) (sym journal) h.journal);
+          keys = ap keys_of keys ∙ h.keys;
         };
         outcome_is = refl;
       },
@@ -166,6 +174,7 @@ requests stands player station limit lines connection arrived sent datagram give
           radios = HasRadios-other stands player.radios station lines line (λ f. refl) (λ f. refl) (λ p. refl) h.radios;
           servers = HasServers-other player.servers station lines line (λ f a. refl) (λ f. refl) h.servers;
           journal = same-journal player.journal station limit lines line refl h.journal;
+          keys = h.keys;
         };
         outcome_is = is;
       },

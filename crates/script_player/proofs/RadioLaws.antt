@@ -6,13 +6,12 @@ use Rattle.std.proofs.lemmas.Option.{slice_get_cases, slice_get_within}
 use Rattle.std.specs.List.{count_by, slice_get}
 use Rattle.std.specs.Option.{option_to_list}
 use Rattle.tick_units.specs.declared.marks.Plan.{Plan}
-use Rattle.tick_units.specs.declared.marks.Plan.TheVariants.{Dcf, Msf, Wwvb}
 use Rattle.tick_units.specs.declared.marks.Reduction.{Reduction}
 use Rattle.tick_units.specs.declared.verdicts.Heard.{Heard}
 use Rattle.journal_entry.specs.declared.entry.Entry.{Entry}
 use Rattle.radio_receiver.specs.Histories.{History, answers_of, least_after, with_delay, with_reduction}
 use Rattle.radio_receiver.proofs.LastLaws.{least_push}
-use Rattle.station_config.specs.Station.{RadioFields, StationFields, is_same_plan}
+use Rattle.station_config.specs.Station.{RadioFields, StationFields}
 use Rattle.script_line.specs.declared.line.ScriptLine.{ScriptLine}
 use Rattle.script_line.specs.declared.line.ScriptLine.TheVariants.{Pulse, Swap}
 use Rattle.script_player.specs.Replay.{due_of_radio, entry_heard, fitted, history_of, is_plan_of, is_swap_for, is_swap_of, may_hear, may_swap, pulse_in, pulses_of, radio_of}

@@ -1,15 +1,16 @@
 -- Scaffolding: what a player keeps, against the definitions on all the lines before.
-use Rattle.std.specs.Prelude.{◌≡◌, ℕ, ◌+◌, ◌≤◌, ◌&&◌, ◌++◌, Bool, true, false, nat_lt, Option, Some, Result, Ok, Err, List, [], ◌∷◌, All, length, take, if◌then◌else◌}
-use Rattle.std.specs.List.{count_by, slice_get}
+use Rattle.std.specs.Prelude.{◌≡◌, ℕ, ◌+◌, ◌≤◌, ◌++◌, Bool, true, false, nat_lt, Option, Some, Result, Ok, Err, List, [], ◌∷◌, All, length, take}
+use Rattle.std.specs.List.{slice_get}
 use Rattle.tick_units.specs.declared.marks.Plan.{Plan}
 use Rattle.tick_units.specs.declared.marks.Reduction.{Reduction}
 use Rattle.journal_entry.specs.declared.entry.Entry.{Entry}
-use Rattle.radio_receiver.specs.Histories.{History, is_blank, least_after}
+use Rattle.radio_receiver.specs.Histories.{History, least_after}
 use Rattle.poll_core.specs.Polling.{HasPolled}
 use Rattle.system_fold.specs.Settings.{SettingsFields}
 use Rattle.system_fold.specs.KeptFold.{StandsForJournal}
-use Rattle.receiver_rack.specs.Racks.{AreFour, AreOf, IsRack, IsSpare, left_of}
-use Rattle.station_config.specs.Station.{RadioFields, ServerFields, StationFields, is_same_plan, settings_of}
+use Rattle.receiver_rack.specs.Racks.{IsSpare, left_of}
+use Rattle.packet_auth.specs.Keys.{keys_of}
+use Rattle.station_config.specs.Station.{RadioFields, ServerFields, StationFields, settings_of}
 use Rattle.script_line.specs.declared.line.ScriptLine.{ScriptLine}
 use Rattle.script_line.specs.declared.line.ScriptLine.TheVariants.{Pulse, Answer}
 use Rattle.script_player.specs.Keeping.{JournalFields}
@@ -17,7 +18,6 @@ use Rattle.script_player.specs.Replay.{due, due_of_radio, due_of_server, events_
 use Rattle.script_player.specs.declared.outcome.NotLawful.{NotLawful}
 use Rattle.script_player.specs.declared.outcome.Outcome.{Outcome}
 use Rattle.script_player.specs.declared.radio.Radio.{Radio}
-use Rattle.receiver_rack.specs.declared.rack.Spare.{Spare}
 use Rattle.script_player.specs.declared.radios.Radios.{Radios}
 use Rattle.script_player.specs.declared.server.Server.{Server}
 use Rattle.script_player.specs.declared.servers.Servers.{Servers}
@@ -106,6 +106,7 @@ pub record HasPlayed {B : Type 0} (stands : B → History → Type 0) (player : 
   pub radios : HasRadios stands player.radios station lines
   pub servers : HasServers player.servers station lines
   pub journal : HasKept player.journal (settings_of station) limit (due station lines)
+  pub keys : keys_of player.keys ≡ station.keys
 
 -- one line more, and what it gave
 pub record HasGiven {B : Type 0} (stands : B → History → Type 0) (player : Player B) (station : StationFields) (limit : ℕ) (lines : List ScriptLine) (line : ScriptLine) (given : Outcome) : Type 0 where

@@ -19,8 +19,8 @@ use Rattle.poll_core.specs.Formulas.{request_header}
 use Rattle.poll_core.specs.Refusals.{code_of}
 use Rattle.poll_core.specs.declared.refusal.PollRefusal.{PollRefusal}
 use Rattle.ntp_packet.specs.Layout.{layout}
-use Rattle.reply_core.specs.Reply.{answer}
 use Rattle.reply_core.specs.declared.dropped.Dropped.{Dropped as WhyDropped}
+use Rattle.sealed_reply.specs.Replies.{reply_to}
 use Rattle.clock_page.specs.Page.{PageFields}
 use Rattle.system_fold.specs.Numbered.{numbered_behind}
 use Rattle.system_fold.specs.Page.{page_of}
@@ -188,7 +188,7 @@ outcome_of_due settings limit before None = Nothing
 outcome_of_due settings limit before (Some e) = if nat_lt (length before) limit then Kept (numbered_behind settings before e) else Nothing
 
 abbrev pub outcome_of_request : Result (List ℕ) WhyDropped → Outcome
-outcome_of_request (Ok bytes) = Replied (record { bytes = bytes })
+outcome_of_request (Ok bytes) = Replied bytes
 outcome_of_request (Err why) = Dropped why
 
 -- what a lawful line gives behind these lines
@@ -197,4 +197,4 @@ outcome station limit lines (Pulse feed reduction) = outcome_of_due (settings_of
 outcome station limit lines (Answer feed at datagram) = outcome_of_due (settings_of station) limit (due station lines) (due_to station lines (Answer feed at datagram))
 outcome station limit lines (Ask feed at) = Asked (layout (request_header at))
 outcome station limit lines (Swap feed) = Nothing
-outcome station limit lines (Request connection arrived sent datagram) = outcome_of_request (answer (page_after station limit lines) datagram arrived sent)
+outcome station limit lines (Request connection arrived sent datagram) = outcome_of_request (reply_to station.keys (page_after station limit lines) datagram arrived sent)

@@ -20,7 +20,7 @@ abbrev pub outcome_text : Outcome → List ℕ
 outcome_text Nothing = []
 outcome_text (Kept n) = numbered_text n ++ 10 ∷ []
 outcome_text (Asked bytes) = codes "asked " ++ encode_lower bytes ++ 10 ∷ []
-outcome_text (Replied packet) = codes "reply " ++ encode_lower packet.bytes ++ 10 ∷ []
+outcome_text (Replied bytes) = codes "reply " ++ encode_lower bytes ++ 10 ∷ []
 outcome_text (Dropped why) = dropped_text why ++ 10 ∷ []
 
 -- what all lines of a script write, one after the other

@@ -1,6 +1,7 @@
 //! What a line of a script gives.
 use journal_entry::Numbered;
-use reply_core::{Dropped as WhyDropped, ReplyPacket};
+use reply_core::Dropped as WhyDropped;
+use sealed_reply::Reply;
 
 /// What a line of a script gives.
 #[derive(Clone, Copy, Debug, PartialEq, Eq)]
@@ -11,8 +12,8 @@ pub enum Outcome {
     Kept(Numbered),
     /// The server of the feed is asked by these bytes.
     Asked([u8; 48]),
-    /// The client is answered by this packet.
-    Replied(ReplyPacket),
+    /// The client is answered by this reply.
+    Replied(Reply),
     /// The client isn't answered.
     Dropped(WhyDropped),
 }

@@ -12,9 +12,10 @@ use crate::radios::Radios;
 use crate::servers::Servers;
 use crate::{BoxedReceiver, NotLawful, Outcome};
 use clock_page::Page;
+use packet_auth::KeyRing;
 use radio_receiver::Receiver;
-use reply_core::reply_packet;
 use script_line::{Datagram, ScriptLine};
+use sealed_reply::reply_to;
 use station_config::Station;
 use std::alloc::{AllocError, Global};
 use tick_units::{Local, Reduction};
@@ -27,6 +28,7 @@ pub struct Player<B: Drop> {
     radios: Radios<B>,
     servers: Servers,
     journal: Journal,
+    keys: KeyRing,
     ghost first: { servers.first ≡ vec_len radios.fitted },
     ghost feeds: { length journal.fold.feeds ≡ vec_len radios.fitted + vec_len servers.servers },
 }
@@ -59,6 +61,7 @@ impl Player<BoxedReceiver> {
             radios,
             servers,
             journal,
+            keys: station.keys(),
         })
     }
 
@@ -140,7 +143,7 @@ impl Player<BoxedReceiver> {
         Ok(Outcome::Nothing)
     }
 
-    // A client's datagram is answered from the page of the entries kept so far.
+    // A client's datagram is answered from the page of the entries kept so far, and the reply is sealed as the datagram is.
     fn reply(&self, arrived: Local, sent: Local, datagram: &Datagram<'_>) -> Outcome
         requires { arrived ≤ sent }
         ensures { (station : StationFields) (limit : ℕ) (before : List ScriptLine) (connection : ℕ) → HasPlayed (λ b h. stands_for b h) self.now station limit before →
@@ -148,8 +151,8 @@ impl Player<BoxedReceiver> {
     {
         let mut room = [0; 1024];
         let length = datagram.write(&mut room);
-        match reply_packet(&self.page(), &room[..length], arrived, sent) {
-            Ok(packet) => Outcome::Replied(packet),
+        match reply_to(&self.keys, &self.page(), &room[..length], arrived, sent) {
+            Ok(reply) => Outcome::Replied(reply),
             Err(why) => Outcome::Dropped(why),
         }
     }

@@ -270,11 +270,12 @@ reply e40006ec0000000000100000494e4954000000000000000011223344556677880000012e00
 j2 5 0 0 302000000 verdict 3976257840 0\n\
 reply 240106ec000000000000f06744434600ed00e130000000001122334455667788ed00e13100000000ed00e1310020c49b\n";
 
+const REQUEST: &str =
+    "230006ec0000000000000000000000000000000000000000000000000000000000000000000000001122334455667788";
+
 // A request stands before the pulse that closes the fifth frame, and one behind it.
 #[test]
 fn a_reply_is_of_the_entries_so_far(rt: HostRuntime) -> Result<(), Fail> {
-    let request =
-        "230006ec0000000000000000000000000000000000000000000000000000000000000000000000001122334455667788\n";
     let mut script = String::from_str(rt.alloc(), "pulse 0 0 100000\n")?;
     let mut start = 2_000_000u64;
     for ones in NOON {
@@ -282,9 +283,10 @@ fn a_reply_is_of_the_entries_so_far(rt: HostRuntime) -> Result<(), Fail> {
         start = start.saturating_add(60_000_000);
     }
     script.push_str("request 0 302000000 302000000 ")?;
-    script.push_str(request)?;
-    script.push_str("pulse 0 302000000 100000\nrequest 0 303000000 303000500 ")?;
-    script.push_str(request)?;
+    script.push_str(REQUEST)?;
+    script.push_str("\npulse 0 302000000 100000\nrequest 0 303000000 303000500 ")?;
+    script.push_str(REQUEST)?;
+    script.push_str("\n")?;
     let played = play(
         rt.alloc(),
         "[[radio]]\nplan = \"dcf\"\nlog = \"log\"\n",
@@ -293,6 +295,41 @@ fn a_reply_is_of_the_entries_so_far(rt: HostRuntime) -> Result<(), Fail> {
     )?;
     assert_eq!(rt; played.text.as_slice(), ENTRIES.as_bytes());
     is_of_noon(&rt, &played.page);
+    Ok(())
+}
+
+// Behind the requests stand an identifier and MD5 of `longwave` and the request, by Python's `hashlib`, once with its last byte changed.
+// The first reply ends with MD5 of `longwave` and its own header.
+const SEALED: &str =
+    "j2 1 0 0 62000000 lone 3976257600\nj2 2 0 0 122000000 verdict 3976257660 0\nj2 3 0 0 182000000 verdict 3976257720 0\nj2 4 0 0 242000000 verdict 3976257780 0\n\
+j2 5 0 0 302000000 verdict 3976257840 0\n\
+reply 240106ec000000000000f06744434600ed00e130000000001122334455667788ed00e13100000000ed00e1310020c49b00000001c6347df5e2b59807072bd69b399065c3\n\
+reply 240106ec000000000000f06744434600ed00e130000000001122334455667788ed00e13100000000ed00e1310020c49b\n\
+reply 240106ec000000000000f06744434600ed00e130000000001122334455667788ed00e13100000000ed00e1310020c49b\n";
+
+#[test]
+fn a_reply_is_sealed_as_its_request_is(rt: HostRuntime) -> Result<(), Fail> {
+    let mut script = String::from_str(rt.alloc(), "pulse 0 0 100000\n")?;
+    let mut start = 2_000_000u64;
+    for ones in NOON {
+        frame(&mut script, ones, start)?;
+        start = start.saturating_add(60_000_000);
+    }
+    script.push_str("pulse 0 302000000 100000\n")?;
+    for behind in [
+        "00000001b408cf70f4de3798e713f31a2a885f12",
+        "00000001b408cf70f4de3798e713f31a2a885fed",
+        "00000002b408cf70f4de3798e713f31a2a885f12",
+    ] {
+        script.push_str("request 0 303000000 303000500 ")?;
+        script.push_str(REQUEST)?;
+        script.push_str(behind)?;
+        script.push_str("\n")?;
+    }
+    let station =
+        "[[radio]]\nplan = \"dcf\"\nlog = \"log\"\n[[key]]\nid = 1\nsecret = \"longwave\"\n";
+    let played = play(rt.alloc(), station, MANY, script.as_str())?;
+    assert_eq!(rt; played.text.as_slice(), SEALED.as_bytes());
     Ok(())
 }
 

@@ -1,5 +1,5 @@
 //! Writes what a line of a script gives.
-ghost use Rattle.std.specs.Prelude.{◌≡◌, ◌+◌, ◌≤◌, ◌++◌, ◌∷◌, [], length, take, drop};
+ghost use Rattle.std.specs.Prelude.{◌≡◌, ◌+◌, ◌*◌, ◌≤◌, ◌++◌, ◌∷◌, [], length, take, drop};
 ghost use Rattle.hex.specs.Hex.{encode_lower};
 ghost use Rattle.script_player.specs.Texts.{outcome_text};
 
@@ -23,17 +23,19 @@ fn write_word(word: &[u8], out: &mut [u8; LINE_ROOM]) -> usize
 
 // Writes a word with its space, the bytes in hexadecimal digits, and a line feed.
 #[tactic(auto, using(crate::proofs::TextLaws::drop_on))]
-fn write_bytes(word: &[u8], bytes: &[u8; 48], out: &mut [u8; LINE_ROOM]) -> usize
-    requires { length word.now ≤ 20 }
+fn write_bytes(word: &[u8], bytes: &[u8], out: &mut [u8; LINE_ROOM]) -> usize
+    requires word { length word.now ≤ 20 }
+    requires bytes { length bytes.now ≤ 68 }
     ensures text { take result out.new ≡ word.now ++ encode_lower bytes.now ++ 10 ∷ [] }
     ensures rest { drop result out.new ≡ drop result out.old }
-    ensures length { result ≡ length word.now + 97 }
+    ensures length { result ≡ length word.now + 2 * length bytes.now + 1 }
 {
-    let mut digits = [0; 96];
-    let _ = encode_to_slice(bytes, &mut digits);
+    let mut room = [0; 136];
+    let digits = &mut room[..2 * bytes.len()];
+    let _ = encode_to_slice(bytes, digits);
     let mut text = TextWriter::new(out);
     text.add(word);
-    text.add(&digits);
+    text.add(digits);
     text.add(b"\n");
     text.len()
 }
@@ -60,7 +62,7 @@ pub fn write_outcome(outcome: &Outcome, out: &mut [u8; LINE_ROOM]) -> usize
         Outcome::Nothing => 0,
         Outcome::Kept(numbered) => write_kept(numbered, out),
         Outcome::Asked(bytes) => write_bytes(b"asked ", bytes, out),
-        Outcome::Replied(packet) => write_bytes(b"reply ", &packet.bytes, out),
+        Outcome::Replied(reply) => write_bytes(b"reply ", reply.bytes(), out),
         Outcome::Dropped(Dropped::Short) => write_word(b"drop short", out),
         Outcome::Dropped(Dropped::Version) => write_word(b"drop version", out),
         Outcome::Dropped(Dropped::Mode) => write_word(b"drop mode", out),

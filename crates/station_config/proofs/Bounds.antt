@@ -6,6 +6,7 @@ use Rattle.std.proofs.lemmas.Bool.Decides.{nat_tests}
 use Rattle.toml.specs.Data.{Data, Members, array, boolean, datetime, float, integer, string, table}
 use Rattle.tick_units.specs.declared.marks.Plan.{Plan}
 use Rattle.tick_units.specs.declared.marks.Plan.TheVariants.{Dcf, Msf, Wwvb}
+use Rattle.packet_auth.specs.Keys.{AreApart}
 use Rattle.station_config.specs.Faults.{counts_of}
 use Rattle.station_config.specs.Rows.{bound_row, radio_row, start_row, delay_row, whole_in}
 use Rattle.station_config.specs.Station.{IsStation, RadioFields, StationFields, plan_count}
@@ -56,6 +57,7 @@ pub record IsWithin (s : StationFields) : Type 0 where
   pub msf : plan_count Msf s.radios ≤ 4
   pub wwvb : plan_count Wwvb s.radios ≤ 4
   pub ports : length s.links ≤ 8
+  pub keys : length s.keys ≤ 8
 
 at_most : (most n : ℕ) → nat_lt most n ≡ false → n ≤ most
 at_most most n e = grind (arith, nat_tests)
@@ -67,21 +69,24 @@ within s e =
     let (c, e3) = none_found _ _ _ e2 in
     let (d, e4) = none_found _ _ _ e3 in
     let (l, e5) = none_found _ _ _ e4 in
-    record { sources = at_most _ _ a; dcf = at_most _ _ b; msf = at_most _ _ c; wwvb = at_most _ _ d; ports = at_most _ _ l }
+    let (k, e6) = none_found _ _ _ e5 in
+    record { sources = at_most _ _ a; dcf = at_most _ _ b; msf = at_most _ _ c; wwvb = at_most _ _ d; ports = at_most _ _ l; keys = at_most _ _ k }
 
 each_plan : (s : StationFields) → IsWithin s → (plan : Plan) → plan_count plan s.radios ≤ 4
 each_plan s w Dcf = w.dcf
 each_plan s w Msf = w.msf
 each_plan s w Wwvb = w.wwvb
 
-pub station_bounds : (m : Members) → IsWithin (station_of m) → IsStation (station_of m)
-station_bounds m w =
+pub station_bounds : (m : Members) → IsWithin (station_of m) → AreApart (station_of m).keys → IsStation (station_of m)
+station_bounds m w apart =
     let bound = read_is 1 16000 1000 (get_member bound_row.key m) (record { low = omega arith; high = omega arith }) in
     let start = read_is 0 (2 ^ 49) 0 (get_member start_row.key m) (record { low = omega arith; high = omega arith }) in
     record {
       sources = w.sources;
       plans = each_plan (station_of m) w;
       ports = w.ports;
+      keys = w.keys;
+      apart = apart;
       delays = delays (tables_at radio_row m);
       least_bound = bound.low;
       most_bound = bound.high;

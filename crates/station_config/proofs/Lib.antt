@@ -2,5 +2,7 @@
 pub mod Bounds
 pub mod Feeds
 pub mod Firsts
+pub mod KeyRows
+pub mod KeyWalks
 pub mod Orders
 pub mod Walks

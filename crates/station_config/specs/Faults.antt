@@ -1,17 +1,17 @@
 -- The faults of a station file, all of them in their order, over the members of its document.
-use Rattle.std.specs.Prelude.{◌≡◌, ⊤, ℕ, ◌+◌, Bool, true, false, not, List, [], ◌∷◌, ◌++◌, map, filter, flat_map, length, nat_lt, Option, Some, None, is_none, slice_get, codes, decimal, IsUtf8}
+use Rattle.std.specs.Prelude.{◌≡◌, ⊤, ℕ, ◌+◌, ◌==◌, ◌||◌, Bool, true, false, not, List, [], ◌∷◌, ◌++◌, map, filter, flat_map, length, nat_lt, Option, Some, None, is_none, slice_get, codes, decimal, IsUtf8, if◌then◌else◌}
 use Rattle.std.specs.List.{list_any}
 use Rattle.std.specs.Str.{bytes_eq}
 use Rattle.tick_units.specs.declared.marks.Plan.TheVariants.{Dcf, Msf, Wwvb}
 use Rattle.toml.specs.Data.{Data, Members, get_member, member, no_members}
 use Rattle.toml.specs.Parse.{parse_document}
-use Rattle.station_config.specs.Rows.{Text, Form, Need, required, preset, optional, Row, has_form, top_rows, radio_rows, server_rows, link_rows, link_row, radio_row, server_row}
+use Rattle.station_config.specs.Rows.{Text, Form, Need, required, preset, optional, Row, has_form, top_rows, radio_rows, server_rows, link_rows, key_rows, link_row, radio_row, server_row, key_row, id_row, secret_row}
 use Rattle.station_config.specs.Station.{StationFields, plan_count}
-use Rattle.station_config.specs.Values.{station_of, tables_at}
+use Rattle.station_config.specs.Values.{number_at, station_of, tables_at}
 use Rattle.station_config.specs.declared.fault.StationFault.{StationFault}
 use Rattle.station_config.specs.declared.fault.StationFault.TheVariants as fault
 use Rattle.station_config.specs.declared.keys.Part.{Part}
-use Rattle.station_config.specs.declared.keys.Part.TheVariants.{Top, Radio, Server, Link}
+use Rattle.station_config.specs.declared.keys.Part.TheVariants.{Top, Radio, Server, Link, Key}
 
 -- a fault: its kind and its key
 pub data Fault : Type 0 where
@@ -27,6 +27,7 @@ rows_of Top = top_rows
 rows_of Radio = radio_rows
 rows_of Server = server_rows
 rows_of Link = link_rows
+rows_of Key = key_rows
 
 -- a key of a table as a fault names it, as in `radio.0.plan`
 abbrev pub key_in : Part → ℕ → Text → Text
@@ -34,6 +35,7 @@ key_in Top place key = key
 key_in Radio place key = codes "radio." ++ (decimal place ++ (codes "." ++ key))
 key_in Server place key = codes "server." ++ (decimal place ++ (codes "." ++ key))
 key_in Link place key = codes "link." ++ (decimal place ++ (codes "." ++ key))
+key_in Key place key = codes "key." ++ (decimal place ++ (codes "." ++ key))
 
 -- a table: which part of the file it is, its place in its array, and its members
 pub record Sheet : Type 0 where
@@ -47,9 +49,15 @@ sheets part tables = map (λ t. record { part = part; place = t.0; members = t.1
 abbrev pub item_sheets : Members → List Sheet
 item_sheets top = sheets Radio (tables_at radio_row top) ++ (sheets Server (tables_at server_row top) ++ sheets Link (tables_at link_row top))
 
--- the top table comes first, and then the radios, the servers and the links, each by place
+abbrev pub key_sheets : Members → List Sheet
+key_sheets top = sheets Key (tables_at key_row top)
+
+-- the top table comes first, and then the radios, the servers, the links and the keys, each by place
+abbrev pub top_sheet : Members → Sheet
+top_sheet top = record { part = Top; place = 0; members = top }
+
 abbrev pub sheets_of : Members → List Sheet
-sheets_of top = record { part = Top; place = 0; members = top } ∷ item_sheets top
+sheets_of top = top_sheet top ∷ (item_sheets top ++ key_sheets top)
 
 -- ---- the keys at fault in one table, by their bytes
 
@@ -90,6 +98,27 @@ bad_in rows members = map (λ row. row.key) (filter (is_bad members) rows)
 abbrev pub keys_at : (List Row → Members → List Text) → List Sheet → List Text
 keys_at kind tables = flat_map (λ s. map (key_in s.part s.place) (kind (rows_of s.part) s.members)) tables
 
+-- ---- the values at fault of a whole document
+
+-- the values at fault in a key's table: its identifier also where it is one of these, which are taken
+abbrev pub is_taken : List ℕ → Members → Bool
+is_taken taken members = list_any (λ id. id == number_at id_row members) taken
+
+abbrev pub bad_id : List ℕ → Members → List Text
+bad_id taken members = if is_bad members id_row || is_taken taken members then id_row.key ∷ [] else []
+
+abbrev pub bad_in_key : List ℕ → Members → List Text
+bad_in_key taken members = bad_id taken members ++ bad_in (secret_row ∷ []) members
+
+-- the same of the tables of keys that stand behind others, whose identifiers are taken
+abbrev pub bad_in_keys : List ℕ → List (ℕ × Members) → List Text
+bad_in_keys taken [] = []
+bad_in_keys taken (t ∷ ts) = map (key_in Key t.0) (bad_in_key taken t.1) ++ bad_in_keys (taken ++ number_at id_row t.1 ∷ []) ts
+
+-- the keys come last
+abbrev pub bad_values : Members → List Text
+bad_values top = keys_at bad_in (top_sheet top ∷ item_sheets top) ++ bad_in_keys [] (tables_at key_row top)
+
 -- ---- too many
 
 pub record Count : Type 0 where
@@ -97,14 +126,15 @@ pub record Count : Type 0 where
   pub count : ℕ
   pub most : ℕ
 
--- the radios and servers together, the radios of each plan, and the links
+-- the radios and servers together, the radios of each plan, the links, and the keys
 abbrev pub counts_of : StationFields → List Count
 counts_of station =
     record { key = codes "radio"; count = length station.radios + length station.servers; most = 16 }
     ∷ record { key = codes "radio"; count = plan_count Dcf station.radios; most = 4 }
     ∷ record { key = codes "radio"; count = plan_count Msf station.radios; most = 4 }
     ∷ record { key = codes "radio"; count = plan_count Wwvb station.radios; most = 4 }
-    ∷ record { key = codes "link"; count = length station.links; most = 8 } ∷ []
+    ∷ record { key = codes "link"; count = length station.links; most = 8 }
+    ∷ record { key = codes "key"; count = length station.keys; most = 8 } ∷ []
 
 abbrev pub excess_of : StationFields → List Fault
 excess_of station = map (λ c. too_many c.key c.count) (filter (λ c. nat_lt c.most c.count) (counts_of station))
@@ -115,7 +145,7 @@ abbrev pub faults_of : Members → List Fault
 faults_of top =
     map unknown_key (keys_at unknown_in (sheets_of top))
     ++ (map missing_key (keys_at missing_in (sheets_of top))
-    ++ (map bad_range (keys_at bad_in (sheets_of top))
+    ++ (map bad_range (bad_values top)
     ++ excess_of (station_of top)))
 
 -- ---- the answer

@@ -4,9 +4,10 @@ use Rattle.std.specs.Borrow.{Bor}
 use Rattle.toml.specs.Data.{Data, Members}
 use Rattle.toml.specs.View.{items_view}
 use Rattle.toml.specs.declared.value.Value.{Value}
-use Rattle.station_config.specs.Faults.{Count as Limit, Fault, bad_in, bad_range, is_wrong, key_in, keys_at, missing_in, missing_key, sheets, too_many, unknown_in, unknown_key}
+use Rattle.packet_auth.specs.Keys.{AreApart, KeyFields}
+use Rattle.station_config.specs.Faults.{Count as Limit, Fault, bad_in, bad_in_keys, bad_range, is_wrong, key_in, keys_at, missing_in, missing_key, sheets, too_many, unknown_in, unknown_key}
 use Rattle.station_config.specs.Rows.{Form, Row, Text, tables_from}
-use Rattle.station_config.specs.Values.{read_or}
+use Rattle.station_config.specs.Values.{key_of, read_or}
 use Rattle.station_config.specs.declared.keys.Check.{Check}
 use Rattle.station_config.specs.declared.keys.Check.TheVariants.{Unknown, Missing}
 use Rattle.station_config.specs.declared.keys.Part.{Part}
@@ -39,6 +40,10 @@ abbrev pub IsMisread : List Text → Misread → Type 0
 IsMisread bad misread.Memory = ⊤
 IsMisread bad (misread.Range key) = slice_get bad 0 ≡ Some key.now
 
+-- the identifiers of keys
+abbrev pub ids_of : List KeyFields → List ℕ
+ids_of keys = map (λ key. key.id) keys
+
 -- the same among the keys of all tables
 abbrev pub IsMisreadAt : List Text → KeyFault → Type 0
 IsMisreadAt bad key_fault.Memory = ⊤
@@ -49,6 +54,12 @@ IsMisreadAt bad _ = ⊥
 pub record Adds {F : Type 0} (part : Part) (row_of : Members → F) (tables : List (ℕ × Members)) (before after : List F) : Type 0 where
   pub rows : after ≡ before ++ map (λ t. row_of t.1) tables
   pub good : keys_at bad_in (sheets part tables) ≡ []
+
+-- the keys of these tables are put behind others, none of their values is a fault, and no identifier stands twice
+pub record AddsKeys (tables : List (ℕ × Members)) (before after : List KeyFields) : Type 0 where
+  pub rows : after ≡ before ++ map (λ t. key_of t.1) tables
+  pub good : bad_in_keys (ids_of before) tables ≡ []
+  pub apart : AreApart before → AreApart after
 
 -- the key_fault is the first of the faults; want of memory says nothing
 abbrev pub IsFirstKeyFault : List Fault → KeyFault → Type 0

@@ -1,7 +1,9 @@
 -- Scaffolding: what a station keeps, and what its clauses see of it.
 use Rattle.std.specs.Prelude.{◌≡◌, map, string_bytes}
+use Rattle.packet_auth.specs.Keys.{KeyFields}
 use Rattle.system_fold.specs.Settings.{SettingsFields}
 use Rattle.station_config.specs.Station.{IsStation, RadioFields, ServerFields, StationFields, settings_of}
+use Rattle.station_config.specs.declared.shared_key.SharedKey.{SharedKey}
 use Rattle.station_config.specs.declared.station.Parts.{Parts}
 use Rattle.station_config.specs.declared.station.Radio.{Radio}
 use Rattle.station_config.specs.declared.station.RadioRow.{RadioRow}
@@ -17,6 +19,9 @@ radio_given r = record { plan = r.plan; log = r.log.now; delay = r.delay }
 abbrev pub server_fields : ServerRow → ServerFields
 server_fields s = record { address = s.address; polls = s.polls }
 
+abbrev pub key_kept : SharedKey → KeyFields
+key_kept k = record { id = k.id; secret = string_bytes k.secret }
+
 -- the station of what was read
 abbrev pub parts_fields : Parts → StationFields
 parts_fields p = record {
@@ -24,6 +29,7 @@ parts_fields p = record {
   radios = map radio_kept p.radios.items;
   servers = map server_fields p.servers.items;
   links = p.links.items;
+  keys = map key_kept p.keys.items;
 }
 
 -- the settings are those of the station, and it is within its bounds

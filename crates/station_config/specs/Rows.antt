@@ -1,6 +1,6 @@
 -- The keys of a station file, table by table, with what may stand at each (a TOML document of this project's own).
-use Rattle.std.specs.Prelude.{ℕ, ◌^◌, ◌&&◌, ◌==◌, ◌+◌, ◌++◌, Bool, List, [], ◌∷◌, Option, None, Some, pos, codes, nat_le, nat_lt, length, is_some, if◌then◌else◌}
-use Rattle.std.specs.List.{before_first, after_first}
+use Rattle.std.specs.Prelude.{ℕ, ◌^◌, ◌-◌, ◌&&◌, ◌==◌, ◌+◌, ◌++◌, Bool, List, [], ◌∷◌, Option, None, Some, pos, codes, nat_le, nat_lt, length, is_some, if◌then◌else◌}
+use Rattle.std.specs.List.{before_first, after_first, list_all}
 use Rattle.std.specs.Int.{w32, from_be_bytes}
 use Rattle.decimal_text.specs.Numbers.{at_most}
 use Rattle.tick_units.specs.Log.{number_of}
@@ -23,6 +23,17 @@ whole_in least most _ = None
 abbrev pub text_in : Data → Option Text
 text_in (string s) = if nat_lt 0 (length s) then Some s else None
 text_in _ = None
+
+-- a text of 1 to 32 visible characters of ASCII
+abbrev pub is_visible : ℕ → Bool
+is_visible byte = nat_le 33 byte && nat_le byte 126
+
+abbrev pub is_secret : Text → Bool
+is_secret text = nat_le 1 (length text) && nat_le (length text) 32 && list_all is_visible text
+
+abbrev pub secret_in : Data → Option Text
+secret_in (string s) = if is_secret s then Some s else None
+secret_in _ = None
 
 -- a plan by its word
 abbrev pub plan_in : Data → Option Plan
@@ -73,6 +84,7 @@ tables_in _ = None
 pub data Form : Type 0 where
   whole : ℕ → ℕ → Form
   text : Form
+  secret : Form
   plan : Form
   address : Form
   tables : Form
@@ -91,6 +103,9 @@ pub record Row : Type 0 where
 -- the top table
 abbrev pub bound_row : Row
 bound_row = record { key = codes "bound"; form = whole 1 16000; need = preset 1000 }
+
+abbrev pub key_row : Row
+key_row = record { key = codes "key"; form = tables; need = optional }
 
 abbrev pub link_row : Row
 link_row = record { key = codes "link"; form = tables; need = optional }
@@ -125,9 +140,16 @@ polls_row = record { key = codes "polls"; form = whole 0 100000; need = preset 8
 abbrev pub port_row : Row
 port_row = record { key = codes "port"; form = whole 1 65535; need = required }
 
+-- a key
+abbrev pub id_row : Row
+id_row = record { key = codes "id"; form = whole 1 (2 ^ 32 - 1); need = required }
+
+abbrev pub secret_row : Row
+secret_row = record { key = codes "secret"; form = secret; need = required }
+
 -- the rows of each table, by the bytes of their keys
 abbrev pub top_rows : List Row
-top_rows = bound_row ∷ link_row ∷ radio_row ∷ server_row ∷ start_row ∷ []
+top_rows = bound_row ∷ key_row ∷ link_row ∷ radio_row ∷ server_row ∷ start_row ∷ []
 
 abbrev pub radio_rows : List Row
 radio_rows = delay_row ∷ log_row ∷ plan_row ∷ []
@@ -138,9 +160,13 @@ server_rows = address_row ∷ polls_row ∷ port_row ∷ []
 abbrev pub link_rows : List Row
 link_rows = port_row ∷ []
 
+abbrev pub key_rows : List Row
+key_rows = id_row ∷ secret_row ∷ []
+
 abbrev pub has_form : Form → Data → Bool
 has_form (whole least most) d = is_some (whole_in least most d)
 has_form text d = is_some (text_in d)
+has_form secret d = is_some (secret_in d)
 has_form plan d = is_some (plan_in d)
 has_form address d = is_some (address_in d)
 has_form tables d = is_some (tables_in d)

@@ -1,10 +1,12 @@
--- What a station is: its radios, its servers and the links that it serves on. All of it is this project's own.
-use Rattle.std.specs.Prelude.{ℕ, ◌≤◌, ◌+◌, ◌^◌, Bool, List, All, ◌++◌, length, map, count_by, true, false}
+-- What a station is: its radios, its servers, the links that it serves on, and the keys that it shares with its clients. All of it is this project's own.
+use Rattle.std.specs.Prelude.{ℕ, [], ◌∷◌, ◌≤◌, ◌+◌, ◌^◌, Bool, List, All, ◌++◌, length, map, count_by, true, false}
 use Rattle.feed_link.specs.declared.outside.Address.{Address}
+use Rattle.packet_auth.specs.Keys.{AreApart, KeyFields}
 use Rattle.system_fold.specs.Settings.{SettingsFields, bound_of}
 use Rattle.system_fold.specs.declared.settings.SourceKind.{SourceKind}
 use Rattle.system_fold.specs.declared.settings.SourceKind.TheVariants.{Radio, Server}
 use Rattle.station_config.specs.declared.station.TopNumbers.{TopNumbers}
+use Rattle.tick_units.specs.Plans.{word_of}
 use Rattle.tick_units.specs.declared.marks.Plan.{Plan}
 use Rattle.tick_units.specs.declared.marks.Plan.TheVariants.{Dcf, Msf, Wwvb}
 
@@ -20,12 +22,13 @@ pub record ServerFields : Type 0 where
   pub polls : ℕ
 
 -- a station: the numbers of its top table, which are the bound of its pages in milliseconds and its first moment in microseconds, its radios and servers,
--- and the ports that it serves on
+-- the ports that it serves on, and its keys
 pub record StationFields : Type 0 where
   pub top : TopNumbers
   pub radios : List RadioFields
   pub servers : List ServerFields
   pub links : List ℕ
+  pub keys : List KeyFields
 
 abbrev pub is_same_plan : Plan → Plan → Bool
 is_same_plan Dcf Dcf = true
@@ -42,6 +45,8 @@ pub record IsStation (station : StationFields) : Type 0 where
   pub sources : length station.radios + length station.servers ≤ 16
   pub plans : (plan : Plan) → plan_count plan station.radios ≤ 4
   pub ports : length station.links ≤ 8
+  pub keys : length station.keys ≤ 8
+  pub apart : AreApart station.keys
   pub delays : All (λ r. r.delay ≤ 100000) station.radios
   pub least_bound : 1 ≤ station.top.bound
   pub most_bound : station.top.bound ≤ 16000
@@ -56,3 +61,17 @@ kind_of_server s = Server s.address
 -- the feeds of a station are its radios in order, and then its servers
 abbrev pub settings_of : StationFields → SettingsFields
 settings_of station = record { bound = bound_of station.top.bound; sources = map kind_of_radio station.radios ++ map kind_of_server station.servers }
+
+-- a radio without delay, whose log is named by its plan
+abbrev pub plain_radio : Plan → RadioFields
+plain_radio plan = record { plan = plan; log = word_of plan; delay = 0 }
+
+-- a station of a radio of each plan and of nothing else, with the numbers that a file has by default
+abbrev pub one_of_each : StationFields
+one_of_each = record {
+  top = record { bound = 1000; start = 0 };
+  radios = plain_radio Dcf ∷ plain_radio Msf ∷ plain_radio Wwvb ∷ [];
+  servers = [];
+  links = [];
+  keys = [];
+}

@@ -2,7 +2,8 @@
 use Rattle.std.specs.Prelude.{ℕ, List, [], map, Option, None, Some, unwrap_or}
 use Rattle.tick_units.specs.declared.marks.Plan.TheVariants.{Dcf}
 use Rattle.toml.specs.Data.{Data, Members, get_member}
-use Rattle.station_config.specs.Rows.{Form, whole, Need, preset, Row, whole_in, text_in, plan_in, address_in, tables_in, bound_row, link_row, radio_row, server_row, start_row, delay_row, log_row, plan_row, address_row, polls_row, port_row}
+use Rattle.station_config.specs.Rows.{Form, whole, Need, preset, Row, whole_in, text_in, secret_in, plan_in, address_in, tables_in, bound_row, key_row, link_row, radio_row, server_row, start_row, delay_row, log_row, plan_row, address_row, polls_row, port_row, id_row, secret_row}
+use Rattle.packet_auth.specs.Keys.{KeyFields}
 use Rattle.station_config.specs.Station.{RadioFields, ServerFields, StationFields}
 use Rattle.station_config.specs.declared.station.TopNumbers.{TopNumbers}
 
@@ -40,6 +41,12 @@ server_of members = record {
   polls = number_at polls_row members;
 }
 
+abbrev pub key_of : Members → KeyFields
+key_of members = record {
+  id = number_at id_row members;
+  secret = read_or [] secret_in (get_member secret_row.key members);
+}
+
 abbrev pub top_of : Members → TopNumbers
 top_of members = record {
   bound = number_at bound_row members;
@@ -52,4 +59,5 @@ station_of members = record {
   radios = map (λ t. radio_of t.1) (tables_at radio_row members);
   servers = map (λ t. server_of t.1) (tables_at server_row members);
   links = map (λ t. number_at port_row t.1) (tables_at link_row members);
+  keys = map (λ t. key_of t.1) (tables_at key_row members);
 }

@@ -70,5 +70,10 @@ pub fn excess(parts: &Parts) -> Option<Count>
             count: parts.links.len() as u64,
             most: 8,
         },
+        Count {
+            key: "key",
+            count: parts.keys.len() as u64,
+            most: 8,
+        },
     ])
 }

@@ -1,15 +1,16 @@
 //! The station of a document, or what stands against it.
 ghost use Rattle.std.specs.Prelude.{◌≡◌, ◌≤◌, ◌^◌, [], Some, IfOk, IfErr, slice_get};
+ghost use Rattle.packet_auth.specs.Keys.{AreApart};
 ghost use Rattle.toml.specs.Data.{get_member};
 ghost use Rattle.toml.specs.View.{items_view, table_view};
-ghost use Rattle.station_config.specs.Rows.{tables_from, top_rows, link_row, radio_row, server_row, start_row, whole_in};
+ghost use Rattle.station_config.specs.Rows.{tables_from, top_rows, key_row, link_row, radio_row, server_row, start_row, whole_in};
 ghost use Rattle.station_config.specs.Values.{station_of, tables_at, top_of};
-ghost use Rattle.station_config.specs.Faults.{bad_in, faults_of, keys_at, missing_in, sheets_of};
+ghost use Rattle.station_config.specs.Faults.{bad_in, bad_values, faults_of, keys_at, missing_in, sheets_of};
 ghost use Rattle.station_config.specs.Finding.{IsFirstKeyFault, IsMisreadAt, IsRead};
 ghost use Rattle.station_config.specs.KeptStation.{parts_fields};
 
 use crate::counts::excess;
-use crate::items::{KeyFault, read_links, read_radios, read_servers};
+use crate::items::{KeyFault, read_keys, read_links, read_radios, read_servers};
 use crate::keys::{Check, Part, Spot, first_at, tables};
 use crate::rows::number;
 use crate::station::{Parts, Station, TopNumbers};
@@ -17,13 +18,14 @@ use std::alloc::Global;
 use tick_units::Local;
 use toml::{Table, Value};
 
-// The numbers of the top table, and the arrays whose tables aren't read yet.
-#[derive(Clone, Copy, Debug)]
+// The numbers of the top table, and the arrays whose tables aren't read yet. It has no `Debug`, since secrets stand in them.
+#[derive(Clone, Copy)]
 pub struct Top<'a> {
     pub numbers: TopNumbers,
     pub radios: &'a [Value],
     pub servers: &'a [Value],
     pub links: &'a [Value],
+    pub keys: &'a [Value],
 }
 
 // The first moment of the links.
@@ -39,10 +41,12 @@ fn read_top<'a>(table: &'a Table) -> Result<Top<'a>, &'static str>
     ensures radios { IfOk result (λ t. tables_from 0 (items_view t.radios.now) ≡ tables_at radio_row (table_view table.now)) }
     ensures servers { IfOk result (λ t. tables_from 0 (items_view t.servers.now) ≡ tables_at server_row (table_view table.now)) }
     ensures links { IfOk result (λ t. tables_from 0 (items_view t.links.now) ≡ tables_at link_row (table_view table.now)) }
+    ensures keys { IfOk result (λ t. tables_from 0 (items_view t.keys.now) ≡ tables_at key_row (table_view table.now)) }
     ensures good { IfOk result (λ _. bad_in top_rows (table_view table.now) ≡ []) }
     ensures bad { IfErr result (λ k. slice_get (bad_in top_rows (table_view table.now)) 0 ≡ Some k.now) }
 {
     let bound = number(table, "bound", 1, 16_000, 1000).ok_or("bound")?;
+    let keys = tables(table, "key").ok_or("key")?;
     let links = tables(table, "link").ok_or("link")?;
     let radios = tables(table, "radio").ok_or("radio")?;
     let servers = tables(table, "server").ok_or("server")?;
@@ -55,6 +59,7 @@ fn read_top<'a>(table: &'a Table) -> Result<Top<'a>, &'static str>
         radios,
         servers,
         links,
+        keys,
     })
 }
 
@@ -62,8 +67,9 @@ fn read_top<'a>(table: &'a Table) -> Result<Top<'a>, &'static str>
 fn read_parts(alloc: Global, table: &Table) -> Result<Parts, KeyFault<'static>>
     requires { keys_at missing_in (sheets_of (table_view table.now)) ≡ [] }
     ensures said { IfOk result (λ p. parts_fields p ≡ station_of (table_view table.now)) }
-    ensures good { IfOk result (λ _. keys_at bad_in (sheets_of (table_view table.now)) ≡ []) }
-    ensures bad { IfErr result (IsMisreadAt (keys_at bad_in (sheets_of (table_view table.now)))) }
+    ensures good { IfOk result (λ _. bad_values (table_view table.now) ≡ []) }
+    ensures apart { IfOk result (λ p. AreApart (parts_fields p).keys) }
+    ensures bad { IfErr result (IsMisreadAt (bad_values (table_view table.now))) }
 {
     let top = match read_top(table) {
         Ok(top) => top,
@@ -78,11 +84,13 @@ fn read_parts(alloc: Global, table: &Table) -> Result<Parts, KeyFault<'static>>
     let radios = read_radios(alloc, top.radios)?;
     let servers = read_servers(alloc, top.servers)?;
     let links = read_links(alloc, top.links)?;
+    let keys = read_keys(alloc, top.keys)?;
     Ok(Parts {
         top: top.numbers,
         radios,
         servers,
         links,
+        keys,
     })
 }
 

@@ -1,14 +1,15 @@
 //! The rows of the arrays of a station file.
-ghost use Rattle.std.specs.Prelude.{◌≡◌, ◌++◌, List, [], IfOk, IfErr, map};
+ghost use Rattle.std.specs.Prelude.{◌≡◌, ◌∷◌, ◌++◌, List, [], IfOk, IfErr, map};
 ghost use Rattle.toml.specs.View.{view, items_view};
 ghost use Rattle.station_config.specs.Rows.{Text, table_at, tables_from, port_row};
 ghost use Rattle.station_config.specs.Values.{number_at, radio_of, server_of};
-ghost use Rattle.station_config.specs.Faults.{bad_in, key_in, keys_at, missing_in, sheets};
-ghost use Rattle.station_config.specs.Finding.{Adds, IsMisread, IsMisreadAt};
-ghost use Rattle.station_config.specs.KeptStation.{radio_kept, server_fields};
+ghost use Rattle.station_config.specs.Faults.{bad_in, bad_in_keys, key_in, keys_at, missing_in, sheets};
+ghost use Rattle.station_config.specs.Finding.{Adds, AddsKeys, IsMisread, IsMisreadAt, ids_of};
+ghost use Rattle.station_config.specs.KeptStation.{key_kept, radio_kept, server_fields};
 
 use crate::keys::{Part, Spot};
-use crate::rows::{Misread, link, radio, server};
+use crate::rows::{Misread, key, link, radio, server};
+use crate::shared_key::SharedKey;
 use crate::station::{Radio, ServerRow};
 use std::alloc::Global;
 use toml::Value;
@@ -93,6 +94,36 @@ fn add_link(links: &mut Vec<u16>, place: usize, item: &Value) -> Result<(), KeyF
     }
 }
 
+// Puts a key behind others.
+fn push_key(keys: &mut Vec<SharedKey>, key: SharedKey) -> Result<(), KeyFault<'static>>
+    ensures pushed { IfOk result (λ _. map key_kept keys.new.items ≡ map key_kept keys.old.items ++ key_kept key ∷ []) }
+    ensures full { IfErr result (λ fault. fault ≡ KeyFault.Memory) }
+{
+    match keys.push(key) {
+        Ok(()) => Ok(()),
+        Err(_) => Err(KeyFault::Memory),
+    }
+}
+
+fn add_key(
+    alloc: Global,
+    keys: &mut Vec<SharedKey>,
+    place: usize,
+    item: &Value,
+) -> Result<(), KeyFault<'static>>
+    requires { keys_at missing_in (sheets Part.Key (table_at place (view item.now))) ≡ [] }
+    ensures added { IfOk result (λ _. AddsKeys (table_at place (view item.now)) (map key_kept keys.old.items) (map key_kept keys.new.items)) }
+    ensures bad { IfErr result (IsMisreadAt (bad_in_keys (ids_of (map key_kept keys.old.items)) (table_at place (view item.now)))) }
+{
+    let Some(table) = item.as_table() else {
+        return Ok(());
+    };
+    match key(alloc, table, keys.as_slice()) {
+        Ok(key) => push_key(keys, key),
+        Err(fault) => Err(placed(Part::Key, place, fault)),
+    }
+}
+
 pub fn read_radios(alloc: Global, items: &[Value]) -> Result<Vec<Radio>, KeyFault<'static>>
     requires { keys_at missing_in (sheets Part.Radio (tables_from 0 (items_view items.now))) ≡ [] }
     ensures read { IfOk result (λ v. Adds Part.Radio radio_of (tables_from 0 (items_view items.now)) [] (map radio_kept v.items)) }
@@ -127,4 +158,16 @@ pub fn read_links(alloc: Global, items: &[Value]) -> Result<Vec<u16>, KeyFault<'
         add_link(&mut links, place, item)?;
     }
     Ok(links)
+}
+
+pub fn read_keys(alloc: Global, items: &[Value]) -> Result<Vec<SharedKey>, KeyFault<'static>>
+    requires { keys_at missing_in (sheets Part.Key (tables_from 0 (items_view items.now))) ≡ [] }
+    ensures read { IfOk result (λ v. AddsKeys (tables_from 0 (items_view items.now)) [] (map key_kept v.items)) }
+    ensures bad { IfErr result (IsMisreadAt (bad_in_keys [] (tables_from 0 (items_view items.now)))) }
+{
+    let mut keys = Vec::new(alloc);
+    for (place, item) in items.iter().enumerate() {
+        add_key(alloc, &mut keys, place, item)?;
+    }
+    Ok(keys)
 }

@@ -1,5 +1,5 @@
 //! The keys of a station file: unknown ones and missing ones.
-ghost use Rattle.std.specs.Prelude.{◌≡◌, [], Some, None, map, filter, is_none, is_some, option_map, slice_get};
+ghost use Rattle.std.specs.Prelude.{◌≡◌, ◌++◌, [], Some, None, map, filter, is_none, is_some, option_map, slice_get};
 ghost use Rattle.std.specs.List.{list_any};
 ghost use Rattle.std.specs.Str.{bytes_eq};
 ghost use Rattle.toml.specs.Data.{get_member};
@@ -7,19 +7,20 @@ ghost use Rattle.toml.specs.View.{view, array_view, items_view, table_view};
 ghost use Rattle.toml.specs.Text.{are_tables as spec_are_tables};
 ghost use Rattle.station_config.specs.Rows.{tables, table_at, tables_from, tables_in};
 ghost use Rattle.station_config.specs.Values.{read_or};
-ghost use Rattle.station_config.specs.Faults.{rows_of, is_known, is_wrong, item_sheets, keys_at, missing_in, required_keys, sheets, sheets_of, unknown_in};
+ghost use Rattle.station_config.specs.Faults.{rows_of, is_known, is_wrong, item_sheets, key_sheets, keys_at, missing_in, required_keys, sheets, sheets_of, unknown_in};
 ghost use Rattle.station_config.specs.Finding.{keys_for, spot_text, tables_seen};
 
 use toml::value::Array;
 use toml::{Table, Value};
 
-// A part of a station file: the top table, a radio, a server or a link.
+// A part of a station file: the top table, a radio, a server, a link or a key that is shared with clients.
 #[derive(Clone, Copy, Debug)]
 pub enum Part {
     Top,
     Radio,
     Server,
     Link,
+    Key,
 }
 
 // What is asked of the keys of a table before their values are read.
@@ -42,10 +43,11 @@ fn known_keys(part: Part) -> &'static [&'static str]
     ensures { map (λ w. w.now) result.now ≡ map (λ row. row.key) (rows_of part) }
 {
     match part {
-        Part::Top => &["bound", "link", "radio", "server", "start"],
+        Part::Top => &["bound", "key", "link", "radio", "server", "start"],
         Part::Radio => &["delay", "log", "plan"],
         Part::Server => &["address", "polls", "port"],
         Part::Link => &["port"],
+        Part::Key => &["id", "secret"],
     }
 }
 
@@ -58,6 +60,7 @@ fn keys_required(part: Part) -> &'static [&'static str]
         Part::Radio => &["log", "plan"],
         Part::Server => &["address", "port"],
         Part::Link => &["port"],
+        Part::Key => &["id", "secret"],
     }
 }
 
@@ -209,7 +212,19 @@ fn first_in_arrays<'a>(check: Check, table: &'a Table) -> Option<Spot<'a>>
     first_in_array(check, Part::Link, table, "link")
 }
 
-// The first key that fails a check: the top table comes first, and then the radios, the servers and the links by place.
+// The same where the keys that are shared with clients come last.
+fn first_in_all<'a>(check: Check, table: &'a Table) -> Option<Spot<'a>>
+    ensures { option_map spot_text result ≡ slice_get (keys_at (keys_for check) (item_sheets (table_view table.now) ++ key_sheets (table_view table.now))) 0 }
+{
+    let item = first_in_arrays(check, table);
+    if item.is_some() {
+        return item;
+    }
+    first_in_array(check, Part::Key, table, "key")
+}
+
+// The first key that fails a check: the top table comes first, and then the radios, the servers, the links and the shared keys by
+// place.
 pub fn first_at<'a>(check: Check, table: &'a Table) -> Option<Spot<'a>>
     ensures { option_map spot_text result ≡ slice_get (keys_at (keys_for check) (sheets_of (table_view table.now))) 0 }
 {
@@ -219,6 +234,6 @@ pub fn first_at<'a>(check: Check, table: &'a Table) -> Option<Spot<'a>>
             place: 0,
             key,
         }),
-        None => first_in_arrays(check, table),
+        None => first_in_all(check, table),
     }
 }

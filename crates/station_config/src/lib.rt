@@ -7,13 +7,17 @@ mod document;
 mod fault;
 mod items;
 mod keys;
+mod one_of_each;
 mod reading;
 mod rows;
+mod shared_key;
 mod station;
 
 pub use fault::{KeyText, StationFault};
 pub use reading::read_station;
 pub use station::{LinkRow, RadioRow, ServerRow, Station};
 
+#[cfg(test)]
+mod key_tests;
 #[cfg(test)]
 mod tests;

@@ -1,21 +1,26 @@
 //! The values at the keys of a table.
-ghost use Rattle.std.specs.Prelude.{◌≡◌, ◌≤◌, Some, None, IfOk, IfErr, IfSome, IsSome, [], option_map, codes};
+ghost use Rattle.std.specs.Prelude.{◌≡◌, ◌≤◌, ◌<◌, ◌==◌, ◌^◌, ◌-◌, length, map, Some, None, false, IfOk, IfErr, IfSome, IsSome, [], option_map, codes};
+ghost use Rattle.std.specs.List.{list_all, list_any};
 ghost use Rattle.tick_units.specs.declared.marks.Plan.TheVariants.{Dcf};
 ghost use Rattle.toml.specs.Data.{get_member, string};
 ghost use Rattle.toml.specs.View.{view, table_view};
-ghost use Rattle.station_config.specs.Rows.{whole_in, text_in, plan_in, address_in, whole, text, plan, address, radio_rows, server_rows, link_rows, port_row};
-ghost use Rattle.station_config.specs.Values.{number_at, radio_of, server_of};
-ghost use Rattle.station_config.specs.Faults.{bad_in, missing_in};
-ghost use Rattle.station_config.specs.Finding.{IsRead, IsMisread};
-ghost use Rattle.station_config.specs.KeptStation.{radio_kept, server_fields};
+ghost use Rattle.station_config.specs.Rows.{whole_in, text_in, secret_in, is_secret, is_visible, plan_in, address_in, whole, text, secret, plan, address, radio_rows, server_rows, link_rows, key_rows, port_row};
+ghost use Rattle.station_config.specs.Values.{key_of, number_at, radio_of, server_of};
+ghost use Rattle.station_config.specs.Faults.{bad_in, bad_in_key, missing_in};
+ghost use Rattle.station_config.specs.Finding.{IsRead, IsMisread, ids_of};
+ghost use Rattle.station_config.specs.KeptStation.{key_kept, radio_kept, server_fields};
 
 use crate::address::address;
 use crate::keys::value_at;
+use crate::shared_key::SharedKey;
 use crate::station::{Radio, ServerRow};
 use feed_link::Address;
 use std::alloc::Global;
 use tick_units::Plan;
 use toml::{Table, Value};
+
+// A secret has at most this number of bytes.
+const LONGEST: usize = 32;
 
 // Why the values of a table couldn't be read: the value at this key isn't of its type and range, or memory ran out.
 #[derive(Clone, Copy, Debug)]
@@ -56,6 +61,48 @@ fn text<'a>(table: &'a Table, key: &str) -> Option<&'a str>
 {
     let text = value_at(table, key)?.as_str()?;
     if text.is_empty() { None } else { Some(text) }
+}
+
+// Visible characters of ASCII alone.
+fn is_visible(text: &[u8]) -> bool
+    ensures { result ≡ list_all is_visible text.now }
+{
+    text.iter().all(|byte| 33 <= *byte && *byte <= 126)
+}
+
+// One to 32 visible characters of ASCII.
+fn is_secret(text: &str) -> bool
+    ensures { result ≡ is_secret text.now }
+{
+    1 <= text.len() && text.len() <= LONGEST && is_visible(text.as_bytes())
+}
+
+// The secret of a key.
+fn secret(table: &Table) -> Option<&str>
+    requires { IsSome (get_member (codes "secret") (table_view table.now)) }
+    ensures read { IsRead secret [] secret_in (get_member (codes "secret") (table_view table.now)) (option_map (λ t. t.now) result) }
+    ensures least { IfSome result (λ t. 1 ≤ length t.now) }
+    ensures most { IfSome result (λ t. length t.now ≤ 32) }
+{
+    let text = value_at(table, "secret")?.as_str()?;
+    if is_secret(text) { Some(text) } else { None }
+}
+
+// The identifier of a key.
+fn id(table: &Table) -> Option<u32>
+    requires { IsSome (get_member (codes "id") (table_view table.now)) }
+    ensures read { IsRead (whole 1 (2 ^ 32 - 1)) 0 (whole_in 1 (2 ^ 32 - 1)) (get_member (codes "id") (table_view table.now)) result }
+    ensures some { IfSome result (λ n. 0 < n) }
+{
+    let id = whole(value_at(table, "id")?, 1, u64::from(u32::MAX))?;
+    Some(id as u32)
+}
+
+// One of these keys has an identifier.
+fn is_taken(keys: &[SharedKey], id: u32) -> bool
+    ensures { result ≡ list_any (λ key. key.id == id) keys.now }
+{
+    keys.iter().any(|key| key.id == id)
 }
 
 fn plan(table: &Table) -> Option<Plan>
@@ -138,5 +185,28 @@ pub fn link(table: &Table) -> Result<u16, Misread>
     match port(table) {
         Some(port) => Ok(port),
         None => Err(Misread::Range("port")),
+    }
+}
+
+// The key of a table that has all its keys, behind those of the tables before it.
+pub fn key(alloc: Global, table: &Table, before: &[SharedKey]) -> Result<SharedKey, Misread>
+    requires { missing_in key_rows (table_view table.now) ≡ [] }
+    ensures said { IfOk result (λ k. key_kept k ≡ key_of (table_view table.now)) }
+    ensures good { IfOk result (λ _. bad_in_key (ids_of (map key_kept before.now)) (table_view table.now) ≡ []) }
+    ensures apart { IfOk result (λ k. list_any (λ key. key.id == k.id) before.now ≡ false) }
+    ensures bad { IfErr result (IsMisread (bad_in_key (ids_of (map key_kept before.now)) (table_view table.now))) }
+{
+    let Some(id) = id(table) else {
+        return Err(Misread::Range("id"));
+    };
+    if is_taken(before, id) {
+        return Err(Misread::Range("id"));
+    }
+    let Some(secret) = secret(table) else {
+        return Err(Misread::Range("secret"));
+    };
+    match String::from_str(alloc, secret) {
+        Ok(secret) => Ok(SharedKey { id, secret }),
+        Err(_) => Err(Misread::Memory),
     }
 }

@@ -1,11 +1,14 @@
 //! A station, and what was read of its file.
 ghost use Rattle.std.specs.Prelude.{◌≡◌, ◌≤◌, ◌+◌, ◌++◌, option_map, length, map};
 ghost use Rattle.std.specs.List.{slice_get};
+ghost use Rattle.packet_auth.specs.Keys.{AreApart, keys_of};
 ghost use Rattle.system_fold.specs.Settings.{AreLawful};
 ghost use Rattle.station_config.specs.Station.{IsStation, kind_of_radio, kind_of_server, settings_of};
-ghost use Rattle.station_config.specs.KeptStation.{parts_fields, radio_given, radio_kept, server_fields};
+ghost use Rattle.station_config.specs.KeptStation.{key_kept, parts_fields, radio_given, radio_kept, server_fields};
 
+use crate::shared_key::SharedKey;
 use feed_link::Address;
+use packet_auth::KeyRing;
 use std::marker::Model;
 use system_fold::{Settings, SourceKind};
 use tick_units::{Local, Plan};
@@ -54,13 +57,15 @@ pub struct TopNumbers {
     pub start: Local,
 }
 
-// What was read of a station file: the numbers of its top table, the rows, and the ports of the links.
-#[derive(Debug, Drop)]
+// What was read of a station file: the numbers of its top table, the rows, the ports of the links, and the keys. It has no `Debug`, so that
+// no secret stands in any text.
+#[derive(Drop)]
 pub struct Parts {
     pub top: TopNumbers,
     pub radios: Vec<Radio>,
     pub servers: Vec<ServerRow>,
     pub links: Vec<u16>,
+    pub keys: Vec<SharedKey>,
 }
 
 // The feeds of the radios.
@@ -83,7 +88,20 @@ fn add_servers(settings: &mut Settings, servers: &[ServerRow])
     }
 }
 
-/// A station: what it hears, whom it asks and where it serves. Contracts see it as a record of these.
+// The ring of keys.
+fn ring_of(keys: &[SharedKey]) -> KeyRing
+    requires most { length keys.now ≤ 8 }
+    requires apart { AreApart (map key_kept keys.now) }
+    ensures { keys_of result ≡ map key_kept keys.now }
+{
+    let mut ring = KeyRing::new();
+    for key in keys {
+        ring.add(key.id, key.secret.as_bytes());
+    }
+    ring
+}
+
+/// A station: what it hears, whom it asks, where it serves, and the keys that it shares with its clients. Contracts see it as a record of these.
 #[derive(Drop)]
 pub struct Station {
     settings: Settings,
@@ -152,6 +170,14 @@ impl Station {
         ensures bounds { IsStation self.now }
     {
         self.parts.links.len()
+    }
+
+    /// The keys that it shares with its clients.
+    pub fn keys(&self) -> KeyRing
+        ensures value { keys_of result ≡ self.now.keys }
+        ensures bounds { IsStation self.now }
+    {
+        ring_of(self.parts.keys.as_slice())
     }
 
     /// The radio at a place, from 0. `None` exactly where the place isn't below the number of radios.

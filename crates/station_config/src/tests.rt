@@ -236,7 +236,7 @@ fn fault_text(alloc: Global, fault: &StationFault) -> Result<String, Fail> {
 }
 
 // What a station file comes to, in one line.
-fn answer(alloc: Global, text: &[u8]) -> Result<String, Fail> {
+pub(crate) fn answer(alloc: Global, text: &[u8]) -> Result<String, Fail> {
     match read_station(alloc, text) {
         Ok(station) => station_text(alloc, &station),
         Err(fault) => fault_text(alloc, &fault),
@@ -264,7 +264,7 @@ fn is_right(alloc: Global, line: &str, before: &str, after: &str) -> Result<bool
 }
 
 // The first line of a table that is wrong.
-fn wrong<'a>(
+pub(crate) fn wrong<'a>(
     alloc: Global,
     table: &'a str,
     before: &str,
@@ -432,5 +432,27 @@ fn as_many_as_may_be(rt: HostRuntime) -> Result<(), Fail> {
         answer(alloc, text.as_bytes())?.as_str(),
         "range link.8.port"
     );
+    Ok(())
+}
+
+// What a drill serves: each plan once, in the order of its feeds.
+#[test]
+fn one_of_each_plan(rt: HostRuntime) -> Result<(), Fail> {
+    let station = Station::one_of_each(rt.alloc())?;
+    assert_eq!(rt;
+        (station.radios(), station.servers(), station.links()),
+        (3, 0, 0)
+    );
+    assert_eq!(rt; station.start().get(), 0);
+    for (place, plan, log) in [
+        (0, Plan::Dcf, "dcf"),
+        (1, Plan::Msf, "msf"),
+        (2, Plan::Wwvb, "wwvb"),
+    ] {
+        let radio = station.radio(place).ok_or("a radio")?;
+        assert_eq!(rt; radio.plan, plan);
+        assert_eq!(rt; radio.log, log);
+        assert_eq!(rt; radio.delay, 0);
+    }
     Ok(())
 }

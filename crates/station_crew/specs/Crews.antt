@@ -2,7 +2,8 @@
 use Rattle.std.specs.Prelude.{◌≡◌, ◌≤◌, ℕ, ◌+◌, List, [], ◌++◌, All, None, length, map, vec_capacity}
 use Rattle.atomic_table.specs.Seated.{TableId}
 use Rattle.feed_link.specs.Told.{SourceState, LinkState}
-use Rattle.page_cell.specs.Passes.{Known, KnownReader}
+use Rattle.packet_auth.specs.Keys.{keys_of}
+use Rattle.page_cell.specs.Passes.{KnownReader}
 use Rattle.radio_receiver.specs.Histories.{History}
 use Rattle.station_config.specs.Station.{StationFields}
 use Rattle.station_crew.specs.Jobs.{IsManned, RadioRan, PollRan}
@@ -63,7 +64,7 @@ pub record HasRoom {L T B : Type 0} (of_radios of_servers of_links : ℕ) (room 
   pub told : of_links ≤ vec_capacity room.told
   pub left : HasRoomToLeave of_radios of_servers of_links room.left
 
--- each worker has its receiver, its log or its link, and its server, in the station's order
+-- each worker has its receiver, its log or its link, and its server, in the station's order; the responders have the station's keys
 pub record CrewManned {L T B : Type 0} (stands : B → History → Type 0) (least : B → ℕ) (station : StationFields) (receivers : List B) (gear : Gear L T) (crew : Crew L T B) : Type 0 where
   pub receivers_are : Pairs (IsManned stands least) receivers crew.radios.items
   pub logs : map log_of crew.radios.items ≡ gear.logs.items
@@ -71,6 +72,7 @@ pub record CrewManned {L T B : Type 0} (stands : B → History → Type 0) (leas
   pub asked : map server_of crew.pollers.items ≡ station.servers
   pub links : map link_of crew.responders.items ≡ gear.links.items
   pub unserved : All (λ j. j.work.second ≡ None) crew.responders.items
+  pub keyed : All (λ j. keys_of j.responder.keys ≡ station.keys) crew.responders.items
 
 -- both phases were run, and this is what the workers left
 pub record CrewRan {L T B : Type 0} (stands : B → History → Type 0) (log_state : L → SourceState) (log_opening : L → ℕ) (state : T → LinkState) (opening : T → ℕ)

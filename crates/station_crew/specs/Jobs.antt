@@ -1,12 +1,13 @@
 -- Scaffolding: what each worker does.
-use Rattle.std.specs.Prelude.{◌≡◌, ◌≢◌, ℕ, List, [], Option, Some, None}
+use Rattle.std.specs.Prelude.{◌≡◌, ◌≢◌, ℕ, [], Some}
 use Rattle.atomic_table.specs.Seated.{TableId}
 use Rattle.feed_link.specs.Told.{SourceState, LinkState}
 use Rattle.feed_workers.specs.Keeping.{IsOfFeed}
 use Rattle.feed_workers.specs.Logs.{RunsLog, most_of_a_log}
 use Rattle.feed_workers.specs.Polling.{RunsPolls}
 use Rattle.log_decoder.specs.Decoding.{HasDecoded, IsReady, feed_of}
-use Rattle.page_cell.specs.Passes.{Known, claim_of}
+use Rattle.packet_auth.specs.Keys.{keys_of}
+use Rattle.page_cell.specs.Passes.{claim_of}
 use Rattle.radio_receiver.specs.Histories.{History}
 use Rattle.responder.specs.Serving.{IsSame, Serves}
 use Rattle.responder.specs.declared.served.End.TheVariants.{Count}
@@ -50,13 +51,13 @@ pub record PollRan {T : Type 0} (state : T → LinkState) (opening : T → ℕ) 
 
 -- a responder's first phase
 pub record HasServed {T : Type 0} (state : T → LinkState) (opening : T → ℕ) (budget : ℕ) (a b : ServeJob T) : Type 0 where
-  pub same : IsSame (opening a.responder.link) (opening b.responder.link) a.responder.pass b.responder.pass a.responder.number b.responder.number
-  pub serves : Serves (state a.responder.link) (state b.responder.link) a.responder.pass.view b.responder.pass.view budget b.work.first
+  pub same : IsSame (opening a.responder.link) (opening b.responder.link) a.responder.pass b.responder.pass a.responder.number b.responder.number a.responder.keys b.responder.keys
+  pub serves : Serves (keys_of a.responder.keys) (state a.responder.link) (state b.responder.link) a.responder.pass.view b.responder.pass.view budget b.work.first
   pub second : b.work.second ≡ a.work.second
 
 -- a responder's second phase, where its first one made as many hearings as it was asked for
 pub record HasServedAgain {T : Type 0} (state : T → LinkState) (opening : T → ℕ) (budget : ℕ) (a b : ServeJob T) : Type 0 where
-  pub same : IsSame (opening a.responder.link) (opening b.responder.link) a.responder.pass b.responder.pass a.responder.number b.responder.number
+  pub same : IsSame (opening a.responder.link) (opening b.responder.link) a.responder.pass b.responder.pass a.responder.number b.responder.number a.responder.keys b.responder.keys
   pub first : b.work.first ≡ a.work.first
-  pub again : a.work.first.end ≡ Count → (served : Served) × (b.work.second ≡ Some served) × Serves (state a.responder.link) (state b.responder.link) a.responder.pass.view b.responder.pass.view budget served
+  pub again : a.work.first.end ≡ Count → (served : Served) × (b.work.second ≡ Some served) × Serves (keys_of a.responder.keys) (state a.responder.link) (state b.responder.link) a.responder.pass.view b.responder.pass.view budget served
   pub not : a.work.first.end ≢ Count → (b.work.second ≡ a.work.second) × (b.responder.link ≡ a.responder.link) × (b.responder.pass ≡ a.responder.pass)

@@ -1,5 +1,5 @@
 -- What the radios, the servers and the links of a station leave, by its journal. All of it is this project's own.
-use Rattle.std.specs.Prelude.{◌≡◌, ◌≢◌, ℕ, ◌+◌, ◌*◌, ◌<◌, ◌≤◌, List, [], ◌++◌, All, Option, Some, None, length, map, slice_index_or, take}
+use Rattle.std.specs.Prelude.{◌≡◌, ◌≢◌, ℕ, ◌+◌, ◌*◌, ◌<◌, ◌≤◌, List, [], ◌++◌, All, Some, None, length, map, slice_index_or, take}
 use Rattle.std.specs.List.{flat_map, sum_by}
 use Rattle.feed_link.specs.Told.{SourceState, LinkState, NetEvent, Adds}
 use Rattle.feed_workers.specs.Logs.{EndsLog, most_of_a_log}
@@ -7,6 +7,7 @@ use Rattle.feed_workers.specs.Polling.{EndsPolls}
 use Rattle.feed_workers.specs.Polls.{due_link}
 use Rattle.feed_workers.specs.declared.work.LogWork.{LogWork}
 use Rattle.feed_workers.specs.declared.work.PollWork.{PollWork}
+use Rattle.packet_auth.specs.Keys.{KeyFields}
 use Rattle.journal_entry.specs.declared.entry.Entry.{Entry}
 use Rattle.log_decoder.specs.Due.{due_log}
 use Rattle.radio_receiver.specs.Histories.{History}
@@ -14,7 +15,7 @@ use Rattle.responder.specs.Serving.{EndsBy}
 use Rattle.responder.specs.Turns.{Turn, Reading, events_of, readings_of, IsTurn, answered_of, dropped_of, torn_of, Rises}
 use Rattle.responder.specs.declared.served.End.TheVariants.{Count}
 use Rattle.responder.specs.declared.served.Served.{Served}
-use Rattle.station_config.specs.Station.{RadioFields, ServerFields, StationFields}
+use Rattle.station_config.specs.Station.{RadioFields, ServerFields}
 use Rattle.station_crew.specs.Due.{HasDue}
 use Rattle.station_crew.specs.Lists.{Pairs}
 use Rattle.station_crew.specs.declared.work.LinkWork.{LinkWork}
@@ -75,16 +76,17 @@ pub record HasSecond (budget : ℕ) (link link_now : LinkState) (work : LinkWork
   pub served : work.first.end ≡ Count → (served : Served) × (work.second ≡ Some served) × ServesPhase budget link link_now served turns
   pub not : work.first.end ≢ Count → (work.second ≡ None) × (link_now ≡ link) × (turns ≡ [])
 
--- The turns of a link in both phases. Each reply is the answer to its datagram from the page that was read in its turn; each page that
+-- The turns of a link in both phases. Each reply is the one to its datagram from the page that was read in its turn, sealed by one of the keys
+-- exactly where the datagram is authentic by it; each page that
 -- was read is that of a beginning of the journal, and these beginnings never shorten. In the second phase each is the whole journal,
 -- and no datagram is left unread for; of those that were in the first phase four times as many are no more than there are entries
-pub record ServesLink (settings : SettingsFields) (journal : List Entry) (during after : ℕ) (link link_now : LinkState) (work : LinkWork) : Type 0 where
+pub record ServesLink (keys : List KeyFields) (settings : SettingsFields) (journal : List Entry) (during after : ℕ) (link link_now : LinkState) (work : LinkWork) : Type 0 where
   pub first : List Turn
   pub second : List Turn
   pub between : LinkState
   pub first_phase : ServesPhase during link between work.first first
   pub second_phase : HasSecond after between link_now work second
-  pub lawful : All IsTurn (first ++ second)
+  pub lawful : All (IsTurn keys) (first ++ second)
   pub pages : All (IsReadOf settings journal) (flat_map readings_of (first ++ second))
   pub last : ℕ
   pub rising : Rises 0 (flat_map readings_of (first ++ second)) last
@@ -107,8 +109,8 @@ pub record ServersServed {T : Type 0} (state : T → LinkState) (opening : T →
       AsksServer (slice_index_or servers i server) (first + i) limit journal (state (slice_index_or links i a)) (state (slice_index_or links_now i b)) (slice_index_or works i work)
 
 -- each link that the station serves on
-pub record LinksServed {T : Type 0} (state : T → LinkState) (opening : T → ℕ) (settings : SettingsFields) (journal : List Entry) (during after : ℕ) (links links_now : List T) (works : List LinkWork) : Type 0 where
+pub record LinksServed {T : Type 0} (state : T → LinkState) (opening : T → ℕ) (keys : List KeyFields) (settings : SettingsFields) (journal : List Entry) (during after : ℕ) (links links_now : List T) (works : List LinkWork) : Type 0 where
   pub openings : map opening links_now ≡ map opening links
   pub count : length works ≡ length links
   pub at : (i : ℕ) (a b : T) (work : LinkWork) → i < length links →
-      ServesLink settings journal during after (state (slice_index_or links i a)) (state (slice_index_or links_now i b)) (slice_index_or works i work)
+      ServesLink keys settings journal during after (state (slice_index_or links i a)) (state (slice_index_or links_now i b)) (slice_index_or works i work)

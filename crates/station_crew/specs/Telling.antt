@@ -20,6 +20,7 @@ HasSeenAll feeds r = All (λ f. length (claim_of f.view).seen ≤ r.view.seen) f
 pub record WasTold {T : Type 0} (feeds : List Known) (a b : ServeJob T) : Type 0 where
   pub link : b.responder.link ≡ a.responder.link
   pub work : b.work ≡ a.work
+  pub keys : b.responder.keys ≡ a.responder.keys
   pub learnt : HasLearnt a.responder.pass b.responder.pass
   pub seen : HasSeenAll feeds b.responder.pass
 

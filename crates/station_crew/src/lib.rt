@@ -17,4 +17,6 @@ pub use station::serve_station;
 pub use work::{Budget, LinkWork};
 
 #[cfg(test)]
+mod key_tests;
+#[cfg(test)]
 mod tests;

@@ -1,5 +1,6 @@
 // Workers, each with a pass of the cell.
 ghost use Rattle.std.specs.Prelude.{◌≡◌, ◌≤◌, ◌<◌, ◌+◌, ◌++◌, [], All, None, drop, length, map, slice_get, vec_capacity, vec_len};
+ghost use Rattle.packet_auth.specs.Keys.{keys_of};
 ghost use Rattle.page_cell.specs.Passes.{claim_of};
 ghost use Rattle.station_config.specs.Station.{IsStation};
 ghost use Rattle.station_config.specs.KeptStation.{server_fields};
@@ -11,6 +12,7 @@ use crate::jobs::{PollJob, RadioJob, ServeJob};
 use crate::work::LinkWork;
 use feed_link::{Link, Source};
 use feed_workers::{LogEnd, LogWork, PollEnd, PollWork, PollWorker, RadioWorker};
+use packet_auth::KeyRing;
 use page_cell::{FeedPass, ReadPass};
 use radio_receiver::{BoxedReceiver, Receiver};
 use responder::{End, Responder, Served};
@@ -109,10 +111,11 @@ pub fn man_pollers<T: Link + Drop>(
     }
 }
 
-/// A responder for each link that the station serves on, with the pass of a reader.
+/// A responder for each link that the station serves on, with the pass of a reader and the keys of the station.
 pub fn man_responders<T: Link + Drop>(
     links: Vec<T>,
     readers: &mut Vec<ReadPass>,
+    keys: &KeyRing,
     jobs: &mut Vec<ServeJob<T>>,
 )
     requires readers { vec_len links ≤ vec_len readers.old }
@@ -122,12 +125,13 @@ pub fn man_responders<T: Link + Drop>(
     ensures links { map link_of jobs.new.items ≡ links.items }
     ensures readers { map serve_pass jobs.new.items ++ readers.new.items ≡ readers.old.items }
     ensures none { All (λ j. j.work.second ≡ None) jobs.new.items }
+    ensures keyed { All (λ j. keys_of j.responder.keys ≡ keys_of keys.now) jobs.new.items }
 {
     for link in links {
         let number = jobs.len() as u32;
         let pass = readers.remove(0);
         jobs.push_reserved(ServeJob {
-            responder: Responder::new(link, pass, number),
+            responder: Responder::new(link, pass, number, *keys),
             work: LinkWork {
                 first: UNSERVED,
                 second: None,

@@ -79,7 +79,7 @@ fn man_crew<L: Source + Drop, T: Link + Drop>(
     let mut crew = crew;
     man_radios(receivers, logs, &mut feeds, &mut crew.radios);
     man_pollers(station, servers, &mut feeds, &mut crew.pollers);
-    man_responders(links, &mut readers, &mut crew.responders);
+    man_responders(links, &mut readers, &station.keys(), &mut crew.responders);
     crew
 }
 
@@ -112,7 +112,7 @@ fn run_hub<
     ensures journal { IsJournalOf N.settings N.limit result.journal }
     ensures radios { RadiosServed L.state L.opening station.now.radios N.limit result.journal.entries gear.logs.items result.gear.logs.items result.radios.items }
     ensures servers { ServersServed T.state T.opening station.now.servers (length station.now.radios) N.limit result.journal.entries gear.servers.items result.gear.servers.items result.servers.items }
-    ensures links { LinksServed T.state T.opening N.settings result.journal.entries budget.during budget.after gear.links.items result.gear.links.items result.links.items }
+    ensures links { LinksServed T.state T.opening station.now.keys N.settings result.journal.entries budget.during budget.after gear.links.items result.gear.links.items result.links.items }
 {
     let HubParts {
         hub,
@@ -172,7 +172,7 @@ pub fn run_named<
     ensures journal { IfOk result (λ e. IsJournalOf (settings_of station.now) limit e.journal) }
     ensures radios { IfOk result (λ e. RadiosServed L.state L.opening station.now.radios limit e.journal.entries gear.logs.items e.gear.logs.items e.radios.items) }
     ensures servers { IfOk result (λ e. ServersServed T.state T.opening station.now.servers (length station.now.radios) limit e.journal.entries gear.servers.items e.gear.servers.items e.servers.items) }
-    ensures links { IfOk result (λ e. LinksServed T.state T.opening (settings_of station.now) e.journal.entries budget.during budget.after gear.links.items e.gear.links.items e.links.items) }
+    ensures links { IfOk result (λ e. LinksServed T.state T.opening station.now.keys (settings_of station.now) e.journal.entries budget.during budget.after gear.links.items e.gear.links.items e.links.items) }
     ensures memory { IfErr result (λ g. g ≡ gear) }
 {
     match Hub::<N>::open(alloc, parts, station.settings(), limit) {

@@ -82,7 +82,8 @@ fn make_room<L: Drop, T: Drop, B: Drop>(
 }
 
 /// Serves a station. In the first phase its radios' logs are read and its servers are polled into one journal of at most `limit` entries,
-/// 1 to 4194304, while the clients of its links are answered from the page of the journal so far, for `budget.during` hearings a link. In the
+/// 1 to 4194304, while the clients of its links are answered from the page of the journal so far, for `budget.during` hearings a link, by the station's
+/// keys where they ask so. In the
 /// second phase those links that go on are served for `budget.after` hearings more, from the page of the whole journal. The receivers are
 /// those of the radios, in order, and have heard nothing. All memory is taken before any log or link is used; where there isn't enough, the
 /// gear comes back as it was.
@@ -102,7 +103,7 @@ pub fn serve_station<R: Threads + Wait + Sync, L: Source + Drop, T: Link + Drop,
     ensures journal { IfOk result (λ e. IsJournalOf (settings_of station.now) limit e.journal) }
     ensures radios { IfOk result (λ e. RadiosServed L.state L.opening station.now.radios limit e.journal.entries gear.logs.items e.gear.logs.items e.radios.items) }
     ensures servers { IfOk result (λ e. ServersServed T.state T.opening station.now.servers (length station.now.radios) limit e.journal.entries gear.servers.items e.gear.servers.items e.servers.items) }
-    ensures links { IfOk result (λ e. LinksServed T.state T.opening (settings_of station.now) e.journal.entries budget.during budget.after gear.links.items e.gear.links.items e.links.items) }
+    ensures links { IfOk result (λ e. LinksServed T.state T.opening station.now.keys (settings_of station.now) e.journal.entries budget.during budget.after gear.links.items e.gear.links.items e.links.items) }
     ensures memory { IfErr result (λ g. g ≡ gear) }
 {
     let counts = Counts {

@@ -48,10 +48,11 @@ fn tell_responder<T: Link + Drop>(
     ensures told { WasTold feeds.old job result }
 {
     let ServeJob { responder, work } = job;
+    let keys = responder.keys();
     let (link, mut pass) = responder.give_back();
     tell_all(cell, feeds, &mut pass);
     ServeJob {
-        responder: Responder::new(link, pass, number),
+        responder: Responder::new(link, pass, number, keys),
         work,
     }
 }

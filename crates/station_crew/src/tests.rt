@@ -26,9 +26,9 @@ const RADIO: &str = "[[radio]]\nplan = \"dcf\"\nlog = \"noon\"\n";
 
 const SERVER: &str = "[[server]]\naddress = \"127.0.0.1\"\nport = 123\npolls = 1\n";
 
-const LINK: &str = "[[link]]\nport = 5123\n";
+pub(crate) const LINK: &str = "[[link]]\nport = 5123\n";
 
-const CLIENT: Address = Address {
+pub(crate) const CLIENT: Address = Address {
     ip: 0x7f00_0001,
     port: 5000,
 };
@@ -59,7 +59,7 @@ type Fakes = Gear<MemorySource, MemoryLink>;
 
 type Done = Ended<MemorySource, MemoryLink>;
 
-fn moment(microseconds: u32) -> Local {
+pub(crate) fn moment(microseconds: u32) -> Local {
     Local::new(u64::from(microseconds)).unwrap()
 }
 
@@ -135,7 +135,7 @@ fn answered(alloc: Global) -> Result<MemoryLink, Fail> {
 }
 
 // Nothing is open.
-fn no_gear(alloc: Global) -> Fakes {
+pub(crate) fn no_gear(alloc: Global) -> Fakes {
     Gear {
         logs: Vec::new(alloc),
         servers: Vec::new(alloc),
@@ -208,7 +208,7 @@ fn serve_with<R: Threads + Wait + Sync, G: Gate>(
 }
 
 // What a station of this text leaves.
-fn serve<R: Threads + Wait + Sync, G: Gate>(
+pub(crate) fn serve<R: Threads + Wait + Sync, G: Gate>(
     rt: &R,
     alloc: Global,
     gate: &G,

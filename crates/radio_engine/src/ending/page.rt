@@ -7,11 +7,12 @@ ghost use Rattle.radio_engine.specs.Writing.{Answers};
 
 use super::Ending;
 use super::status::Status;
-use super::writing::{finish, write_all};
+use super::writing::finish;
 use crate::reading::Line;
 use clock_page::Page;
 use feed_link::{Failed, Sink};
 use journal_entry::LINE_ROOM;
+use sink_text::write_all;
 use system_fold::page_text;
 
 // Writes the line of a page at the front of `line`. The answer is its number of bytes.

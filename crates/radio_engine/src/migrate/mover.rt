@@ -9,10 +9,11 @@ ghost use Rattle.radio_engine.specs.Taking.{Fits};
 ghost use Rattle.station_config.specs.Station.{StationFields, settings_of};
 ghost use Rattle.system_fold.specs.Settings.{SettingsFields};
 
+use crate::lines::write_numbered_line;
 use crate::migrate::lines::Mover;
 use crate::reading::{Gives, Line, Reach, Taker, Took};
 use file_reader::FileEnd;
-use journal_entry::{LINE_ROOM, read_line, write_numbered};
+use journal_entry::{LINE_ROOM, read_line};
 use line_cutter::{Cut, LineCutter};
 
 // The most lines of a journal.
@@ -43,9 +44,7 @@ fn move_text(mover: &mut Mover, text: &[u8], number: u64, line: &mut Line) -> Op
     let Some(numbered) = mover.take(&read, number) else {
         return None;
     };
-    let end = write_numbered(&numbered, line);
-    line[end] = b'\n';
-    Some(end + 1)
+    Some(write_numbered_line(&numbered, line))
 }
 
 impl JournalMover {

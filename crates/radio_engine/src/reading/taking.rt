@@ -4,7 +4,7 @@ ghost use Rattle.feed_link.specs.Told.{SinkState};
 ghost use Rattle.journal_entry.specs.declared.writer.TheConstants.{LINE_ROOM};
 ghost use Rattle.radio_engine.specs.Reading.{bad_in_the_end};
 ghost use Rattle.radio_engine.specs.Taking.{Holds, Says, Fits, given, bad_of, EndsAt, TakesPiece, EndsTaking};
-ghost use Rattle.radio_engine.specs.Writing.{WritesAll};
+ghost use Rattle.sink_text.specs.Writing.{WritesAll};
 
 use crate::reading::{Line, Reach, Taken, Took, write_given};
 use feed_link::{Failed, Sink, Source};

@@ -1,34 +1,24 @@
 //! What is written of a station that was served.
 ghost use Rattle.std.specs.Prelude.{◌≡◌, ◌+◌, ◌++◌, ◌≤◌, OnOk, OnErr, None, Some, codes, length, take, vec_len};
-ghost use Rattle.journal_entry.specs.Numbers.{numbered_text};
 ghost use Rattle.journal_entry.specs.declared.writer.TheConstants.{LINE_ROOM};
 ghost use Rattle.radio_engine.specs.Crewing.{FinishesDone, HasEach, line_of_work, totals_by, totals_of};
 ghost use Rattle.radio_engine.specs.Headline.{each_text, end_word, link_line};
 ghost use Rattle.radio_engine.specs.Migrating.{journal_text};
-ghost use Rattle.radio_engine.specs.Writing.{WritesAll, WritesFront};
+ghost use Rattle.sink_text.specs.Writing.{WritesAll, WritesFront};
 
 use super::Done;
 use super::cause::ending_of;
 use crate::ending::page::finish_page;
 use crate::ending::status::Status;
-use crate::ending::writing::write_all;
+use crate::lines::write_numbered_line;
 use crate::reading::Line;
 use feed_link::{Failed, Sink};
-use journal_entry::{LINE_ROOM, Numbered, TextWriter, write_numbered};
+use journal_entry::{LINE_ROOM, TextWriter};
 use responder::{End, Served};
+use sink_text::write_all;
 use station_config::Station;
 use station_crew::LinkWork;
 use verdict_journal::Journal;
-
-// Writes a numbered entry at the front of `line`, with its line feed. The answer is its number of bytes.
-fn write_numbered_line(numbered: &Numbered, line: &mut Line) -> usize
-    ensures text { take result line.new ≡ numbered_text numbered.now ++ codes "\n" }
-    ensures within { result ≤ LINE_ROOM }
-{
-    let end = write_numbered(numbered, line);
-    line[end] = b'\n';
-    end + 1
-}
 
 // Writes the lines of a journal.
 fn write_journal<K: Sink>(journal: &Journal, out: &mut K) -> Result<(), Failed>

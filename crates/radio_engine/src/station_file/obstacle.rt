@@ -8,8 +8,9 @@ ghost use Rattle.radio_engine.specs.declared.ending.status.Status.TheVariants.{S
 use crate::ending::Ending;
 use crate::ending::status::Status;
 use crate::ending::text::count_text;
-use crate::ending::writing::{finish, write_all};
+use crate::ending::writing::finish;
 use feed_link::{Failed, Sink};
+use sink_text::write_all;
 use station_config::{KeyText, StationFault};
 
 // What keeps a station from being played.

@@ -1,7 +1,7 @@
 -- What the search leaves open of `writer::write_reduction`.
 use Rattle.std.proofs.Common.{ℕ, List, subst}
 use Rattle.std.specs.Prelude.{OnOk, OnErr}
-use Rattle.pulse_maker.specs.Writing.{WritesAll, WritesFront}
+use Rattle.sink_text.specs.Writing.{WritesAll, WritesFront}
 use Rattle.pulse_maker.proofs.LineLaws.{front_is_line}
 use Rattle.pulse_maker.proofs.writer.write_reduction.Goals as goal
 

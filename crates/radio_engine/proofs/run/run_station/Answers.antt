@@ -1,8 +1,8 @@
 -- What the search leaves open of `run::run_station`.
-use Rattle.std.proofs.Common.{◌⊎◌, inr, subst}
+use Rattle.std.proofs.Common.{◌⊎◌, inr, refl, subst}
 use Rattle.command_words.specs.Commands.{Asked}
 use Rattle.radio_engine.specs.Run.{Lacks, Runs}
-use Rattle.radio_engine.proofs.RunLaws.{runs_done, untouched}
+use Rattle.radio_engine.proofs.RunLaws.{lacks_done, runs_done}
 use Rattle.radio_engine.proofs.run.run_station.Goals as goal
 
 pub returns-in-Ok-Decode-clause-runs : goal.returns-in-Ok-Decode-clause-runs
@@ -36,6 +36,16 @@ pub returns-in-Ok-Migrate-clause-complete : goal.returns-in-Ok-Migrate-clause-co
 returns-in-Ok-Migrate-clause-complete g c = λ asked h good no_write.
     runs_done asked _ _ _ _ _ good no_write (returns-in-Ok-Migrate-clause-runs g c asked h)
 
+pub returns-in-Ok-Drill-clause-runs : goal.returns-in-Ok-Drill-clause-runs
+returns-in-Ok-Drill-clause-runs g c = λ asked h.
+    subst (λ (a : Asked). Lacks (g.O.Outside.state c.args.outside.now) (g.O.Outside.state c.run_drill.new.outside) (g.K.Sink.state c.args.out.now) (g.K.Sink.state c.run_drill.new.out) c.run_drill.result
+    ⊎ Runs a (g.O.Outside.state c.args.outside.now) (g.O.Outside.state c.run_drill.new.outside) (g.K.Sink.state c.args.out.now) (g.K.Sink.state c.run_drill.new.out) c.run_drill.result)
+    (rw c.in-Ok-Drill.field-0-is at (c.in-Ok-Drill.ensures.only asked h)) c.run_drill.ensures.runs
+
+pub returns-in-Ok-Drill-clause-complete : goal.returns-in-Ok-Drill-clause-complete
+returns-in-Ok-Drill-clause-complete g c = λ asked h good no_write.
+    runs_done asked _ _ _ _ _ good no_write (returns-in-Ok-Drill-clause-runs g c asked h)
+
 pub returns-in-Ok-Serve-clause-runs : goal.returns-in-Ok-Serve-clause-runs
 returns-in-Ok-Serve-clause-runs g c = λ asked h.
     subst (λ (a : Asked). Lacks (g.O.Outside.state c.args.outside.now) (g.O.Outside.state c.run_serve.new.outside) (g.K.Sink.state c.args.out.now) (g.K.Sink.state c.run_serve.new.out) c.run_serve.result
@@ -53,4 +63,4 @@ pub returns-in-Err-Usage-clause-complete : goal.returns-in-Err-Usage-clause-comp
 returns-in-Err-Usage-clause-complete g c = λ asked h good no_write. absurd (c.in-Err-Usage.ensures.usage c.in-Err-Usage.field-0-is asked h)
 
 pub returns-clause-complete : goal.returns-clause-complete
-returns-clause-complete g c = λ asked h good no_write. absurd (untouched asked _ good)
+returns-clause-complete g c = λ asked h good no_write. lacks_done asked _ _ _ _ _ good no_write (record { unchanged = refl; written = c.finish-in-Err-Memory.ensures })

@@ -1,6 +1,7 @@
 -- What the search leaves open of `document::read_table`.
 use Rattle.std.proofs.Common.{◌∙◌, sym, ap, filter, find, map, nat_lt, Bool, slice_get, subst}
 use Rattle.toml.specs.View.{table_view}
+use Rattle.packet_auth.specs.Keys.{AreApart}
 use Rattle.station_config.specs.Faults.{Count, counts_of, excess_of, too_many}
 use Rattle.station_config.specs.Finding.{count_seen, spot_text}
 use Rattle.station_config.specs.Station.{IsStation}
@@ -36,7 +37,7 @@ pub new-requires : goal.new-requires
 new-requires c =
     let m = table_view c.args.table.now in
     let found = rw c.in-None.is at c.excess.ensures in
-    subst IsStation (sym c.in-Ok.ensures.said) (station_bounds m (within (station_of m) (found ∙ ap (λ s. find over (counts_of s)) c.in-Ok.ensures.said)))
+    subst IsStation (sym c.in-Ok.ensures.said) (station_bounds m (within (station_of m) (found ∙ ap (λ s. find over (counts_of s)) c.in-Ok.ensures.said)) (subst (λ s. AreApart s.keys) c.in-Ok.ensures.said c.in-Ok.ensures.apart))
 
 pub returns-in-Ok-clause-good : goal.returns-in-Ok-clause-good
 returns-in-Ok-clause-good c =

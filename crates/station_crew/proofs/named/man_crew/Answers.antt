@@ -1,5 +1,5 @@
 -- What the search leaves open of `named::man_crew`.
-use Rattle.std.proofs.Common.{rules, ◌≡◌, ◌+◌, ◌≤◌, ◌++◌, length, map, refl, sym, ap, ◌∙◌, subst, arith, length-append}
+use Rattle.std.proofs.Common.{rules, ◌≡◌, length, map, sym, ap, ◌∙◌, arith, length-append}
 use Rattle.std.specs.Prelude.{vec_len}
 use Rattle.std.proofs.lemmas.List.{length-map}
 use Rattle.station_crew.proofs.ListLaws.{all_taken, none_left, pairs_keep, pairs_length}
@@ -53,3 +53,14 @@ returns-clause-readers g c =
     let q = ap length c.man_responders.ensures.links in
     none_left (map serve_pass xs.items) c.man_responders.new.readers.items old.items c.man_responders.ensures.readers
     (omega (arith, two, three, k, q, length-map xs.items serve_pass, length-map xs.items link_of))
+
+pub returns-clause-manned : goal.returns-clause-manned
+returns-clause-manned g c = record {
+  receivers_are = c.man_radios.ensures.manned;
+  logs = c.man_radios.ensures.logs;
+  servers = c.man_pollers.ensures.links;
+  asked = c.man_pollers.ensures.servers;
+  links = c.man_responders.ensures.links;
+  unserved = c.man_responders.ensures.none;
+  keyed = λ i d lt. c.man_responders.ensures.keyed i d lt ∙ c.keys.ensures.value;
+}

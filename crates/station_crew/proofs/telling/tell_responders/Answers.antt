@@ -1,8 +1,9 @@
 -- What the search leaves open of `telling::tell_responders`.
-use Rattle.std.proofs.Common.{rules, ◌≡◌, ◌∙◌, [], refl, sym, ap, subst}
+use Rattle.std.proofs.Common.{rules, ◌≡◌, ◌∙◌, [], sym, subst}
+use Rattle.std.specs.Prelude.{All}
 use Rattle.std.specs.Vec.Iter.{into_iter_items}
 use Rattle.std.proofs.lemmas.List.{nil_from_length}
-use Rattle.station_crew.specs.Lists.{Pairs, PairsFront}
+use Rattle.station_crew.specs.Lists.{Pairs}
 use Rattle.station_crew.specs.Telling.{WasTold}
 use Rattle.station_crew.proofs.ListLaws.{all_rest, front_none, front_more, front_whole}
 use Rattle.station_crew.proofs.telling.tell_responders.Goals as goal
@@ -11,7 +12,7 @@ pub loop-job-init : goal.loop-job-init
 loop-job-init g c = record {
   same = search rules;
   told = front_none (WasTold c.args.feeds.now) (into_iter_items c.into_iter-job-iterator.result) c.args.told.now.items c.requires.none;
-  readers = search rules;
+  readers = subst (λ xs. All (λ j. j.responder.pass.table ≡ c.args.cell.now.table) xs) (sym c.into_iter-job-iterator.ensures.into_iter_gives.0) c.requires.readers;
   size = search rules;
   few = search rules;
   room = search rules;

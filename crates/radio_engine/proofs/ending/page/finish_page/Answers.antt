@@ -2,7 +2,7 @@
 use Rattle.std.proofs.Common.{ℕ, List, subst}
 use Rattle.radio_engine.specs.Endings.{status_of, status_line}
 use Rattle.radio_engine.specs.Text.{page_text}
-use Rattle.radio_engine.specs.Writing.{WritesAll, WritesFront}
+use Rattle.sink_text.specs.Writing.{WritesAll, WritesFront}
 use Rattle.radio_engine.proofs.WritingLaws.{answers_more, answers_front}
 use Rattle.radio_engine.proofs.ending.page.finish_page.Goals as goal
 

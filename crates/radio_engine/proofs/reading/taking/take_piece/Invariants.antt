@@ -2,7 +2,7 @@
 use Rattle.std.proofs.Common.{◌≡◌, ◌+◌, ◌≤◌, ℕ, List, None, ◌++◌, length}
 use Rattle.feed_link.specs.Told.{SinkState}
 use Rattle.journal_entry.specs.declared.writer.TheConstants.{LINE_ROOM}
-use Rattle.radio_engine.specs.Writing.{WritesAll}
+use Rattle.sink_text.specs.Writing.{WritesAll}
 use Rattle.radio_engine.proofs.TakingLaws.{IsTakenSoFar}
 use Rattle.radio_engine.proofs.reading.taking.take_piece.Given as goal
 

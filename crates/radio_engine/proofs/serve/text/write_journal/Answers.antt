@@ -3,8 +3,9 @@ use Rattle.std.proofs.Common.{◌≡◌, ℕ, ◌<◌, Some, List, ap, arith, le
 use Rattle.std.specs.Prelude.{IsSome, slice_get}
 use Rattle.std.specs.List.{flat_map}
 use Rattle.verdict_journal.specs.Journals.{numbered_of}
-use Rattle.radio_engine.specs.Writing.{WritesAll, WritesFront}
-use Rattle.radio_engine.proofs.EachLaws.{drop_got, none_behind, on_err, some_at, written_all, written_front, written_more}
+use Rattle.sink_text.specs.Writing.{WritesAll, WritesFront}
+use Rattle.sink_text.proofs.WritingLaws.{on_err}
+use Rattle.radio_engine.proofs.EachLaws.{drop_got, none_behind, some_at, written_all, written_front, written_more}
 use Rattle.radio_engine.proofs.JournalTextLaws.{line_of, lines-length, lines-text}
 use Rattle.radio_engine.proofs.serve.text.write_journal.Goals as goal
 

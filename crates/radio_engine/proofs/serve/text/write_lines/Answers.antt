@@ -3,9 +3,9 @@ use Rattle.std.proofs.Common.{ℕ, List, ap, refl, subst}
 use Rattle.radio_engine.specs.Crewing.{line_of_work}
 use Rattle.radio_engine.specs.Headline.{each_text}
 use Rattle.radio_engine.specs.Migrating.{journal_text}
-use Rattle.radio_engine.specs.Writing.{WritesFront}
-use Rattle.radio_engine.proofs.EachLaws.{on_err, on_err_by}
-use Rattle.radio_engine.proofs.WritingLaws.{front_of_more, writes_front}
+use Rattle.sink_text.specs.Writing.{WritesFront}
+use Rattle.sink_text.proofs.WritingLaws.{on_err, on_err_by}
+use Rattle.sink_text.proofs.WritingLaws.{front_of_more, writes_front}
 use Rattle.radio_engine.proofs.serve.text.write_lines.Goals as goal
 
 pub returns-in_err-write_journal-clause-err : goal.returns-in_err-write_journal-clause-err

@@ -2,8 +2,9 @@
 use Rattle.std.proofs.Common.{◌≡◌, ℕ, ◌+◌, ◌<◌, List, arith, drop, length, rules, subst, suc}
 use Rattle.radio_engine.specs.Crewing.{line_of_work}
 use Rattle.radio_engine.specs.Headline.{each_text}
-use Rattle.radio_engine.specs.Writing.{WritesAll, WritesFront}
-use Rattle.radio_engine.proofs.EachLaws.{HasWritten, on_err, text_split, written_front, written_more}
+use Rattle.sink_text.specs.Writing.{WritesAll, WritesFront}
+use Rattle.sink_text.proofs.WritingLaws.{on_err}
+use Rattle.radio_engine.proofs.EachLaws.{HasWritten, text_split, written_front, written_more}
 use Rattle.radio_engine.proofs.serve.text.write_links.Goals as goal
 
 pub returns-in_err-write_all-clause-err : goal.returns-in_err-write_all-clause-err

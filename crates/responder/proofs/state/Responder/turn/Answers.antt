@@ -1,24 +1,27 @@
 -- What the search leaves open of `state::Responder::turn`.
 use Rattle.std.proofs.Common.{rules, ◌∷◌, [], take}
 use Rattle.feed_link.specs.Told.NetEvent.{Came}
+use Rattle.packet_auth.specs.Keys.{keys_of}
 use Rattle.responder.specs.Steps.{Goes, Stops}
 use Rattle.responder.proofs.TurnLaws.{on_false, on_true, whole_goes, whole_unsent}
 use Rattle.responder.proofs.state.Responder.turn.Goals as goal
 
 pub returns-in-Ok-Datagram-clause-goes : goal.returns-in-Ok-Datagram-clause-goes
 returns-in-Ok-Datagram-clause-goes g c =
+    let keys = keys_of c.args.self.now.keys in
     let a = g.L.Link.state c.args.self.now.link in
     let b = g.L.Link.state c.hear.new.self in
     let past = Came c.in-Ok-Datagram.arrival.from c.in-Ok-Datagram.arrival.at (take c.in-Ok-Datagram.arrival.length c.hear.new.piece) ∷ [] in
-    on_true c.answer.result _ (Goes [] a (g.L.Link.state c.answer.new.self.link) c.args.self.now.pass.view c.answer.new.self.pass.view c.args.served.now c.answer.new.served)
-    (λ h. whole_goes past a b (g.L.Link.state c.answer.new.self.link) c.args.self.now.pass.view c.answer.new.self.pass.view c.args.served.now c.answer.new.served (search rules) (search rules) h)
+    on_true c.answer.result _ (Goes keys [] a (g.L.Link.state c.answer.new.self.link) c.args.self.now.pass.view c.answer.new.self.pass.view c.args.served.now c.answer.new.served)
+    (λ h. whole_goes keys past a b (g.L.Link.state c.answer.new.self.link) c.args.self.now.pass.view c.answer.new.self.pass.view c.args.served.now c.answer.new.served (search rules) (search rules) h)
     c.answer.ensures.goes
 
 pub returns-in-Ok-Datagram-clause-stops : goal.returns-in-Ok-Datagram-clause-stops
 returns-in-Ok-Datagram-clause-stops g c =
+    let keys = keys_of c.args.self.now.keys in
     let a = g.L.Link.state c.args.self.now.link in
     let b = g.L.Link.state c.hear.new.self in
     let past = Came c.in-Ok-Datagram.arrival.from c.in-Ok-Datagram.arrival.at (take c.in-Ok-Datagram.arrival.length c.hear.new.piece) ∷ [] in
-    on_false c.answer.result _ (Stops a (g.L.Link.state c.answer.new.self.link) c.args.self.now.pass.view c.answer.new.self.pass.view c.args.served.now c.answer.new.served)
-    (λ h. whole_unsent past a b (g.L.Link.state c.answer.new.self.link) c.args.self.now.pass.view c.answer.new.self.pass.view c.args.served.now c.answer.new.served (search rules) (search rules) h)
+    on_false c.answer.result _ (Stops keys a (g.L.Link.state c.answer.new.self.link) c.args.self.now.pass.view c.answer.new.self.pass.view c.args.served.now c.answer.new.served)
+    (λ h. whole_unsent keys past a b (g.L.Link.state c.answer.new.self.link) c.args.self.now.pass.view c.answer.new.self.pass.view c.args.served.now c.answer.new.served (search rules) (search rules) h)
     c.answer.ensures.stops

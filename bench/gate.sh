@@ -1,0 +1,138 @@
+#!/bin/sh
+# What a judgement of the gate of clients costs: instructions, counted by callgrind, of a small program that judges a request of each
+# sender of a list, no two alike, with a table of so many clients; once with senders that are spread, once with some that were made to
+# fall into one place of the table. A run of fewer judgements is taken off, so that what comes before falls out. With a full table of
+# the most clients those that fall into one place take too long for callgrind, and are timed; that takes a minute and a half of processor time. The
+# program is built in a temporary folder over copies of the crates, which proves them first (some minutes where nothing is kept). Needs
+# rt, valgrind, gcc, python3.
+#
+#     bench/gate.sh
+set -eu
+top=$(cd "$(dirname "$0")/.." && pwd)
+work=$(mktemp -d)
+trap 'rm -rf "$work"' EXIT
+mkdir -p "$work/crates/gate_loop/src"
+for crate in tick_units ntp_packet clock_page reply_core kiss_gate; do
+    mkdir "$work/crates/$crate"
+    for part in src specs proofs; do
+        [ -d "$top/crates/$crate/$part" ] && cp -r "$top/crates/$crate/$part" "$work/crates/$crate/"
+    done
+    grep "^$crate:" "$top/crates.txt" >> "$work/crates.txt"
+done
+echo "gate_loop: tick_units reply_core kiss_gate" >> "$work/crates.txt"
+cat > "$work/crates/gate_loop/src/main.rt" <<'RATTLE'
+//! Judges a request of each of so many senders of the file `senders`, 4 bytes a sender, a microsecond after the one before.
+#![tactic(auto)]
+
+use kiss_gate::{ClientGate, DenyList};
+use reply_core::Code;
+use std::{env, fs, io};
+use tick_units::Local;
+
+fn judge_all(gate: &mut ClientGate, senders: &[u8], count: usize) -> u64 {
+    let mut passed = 0u64;
+    let mut place = 0u32;
+    for sender in senders.chunks_exact(4).take(count) {
+        if let [a, b, c, d] = sender {
+            let ip = u32::from_le_bytes([*a, *b, *c, *d]);
+            place = place.wrapping_add(1);
+            if let Some(at) = Local::new(u64::from(place)) {
+                if gate.judge(ip, at).code == Code::Pass {
+                    passed = passed.wrapping_add(1);
+                }
+            }
+        }
+    }
+    passed
+}
+
+fn main(rt: HostRuntime) -> io::Result<()> {
+    let mut numbers = [0u64; 2];
+    let mut place = 0;
+    for word in env::args(&rt)?.skip(1) {
+        if let Ok(n) = word.as_str().parse::<u64>() {
+            if place < 2 {
+                numbers[place] = n;
+                place += 1;
+            }
+        }
+    }
+    let [clients, count] = numbers;
+    let clients = match u32::try_from(clients) {
+        Ok(clients) => clients.clamp(1, 65_536),
+        Err(_) => 1,
+    };
+    let senders = fs::read(&rt, "senders")?;
+    let Ok(mut gate) = ClientGate::open(rt.alloc(), &DenyList::new(), 60_000_000, clients) else {
+        return Ok(());
+    };
+    let passed = judge_all(&mut gate, senders.as_slice(), count as usize);
+    println!(rt; "{passed}")?;
+    Ok(())
+}
+RATTLE
+cat > "$work/find.c" <<'C'
+/* The first so many addresses that have one tag, and their places among the first so many groups of a table of so many groups, by the
+   hash of the kit's maps, whose seed is fixed. */
+#include <stdint.h>
+#include <stdio.h>
+#include <stdlib.h>
+static uint32_t hash(uint32_t ip) {
+    unsigned __int128 product = (unsigned __int128)(0x243f6a8885a308d3u ^ (ip | (uint64_t)ip << 32)) * (0x9e3779b97f4a7c15u ^ 8);
+    uint64_t folded = (uint64_t)product ^ (uint64_t)(product >> 64);
+    return (uint32_t)(folded ^ folded >> 32);
+}
+int main(int argc, char **argv) {
+    uint32_t groups = atoi(argv[1]), starts = atoi(argv[2]);
+    long left = argc > 3 ? atol(argv[3]) : 0;
+    for (uint64_t ip = 1; ip >> 32 == 0 && left > 0; ip++) {
+        uint32_t word = (uint32_t)ip, h = hash(word);
+        if (h >> 24 == 7 && (h & (groups - 1)) < starts) {
+            fwrite(&word, 4, 1, stdout);
+            left--;
+        }
+    }
+}
+C
+gcc -O2 -o "$work/find" "$work/find.c"
+(cd "$work/crates/gate_loop" && rt check > "$work/check.log" 2>&1 && : > senders && rt run -- 0 0 > "$work/run.log" 2>&1) || { tail -5 "$work/check.log" "$work/run.log"; exit 1; }
+program=$work/crates/gate_loop/out/gate_loop
+mkdir "$work/spread" "$work/place" "$work/most"
+python3 -c '
+import random, struct, sys
+random.seed(1)
+sys.stdout.buffer.write(struct.pack("<110000I", *random.sample(range(1, 2 ** 32), 110000)))' > "$work/spread/senders"
+"$work/find" 128 1 8000 > "$work/place/senders"
+"$work/find" 8192 64 80000 > "$work/most/senders"
+
+# The instructions of a run over so many senders of a list; each of them is new, and passes.
+instructions() {
+    (cd "$work/$1" && valgrind --tool=callgrind --callgrind-out-file=/dev/null "$program" "$2" "$3" 2> "$work/err" > "$work/passed")
+    [ "$(cat "$work/passed")" = "$3" ] || { echo "passed $(cat "$work/passed") of $3" >&2; exit 1; }
+    sed -n 's/.*Collected : //p' "$work/err"
+}
+
+# How many a judgement takes, with a table of so many clients that is full.
+judgement() {
+    few=$(instructions "$1" "$2" "$3")
+    more=$(instructions "$1" "$2" "$4")
+    echo "$1, $2 clients: $(((more - few) / ($4 - $3))) instructions a judgement"
+}
+judgement spread 1 5000 15000
+judgement spread 1024 5000 15000
+judgement spread 65536 80000 100000
+judgement place 256 3000 5000
+judgement place 1024 3000 5000
+(cd "$work/most" && python3 - "$program" <<'PYTHON'
+import os, subprocess, sys
+def seconds(count):
+    before = os.times()
+    subprocess.run([sys.argv[1], '65536', str(count)], check=True, stdout=subprocess.DEVNULL)
+    return os.times().children_user - before.children_user
+few, more = seconds(66000), seconds(72000)
+print(f'most, 65536 clients: {(more - few) / 6000 * 1e3:.2f} ms of processor time a judgement')
+# The 8192nd sender behind a full table finds no lane that is free, and all is put in anew.
+few, more = seconds(73700), seconds(73760)
+print(f'most, 65536 clients: {more - few:.1f} s of processor time for 60 judgements, in one of which the table is made anew')
+PYTHON
+)

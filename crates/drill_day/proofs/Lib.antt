@@ -1,0 +1,6 @@
+-- What is heard of a made day.
+pub mod MarkLaws
+pub mod CutLaws
+pub mod SymbolLaws
+pub mod MinuteLaws
+pub mod DayLaws

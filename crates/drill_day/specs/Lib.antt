@@ -1,0 +1,2 @@
+-- Read Day (the logs of a drill, and what is due for them).
+pub mod Day

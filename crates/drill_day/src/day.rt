@@ -1,0 +1,60 @@
+//! The logs of a day.
+ghost use Rattle.std.specs.Prelude.{◌≡◌, ◌+◌, ◌<◌, ◌++◌, [], ◌∷◌, ℕ, IfOk, OnOk, map, vec_capacity, vec_len};
+ghost use Rattle.drill_day.specs.Day.{day_log, day_logs, source_of, IsDay};
+ghost use Rattle.feed_link.specs.Memory.{sure_state};
+ghost use Rattle.tick_units.specs.declared.marks.Plan.{Plan};
+
+use feed_link::{Failed, MemorySink, SureSource};
+use pulse_maker::make;
+use std::alloc::{AllocError, Global};
+use tick_units::Plan;
+
+// 2026-03-01 00:00 UTC.
+const FIRST_MINUTE: u64 = 3_981_312_000;
+
+const MINUTES: u32 = 1440;
+
+// The log of a plan. A making fails only for want of memory.
+#[tactic(auto, unfolding(crate::specs::Day::day_log))]
+fn make_log(alloc: Global, plan: Plan, seed: u32) -> Result<SureSource, AllocError>
+    ensures { IfOk result (λ log. sure_state log ≡ source_of (day_log plan seed)) }
+{
+    let mut out = MemorySink::new(alloc, Vec::new(alloc));
+    match make(plan, FIRST_MINUTE, MINUTES, seed, &mut out) {
+        Ok(_) => Ok(SureSource::new(out.into_bytes())),
+        Err(Failed) => Err(AllocError),
+    }
+}
+
+// One log more.
+fn add_log(
+    alloc: Global,
+    plan: Plan,
+    seed: u32,
+    logs: &mut Vec<SureSource>,
+) -> Result<(), AllocError>
+    requires { vec_len logs.old < vec_capacity logs.old }
+    ensures added { OnOk result (map sure_state logs.new.items ≡ map sure_state logs.old.items ++ source_of (day_log plan seed) ∷ []) }
+    ensures count { OnOk result (vec_len logs.new ≡ vec_len logs.old + 1) }
+    ensures room { OnOk result (vec_capacity logs.new ≡ vec_capacity logs.old) }
+{
+    logs.push_reserved(make_log(alloc, plan, seed)?);
+    Ok(())
+}
+
+/// The logs of a day, made up in memory: one of each plan, in the order DCF77, MSF, WWVB. Their jitter and their spoilt minutes come from
+/// the seed. Each has at most three million bytes.
+///
+/// Fails where memory runs out.
+pub fn make_logs(alloc: Global, seed: u32) -> Result<Vec<SureSource>, AllocError>
+    ensures logs { IfOk result (λ logs. map sure_state logs.items ≡ map source_of (day_logs seed)) }
+
+    // They are lawful logs, for each minute of which one entry is due that names no leap second.
+    ensures due { IfOk result (λ _. (feed : ℕ) (plan : Plan) → IsDay feed plan seed) }
+{
+    let mut logs = Vec::with_capacity(alloc, 3)?;
+    add_log(alloc, Plan::Dcf, seed, &mut logs)?;
+    add_log(alloc, Plan::Msf, seed, &mut logs)?;
+    add_log(alloc, Plan::Wwvb, seed, &mut logs)?;
+    Ok(logs)
+}

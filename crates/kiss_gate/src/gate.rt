@@ -1,0 +1,148 @@
+//! The gate that judges requests.
+ghost use Rattle.std.specs.Prelude.{◌≡◌, ◌≤◌, ◌<◌, ◌∷◌, [], List, None, IfOk, length, nat_eq, false, true};
+ghost use Rattle.std.specs.Map.{lookup};
+
+use crate::DenyList;
+use crate::table::{bring_to_front, put_in_front};
+use lru::LruCache;
+use reply_core::Code;
+use std::alloc::Global;
+use std::marker::Model;
+use std::num::NonZeroUsize;
+use tick_units::Local;
+
+/// What a client's request gets, and whether the gate could keep it in its table.
+#[derive(Clone, Copy, Debug, PartialEq, Eq)]
+pub struct Judged {
+    pub code: Code,
+    pub kept: bool,
+}
+
+/// Why a gate can't be opened.
+#[derive(Clone, Copy, Debug, PartialEq, Eq)]
+pub enum GateOpen {
+    /// No memory was found.
+    Memory,
+}
+
+/// Judges the requests of clients: by the nets that are denied, and by when it last let each client pass.
+///
+/// It keeps a pair of address and moment of each of the last clients that it let pass, so many at most. Where the gap is 0 it keeps none.
+#[derive(Drop)]
+pub struct ClientGate {
+    denied: DenyList,
+    gap: u64,
+    clients: LruCache<u32, Local>,
+}
+
+impl Model for ClientGate {
+    ghost use Rattle.std.specs.Prelude.{◌≤◌};
+    ghost use Rattle.kiss_gate.specs.Gates.{Gate};
+    ghost use Rattle.kiss_gate.specs.Nets.{nets_of};
+
+    ghost Value = { Gate };
+
+    ghost view = { λ g. record { denied = nets_of g.denied; gap = g.gap; clients = g.clients.cap; table = g.clients.entries } };
+
+    ghost invariant = { λ g. g.gap ≤ 60000000 };
+}
+
+impl ClientGate {
+    ghost use Rattle.kiss_gate.specs.Clients.{after, code_of, is_soon};
+    ghost use Rattle.kiss_gate.specs.Histories.{code_alone, gate_after, senders, Request};
+    ghost use Rattle.kiss_gate.specs.Nets.{nets_of};
+    ghost use Rattle.reply_core.specs.declared.code.Code.TheVariants.{Pass};
+
+    /// The gate that has judged nothing. It denies these nets, lets a client pass once in `gap` microseconds, and remembers so many
+    /// clients; a gap of 0 lets all pass that aren't denied.
+    ///
+    /// # Errors
+    ///
+    /// `Memory` where no memory is found.
+    pub fn open(
+        alloc: Global,
+        deny: &DenyList,
+        gap: u64,
+        clients: u32,
+    ) -> Result<ClientGate, GateOpen>
+        requires gap { gap ≤ 60000000 }
+        requires least { 1 ≤ clients }
+        requires most { clients ≤ 65536 }
+        ensures opened { IfOk result (λ gate. gate ≡ record { denied = nets_of deny.now; gap = gap; clients = clients; table = [] }) }
+    {
+        let Some(room) = NonZeroUsize::new(clients as usize) else {
+            unreachable!();
+        };
+        match LruCache::new(alloc, room) {
+            Ok(table) => Ok(ClientGate {
+                denied: *deny,
+                gap,
+                clients: table,
+            }),
+            Err(_) => Err(GateOpen::Memory),
+        }
+    }
+
+    /// Judges a request from an address at a moment of the host's counter: `Deny` where the address is in a denied net, `Rate` where the
+    /// client was let pass less than the gap ago, else `Pass`. A client that gets `Rate` may ask again when the gap is over since it was
+    /// last let pass.
+    ///
+    /// It takes memory for a client that it doesn't know. Where there is none, the client passes and isn't kept, and nothing else changes.
+    pub fn judge(&mut self, ip: u32, at: Local) -> Judged
+        ensures code { result.code ≡ code_of self.old ip at }
+        ensures table { self.new ≡ after self.old ip at result.kept }
+        ensures kept { result.kept ≡ false → (result.code ≡ Pass) × (0 < self.old.gap) × (lookup (nat_eq ip) self.old.table ≡ None) }
+
+        // What it has judged, where all were kept.
+        ensures history { (requests : List Request) → result.kept ≡ true → self.old ≡ gate_after self.old requests
+            → self.new ≡ gate_after self.new (record { ip = ip; at = at } ∷ requests) }
+
+        // While there are no more senders than there is room for, each is judged as if it alone had asked.
+        ensures alone { (requests : List Request) → self.old ≡ gate_after self.old requests
+            → length (senders (record { ip = ip; at = at } ∷ requests)) ≤ self.old.clients
+            → result.code ≡ code_alone self.old requests ip at }
+    {
+        self.decide(ip, at)
+    }
+
+    // The code of a request, and the table after it.
+    fn decide(&mut self, ip: u32, at: Local) -> Judged
+        ensures code { result.code ≡ code_of self.old ip at }
+        ensures table { self.new ≡ after self.old ip at result.kept }
+        ensures kept { result.kept ≡ false → (result.code ≡ Pass) × (0 < self.old.gap) × (lookup (nat_eq ip) self.old.table ≡ None) }
+    {
+        if self.denied.denies(ip) {
+            return Judged {
+                code: Code::Deny,
+                kept: true,
+            };
+        }
+        if self.gap == 0 {
+            return Judged {
+                code: Code::Pass,
+                kept: true,
+            };
+        }
+        if self.is_soon(ip, at) {
+            bring_to_front(&mut self.clients, ip);
+            return Judged {
+                code: Code::Rate,
+                kept: true,
+            };
+        }
+        Judged {
+            code: Code::Pass,
+            kept: put_in_front(&mut self.clients, ip, at),
+        }
+    }
+
+    // Whether a request comes less than the gap after the client was last let pass.
+    fn is_soon(&self, ip: u32, at: Local) -> bool
+        ensures { result ≡ is_soon self.now.gap at (lookup (nat_eq ip) self.now.table) }
+    {
+        match self.clients.peek(&ip) {
+            Some(last) => at.get() < last.get() + self.gap,
+            None => false,
+        }
+    }
+}

@@ -1,0 +1,151 @@
+//! `drill`: a day of three radios is made up in memory and served, and what became of it is told.
+ghost use Rattle.std.specs.Prelude.{◌≡◌, ◌<◌, ◌≤◌, ◌⊎◌, IfOk, false};
+ghost use Rattle.radio_engine.specs.DrillScaffold.{HasDayGear, HasDrilled};
+ghost use Rattle.radio_engine.specs.Drilling.{Drills};
+ghost use Rattle.radio_engine.specs.Run.{Lacks};
+ghost use Rattle.receiver_rack.specs.Racks.{IsRack};
+ghost use Rattle.station_config.specs.Station.{one_of_each};
+ghost use Rattle.station_crew.specs.Served.{AreBlank};
+
+mod text;
+
+use crate::ending::Ending;
+use crate::ending::status::Status;
+use crate::ending::writing::finish;
+use crate::serve::{Done, Kit, Orders, serve_gated};
+use drill_day::make_logs;
+use feed_link::{Outside, Sink, SureSource};
+use radio_receiver::{BoxedReceiver, Receiver};
+use receiver_rack::fit_radios;
+use station_config::Station;
+use station_crew::{Budget, Ended};
+use station_gear::Gear;
+use std::alloc::{AllocError, Global};
+use std::sync::Wait;
+use std::thread::Threads;
+use text::finish_drilled;
+
+// No link is served.
+const NO_HEARING: Budget = Budget {
+    during: 0,
+    after: 0,
+};
+
+// The logs of a day, and no link.
+fn day_gear<T: Drop>(alloc: Global, seed: u32) -> Result<Gear<SureSource, T>, AllocError>
+    ensures { IfOk result (λ gear. HasDayGear seed gear) }
+{
+    Ok(Gear {
+        logs: make_logs(alloc, seed)?,
+        servers: Vec::new(alloc),
+        links: Vec::new(alloc),
+    })
+}
+
+// The receivers of the rack, and the logs of a day.
+fn day_kit<T: Drop>(
+    alloc: Global,
+    station: &Station,
+    seed: u32,
+    rack: Vec<BoxedReceiver>,
+) -> Result<Kit<SureSource, T>, AllocError>
+    requires { IsRack (λ b h. stands_for b h) rack.items }
+    ensures receivers { IfOk result (λ kit. AreBlank (λ b h. stands_for b h) (λ b. least_start b) station.now.radios kit.receivers.items) }
+    ensures gear { IfOk result (λ kit. HasDayGear seed kit.gear) }
+{
+    Ok(Kit {
+        receivers: fit_radios(alloc, station, rack)?,
+        gear: day_gear(alloc, seed)?,
+    })
+}
+
+// Serves a station of three radios on the logs of a day.
+fn serve_day<R: Threads + Wait + Sync, O: Outside>(
+    rt: &R,
+    alloc: Global,
+    station: &Station,
+    orders: Orders,
+    kit: Kit<SureSource, O::Net>,
+    seed: u32,
+    outside: &mut O,
+) -> Result<Done, AllocError>
+    requires limit { (0 < orders.limit) × (orders.limit ≤ 4194304) }
+    requires station { station.now ≡ one_of_each }
+    requires blank { AreBlank (λ b h. stands_for b h) (λ b. least_start b) station.now.radios kit.receivers.items }
+    requires gear { HasDayGear seed kit.gear }
+    requires gate { O.gate_out outside.old ≡ false }
+    ensures same { O.state outside.new ≡ O.state outside.old }
+    ensures gate { O.gate_out outside.new ≡ O.gate_out outside.old }
+    ensures drilled { IfOk result (λ done. HasDrilled seed orders.limit done) }
+{
+    match serve_gated(rt, alloc, station, orders, kit, outside) {
+        Ok(ended) => {
+            let Ended {
+                journal,
+                gear: _gear,
+                radios,
+                servers,
+                links,
+            } = ended;
+            Ok(Done {
+                journal,
+                radios,
+                servers,
+                links,
+            })
+        }
+        Err(_) => Err(AllocError),
+    }
+}
+
+// Makes up a day and serves it.
+fn drill<R: Threads + Wait + Sync, O: Outside>(
+    rt: &R,
+    alloc: Global,
+    station: &Station,
+    seed: u32,
+    limit: u32,
+    rack: Vec<BoxedReceiver>,
+    outside: &mut O,
+) -> Result<Done, AllocError>
+    requires limit { (0 < limit) × (limit ≤ 4194304) }
+    requires station { station.now ≡ one_of_each }
+    requires rack { IsRack (λ b h. stands_for b h) rack.items }
+    requires gate { O.gate_out outside.old ≡ false }
+    ensures same { O.state outside.new ≡ O.state outside.old }
+    ensures gate { O.gate_out outside.new ≡ O.gate_out outside.old }
+    ensures drilled { IfOk result (λ done. HasDrilled seed limit done) }
+{
+    let kit = day_kit(alloc, station, seed, rack)?;
+    let orders = Orders {
+        limit,
+        budget: NO_HEARING,
+    };
+    serve_day(rt, alloc, station, orders, kit, seed, outside)
+}
+
+// Runs a drill with a rack of receivers: what it writes comes behind that.
+pub fn run_drill<R: Threads + Wait + Sync, O: Outside, K: Sink>(
+    rt: &R,
+    alloc: Global,
+    seed: u32,
+    limit: u32,
+    rack: Vec<BoxedReceiver>,
+    outside: &mut O,
+    out: &mut K,
+) -> Status
+    requires limit { (0 < limit) × (limit ≤ 4194304) }
+    requires rack { IsRack (λ b h. stands_for b h) rack.items }
+    requires gate { O.gate_out outside.old ≡ false }
+    ensures gate { O.gate_out outside.new ≡ O.gate_out outside.old }
+    ensures runs { Lacks (O.state outside.old) (O.state outside.new) (K.state out.old) (K.state out.new) result
+        ⊎ Drills seed limit (O.state outside.old) (O.state outside.new) (K.state out.old) (K.state out.new) result }
+{
+    let Ok(station) = Station::one_of_each(alloc) else {
+        return finish(Ending::NoMemory, out);
+    };
+    match drill(rt, alloc, &station, seed, limit, rack, outside) {
+        Ok(done) => finish_drilled(&station, &done, limit, out),
+        Err(AllocError) => finish(Ending::NoMemory, out),
+    }
+}

@@ -1,0 +1,163 @@
+//! Replies with and without a digest. The digests are those of Python's `hashlib`; the headers were worked by hand from RFC 5905.
+ghost use Rattle.std.specs.Prelude.{◌≡◌, ◌≤◌, ◌∷◌, [], IfOk, codes};
+ghost use Rattle.packet_auth.specs.Keys.{keys_of};
+
+use crate::reply_to;
+use clock_page::Page;
+use packet_auth::KeyRing;
+use reply_core::Dropped;
+use std::test::Fail;
+use tick_units::{Local, Short, Span, Stamp};
+
+fn moment(microseconds: u64) -> Result<Local, Fail>
+    ensures { IfOk result (λ l. l ≡ microseconds) }
+{
+    match Local::new(microseconds) {
+        Some(moment) => Ok(moment),
+        None => Err("no moment")?,
+    }
+}
+
+// A request of version 4 with a poll of 64 s, sent at 0x1122334455667788 by the client's clock.
+const REQUEST: [u8; 48] = [
+    0x23, 0x00, 0x06, 0xec, 0x00, 0x00, 0x00, 0x00, 0x00, 0x00, 0x00, 0x00, 0x00, 0x00, 0x00, 0x00,
+    0x00, 0x00, 0x00, 0x00, 0x00, 0x00, 0x00, 0x00, 0x00, 0x00, 0x00, 0x00, 0x00, 0x00, 0x00, 0x00,
+    0x00, 0x00, 0x00, 0x00, 0x00, 0x00, 0x00, 0x00, 0x11, 0x22, 0x33, 0x44, 0x55, 0x66, 0x77, 0x88,
+];
+
+// MD5 of `longwave` and the request, and of `shortwave` and it.
+const BY_LONGWAVE: [u8; 16] = [
+    0xb4, 0x08, 0xcf, 0x70, 0xf4, 0xde, 0x37, 0x98, 0xe7, 0x13, 0xf3, 0x1a, 0x2a, 0x88, 0x5f, 0x12,
+];
+
+const BY_SHORTWAVE: [u8; 16] = [
+    0x53, 0x0e, 0xb1, 0x20, 0x91, 0x52, 0xc1, 0x0c, 0xaf, 0xca, 0x1d, 0x7b, 0x2b, 0x64, 0xd5, 0xd1,
+];
+
+// The answer of a server with one DCF77 radio, half a millisecond behind the request.
+const ANSWER: [u8; 48] = [
+    0x24, 0x01, 0x06, 0xec, 0x00, 0x00, 0x00, 0x00, 0x00, 0x00, 0xf0, 0x67, 0x44, 0x43, 0x46, 0x00,
+    0xed, 0x00, 0xe1, 0x30, 0x00, 0x00, 0x00, 0x00, 0x11, 0x22, 0x33, 0x44, 0x55, 0x66, 0x77, 0x88,
+    0xed, 0x00, 0xe1, 0x31, 0x00, 0x00, 0x00, 0x00, 0xed, 0x00, 0xe1, 0x31, 0x00, 0x20, 0xc4, 0x9b,
+];
+
+// MD5 of `longwave` and the answer, and of `shortwave` and it.
+const ANSWER_BY_LONGWAVE: [u8; 16] = [
+    0xc6, 0x34, 0x7d, 0xf5, 0xe2, 0xb5, 0x98, 0x07, 0x07, 0x2b, 0xd6, 0x9b, 0x39, 0x90, 0x65, 0xc3,
+];
+
+const ANSWER_BY_SHORTWAVE: [u8; 16] = [
+    0xd5, 0xa6, 0xb4, 0xf0, 0x4f, 0x46, 0xf7, 0x59, 0x1a, 0xed, 0x52, 0x86, 0xff, 0x34, 0x14, 0x1c,
+];
+
+// A header with an identifier and a digest behind it, on the wire.
+fn packet(header: [u8; 48], id: u8, digest: [u8; 16]) -> [u8; 68] {
+    let mut bytes = [0; 68];
+    bytes[..48].copy_from_slice(&header);
+    bytes[51] = id;
+    bytes[52..].copy_from_slice(&digest);
+    bytes
+}
+
+fn ring_of_two() -> KeyRing
+    ensures { keys_of result ≡ record { id = 9; secret = codes "shortwave" } ∷ record { id = 1; secret = codes "longwave" } ∷ [] }
+{
+    let mut ring = KeyRing::new();
+    ring.add(9, b"shortwave");
+    ring.add(1, b"longwave");
+    ring
+}
+
+// A server with one DCF77 radio, whose counter began 62 s before noon of 2026-01-01, after its fifth minute.
+fn of_a_radio() -> Result<Page, Fail> {
+    Ok(Page {
+        length: 5,
+        sync: true,
+        stratum: 1,
+        refid: 0x4443_4600,
+        offset: Span::from(17_077_896_086_183_477_248),
+        anchor: moment(302_000_000)?,
+        until: 4_364_906_902,
+        root_delay: Short(0),
+        root_disp: Short(61_542),
+        reftime: Stamp(0xed00_e130_0000_0000),
+        leap_at: 0,
+        rate: 0,
+    })
+}
+
+// Whether the reply to a datagram has these bytes.
+fn is_replied(datagram: &[u8], want: &[u8]) -> Result<bool, Fail> {
+    let page = of_a_radio()?;
+    let (arrived, sent) = (moment(303_000_000)?, moment(303_000_500)?);
+    match reply_to(&ring_of_two(), &page, datagram, arrived, sent) {
+        Ok(reply) => Ok(reply.bytes() == want),
+        Err(_) => Ok(false),
+    }
+}
+
+#[test]
+fn a_reply_is_sealed_as_its_request_is(rt: HostRuntime) -> Result<(), Fail> {
+    assert!(rt; is_replied(&REQUEST, &ANSWER)?);
+    let asked = packet(REQUEST, 1, BY_LONGWAVE);
+    assert!(rt; is_replied(&asked, &packet(ANSWER, 1, ANSWER_BY_LONGWAVE))?);
+    let asked = packet(REQUEST, 9, BY_SHORTWAVE);
+    assert!(rt; is_replied(&asked, &packet(ANSWER, 9, ANSWER_BY_SHORTWAVE))?);
+    Ok(())
+}
+
+// The last byte is changed, the identifier is another's or nobody's, the length is that of a crypto-NAK, or a byte is one too many or few.
+#[test]
+fn a_request_that_is_not_authentic(rt: HostRuntime) -> Result<(), Fail> {
+    let mut changed = packet(REQUEST, 1, BY_LONGWAVE);
+    changed[67] ^= 1;
+    assert!(rt; is_replied(&changed, &ANSWER)?);
+    assert!(rt; is_replied(&packet(REQUEST, 9, BY_LONGWAVE), &ANSWER)?);
+    assert!(rt; is_replied(&packet(REQUEST, 2, BY_LONGWAVE), &ANSWER)?);
+    assert!(rt; is_replied(&packet(REQUEST, 0, BY_LONGWAVE), &ANSWER)?);
+    let mut longer = [0; 88];
+    longer[..68].copy_from_slice(&packet(REQUEST, 1, BY_LONGWAVE));
+    for length in [52, 67, 69, 72, 88] {
+        assert!(rt; is_replied(&longer[..length], &ANSWER)?, "{length} bytes");
+    }
+    Ok(())
+}
+
+// MD5 of `longwave` and the request with the first byte 2b, of version 5, and 24, of a server.
+#[test]
+fn what_is_no_request_is_dropped_sealed_or_not(rt: HostRuntime) -> Result<(), Fail> {
+    let page = of_a_radio()?;
+    for (first, digest, why) in [
+        (
+            0x2b,
+            [
+                0x27, 0xaf, 0x0f, 0xe4, 0xc5, 0xe2, 0x83, 0x0b, 0x15, 0xa1, 0x38, 0x35, 0x58, 0xe0,
+                0x66, 0xd3,
+            ],
+            Dropped::Version,
+        ),
+        (
+            0x24,
+            [
+                0xa7, 0xf3, 0x47, 0x4c, 0xa7, 0x05, 0x7f, 0xe7, 0xfe, 0x42, 0xc6, 0xa1, 0x78, 0xa8,
+                0x9a, 0x68,
+            ],
+            Dropped::Mode,
+        ),
+    ] {
+        let mut datagram = packet(REQUEST, 1, digest);
+        datagram[0] = first;
+        assert_eq!(rt; ring_of_two().authentic(&datagram), Some(1));
+        let reply = reply_to(&ring_of_two(), &page, &datagram, moment(0)?, moment(0)?);
+        assert_eq!(rt; reply.err(), Some(why));
+    }
+    let short = reply_to(
+        &ring_of_two(),
+        &page,
+        &REQUEST[..47],
+        moment(0)?,
+        moment(0)?,
+    );
+    assert_eq!(rt; short.err(), Some(Dropped::Short));
+    Ok(())
+}

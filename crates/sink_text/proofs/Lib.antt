@@ -1,0 +1,2 @@
+-- Lemmas on texts that are written one after another.
+pub mod WritingLaws

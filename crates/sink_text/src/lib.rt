@@ -1,0 +1,25 @@
+//! Writes texts to a sink.
+#![tactic(auto)]
+
+ghost use Rattle.std.specs.Prelude.{OnErr, OnOk};
+ghost use Rattle.sink_text.specs.Writing.{WritesAll, WritesFront};
+
+use feed_link::{Failed, Sink};
+
+#[cfg(test)]
+mod tests;
+
+/// Writes all of a text, in as many writes as the sink makes of it.
+///
+/// `Failed` comes with the first write that fails, and that one isn't tried again: the sink then holds a front of the text.
+pub fn write_all<K: Sink>(out: &mut K, text: &[u8]) -> Result<(), Failed>
+    ensures ok { OnOk result (WritesAll (K.state out.old) (K.state out.new) text.now) }
+    ensures err { OnErr result (WritesFront (K.state out.old) (K.state out.new) text.now) }
+{
+    let mut rest = text;
+    'rest: while !rest.is_empty() {
+        let count = out.write(rest)?;
+        rest = rest.split_at(count).1;
+    }
+    Ok(())
+}

@@ -1,0 +1,47 @@
+// Texts over a sink in memory.
+use super::*;
+use feed_link::MemorySink;
+use std::alloc::Global;
+use std::test::Fail;
+
+// What a sink holds after these texts, and the first that failed.
+fn held_after(
+    alloc: Global,
+    texts: &[&str],
+    fails: Vec<u64>,
+) -> Result<(Vec<u8>, Option<usize>), Fail> {
+    let mut out = MemorySink::new(alloc, fails);
+    let mut failed = None;
+    for place in 0..texts.len() {
+        if write_all(&mut out, texts[place].as_bytes()).is_err() && failed.is_none() {
+            failed = Some(place);
+        }
+    }
+    Ok((out.into_bytes(), failed))
+}
+
+#[test]
+fn a_text_is_written_whole_and_stands_behind_the_one_before(rt: HostRuntime) -> Result<(), Fail> {
+    let (bytes, failed) = held_after(rt.alloc(), &["one", "", " two"], Vec::new(rt.alloc()))?;
+    assert_eq!(rt; bytes.as_slice(), b"one two".as_slice());
+    assert_eq!(rt; failed, None);
+    Ok(())
+}
+
+#[test]
+fn a_write_that_fails_is_not_tried_again(rt: HostRuntime) -> Result<(), Fail> {
+    let fails = vec![in rt.alloc(); 2]?;
+    let (bytes, failed) = held_after(rt.alloc(), &["one", "two", "three"], fails)?;
+    assert_eq!(rt; bytes.as_slice(), b"onethree".as_slice());
+    assert_eq!(rt; failed, Some(1));
+    Ok(())
+}
+
+#[test]
+fn an_empty_text_is_no_write(rt: HostRuntime) -> Result<(), Fail> {
+    let fails = vec![in rt.alloc(); 1]?;
+    let (bytes, failed) = held_after(rt.alloc(), &["", "one", "two"], fails)?;
+    assert_eq!(rt; bytes.as_slice(), b"two".as_slice());
+    assert_eq!(rt; failed, Some(1));
+    Ok(())
+}

@@ -1,0 +1,42 @@
+-- The values at fault in a key's table, by what is read of them.
+use Rattle.std.proofs.Common.{◌≡◌, ◌==◌, ◌||◌, ℕ, zero, suc, option_map, is_some, true, false, List, [], ◌∷◌, Some, refl, sym, ap, map, slice_get, append-nil}
+use Rattle.std.specs.List.{list_any}
+use Rattle.std.proofs.Math.Bool.{or-true}
+use Rattle.std.proofs.lemmas.Bool.{true≢false}
+use Rattle.toml.specs.Data.{Members}
+use Rattle.station_config.specs.Faults.{bad_in, bad_in_key, bad_in_keys, is_bad, is_taken, key_in}
+use Rattle.station_config.specs.Finding.{ids_of}
+use Rattle.station_config.specs.KeptStation.{key_kept}
+use Rattle.station_config.specs.Rows.{id_row, secret_row}
+use Rattle.station_config.specs.declared.keys.Part.TheVariants as part
+use Rattle.station_config.specs.declared.shared_key.SharedKey.{SharedKey}
+use Rattle.packet_auth.specs.Keys.{has_id}
+
+pub taken-kept : (keys : List SharedKey) (id : ℕ) → list_any (λ taken. taken == id) (ids_of (map key_kept keys)) ≡ list_any (λ key. key.id == id) keys
+taken-kept [] id = refl
+taken-kept (k ∷ keys) id = ap (λ b. (k.id == id) || b) (taken-kept keys id)
+
+pub has-kept : (keys : List SharedKey) (id : ℕ) → has_id id (map key_kept keys) ≡ list_any (λ key. key.id == id) keys
+has-kept [] id = refl
+has-kept (k ∷ keys) id = ap (λ b. (k.id == id) || b) (has-kept keys id)
+
+pub id-taken : (taken : List ℕ) (m : Members) → is_taken taken m ≡ true → slice_get (bad_in_key taken m) 0 ≡ Some id_row.key
+id-taken taken m h = rw (h, or-true (is_bad m id_row)) refl
+
+pub id-good : (taken : List ℕ) (m : Members) → is_taken taken m ≡ false → is_bad m id_row ≡ false → bad_in_key taken m ≡ bad_in (secret_row ∷ []) m
+id-good taken m h good = rw (good, h) refl
+
+pub secret-bad : (m : Members) → is_bad m secret_row ≡ true → slice_get (bad_in (secret_row ∷ []) m) 0 ≡ Some secret_row.key
+secret-bad m h = rw h refl
+
+pub secret-good : (m : Members) → is_bad m secret_row ≡ false → bad_in (secret_row ∷ []) m ≡ []
+secret-good m h = rw h refl
+
+-- the values at fault in one table
+pub one-table : (taken : List ℕ) (place : ℕ) (m : Members) → bad_in_keys taken ((place, m) ∷ []) ≡ map (key_in part.Key place) (bad_in_key taken m)
+one-table taken place m = append-nil (map (key_in part.Key place) (bad_in_key taken m))
+
+pub key-at : (keys : List SharedKey) (i : ℕ) (key : SharedKey) → slice_get keys i ≡ Some key → slice_get (map key_kept keys) i ≡ Some (key_kept key)
+key-at [] i key h = absurd (true≢false (sym (ap is_some h)))
+key-at (k ∷ keys) zero key h = ap (option_map key_kept) h
+key-at (k ∷ keys) (suc i) key h = key-at keys i key h

@@ -1,0 +1,131 @@
+//! The keys of a station file, lawful ones and faulty ones.
+use crate::read_station;
+use crate::tests::{answer, wrong};
+use std::test::Fail;
+
+// Each line has a file, with `|` for its line feeds, and what it comes to.
+
+const IDENTIFIERS: &str = r#"key = [] -> 4294967296 0
+[[key]]|id = 1|secret = "longwave" -> 4294967296 0
+[[key]]|id = 4294967295|secret = "longwave" -> 4294967296 0
+[[key]]|id = 0x10|secret = "longwave" -> 4294967296 0
+[[key]]|id = 0|secret = "longwave" -> range key.0.id
+[[key]]|id = 4294967296|secret = "longwave" -> range key.0.id
+[[key]]|id = -1|secret = "longwave" -> range key.0.id
+[[key]]|id = "1"|secret = "longwave" -> range key.0.id
+[[key]]|id = 1.0|secret = "longwave" -> range key.0.id
+[[key]]|id = 1|secret = "longwave"|[[key]]|id = 2|secret = "longwave" -> 4294967296 0
+[[key]]|id = 1|secret = "longwave"|[[key]]|id = 1|secret = "shortwave" -> range key.1.id
+[[key]]|id = 1|secret = "a"|[[key]]|id = 2|secret = "b"|[[key]]|id = 1|secret = "c" -> range key.2.id
+[[key]]|id = 1|secret = "a"|[[key]]|id = 1|secret = "b"|[[key]]|id = 1|secret = "c" -> range key.1.id
+[[key]]|id = 0|secret = "a"|[[key]]|id = 0|secret = "b" -> range key.0.id
+[[key]]|id = 1|secret = "a"|[[key]]|id = 1|secret = "" -> range key.1.id
+[[key]]|id = 1|secret = ""|[[key]]|id = 1|secret = "b" -> range key.0.secret
+"#;
+
+// What stands between the quotes of a secret, and what the file comes to.
+const SECRETS: &str = r#"! -> 4294967296 0
+~ -> 4294967296 0
+\u0021\u007e -> 4294967296 0
+0123456789abcdef0123456789abcdef -> 4294967296 0
+0123456789abcdef0123456789abcdef0 -> range key.0.secret
+ -> range key.0.secret
+  -> range key.0.secret
+long wave -> range key.0.secret
+longwave\t -> range key.0.secret
+\u0020 -> range key.0.secret
+\u007f -> range key.0.secret
+\u0000 -> range key.0.secret
+längst -> range key.0.secret
+\u00ff -> range key.0.secret
+"#;
+
+const ORDER: &str = r#"[[key]] -> missing key.0.id
+[[key]]|id = 1 -> missing key.0.secret
+[[key]]|secret = "a" -> missing key.0.id
+[[key]]|id = 1|secret = "a"|type = "md5" -> unknown key.0.type
+[[key]]|id = 1|secret = 7 -> range key.0.secret
+[[key]]|id = 0|secret = 7 -> range key.0.id
+[[key]]|id = 0|secret = "a"|[[link]]|port = 0 -> range link.0.port
+[[key]]|x = 1|[[link]]|x = 1 -> unknown link.0.x
+[[key]]|[[link]] -> missing link.0.port
+[[key]]|id = 1|secret = "a"|[[key]]|x = 1 -> unknown key.1.x
+key = 1 -> range key
+key = [1] -> range key
+bound = 0|key = 1 -> range bound
+link = 1|key = 1 -> range key
+"#;
+
+#[test]
+fn identifiers_of_keys(rt: HostRuntime) -> Result<(), Fail> {
+    assert_eq!(rt; wrong(rt.alloc(), IDENTIFIERS, "", "|")?, None);
+    Ok(())
+}
+
+#[test]
+fn secrets_of_keys(rt: HostRuntime) -> Result<(), Fail> {
+    let before = "[[key]]|id = 1|secret = \"";
+    assert_eq!(rt; wrong(rt.alloc(), SECRETS, before, "\"|")?, None);
+    Ok(())
+}
+
+#[test]
+fn faults_of_keys(rt: HostRuntime) -> Result<(), Fail> {
+    assert_eq!(rt; wrong(rt.alloc(), ORDER, "", "|")?, None);
+    Ok(())
+}
+
+// Eight keys may be; of nine the identifiers and secrets are looked at first, and the links are counted before them.
+#[test]
+fn nine_keys(rt: HostRuntime) -> Result<(), Fail> {
+    let alloc = rt.alloc();
+    let mut keys = String::new(alloc);
+    let mut links = String::new(alloc);
+    for id in 1..9u8 {
+        keys.push_str(format!(in alloc; "[[key]]\nid = {id}\nsecret = \"a\"\n")?.as_str())?;
+        links.push_str("[[link]]\nport = 1\n")?;
+    }
+    assert_eq!(rt; answer(alloc, keys.as_bytes())?.as_str(), "4294967296 0");
+    let nine = format!(in alloc; "{keys}[[key]]\nid = 9\nsecret = \"a\"\n")?;
+    assert_eq!(rt; answer(alloc, nine.as_bytes())?.as_str(), "many key 9");
+    let both = format!(in alloc; "{nine}{links}[[link]]\nport = 1\n")?;
+    assert_eq!(rt; answer(alloc, both.as_bytes())?.as_str(), "many link 9");
+    let twice = format!(in alloc; "{keys}[[key]]\nid = 8\nsecret = \"a\"\n")?;
+    assert_eq!(rt; answer(alloc, twice.as_bytes())?.as_str(), "range key.8.id");
+    Ok(())
+}
+
+// A packet of 48 zero bytes, the identifier, and MD5 of the secret and the zeros as Python's `hashlib` gives it.
+fn packet(id: u8, digest: [u8; 16]) -> [u8; 68] {
+    let mut bytes = [0; 68];
+    bytes[51] = id;
+    bytes[52..].copy_from_slice(&digest);
+    bytes
+}
+
+const OF_LONGWAVE: [u8; 16] = [
+    0xf0, 0x74, 0x26, 0x01, 0x30, 0x6e, 0x55, 0x67, 0x53, 0x77, 0xeb, 0x06, 0x52, 0x55, 0x1f, 0x6d,
+];
+
+const OF_SHORTWAVE: [u8; 16] = [
+    0x95, 0x4b, 0x3c, 0x4c, 0x11, 0xef, 0x4a, 0xb1, 0x2e, 0x21, 0x26, 0xc9, 0x10, 0xce, 0x75, 0x17,
+];
+
+#[test]
+fn the_keys_of_a_station(rt: HostRuntime) -> Result<(), Fail> {
+    let alloc = rt.alloc();
+    let text = b"[[key]]\nid = 7\nsecret = \"longwave\"\n[[key]]\nid = 2\nsecret = \"shortwave\"\n";
+    let Ok(station) = read_station(alloc, text) else {
+        return Err("refused")?;
+    };
+    let keys = station.keys();
+    assert_eq!(rt; keys.authentic(&packet(7, OF_LONGWAVE)), Some(7));
+    assert_eq!(rt; keys.authentic(&packet(2, OF_SHORTWAVE)), Some(2));
+    assert_eq!(rt; keys.authentic(&packet(2, OF_LONGWAVE)), None);
+    assert_eq!(rt; keys.authentic(&packet(1, OF_LONGWAVE)), None);
+    let Ok(station) = read_station(alloc, b"") else {
+        return Err("refused")?;
+    };
+    assert_eq!(rt; station.keys().authentic(&packet(7, OF_LONGWAVE)), None);
+    Ok(())
+}

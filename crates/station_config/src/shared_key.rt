@@ -1,0 +1,12 @@
+//! A key that a station shares with its clients.
+ghost use Rattle.std.specs.Prelude.{◌≤◌, ◌<◌, length, string_bytes};
+
+// A key as a station keeps it. It has no `Debug`, so that the secret stands in no text.
+#[derive(Drop)]
+pub struct SharedKey {
+    pub id: u32,
+    pub secret: String,
+    ghost some: { 0 < id },
+    ghost least: { 1 ≤ length (string_bytes secret) },
+    ghost most: { length (string_bytes secret) ≤ 32 },
+}
