@@ -17,14 +17,15 @@ for crate in tick_units ntp_packet packet_auth clock_page reply_core sealed_repl
     done
     grep "^$crate:" "$top/crates.txt" >> "$work/crates.txt"
 done
-echo 'seal_loop: tick_units clock_page packet_auth sealed_reply' >> "$work/crates.txt"
+echo 'seal_loop: tick_units clock_page packet_auth reply_core sealed_reply' >> "$work/crates.txt"
 cat > "$work/crates/seal_loop/src/main.rt" <<'RATTLE'
 //! Replies to so many requests, which are authentic, or with the word `plain` aren't.
 #![tactic(auto)]
 
 use clock_page::Page;
 use packet_auth::KeyRing;
-use sealed_reply::reply_to;
+use reply_core::Code;
+use sealed_reply::Request;
 use std::{env, io};
 use tick_units::Local;
 
@@ -39,8 +40,8 @@ const REQUEST: [u8; 68] = [
 
 #[inline(never)]
 fn last_byte(keys: &KeyRing, page: &Page, datagram: &[u8], at: Local) -> u8 {
-    match reply_to(keys, page, datagram, at, at) {
-        Ok(reply) => *reply.bytes().last().unwrap_or(&0),
+    match Request::read(datagram) {
+        Ok(request) => *request.reply(keys, Code::Pass, page, at, at).bytes().last().unwrap_or(&0),
         Err(_) => 0,
     }
 }

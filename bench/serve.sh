@@ -1,7 +1,7 @@
 #!/bin/sh
 # What serving costs, on the loopback in one run: processor time a reply and replies a second of the built program beside plain C that
 # makes the same system calls and echoes what came, and beside chronyd where it is installed, under the same load: one client that keeps
-# 16 requests outstanding; user instructions a reply, counted by callgrind; and the peak memory of a run whose journal is full at its
+# 16 requests outstanding; the same of a station that keeps a table of 65536 clients, and of it and of one without a table the same for 65536 clients by turns; user instructions a reply, counted by callgrind; and the peak memory of a run whose journal is full at its
 # default limit. It builds nothing of ours: run ./radio_ntpd once before. Needs gcc and python3; valgrind for the instructions.
 #
 #     bench/serve.sh [REPLIES [RUNS]]
@@ -12,7 +12,7 @@ replies=${1:-50000}
 runs=${2:-7}
 BOUND=1.5
 # What the server hears of one phase at the most, but for some that get it going.
-[ $((replies * runs)) -le 990000 ] || { echo "more than 990000 replies in all" >&2; exit 1; }
+[ $((2 * replies * runs)) -le 990000 ] || { echo "more than 990000 replies in all" >&2; exit 1; }
 cd "$(dirname "$0")/.."
 . bench/built.sh
 PATH="$PATH:/usr/sbin:/sbin"
@@ -43,10 +43,10 @@ spent() {
     cat /proc/"$1"/task/*/schedstat | awk '{ sum += $1 } END { printf "%.0f\n", sum }'
 }
 
-# Asks the server $1 of the process $2 at the port $3: a line of ns a reply and replies a second.
+# Asks the server $1 of the process $2 at the port $3, as $4 clients where they are many: a line of ns a reply and replies a second.
 load() {
     before=$(spent "$2")
-    rate=$("$work/ask" "$3" 16 "$replies")
+    rate=$("$work/ask" "$3" 16 "$replies" ${4:-})
     echo "$(($(spent "$2") - before)) $replies $rate" >> "$work/$1.runs"
 }
 
@@ -55,11 +55,21 @@ station "$ours" > "$work/station"
 "$program" serve --station "$work/station" --during 0 --after 1000000 > "$work/served" &
 ours_process=$!
 servers=$ours_process
+# No two requests come within its gap.
+gated=$(port)
+{
+    printf 'gap = 1\nclients = 65536\n'
+    station "$gated"
+} > "$work/gated_station"
+"$program" serve --station "$work/gated_station" --during 0 --after 1000000 > "$work/gated_served" &
+gated_process=$!
+servers="$servers $gated_process"
 echo_port=$(port)
 "$work/echo" "$echo_port" > "$work/echoed" &
 echo_process=$!
 servers="$servers $echo_process"
 "$work/ask" "$ours" 1 1 > "$work/rate"
+"$work/ask" "$gated" 1 1 > "$work/rate"
 "$work/ask" "$echo_port" 1 1 > "$work/rate"
 chrony_port=
 if command -v chronyd > /dev/null; then
@@ -76,6 +86,9 @@ fi
 turn=0
 while [ "$turn" -lt "$runs" ]; do
     load ours "$ours_process" "$ours"
+    load ours-65536 "$ours_process" "$ours" 65536
+    load gated-1 "$gated_process" "$gated"
+    load gated-65536 "$gated_process" "$gated" 65536
     load echo "$echo_process" "$echo_port"
     [ -z "$chrony_port" ] || load chronyd "$chrony_process" "$chrony_port"
     turn=$((turn + 1))
@@ -83,14 +96,17 @@ done
 echo "the least of $runs runs of $replies replies, 16 outstanding; $(uptime | sed 's/.*load/load/')"
 least() {
     awk -v name="$1" '{ ns = $1 / $2; if (NR == 1 || ns < least) least = ns; if ($3 > most) most = $3 }
-        END { printf "%-8s %8.0f ns of processor a reply %9.0f replies a second\n", name, least, most }' "$work/$1.runs"
+        END { printf "%-11s %8.0f ns of processor a reply %9.0f replies a second\n", name, least, most }' "$work/$1.runs"
 }
-for name in ours echo chronyd; do
+for name in ours ours-65536 gated-1 gated-65536 echo chronyd; do
     [ ! -e "$work/$name.runs" ] || least "$name" | tee "$work/$name.least"
 done
 share=$(cat "$work/ours.least" "$work/echo.least" | awk '{ ns[NR] = $2 }
     END { printf "%.2f %.0f\n", ns[1] / ns[2], 100 * (ns[1] - ns[2]) / ns[1] }')
 echo "ours to the echo: ${share% *} (aim: 1.2); the share that is ours: ${share#* } of a hundred"
+
+cat "$work/ours.least" "$work/gated-1.least" "$work/ours-65536.least" "$work/gated-65536.least" | awk '{ ns[NR] = $2 }
+    END { printf "with a table of clients: %.2f times with one client, %.2f times with 65536 (aim: 1.1)\n", ns[2] / ns[1], ns[4] / ns[3] }'
 
 # The user instructions of a program's command that serves $1 turns at the port $2.
 instructions() {

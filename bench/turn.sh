@@ -11,8 +11,8 @@ top=$(cd "$(dirname "$0")/.." && pwd)
 work=$(mktemp -d)
 trap 'rm -rf "$work"' EXIT
 mkdir -p "$work/crates/turn_loop/src" "$work/crates/turn_loop/proofs/settings_of_none"
-for crate in tick_units feed_link journal_entry clock_filter select_core cluster_core clock_page system_fold ntp_packet reply_core \
-    page_cell responder; do
+for crate in tick_units feed_link journal_entry clock_filter select_core cluster_core clock_page system_fold ntp_packet packet_auth reply_core \
+    kiss_gate sealed_reply page_cell responder; do
     mkdir "$work/crates/$crate"
     for part in src specs proofs; do
         [ -d "$top/crates/$crate/$part" ] && cp -r "$top/crates/$crate/$part" "$work/crates/$crate/"
@@ -20,7 +20,7 @@ for crate in tick_units feed_link journal_entry clock_filter select_core cluster
     grep "^$crate:" "$top/crates.txt" >> "$work/crates.txt"
 done
 cp "$top/HANDLES" "$work/"
-echo "turn_loop: tick_units feed_link journal_entry system_fold page_cell responder" >> "$work/crates.txt"
+echo "turn_loop: tick_units feed_link journal_entry system_fold packet_auth kiss_gate page_cell responder" >> "$work/crates.txt"
 cat > "$work/crates/turn_loop/src/main.rt" <<'RATTLE'
 //! Serves so many datagrams on a port, from the page of no entry.
 #![tactic(auto)]
@@ -29,6 +29,8 @@ ghost use Rattle.std.specs.Prelude.{◌≡◌};
 ghost use Rattle.system_fold.specs.Settings.{AreLawful};
 
 use feed_link::{HostOutside, OpenGate, Outside};
+use kiss_gate::{ClientGate, DenyList};
+use packet_auth::KeyRing;
 use page_cell::{CellParts, PageCell};
 use responder::Responder;
 use std::{env, io};
@@ -67,7 +69,10 @@ fn main(rt: HostRuntime) -> io::Result<()> {
     let Some(pass) = readers.pop() else {
         return Ok(());
     };
-    let mut responder = Responder::new(link, pass, 0);
+    let Ok(clients) = ClientGate::open(rt.alloc(), &DenyList::new(), 0, 1024) else {
+        return Ok(());
+    };
+    let mut responder = Responder::new(link, pass, 0, KeyRing::new(), clients);
     let served = responder.serve(&rt, &cell, &OpenGate::new(), count);
     println!(rt; "{}", served.answered)?;
     Ok(())

@@ -10,6 +10,9 @@ program.
     ask.py soon PORT                        waits until a server has a time, for ten seconds at most, and asks ten times at most
     ask.py look PORT COUNT AHEAD LEAP STRATUM REFID [DUMP]
                                             asks so many times and looks at each answer; DUMP gets them for text2pcap
+    ask.py gets PORT ADDRESS WHAT...        asks from an address of this host, once for each WHAT and at once behind the one before: the
+                                            answer is the time where it says `time`, else this kiss code; where it says `nothing`, a
+                                            request of 47 bytes isn't answered
     ask.py drain PORT                       asks until the server has ended, for half a minute at most
     ask.py near VALUE AHEAD                 whether a value that a client has printed is so many seconds, within one
 
@@ -147,6 +150,26 @@ def look(port, count, ahead, leap, stratum, refid, dump_name=None):
             out.write("".join(dumped))
 
 
+def gets(port, address, *due):
+    """Asks from an address; a kiss code has its letters where the reference ID stands, stratum 0, and isn't synchronised."""
+    with socket.socket(socket.AF_INET, socket.SOCK_DGRAM) as client:
+        client.bind((address, 0))
+        client.connect(("127.0.0.1", port))
+        for i, what in enumerate(due):
+            client.settimeout(0.5 if what == "nothing" else WAIT)
+            question = request(4, 6, stamp_now(), 48)[: 47 if what == "nothing" else 48]
+            try:
+                reply = answer(client, question)
+            except TimeoutError:
+                told = "nothing"
+            else:
+                if reply is None or len(reply) != 48 or reply[24:32] != question[40:48]:
+                    sys.exit(f"request {i} from {address} is answered with {reply!r}")
+                told = reply[12:16].decode("latin-1") if (reply[0], reply[1]) == (0xE4, 0) else "time"
+            if told != what:
+                sys.exit(f"request {i} from {address} gets {told} and not {what}")
+
+
 def drain(port):
     """Where the server has ended, the host refuses what is sent."""
     end = time.monotonic() + 30
@@ -176,6 +199,8 @@ def main():
     elif command == "look":
         port, count, ahead, leap, stratum, refid, *name = words
         look(int(port), int(count), float(ahead), int(leap), int(stratum), refid, *name)
+    elif command == "gets":
+        gets(int(words[0]), *words[1:])
     elif command == "drain":
         drain(int(words[0]))
     elif command == "near":

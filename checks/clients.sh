@@ -51,7 +51,7 @@ for row in dcf:DCF msf:MSF wwvb:WWVB; do
     serve --station "$work/one.toml" --during 0 --after 41
     ask wait "$port" && ask look "$port" 40 "$ahead" 0 1 "${row#*:}" "$work/${row%:*}.dump" || wrong "a plain client fails of ${row%:*}"
     ended 0 'status 0'
-    wrote 'link 0 answered 41 dropped 0 again 0 end count'
+    wrote 'link 0 answered 41 dropped 0 again 0 kissed 0 unkept 0 end count'
 done
 
 # A server that has no time says so, and no client takes it.
@@ -152,7 +152,47 @@ if can 'busybox has no ntpd' sh -c 'busybox --list | grep -qx ntpd'; then
 fi
 ask drain "$port" || wrong 'the server goes on'
 ended 0 'status 0'
-wrote 'link 0 answered [0-9]* dropped 0 again 0 end count'
+wrote 'link 0 answered [0-9]* dropped 0 again 0 kissed 0 unkept 0 end count'
+
+# Who may ask: a client that asks again within a second gets RATE and is told the time when the second is over, whoever else asks; one of
+# a denied net gets DENY, but what is no request of its is dropped as anyone's.
+asked=$((asked + 1))
+port=$(ask port)
+{
+    printf 'gap = 1000000\n'
+    station "$port"
+    printf '\n[[deny]]\nnet = "127.0.2.0/24"\n'
+} > "$work/gap.toml"
+serve --station "$work/gap.toml" --during 0 --after 3000
+ask wait "$port" || wrong 'the server with a gap does not listen'
+sleep 1.1
+ask gets "$port" 127.0.0.1 time RATE RATE || wrong 'a client that asks at once again'
+ask gets "$port" 127.0.1.1 time RATE || wrong 'another client beside it'
+ask gets "$port" 127.0.2.1 DENY nothing DENY || wrong 'a client of a denied net'
+sleep 1.1
+ask gets "$port" 127.0.0.1 time || wrong 'a client that has waited'
+
+# chronyd takes a RATE for what it is: it says so, and asks less often than the 64 times a second that it was told to.
+if is_there chronyc; then
+    asked=$((asked + 1))
+    rm -rf "$work/chrony"
+    mkdir -m 700 "$work/chrony"
+    printf '%s\n' "server 127.0.0.1 port $port minpoll -6 maxpoll -6" 'cmdport 0' "bindcmdaddress $work/chrony/sock" \
+        "pidfile $work/chrony/pid" > "$work/chrony/conf"
+    timeout 20 chronyd -x -U -u "$(id -un)" -d -f "$work/chrony/conf" > "$work/chrony/log" 2>&1 &
+    daemon=$!
+    servers="$servers $daemon"
+    sleep 6
+    chronyc -n -h "$work/chrony/sock" ntpdata > "$work/chronyc" 2>&1
+    kill "$daemon"
+    cp "$work/chrony/log" "$work/chronyd"
+    says chronyd 'Received KoD RATE from 127.0.0.1'
+    sent=$(found 'Total TX *: \([0-9]*\)' "$work/chronyc")
+    { [ "${sent:-0}" -ge 2 ] && [ "$sent" -le 200 ]; } || wrong "chronyd asked '$sent' times in six seconds: $(cat "$work/chronyc")"
+fi
+ask drain "$port" || wrong 'the server goes on'
+ended 0 'status 0'
+wrote 'link 0 answered [0-9]* dropped 1 again 0 kissed [0-9]* unkept 0 end count'
 
 # ntpdig asks at port 123 alone: in a network of its own, where anyone may serve on it.
 if is_there ntpdig; then

@@ -100,7 +100,7 @@ stands 2 wwvb "$wwvb"
 stands 1 msf "$work/half"
 [ "$told:$(tail -n 1 "$work/served")" = "5:status 5 line 1 $line" ] ||
     wrong "a writer that dies in line $line ends the run with $told and '$(tail -n 1 "$work/served")'"
-wrote 'link 0 answered [0-9]* dropped 0 again 0 end count'
+wrote 'link 0 answered [0-9]* dropped 0 again 0 kissed 0 unkept 0 end count'
 
 # Serves one radio of DCF77 whose pipe is "$work/a"; the words are those behind the station.
 serve_one() {

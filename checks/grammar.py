@@ -387,6 +387,18 @@ def is_address(value):
     return isinstance(value, str) and re.fullmatch(rf"{octet}(?:\.{octet}){{3}}", value) is not None
 
 
+def is_net(value):
+    parts = value.split("/") if isinstance(value, str) else []
+    return len(parts) == 2 and is_address(parts[0]) and re.fullmatch("[0-9]|[12][0-9]|3[0-2]", parts[1]) is not None
+
+
+def is_in(net, address):
+    """Whether an address agrees with a net's in the net's first bits."""
+    whole_net, bits = net.split("/")
+    numbers = [int.from_bytes(bytes(map(int, text.split("."))), "big") >> 32 - int(bits) for text in (whole_net, address)]
+    return numbers[0] == numbers[1]
+
+
 TABLES = {
     "radio": {
         "plan": (True, lambda value: value in ("dcf", "msf", "wwvb")),
@@ -395,8 +407,18 @@ TABLES = {
     },
     "server": {"address": (True, is_address), "port": (True, whole(1, 65535)), "polls": (False, whole(0, 100000))},
     "link": {"port": (True, whole(1, 65535))},
+    "key": {
+        "id": (True, whole(1, 2**32 - 1)),
+        "secret": (True, lambda value: isinstance(value, str) and re.fullmatch("[!-~]{1,32}", value) is not None),
+    },
+    "deny": {"net": (True, is_net)},
 }
-TOP = {"bound": (False, whole(1, 16000)), "start": (False, whole(0, 2**49))}
+TOP = {
+    "bound": (False, whole(1, 16000)),
+    "start": (False, whole(0, 2**49)),
+    "gap": (False, whole(0, 60_000_000)),
+    "clients": (False, whole(1, 65536)),
+}
 
 
 def station_fault(table):
@@ -415,24 +437,36 @@ def station_fault(table):
         for key in sorted(rows):
             if rows[key][0] and key not in one:
                 return f"missing {front}{key}"
+    taken = []
     for front, one, rows in sheets:
         for key in sorted(one, key=str.encode):
             if key in rows and not rows[key][1](one[key]) or front == "" and key in TABLES and not lawful[key]:
                 return f"range {front}{key}"
-    radios, servers, links = (places[name] for name in TABLES)
+            if front.startswith("key.") and key == "id":
+                if one[key] in taken:
+                    return f"range {front}{key}"
+                taken.append(one[key])
+    radios, servers, links, keys, nets = (places[name] for name in TABLES)
     if len(radios) + len(servers) > 16:
         return f"many radio {len(radios) + len(servers)}"
     for plan in RULES:
         count = sum(radio["plan"] == plan for radio in radios)
         if count > 4:
             return f"many radio {count}"
-    return f"many link {len(links)}" if len(links) > 8 else None
+    for name, rows, most in (("link", links, 8), ("key", keys, 8), ("deny", nets, 16)):
+        if len(rows) > most:
+            return f"many {name} {len(rows)}"
+    return None
 
 
-def judge_station(data, output, status, script_answers):
-    """What `replay` writes of a station, with a script that each station can play."""
+def judge_station(data, output, status, answers_of):
+    """What `replay` writes of a station, with a script that each station can play: its answers where 127.0.0.1 is denied, and where it isn't."""
+    script_answers = []
     try:
-        fault = station_fault(tomllib.loads(data.decode()))
+        station = tomllib.loads(data.decode())
+        fault = station_fault(station)
+        if not fault:
+            script_answers = answers_of(any(is_in(one["net"], "127.0.0.1") for one in station.get("deny", [])))
     except (ValueError, RecursionError):
         fault = "toml"
     lines = lines_of(output)

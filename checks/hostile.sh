@@ -21,7 +21,7 @@ $counts
 COUNTS
 ended 0 'status 0'
 # The first request is that which waits for the server.
-wrote "link 0 answered $((good + 1)) dropped $bad_ones again 0 end count"
+wrote "link 0 answered $((good + 1)) dropped $bad_ones again 0 kissed 0 unkept 0 end count"
 
 [ "$bad" = 0 ] && echo "$name: $bad_ones dropped, $((good + 1)) answered, $unheard of port 0 not heard"
 exit "$bad"

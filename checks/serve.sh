@@ -68,7 +68,7 @@ wrote "$page_of_none"
 port=$(ask port)
 { radio dcf examples/radios/dcf77.log; radio msf examples/radios/msf.log; radio wwvb examples/radios/wwvb.log; link "$port"; } > "$work/station"
 ends 0 'status 0' --station "$work/station" --during 0
-wrote 'link 0 answered 0 dropped 0 again 0 end count'
+wrote 'link 0 answered 0 dropped 0 again 0 kissed 0 unkept 0 end count'
 for row in 0:dcf:dcf77 1:msf:msf 2:wwvb:wwvb; do
     plan=${row#*:}
     checked=$((checked + 1))
@@ -149,7 +149,7 @@ ask soon "$port" && ask look "$port" 10 "$ahead" 0 1 MSF || wrong 'a server has 
 exec 3>&-
 ask drain "$port" || wrong 'a server of a log that was written does not end'
 ended 0 'status 0'
-wrote 'link 0 answered 33 dropped 0 again 0 end count'
+wrote 'link 0 answered 33 dropped 0 again 0 kissed 0 unkept 0 end count'
 checked=$((checked + 3))
 
 # A server that is dead: two seconds of silence a poll, and no entry.
@@ -183,7 +183,7 @@ sys.exit(abs(told / 2**32 - (ahead - began)) >= 1)
 PY
 ask drain "$port" || wrong 'the server that is asked goes on'
 ended 0 'status 0'
-wrote 'link 0 answered 17 dropped 0 again 0 end count'
+wrote 'link 0 answered 17 dropped 0 again 0 kissed 0 unkept 0 end count'
 
 # An output that takes no more: closed from the start, full, and closed behind 100 bytes of a pipe of a page. Four radios' hours are
 # longer than that. Nothing is written anywhere else.

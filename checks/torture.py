@@ -149,15 +149,19 @@ class Station(Kind):
     """Small stations: each table by chance, some of them often, with odd values here and there."""
 
     KEYS = {
-        "": ('bound = 500', "bound = 0", "bound = 16000", "start = 604000000", "start = 0x10", "leap = 1", "bound = 1_000", "bound = -5"),
+        "": ('bound = 500', "bound = 0", "bound = 16000", "start = 604000000", "start = 0x10", "leap = 1", "bound = 1_000", "bound = -5", "gap = 60000000", "gap = 60000001", "clients = 1000", "clients = 65537", "clients = 0", "gap = 2000000\nclients = 1"),
         "radio": ('plan = "dcf"', 'plan = "msf"', "plan = 'wwvb'", 'plan = "jjy"', 'log = "a.log"', 'log = ""', "delay = 1400", "delay = 100001"),
         "server": ('address = "127.0.0.1"', 'address = "1.2.3.256"', "port = 123", "port = 0", "polls = 3", "polls = true", 'polls = "8"'),
         "link": ("port = 5123", "port = 65535", "port = 65536", "port = 1.5", "ports = 1"),
+        "key": ("id = 1", "id = 0", "id = 4294967295", "id = 4294967296", 'secret = "long wave"', 'secret = ""', 'secret = "!~"', "name = 1"),
+        "deny": ('net = "127.0.0.1/32"', 'net = "0.0.0.0/0"', 'net = "127.0.0.1/33"', 'net = "010.0.0.0/8"', 'net = "10.0.0.0/08"', "net = 10", "bits = 8"),
     }
     GOOD = {
         "radio": ['plan = "dcf"', 'log = "a.log"'],
         "server": ['address = "127.0.0.1"', "port = 123"],
         "link": ["port = 5123"],
+        "key": ["id = 1", 'secret = "longwave"'],
+        "deny": ['net = "192.0.2.0/24"'],
     }
 
     def __init__(self):
@@ -166,18 +170,23 @@ class Station(Kind):
     def lines(self, draw):
         text = [draw.choice(self.KEYS[""])] if draw.random() < 0.3 else []
         for name, good in self.GOOD.items():
-            for _ in range(draw.choice((0, 1, 1, 2, 3, 5, 9))):
+            for place in range(draw.choice((0, 1, 1, 2, 3, 5, 9) if name != "deny" else (0, 0, 1, 2, 17))):
                 text.append(f"[[{name}]]")
-                text += good if draw.random() < 0.9 else good[1:]
+                lines = [line.replace("id = 1", f"id = {place + 1}") for line in good]
+                text += lines if draw.random() < 0.9 else lines[1:]
                 if draw.random() < 0.1:
                     text.append(draw.choice(self.KEYS[name]))
         return [f"{line}\n".encode() for line in text]
 
     def judge(self, run, path, data, folder, draw):
         output, status = run(["replay", "--station", path, "--script", f"{folder}/script"])
-        reply = f"reply e40006ec0000000000100000494e4954{0:016x}1122334455667788" + f"{1 << 32:016x}" * 2
         page = "page 0 0 0 494e4954 0 0 0 0 1048576 0000000000000000 0 0"
-        grammar.judge_station(data, output, status, [reply, page, "status 0"])
+
+        def answers(denied):
+            reply = f"reply e40006ec00000000001000{'0044454e59' if denied else '00494e4954'}{0:016x}1122334455667788" + f"{1 << 32:016x}" * 2
+            return [reply, page, "status 0"]
+
+        grammar.judge_station(data, output, status, answers)
 
 
 class Journal(Kind):

@@ -1,5 +1,6 @@
 -- Lemmas that several proofs of this crate use.
 pub mod KeepLaws
+pub mod LeapLaws
 pub mod LogLaws
 pub mod PollLaws
 pub mod RoundLaws

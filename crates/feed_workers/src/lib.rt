@@ -1,15 +1,19 @@
-//! The workers of feeds: a radio's, which reads its log, and a server's, which polls it. Each keeps the entries that are due in the
+//! The workers of feeds: a radio's, which reads its log, a server's, which polls it, and a leap second file's, which reads it. Each keeps the entries that are due in the
 //! journal.
 #![tactic(auto)]
 
 mod keeping;
+mod leap;
 mod poller;
 mod radio;
 mod work;
 
+pub use leap::LeapWorker;
 pub use poller::PollWorker;
 pub use radio::{RadioWorker, WorkerOf};
 pub use work::{LogEnd, LogWork, PollEnd, PollWork};
 
+#[cfg(test)]
+mod leap_tests;
 #[cfg(test)]
 mod tests;

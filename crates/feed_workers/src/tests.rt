@@ -57,7 +57,7 @@ fn two_frames(alloc: Global, end: &str) -> Result<String, Fail> {
 }
 
 // The lines of a journal.
-fn text_of(alloc: Global, journal: &Journal) -> Result<String, Fail> {
+pub(crate) fn text_of(alloc: Global, journal: &Journal) -> Result<String, Fail> {
     let mut text = String::new(alloc);
     for place in 0..journal.len() {
         if let Some(entry) = journal.get(place) {
@@ -202,7 +202,7 @@ fn run_poller<N: HubName, R: Wait, L: Link + Drop>(
 }
 
 // One source of a station.
-fn settings_of(kind: SourceKind) -> Settings
+pub(crate) fn settings_of(kind: SourceKind) -> Settings
     ensures { AreLawful result }
 {
     let mut settings = Settings::new(500);
@@ -329,7 +329,7 @@ const ANSWER: [u8; 48] = [
     0xed, 0x00, 0xe1, 0x31, 0x00, 0x00, 0x00, 0x00, 0xed, 0x00, 0xe1, 0x31, 0x00, 0x20, 0xc4, 0x9b,
 ];
 
-fn moment(microseconds: u32) -> Local {
+pub(crate) fn moment(microseconds: u32) -> Local {
     Local::new(u64::from(microseconds)).unwrap()
 }
 

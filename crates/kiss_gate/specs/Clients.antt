@@ -1,10 +1,11 @@
 -- The code of a request (RFC 5905, section 7.4), and the table of clients after it.
-use Rattle.std.specs.Prelude.{ℕ, ◌+◌, ◌==◌, ◌&&◌, Bool, true, false, nat_eq, nat_lt, List, ◌∷◌, take, Option, Some, None, if◌then◌else◌}
+use Rattle.std.specs.Prelude.{◌≡◌, ℕ, ◌<◌, ◌+◌, ◌==◌, ◌&&◌, Bool, true, false, nat_eq, nat_lt, List, ◌∷◌, take, Option, Some, None, if◌then◌else◌}
 use Rattle.std.specs.Map.{lookup, remove_entry}
 use Rattle.reply_core.specs.declared.code.Code.{Code}
 use Rattle.reply_core.specs.declared.code.Code.TheVariants.{Pass, Deny, Rate}
 use Rattle.kiss_gate.specs.Gates.{Gate, with_table}
 use Rattle.kiss_gate.specs.Nets.{is_denied}
+use Rattle.kiss_gate.specs.declared.judged.Judged.{Judged}
 
 -- a moment lies less than the gap after the client's own
 abbrev pub is_soon : ℕ → ℕ → Option ℕ → Bool
@@ -34,3 +35,12 @@ table_after Pass gate ip at = if gate.gap == 0 then gate.table else take gate.cl
 abbrev pub after : Gate → ℕ → ℕ → (kept : Bool) → Gate
 after gate ip at true = with_table gate (table_after (code_of gate ip at) gate ip at)
 after gate ip at false = gate
+
+-- a client that passes isn't kept only where the gate keeps a table and the client is new to it: it takes memory for such a client
+abbrev pub MayBeKept : Gate → ℕ → ℕ → (kept : Bool) → Type 0
+MayBeKept gate ip at kept = kept ≡ false → (code_of gate ip at ≡ Pass) × (0 < gate.gap) × (lookup (nat_eq ip) gate.table ≡ None)
+
+-- what a gate may say of a request
+pub record IsJudged (gate : Gate) (ip at : ℕ) (judged : Judged) : Type 0 where
+  pub code : judged.code ≡ code_of gate ip at
+  pub kept : MayBeKept gate ip at judged.kept

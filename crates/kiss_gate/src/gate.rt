@@ -2,21 +2,14 @@
 ghost use Rattle.std.specs.Prelude.{◌≡◌, ◌≤◌, ◌<◌, ◌∷◌, [], List, None, IfOk, length, nat_eq, false, true};
 ghost use Rattle.std.specs.Map.{lookup};
 
-use crate::DenyList;
 use crate::table::{bring_to_front, put_in_front};
+use crate::{DenyList, Judged};
 use lru::LruCache;
 use reply_core::Code;
 use std::alloc::Global;
 use std::marker::Model;
 use std::num::NonZeroUsize;
 use tick_units::Local;
-
-/// What a client's request gets, and whether the gate could keep it in its table.
-#[derive(Clone, Copy, Debug, PartialEq, Eq)]
-pub struct Judged {
-    pub code: Code,
-    pub kept: bool,
-}
 
 /// Why a gate can't be opened.
 #[derive(Clone, Copy, Debug, PartialEq, Eq)]
@@ -48,10 +41,9 @@ impl Model for ClientGate {
 }
 
 impl ClientGate {
-    ghost use Rattle.kiss_gate.specs.Clients.{after, code_of, is_soon};
+    ghost use Rattle.kiss_gate.specs.Clients.{after, is_soon, IsJudged};
     ghost use Rattle.kiss_gate.specs.Histories.{code_alone, gate_after, senders, Request};
     ghost use Rattle.kiss_gate.specs.Nets.{nets_of};
-    ghost use Rattle.reply_core.specs.declared.code.Code.TheVariants.{Pass};
 
     /// The gate that has judged nothing. It denies these nets, lets a client pass once in `gap` microseconds, and remembers so many
     /// clients; a gap of 0 lets all pass that aren't denied.
@@ -89,9 +81,8 @@ impl ClientGate {
     ///
     /// It takes memory for a client that it doesn't know. Where there is none, the client passes and isn't kept, and nothing else changes.
     pub fn judge(&mut self, ip: u32, at: Local) -> Judged
-        ensures code { result.code ≡ code_of self.old ip at }
+        ensures judged { IsJudged self.old ip at result }
         ensures table { self.new ≡ after self.old ip at result.kept }
-        ensures kept { result.kept ≡ false → (result.code ≡ Pass) × (0 < self.old.gap) × (lookup (nat_eq ip) self.old.table ≡ None) }
 
         // What it has judged, where all were kept.
         ensures history { (requests : List Request) → result.kept ≡ true → self.old ≡ gate_after self.old requests
@@ -107,9 +98,8 @@ impl ClientGate {
 
     // The code of a request, and the table after it.
     fn decide(&mut self, ip: u32, at: Local) -> Judged
-        ensures code { result.code ≡ code_of self.old ip at }
+        ensures judged { IsJudged self.old ip at result }
         ensures table { self.new ≡ after self.old ip at result.kept }
-        ensures kept { result.kept ≡ false → (result.code ≡ Pass) × (0 < self.old.gap) × (lookup (nat_eq ip) self.old.table ≡ None) }
     {
         if self.denied.denies(ip) {
             return Judged {

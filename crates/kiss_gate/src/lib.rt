@@ -3,10 +3,12 @@
 #![tactic(auto)]
 
 mod gate;
+mod judged;
 mod nets;
 mod table;
 #[cfg(test)]
 mod tests;
 
-pub use gate::{ClientGate, GateOpen, Judged};
+pub use gate::{ClientGate, GateOpen};
+pub use judged::Judged;
 pub use nets::DenyList;

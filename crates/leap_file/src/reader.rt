@@ -1,5 +1,6 @@
 //! The reader of a leap second file: bytes in, leap seconds out, or the first bad line.
-ghost use Rattle.std.specs.Prelude.{◌≡◌, ℕ, ◌+◌, List, [], ◌∷◌, ◌++◌, None, MatchResult};
+ghost use Rattle.std.specs.Prelude.{◌≡◌, ℕ, ◌+◌, ◌<◌, List, [], ◌∷◌, ◌++◌, None, IfOk, IfSome, MatchResult};
+ghost use Rattle.tick_units.specs.Years.{end_of_told};
 ghost use Rattle.leap_file.specs.Reading.{counted};
 
 use crate::line::Line;
@@ -56,6 +57,7 @@ impl LeapReader {
     /// `BadLeap` where the line that it ends is bad. From then on each call answers the same.
     pub fn take(&mut self, byte: u8) -> Result<Option<u64>, BadLeap>
         ensures taken { (bytes : List ℕ) → HasRead self.old bytes → Takes self.new bytes byte result }
+        ensures told { IfOk result (λ found. IfSome found (λ second. second < end_of_told)) }
     {
         if let Some(bad) = self.bad {
             return Err(bad);
@@ -71,6 +73,7 @@ impl LeapReader {
     fn end_line(&mut self) -> Result<Option<u64>, BadLeap>
         requires { self.old.bad ≡ None }
         ensures taken { (bytes : List ℕ) → HasRead self.old bytes → Takes self.new bytes 10 result }
+        ensures told { IfOk result (λ found. IfSome found (λ second. second < end_of_told)) }
     {
         let said = self.line.says();
         self.line = Line::new();
@@ -85,6 +88,7 @@ impl LeapReader {
     // Takes a row, whose line is counted.
     fn add_row(&mut self, row: Row) -> Result<Option<u64>, BadLeap>
         ensures row { AddsRow self.old self.new row result }
+        ensures told { IfOk result (λ found. IfSome found (λ second. second < end_of_told)) }
     {
         if !may_stand(self.before, row) {
             return Err(self.stop());
@@ -115,6 +119,7 @@ impl LeapReader {
     /// `BadLeap` where one was answered, or where that line is bad. From then on each call answers the same.
     pub fn finish(&mut self) -> Result<Option<u64>, BadLeap>
         ensures finished { (bytes : List ℕ) → HasRead self.old bytes → Finishes self.new bytes result }
+        ensures told { IfOk result (λ found. IfSome found (λ second. second < end_of_told)) }
     {
         self.take(b'\n')
     }

@@ -146,25 +146,30 @@ no_tail : (bad : Option ℕ) (bytes : List ℕ) → bad ≡ None → has_tail by
 no_tail None bytes e none = rw none refl
 no_tail (Some n) bytes e none = cc
 
--- a text of the file says one item, and is shorter than one that is too long
+-- a text without a bad line has none in any reading, and ends a command in one way
 pub record IsReadable (f : LineFile) : Type 0 where
-  pub one : (before : List f.Item) (text : List ℕ) (x y : f.Item) → f.says before text x → f.says before text y → x ≡ y
-  pub short : (before : List f.Item) (text : List ℕ) (x : f.Item) → f.says before text x → length text < f.too_long (length before)
+  pub ends : (bytes : List ℕ) (items good : List f.Item) (bad : Option ℕ) → HasItemsOf f bytes items bad → HasItemsOf f bytes good None → ((reach : Reach) → f.ending reach items ≡ f.ending reach good) × (bad ≡ None)
 
--- it is read to its end, and its items are these
+-- that is so where a text says one item, and is shorter than one that is too long
+pub one_way : (f : LineFile) → ((before : List f.Item) (text : List ℕ) (x y : f.Item) → f.says before text x → f.says before text y → x ≡ y) →
+    ((before : List f.Item) (text : List ℕ) (x : f.Item) → f.says before text x → length text < f.too_long (length before)) → IsReadable f
+one_way f one short = record {
+  ends = λ bytes items good bad h g.
+      let same = one_reading f.says f.too_long one short bytes items good bad h g in
+      (λ reach. ap (λ (xs : List f.Item). f.ending reach xs) same.0, same.1);
+}
+
+-- it is read to its end, and ends the command as its own items do
 module _ (f : LineFile) (readable : IsReadable f) (opened back : SourceState) (good : IsGoodFile f opened back) (bytes : List ℕ) (items : List f.Item) (bad : Option ℕ) (said : HasItemsOf f bytes items bad) where
-  same_items : (b : List ℕ) (xs ys : List f.Item) (first : Option ℕ) → HasItemsOf f b xs first → HasItemsOf f b ys None → (xs ≡ ys) × (first ≡ None)
-  same_items = one_reading f.says f.too_long readable.one readable.short
-
-  same_whole : good.text ≡ bytes → (items ≡ good.items) × (bad ≡ None)
-  same_whole same = same_items bytes items good.items bad said (subst (λ (b : List ℕ). HasItemsOf f b good.items None) same good.said)
+  same_whole : good.text ≡ bytes → ((reach : Reach) → f.ending reach items ≡ f.ending reach good.items) × (bad ≡ None)
+  same_whole same = readable.ends bytes items good.items bad said (subst (λ (b : List ℕ). HasItemsOf f b good.items None) same good.said)
 
   -- a front of it has no bad line
   no_bad_front : (n : ℕ) (rest : List ℕ) → good.text ≡ bytes ++ rest → bad ≡ Some n → ⊥
   no_bad_front n rest e is =
       let longer = bad_stays f.says f.too_long items n bytes rest (subst (λ (b : Option ℕ). HasItemsOf f bytes items b) is said) in
       let all = subst (λ (b : List ℕ). HasItemsOf f b items (Some n)) (sym e) longer in
-      let wrong = (same_items good.text items good.items (Some n) all good.said).1 in
+      let wrong = (readable.ends good.text items good.items (Some n) all good.said).1 in
       cc
 
   no_bad_end : (n : ℕ) → good.text ≡ bytes → bad ≡ None → or_unfinished bad (lines_of bytes) ≡ Some n → ⊥
@@ -176,10 +181,10 @@ module _ (f : LineFile) (readable : IsReadable f) (opened back : SourceState) (g
   front_by : (end : FileEnd) (read : EndsReading end f.most opened back bytes) → (rest : List ℕ) × (back.left ≡ Some rest) × (good.text ≡ (bytes ++ read.extra) ++ rest)
   front_by end read = front_of opened.left back.left good.text (bytes ++ read.extra) good.told good.tells read.taken
 
-  read_whole : (reach : Reach) → ReadsLines reach f.most opened back bytes bad → (reach ≡ AtEnd Whole) × (items ≡ good.items)
+  read_whole : (reach : Reach) → ReadsLines reach f.most opened back bytes bad → (reach ≡ AtEnd Whole) × (f.ending (AtEnd Whole) items ≡ f.ending (AtEnd Whole) good.items)
   read_whole (AtEnd Whole) h =
       let front = front_by Whole h.0 in
-      (refl, (same_whole (whole_text bytes h.0.extra front.0 good.text front.2 h.0.cause.0 (none_left back.left front.0 front.1 h.0.cause.1))).0)
+      (refl, (same_whole (whole_text bytes h.0.extra front.0 good.text front.2 h.0.cause.0 (none_left back.left front.0 front.1 h.0.cause.1))).0 (AtEnd Whole))
   read_whole (AtEnd Fault) h = absurd (good.no_fault (rose_by_one opened.faults back.faults h.0.cause.1))
   read_whole (AtEnd TooLong) h =
       let front = front_by TooLong h.0 in
@@ -203,7 +208,7 @@ file_done f readable opened back out out_now result r p no_write = elim r [
   | inl h ↦ elim h.written [
     | inr failed ↦ absurd (no_write (rose_by_one out.faults out_now.faults (subst (λ (n : ℕ). RoseByOne n out_now.faults) h.given.1 failed.1.3)))
     | inl all ↦ (let whole = read_whole f readable opened back p h.bytes h.items h.bad h.said h.reach h.read in
-        all.0 ∙ ap status_of (h.due_is ∙ ap (λ (x : Reach). f.ending x h.items) whole.0 ∙ ap (λ (xs : List f.Item). f.ending (AtEnd Whole) xs) whole.1 ∙ p.room))
+        all.0 ∙ ap status_of (h.due_is ∙ ap (λ (x : Reach). f.ending x h.items) whole.0 ∙ whole.1 ∙ p.room))
   ]
 ]
 

@@ -12,8 +12,8 @@ use Rattle.radio_engine.specs.declared.ending.status.Status.{Status}
 use Rattle.radio_engine.specs.declared.ending.status.Status.TheVariants.{Done, Memory}
 use Rattle.radio_engine.proofs.GoodLogLaws.{log_done, rose_by_one}
 use Rattle.radio_engine.proofs.GoodStationLaws.{station_done}
-use Rattle.radio_engine.proofs.LineFileLaws.{IsReadable, against_done}
-use Rattle.radio_engine.proofs.ScriptLaws.{says_one, says_short}
+use Rattle.radio_engine.proofs.LineFileLaws.{IsReadable, against_done, one_way}
+use Rattle.radio_engine.proofs.ScriptLaws.{script_readable}
 use Rattle.radio_engine.proofs.MovingLaws.{one_line, short_line}
 use Rattle.radio_engine.specs.Migrating.{journal_of}
 use Rattle.radio_engine.specs.Replaying.{script_of}
@@ -45,11 +45,8 @@ lacks_done asked outside outside_now out out_now result good no_write lacks = by
     by (drill seed limit) p = inr (answered Memory result out out_now _ no_write lacks.written)
     by (migrate station journal) p = absurd (not_more outside.openings p.before _ (visited (log_visit station p.opened p.back)) p.were p.are)
 
-script_readable : (limit : ℕ) (of : StationFields) → IsReadable (script_of limit of)
-script_readable limit of = record { one = says_one of; short = says_short of }
-
 journal_readable : (of : StationFields) → IsReadable (journal_of of)
-journal_readable of = record { one = one_line (settings_of of); short = short_line (settings_of of) }
+journal_readable of = one_way (journal_of of) (one_line (settings_of of)) (short_line (settings_of of))
 
 pub runs_done : (asked : Asked) (outside outside_now : OutsideState) (out out_now : SinkState) (result : Status) →
     IsFaultless asked outside outside_now → (Rose out.faults out_now.faults → ⊥) →

@@ -13,11 +13,12 @@ use Rattle.feed_workers.specs.Logs.{EndsLog, most_of_a_log}
 use Rattle.feed_workers.specs.declared.work.LogWork.{LogWork}
 use Rattle.feed_workers.specs.declared.work.PollWork.{PollWork}
 use Rattle.journal_entry.specs.declared.entry.Entry.{Entry}
+use Rattle.kiss_gate.specs.Gates.{Gate}
 use Rattle.packet_auth.specs.Keys.{KeyFields}
 use Rattle.radio_receiver.specs.Histories.{History}
 use Rattle.receiver_rack.specs.Racks.{AreOf, silent}
 use Rattle.responder.specs.Serving.{EndsBy}
-use Rattle.responder.specs.Turns.{Turn, events_of, answered_of, dropped_of, torn_of}
+use Rattle.responder.specs.Turns.{Turn, events_of, answered_of, dropped_of, kissed_of, torn_of, unkept_of}
 use Rattle.responder.specs.declared.served.End.{End}
 use Rattle.responder.specs.declared.served.End.TheVariants.{Count, LinkEnd, LinkFault}
 use Rattle.responder.specs.declared.served.Served.{Served}
@@ -28,7 +29,7 @@ use Rattle.station_crew.specs.declared.work.LinkWork.{LinkWork}
 use Rattle.station_gear.specs.Gears.{link_states, log_states}
 use Rattle.system_fold.specs.Settings.{SettingsFields}
 use Rattle.radio_engine.specs.Crewing.{end_of, end_by, in_both, line_of_work}
-use Rattle.radio_engine.specs.Headline.{IsAnswered, IsPolled, LinkRun, LogRun, PollRun, each_text, line_of_link, link_line, radio_dues, server_dues}
+use Rattle.radio_engine.specs.Headline.{IsAnswered, IsPolled, LinkRun, LogRun, PollRun, Tally, each_text, line_of_link, link_line, radio_dues, server_dues, tally_of}
 use Rattle.radio_engine.proofs.CountLaws.{HaveDue}
 
 -- receivers that stand for silent ones of the radios, of which nothing was heard
@@ -139,11 +140,11 @@ polled-length (server ∷ servers) (run ∷ runs) p = ap suc (polled-length serv
 -- ---- links
 
 -- a link's run, and what its work says of it
-record LinkIs (keys : List KeyFields) (settings : SettingsFields) (journal : List Entry) (during after : ℕ) (a b : LinkState) (work : LinkWork) : Type 0 where
+record LinkIs (keys : List KeyFields) (gate : Gate) (settings : SettingsFields) (journal : List Entry) (during after : ℕ) (a b : LinkState) (work : LinkWork) : Type 0 where
   pub run : LinkRun
   pub opened_is : run.opened ≡ a
   pub back_is : run.back ≡ b
-  pub answered : IsAnswered keys settings journal during after run
+  pub answered : IsAnswered keys gate settings journal during after run
   pub end_is : run.end ≡ end_of work
   pub line_is : (number : ℕ) → line_of_work number work ≡ line_of_link number run
 
@@ -154,11 +155,17 @@ both count first second n m is too = ap (λ k. k + m) is ∙ ap (λ k. sum_by co
 alone : (count : Turn → ℕ) (first second : List Turn) (n : ℕ) → n ≡ sum_by count first → second ≡ [] → n ≡ sum_by count (first ++ second)
 alone count first second n is none = is ∙ ap (sum_by count) (sym (append-nil first)) ∙ ap (λ l. sum_by count (first ++ l)) (sym none)
 
-same_line : (number a b c x y z : ℕ) (e f : End) → a ≡ x → b ≡ y → c ≡ z → e ≡ f → link_line number a b c e ≡ link_line number x y z f
-same_line number a b c x y z e f p q r s = ap (λ n. link_line number n b c e) p ∙ ap (λ n. link_line number x n c e) q ∙ ap (λ n. link_line number x y n e) r ∙ ap (λ n. link_line number x y z n) s
+same_line : (number : ℕ) (s t : Tally) (e f : End) → s.answered ≡ t.answered → s.dropped ≡ t.dropped → s.again ≡ t.again → s.kissed ≡ t.kissed → s.unkept ≡ t.unkept → e ≡ f → link_line number s e ≡ link_line number t f
+same_line number s t e f answered dropped again kissed unkept end =
+    ap (λ n. link_line number (record { answered = n; dropped = s.dropped; again = s.again; kissed = s.kissed; unkept = s.unkept }) e) answered
+    ∙ ap (λ n. link_line number (record { answered = t.answered; dropped = n; again = s.again; kissed = s.kissed; unkept = s.unkept }) e) dropped
+    ∙ ap (λ n. link_line number (record { answered = t.answered; dropped = t.dropped; again = n; kissed = s.kissed; unkept = s.unkept }) e) again
+    ∙ ap (λ n. link_line number (record { answered = t.answered; dropped = t.dropped; again = t.again; kissed = n; unkept = s.unkept }) e) kissed
+    ∙ ap (λ n. link_line number (record { answered = t.answered; dropped = t.dropped; again = t.again; kissed = t.kissed; unkept = n }) e) unkept
+    ∙ ap (λ k. link_line number t k) end
 
-module _ (keys : List KeyFields) (settings : SettingsFields) (journal : List Entry) (during after : ℕ) (a b : LinkState) (work : LinkWork) (h : ServesLink keys settings journal during after a b work) where
-  goes_on : work.first.end ≡ Count → LinkIs keys settings journal during after a b work
+module _ (keys : List KeyFields) (gate : Gate) (settings : SettingsFields) (journal : List Entry) (during after : ℕ) (a b : LinkState) (work : LinkWork) (h : ServesLink keys gate settings journal during after a b work) where
+  goes_on : work.first.end ≡ Count → LinkIs keys gate settings journal during after a b work
   goes_on is =
       let told = h.second_phase.served is in
       let served : Served = told.0 in
@@ -170,6 +177,7 @@ module _ (keys : List KeyFields) (settings : SettingsFields) (journal : List Ent
         back_is = refl;
         answered = record {
           told = subst (λ l. Adds a.events b.events l) (sym (flat_map-append events_of h.first h.second)) (Adds-more a.events h.between.events b.events _ _ h.first_phase.events phase.events);
+          gate_now = h.gate_now;
           replies = h.lawful;
           pages = h.pages;
           last = h.last;
@@ -180,14 +188,16 @@ module _ (keys : List KeyFields) (settings : SettingsFields) (journal : List Ent
           ends = inl (first.0, first.1, subst (λ n. EndsBy after n b.faults h.second served.end) first.2 phase.ends);
         };
         end_is = sym (ap (end_by work.first.end) told.1);
-        line_is = λ number. same_line number _ _ _ _ _ _ _ _
+        line_is = λ number. same_line number _ (tally_of (h.first ++ h.second)) _ _
             (ap (λ (s : Option Served). in_both work.first.answered (option_map (λ x. x.answered) s)) told.1 ∙ both answered_of h.first h.second _ _ h.first_phase.counts.answered phase.counts.answered)
             (ap (λ (s : Option Served). in_both work.first.dropped (option_map (λ x. x.dropped) s)) told.1 ∙ both dropped_of h.first h.second _ _ h.first_phase.counts.dropped phase.counts.dropped)
             (ap (λ (s : Option Served). in_both work.first.again (option_map (λ x. x.again) s)) told.1 ∙ both torn_of h.first h.second _ _ h.first_phase.counts.again phase.counts.again)
+            (ap (λ (s : Option Served). in_both work.first.kissed (option_map (λ x. x.kissed) s)) told.1 ∙ both kissed_of h.first h.second _ _ h.first_phase.counts.kissed phase.counts.kissed)
+            (ap (λ (s : Option Served). in_both work.first.unkept (option_map (λ x. x.unkept) s)) told.1 ∙ both unkept_of h.first h.second _ _ h.first_phase.counts.unkept phase.counts.unkept)
             (ap (end_by work.first.end) told.1);
       }
 
-  ends_first : work.first.end ≢ Count → LinkIs keys settings journal during after a b work
+  ends_first : work.first.end ≢ Count → LinkIs keys gate settings journal during after a b work
   ends_first not =
       let none = h.second_phase.not not in
       let no_second : h.second ≡ [] = none.2 in
@@ -200,6 +210,7 @@ module _ (keys : List KeyFields) (settings : SettingsFields) (journal : List Ent
         answered = record {
           told = subst (λ (s : LinkState). Adds a.events s.events (flat_map events_of (h.first ++ h.second))) (sym same)
               (subst (λ l. Adds a.events h.between.events (flat_map events_of (h.first ++ l))) (sym no_second) (subst (λ l. Adds a.events h.between.events (flat_map events_of l)) (sym (append-nil h.first)) h.first_phase.events));
+          gate_now = h.gate_now;
           replies = h.lawful;
           pages = h.pages;
           last = h.last;
@@ -210,33 +221,35 @@ module _ (keys : List KeyFields) (settings : SettingsFields) (journal : List Ent
           ends = inr (subst (λ e. e ≢ Count) (sym end) not, no_second, subst (λ e. EndsBy during a.faults b.faults h.first e) (sym end) (subst (λ (s : LinkState). EndsBy during a.faults s.faults h.first work.first.end) (sym same) h.first_phase.ends));
         };
         end_is = refl;
-        line_is = λ number. same_line number _ _ _ _ _ _ _ _
+        line_is = λ number. same_line number _ (tally_of (h.first ++ h.second)) _ _
             (ap (λ (s : Option Served). in_both work.first.answered (option_map (λ x. x.answered) s)) none.0 ∙ alone answered_of h.first h.second _ h.first_phase.counts.answered no_second)
             (ap (λ (s : Option Served). in_both work.first.dropped (option_map (λ x. x.dropped) s)) none.0 ∙ alone dropped_of h.first h.second _ h.first_phase.counts.dropped no_second)
             (ap (λ (s : Option Served). in_both work.first.again (option_map (λ x. x.again) s)) none.0 ∙ alone torn_of h.first h.second _ h.first_phase.counts.again no_second)
+            (ap (λ (s : Option Served). in_both work.first.kissed (option_map (λ x. x.kissed) s)) none.0 ∙ alone kissed_of h.first h.second _ h.first_phase.counts.kissed no_second)
+            (ap (λ (s : Option Served). in_both work.first.unkept (option_map (λ x. x.unkept) s)) none.0 ∙ alone unkept_of h.first h.second _ h.first_phase.counts.unkept no_second)
             refl;
       }
 
-  link_is : LinkIs keys settings journal during after a b work
+  link_is : LinkIs keys gate settings journal during after a b work
   link_is = by work.first.end refl
     where
-      by : (e : End) → work.first.end ≡ e → LinkIs keys settings journal during after a b work
+      by : (e : End) → work.first.end ≡ e → LinkIs keys gate settings journal during after a b work
       by Count is = goes_on is
       by LinkEnd is = ends_first (λ same. let wrong : LinkEnd ≡ Count = sym is ∙ same in cc)
       by LinkFault is = ends_first (λ same. let wrong : LinkFault ≡ Count = sym is ∙ same in cc)
 
-module _ {T : Type 0} (state : T → LinkState) (keys : List KeyFields) (settings : SettingsFields) (journal : List Entry) (during after : ℕ) where
+module _ {T : Type 0} (state : T → LinkState) (keys : List KeyFields) (gate : Gate) (settings : SettingsFields) (journal : List Entry) (during after : ℕ) where
   pub record LinksRun (place : ℕ) (links now : List T) (works : List LinkWork) : Type 0 where
     pub runs : List LinkRun
     pub each : length runs ≡ length links
-    pub answered : All (IsAnswered keys settings journal during after) runs
+    pub answered : All (IsAnswered keys gate settings journal during after) runs
     pub opened_are : map (λ link. OfLink link.opened) runs ≡ link_states state links
     pub back_are : map (λ link. OfLink link.back) runs ≡ link_states state now
     pub ends_are : map (λ link. link.end) runs ≡ map end_of works
     pub lines_are : each_text line_of_work place works ≡ each_text line_of_link place runs
 
   abbrev pub ServeEach : List T → List T → List LinkWork → Type 0
-  ServeEach links now works = (i : ℕ) (a b : T) (work : LinkWork) → i < length links → ServesLink keys settings journal during after (state (slice_index_or links i a)) (state (slice_index_or now i b)) (slice_index_or works i work)
+  ServeEach links now works = (i : ℕ) (a b : T) (work : LinkWork) → i < length links → ServesLink keys gate settings journal during after (state (slice_index_or links i a)) (state (slice_index_or now i b)) (slice_index_or works i work)
 
   pub links_run : (place : ℕ) (links now : List T) (works : List LinkWork) → length now ≡ length links → length works ≡ length links → ServeEach links now works → LinksRun place links now works
   links_run place [] [] [] m k at = record { runs = []; each = refl; answered = All-nil _; opened_are = refl; back_are = refl; ends_are = refl; lines_are = refl }
@@ -245,12 +258,12 @@ module _ {T : Type 0} (state : T → LinkState) (keys : List KeyFields) (setting
   links_run place (a ∷ links) [] works m k at = absurd (omega (arith, m))
   links_run place (a ∷ links) (b ∷ now) [] m k at = absurd (omega (arith, k))
   links_run place (a ∷ links) (b ∷ now) (work ∷ works) m k at =
-      let one = link_is keys settings journal during after (state a) (state b) work (at 0 a b work (omega arith)) in
+      let one = link_is keys gate settings journal during after (state a) (state b) work (at 0 a b work (omega arith)) in
       let rest = links_run (suc place) links now works (omega (arith, m)) (omega (arith, k)) (λ i c d w lt. at (suc i) c d w (omega (arith, lt))) in
       record {
         runs = one.run ∷ rest.runs;
         each = ap suc rest.each;
-        answered = All-cons (IsAnswered keys settings journal during after) one.run rest.runs one.answered rest.answered;
+        answered = All-cons (IsAnswered keys gate settings journal during after) one.run rest.runs one.answered rest.answered;
         opened_are = ap (λ s. OfLink s ∷ map (λ (link : LinkRun). OfLink link.opened) rest.runs) one.opened_is ∙ ap (λ l. OfLink (state a) ∷ l) rest.opened_are;
         back_are = ap (λ s. OfLink s ∷ map (λ (link : LinkRun). OfLink link.back) rest.runs) one.back_is ∙ ap (λ l. OfLink (state b) ∷ l) rest.back_are;
         ends_are = ap (λ e. e ∷ map (λ (link : LinkRun). link.end) rest.runs) one.end_is ∙ ap (λ l. end_of work ∷ l) rest.ends_are;

@@ -20,7 +20,7 @@ use Rattle.file_reader.specs.declared.reader.FileEnd.TheVariants.{Whole}
 use Rattle.journal_entry.specs.declared.entry.Entry.{Entry}
 use Rattle.page_cell.specs.Claims.{of_feed}
 use Rattle.station_config.specs.Faults.{Says}
-use Rattle.station_config.specs.Station.{ServerFields, StationFields, kind_of_radio, kind_of_server, settings_of}
+use Rattle.station_config.specs.Station.{ServerFields, StationFields, kind_of_radio, kind_of_server, gate_of, settings_of}
 use Rattle.station_crew.specs.Served.{HearsRadio}
 use Rattle.station_crew.proofs.JournalLaws.{feeds-counted}
 use Rattle.station_gear.specs.Gears.{logs_needed, numbers_of, servers_needed, states_of, wanted_by}
@@ -206,10 +206,10 @@ module _ {L T : Type 0} (log_state : L → SourceState) (log_opening : L → ℕ
       let r = left.servers_served in
       polls_run state orders.limit journal of.servers (length of.radios) gear.servers.items last.servers.items done.servers.items servers_open (same_size opening _ _ r.openings) r.count r.at
 
-  pub clients_run : LinksRun state of.keys (settings_of of) journal orders.budget.during orders.budget.after 0 gear.links.items last.links.items done.links.items
+  pub clients_run : LinksRun state of.keys (gate_of of) (settings_of of) journal orders.budget.during orders.budget.after 0 gear.links.items last.links.items done.links.items
   clients_run =
       let r = left.links_served in
-      links_run state of.keys (settings_of of) journal orders.budget.during orders.budget.after 0 gear.links.items last.links.items done.links.items (same_size opening _ _ r.openings) r.count r.at
+      links_run state of.keys (gate_of of) (settings_of of) journal orders.budget.during orders.budget.after 0 gear.links.items last.links.items done.links.items (same_size opening _ _ r.openings) r.count r.at
 
   abbrev pub run : StationRun
   run = record { radios = radios_run.runs; servers = servers_run.runs; links = clients_run.runs; journal = journal }

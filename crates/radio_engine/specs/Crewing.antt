@@ -9,7 +9,7 @@ use Rattle.feed_workers.specs.declared.work.LogWork.{LogWork}
 use Rattle.feed_workers.specs.declared.work.PollWork.{PollWork}
 use Rattle.responder.specs.declared.served.End.{End}
 use Rattle.responder.specs.declared.served.Served.{Served}
-use Rattle.station_config.specs.Station.{StationFields, settings_of}
+use Rattle.station_config.specs.Station.{StationFields, gate_of, settings_of}
 use Rattle.station_crew.specs.Served.{IsJournalOf, LinksServed, RadiosServed, ServersServed}
 use Rattle.station_crew.specs.declared.named.Ended.{Ended}
 use Rattle.station_crew.specs.declared.work.LinkWork.{LinkWork}
@@ -20,7 +20,7 @@ use Rattle.station_gear.specs.declared.gear.Missing.TheVariants as missing
 use Rattle.system_fold.specs.Page.{page_of}
 use Rattle.verdict_journal.specs.Journals.{State}
 use Rattle.radio_engine.specs.Endings.{status_of, status_line}
-use Rattle.radio_engine.specs.Headline.{AnswersLinks, HasDueEntries, IsFirstOfLeast, IsTold, PollsServers, ReadsLogs, StationRun, causes, each_cause, each_text, full_cause, line_of_link, link_cause, link_line, log_cause, poll_cause}
+use Rattle.radio_engine.specs.Headline.{AnswersLinks, HasDueEntries, IsFirstOfLeast, IsTold, PollsServers, ReadsLogs, StationRun, Tally, causes, each_cause, each_text, full_cause, line_of_link, link_cause, link_line, log_cause, poll_cause}
 use Rattle.radio_engine.specs.Migrating.{journal_text}
 use Rattle.radio_engine.specs.Serving.{LacksOne, back_in, opened_in}
 use Rattle.radio_engine.specs.Text.{page_text}
@@ -70,14 +70,19 @@ totals_by first second = record {
   answered = in_both first.answered (option_map (λ s. s.answered) second);
   dropped = in_both first.dropped (option_map (λ s. s.dropped) second);
   again = in_both first.again (option_map (λ s. s.again) second);
+  kissed = in_both first.kissed (option_map (λ s. s.kissed) second);
+  unkept = in_both first.unkept (option_map (λ s. s.unkept) second);
   end = end_by first.end second;
 }
 
 abbrev pub totals_of : LinkWork → Totals
 totals_of work = totals_by work.first work.second
 
+abbrev pub tally_in : Totals → Tally
+tally_in t = record { answered = t.answered; dropped = t.dropped; again = t.again; kissed = t.kissed; unkept = t.unkept }
+
 abbrev pub line_by : ℕ → Totals → List ℕ
-line_by number t = link_line number t.answered t.dropped t.again t.end
+line_by number t = link_line number (tally_in t) t.end
 
 abbrev pub line_of_work : ℕ → LinkWork → List ℕ
 line_of_work number work = line_by number (totals_of work)
@@ -105,7 +110,7 @@ pub record LeavesAll {L T : Type 0} (log_state : L → SourceState) (log_opening
   pub of_station : IsJournalOf (settings_of of) orders.limit journal
   pub radios_served : RadiosServed log_state log_opening of.radios orders.limit journal.entries gear.logs.items now.logs.items radios
   pub servers_served : ServersServed state opening of.servers (length of.radios) orders.limit journal.entries gear.servers.items now.servers.items servers
-  pub links_served : LinksServed state opening of.keys (settings_of of) journal.entries orders.budget.during orders.budget.after gear.links.items now.links.items links
+  pub links_served : LinksServed state opening of.keys (gate_of of) (settings_of of) journal.entries orders.budget.during orders.budget.after gear.links.items now.links.items links
 
 abbrev pub EndsAll : {L T : Type 0} → (L → SourceState) → (L → ℕ) → (T → LinkState) → (T → ℕ) → StationFields → Orders → Gear L T → Ended L T → Type 0
 EndsAll log_state log_opening state opening of orders gear ended =

@@ -1,7 +1,7 @@
 -- The headline: what a station that was served has done. Whatever way its threads interleave, its journal holds, for each feed in order,
 -- exactly the entries that its code plan or polling rules give for its own input; and each datagram sent on a serving link is the reply
--- (RFC 5905) to one received there, made from the page of a beginning of that journal, never a shorter one than that link used before, and
--- authentic exactly where the one received is.
+-- (RFC 5905) to one received there, made from the page of a beginning of that journal, never a shorter one than that link used before, or
+-- the kiss code that its sender gets, and authentic exactly where the one received is.
 -- Six records say it, and `IsServed` at the end has all of them.
 use Rattle.std.specs.Prelude.{◌≡◌, ◌≢◌, ◌⊎◌, ℕ, suc, ◌*◌, ◌<◌, ◌≤◌, min, nat_lt, Bool, Option, None, Some, List, [], ◌∷◌, ◌++◌, All, length, slice_get, codes, decimal, if◌then◌else◌}
 use Rattle.std.specs.List.{flat_map, sum_by}
@@ -17,14 +17,15 @@ use Rattle.feed_workers.specs.declared.work.PollEnd.{PollEnd}
 use Rattle.feed_workers.specs.declared.work.PollEnd.TheVariants as poll
 use Rattle.journal_entry.specs.Texts.{spaced}
 use Rattle.journal_entry.specs.declared.entry.Entry.{Entry}
+use Rattle.kiss_gate.specs.Gates.{Gate}
 use Rattle.log_decoder.specs.Due.{due_log}
 use Rattle.packet_auth.specs.Keys.{KeyFields}
 use Rattle.page_cell.specs.Claims.{of_feed}
 use Rattle.responder.specs.Serving.{EndsBy}
-use Rattle.responder.specs.Turns.{Turn, events_of, readings_of, IsTurn, GoesOn, answered_of, dropped_of, torn_of, Rises}
+use Rattle.responder.specs.Turns.{Turn, events_of, readings_of, AreTurns, GoesOn, answered_of, dropped_of, torn_of, kissed_of, unkept_of, Rises}
 use Rattle.responder.specs.declared.served.End.{End}
 use Rattle.responder.specs.declared.served.End.TheVariants.{Count, LinkEnd, LinkFault}
-use Rattle.station_config.specs.Station.{RadioFields, ServerFields, StationFields, settings_of}
+use Rattle.station_config.specs.Station.{RadioFields, ServerFields, StationFields, gate_of, settings_of}
 use Rattle.station_crew.specs.Lists.{Pairs}
 use Rattle.station_crew.specs.Served.{IsReadOf}
 use Rattle.system_fold.specs.Page.{page_of}
@@ -124,12 +125,14 @@ EndsPhases during after faults faults_now first second end =
     ⊎ ((end ≢ Count) × (second ≡ []) × EndsBy during faults faults_now first end)
 
 -- The events of a link are those of its turns: each reply goes to the sender of the datagram of its turn, and is its answer from the page
--- that was read in that turn, authentic exactly where that datagram is, and by the key that it names. Each page is that of a beginning of the journal, and these beginnings never shorten; in the second phase each
--- is the whole journal, and no datagram is left for want of a page. Of those that were left so in the first phase, four times as many are
--- no more than there are entries
-pub record IsAnswered (keys : List KeyFields) (settings : SettingsFields) (journal : List Entry) (during after : ℕ) (link : LinkRun) : Type 0 where
+-- that was read in that turn, or the kiss code that the link's gate of clients gives its sender, authentic exactly where that datagram is,
+-- and by the key that it names. The gate begins with no client, and goes on from turn to turn over both phases. Each page is that of a
+-- beginning of the journal, and these beginnings never shorten; in the second phase each is the whole journal, and no datagram is left for
+-- want of a page. Of those that were left so in the first phase, four times as many are no more than there are entries
+pub record IsAnswered (keys : List KeyFields) (gate : Gate) (settings : SettingsFields) (journal : List Entry) (during after : ℕ) (link : LinkRun) : Type 0 where
   pub told : Adds link.opened.events link.back.events (flat_map events_of (link.first ++ link.second))
-  pub replies : All (IsTurn keys) (link.first ++ link.second)
+  pub gate_now : Gate
+  pub replies : AreTurns keys gate (link.first ++ link.second) gate_now
   pub pages : All (IsReadOf settings journal) (flat_map readings_of (link.first ++ link.second))
   pub last : ℕ
   pub rising : Rises 0 (flat_map readings_of (link.first ++ link.second)) last
@@ -140,7 +143,7 @@ pub record IsAnswered (keys : List KeyFields) (settings : SettingsFields) (journ
 
 pub record AnswersLinks (of : StationFields) (during after : ℕ) (run : StationRun) : Type 0 where
   pub each : length run.links ≡ length of.links
-  pub served : All (IsAnswered of.keys (settings_of of) run.journal during after) run.links
+  pub served : All (IsAnswered of.keys (gate_of of) (settings_of of) run.journal during after) run.links
 
 -- ---- 5. All of it is written
 
@@ -149,14 +152,31 @@ end_word Count = codes "count"
 end_word LinkEnd = codes "linkend"
 end_word LinkFault = codes "linkfault"
 
--- the line of a link: how many datagrams were answered, dropped, and left, and how it ended
-abbrev pub link_line : ℕ → ℕ → ℕ → ℕ → End → List ℕ
-link_line number answered dropped again end = codes "link" ++ spaced (decimal number ∷ codes "answered" ∷ decimal answered ∷ codes "dropped" ∷ decimal dropped
-    ∷ codes "again" ∷ decimal again ∷ codes "end" ∷ end_word end ∷ []) ++ codes "\n"
+-- how many datagrams were answered with the time, dropped, left, and answered with a kiss code, and how many clients were let pass without
+-- being kept
+pub record Tally : Type 0 where
+  pub answered : ℕ
+  pub dropped : ℕ
+  pub again : ℕ
+  pub kissed : ℕ
+  pub unkept : ℕ
+
+abbrev pub tally_of : List Turn → Tally
+tally_of turns = record {
+  answered = sum_by answered_of turns;
+  dropped = sum_by dropped_of turns;
+  again = sum_by torn_of turns;
+  kissed = sum_by kissed_of turns;
+  unkept = sum_by unkept_of turns;
+}
+
+-- the line of a link: the counts of its turns, and how it ended
+abbrev pub link_line : ℕ → Tally → End → List ℕ
+link_line number tally end = codes "link" ++ spaced (decimal number ∷ codes "answered" ∷ decimal tally.answered ∷ codes "dropped" ∷ decimal tally.dropped
+    ∷ codes "again" ∷ decimal tally.again ∷ codes "kissed" ∷ decimal tally.kissed ∷ codes "unkept" ∷ decimal tally.unkept ∷ codes "end" ∷ end_word end ∷ []) ++ codes "\n"
 
 abbrev pub line_of_link : ℕ → LinkRun → List ℕ
-line_of_link number link =
-    link_line number (sum_by answered_of (link.first ++ link.second)) (sum_by dropped_of (link.first ++ link.second)) (sum_by torn_of (link.first ++ link.second)) link.end
+line_of_link number link = link_line number (tally_of (link.first ++ link.second)) link.end
 
 -- a text for each item of a list, by its place, which counts from this one on
 abbrev pub each_text : {X : Type 0} → (ℕ → X → List ℕ) → ℕ → List X → List ℕ

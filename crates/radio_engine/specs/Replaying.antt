@@ -3,13 +3,12 @@ use Rattle.std.specs.Prelude.{ℕ, ◌^◌, Bool, true, false, List}
 use Rattle.feed_link.specs.Told.{SinkState}
 use Rattle.feed_link.specs.Openings.{OutsideState}
 use Rattle.file_reader.specs.declared.reader.FileEnd.TheVariants.{Whole, Fault, TooLong}
-use Rattle.script_line.specs.declared.line.ScriptLine.{ScriptLine}
-use Rattle.script_player.specs.Replay.{is_full, page_after}
+use Rattle.script_player.specs.Replay.{Played, is_full, lines_of, page_after}
 use Rattle.script_player.specs.Texts.{replay_text}
 use Rattle.station_config.specs.Station.{StationFields}
 use Rattle.radio_engine.specs.Endings.{ending_at}
 use Rattle.radio_engine.specs.LineFiles.{LineFile, RunsAgainst, HasGoodFile}
-use Rattle.radio_engine.specs.Script.{says_line, script_line_limit}
+use Rattle.radio_engine.specs.Script.{says_played, script_line_limit}
 use Rattle.radio_engine.specs.declared.ending.Ending.{Ending}
 use Rattle.radio_engine.specs.declared.ending.Ending.TheVariants.{Full}
 use Rattle.radio_engine.specs.declared.ending.status.Status.{Status}
@@ -29,13 +28,13 @@ replay_ending (AtBadLine line) true limit = ending_at Script (AtBadLine line)
 -- a script of at most 2^26 bytes, played with at most so many entries: what its lines give, and the page of the entries kept
 abbrev pub script_of : ℕ → StationFields → LineFile
 script_of limit station = record {
-  Item = ScriptLine;
-  says = says_line station;
+  Item = Played;
+  says = says_played station;
   too_long = script_line_limit;
   most = 2 ^ 26;
   text = replay_text station limit;
-  page = page_after station limit;
-  ending = λ reach lines. replay_ending reach (is_full station limit lines) limit;
+  page = λ played. page_after station limit (lines_of played);
+  ending = λ reach played. replay_ending reach (is_full station limit (lines_of played)) limit;
 }
 
 -- what becomes of a command to replay, and when all that it opens has no fault

@@ -7,10 +7,8 @@ use crate::test_station::{
     ANSWER, ASKED, CLIENT, EMPTY_PAGE, LONE, LONE_PAGE, VERDICT, VERDICT_PAGE, file, minutes,
     moment, one,
 };
-use crate::tests::run_over;
-use feed_link::{
-    FakeOpen, LinkEvent, MemoryLink, MemoryOutside, MemorySink, NamedLog, OpenGate, Planned,
-};
+use crate::tests::written_over;
+use feed_link::{FakeOpen, LinkEvent, MemoryLink, MemoryOutside, NamedLog, OpenGate, Planned};
 use std::alloc::{AllocError, Global};
 use std::process::Abort;
 use std::sync::Wait;
@@ -96,9 +94,7 @@ fn run<R: Threads + Wait + Sync>(
     }
     let gate = OpenGate::new();
     let mut outside = MemoryOutside::new(alloc, all, links, gate, Vec::new(alloc), 12, 100)?;
-    let mut out = MemorySink::new(alloc, Vec::new(alloc));
-    let status = run_over(rt, alloc, words, &mut outside, &mut out)?;
-    let written = out.into_bytes();
+    let (written, status) = written_over(rt, alloc, words, &mut outside, 0)?;
     Ok(Ran {
         written,
         status,
@@ -258,7 +254,7 @@ fn datagrams_are_short_under_48_bytes(rt: HostRuntime) -> Result<(), Fail> {
         let ran = run(&rt, alloc, &SERVE, station, Vec::new(alloc), links)?;
         let dropped = 1usize.saturating_sub(answered);
         let want = format!(in alloc;
-            "link 0 answered {answered} dropped {dropped} again 0 end linkend\n{EMPTY_PAGE}status 0\n"
+            "link 0 answered {answered} dropped {dropped} again 0 kissed 0 unkept 0 end linkend\n{EMPTY_PAGE}status 0\n"
         )?;
         assert_eq!(rt; ran.written.as_slice(), want.as_bytes());
         let served = ran.outside.link(0).ok_or("a link is out")?;
@@ -280,7 +276,7 @@ fn a_second_hearing_that_fails_leaves_one_turn(rt: HostRuntime) -> Result<(), Fa
     let links = one(alloc, link(alloc, &[48, 48, 48], 3)?)?;
     let ran = run(&rt, alloc, &SERVE, station, Vec::new(alloc), links)?;
     let want = format!(in alloc;
-        "link 0 answered 1 dropped 0 again 0 end linkfault\n{EMPTY_PAGE}status 7 link 0\n"
+        "link 0 answered 1 dropped 0 again 0 kissed 0 unkept 0 end linkfault\n{EMPTY_PAGE}status 7 link 0\n"
     )?;
     assert_eq!(rt; ran.written.as_slice(), want.as_bytes());
     assert_eq!(rt; ran.status, Status::LinkFault);
@@ -322,7 +318,7 @@ fn a_poller_that_fails_leaves_the_radio_whole(rt: HostRuntime) -> Result<(), Fai
     links.push(link(alloc, &[48], 0)?)?;
     let ran = run(&rt, alloc, &SERVE, station, files, links)?;
     let want = format!(in alloc;
-        "{LONE}{VERDICT}link 0 answered 1 dropped 0 again 0 end linkend\n{VERDICT_PAGE}status 7 feed 1\n"
+        "{LONE}{VERDICT}link 0 answered 1 dropped 0 again 0 kissed 0 unkept 0 end linkend\n{VERDICT_PAGE}status 7 feed 1\n"
     )?;
     assert_eq!(rt; ran.written.as_slice(), want.as_bytes());
     assert_eq!(rt; ran.status, Status::LinkFault);
@@ -370,7 +366,7 @@ fn of_each_feed_a_full_journal_has_a_front(rt: HostRuntime) -> Result<(), Fail> 
     let second = front_of(written, b'1').ok_or("the entries of the second radio")?;
     assert_eq!(rt; first.saturating_add(second), 3);
     let mut last = written.split(|byte| *byte == b'\n').skip(3);
-    let link = b"link 0 answered 17 dropped 0 again 0 end count".as_slice();
+    let link = b"link 0 answered 17 dropped 0 again 0 kissed 0 unkept 0 end count".as_slice();
     assert_eq!(rt; last.next(), Some(link));
     assert!(rt;
         last.next()
@@ -398,7 +394,7 @@ fn serves_a_minute<R: Threads + Wait + Sync>(rt: &R, alloc: Global) -> Result<Ra
 fn want_of_memory_in_a_serving(rt: HostRuntime) {
     let ran = serves_a_minute(&rt, rt.alloc());
     let whole =
-        "j2 1 0 0 62000000 lone 3976257600\nlink 0 answered 1 dropped 0 again 0 end linkend\n\
+        "j2 1 0 0 62000000 lone 3976257600\nlink 0 answered 1 dropped 0 again 0 kissed 0 unkept 0 end linkend\n\
 page 1 0 0 494e4954 0 62000000 0 0 1048576 0000000000000000 0 0\nstatus 0\n";
     is_whole_or_wants_memory(&rt, ran, whole);
 }

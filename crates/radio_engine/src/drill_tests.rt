@@ -3,9 +3,9 @@ ghost use Rattle.std.specs.Prelude.{◌≡◌, IfOk, false};
 ghost use Rattle.feed_link.specs.MemoryOutside.{is_gate_out};
 
 use crate::Status;
-use crate::tests::run_over;
-use feed_link::{FakeOpen, Gate, HoldGate, MemoryOutside, MemorySink, OpenGate};
-use std::alloc::{AllocError, Global};
+use crate::tests::written_over;
+use feed_link::{FakeOpen, Gate, HoldGate, MemoryOutside, OpenGate};
+use std::alloc::Global;
 use std::process::Abort;
 use std::sync::Wait;
 use std::test::Fail;
@@ -31,21 +31,6 @@ fn bare<G: Gate + Drop>(alloc: Global, gate: G) -> Result<MemoryOutside<G>, Fake
     MemoryOutside::new(alloc, Vec::new(alloc), Vec::new(alloc), gate, fails, 1, 10)
 }
 
-// What the words write over this outside, and their status; the writing of this number fails.
-fn run<R: Threads + Wait + Sync, G: Gate + Drop>(
-    rt: &R,
-    alloc: Global,
-    words: &[&str],
-    outside: &mut MemoryOutside<G>,
-    fails: u64,
-) -> Result<(Vec<u8>, Status), AllocError>
-    requires { is_gate_out outside.old ≡ false }
-{
-    let mut out = MemorySink::new(alloc, vec![in alloc; fails]?);
-    let status = run_over(rt, alloc, words, outside, &mut out)?;
-    Ok((out.into_bytes(), status))
-}
-
 // What they write where nothing waits and the writing of this number fails.
 fn told(
     rt: &(impl Abort + Threads + Wait + Sync),
@@ -54,7 +39,7 @@ fn told(
     fails: u64,
 ) -> Result<(Vec<u8>, Status), Fail> {
     let mut outside = bare(alloc, OpenGate::new())?;
-    Ok(run(rt, alloc, words, &mut outside, fails)?)
+    Ok(written_over(rt, alloc, words, &mut outside, fails)?)
 }
 
 // A drill of this seed writes this text and is done. Each test has one drill, since a day takes long where it is interpreted.
@@ -94,7 +79,7 @@ fn waits(
 ) -> Result<(), Fail> {
     let gate = HoldGate::new(held, 1, other, 4, 1, 1_000_000_000);
     let mut outside = bare(alloc, gate)?;
-    let (written, status) = run(rt, alloc, &["drill", "--seed=7"], &mut outside, 0)?;
+    let (written, status) = written_over(rt, alloc, &["drill", "--seed=7"], &mut outside, 0)?;
     assert_eq!(rt; written.as_slice(), SEED_7.as_bytes());
     assert_eq!(rt; status, Status::Done);
     let gate = outside.turns().ok_or("the gate is out")?;

@@ -24,6 +24,8 @@ mod drill_tests;
 #[cfg(test)]
 mod fault_tests;
 #[cfg(test)]
+mod gate_tests;
+#[cfg(test)]
 mod migrate_tests;
 #[cfg(test)]
 mod replay_tests;

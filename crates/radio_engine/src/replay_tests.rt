@@ -2,8 +2,8 @@
 
 use crate::Status;
 use crate::test_station::EMPTY_PAGE;
-use crate::tests::{outside_of, run_over};
-use feed_link::{FakeOpen, MemorySink, MemorySource, NamedLog};
+use crate::tests::{outside_of, written_over};
+use feed_link::{FakeOpen, MemorySource, NamedLog};
 use std::alloc::{AllocError, Global};
 use std::process::Abort;
 use std::sync::Wait;
@@ -14,7 +14,7 @@ pub const WORDS: [&str; 5] = ["replay", "--station", "s", "--script", "p"];
 
 const LIMIT_2: [&str; 7] = ["replay", "--station", "s", "--script", "p", "--limit", "2"];
 
-const DCF: &str = "[[radio]]\nplan = \"dcf\"\nlog = \"log\"\n";
+pub const DCF: &str = "[[radio]]\nplan = \"dcf\"\nlog = \"log\"\n";
 
 const SERVER: &str = "[[server]]\naddress = \"127.0.0.1\"\nport = 123\n";
 
@@ -28,7 +28,7 @@ const NOON: [&[usize]; 5] = [
 ];
 
 // The pulses of so many frames from 2 s on, behind a first one at 0, up to and with the one at a moment.
-fn pulses(text: &mut String, from: u64, to: u64) -> Result<(), AllocError> {
+pub fn pulses(text: &mut String, from: u64, to: u64) -> Result<(), AllocError> {
     if from == 0 {
         text.push_str("pulse 0 0 100000\n")?;
     }
@@ -108,9 +108,7 @@ pub fn run<R: Threads + Wait + Sync>(
     logs.push(named(alloc, "s", station, failing.station)?)?;
     logs.push(named(alloc, "p", script.as_bytes(), failing.script)?)?;
     let mut outside = outside_of(alloc, logs, failing.open)?;
-    let mut out = MemorySink::new(alloc, vec![in alloc; failing.write]?);
-    let status = run_over(rt, alloc, words, &mut outside, &mut out)?;
-    Ok((out.into_bytes(), status))
+    Ok(written_over(rt, alloc, words, &mut outside, failing.write)?)
 }
 
 // A station and a script write this text, and end so.

@@ -8,10 +8,10 @@ use crate::test_station::{
     ANSWER, ASKED, CLIENT, EMPTY_PAGE, LONE, LONE_PAGE, VERDICT, VERDICT_PAGE, file, minutes,
     moment, one,
 };
-use crate::tests::run_over;
+use crate::tests::written_over;
 use feed_link::{
-    Address, FakeOpen, Gate, HoldGate, LinkEvent, MemoryLink, MemoryOutside, MemorySink, NamedLog,
-    OpenGate, Planned,
+    Address, FakeOpen, Gate, HoldGate, LinkEvent, MemoryLink, MemoryOutside, NamedLog, OpenGate,
+    Planned,
 };
 use std::alloc::{AllocError, Global};
 use std::process::Abort;
@@ -76,14 +76,14 @@ const STRANGER: Address = Address {
 };
 
 // A request of version 4 with a poll of 64 s, sent at 0x1122334455667788 by the client's clock.
-const REQUEST: [u8; 48] = [
+pub const REQUEST: [u8; 48] = [
     0x23, 0x00, 0x06, 0xec, 0x00, 0x00, 0x00, 0x00, 0x00, 0x00, 0x00, 0x00, 0x00, 0x00, 0x00, 0x00, // to the refid
     0x00, 0x00, 0x00, 0x00, 0x00, 0x00, 0x00, 0x00, 0x00, 0x00, 0x00, 0x00, 0x00, 0x00, 0x00, 0x00, // to the origin
     0x00, 0x00, 0x00, 0x00, 0x00, 0x00, 0x00, 0x00, 0x11, 0x22, 0x33, 0x44, 0x55, 0x66, 0x77, 0x88,
 ];
 
 // The reply to it from the page of five minutes, where it came and was answered at 303 s, which is 12:04:01 UTC.
-const REPLY: [u8; 48] = [
+pub const REPLY: [u8; 48] = [
     0x24, 0x01, 0x06, 0xec, 0x00, 0x00, 0x00, 0x00, 0x00, 0x00, 0xf0, 0x67, 0x44, 0x43, 0x46, 0x00, // to the refid
     0xed, 0x00, 0xe1, 0x30, 0x00, 0x00, 0x00, 0x00, 0x11, 0x22, 0x33, 0x44, 0x55, 0x66, 0x77, 0x88, // to the origin
     0xed, 0x00, 0xe1, 0x31, 0x00, 0x00, 0x00, 0x00, 0xed, 0x00, 0xe1, 0x31, 0x00, 0x00, 0x00, 0x00,
@@ -135,7 +135,7 @@ fn answered(alloc: Global, first: Address, fails: u64) -> Result<MemoryLink, Fak
 }
 
 // An outside with a station file "s", these logs behind it and these links, and this gate; its opening of this number fails.
-fn outside_of<G: Gate + Drop>(
+pub fn outside_of<G: Gate + Drop>(
     alloc: Global,
     station: &str,
     logs: Vec<NamedLog>,
@@ -154,21 +154,6 @@ fn outside_of<G: Gate + Drop>(
     MemoryOutside::new(alloc, all, links, gate, fails, 12, 100)
 }
 
-// What the words write over this outside, and their status; the writing of this number fails.
-fn run<R: Threads + Wait + Sync, G: Gate + Drop>(
-    rt: &R,
-    alloc: Global,
-    words: &[&str],
-    outside: &mut MemoryOutside<G>,
-    fails: u64,
-) -> Result<(Vec<u8>, Status), AllocError>
-    requires { is_gate_out outside.old ≡ false }
-{
-    let mut out = MemorySink::new(alloc, vec![in alloc; fails]?);
-    let status = run_over(rt, alloc, words, outside, &mut out)?;
-    Ok((out.into_bytes(), status))
-}
-
 // A station with these logs and links writes this text and ends so.
 fn writes(
     rt: &(impl Abort + Threads + Wait + Sync),
@@ -181,14 +166,14 @@ fn writes(
     end: Status,
 ) -> Result<(), Fail> {
     let mut outside = outside_of(alloc, station, logs, links, OpenGate::new(), 0)?;
-    let (written, status) = run(rt, alloc, words, &mut outside, 0)?;
+    let (written, status) = written_over(rt, alloc, words, &mut outside, 0)?;
     assert_eq!(rt; written.as_slice(), want.as_bytes());
     assert_eq!(rt; status, end);
     Ok(())
 }
 
 // These texts, one behind the other.
-fn joined(alloc: Global, texts: &[&str]) -> Result<String, AllocError> {
+pub fn joined(alloc: Global, texts: &[&str]) -> Result<String, AllocError> {
     let mut all = String::new(alloc);
     for text in texts {
         all.push_str(text)?;
@@ -238,8 +223,8 @@ fn a_link_that_ends_is_told(rt: HostRuntime) -> Result<(), Fail> {
     let alloc = rt.alloc();
     let links = one(alloc, asked(alloc, 1, 0)?)?;
     let mut outside = outside_of(alloc, LINK, Vec::new(alloc), links, OpenGate::new(), 0)?;
-    let (written, status) = run(&rt, alloc, &DURING_2, &mut outside, 0)?;
-    let line = "link 0 answered 1 dropped 0 again 0 end linkend\n";
+    let (written, status) = written_over(&rt, alloc, &DURING_2, &mut outside, 0)?;
+    let line = "link 0 answered 1 dropped 0 again 0 kissed 0 unkept 0 end linkend\n";
     let want = joined(alloc, &[line, EMPTY_PAGE, "status 0\n"])?;
     assert_eq!(rt; written.as_slice(), want.as_str().as_bytes());
     assert_eq!(rt; status, Status::Done);
@@ -313,8 +298,8 @@ fn the_third_sending_fails(rt: HostRuntime) -> Result<(), Fail> {
     let links = one(alloc, asked(alloc, 5, 6)?)?;
     let station = joined(alloc, &[RADIO, LINK])?;
     let mut outside = outside_of(alloc, station.as_str(), logs, links, OpenGate::new(), 0)?;
-    let (written, status) = run(&rt, alloc, &AFTER_4, &mut outside, 0)?;
-    let line = "link 0 answered 2 dropped 0 again 0 end linkfault\n";
+    let (written, status) = written_over(&rt, alloc, &AFTER_4, &mut outside, 0)?;
+    let line = "link 0 answered 2 dropped 0 again 0 kissed 0 unkept 0 end linkfault\n";
     let want = joined(
         alloc,
         &[LONE, VERDICT, line, VERDICT_PAGE, "status 7 link 0\n"],
@@ -330,7 +315,7 @@ fn the_third_sending_fails(rt: HostRuntime) -> Result<(), Fail> {
 fn a_hearing_fails(rt: HostRuntime) -> Result<(), Fail> {
     let alloc = rt.alloc();
     let links = one(alloc, asked(alloc, 5, 3)?)?;
-    let line = "link 0 answered 1 dropped 0 again 0 end linkfault\n";
+    let line = "link 0 answered 1 dropped 0 again 0 kissed 0 unkept 0 end linkfault\n";
     let want = joined(alloc, &[line, EMPTY_PAGE, "status 7 link 0\n"])?;
     let logs = Vec::new(alloc);
     let end = Status::LinkFault;
@@ -451,8 +436,8 @@ fn the_first_of_two_is_told(rt: HostRuntime) -> Result<(), Fail> {
     let want = joined(
         alloc,
         &[
-            "link 0 answered 1 dropped 0 again 0 end linkfault\n",
-            "link 1 answered 0 dropped 0 again 0 end linkfault\n",
+            "link 0 answered 1 dropped 0 again 0 kissed 0 unkept 0 end linkfault\n",
+            "link 1 answered 0 dropped 0 again 0 kissed 0 unkept 0 end linkfault\n",
             EMPTY_PAGE,
             "status 7 link 0\n",
         ],
@@ -475,8 +460,8 @@ fn the_first_of_two_is_told(rt: HostRuntime) -> Result<(), Fail> {
     let want = joined(
         alloc,
         &[
-            "link 0 answered 2 dropped 0 again 0 end count\n",
-            "link 1 answered 1 dropped 0 again 0 end linkfault\n",
+            "link 0 answered 2 dropped 0 again 0 kissed 0 unkept 0 end count\n",
+            "link 1 answered 1 dropped 0 again 0 kissed 0 unkept 0 end linkfault\n",
             EMPTY_PAGE,
             "status 7 link 1\n",
         ],
@@ -509,7 +494,7 @@ fn each_opening_may_fail(rt: HostRuntime) -> Result<(), Fail> {
         links.push(answered(alloc, ASKED, 0)?)?;
         links.push(asked(alloc, 1, 0)?)?;
         let mut outside = outside_of(alloc, ALL, logs, links, OpenGate::new(), open)?;
-        let (written, status) = run(&rt, alloc, &WORDS, &mut outside, 0)?;
+        let (written, status) = written_over(&rt, alloc, &WORDS, &mut outside, 0)?;
         assert_eq!(rt; written.as_slice(), want.as_bytes());
         assert_eq!(rt; status, Status::OpenFault);
         for place in 0..2usize {
@@ -551,7 +536,7 @@ fn a_faulty_station_is_not_served(rt: HostRuntime) -> Result<(), Fail> {
 #[test]
 fn each_writing_may_fail(rt: HostRuntime) -> Result<(), Fail> {
     let alloc = rt.alloc();
-    let line = "link 0 answered 4 dropped 0 again 0 end count\n";
+    let line = "link 0 answered 4 dropped 0 again 0 kissed 0 unkept 0 end count\n";
     let lines = [LONE, VERDICT, line, VERDICT_PAGE, "status 0\n"];
     let station = joined(alloc, &[RADIO, LINK])?;
     let text = minutes(alloc, 2)?;
@@ -560,7 +545,7 @@ fn each_writing_may_fail(rt: HostRuntime) -> Result<(), Fail> {
         let links = one(alloc, asked(alloc, 5, 0)?)?;
         let gate = OpenGate::new();
         let mut outside = outside_of(alloc, station.as_str(), logs, links, gate, 0)?;
-        let (written, status) = run(&rt, alloc, &AFTER_4, &mut outside, fails as u64)?;
+        let (written, status) = written_over(&rt, alloc, &AFTER_4, &mut outside, fails as u64)?;
         let mut want = String::new(alloc);
         for line in lines.iter().take(fails.saturating_sub(1)) {
             want.push_str(line)?;
@@ -591,7 +576,7 @@ fn three_radios<R: Threads + Wait + Sync>(
     links.push(asked(alloc, 5, 0)?)?;
     links.push(asked(alloc, 5, 0)?)?;
     let mut outside = outside_of(alloc, THREE_RADIOS_TWO_LINKS, logs, links, gate, 0)?;
-    let (written, status) = run(rt, alloc, &FOUR_AND_ONE, &mut outside, 0)?;
+    let (written, status) = written_over(rt, alloc, &FOUR_AND_ONE, &mut outside, 0)?;
     Ok((written, status, outside))
 }
 
@@ -652,7 +637,7 @@ fn two_radios_fill_a_journal(rt: HostRuntime) -> Result<(), Fail> {
     let links = one(alloc, asked(alloc, 5, 0)?)?;
     let station = joined(alloc, &[TWO_RADIOS, LINK])?;
     let mut outside = outside_of(alloc, station.as_str(), logs, links, OpenGate::new(), 0)?;
-    let (written, status) = run(&rt, alloc, &LIMIT_3, &mut outside, 0)?;
+    let (written, status) = written_over(&rt, alloc, &LIMIT_3, &mut outside, 0)?;
     assert_eq!(rt; status, Status::JournalFull);
     assert!(rt; ends_with(written.as_slice(), "status 6 full 3\n"));
     let entries = written
@@ -697,7 +682,7 @@ fn a_reply_is_authentic_where_its_request_is(rt: HostRuntime) -> Result<(), Fail
     let logs = one(alloc, file(alloc, "a", text.as_str(), 0)?)?;
     let station = joined(alloc, &[RADIO, LINK, KEY])?;
     let mut outside = outside_of(alloc, station.as_str(), logs, links, OpenGate::new(), 0)?;
-    let (_, status) = run(&rt, alloc, &AFTER_4, &mut outside, 0)?;
+    let (_, status) = written_over(&rt, alloc, &AFTER_4, &mut outside, 0)?;
     assert_eq!(rt; status, Status::Done);
     let link = outside.link(0).ok_or("a link is out")?;
     let mut sealed = Vec::from_slice(alloc, &REPLY)?;

@@ -161,8 +161,21 @@ fn run<R: Threads + Wait + Sync>(
     let mut logs = Vec::new(alloc);
     logs.push(NamedLog::new(String::from_str(alloc, "log")?, source))?;
     let mut outside = outside_of(alloc, logs, failing.open)?;
-    let mut out = MemorySink::new(alloc, Vec::new(alloc));
-    let status = run_over(rt, alloc, words, &mut outside, &mut out)?;
+    Ok(written_over(rt, alloc, words, &mut outside, 0)?)
+}
+
+// What the words write over this outside, and their status; the writing of this number fails.
+pub fn written_over<R: Threads + Wait + Sync, G: Gate + Drop>(
+    rt: &R,
+    alloc: Global,
+    words: &[&str],
+    outside: &mut MemoryOutside<G>,
+    fails: u64,
+) -> Result<(Vec<u8>, Status), AllocError>
+    requires { is_gate_out outside.old ≡ false }
+{
+    let mut out = MemorySink::new(alloc, vec![in alloc; fails]?);
+    let status = run_over(rt, alloc, words, outside, &mut out)?;
     Ok((out.into_bytes(), status))
 }
 

@@ -1,18 +1,34 @@
-//! The answer to a datagram.
-ghost use Rattle.std.specs.Prelude.{◌≡◌, ◌<◌, ◌≤◌, IfErr, IfOk, OnOk, OnErr, length};
-ghost use Rattle.reply_core.specs.Reply.{answer, header_of, request_of, root_disp_at, untimed};
+//! What a client gets for a datagram.
+ghost use Rattle.std.specs.Prelude.{◌≡◌, ◌≢◌, ◌<◌, ◌≤◌, IfErr, IfOk, OnOk, OnErr, length};
+ghost use Rattle.ntp_packet.specs.Layout.{layout};
+ghost use Rattle.reply_core.specs.Reply.{answer, answer_for, header_for, header_of, request_of, root_disp_at, untimed};
+ghost use Rattle.reply_core.specs.declared.code.Code.TheVariants.{Pass};
 
-use crate::{Dropped, REPLY_LENGTH, ReplyPacket};
+use crate::{Code, Dropped};
 use clock_page::{INIT, Page, UNKNOWN_DISPERSION};
 use ntp_packet::{CLIENT, Header, PRECISION, SERVER, VERSION, read, write};
 use tick_units::{Local, Short, Span, Stamp, phi, to_short};
 
+/// How many bytes a reply has.
+pub const REPLY_LENGTH: usize = 48;
+
 // The leap indicator of a server that isn't synchronised (RFC 5905, section 7.3).
 const UNSYNCHRONISED: u8 = 3;
 
-// The request in a datagram.
-pub(crate) fn request_in(datagram: &[u8]) -> Result<Header, Dropped>
-    ensures { result ≡ request_of datagram.now }
+// `DENY` as a reference ID (RFC 5905, section 7.4).
+const DENY: u32 = 0x4445_4e59;
+
+// `RATE` as a reference ID.
+const RATE: u32 = 0x5241_5445;
+
+/// The request in a datagram; what stands behind its first 48 bytes is passed over.
+///
+/// # Errors
+/// A datagram that is no request of a client: it has fewer than 48 bytes, a version that isn't 1 to 4, or another mode.
+pub fn read_request(datagram: &[u8]) -> Result<Header, Dropped>
+    ensures read { result ≡ request_of datagram.now }
+    ensures version { IfOk result (λ request. request.version < 8) }
+    ensures no_longer { IfOk result (λ _. 48 ≤ length datagram.now) }
 {
     let Some(request) = read(datagram) else {
         return Err(Dropped::Short);
@@ -35,15 +51,10 @@ fn root_disp(page: &Page, sent: Local) -> Short
 }
 
 // The header of an answer that tells no time, with a reference ID that says why.
-pub(crate) fn untimed(
-    refid: u32,
-    page: &Page,
-    request: &Header,
-    arrived: Local,
-    sent: Local,
-) -> Header
+fn untimed(refid: u32, page: &Page, request: &Header, arrived: Local, sent: Local) -> Header
     ensures header { result ≡ untimed refid page.now request.now arrived sent }
     ensures leap { result.leap < 4 }
+    ensures version { result.version ≡ request.now.version }
 {
     Header {
         leap: UNSYNCHRONISED,
@@ -63,9 +74,10 @@ pub(crate) fn untimed(
 }
 
 // The header of the answer to a request.
-fn header(page: &Page, request: &Header, arrived: Local, sent: Local) -> Header
+fn answer_header(page: &Page, request: &Header, arrived: Local, sent: Local) -> Header
     ensures header { result ≡ header_of page.now request.now arrived sent }
     ensures leap { result.leap < 4 }
+    ensures version { result.version ≡ request.now.version }
 {
     let mut header = untimed(INIT, page, request, arrived, sent);
     if page.synced_at(sent) {
@@ -77,6 +89,56 @@ fn header(page: &Page, request: &Header, arrived: Local, sent: Local) -> Header
         header.reference = page.reftime;
     }
     header
+}
+
+// The header of what a client gets by its code.
+fn header(code: Code, page: &Page, request: &Header, arrived: Local, sent: Local) -> Header
+    ensures header { result ≡ header_for code page.now request.now arrived sent }
+    ensures leap { result.leap < 4 }
+    ensures version { result.version ≡ request.now.version }
+{
+    match code {
+        Code::Pass => answer_header(page, request, arrived, sent),
+        Code::Deny => untimed(DENY, page, request, arrived, sent),
+        Code::Rate => untimed(RATE, page, request, arrived, sent),
+    }
+}
+
+/// Writes the 48 bytes that a client gets by its code for a request that `read_request` has read, from a page, the moment when the
+/// request arrived and the moment when they are sent: the answer for `Pass`, and a kiss-o'-death packet for the others.
+pub fn write_reply(
+    code: Code,
+    page: &Page,
+    request: &Header,
+    arrived: Local,
+    sent: Local,
+    out: &mut [u8; REPLY_LENGTH],
+)
+    requires order { arrived ≤ sent }
+    requires version { request.now.version < 8 }
+    ensures { out.new ≡ layout (header_for code page.now request.now arrived sent) }
+{
+    write(&header(code, page, request, arrived, sent), out);
+}
+
+// What `reply` and `kiss` write for a datagram.
+fn write_by_code(
+    code: Code,
+    page: &Page,
+    datagram: &[u8],
+    arrived: Local,
+    sent: Local,
+    out: &mut [u8; REPLY_LENGTH],
+) -> Result<(), Dropped>
+    requires { arrived ≤ sent }
+    ensures answered { OnOk result (answer_for code page.now datagram.now arrived sent ≡ Ok out.new) }
+    ensures dropped { IfErr result (λ why. answer_for code page.now datagram.now arrived sent ≡ Err why) }
+    ensures unchanged { OnErr result (out.new ≡ out.old) }
+    ensures no_longer { OnOk result (48 ≤ length datagram.now) }
+{
+    let request = read_request(datagram)?;
+    write_reply(code, page, &request, arrived, sent, out);
+    Ok(())
 }
 
 /// Writes the 48 bytes that answer a datagram, from a page, the moment when the datagram arrived and the moment when the
@@ -100,28 +162,28 @@ pub fn reply(
     ensures unchanged { OnErr result (out.new ≡ out.old) }
     ensures no_longer { OnOk result (48 ≤ length datagram.now) }
 {
-    let request = request_in(datagram)?;
-    write(&header(page, &request, arrived, sent), out);
-    Ok(())
+    write_by_code(Code::Pass, page, datagram, arrived, sent, out)
 }
 
-/// The answer to a datagram, as `reply` writes it.
+/// Writes the 48 bytes of a kiss-o'-death packet (RFC 5905, section 7.4), where `reply` would write an answer: the code's letters
+/// stand as its reference ID, and whatever the page says, it isn't synchronised and has stratum 0.
 ///
 /// # Errors
-/// A datagram that is no request of a client is dropped.
-pub fn reply_packet(
+/// A datagram that `reply` drops is dropped for the same reason, and `out` stays as it was.
+pub fn kiss(
+    code: Code,
     page: &Page,
     datagram: &[u8],
     arrived: Local,
     sent: Local,
-) -> Result<ReplyPacket, Dropped>
-    requires { arrived ≤ sent }
-    ensures answered { IfOk result (λ packet. answer page.now datagram.now arrived sent ≡ Ok packet.bytes) }
-    ensures dropped { IfErr result (λ why. answer page.now datagram.now arrived sent ≡ Err why) }
+    out: &mut [u8; REPLY_LENGTH],
+) -> Result<(), Dropped>
+    requires order { arrived ≤ sent }
+    requires code { code ≢ Pass }
+    ensures answered { OnOk result (answer_for code page.now datagram.now arrived sent ≡ Ok out.new) }
+    ensures dropped { IfErr result (λ why. answer_for code page.now datagram.now arrived sent ≡ Err why) }
+    ensures unchanged { OnErr result (out.new ≡ out.old) }
+    ensures no_longer { OnOk result (48 ≤ length datagram.now) }
 {
-    let mut bytes = [0; REPLY_LENGTH];
-    match reply(page, datagram, arrived, sent, &mut bytes) {
-        Ok(()) => Ok(ReplyPacket { bytes }),
-        Err(why) => Err(why),
-    }
+    write_by_code(code, page, datagram, arrived, sent, out)
 }

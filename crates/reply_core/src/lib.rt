@@ -7,13 +7,9 @@ mod code;
 mod dropped;
 #[cfg(test)]
 mod kiss_tests;
-mod kissing;
-mod packet;
 #[cfg(test)]
 mod tests;
 
-pub use answering::{reply, reply_packet};
+pub use answering::{REPLY_LENGTH, kiss, read_request, reply, write_reply};
 pub use code::Code;
 pub use dropped::Dropped;
-pub use kissing::kiss;
-pub use packet::{REPLY_LENGTH, ReplyPacket};

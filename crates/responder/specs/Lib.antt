@@ -1,5 +1,5 @@
 -- What a reader has to believe, in this order: Turns (the turns of a responder, and the events, readings and counts that each stands
--- for), Serving (what a call of `serve` does, by its turns, and why it ends). Steps is scaffolding: one turn at a time.
+-- for, and what it does to the gate of clients), Serving (what a call of `serve` does, by its turns, and why it ends). Steps is scaffolding: one turn at a time.
 pub mod Turns
 pub mod Serving
 pub mod Steps

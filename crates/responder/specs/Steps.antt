@@ -1,27 +1,32 @@
 -- One turn at a time: scaffolding for the proof of `serve`, which no public clause needs.
-use Rattle.std.specs.Prelude.{◌≡◌, ℕ, ◌+◌, ◌-◌, ◌^◌, ◌≤◌, ◌<◌, List, [], ◌∷◌, ◌++◌, All, length, map}
+use Rattle.std.specs.Prelude.{◌≡◌, ℕ, ◌+◌, ◌-◌, ◌^◌, ◌≤◌, ◌<◌, Bool, true, false, List, [], ◌∷◌, ◌++◌, All, length, map}
 use Rattle.std.specs.List.{sum_by}
 use Rattle.feed_link.specs.Faults.{RoseByOne}
 use Rattle.feed_link.specs.Told.{NetEvent, LinkState, Adds}
+use Rattle.kiss_gate.specs.Gates.{Gate}
+use Rattle.kiss_gate.specs.declared.judged.Judged.{Judged}
 use Rattle.packet_auth.specs.Keys.{KeyFields}
 use Rattle.page_cell.specs.declared.view.View.{View}
-use Rattle.responder.specs.Turns.{Turn, Request, Reading, events_of, readings_of, IsRead, IsTurn, GoesOn, answered_of, dropped_of, torn_of, Rises, kept}
+use Rattle.responder.specs.Turns.{Turn, Request, Reading, events_of, readings_of, IsRead, IsTurn, GoesOn, gate_behind, answered_of, dropped_of, torn_of, kissed_of, unkept_of, Rises, kept}
 use Rattle.responder.specs.Turns.Turn.{Still, Last, Answered, Dropped, Torn, Unsent}
 use Rattle.responder.specs.Serving.{Took, IsFaulty}
+use Rattle.reply_core.specs.declared.code.Code.{Code}
+use Rattle.reply_core.specs.declared.code.Code.TheVariants.{Pass, Deny, Rate}
 use Rattle.responder.specs.declared.served.Served.{Served}
 use Rattle.responder.specs.declared.served.End.{End}
 use Rattle.responder.specs.declared.served.End.TheVariants.{Count, LinkEnd, LinkFault}
 
 -- the counts can rise by one
 abbrev pub HasRoom : Served → Type 0
-HasRoom served = (served.answered < 2 ^ 64 - 1) × (served.dropped < 2 ^ 64 - 1) × (served.again < 2 ^ 64 - 1)
+HasRoom served = (served.answered < 2 ^ 64 - 1) × (served.dropped < 2 ^ 64 - 1) × (served.again < 2 ^ 64 - 1) × (served.kissed < 2 ^ 64 - 1) × (served.unkept < 2 ^ 64 - 1)
 
 -- this turn was taken, of which these events were past
-pub record TookOne (keys : List KeyFields) (past : List NetEvent) (before now : LinkState) (view view_now : View) (turn : Turn) : Type 0 where
+pub record TookOne (keys : List KeyFields) (gate gate_now : Gate) (past : List NetEvent) (before now : LinkState) (view view_now : View) (turn : Turn) : Type 0 where
   pub more : List NetEvent
   pub split : events_of turn ≡ past ++ more
   pub events : Adds before.events now.events more
-  pub lawful : IsTurn keys turn
+  pub lawful : IsTurn keys gate turn
+  pub behind : gate_now ≡ gate_behind gate turn
   pub readings : view_now.readings ≡ view.readings ++ map kept (readings_of turn)
   pub pages : All IsRead (readings_of turn)
   pub rising : Rises view.seen (readings_of turn) view_now.seen
@@ -29,19 +34,35 @@ pub record TookOne (keys : List KeyFields) (past : List NetEvent) (before now : 
   pub greatest : view.watch.greatest ≤ view_now.watch.greatest
   pub above : 0 < torn_of turn → view.seen < view_now.watch.greatest
 
+-- one request more that was judged, by whether it was kept
+abbrev pub with_judged : (kept : Bool) → Served → Served
+with_judged true served = served
+with_judged false served = record served { unkept = served.unkept + 1 }
+
+-- one reply more that was sent, by its code
+abbrev pub with_sent : Code → Served → Served
+with_sent Pass served = record served { answered = served.answered + 1 }
+with_sent Deny served = record served { kissed = served.kissed + 1 }
+with_sent Rate served = record served { kissed = served.kissed + 1 }
+
 -- one turn more
 abbrev pub counted : Turn → Served → Served
 counted Still served = served
 counted Last served = served
-counted (Answered request reading sent reply) served = record served { answered = served.answered + 1 }
+counted (Answered request reading judged sent reply) served = with_sent judged.code (with_judged judged.kept served)
 counted (Dropped request reading sent) served = record served { dropped = served.dropped + 1 }
 counted (Torn request) served = record served { again = served.again + 1 }
-counted (Unsent request reading sent reply) served = served
+counted (Unsent request reading judged sent reply) served = with_judged judged.kept served
+
+-- these turns more
+abbrev pub counted_all : List Turn → Served → Served
+counted_all [] served = served
+counted_all (turn ∷ turns) served = counted_all turns (counted turn served)
 
 -- a turn was taken after which another may come
-pub record Goes (keys : List KeyFields) (past : List NetEvent) (before now : LinkState) (view view_now : View) (served served_now : Served) : Type 0 where
+pub record Goes (keys : List KeyFields) (gate gate_now : Gate) (past : List NetEvent) (before now : LinkState) (view view_now : View) (served served_now : Served) : Type 0 where
   pub turn : Turn
-  pub took : TookOne keys past before now view view_now turn
+  pub took : TookOne keys gate gate_now past before now view view_now turn
   pub goes : GoesOn turn
   pub counted : served_now ≡ counted turn served
   pub faults : now.faults ≡ before.faults
@@ -52,31 +73,34 @@ IsLast faults faults_now turns Count = ⊥
 IsLast faults faults_now turns LinkEnd = (turns ≡ Last ∷ []) × (faults_now ≡ faults)
 IsLast faults faults_now turns LinkFault = IsFaulty turns × RoseByOne faults faults_now
 
-pub record Stops (keys : List KeyFields) (before now : LinkState) (view view_now : View) (served served_now : Served) : Type 0 where
+pub record Stops (keys : List KeyFields) (gate gate_now : Gate) (before now : LinkState) (view view_now : View) (served served_now : Served) : Type 0 where
   pub turns : List Turn
-  pub took : Took keys before now view view_now turns
+  pub took : Took keys gate gate_now before now view view_now turns
   pub last : IsLast before.faults now.faults turns served_now.end
-  pub counted : served_now ≡ record served { end = served_now.end }
+  pub counted : served_now ≡ record (counted_all turns served) { end = served_now.end }
 
 -- a datagram was not answered, since the sending failed
-pub record StopsUnsent (keys : List KeyFields) (past : List NetEvent) (before now : LinkState) (view view_now : View) (served served_now : Served) : Type 0 where
+pub record StopsUnsent (keys : List KeyFields) (gate gate_now : Gate) (past : List NetEvent) (before now : LinkState) (view view_now : View) (served served_now : Served) : Type 0 where
   pub request : Request
   pub reading : Reading
+  pub judged : Judged
   pub moment : ℕ
   pub reply : List ℕ
-  pub took : TookOne keys past before now view view_now (Unsent request reading moment reply)
+  pub took : TookOne keys gate gate_now past before now view view_now (Unsent request reading judged moment reply)
   pub rose : RoseByOne before.faults now.faults
-  pub counted : served_now ≡ record served { end = LinkFault }
+  pub counted : served_now ≡ record (with_judged judged.kept served) { end = LinkFault }
 
 -- the turns so far, after each of which another may come
-pub record Serving (keys : List KeyFields) (before now : LinkState) (view view_now : View) (count : ℕ) (served : Served) : Type 0 where
+pub record Serving (keys : List KeyFields) (gate gate_now : Gate) (before now : LinkState) (view view_now : View) (count : ℕ) (served : Served) : Type 0 where
   pub turns : List Turn
-  pub took : Took keys before now view view_now turns
+  pub took : Took keys gate gate_now before now view view_now turns
   pub go : All GoesOn turns
   pub length : length turns ≡ count
   pub faults : now.faults ≡ before.faults
   pub answered : served.answered ≡ sum_by answered_of turns
   pub dropped : served.dropped ≡ sum_by dropped_of turns
   pub again : served.again ≡ sum_by torn_of turns
+  pub kissed : served.kissed ≡ sum_by kissed_of turns
+  pub unkept : served.unkept ≡ sum_by unkept_of turns
   pub end : served.end ≡ Count
-  pub most : (served.answered ≤ count) × (served.dropped ≤ count) × (served.again ≤ count)
+  pub most : (served.answered ≤ count) × (served.dropped ≤ count) × (served.again ≤ count) × (served.kissed ≤ count) × (served.unkept ≤ count)

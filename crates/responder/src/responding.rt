@@ -8,9 +8,10 @@ ghost use Rattle.responder.specs.Steps.{Goes, Stops, StopsUnsent, HasRoom};
 
 use crate::{End, Responder, Served};
 use feed_link::{Arrival, Failed, Gate, Hearing, Link};
+use kiss_gate::ClientGate;
 use packet_auth::KeyRing;
 use page_cell::{PageCell, ReadPass};
-use sealed_reply::reply_to;
+use sealed_reply::Request;
 use std::sync::Wait;
 
 // Responders have these numbers and their own at the gate.
@@ -22,16 +23,23 @@ const HEARD: u8 = 2;
 const SENT: u8 = 3;
 
 impl<L: Link + Drop> Responder<L> {
-    /// A responder on a link, with a reader's pass and the keys of the station. Its number, from 0, is below 8.
-    pub fn new(link: L, pass: ReadPass, number: u32, keys: KeyRing) -> Responder<L>
+    /// A responder on a link, with a reader's pass, the keys of the station and a gate of clients. Its number, from 0, is below 8.
+    pub fn new(
+        link: L,
+        pass: ReadPass,
+        number: u32,
+        keys: KeyRing,
+        clients: ClientGate,
+    ) -> Responder<L>
         requires { number < 8 }
-        ensures { (result.link ≡ link) × (result.pass ≡ pass) × (result.number ≡ number) × (result.keys ≡ keys) }
+        ensures { (result.link ≡ link) × (result.pass ≡ pass) × (result.number ≡ number) × (result.keys ≡ keys) × (result.clients ≡ clients) }
     {
         Responder {
             link,
             pass,
             number,
             keys,
+            clients,
         }
     }
 
@@ -49,8 +57,8 @@ impl<L: Link + Drop> Responder<L> {
         requires room { HasRoom served.old }
         requires at { (L.state self.old.link).latest ≡ arrival.now.at }
         ensures same { IsSame (L.opening self.old.link) (L.opening self.new.link) self.old.pass self.new.pass self.old.number self.new.number self.old.keys self.new.keys }
-        ensures goes { OnTrue result (Goes (keys_of self.old.keys) (Came arrival.now.from arrival.now.at datagram.now ∷ []) (L.state self.old.link) (L.state self.new.link) self.old.pass.view self.new.pass.view served.old served.new) }
-        ensures stops { OnFalse result (StopsUnsent (keys_of self.old.keys) (Came arrival.now.from arrival.now.at datagram.now ∷ []) (L.state self.old.link) (L.state self.new.link) self.old.pass.view self.new.pass.view served.old served.new) }
+        ensures goes { OnTrue result (Goes (keys_of self.old.keys) self.old.clients self.new.clients (Came arrival.now.from arrival.now.at datagram.now ∷ []) (L.state self.old.link) (L.state self.new.link) self.old.pass.view self.new.pass.view served.old served.new) }
+        ensures stops { OnFalse result (StopsUnsent (keys_of self.old.keys) self.old.clients self.new.clients (Came arrival.now.from arrival.now.at datagram.now ∷ []) (L.state self.old.link) (L.state self.new.link) self.old.pass.view self.new.pass.view served.old served.new) }
     {
         gate.pass(rt, AT_GATE + self.number, HEARD);
         let Ok(page) = cell.try_read(&mut self.pass) else {
@@ -58,21 +66,22 @@ impl<L: Link + Drop> Responder<L> {
             return true;
         };
         let sent = self.link.moment();
-        match reply_to(&self.keys, &page, datagram, arrival.at, sent) {
-            Ok(reply) => match self.link.send(arrival.from, reply.bytes()) {
-                Ok(()) => {
-                    served.answered += 1;
-                    gate.pass(rt, AT_GATE + self.number, SENT);
-                    true
-                }
-                Err(Failed) => {
-                    served.end = End::LinkFault;
-                    false
-                }
-            },
-            Err(_) => {
-                served.dropped += 1;
+        let Ok(request) = Request::read(datagram) else {
+            served.dropped += 1;
+            return true;
+        };
+        let judged = self.clients.judge(arrival.from.ip, arrival.at);
+        served.count_judged(judged.kept);
+        let reply = request.reply(&self.keys, judged.code, &page, arrival.at, sent);
+        match self.link.send(arrival.from, reply.bytes()) {
+            Ok(()) => {
+                served.count_sent(judged.code);
+                gate.pass(rt, AT_GATE + self.number, SENT);
                 true
+            }
+            Err(Failed) => {
+                served.end = End::LinkFault;
+                false
             }
         }
     }
@@ -88,8 +97,8 @@ impl<L: Link + Drop> Responder<L> {
         requires pass { self.old.pass.table ≡ cell.now.table }
         requires room { HasRoom served.old }
         ensures same { IsSame (L.opening self.old.link) (L.opening self.new.link) self.old.pass self.new.pass self.old.number self.new.number self.old.keys self.new.keys }
-        ensures goes { OnTrue result (Goes (keys_of self.old.keys) [] (L.state self.old.link) (L.state self.new.link) self.old.pass.view self.new.pass.view served.old served.new) }
-        ensures stops { OnFalse result (Stops (keys_of self.old.keys) (L.state self.old.link) (L.state self.new.link) self.old.pass.view self.new.pass.view served.old served.new) }
+        ensures goes { OnTrue result (Goes (keys_of self.old.keys) self.old.clients self.new.clients [] (L.state self.old.link) (L.state self.new.link) self.old.pass.view self.new.pass.view served.old served.new) }
+        ensures stops { OnFalse result (Stops (keys_of self.old.keys) self.old.clients self.new.clients (L.state self.old.link) (L.state self.new.link) self.old.pass.view self.new.pass.view served.old served.new) }
     {
         let mut piece = [0u8; 1024];
         match self.link.hear(&mut piece) {
@@ -110,8 +119,11 @@ impl<L: Link + Drop> Responder<L> {
     }
 
     /// Serves for so many hearings, or until the link ends or fails. Each datagram that comes passes place 2 of the gate; then the page
-    /// is read, then the link's moment is taken, and the reply is sent to the sender, sealed as the datagram is, or the datagram is
-    /// dropped. After a sending it passes place 3. Where no page could be read, the datagram is left.
+    /// is read, then the link's moment is taken. A datagram that is no request of a client is dropped. Else its sender is judged, and gets
+    /// the answer or a kiss code, sealed as the datagram is. After a sending it passes place 3. Where no page could be read, the datagram
+    /// is left.
+    ///
+    /// It takes memory for each client that the table of its gate of clients is to keep and doesn't know.
     pub fn serve<R: Wait, G: Gate>(
         &mut self,
         rt: &R,
@@ -121,12 +133,14 @@ impl<L: Link + Drop> Responder<L> {
     ) -> Served
         requires { self.old.pass.table ≡ cell.now.table }
         ensures same { IsSame (L.opening self.old.link) (L.opening self.new.link) self.old.pass self.new.pass self.old.number self.new.number self.old.keys self.new.keys }
-        ensures serves { Serves (keys_of self.old.keys) (L.state self.old.link) (L.state self.new.link) self.old.pass.view self.new.pass.view budget result }
+        ensures serves { Serves (keys_of self.old.keys) self.old.clients self.new.clients (L.state self.old.link) (L.state self.new.link) self.old.pass.view self.new.pass.view budget result }
     {
         let mut served = Served {
             answered: 0,
             dropped: 0,
             again: 0,
+            kissed: 0,
+            unkept: 0,
             end: End::Count,
         };
         for _ in 0..budget {
@@ -144,10 +158,10 @@ impl<L: Link + Drop> Responder<L> {
         self.keys
     }
 
-    /// Gives the link and the pass back.
-    pub fn give_back(self) -> (L, ReadPass)
-        ensures { (result.0 ≡ self.link) × (result.1 ≡ self.pass) }
+    /// Gives the link and the pass back, and the gate of clients as the calls so far left it.
+    pub fn give_back(self) -> (L, ReadPass, ClientGate)
+        ensures { (result.0 ≡ self.link) × (result.1 ≡ self.pass) × (result.2 ≡ self.clients) }
     {
-        (self.link, self.pass)
+        (self.link, self.pass, self.clients)
     }
 }

@@ -1,6 +1,7 @@
 //! A responder.
 ghost use Rattle.std.specs.Prelude.{◌<◌};
 
+use kiss_gate::ClientGate;
 use packet_auth::KeyRing;
 use page_cell::ReadPass;
 
@@ -11,5 +12,6 @@ pub struct Responder<L: Drop> {
     pub(crate) pass: ReadPass,
     pub(crate) number: u32,
     pub(crate) keys: KeyRing,
+    pub(crate) clients: ClientGate,
     ghost small: { number < 8 },
 }

@@ -7,6 +7,7 @@ use crate::{End, Responder, Served};
 use feed_link::{
     Address, FakeOpen, HostOutside, Link, LinkEvent, MemoryLink, OpenGate, Outside, Planned,
 };
+use kiss_gate::{ClientGate, DenyList, GateOpen};
 use packet_auth::KeyRing;
 use page_cell::{PageCell, ReadPass};
 use std::alloc::Global;
@@ -18,7 +19,7 @@ use std::{io, thread};
 use system_fold::Settings;
 use tick_units::Local;
 
-const CLIENT: Address = Address {
+pub(crate) const CLIENT: Address = Address {
     ip: 0x7f00_0001,
     port: 5000,
 };
@@ -38,7 +39,7 @@ fn without_sources() -> Settings
 }
 
 // A cell with one reader, and its pass.
-fn opened(alloc: Global) -> Result<(PageCell, ReadPass), Fail>
+pub(crate) fn opened(alloc: Global) -> Result<(PageCell, ReadPass), Fail>
     ensures { IfOk result (λ r. r.1.table ≡ r.0.table) }
 {
     let settings = without_sources();
@@ -52,26 +53,44 @@ fn opened(alloc: Global) -> Result<(PageCell, ReadPass), Fail>
     }
 }
 
-fn moment(microseconds: u32) -> Local {
+// A gate of clients that denies these nets, with a gap in microseconds.
+pub(crate) fn gate_of(alloc: Global, deny: &DenyList, gap: u16) -> Result<ClientGate, Fail> {
+    match ClientGate::open(alloc, deny, u64::from(gap), 4) {
+        Ok(gate) => Ok(gate),
+        Err(GateOpen::Memory) => Err("no memory")?,
+    }
+}
+
+// One that lets all pass.
+fn open_to_all(alloc: Global) -> Result<ClientGate, Fail> {
+    gate_of(alloc, &DenyList::new(), 0)
+}
+
+pub(crate) fn moment(microseconds: u32) -> Local {
     Local::new(u64::from(microseconds)).unwrap()
 }
 
 // A datagram of so many bytes that begins as the request, with another first byte.
-fn datagram(alloc: Global, first: u8, length: usize) -> Result<Planned, Fail> {
+pub(crate) fn bytes_of(alloc: Global, first: u8, length: usize) -> Result<Vec<u8>, Fail> {
     let mut bytes = vec![in alloc; 0u8; length]?;
     let count = length.min(48);
     bytes[..count].copy_from_slice(&REQUEST[..count]);
     if length > 0 {
         bytes[0] = first;
     }
+    Ok(bytes)
+}
+
+// Such a datagram of the client.
+fn datagram(alloc: Global, first: u8, length: usize) -> Result<Planned, Fail> {
     Ok(Planned::Datagram {
         from: CLIENT,
         at: moment(7),
-        bytes,
+        bytes: bytes_of(alloc, first, length)?,
     })
 }
 
-fn link_of(
+pub(crate) fn link_of(
     alloc: Global,
     hearings: Vec<Planned>,
     failing: u64,
@@ -89,7 +108,7 @@ fn serve<R: Wait>(
     budget: u64,
 ) -> Result<(Served, MemoryLink), Fail> {
     let (cell, pass) = opened(alloc)?;
-    let mut responder = Responder::new(link, pass, 7, KeyRing::new());
+    let mut responder = Responder::new(link, pass, 7, KeyRing::new(), open_to_all(alloc)?);
     let served = responder.serve(rt, &cell, &OpenGate::new(), budget);
     Ok((served, responder.give_back().0))
 }
@@ -105,10 +124,12 @@ fn sent(link: &MemoryLink) -> Option<(usize, u8)> {
     }
 }
 
-const NONE: Served = Served {
+pub(crate) const NONE: Served = Served {
     answered: 0,
     dropped: 0,
     again: 0,
+    kissed: 0,
+    unkept: 0,
     end: End::Count,
 };
 
@@ -191,7 +212,8 @@ fn a_reply_is_sealed_where_its_request_is_authentic(rt: HostRuntime) -> Result<(
     ring.add(1, b"longwave");
     for (id, want) in [(1, 68), (9, 48), (2, 48), (0, 48)] {
         let (cell, pass) = opened(rt.alloc())?;
-        let mut responder = Responder::new(asking(rt.alloc(), id, DIGEST)?, pass, 7, ring);
+        let link = asking(rt.alloc(), id, DIGEST)?;
+        let mut responder = Responder::new(link, pass, 7, ring, open_to_all(rt.alloc())?);
         let served = responder.serve(&rt, &cell, &OpenGate::new(), 1);
         assert_eq!(rt;
             served,
@@ -200,7 +222,7 @@ fn a_reply_is_sealed_where_its_request_is_authentic(rt: HostRuntime) -> Result<(
                 ..NONE
             }
         );
-        let (link, _) = responder.give_back();
+        let link = responder.give_back().0;
         assert!(rt; has_sent(&link, &SEALED[..want]), "key {id}");
     }
     Ok(())
@@ -299,7 +321,7 @@ fn a_client_on_the_loopback_is_answered(rt: HostRuntime) -> Result<(), Fail> {
     };
     assert!(rt; link.send(to, b"come").is_ok());
     let (cell, pass) = opened(rt.alloc())?;
-    let mut responder = Responder::new(link, pass, 0, KeyRing::new());
+    let mut responder = Responder::new(link, pass, 0, KeyRing::new(), open_to_all(rt.alloc())?);
     let Ok(child) = thread::spawn(&rt, move || ask(&client)) else {
         return Err("no thread")?;
     };

@@ -4,5 +4,6 @@ mod ListLaws
 mod NewLaws
 mod PlayerLaws
 mod RadioLaws
+pub mod ReplayLaws
 mod ServerLaws
 mod TextLaws

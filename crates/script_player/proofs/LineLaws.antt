@@ -35,7 +35,7 @@ reductions-more feed lines line r some other =
 pub reductions-swap : (feed : ℕ) (lines : List ScriptLine) (line : ScriptLine) → is_swap_of feed line ≡ true → reductions_of feed (lines ++ line ∷ []) ≡ []
 reductions-swap feed lines line swap = ap (pulses_of feed) (behind_swap-swap feed lines line swap)
 
-pub each_after-push : {A : Type 0} (f : List ScriptLine → ScriptLine → List A) (before lines : List ScriptLine) (line : ScriptLine) → each_after f before (lines ++ line ∷ []) ≡ each_after f before lines ++ f (before ++ lines) line
+pub each_after-push : {X A : Type 0} (f : List X → X → List A) (before lines : List X) (line : X) → each_after f before (lines ++ line ∷ []) ≡ each_after f before lines ++ f (before ++ lines) line
 each_after-push f before [] line = append-nil (f before line) ∙ ap (λ b. f b line) (sym (append-nil before))
 each_after-push f before (l ∷ more) line =
     ap (λ xs. f before l ++ xs) (each_after-push f (before ++ l ∷ []) more line)

@@ -1,26 +1,50 @@
 -- One line more for a player.
-use Rattle.std.proofs.Common.{◌≡◌, ◌∙◌, ℕ, Bool, true, false, Some, None, List, [], ◌∷◌, ◌++◌, refl, sym, ap, subst}
+use Rattle.std.proofs.Common.{◌≡◌, ◌∙◌, ℕ, Bool, true, false, Some, None, Ok, Err, Result, List, [], ◌∷◌, ◌++◌, refl, sym, ap, subst}
 use Rattle.std.proofs.lemmas.List.{append-nil}
 use Rattle.std.specs.Option.{option_to_list}
 use Rattle.tick_units.specs.declared.marks.Reduction.{Reduction}
 use Rattle.journal_entry.specs.declared.entry.Entry.{Entry}
 use Rattle.radio_receiver.specs.Histories.{History}
+use Rattle.clock_page.specs.Page.{PageFields}
 use Rattle.ntp_packet.specs.Layout.{layout}
+use Rattle.ntp_packet.specs.declared.header.Header.{Header}
 use Rattle.poll_core.specs.Formulas.{request_header}
+use Rattle.reply_core.specs.Reply.{request_of}
+use Rattle.reply_core.specs.declared.code.Code.{Code}
+use Rattle.reply_core.specs.declared.dropped.Dropped.{Dropped as WhyDropped}
+use Rattle.sealed_reply.specs.Replies.{reply_to}
+use Rattle.kiss_gate.specs.Clients.{IsJudged, after, code_of as code_for}
+use Rattle.kiss_gate.specs.declared.judged.Judged.{Judged}
 use Rattle.system_fold.specs.Settings.{SettingsFields}
-use Rattle.packet_auth.specs.Keys.{keys_of}
+use Rattle.packet_auth.specs.Keys.{KeyFields, keys_of}
 use Rattle.station_config.specs.Station.{StationFields, settings_of}
 use Rattle.script_line.specs.declared.line.ScriptLine.{ScriptLine}
 use Rattle.script_line.specs.declared.line.ScriptLine.TheVariants.{Pulse, Ask, Answer, Swap, Request}
 use Rattle.script_player.specs.Keeping.{JournalFields}
-use Rattle.script_player.specs.Replay.{due, due_to, is_lawful, may_hear, may_poll, may_swap, outcome, outcome_of_due, radio_of, server_of}
+use Rattle.script_player.specs.Replay.{MayKeepSender, Played, due, due_to, gate_after, gate_behind, gate_behind_datagram, is_lawful, lines_of, may_hear, may_poll, may_swap, outcome_of_due, outcome_of_request, page_after, played_so, radio_of, sender_of, server_of}
 use Rattle.script_player.specs.KeptPlayer.{HasAnswered, HasGiven, HasHeardPulse, HasKept, HasPlayed, HasRadios, HasServers}
 use Rattle.script_player.specs.declared.outcome.Outcome.{Outcome}
-use Rattle.script_player.specs.declared.outcome.Outcome.TheVariants.{Nothing, Asked}
+use Rattle.script_player.specs.declared.outcome.Outcome.TheVariants.{Nothing, Asked, Replied, Dropped}
 use Rattle.script_player.specs.declared.player.Player.{Player}
 use Rattle.script_player.proofs.LineLaws.{due_push}
+use Rattle.script_player.proofs.ReplayLaws.{gate_push, lines_push}
 use Rattle.script_player.proofs.RadioLaws.{HasRadios-other}
 use Rattle.script_player.proofs.ServerLaws.{HasServers-other}
+
+-- a player with one line more
+plays-on : {B : Type 0} (stands : B → History → Type 0) (player : Player B) (station : StationFields) (limit : ℕ) (before : List Played) (line : ScriptLine) (was_kept : Bool) →
+    HasRadios stands player.radios station (lines_of before ++ line ∷ []) → HasServers player.servers station (lines_of before ++ line ∷ []) →
+    HasKept player.journal (settings_of station) limit (due station (lines_of before ++ line ∷ [])) → keys_of player.keys ≡ station.keys →
+    player.clients ≡ gate_behind (gate_after station before) line was_kept → HasPlayed stands player station limit (before ++ played_so line was_kept ∷ [])
+plays-on stands player station limit before line was_kept radios servers journal keys clients =
+    let same = sym (lines_push before (played_so line was_kept)) in
+    record {
+      radios = subst (HasRadios stands player.radios station) same radios;
+      servers = subst (HasServers player.servers station) same servers;
+      journal = subst (λ ls. HasKept player.journal (settings_of station) limit (due station ls)) same journal;
+      keys = keys;
+      clients = clients ∙ sym (gate_push station before (played_so line was_kept));
+    }
 
 -- a line that is due no entry leaves the journal
 same-journal : (journal : JournalFields) (station : StationFields) (limit : ℕ) (lines : List ScriptLine) (line : ScriptLine) → due_to station lines line ≡ None →
@@ -39,143 +63,201 @@ more-journal old new station limit lines line e is keeps h =
     (keeps (settings_of station) limit (due station lines) h)
 
 -- nothing was changed
-pub still : {B : Type 0} (stands : B → History → Type 0) (old new : Player B) (station : StationFields) (limit : ℕ) (lines : List ScriptLine) (lawful : Bool) →
-    new.servers ≡ old.servers → new.journal ≡ old.journal → new.keys ≡ old.keys → (lawful ≡ false) × HasRadios stands new.radios station lines →
-    HasPlayed stands old station limit lines → (lawful ≡ false) × HasPlayed stands new station limit lines
-still stands old new station limit lines lawful servers journal keys refused h = (
+pub still : {B : Type 0} (stands : B → History → Type 0) (old new : Player B) (station : StationFields) (limit : ℕ) (before : List Played) (lawful : Bool) →
+    new.servers ≡ old.servers → new.journal ≡ old.journal → new.keys ≡ old.keys → new.clients ≡ old.clients → (lawful ≡ false) × HasRadios stands new.radios station (lines_of before) →
+    HasPlayed stands old station limit before → (lawful ≡ false) × HasPlayed stands new station limit before
+still stands old new station limit before lawful servers journal keys clients refused h = (
   refused.0,
   record {
     radios = refused.1;
-    servers = subst (λ s. HasServers s station lines) (sym servers) h.servers;
-    journal = subst (λ j. HasKept j (settings_of station) limit (due station lines)) (sym journal) h.journal;
+    servers = subst (λ s. HasServers s station (lines_of before)) (sym servers) h.servers;
+    journal = subst (λ j. HasKept j (settings_of station) limit (due station (lines_of before))) (sym journal) h.journal;
     keys = ap keys_of keys ∙ h.keys;
+    clients = clients ∙ h.clients;
   },
 )
 
-pub still-servers : {B : Type 0} (stands : B → History → Type 0) (old new : Player B) (station : StationFields) (limit : ℕ) (lines : List ScriptLine) (lawful : Bool) →
-    new.radios ≡ old.radios → new.journal ≡ old.journal → new.keys ≡ old.keys → (lawful ≡ false) × HasServers new.servers station lines →
-    HasPlayed stands old station limit lines → (lawful ≡ false) × HasPlayed stands new station limit lines
-still-servers stands old new station limit lines lawful radios journal keys refused h = (
+pub still-servers : {B : Type 0} (stands : B → History → Type 0) (old new : Player B) (station : StationFields) (limit : ℕ) (before : List Played) (lawful : Bool) →
+    new.radios ≡ old.radios → new.journal ≡ old.journal → new.keys ≡ old.keys → new.clients ≡ old.clients → (lawful ≡ false) × HasServers new.servers station (lines_of before) →
+    HasPlayed stands old station limit before → (lawful ≡ false) × HasPlayed stands new station limit before
+still-servers stands old new station limit before lawful radios journal keys clients refused h = (
   refused.0,
   record {
-    radios = subst (λ r. HasRadios stands r station lines) (sym radios) h.radios;
+    radios = subst (λ r. HasRadios stands r station (lines_of before)) (sym radios) h.radios;
     servers = refused.1;
-    journal = subst (λ j. HasKept j (settings_of station) limit (due station lines)) (sym journal) h.journal;
+    journal = subst (λ j. HasKept j (settings_of station) limit (due station (lines_of before))) (sym journal) h.journal;
     keys = ap keys_of keys ∙ h.keys;
+    clients = clients ∙ h.clients;
   },
 )
 
 -- a pulse that completes a minute
-pub hears-entry : {B : Type 0} (stands : B → History → Type 0) (old new : Player B) (station : StationFields) (limit : ℕ) (lines : List ScriptLine) (feed : ℕ) (reduction : Reduction) (e : Entry) (given : Outcome) →
-    (may_hear (radio_of station feed) feed reduction lines ≡ true) × HasHeardPulse stands new.radios station lines feed reduction (Some e) →
-    new.servers ≡ old.servers → new.keys ≡ old.keys →
+pub hears-entry : {B : Type 0} (stands : B → History → Type 0) (old new : Player B) (station : StationFields) (limit : ℕ) (before : List Played) (feed : ℕ) (reduction : Reduction) (e : Entry) (given : Outcome) →
+    (may_hear (radio_of station feed) feed reduction (lines_of before) ≡ true) × HasHeardPulse stands new.radios station (lines_of before) feed reduction (Some e) →
+    new.servers ≡ old.servers → new.keys ≡ old.keys → new.clients ≡ old.clients →
     ((settings : SettingsFields) (limit : ℕ) (entries : List Entry) → HasKept old.journal settings limit entries → HasKept new.journal settings limit (entries ++ e ∷ [])) →
     ((settings : SettingsFields) (limit : ℕ) (entries : List Entry) → HasKept old.journal settings limit entries → given ≡ outcome_of_due settings limit entries (Some e)) →
-    HasPlayed stands old station limit lines →
-    (is_lawful station lines (Pulse feed reduction) ≡ true) × HasGiven stands new station limit lines (Pulse feed reduction) given
-hears-entry stands old new station limit lines feed reduction e given heard servers keys keeps gives h =
+    HasPlayed stands old station limit before →
+    (is_lawful station (lines_of before) (Pulse feed reduction) ≡ true) × HasGiven stands new station limit before (Pulse feed reduction) given
+hears-entry stands old new station limit before feed reduction e given heard servers keys clients keeps gives h =
+    let lines = lines_of before in
     let line = Pulse feed reduction in (
       heard.0,
       record {
-        played = record {
-          radios = heard.1.played;
-          servers = HasServers-other new.servers station lines line (λ f a. refl) (λ f. refl) (subst (λ s. HasServers s station lines) (sym servers) h.servers);
-          journal = more-journal old.journal new.journal station limit lines line e heard.1.due_is keeps h.journal;
-          keys = ap keys_of keys ∙ h.keys;
-        };
+        was_kept = true;
+        may_be = refl;
+        played = plays-on stands new station limit before line true
+            heard.1.played
+            (HasServers-other new.servers station lines line (λ f a. refl) (λ f. refl) (subst (λ s. HasServers s station lines) (sym servers) h.servers))
+            (more-journal old.journal new.journal station limit lines line e heard.1.due_is keeps h.journal)
+            (ap keys_of keys ∙ h.keys)
+            (clients ∙ h.clients);
         outcome_is = gives (settings_of station) limit (due station lines) h.journal ∙ ap (outcome_of_due (settings_of station) limit (due station lines)) heard.1.due_is;
       },
     )
 
 -- a pulse that completes none
-pub hears-none : {B : Type 0} (stands : B → History → Type 0) (old new : Player B) (station : StationFields) (limit : ℕ) (lines : List ScriptLine) (feed : ℕ) (reduction : Reduction) →
-    (may_hear (radio_of station feed) feed reduction lines ≡ true) × HasHeardPulse stands new.radios station lines feed reduction None →
-    new.servers ≡ old.servers → new.journal ≡ old.journal → new.keys ≡ old.keys → HasPlayed stands old station limit lines →
-    (is_lawful station lines (Pulse feed reduction) ≡ true) × HasGiven stands new station limit lines (Pulse feed reduction) Nothing
-hears-none stands old new station limit lines feed reduction heard servers journal keys h =
+pub hears-none : {B : Type 0} (stands : B → History → Type 0) (old new : Player B) (station : StationFields) (limit : ℕ) (before : List Played) (feed : ℕ) (reduction : Reduction) →
+    (may_hear (radio_of station feed) feed reduction (lines_of before) ≡ true) × HasHeardPulse stands new.radios station (lines_of before) feed reduction None →
+    new.servers ≡ old.servers → new.journal ≡ old.journal → new.keys ≡ old.keys → new.clients ≡ old.clients → HasPlayed stands old station limit before →
+    (is_lawful station (lines_of before) (Pulse feed reduction) ≡ true) × HasGiven stands new station limit before (Pulse feed reduction) Nothing
+hears-none stands old new station limit before feed reduction heard servers journal keys clients h =
+    let lines = lines_of before in
     let line = Pulse feed reduction in (
       heard.0,
       record {
-        played = record {
-          radios = heard.1.played;
-          servers = HasServers-other new.servers station lines line (λ f a. refl) (λ f. refl) (subst (λ s. HasServers s station lines) (sym servers) h.servers);
-          journal = same-journal new.journal station limit lines line (sym heard.1.due_is) (subst (λ j. HasKept j (settings_of station) limit (due station lines)) (sym journal) h.journal);
-          keys = ap keys_of keys ∙ h.keys;
-        };
+        was_kept = true;
+        may_be = refl;
+        played = plays-on stands new station limit before line true
+            heard.1.played
+            (HasServers-other new.servers station lines line (λ f a. refl) (λ f. refl) (subst (λ s. HasServers s station lines) (sym servers) h.servers))
+            (same-journal new.journal station limit lines line (sym heard.1.due_is) (subst (λ j. HasKept j (settings_of station) limit (due station lines)) (sym journal) h.journal))
+            (ap keys_of keys ∙ h.keys)
+            (clients ∙ h.clients);
         outcome_is = ap (outcome_of_due (settings_of station) limit (due station lines)) heard.1.due_is;
       },
     )
 
-pub asks-server : {B : Type 0} (stands : B → History → Type 0) (old new : Player B) (station : StationFields) (limit : ℕ) (lines : List ScriptLine) (feed at : ℕ) (bytes : List ℕ) →
-    (may_poll (server_of station feed) feed at lines ≡ true) × HasServers new.servers station (lines ++ Ask feed at ∷ []) → bytes ≡ layout (request_header at) →
-    new.radios ≡ old.radios → new.journal ≡ old.journal → new.keys ≡ old.keys → HasPlayed stands old station limit lines →
-    (is_lawful station lines (Ask feed at) ≡ true) × HasGiven stands new station limit lines (Ask feed at) (Asked bytes)
-asks-server stands old new station limit lines feed at bytes asked is radios journal keys h =
+pub asks-server : {B : Type 0} (stands : B → History → Type 0) (old new : Player B) (station : StationFields) (limit : ℕ) (before : List Played) (feed at : ℕ) (bytes : List ℕ) →
+    (may_poll (server_of station feed) feed at (lines_of before) ≡ true) × HasServers new.servers station (lines_of before ++ Ask feed at ∷ []) → bytes ≡ layout (request_header at) →
+    new.radios ≡ old.radios → new.journal ≡ old.journal → new.keys ≡ old.keys → new.clients ≡ old.clients → HasPlayed stands old station limit before →
+    (is_lawful station (lines_of before) (Ask feed at) ≡ true) × HasGiven stands new station limit before (Ask feed at) (Asked bytes)
+asks-server stands old new station limit before feed at bytes asked is radios journal keys clients h =
+    let lines = lines_of before in
     let line = Ask feed at in (
       asked.0,
       record {
-        played = record {
-          radios = HasRadios-other stands new.radios station lines line (λ f. refl) (λ f. refl) (λ p. refl) (subst (λ r. HasRadios stands r station lines) (sym radios) h.radios);
-          servers = asked.1;
-          journal = same-journal new.journal station limit lines line refl (subst (λ j. HasKept j (settings_of station) limit (due station lines)) (sym journal) h.journal);
-          keys = ap keys_of keys ∙ h.keys;
-        };
+        was_kept = true;
+        may_be = refl;
+        played = plays-on stands new station limit before line true
+            (HasRadios-other stands new.radios station lines line (λ f. refl) (λ f. refl) (λ p. refl) (subst (λ r. HasRadios stands r station lines) (sym radios) h.radios))
+            asked.1
+            (same-journal new.journal station limit lines line refl (subst (λ j. HasKept j (settings_of station) limit (due station lines)) (sym journal) h.journal))
+            (ap keys_of keys ∙ h.keys)
+            (clients ∙ h.clients);
         outcome_is = ap Asked is;
       },
     )
 
-pub answers-server : {B : Type 0} (stands : B → History → Type 0) (old new : Player B) (station : StationFields) (limit : ℕ) (lines : List ScriptLine) (feed at : ℕ) (datagram : List ℕ) (e : Entry) (given : Outcome) →
-    (may_poll (server_of station feed) feed at lines ≡ true) × HasAnswered new.servers station lines feed at datagram e →
-    new.radios ≡ old.radios → new.keys ≡ old.keys →
+pub answers-server : {B : Type 0} (stands : B → History → Type 0) (old new : Player B) (station : StationFields) (limit : ℕ) (before : List Played) (feed at : ℕ) (datagram : List ℕ) (e : Entry) (given : Outcome) →
+    (may_poll (server_of station feed) feed at (lines_of before) ≡ true) × HasAnswered new.servers station (lines_of before) feed at datagram e →
+    new.radios ≡ old.radios → new.keys ≡ old.keys → new.clients ≡ old.clients →
     ((settings : SettingsFields) (limit : ℕ) (entries : List Entry) → HasKept old.journal settings limit entries → HasKept new.journal settings limit (entries ++ e ∷ [])) →
     ((settings : SettingsFields) (limit : ℕ) (entries : List Entry) → HasKept old.journal settings limit entries → given ≡ outcome_of_due settings limit entries (Some e)) →
-    HasPlayed stands old station limit lines →
-    (is_lawful station lines (Answer feed at datagram) ≡ true) × HasGiven stands new station limit lines (Answer feed at datagram) given
-answers-server stands old new station limit lines feed at datagram e given answered radios keys keeps gives h =
+    HasPlayed stands old station limit before →
+    (is_lawful station (lines_of before) (Answer feed at datagram) ≡ true) × HasGiven stands new station limit before (Answer feed at datagram) given
+answers-server stands old new station limit before feed at datagram e given answered radios keys clients keeps gives h =
+    let lines = lines_of before in
     let line = Answer feed at datagram in (
       answered.0,
       record {
-        played = record {
-          radios = HasRadios-other stands new.radios station lines line (λ f. refl) (λ f. refl) (λ p. refl) (subst (λ r. HasRadios stands r station lines) (sym radios) h.radios);
-          servers = answered.1.played;
-          journal = more-journal old.journal new.journal station limit lines line e answered.1.due_is keeps h.journal;
-          keys = ap keys_of keys ∙ h.keys;
-        };
+        was_kept = true;
+        may_be = refl;
+        played = plays-on stands new station limit before line true
+            (HasRadios-other stands new.radios station lines line (λ f. refl) (λ f. refl) (λ p. refl) (subst (λ r. HasRadios stands r station lines) (sym radios) h.radios))
+            answered.1.played
+            (more-journal old.journal new.journal station limit lines line e answered.1.due_is keeps h.journal)
+            (ap keys_of keys ∙ h.keys)
+            (clients ∙ h.clients);
         outcome_is = gives (settings_of station) limit (due station lines) h.journal ∙ ap (outcome_of_due (settings_of station) limit (due station lines)) answered.1.due_is;
       },
     )
 
-pub swaps-radio : {B : Type 0} (stands : B → History → Type 0) (old new : Player B) (station : StationFields) (limit : ℕ) (lines : List ScriptLine) (feed : ℕ) →
-    (may_swap station (radio_of station feed) lines ≡ true) × HasRadios stands new.radios station (lines ++ Swap feed ∷ []) →
-    new.servers ≡ old.servers → new.journal ≡ old.journal → new.keys ≡ old.keys → HasPlayed stands old station limit lines →
-    (is_lawful station lines (Swap feed) ≡ true) × HasGiven stands new station limit lines (Swap feed) Nothing
-swaps-radio stands old new station limit lines feed swapped servers journal keys h =
+pub swaps-radio : {B : Type 0} (stands : B → History → Type 0) (old new : Player B) (station : StationFields) (limit : ℕ) (before : List Played) (feed : ℕ) →
+    (may_swap station (radio_of station feed) (lines_of before) ≡ true) × HasRadios stands new.radios station (lines_of before ++ Swap feed ∷ []) →
+    new.servers ≡ old.servers → new.journal ≡ old.journal → new.keys ≡ old.keys → new.clients ≡ old.clients → HasPlayed stands old station limit before →
+    (is_lawful station (lines_of before) (Swap feed) ≡ true) × HasGiven stands new station limit before (Swap feed) Nothing
+swaps-radio stands old new station limit before feed swapped servers journal keys clients h =
+    let lines = lines_of before in
     let line = Swap feed in (
       swapped.0,
       record {
-        played = record {
-          radios = swapped.1;
-          servers = HasServers-other new.servers station lines line (λ f a. refl) (λ f. refl) (subst (λ s. HasServers s station lines) (sym servers) h.servers);
-          journal = same-journal new.journal station limit lines line refl (subst (λ j. HasKept j (settings_of station) limit (due station lines)) (sym journal) h.journal);
-          keys = ap keys_of keys ∙ h.keys;
-        };
+        was_kept = true;
+        may_be = refl;
+        played = plays-on stands new station limit before line true
+            swapped.1
+            (HasServers-other new.servers station lines line (λ f a. refl) (λ f. refl) (subst (λ s. HasServers s station lines) (sym servers) h.servers))
+            (same-journal new.journal station limit lines line refl (subst (λ j. HasKept j (settings_of station) limit (due station lines)) (sym journal) h.journal))
+            (ap keys_of keys ∙ h.keys)
+            (clients ∙ h.clients);
         outcome_is = refl;
       },
     )
 
-pub requests : {B : Type 0} (stands : B → History → Type 0) (player : Player B) (station : StationFields) (limit : ℕ) (lines : List ScriptLine) (connection arrived sent : ℕ) (datagram : List ℕ) (given : Outcome) →
-    given ≡ outcome station limit lines (Request connection arrived sent datagram) → HasPlayed stands player station limit lines →
-    (is_lawful station lines (Request connection arrived sent datagram) ≡ true) × HasGiven stands player station limit lines (Request connection arrived sent datagram) given
-requests stands player station limit lines connection arrived sent datagram given is h =
-    let line = Request connection arrived sent datagram in (
-      refl,
-      record {
-        played = record {
-          radios = HasRadios-other stands player.radios station lines line (λ f. refl) (λ f. refl) (λ p. refl) h.radios;
-          servers = HasServers-other player.servers station lines line (λ f a. refl) (λ f. refl) h.servers;
-          journal = same-journal player.journal station limit lines line refl h.journal;
-          keys = h.keys;
-        };
-        outcome_is = is;
-      },
-    )
+-- a request changes nothing but the gate
+requests-on : {B : Type 0} (stands : B → History → Type 0) (old new : Player B) (station : StationFields) (limit : ℕ) (before : List Played) (connection arrived sent : ℕ) (datagram : List ℕ) (was_kept : Bool) →
+    new.radios ≡ old.radios → new.servers ≡ old.servers → new.journal ≡ old.journal → new.keys ≡ old.keys →
+    new.clients ≡ gate_behind (gate_after station before) (Request connection arrived sent datagram) was_kept → HasPlayed stands old station limit before →
+    HasPlayed stands new station limit (before ++ played_so (Request connection arrived sent datagram) was_kept ∷ [])
+requests-on stands old new station limit before connection arrived sent datagram was_kept radios servers journal keys clients h =
+    let lines = lines_of before in
+    let line = Request connection arrived sent datagram in
+    plays-on stands new station limit before line was_kept
+    (HasRadios-other stands new.radios station lines line (λ f. refl) (λ f. refl) (λ p. refl) (subst (λ r. HasRadios stands r station lines) (sym radios) h.radios))
+    (HasServers-other new.servers station lines line (λ f a. refl) (λ f. refl) (subst (λ s. HasServers s station lines) (sym servers) h.servers))
+    (same-journal new.journal station limit lines line refl (subst (λ j. HasKept j (settings_of station) limit (due station lines)) (sym journal) h.journal))
+    (ap keys_of keys ∙ h.keys)
+    clients
+
+-- a datagram that is no request
+pub drops-request : {B : Type 0} (stands : B → History → Type 0) (player : Player B) (station : StationFields) (limit : ℕ) (before : List Played) (connection arrived sent : ℕ) (datagram : List ℕ) (why : WhyDropped) →
+    request_of datagram ≡ Err why → HasPlayed stands player station limit before →
+    HasGiven stands player station limit before (Request connection arrived sent datagram) (Dropped why)
+drops-request stands player station limit before connection arrived sent datagram why dropped h = record {
+  was_kept = true;
+  may_be = rw dropped refl;
+  played = requests-on stands player player station limit before connection arrived sent datagram true refl refl refl refl (rw dropped h.clients) h;
+  outcome_is = rw dropped refl;
+}
+
+-- what is replied to is a request
+is-request : (keys : List KeyFields) (code : Code) (page : PageFields) (datagram : List ℕ) (arrived sent : ℕ) (bytes : List ℕ) → reply_to keys code page datagram arrived sent ≡ Ok bytes →
+    (header : Header) × (request_of datagram ≡ Ok header)
+is-request keys code page datagram arrived sent bytes replied = by (request_of datagram) refl
+  where
+    by : (r : Result Header WhyDropped) → request_of datagram ≡ r → (header : Header) × (request_of datagram ≡ Ok header)
+    by (Ok header) is = (header, is)
+    by (Err why) is = absurd (let never = rw is at replied in cc)
+
+-- a request that was judged
+pub judges-request : {B : Type 0} (stands : B → History → Type 0) (old new : Player B) (station : StationFields) (limit : ℕ) (before : List Played) (connection arrived sent : ℕ) (datagram : List ℕ) (ip : ℕ) (judged : Judged) (bytes : List ℕ) (page : PageFields) →
+    new.radios ≡ old.radios → new.servers ≡ old.servers → new.journal ≡ old.journal → new.keys ≡ old.keys →
+    ip ≡ sender_of connection → IsJudged old.clients ip arrived judged → new.clients ≡ after old.clients ip arrived judged.kept →
+    reply_to (keys_of old.keys) judged.code page datagram arrived sent ≡ Ok bytes → page ≡ page_after station limit (lines_of before) → HasPlayed stands old station limit before →
+    HasGiven stands new station limit before (Request connection arrived sent datagram) (Replied bytes judged.kept)
+judges-request stands old new station limit before connection arrived sent datagram ip judged bytes page radios servers journal keys ip_is is_judged clients replied page_is h =
+    let header = is-request (keys_of old.keys) judged.code page datagram arrived sent bytes replied in
+    let of_gate : IsJudged (gate_after station before) (sender_of connection) arrived judged = subst (λ gate. IsJudged gate (sender_of connection) arrived judged) h.clients (subst (λ i. IsJudged old.clients i arrived judged) ip_is is_judged) in
+    let now : new.clients ≡ after (gate_after station before) (sender_of connection) arrived judged.kept = clients ∙ ap (λ i. after old.clients i arrived judged.kept) ip_is ∙ ap (λ gate. after gate (sender_of connection) arrived judged.kept) h.clients in
+    let replied_so : reply_to station.keys (code_for (gate_after station before) (sender_of connection) arrived) (page_after station limit (lines_of before)) datagram arrived sent ≡ Ok bytes =
+    sym (ap (λ ks. reply_to ks (code_for (gate_after station before) (sender_of connection) arrived) (page_after station limit (lines_of before)) datagram arrived sent) h.keys)
+    ∙ sym (ap (λ code. reply_to (keys_of old.keys) code (page_after station limit (lines_of before)) datagram arrived sent) of_gate.code)
+    ∙ sym (ap (λ p. reply_to (keys_of old.keys) judged.code p datagram arrived sent) page_is)
+    ∙ replied in
+    record {
+      was_kept = judged.kept;
+      may_be = subst (λ r. MayKeepSender r (gate_after station before) (sender_of connection) arrived judged.kept) (sym header.1) of_gate.kept;
+      played = requests-on stands old new station limit before connection arrived sent datagram judged.kept radios servers journal keys
+          (now ∙ sym (ap (λ r. gate_behind_datagram r (gate_after station before) (sender_of connection) arrived judged.kept) header.1)) h;
+      outcome_is = sym (ap (λ r. outcome_of_request r judged.kept) replied_so);
+    }

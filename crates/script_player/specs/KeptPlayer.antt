@@ -14,7 +14,7 @@ use Rattle.station_config.specs.Station.{RadioFields, ServerFields, StationField
 use Rattle.script_line.specs.declared.line.ScriptLine.{ScriptLine}
 use Rattle.script_line.specs.declared.line.ScriptLine.TheVariants.{Pulse, Answer}
 use Rattle.script_player.specs.Keeping.{JournalFields}
-use Rattle.script_player.specs.Replay.{due, due_of_radio, due_of_server, events_of, fitted, history_of, is_lawful, last_moment, outcome, pulses_of, radio_of, server_of}
+use Rattle.script_player.specs.Replay.{MayBePlayed, Played, due, due_of_radio, due_of_server, events_of, fitted, gate_after, history_of, is_lawful, last_moment, lines_of, outcome, played_so, pulses_of, radio_of, server_of}
 use Rattle.script_player.specs.declared.outcome.NotLawful.{NotLawful}
 use Rattle.script_player.specs.declared.outcome.Outcome.{Outcome}
 use Rattle.script_player.specs.declared.radio.Radio.{Radio}
@@ -102,21 +102,24 @@ pub record HasKept (journal : JournalFields) (settings : SettingsFields) (limit 
   pub full : journal.is_full ≡ nat_lt limit (length entries)
 
 -- a player stands for a station, a limit and the lines so far
-pub record HasPlayed {B : Type 0} (stands : B → History → Type 0) (player : Player B) (station : StationFields) (limit : ℕ) (lines : List ScriptLine) : Type 0 where
-  pub radios : HasRadios stands player.radios station lines
-  pub servers : HasServers player.servers station lines
-  pub journal : HasKept player.journal (settings_of station) limit (due station lines)
+pub record HasPlayed {B : Type 0} (stands : B → History → Type 0) (player : Player B) (station : StationFields) (limit : ℕ) (before : List Played) : Type 0 where
+  pub radios : HasRadios stands player.radios station (lines_of before)
+  pub servers : HasServers player.servers station (lines_of before)
+  pub journal : HasKept player.journal (settings_of station) limit (due station (lines_of before))
   pub keys : keys_of player.keys ≡ station.keys
+  pub clients : player.clients ≡ gate_after station before
 
 -- one line more, and what it gave
-pub record HasGiven {B : Type 0} (stands : B → History → Type 0) (player : Player B) (station : StationFields) (limit : ℕ) (lines : List ScriptLine) (line : ScriptLine) (given : Outcome) : Type 0 where
-  pub played : HasPlayed stands player station limit (lines ++ line ∷ [])
-  pub outcome_is : given ≡ outcome station limit lines line
+pub record HasGiven {B : Type 0} (stands : B → History → Type 0) (player : Player B) (station : StationFields) (limit : ℕ) (before : List Played) (line : ScriptLine) (given : Outcome) : Type 0 where
+  pub was_kept : Bool
+  pub may_be : MayBePlayed station before (played_so line was_kept)
+  pub played : HasPlayed stands player station limit (before ++ played_so line was_kept ∷ [])
+  pub outcome_is : given ≡ outcome station limit before (played_so line was_kept)
 
 -- what a player answers to a line behind these lines
-abbrev pub Plays : {B : Type 0} → (B → History → Type 0) → Player B → StationFields → ℕ → List ScriptLine → ScriptLine → Result Outcome NotLawful → Type 0
-Plays stands player station limit lines line result =
-    Gives (is_lawful station lines line) (HasGiven stands player station limit lines line) (HasPlayed stands player station limit lines) result
+abbrev pub Plays : {B : Type 0} → (B → History → Type 0) → Player B → StationFields → ℕ → List Played → ScriptLine → Result Outcome NotLawful → Type 0
+Plays stands player station limit before line result =
+    Gives (is_lawful station (lines_of before) line) (HasGiven stands player station limit before line) (HasPlayed stands player station limit before) result
 
 -- each receiver of a player can hear what its radio may hear next
 abbrev pub IsReady : {B : Type 0} → (B → ℕ) → Player B → Type 0

@@ -1,7 +1,7 @@
--- What the lines of a recorded script come to. There is no state: what a line does is read off all the lines before it. How a
--- script drives a station is this project's own; the receivers' answers are those of their code plans (PTB, NPL, NIST), the
--- exchanges, the page and the replies those of RFC 5905.
-use Rattle.std.specs.Prelude.{ℕ, ◌+◌, ◌-◌, ◌==◌, nat_lt, nat_le, Bool, true, false, not, Option, None, Some, Result, Ok, Err, List, [], ◌∷◌, ◌++◌, length, take, reverse, unwrap_or, if◌then◌else◌}
+-- What the lines of a recorded script come to. There is no state: what a line does is read off all the lines before it, and off
+-- whose judging was kept in them. How a script drives a station is this project's own; the receivers' answers are those of their code
+-- plans (PTB, NPL, NIST), the exchanges, the page, the replies and the kiss codes those of RFC 5905.
+use Rattle.std.specs.Prelude.{◌≡◌, ℕ, ◌+◌, ◌-◌, ◌==◌, nat_lt, nat_le, Bool, true, false, not, Option, None, Some, Result, Ok, Err, List, [], ◌∷◌, ◌++◌, length, map, fold, take, reverse, unwrap_or, if◌then◌else◌}
 use Rattle.std.specs.List.{count_by, filter_map, last_or, slice_get, take_while}
 use Rattle.std.specs.Option.{option_to_list}
 use Rattle.tick_units.specs.declared.marks.Plan.{Plan}
@@ -19,13 +19,17 @@ use Rattle.poll_core.specs.Formulas.{request_header}
 use Rattle.poll_core.specs.Refusals.{code_of}
 use Rattle.poll_core.specs.declared.refusal.PollRefusal.{PollRefusal}
 use Rattle.ntp_packet.specs.Layout.{layout}
+use Rattle.ntp_packet.specs.declared.header.Header.{Header}
+use Rattle.reply_core.specs.Reply.{request_of}
 use Rattle.reply_core.specs.declared.dropped.Dropped.{Dropped as WhyDropped}
 use Rattle.sealed_reply.specs.Replies.{reply_to}
+use Rattle.kiss_gate.specs.Clients.{MayBeKept, after, code_of as code_for}
+use Rattle.kiss_gate.specs.Gates.{Gate}
 use Rattle.clock_page.specs.Page.{PageFields}
 use Rattle.system_fold.specs.Numbered.{numbered_behind}
 use Rattle.system_fold.specs.Page.{page_of}
 use Rattle.system_fold.specs.Settings.{SettingsFields}
-use Rattle.station_config.specs.Station.{RadioFields, ServerFields, StationFields, is_same_plan, plan_count, settings_of}
+use Rattle.station_config.specs.Station.{RadioFields, ServerFields, StationFields, gate_of, is_same_plan, plan_count, settings_of}
 use Rattle.script_line.specs.declared.line.ScriptLine.{ScriptLine}
 use Rattle.script_line.specs.declared.line.ScriptLine.TheVariants.{Pulse, Ask, Answer, Swap, Request}
 use Rattle.script_player.specs.declared.outcome.Outcome.{Outcome}
@@ -162,7 +166,7 @@ due_to station lines (Swap feed) = None
 due_to station lines (Request connection arrived sent datagram) = None
 
 -- what each of some lines comes to, by all the lines before it
-abbrev pub each_after : {A : Type 0} → (List ScriptLine → ScriptLine → List A) → List ScriptLine → List ScriptLine → List A
+abbrev pub each_after : {X A : Type 0} → (List X → X → List A) → List X → List X → List A
 each_after f before [] = []
 each_after f before (line ∷ more) = f before line ++ each_after f (before ++ line ∷ []) more
 
@@ -187,14 +191,67 @@ abbrev pub outcome_of_due : SettingsFields → ℕ → List Entry → Option Ent
 outcome_of_due settings limit before None = Nothing
 outcome_of_due settings limit before (Some e) = if nat_lt (length before) limit then Kept (numbered_behind settings before e) else Nothing
 
-abbrev pub outcome_of_request : Result (List ℕ) WhyDropped → Outcome
-outcome_of_request (Ok bytes) = Replied bytes
-outcome_of_request (Err why) = Dropped why
+-- a line that was played, and whether the judging of its sender was kept; that is true where nothing was judged
+pub record Played : Type 0 where
+  pub line : ScriptLine
+  pub kept : Bool
+
+abbrev pub played_so : ScriptLine → Bool → Played
+played_so script_line was_kept = record { line = script_line; kept = was_kept }
+
+abbrev pub lines_of : List Played → List ScriptLine
+lines_of played = map (λ p. p.line) played
+
+-- the address of a client: 127.0.0.1 for connection 0, 127.0.0.2 for connection 1, and so on
+abbrev pub sender_of : ℕ → ℕ
+sender_of connection = 0x7f000001 + connection
+
+-- the gate behind a datagram of a client; one that is dropped isn't judged
+abbrev pub gate_behind_datagram : Result Header WhyDropped → Gate → (ip at : ℕ) → Bool → Gate
+gate_behind_datagram (Ok request) gate ip at was_kept = after gate ip at was_kept
+gate_behind_datagram (Err why) gate ip at was_kept = gate
+
+-- the gate behind a line: a request is judged as it arrives
+abbrev pub gate_behind : Gate → ScriptLine → Bool → Gate
+gate_behind gate (Request connection arrived sent datagram) was_kept = gate_behind_datagram (request_of datagram) gate (sender_of connection) arrived was_kept
+gate_behind gate (Pulse feed reduction) was_kept = gate
+gate_behind gate (Ask feed at) was_kept = gate
+gate_behind gate (Answer feed at datagram) was_kept = gate
+gate_behind gate (Swap feed) was_kept = gate
+
+-- the station's gate behind all these lines
+abbrev pub gate_after : StationFields → List Played → Gate
+gate_after station played = fold (λ gate p. gate_behind gate p.line p.kept) (gate_of station) played
+
+-- a judging isn't kept only where the request passes, the gap isn't 0 and the gate's table has no pair of its sender
+abbrev pub MayKeepSender : Result Header WhyDropped → Gate → (ip at : ℕ) → Bool → Type 0
+MayKeepSender (Ok request) gate ip at was_kept = MayBeKept gate ip at was_kept
+MayKeepSender (Err why) gate ip at was_kept = was_kept ≡ true
+
+abbrev pub MayKeep : Gate → ScriptLine → Bool → Type 0
+MayKeep gate (Request connection arrived sent datagram) was_kept = MayKeepSender (request_of datagram) gate (sender_of connection) arrived was_kept
+MayKeep gate (Pulse feed reduction) was_kept = was_kept ≡ true
+MayKeep gate (Ask feed at) was_kept = was_kept ≡ true
+MayKeep gate (Answer feed at datagram) was_kept = was_kept ≡ true
+MayKeep gate (Swap feed) was_kept = was_kept ≡ true
+
+-- a line may be played so behind these lines; where both may be, the host's memory decides
+abbrev pub MayBePlayed : StationFields → List Played → Played → Type 0
+MayBePlayed station before played = MayKeep (gate_after station before) played.line played.kept
+
+abbrev pub outcome_of_request : Result (List ℕ) WhyDropped → Bool → Outcome
+outcome_of_request (Ok bytes) was_kept = Replied bytes was_kept
+outcome_of_request (Err why) was_kept = Dropped why
 
 -- what a lawful line gives behind these lines
-abbrev pub outcome : StationFields → ℕ → List ScriptLine → ScriptLine → Outcome
-outcome station limit lines (Pulse feed reduction) = outcome_of_due (settings_of station) limit (due station lines) (due_to station lines (Pulse feed reduction))
-outcome station limit lines (Answer feed at datagram) = outcome_of_due (settings_of station) limit (due station lines) (due_to station lines (Answer feed at datagram))
-outcome station limit lines (Ask feed at) = Asked (layout (request_header at))
-outcome station limit lines (Swap feed) = Nothing
-outcome station limit lines (Request connection arrived sent datagram) = outcome_of_request (reply_to station.keys (page_after station limit lines) datagram arrived sent)
+abbrev pub outcome_of : StationFields → ℕ → List Played → ScriptLine → Bool → Outcome
+outcome_of station limit before (Pulse feed reduction) was_kept = outcome_of_due (settings_of station) limit (due station (lines_of before)) (due_to station (lines_of before) (Pulse feed reduction))
+outcome_of station limit before (Answer feed at datagram) was_kept = outcome_of_due (settings_of station) limit (due station (lines_of before)) (due_to station (lines_of before) (Answer feed at datagram))
+outcome_of station limit before (Ask feed at) was_kept = Asked (layout (request_header at))
+outcome_of station limit before (Swap feed) was_kept = Nothing
+outcome_of station limit before (Request connection arrived sent datagram) was_kept =
+    let code = code_for (gate_after station before) (sender_of connection) arrived in
+    outcome_of_request (reply_to station.keys code (page_after station limit (lines_of before)) datagram arrived sent) was_kept
+
+abbrev pub outcome : StationFields → ℕ → List Played → Played → Outcome
+outcome station limit before played = outcome_of station limit before played.line played.kept

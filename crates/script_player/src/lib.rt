@@ -16,4 +16,6 @@ pub use radio_receiver::BoxedReceiver;
 pub use text::write_outcome;
 
 #[cfg(test)]
+mod client_tests;
+#[cfg(test)]
 mod tests;

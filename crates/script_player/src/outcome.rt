@@ -13,7 +13,11 @@ pub enum Outcome {
     /// The server of the feed is asked by these bytes.
     Asked([u8; 48]),
     /// The client is answered by this reply.
-    Replied(Reply),
+    Replied {
+        reply: Reply,
+        /// Whether the client's judging was kept. It wasn't where that took memory and there was none.
+        kept: bool,
+    },
     /// The client isn't answered.
     Dropped(WhyDropped),
 }

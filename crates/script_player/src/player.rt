@@ -5,43 +5,55 @@ ghost use Rattle.script_line.specs.Texts.{IsLine};
 ghost use Rattle.script_line.specs.declared.line.ScriptLine.{ScriptLine};
 ghost use Rattle.script_line.specs.declared.line.ScriptLine.TheVariants as lines;
 ghost use Rattle.script_player.specs.Replay as replay;
-ghost use Rattle.script_player.specs.Replay.{page_after};
+ghost use Rattle.script_player.specs.Replay.{Played, lines_of, page_after, sender_of};
 
 use crate::journal::Journal;
 use crate::radios::Radios;
 use crate::servers::Servers;
 use crate::{BoxedReceiver, NotLawful, Outcome};
 use clock_page::Page;
+use kiss_gate::ClientGate;
 use packet_auth::KeyRing;
 use radio_receiver::Receiver;
 use script_line::{Datagram, ScriptLine};
-use sealed_reply::reply_to;
+use sealed_reply::Request;
 use station_config::Station;
 use std::alloc::{AllocError, Global};
 use tick_units::{Local, Reduction};
 
-/// A station in the middle of a script: it plays the lines one after the other, and keeps the journal's page.
+// 127.0.0.1, from which the requests of the first connection come.
+const FIRST_CLIENT: u32 = 0x7f00_0001;
+
+// The address of a client: that of its connection, and so many behind the first.
+fn sender_of(connection: u8) -> u32
+    ensures { result ≡ sender_of connection }
+{
+    FIRST_CLIENT + u32::from(connection)
+}
+
+/// A station in the middle of a script: it plays the lines one after the other, and keeps the journal's page and the gate of its clients.
 ///
-/// It stands for its station, the most entries that are kept, and the lines that it has played.
+/// It stands for its station, the most entries that are kept, and the lines that it has played, with whether each client's judging was kept.
 #[derive(Drop)]
 pub struct Player<B: Drop> {
     radios: Radios<B>,
     servers: Servers,
     journal: Journal,
     keys: KeyRing,
+    clients: ClientGate,
     ghost first: { servers.first ≡ vec_len radios.fitted },
     ghost feeds: { length journal.fold.feeds ≡ vec_len radios.fitted + vec_len servers.servers },
 }
 
 impl Player<BoxedReceiver> {
     ghost use Rattle.receiver_rack.specs.Racks.{IsRack};
-    ghost use Rattle.script_player.specs.KeptPlayer.{HasPlayed, IsReady, Plays};
+    ghost use Rattle.script_player.specs.KeptPlayer.{HasGiven, HasPlayed, IsReady, Plays};
 
     /// A station that has played no line yet, and that keeps at most so many entries, up to 4194304. Of each plan the first
     /// four blank receivers of the rack are used, in its order; the others are dropped.
     ///
     /// # Errors
-    /// There is no memory. No other call takes any.
+    /// There is no memory. Of the other calls only `play` takes any.
     pub fn new(
         alloc: Global,
         station: &Station,
@@ -57,15 +69,23 @@ impl Player<BoxedReceiver> {
         let mut servers = Servers::new(alloc, station.radios() as u32);
         servers.add_all(station)?;
         let journal = Journal::new(station.settings(), limit);
+        let Ok(clients) = ClientGate::open(alloc, station.deny(), station.gap(), station.clients())
+        else {
+            return Err(AllocError);
+        };
         Ok(Player {
             radios,
             servers,
             journal,
             keys: station.keys(),
+            clients,
         })
     }
 
     /// The next line: what it gives, where it may stand behind the lines before it.
+    ///
+    /// A request comes from the address 127.0.0.1 and its connection's number more, and is judged as it arrives. Memory is taken for a
+    /// client that the gate doesn't know, and nothing else; where there is none, the client is answered, and `kept` says so.
     ///
     /// # Errors
     /// A line that may not stand there, which changes nothing.
@@ -73,7 +93,7 @@ impl Player<BoxedReceiver> {
         requires line { IsLine line.now }
         requires ready { IsReady (λ b. least_start b) self.old }
         ensures ready { IsReady (λ b. least_start b) self.new }
-        ensures plays { (station : StationFields) (limit : ℕ) (before : List ScriptLine) → HasPlayed (λ b h. stands_for b h) self.old station limit before →
+        ensures plays { (station : StationFields) (limit : ℕ) (before : List Played) → HasPlayed (λ b h. stands_for b h) self.old station limit before →
             Plays (λ b h. stands_for b h) self.new station limit before line.now result }
     {
         match line {
@@ -82,11 +102,11 @@ impl Player<BoxedReceiver> {
             ScriptLine::Answer { feed, at, datagram } => self.answer(*feed, *at, datagram),
             ScriptLine::Swap { feed } => self.swap(*feed),
             ScriptLine::Request {
-                connection: _,
+                connection,
                 arrived,
                 sent,
                 datagram,
-            } => Ok(self.reply(*arrived, *sent, datagram)),
+            } => Ok(self.reply(*connection, *arrived, *sent, datagram)),
         }
     }
 
@@ -94,7 +114,7 @@ impl Player<BoxedReceiver> {
     fn hear(&mut self, feed: u32, reduction: Reduction) -> Result<Outcome, NotLawful>
         requires { IsReady (λ b. least_start b) self.old }
         ensures ready { IsReady (λ b. least_start b) self.new }
-        ensures plays { (station : StationFields) (limit : ℕ) (before : List ScriptLine) → HasPlayed (λ b h. stands_for b h) self.old station limit before →
+        ensures plays { (station : StationFields) (limit : ℕ) (before : List Played) → HasPlayed (λ b h. stands_for b h) self.old station limit before →
             Plays (λ b h. stands_for b h) self.new station limit before (lines.Pulse feed reduction) result }
     {
         match self.radios.hear(feed, reduction)? {
@@ -107,7 +127,7 @@ impl Player<BoxedReceiver> {
     fn ask(&mut self, feed: u32, at: Local) -> Result<Outcome, NotLawful>
         requires { IsReady (λ b. least_start b) self.old }
         ensures ready { IsReady (λ b. least_start b) self.new }
-        ensures plays { (station : StationFields) (limit : ℕ) (before : List ScriptLine) → HasPlayed (λ b h. stands_for b h) self.old station limit before →
+        ensures plays { (station : StationFields) (limit : ℕ) (before : List Played) → HasPlayed (λ b h. stands_for b h) self.old station limit before →
             Plays (λ b h. stands_for b h) self.new station limit before (lines.Ask feed at) result }
     {
         let request = self.servers.ask(feed, at)?;
@@ -123,7 +143,7 @@ impl Player<BoxedReceiver> {
     ) -> Result<Outcome, NotLawful>
         requires { IsReady (λ b. least_start b) self.old }
         ensures ready { IsReady (λ b. least_start b) self.new }
-        ensures plays { (station : StationFields) (limit : ℕ) (before : List ScriptLine) → HasPlayed (λ b h. stands_for b h) self.old station limit before →
+        ensures plays { (station : StationFields) (limit : ℕ) (before : List Played) → HasPlayed (λ b h. stands_for b h) self.old station limit before →
             Plays (λ b h. stands_for b h) self.new station limit before (lines.Answer feed at datagram.now) result }
     {
         let mut room = [0; 1024];
@@ -136,39 +156,70 @@ impl Player<BoxedReceiver> {
     fn swap(&mut self, feed: u32) -> Result<Outcome, NotLawful>
         requires { IsReady (λ b. least_start b) self.old }
         ensures ready { IsReady (λ b. least_start b) self.new }
-        ensures plays { (station : StationFields) (limit : ℕ) (before : List ScriptLine) → HasPlayed (λ b h. stands_for b h) self.old station limit before →
+        ensures plays { (station : StationFields) (limit : ℕ) (before : List Played) → HasPlayed (λ b h. stands_for b h) self.old station limit before →
             Plays (λ b h. stands_for b h) self.new station limit before (lines.Swap feed) result }
     {
         self.radios.swap(feed)?;
         Ok(Outcome::Nothing)
     }
 
-    // A client's datagram is answered from the page of the entries kept so far, and the reply is sealed as the datagram is.
-    fn reply(&self, arrived: Local, sent: Local, datagram: &Datagram<'_>) -> Outcome
-        requires { arrived ≤ sent }
-        ensures { (station : StationFields) (limit : ℕ) (before : List ScriptLine) (connection : ℕ) → HasPlayed (λ b h. stands_for b h) self.now station limit before →
-            result ≡ replay.outcome station limit before (lines.Request connection arrived sent datagram.now) }
+    // A client's datagram: where it is a request, it is judged and answered.
+    fn reply(
+        &mut self,
+        connection: u8,
+        arrived: Local,
+        sent: Local,
+        datagram: &Datagram<'_>,
+    ) -> Outcome
+        requires moments { arrived ≤ sent }
+        requires ready { IsReady (λ b. least_start b) self.old }
+        ensures ready { IsReady (λ b. least_start b) self.new }
+        ensures given { (station : StationFields) (limit : ℕ) (before : List Played) → HasPlayed (λ b h. stands_for b h) self.old station limit before →
+            HasGiven (λ b h. stands_for b h) self.new station limit before (lines.Request connection arrived sent datagram.now) result }
     {
         let mut room = [0; 1024];
         let length = datagram.write(&mut room);
-        match reply_to(&self.keys, &self.page(), &room[..length], arrived, sent) {
-            Ok(reply) => Outcome::Replied(reply),
+        match Request::read(&room[..length]) {
+            Ok(request) => self.judge_and_reply(connection, &request, arrived, sent),
             Err(why) => Outcome::Dropped(why),
+        }
+    }
+
+    // A client's request is judged as it arrives, and answered by its code from the page of the entries kept so far. The reply is sealed
+    // as the request is.
+    fn judge_and_reply(
+        &mut self,
+        connection: u8,
+        request: &Request<'_>,
+        arrived: Local,
+        sent: Local,
+    ) -> Outcome
+        requires moments { arrived ≤ sent }
+        requires ready { IsReady (λ b. least_start b) self.old }
+        ensures ready { IsReady (λ b. least_start b) self.new }
+        ensures given { (station : StationFields) (limit : ℕ) (before : List Played) → HasPlayed (λ b h. stands_for b h) self.old station limit before →
+            HasGiven (λ b h. stands_for b h) self.new station limit before (lines.Request connection arrived sent request.now.datagram.now) result }
+    {
+        let page = self.page();
+        let judged = self.clients.judge(sender_of(connection), arrived);
+        Outcome::Replied {
+            reply: request.reply(&self.keys, judged.code, &page, arrived, sent),
+            kept: judged.kept,
         }
     }
 
     /// The page of the entries kept so far.
     pub fn page(&self) -> Page
-        ensures { (station : StationFields) (limit : ℕ) (before : List ScriptLine) → HasPlayed (λ b h. stands_for b h) self.now station limit before →
-            result ≡ page_after station limit before }
+        ensures { (station : StationFields) (limit : ℕ) (before : List Played) → HasPlayed (λ b h. stands_for b h) self.now station limit before →
+            result ≡ page_after station limit (lines_of before) }
     {
         self.journal.page()
     }
 
     /// Whether an entry was due while as many were kept as may be.
     pub fn is_full(&self) -> bool
-        ensures { (station : StationFields) (limit : ℕ) (before : List ScriptLine) → HasPlayed (λ b h. stands_for b h) self.now station limit before →
-            result ≡ replay.is_full station limit before }
+        ensures { (station : StationFields) (limit : ℕ) (before : List Played) → HasPlayed (λ b h. stands_for b h) self.now station limit before →
+            result ≡ replay.is_full station limit (lines_of before) }
     {
         self.journal.is_full()
     }

@@ -99,7 +99,7 @@ const DCF: &str = "[[radio]]\nplan = \"dcf\"\nlog = \"log\"\n";
 const SERVER: &str = "[[server]]\naddress = \"127.0.0.1\"\nport = 123\n";
 
 // A script gives this text.
-fn gives(
+pub fn gives(
     rt: &impl Abort,
     alloc: Global,
     station: &str,
@@ -264,6 +264,17 @@ fn frame(script: &mut String, ones: &[usize], start: u64) -> Result<(), AllocErr
     Ok(())
 }
 
+// The pulses of five minutes, up to the one that closes the last.
+pub fn noon(script: &mut String) -> Result<(), AllocError> {
+    script.push_str("pulse 0 0 100000\n")?;
+    let mut start = 2_000_000u64;
+    for ones in NOON {
+        frame(script, ones, start)?;
+        start = start.saturating_add(60_000_000);
+    }
+    script.push_str("pulse 0 302000000 100000\n")
+}
+
 const ENTRIES: &str =
     "j2 1 0 0 62000000 lone 3976257600\nj2 2 0 0 122000000 verdict 3976257660 0\nj2 3 0 0 182000000 verdict 3976257720 0\nj2 4 0 0 242000000 verdict 3976257780 0\n\
 reply e40006ec0000000000100000494e4954000000000000000011223344556677880000012e000000000000012e00000000\n\
@@ -309,13 +320,8 @@ reply 240106ec000000000000f06744434600ed00e130000000001122334455667788ed00e13100
 
 #[test]
 fn a_reply_is_sealed_as_its_request_is(rt: HostRuntime) -> Result<(), Fail> {
-    let mut script = String::from_str(rt.alloc(), "pulse 0 0 100000\n")?;
-    let mut start = 2_000_000u64;
-    for ones in NOON {
-        frame(&mut script, ones, start)?;
-        start = start.saturating_add(60_000_000);
-    }
-    script.push_str("pulse 0 302000000 100000\n")?;
+    let mut script = String::new(rt.alloc());
+    noon(&mut script)?;
     for behind in [
         "00000001b408cf70f4de3798e713f31a2a885f12",
         "00000001b408cf70f4de3798e713f31a2a885fed",

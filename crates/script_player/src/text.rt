@@ -1,7 +1,7 @@
 //! Writes what a line of a script gives.
 ghost use Rattle.std.specs.Prelude.{◌≡◌, ◌+◌, ◌*◌, ◌≤◌, ◌++◌, ◌∷◌, [], length, take, drop};
 ghost use Rattle.hex.specs.Hex.{encode_lower};
-ghost use Rattle.script_player.specs.Texts.{outcome_text};
+ghost use Rattle.script_player.specs.Texts.{outcome_text, reply_end};
 
 use crate::Outcome;
 use hex::encode_to_slice;
@@ -21,14 +21,15 @@ fn write_word(word: &[u8], out: &mut [u8; LINE_ROOM]) -> usize
     text.len()
 }
 
-// Writes a word with its space, the bytes in hexadecimal digits, and a line feed.
+// Writes a word with its space, the bytes in hexadecimal digits, and the end behind them.
 #[tactic(auto, using(crate::proofs::TextLaws::drop_on))]
-fn write_bytes(word: &[u8], bytes: &[u8], out: &mut [u8; LINE_ROOM]) -> usize
+fn write_bytes(word: &[u8], bytes: &[u8], end: &[u8], out: &mut [u8; LINE_ROOM]) -> usize
     requires word { length word.now ≤ 20 }
     requires bytes { length bytes.now ≤ 68 }
-    ensures text { take result out.new ≡ word.now ++ encode_lower bytes.now ++ 10 ∷ [] }
+    requires end { length end.now ≤ 8 }
+    ensures text { take result out.new ≡ word.now ++ encode_lower bytes.now ++ end.now }
     ensures rest { drop result out.new ≡ drop result out.old }
-    ensures length { result ≡ length word.now + 2 * length bytes.now + 1 }
+    ensures length { result ≡ length word.now + 2 * length bytes.now + length end.now }
 {
     let mut room = [0; 136];
     let digits = &mut room[..2 * bytes.len()];
@@ -36,8 +37,16 @@ fn write_bytes(word: &[u8], bytes: &[u8], out: &mut [u8; LINE_ROOM]) -> usize
     let mut text = TextWriter::new(out);
     text.add(word);
     text.add(digits);
-    text.add(b"\n");
+    text.add(end);
     text.len()
+}
+
+// The end of a reply's line, with a line of its own behind it where the client wasn't kept.
+fn reply_end(kept: bool) -> &'static [u8]
+    ensures text { result.now ≡ reply_end kept }
+    ensures most { length result.now ≤ 8 }
+{
+    if kept { b"\n" } else { b"\nunkept\n" }
 }
 
 // Writes a numbered entry and a line feed.
@@ -51,8 +60,8 @@ fn write_kept(n: &Numbered, out: &mut [u8; LINE_ROOM]) -> usize
     length + 1
 }
 
-/// Writes the line that a line of a script gives, with its line feed, at the front of `out`, and leaves the rest as it was. The
-/// answer is the number of bytes written, 0 where nothing is told.
+/// Writes what a line of a script gives at the front of `out`, and leaves the rest as it was: a line with its line feed, and behind a
+/// reply whose client wasn't kept the line `unkept`. The answer is the number of bytes written, 0 where nothing is told.
 pub fn write_outcome(outcome: &Outcome, out: &mut [u8; LINE_ROOM]) -> usize
     ensures text { take result out.new ≡ outcome_text outcome.now }
     ensures rest { drop result out.new ≡ drop result out.old }
@@ -61,8 +70,10 @@ pub fn write_outcome(outcome: &Outcome, out: &mut [u8; LINE_ROOM]) -> usize
     match outcome {
         Outcome::Nothing => 0,
         Outcome::Kept(numbered) => write_kept(numbered, out),
-        Outcome::Asked(bytes) => write_bytes(b"asked ", bytes, out),
-        Outcome::Replied(reply) => write_bytes(b"reply ", reply.bytes(), out),
+        Outcome::Asked(bytes) => write_bytes(b"asked ", bytes, b"\n", out),
+        Outcome::Replied { reply, kept } => {
+            write_bytes(b"reply ", reply.bytes(), reply_end(*kept), out)
+        }
         Outcome::Dropped(Dropped::Short) => write_word(b"drop short", out),
         Outcome::Dropped(Dropped::Version) => write_word(b"drop version", out),
         Outcome::Dropped(Dropped::Mode) => write_word(b"drop mode", out),

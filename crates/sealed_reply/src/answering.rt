@@ -1,13 +1,15 @@
-//! The reply to a datagram.
-ghost use Rattle.std.specs.Prelude.{◌≡◌, ◌≤◌, Ok, Err, IfErr, IfOk};
+//! The reply to a request.
+ghost use Rattle.std.specs.Prelude.{◌≡◌, ◌≤◌, ◌<◌, Ok, IfErr, IfOk, Err};
 ghost use Rattle.packet_auth.specs.Digests.{authentic, sealed_like};
 ghost use Rattle.packet_auth.specs.Keys.{keys_of};
+ghost use Rattle.reply_core.specs.Reply.{request_of};
 ghost use Rattle.sealed_reply.specs.Replies.{reply_to};
 
 use crate::Reply;
 use clock_page::Page;
+use ntp_packet::Header;
 use packet_auth::{HEADER_LENGTH, KeyRing, SEALED_LENGTH};
-use reply_core::{Dropped, reply};
+use reply_core::{Code, Dropped, read_request, write_reply};
 use tick_units::Local;
 
 /// A header sealed as a datagram is: by the key by which the datagram is authentic, or not at all where it isn't.
@@ -25,26 +27,44 @@ pub fn sealed_like(keys: &KeyRing, datagram: &[u8], header: [u8; HEADER_LENGTH])
     }
 }
 
-/// The reply to a datagram, from a page, the moment when the datagram arrived and the moment when the reply is sent. It is authentic exactly
-/// where the datagram is, and by the same key.
-///
-/// # Errors
-/// A datagram that is no request of a client is dropped.
-pub fn reply_to(
-    keys: &KeyRing,
-    page: &Page,
-    datagram: &[u8],
-    arrived: Local,
-    sent: Local,
-) -> Result<Reply, Dropped>
-    requires { arrived ≤ sent }
-    ensures replied { IfOk result (λ reply. reply_to (keys_of keys.now) page.now datagram.now arrived sent ≡ Ok reply) }
-    ensures dropped { IfErr result (λ why. reply_to (keys_of keys.now) page.now datagram.now arrived sent ≡ Err why) }
-    ensures authentic { IfOk result (λ reply. authentic (keys_of keys.now) reply ≡ authentic (keys_of keys.now) datagram.now) }
-{
-    let mut header = [0; HEADER_LENGTH];
-    match reply(page, datagram, arrived, sent, &mut header) {
-        Ok(()) => Ok(sealed_like(keys, datagram, header)),
-        Err(why) => Err(why),
+/// A request of a client, as it stands in a datagram.
+#[derive(Clone, Copy, Debug)]
+pub struct Request<'a> {
+    datagram: &'a [u8],
+    header: Header,
+    ghost read: { request_of datagram.now ≡ Ok header },
+    ghost version: { header.version < 8 },
+}
+
+impl<'a> Request<'a> {
+    /// The request in a datagram.
+    ///
+    /// # Errors
+    /// A datagram that is no request of a client.
+    pub fn read(datagram: &'a [u8]) -> Result<Request<'a>, Dropped>
+        ensures read { IfOk result (λ request. request.datagram.now ≡ datagram.now) }
+        ensures dropped { IfErr result (λ why. request_of datagram.now ≡ Err why) }
+    {
+        let header = read_request(datagram)?;
+        Ok(Request { datagram, header })
+    }
+
+    /// The reply to the request by the client's code, from a page, the moment when the request arrived and the moment when the reply is
+    /// sent. It is authentic exactly where the request is, and by the same key.
+    pub fn reply(
+        &self,
+        keys: &KeyRing,
+        code: Code,
+        page: &Page,
+        arrived: Local,
+        sent: Local,
+    ) -> Reply
+        requires { arrived ≤ sent }
+        ensures replied { reply_to (keys_of keys.now) code page.now self.now.datagram.now arrived sent ≡ Ok result }
+        ensures authentic { authentic (keys_of keys.now) result ≡ authentic (keys_of keys.now) self.now.datagram.now }
+    {
+        let mut header = [0; HEADER_LENGTH];
+        write_reply(code, page, &self.header, arrived, sent, &mut header);
+        sealed_like(keys, self.datagram, header)
     }
 }

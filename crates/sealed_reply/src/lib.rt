@@ -6,5 +6,5 @@ mod reply;
 #[cfg(test)]
 mod tests;
 
-pub use answering::{reply_to, sealed_like};
+pub use answering::{Request, sealed_like};
 pub use reply::Reply;

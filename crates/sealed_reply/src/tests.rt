@@ -2,10 +2,10 @@
 ghost use Rattle.std.specs.Prelude.{◌≡◌, ◌≤◌, ◌∷◌, [], IfOk, codes};
 ghost use Rattle.packet_auth.specs.Keys.{keys_of};
 
-use crate::reply_to;
+use crate::{Reply, Request};
 use clock_page::Page;
 use packet_auth::KeyRing;
-use reply_core::Dropped;
+use reply_core::{Code, Dropped};
 use std::test::Fail;
 use tick_units::{Local, Short, Span, Stamp};
 
@@ -39,6 +39,28 @@ const ANSWER: [u8; 48] = [
     0x24, 0x01, 0x06, 0xec, 0x00, 0x00, 0x00, 0x00, 0x00, 0x00, 0xf0, 0x67, 0x44, 0x43, 0x46, 0x00,
     0xed, 0x00, 0xe1, 0x30, 0x00, 0x00, 0x00, 0x00, 0x11, 0x22, 0x33, 0x44, 0x55, 0x66, 0x77, 0x88,
     0xed, 0x00, 0xe1, 0x31, 0x00, 0x00, 0x00, 0x00, 0xed, 0x00, 0xe1, 0x31, 0x00, 0x20, 0xc4, 0x9b,
+];
+
+// What a client gets at the same moments that asks too often, and one that is denied.
+const RATE: [u8; 48] = [
+    0xe4, 0x00, 0x06, 0xec, 0x00, 0x00, 0x00, 0x00, 0x00, 0x10, 0x00, 0x00, 0x52, 0x41, 0x54, 0x45,
+    0x00, 0x00, 0x00, 0x00, 0x00, 0x00, 0x00, 0x00, 0x11, 0x22, 0x33, 0x44, 0x55, 0x66, 0x77, 0x88,
+    0xed, 0x00, 0xe1, 0x31, 0x00, 0x00, 0x00, 0x00, 0xed, 0x00, 0xe1, 0x31, 0x00, 0x20, 0xc4, 0x9b,
+];
+
+const DENY: [u8; 48] = [
+    0xe4, 0x00, 0x06, 0xec, 0x00, 0x00, 0x00, 0x00, 0x00, 0x10, 0x00, 0x00, 0x44, 0x45, 0x4e, 0x59,
+    0x00, 0x00, 0x00, 0x00, 0x00, 0x00, 0x00, 0x00, 0x11, 0x22, 0x33, 0x44, 0x55, 0x66, 0x77, 0x88,
+    0xed, 0x00, 0xe1, 0x31, 0x00, 0x00, 0x00, 0x00, 0xed, 0x00, 0xe1, 0x31, 0x00, 0x20, 0xc4, 0x9b,
+];
+
+// MD5 of `longwave` and each of the two.
+const RATE_BY_LONGWAVE: [u8; 16] = [
+    0x61, 0x13, 0x3a, 0x05, 0xee, 0x00, 0x53, 0xd4, 0x06, 0xb9, 0x66, 0x50, 0xab, 0x6d, 0x97, 0x5f,
+];
+
+const DENY_BY_LONGWAVE: [u8; 16] = [
+    0xf3, 0xa5, 0xcf, 0xeb, 0x3d, 0x1b, 0x1f, 0xba, 0xd8, 0x9a, 0x7e, 0x73, 0x48, 0x64, 0xb0, 0x44,
 ];
 
 // MD5 of `longwave` and the answer, and of `shortwave` and it.
@@ -86,14 +108,33 @@ fn of_a_radio() -> Result<Page, Fail> {
     })
 }
 
-// Whether the reply to a datagram has these bytes.
-fn is_replied(datagram: &[u8], want: &[u8]) -> Result<bool, Fail> {
+// The reply that a client gets by its code for a datagram half a millisecond behind it.
+fn reply_by(
+    code: Code,
+    datagram: &[u8],
+    arrived: u32,
+    sent: u32,
+) -> Result<Result<Reply, Dropped>, Fail>
+    requires { arrived ≤ sent }
+{
     let page = of_a_radio()?;
-    let (arrived, sent) = (moment(303_000_000)?, moment(303_000_500)?);
-    match reply_to(&ring_of_two(), &page, datagram, arrived, sent) {
+    let (arrived, sent) = (moment(u64::from(arrived))?, moment(u64::from(sent))?);
+    Ok(match Request::read(datagram) {
+        Ok(request) => Ok(request.reply(&ring_of_two(), code, &page, arrived, sent)),
+        Err(why) => Err(why),
+    })
+}
+
+// Whether it has these bytes.
+fn is_replied_by(code: Code, datagram: &[u8], want: &[u8]) -> Result<bool, Fail> {
+    match reply_by(code, datagram, 303_000_000, 303_000_500)? {
         Ok(reply) => Ok(reply.bytes() == want),
         Err(_) => Ok(false),
     }
+}
+
+fn is_replied(datagram: &[u8], want: &[u8]) -> Result<bool, Fail> {
+    is_replied_by(Code::Pass, datagram, want)
 }
 
 #[test]
@@ -123,10 +164,25 @@ fn a_request_that_is_not_authentic(rt: HostRuntime) -> Result<(), Fail> {
     Ok(())
 }
 
+#[test]
+fn a_kiss_is_sealed_as_its_request_is(rt: HostRuntime) -> Result<(), Fail> {
+    let asked = packet(REQUEST, 1, BY_LONGWAVE);
+    for (code, kiss, digest) in [
+        (Code::Rate, RATE, RATE_BY_LONGWAVE),
+        (Code::Deny, DENY, DENY_BY_LONGWAVE),
+    ] {
+        assert!(rt; is_replied_by(code, &REQUEST, &kiss)?, "{code:?}");
+        assert!(rt;
+            is_replied_by(code, &asked, &packet(kiss, 1, digest))?,
+            "{code:?}"
+        );
+    }
+    Ok(())
+}
+
 // MD5 of `longwave` and the request with the first byte 2b, of version 5, and 24, of a server.
 #[test]
 fn what_is_no_request_is_dropped_sealed_or_not(rt: HostRuntime) -> Result<(), Fail> {
-    let page = of_a_radio()?;
     for (first, digest, why) in [
         (
             0x2b,
@@ -148,16 +204,13 @@ fn what_is_no_request_is_dropped_sealed_or_not(rt: HostRuntime) -> Result<(), Fa
         let mut datagram = packet(REQUEST, 1, digest);
         datagram[0] = first;
         assert_eq!(rt; ring_of_two().authentic(&datagram), Some(1));
-        let reply = reply_to(&ring_of_two(), &page, &datagram, moment(0)?, moment(0)?);
-        assert_eq!(rt; reply.err(), Some(why));
+        for code in [Code::Pass, Code::Rate, Code::Deny] {
+            assert_eq!(rt; reply_by(code, &datagram, 0, 0)?, Err(why), "{code:?}");
+        }
     }
-    let short = reply_to(
-        &ring_of_two(),
-        &page,
-        &REQUEST[..47],
-        moment(0)?,
-        moment(0)?,
+    assert_eq!(rt;
+        reply_by(Code::Deny, &REQUEST[..47], 0, 0)?,
+        Err(Dropped::Short)
     );
-    assert_eq!(rt; short.err(), Some(Dropped::Short));
     Ok(())
 }

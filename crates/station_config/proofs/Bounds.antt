@@ -8,7 +8,7 @@ use Rattle.tick_units.specs.declared.marks.Plan.{Plan}
 use Rattle.tick_units.specs.declared.marks.Plan.TheVariants.{Dcf, Msf, Wwvb}
 use Rattle.packet_auth.specs.Keys.{AreApart}
 use Rattle.station_config.specs.Faults.{counts_of}
-use Rattle.station_config.specs.Rows.{bound_row, radio_row, start_row, delay_row, whole_in}
+use Rattle.station_config.specs.Rows.{bound_row, clients_row, gap_row, radio_row, start_row, delay_row, whole_in}
 use Rattle.station_config.specs.Station.{IsStation, RadioFields, StationFields, plan_count}
 use Rattle.station_config.specs.Values.{radio_of, read_or, station_of, tables_at}
 use Rattle.toml.specs.Data.{get_member}
@@ -58,6 +58,7 @@ pub record IsWithin (s : StationFields) : Type 0 where
   pub wwvb : plan_count Wwvb s.radios ≤ 4
   pub ports : length s.links ≤ 8
   pub keys : length s.keys ≤ 8
+  pub nets : length s.deny ≤ 16
 
 at_most : (most n : ℕ) → nat_lt most n ≡ false → n ≤ most
 at_most most n e = grind (arith, nat_tests)
@@ -70,7 +71,8 @@ within s e =
     let (d, e4) = none_found _ _ _ e3 in
     let (l, e5) = none_found _ _ _ e4 in
     let (k, e6) = none_found _ _ _ e5 in
-    record { sources = at_most _ _ a; dcf = at_most _ _ b; msf = at_most _ _ c; wwvb = at_most _ _ d; ports = at_most _ _ l; keys = at_most _ _ k }
+    let (n, e7) = none_found _ _ _ e6 in
+    record { sources = at_most _ _ a; dcf = at_most _ _ b; msf = at_most _ _ c; wwvb = at_most _ _ d; ports = at_most _ _ l; keys = at_most _ _ k; nets = at_most _ _ n }
 
 each_plan : (s : StationFields) → IsWithin s → (plan : Plan) → plan_count plan s.radios ≤ 4
 each_plan s w Dcf = w.dcf
@@ -81,6 +83,8 @@ pub station_bounds : (m : Members) → IsWithin (station_of m) → AreApart (sta
 station_bounds m w apart =
     let bound = read_is 1 16000 1000 (get_member bound_row.key m) (record { low = omega arith; high = omega arith }) in
     let start = read_is 0 (2 ^ 49) 0 (get_member start_row.key m) (record { low = omega arith; high = omega arith }) in
+    let gap = read_is 0 60000000 0 (get_member gap_row.key m) (record { low = omega arith; high = omega arith }) in
+    let clients = read_is 1 65536 1024 (get_member clients_row.key m) (record { low = omega arith; high = omega arith }) in
     record {
       sources = w.sources;
       plans = each_plan (station_of m) w;
@@ -91,4 +95,8 @@ station_bounds m w apart =
       least_bound = bound.low;
       most_bound = bound.high;
       latest_start = start.high;
+      most_gap = gap.high;
+      least_clients = clients.low;
+      most_clients = clients.high;
+      nets = w.nets;
     }

@@ -3,9 +3,9 @@ use Rattle.std.proofs.Common.{◌≡◌, ◌∙◌, ℕ, Bool, true, false, List
 use Rattle.std.proofs.lemmas.Bool.{cases_Bool}
 use Rattle.std.proofs.lemmas.List.Concat.{flat_map-append}
 use Rattle.toml.specs.Data.{Members}
-use Rattle.station_config.specs.Faults.{Fault, IsDocument, IsFirst, Refuses, Sheet, bad_in, bad_in_keys, bad_range, bad_values, faults_of, item_sheets, key_sheets, keys_at, missing_in, missing_key, sheets, sheets_of, top_sheet, unknown_in, unknown_key}
+use Rattle.station_config.specs.Faults.{Fault, IsDocument, IsFirst, Refuses, Sheet, bad_in, bad_in_keys, bad_of_clients, bad_range, bad_values, client_sheets, faults_of, item_sheets, keys_at, missing_in, missing_key, sheets, sheets_of, top_sheet, unknown_in, unknown_key}
 use Rattle.station_config.specs.Finding.{IsFirstKeyFault, IsMisreadAt}
-use Rattle.station_config.specs.Rows.{Row, Text, key_row, link_row, radio_row, server_row, top_rows}
+use Rattle.station_config.specs.Rows.{Row, Text, deny_row, key_row, link_row, radio_row, server_row, top_rows}
 use Rattle.station_config.specs.Values.{tables_at}
 use Rattle.station_config.specs.declared.fault.StationFault.{StationFault}
 use Rattle.station_config.specs.declared.fault.StationFault.TheVariants as fault
@@ -32,15 +32,21 @@ abbrev pub keys_of_links : (List Row → Members → List Text) → Members → 
 keys_of_links kind m = keys_at kind (sheets part.Link (tables_at link_row m))
 
 abbrev pub keys_of_keys : (List Row → Members → List Text) → Members → List Text
-keys_of_keys kind m = keys_at kind (key_sheets m)
+keys_of_keys kind m = keys_at kind (sheets part.Key (tables_at key_row m))
+
+abbrev pub keys_of_nets : (List Row → Members → List Text) → Members → List Text
+keys_of_nets kind m = keys_at kind (sheets part.Deny (tables_at deny_row m))
 
 pub keys_of_items : (kind : List Row → Members → List Text) (m : Members) → keys_at kind (item_sheets m) ≡ keys_of_radios kind m ++ (keys_of_servers kind m ++ keys_of_links kind m)
 keys_of_items kind m =
     keys_at-two kind (sheets part.Radio (tables_at radio_row m)) (sheets part.Server (tables_at server_row m) ++ sheets part.Link (tables_at link_row m))
     ∙ ap (λ ks. keys_of_radios kind m ++ ks) (keys_at-two kind (sheets part.Server (tables_at server_row m)) (sheets part.Link (tables_at link_row m)))
 
-pub keys_of_all : (kind : List Row → Members → List Text) (m : Members) → keys_at kind (item_sheets m ++ key_sheets m) ≡ keys_at kind (item_sheets m) ++ keys_of_keys kind m
-keys_of_all kind m = keys_at-two kind (item_sheets m) (key_sheets m)
+pub keys_of_all : (kind : List Row → Members → List Text) (m : Members) → keys_at kind (item_sheets m ++ client_sheets m) ≡ keys_at kind (item_sheets m) ++ keys_at kind (client_sheets m)
+keys_of_all kind m = keys_at-two kind (item_sheets m) (client_sheets m)
+
+pub keys_of_clients : (kind : List Row → Members → List Text) (m : Members) → keys_at kind (client_sheets m) ≡ keys_of_keys kind m ++ keys_of_nets kind m
+keys_of_clients kind m = keys_at-two kind (sheets part.Key (tables_at key_row m)) (sheets part.Deny (tables_at deny_row m))
 
 -- no table has such a key
 pub record None_in (kind : List Row → Members → List Text) (m : Members) : Type 0 where
@@ -49,23 +55,26 @@ pub record None_in (kind : List Row → Members → List Text) (m : Members) : T
   pub servers : keys_of_servers kind m ≡ []
   pub links : keys_of_links kind m ≡ []
   pub keys : keys_of_keys kind m ≡ []
+  pub nets : keys_of_nets kind m ≡ []
 
 pub none_in : (kind : List Row → Members → List Text) (m : Members) → keys_at kind (sheets_of m) ≡ [] → None_in kind m
 none_in kind m h =
-    let all = sym (keys_of_all kind m) ∙ empty_back (map (λ k. k) (kind top_rows m)) (keys_at kind (item_sheets m ++ key_sheets m)) h in
-    let items = sym (keys_of_items kind m) ∙ empty_front (keys_at kind (item_sheets m)) (keys_of_keys kind m) all in
+    let all = sym (keys_of_all kind m) ∙ empty_back (map (λ k. k) (kind top_rows m)) (keys_at kind (item_sheets m ++ client_sheets m)) h in
+    let items = sym (keys_of_items kind m) ∙ empty_front (keys_at kind (item_sheets m)) (keys_at kind (client_sheets m)) all in
+    let clients = sym (keys_of_clients kind m) ∙ empty_back (keys_at kind (item_sheets m)) (keys_at kind (client_sheets m)) all in
     let later = empty_back (keys_of_radios kind m) (keys_of_servers kind m ++ keys_of_links kind m) items in
     record {
-      top = empty_map (λ k. k) (kind top_rows m) (keys_at kind (item_sheets m ++ key_sheets m)) h;
+      top = empty_map (λ k. k) (kind top_rows m) (keys_at kind (item_sheets m ++ client_sheets m)) h;
       radios = empty_front (keys_of_radios kind m) (keys_of_servers kind m ++ keys_of_links kind m) items;
       servers = empty_front (keys_of_servers kind m) (keys_of_links kind m) later;
       links = empty_back (keys_of_servers kind m) (keys_of_links kind m) later;
-      keys = empty_back (keys_at kind (item_sheets m)) (keys_of_keys kind m) all;
+      keys = empty_front (keys_of_keys kind m) (keys_of_nets kind m) clients;
+      nets = empty_back (keys_of_keys kind m) (keys_of_nets kind m) clients;
     }
 
 -- the first bad value of the arrays, where the parts before have none
 in_items : (m : Members) (o : KeyFault) → bad_in top_rows m ≡ [] → IsMisreadAt (keys_of_radios bad_in m ++ (keys_of_servers bad_in m ++ keys_of_links bad_in m)) o → IsMisreadAt (bad_values m) o
-in_items m o top h = misread_more (keys_at bad_in (top_sheet m ∷ item_sheets m)) (bad_in_keys [] (tables_at key_row m)) o (subst (λ ks. IsMisreadAt ks o) (sym (keys_of_items bad_in m) ∙ sym (ap (λ ks. map (λ k. k) ks ++ keys_at bad_in (item_sheets m)) top)) h)
+in_items m o top h = misread_more (keys_at bad_in (top_sheet m ∷ item_sheets m)) (bad_of_clients m) o (subst (λ ks. IsMisreadAt ks o) (sym (keys_of_items bad_in m) ∙ sym (ap (λ ks. map (λ k. k) ks ++ keys_at bad_in (item_sheets m)) top)) h)
 
 pub bad_radio : (m : Members) (o : KeyFault) → bad_in top_rows m ≡ [] → IsMisreadAt (keys_of_radios bad_in m) o → IsMisreadAt (bad_values m) o
 bad_radio m o top h = in_items m o top (misread_more (keys_of_radios bad_in m) (keys_of_servers bad_in m ++ keys_of_links bad_in m) o h)
@@ -80,7 +89,7 @@ bad_link m o top radios servers h =
     in_items m o top (subst (λ ks. IsMisreadAt (ks ++ (keys_of_servers bad_in m ++ keys_of_links bad_in m)) o) (sym radios)
     (subst (λ ks. IsMisreadAt (ks ++ keys_of_links bad_in m) o) (sym servers) h))
 
--- none of the values before the keys is bad
+-- none of the values before those of clients is bad
 none_before : (m : Members) → bad_in top_rows m ≡ [] → keys_of_radios bad_in m ≡ [] → keys_of_servers bad_in m ≡ [] → keys_of_links bad_in m ≡ [] → keys_at bad_in (top_sheet m ∷ item_sheets m) ≡ []
 none_before m top radios servers links =
     ap (λ ks. map (λ k. k) ks ++ keys_at bad_in (item_sheets m)) top ∙ keys_of_items bad_in m
@@ -88,10 +97,17 @@ none_before m top radios servers links =
     ∙ ap (λ ks. ks ++ keys_of_links bad_in m) servers ∙ links
 
 pub bad_key : (m : Members) (o : KeyFault) → bad_in top_rows m ≡ [] → keys_of_radios bad_in m ≡ [] → keys_of_servers bad_in m ≡ [] → keys_of_links bad_in m ≡ [] → IsMisreadAt (bad_in_keys [] (tables_at key_row m)) o → IsMisreadAt (bad_values m) o
-bad_key m o top radios servers links h = subst (λ ks. IsMisreadAt (ks ++ bad_in_keys [] (tables_at key_row m)) o) (sym (none_before m top radios servers links)) h
+bad_key m o top radios servers links h =
+    subst (λ ks. IsMisreadAt (ks ++ bad_of_clients m) o) (sym (none_before m top radios servers links)) (misread_more (bad_in_keys [] (tables_at key_row m)) (keys_of_nets bad_in m) o h)
 
-pub no_bad : (m : Members) → bad_in top_rows m ≡ [] → keys_of_radios bad_in m ≡ [] → keys_of_servers bad_in m ≡ [] → keys_of_links bad_in m ≡ [] → bad_in_keys [] (tables_at key_row m) ≡ [] → bad_values m ≡ []
-no_bad m top radios servers links keys = ap (λ ks. ks ++ bad_in_keys [] (tables_at key_row m)) (none_before m top radios servers links) ∙ keys
+pub bad_net : (m : Members) (o : KeyFault) → bad_in top_rows m ≡ [] → keys_of_radios bad_in m ≡ [] → keys_of_servers bad_in m ≡ [] → keys_of_links bad_in m ≡ [] → bad_in_keys [] (tables_at key_row m) ≡ []
+    → IsMisreadAt (keys_of_nets bad_in m) o → IsMisreadAt (bad_values m) o
+bad_net m o top radios servers links keys h =
+    subst (λ ks. IsMisreadAt (ks ++ bad_of_clients m) o) (sym (none_before m top radios servers links)) (subst (λ ks. IsMisreadAt (ks ++ keys_of_nets bad_in m) o) (sym keys) h)
+
+pub no_bad : (m : Members) → bad_in top_rows m ≡ [] → keys_of_radios bad_in m ≡ [] → keys_of_servers bad_in m ≡ [] → keys_of_links bad_in m ≡ [] → bad_in_keys [] (tables_at key_row m) ≡ [] → keys_of_nets bad_in m ≡ [] → bad_values m ≡ []
+no_bad m top radios servers links keys nets =
+    ap (λ ks. ks ++ bad_of_clients m) (none_before m top radios servers links) ∙ ap (λ ks. ks ++ keys_of_nets bad_in m) keys ∙ nets
 
 -- ---- the faults of a document
 

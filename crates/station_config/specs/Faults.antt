@@ -5,13 +5,13 @@ use Rattle.std.specs.Str.{bytes_eq}
 use Rattle.tick_units.specs.declared.marks.Plan.TheVariants.{Dcf, Msf, Wwvb}
 use Rattle.toml.specs.Data.{Data, Members, get_member, member, no_members}
 use Rattle.toml.specs.Parse.{parse_document}
-use Rattle.station_config.specs.Rows.{Text, Form, Need, required, preset, optional, Row, has_form, top_rows, radio_rows, server_rows, link_rows, key_rows, link_row, radio_row, server_row, key_row, id_row, secret_row}
+use Rattle.station_config.specs.Rows.{Text, Form, Need, required, preset, optional, Row, has_form, top_rows, radio_rows, server_rows, link_rows, key_rows, deny_rows, link_row, radio_row, server_row, key_row, deny_row, id_row, secret_row}
 use Rattle.station_config.specs.Station.{StationFields, plan_count}
 use Rattle.station_config.specs.Values.{number_at, station_of, tables_at}
 use Rattle.station_config.specs.declared.fault.StationFault.{StationFault}
 use Rattle.station_config.specs.declared.fault.StationFault.TheVariants as fault
 use Rattle.station_config.specs.declared.keys.Part.{Part}
-use Rattle.station_config.specs.declared.keys.Part.TheVariants.{Top, Radio, Server, Link, Key}
+use Rattle.station_config.specs.declared.keys.Part.TheVariants.{Top, Radio, Server, Link, Key, Deny}
 
 -- a fault: its kind and its key
 pub data Fault : Type 0 where
@@ -28,6 +28,7 @@ rows_of Radio = radio_rows
 rows_of Server = server_rows
 rows_of Link = link_rows
 rows_of Key = key_rows
+rows_of Deny = deny_rows
 
 -- a key of a table as a fault names it, as in `radio.0.plan`
 abbrev pub key_in : Part → ℕ → Text → Text
@@ -36,6 +37,7 @@ key_in Radio place key = codes "radio." ++ (decimal place ++ (codes "." ++ key))
 key_in Server place key = codes "server." ++ (decimal place ++ (codes "." ++ key))
 key_in Link place key = codes "link." ++ (decimal place ++ (codes "." ++ key))
 key_in Key place key = codes "key." ++ (decimal place ++ (codes "." ++ key))
+key_in Deny place key = codes "deny." ++ (decimal place ++ (codes "." ++ key))
 
 -- a table: which part of the file it is, its place in its array, and its members
 pub record Sheet : Type 0 where
@@ -49,15 +51,16 @@ sheets part tables = map (λ t. record { part = part; place = t.0; members = t.1
 abbrev pub item_sheets : Members → List Sheet
 item_sheets top = sheets Radio (tables_at radio_row top) ++ (sheets Server (tables_at server_row top) ++ sheets Link (tables_at link_row top))
 
-abbrev pub key_sheets : Members → List Sheet
-key_sheets top = sheets Key (tables_at key_row top)
+-- the tables that speak of clients
+abbrev pub client_sheets : Members → List Sheet
+client_sheets top = sheets Key (tables_at key_row top) ++ sheets Deny (tables_at deny_row top)
 
--- the top table comes first, and then the radios, the servers, the links and the keys, each by place
+-- the top table comes first, and then the radios, the servers, the links, the keys and the denied nets, each by place
 abbrev pub top_sheet : Members → Sheet
 top_sheet top = record { part = Top; place = 0; members = top }
 
 abbrev pub sheets_of : Members → List Sheet
-sheets_of top = top_sheet top ∷ (item_sheets top ++ key_sheets top)
+sheets_of top = top_sheet top ∷ (item_sheets top ++ client_sheets top)
 
 -- ---- the keys at fault in one table, by their bytes
 
@@ -115,9 +118,12 @@ abbrev pub bad_in_keys : List ℕ → List (ℕ × Members) → List Text
 bad_in_keys taken [] = []
 bad_in_keys taken (t ∷ ts) = map (key_in Key t.0) (bad_in_key taken t.1) ++ bad_in_keys (taken ++ number_at id_row t.1 ∷ []) ts
 
--- the keys come last
+-- the keys come behind the links, and the denied nets last
+abbrev pub bad_of_clients : Members → List Text
+bad_of_clients top = bad_in_keys [] (tables_at key_row top) ++ keys_at bad_in (sheets Deny (tables_at deny_row top))
+
 abbrev pub bad_values : Members → List Text
-bad_values top = keys_at bad_in (top_sheet top ∷ item_sheets top) ++ bad_in_keys [] (tables_at key_row top)
+bad_values top = keys_at bad_in (top_sheet top ∷ item_sheets top) ++ bad_of_clients top
 
 -- ---- too many
 
@@ -126,7 +132,7 @@ pub record Count : Type 0 where
   pub count : ℕ
   pub most : ℕ
 
--- the radios and servers together, the radios of each plan, the links, and the keys
+-- the radios and servers together, the radios of each plan, the links, the keys, and the denied nets
 abbrev pub counts_of : StationFields → List Count
 counts_of station =
     record { key = codes "radio"; count = length station.radios + length station.servers; most = 16 }
@@ -134,7 +140,8 @@ counts_of station =
     ∷ record { key = codes "radio"; count = plan_count Msf station.radios; most = 4 }
     ∷ record { key = codes "radio"; count = plan_count Wwvb station.radios; most = 4 }
     ∷ record { key = codes "link"; count = length station.links; most = 8 }
-    ∷ record { key = codes "key"; count = length station.keys; most = 8 } ∷ []
+    ∷ record { key = codes "key"; count = length station.keys; most = 8 }
+    ∷ record { key = codes "deny"; count = length station.deny; most = 16 } ∷ []
 
 abbrev pub excess_of : StationFields → List Fault
 excess_of station = map (λ c. too_many c.key c.count) (filter (λ c. nat_lt c.most c.count) (counts_of station))

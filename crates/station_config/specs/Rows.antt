@@ -6,6 +6,7 @@ use Rattle.decimal_text.specs.Numbers.{at_most}
 use Rattle.tick_units.specs.Log.{number_of}
 use Rattle.tick_units.specs.Plans.{plan_of}
 use Rattle.tick_units.specs.declared.marks.Plan.{Plan}
+use Rattle.kiss_gate.specs.declared.nets.Net.{Net}
 use Rattle.toml.specs.Data.{Data, Items, Members, array, integer, item, no_items, string, table}
 use Rattle.toml.specs.Text.{are_tables}
 
@@ -64,6 +65,29 @@ abbrev pub address_in : Data → Option ℕ
 address_in (string s) = address_of s
 address_in _ = None
 
+-- the part of a text before its first slash, and the part behind it
+abbrev pub before_slash : Text → Text
+before_slash text = before_first (λ byte. byte == 47) text
+
+abbrev pub after_slash : Text → Text
+after_slash text = after_first (λ byte. byte == 47) text
+
+-- the length of a prefix: a number from 0 to 32 in decimal, without leading zeros
+abbrev pub prefix_of : Text → Option ℕ
+prefix_of text = at_most 32 (number_of text)
+
+-- a net as CIDR writes it (RFC 4632): an address and the length of its prefix, parted by a slash; bits behind the prefix may be set
+abbrev pub net_by : Option ℕ → Option ℕ → Option Net
+net_by (Some address) (Some bits) = Some (record { address = address; bits = bits })
+net_by _ _ = None
+
+abbrev pub cidr_of : Text → Option Net
+cidr_of text = net_by (address_of (before_slash text)) (prefix_of (after_slash text))
+
+abbrev pub net_in : Data → Option Net
+net_in (string s) = cidr_of s
+net_in _ = None
+
 -- the tables of an array, each with its place
 abbrev pub table_at : ℕ → Data → List (ℕ × Members)
 table_at place (table members) = (place, members) ∷ []
@@ -87,6 +111,7 @@ pub data Form : Type 0 where
   secret : Form
   plan : Form
   address : Form
+  net : Form
   tables : Form
 
 -- what stands for a key that isn't there: nothing may, or a number, or no tables
@@ -103,6 +128,15 @@ pub record Row : Type 0 where
 -- the top table
 abbrev pub bound_row : Row
 bound_row = record { key = codes "bound"; form = whole 1 16000; need = preset 1000 }
+
+abbrev pub clients_row : Row
+clients_row = record { key = codes "clients"; form = whole 1 65536; need = preset 1024 }
+
+abbrev pub deny_row : Row
+deny_row = record { key = codes "deny"; form = tables; need = optional }
+
+abbrev pub gap_row : Row
+gap_row = record { key = codes "gap"; form = whole 0 60000000; need = preset 0 }
 
 abbrev pub key_row : Row
 key_row = record { key = codes "key"; form = tables; need = optional }
@@ -147,9 +181,13 @@ id_row = record { key = codes "id"; form = whole 1 (2 ^ 32 - 1); need = required
 abbrev pub secret_row : Row
 secret_row = record { key = codes "secret"; form = secret; need = required }
 
+-- a denied net
+abbrev pub net_row : Row
+net_row = record { key = codes "net"; form = net; need = required }
+
 -- the rows of each table, by the bytes of their keys
 abbrev pub top_rows : List Row
-top_rows = bound_row ∷ key_row ∷ link_row ∷ radio_row ∷ server_row ∷ start_row ∷ []
+top_rows = bound_row ∷ clients_row ∷ deny_row ∷ gap_row ∷ key_row ∷ link_row ∷ radio_row ∷ server_row ∷ start_row ∷ []
 
 abbrev pub radio_rows : List Row
 radio_rows = delay_row ∷ log_row ∷ plan_row ∷ []
@@ -163,10 +201,14 @@ link_rows = port_row ∷ []
 abbrev pub key_rows : List Row
 key_rows = id_row ∷ secret_row ∷ []
 
+abbrev pub deny_rows : List Row
+deny_rows = net_row ∷ []
+
 abbrev pub has_form : Form → Data → Bool
 has_form (whole least most) d = is_some (whole_in least most d)
 has_form text d = is_some (text_in d)
 has_form secret d = is_some (secret_in d)
 has_form plan d = is_some (plan_in d)
 has_form address d = is_some (address_in d)
+has_form net d = is_some (net_in d)
 has_form tables d = is_some (tables_in d)

@@ -1,7 +1,10 @@
--- What a station is: its radios, its servers, the links that it serves on, and the keys that it shares with its clients. All of it is this project's own.
+-- What a station is: its radios, its servers, the links that it serves on, the keys that it shares with its clients, and whom it denies. All of it is this
+-- project's own.
 use Rattle.std.specs.Prelude.{ℕ, [], ◌∷◌, ◌≤◌, ◌+◌, ◌^◌, Bool, List, All, ◌++◌, length, map, count_by, true, false}
 use Rattle.feed_link.specs.declared.outside.Address.{Address}
 use Rattle.packet_auth.specs.Keys.{AreApart, KeyFields}
+use Rattle.kiss_gate.specs.Gates.{Gate}
+use Rattle.kiss_gate.specs.declared.nets.Net.{Net}
 use Rattle.system_fold.specs.Settings.{SettingsFields, bound_of}
 use Rattle.system_fold.specs.declared.settings.SourceKind.{SourceKind}
 use Rattle.system_fold.specs.declared.settings.SourceKind.TheVariants.{Radio, Server}
@@ -21,14 +24,15 @@ pub record ServerFields : Type 0 where
   pub address : Address
   pub polls : ℕ
 
--- a station: the numbers of its top table, which are the bound of its pages in milliseconds and its first moment in microseconds, its radios and servers,
--- the ports that it serves on, and its keys
+-- a station: the numbers of its top table, which are the bound of its pages in milliseconds, its first moment and the least gap between the requests of a
+-- client in microseconds, and how many clients a link remembers; its radios and servers, the ports that it serves on, its keys, and the nets that it denies
 pub record StationFields : Type 0 where
   pub top : TopNumbers
   pub radios : List RadioFields
   pub servers : List ServerFields
   pub links : List ℕ
   pub keys : List KeyFields
+  pub deny : List Net
 
 abbrev pub is_same_plan : Plan → Plan → Bool
 is_same_plan Dcf Dcf = true
@@ -51,6 +55,10 @@ pub record IsStation (station : StationFields) : Type 0 where
   pub least_bound : 1 ≤ station.top.bound
   pub most_bound : station.top.bound ≤ 16000
   pub latest_start : station.top.start ≤ 2 ^ 49
+  pub most_gap : station.top.gap ≤ 60000000
+  pub least_clients : 1 ≤ station.top.clients
+  pub most_clients : station.top.clients ≤ 65536
+  pub nets : length station.deny ≤ 16
 
 abbrev pub kind_of_radio : RadioFields → SourceKind
 kind_of_radio r = Radio r.plan
@@ -62,6 +70,10 @@ kind_of_server s = Server s.address
 abbrev pub settings_of : StationFields → SettingsFields
 settings_of station = record { bound = bound_of station.top.bound; sources = map kind_of_radio station.radios ++ map kind_of_server station.servers }
 
+-- the gate that a link of the station begins with
+abbrev pub gate_of : StationFields → Gate
+gate_of station = record { denied = station.deny; gap = station.top.gap; clients = station.top.clients; table = [] }
+
 -- a radio without delay, whose log is named by its plan
 abbrev pub plain_radio : Plan → RadioFields
 plain_radio plan = record { plan = plan; log = word_of plan; delay = 0 }
@@ -69,9 +81,10 @@ plain_radio plan = record { plan = plan; log = word_of plan; delay = 0 }
 -- a station of a radio of each plan and of nothing else, with the numbers that a file has by default
 abbrev pub one_of_each : StationFields
 one_of_each = record {
-  top = record { bound = 1000; start = 0 };
+  top = record { bound = 1000; start = 0; gap = 0; clients = 1024 };
   radios = plain_radio Dcf ∷ plain_radio Msf ∷ plain_radio Wwvb ∷ [];
   servers = [];
   links = [];
   keys = [];
+  deny = [];
 }

@@ -2,8 +2,9 @@
 use Rattle.std.specs.Prelude.{ℕ, List, [], map, Option, None, Some, unwrap_or}
 use Rattle.tick_units.specs.declared.marks.Plan.TheVariants.{Dcf}
 use Rattle.toml.specs.Data.{Data, Members, get_member}
-use Rattle.station_config.specs.Rows.{Form, whole, Need, preset, Row, whole_in, text_in, secret_in, plan_in, address_in, tables_in, bound_row, key_row, link_row, radio_row, server_row, start_row, delay_row, log_row, plan_row, address_row, polls_row, port_row, id_row, secret_row}
+use Rattle.station_config.specs.Rows.{Form, whole, Need, preset, Row, whole_in, text_in, secret_in, plan_in, address_in, net_in, tables_in, bound_row, clients_row, deny_row, gap_row, key_row, link_row, radio_row, server_row, start_row, delay_row, log_row, plan_row, address_row, polls_row, port_row, id_row, secret_row, net_row}
 use Rattle.packet_auth.specs.Keys.{KeyFields}
+use Rattle.kiss_gate.specs.declared.nets.Net.{Net}
 use Rattle.station_config.specs.Station.{RadioFields, ServerFields, StationFields}
 use Rattle.station_config.specs.declared.station.TopNumbers.{TopNumbers}
 
@@ -47,10 +48,18 @@ key_of members = record {
   secret = read_or [] secret_in (get_member secret_row.key members);
 }
 
+abbrev pub all_addresses : Net
+all_addresses = record { address = 0; bits = 0 }
+
+abbrev pub net_of : Members → Net
+net_of members = read_or all_addresses net_in (get_member net_row.key members)
+
 abbrev pub top_of : Members → TopNumbers
 top_of members = record {
   bound = number_at bound_row members;
   start = number_at start_row members;
+  gap = number_at gap_row members;
+  clients = number_at clients_row members;
 }
 
 abbrev pub station_of : Members → StationFields
@@ -60,4 +69,5 @@ station_of members = record {
   servers = map (λ t. server_of t.1) (tables_at server_row members);
   links = map (λ t. number_at port_row t.1) (tables_at link_row members);
   keys = map (λ t. key_of t.1) (tables_at key_row members);
+  deny = map (λ t. net_of t.1) (tables_at deny_row members);
 }

@@ -75,5 +75,10 @@ pub fn excess(parts: &Parts) -> Option<Count>
             count: parts.keys.len() as u64,
             most: 8,
         },
+        Count {
+            key: "deny",
+            count: parts.deny.len() as u64,
+            most: 16,
+        },
     ])
 }

@@ -3,14 +3,14 @@ ghost use Rattle.std.specs.Prelude.{◌≡◌, ◌≤◌, ◌^◌, [], Some, IfO
 ghost use Rattle.packet_auth.specs.Keys.{AreApart};
 ghost use Rattle.toml.specs.Data.{get_member};
 ghost use Rattle.toml.specs.View.{items_view, table_view};
-ghost use Rattle.station_config.specs.Rows.{tables_from, top_rows, key_row, link_row, radio_row, server_row, start_row, whole_in};
+ghost use Rattle.station_config.specs.Rows.{tables_from, top_rows, deny_row, key_row, link_row, radio_row, server_row, start_row, whole_in};
 ghost use Rattle.station_config.specs.Values.{station_of, tables_at, top_of};
 ghost use Rattle.station_config.specs.Faults.{bad_in, bad_values, faults_of, keys_at, missing_in, sheets_of};
 ghost use Rattle.station_config.specs.Finding.{IsFirstKeyFault, IsMisreadAt, IsRead};
 ghost use Rattle.station_config.specs.KeptStation.{parts_fields};
 
 use crate::counts::excess;
-use crate::items::{KeyFault, read_keys, read_links, read_radios, read_servers};
+use crate::items::{KeyFault, read_keys, read_links, read_nets, read_radios, read_servers};
 use crate::keys::{Check, Part, Spot, first_at, tables};
 use crate::rows::number;
 use crate::station::{Parts, Station, TopNumbers};
@@ -26,6 +26,7 @@ pub struct Top<'a> {
     pub servers: &'a [Value],
     pub links: &'a [Value],
     pub keys: &'a [Value],
+    pub deny: &'a [Value],
 }
 
 // The first moment of the links.
@@ -42,10 +43,14 @@ fn read_top<'a>(table: &'a Table) -> Result<Top<'a>, &'static str>
     ensures servers { IfOk result (λ t. tables_from 0 (items_view t.servers.now) ≡ tables_at server_row (table_view table.now)) }
     ensures links { IfOk result (λ t. tables_from 0 (items_view t.links.now) ≡ tables_at link_row (table_view table.now)) }
     ensures keys { IfOk result (λ t. tables_from 0 (items_view t.keys.now) ≡ tables_at key_row (table_view table.now)) }
+    ensures deny { IfOk result (λ t. tables_from 0 (items_view t.deny.now) ≡ tables_at deny_row (table_view table.now)) }
     ensures good { IfOk result (λ _. bad_in top_rows (table_view table.now) ≡ []) }
     ensures bad { IfErr result (λ k. slice_get (bad_in top_rows (table_view table.now)) 0 ≡ Some k.now) }
 {
     let bound = number(table, "bound", 1, 16_000, 1000).ok_or("bound")?;
+    let clients = number(table, "clients", 1, 65_536, 1024).ok_or("clients")?;
+    let deny = tables(table, "deny").ok_or("deny")?;
+    let gap = number(table, "gap", 0, 60_000_000, 0).ok_or("gap")?;
     let keys = tables(table, "key").ok_or("key")?;
     let links = tables(table, "link").ok_or("link")?;
     let radios = tables(table, "radio").ok_or("radio")?;
@@ -55,11 +60,14 @@ fn read_top<'a>(table: &'a Table) -> Result<Top<'a>, &'static str>
         numbers: TopNumbers {
             bound: bound as u32,
             start,
+            gap,
+            clients: clients as u32,
         },
         radios,
         servers,
         links,
         keys,
+        deny,
     })
 }
 
@@ -85,12 +93,14 @@ fn read_parts(alloc: Global, table: &Table) -> Result<Parts, KeyFault<'static>>
     let servers = read_servers(alloc, top.servers)?;
     let links = read_links(alloc, top.links)?;
     let keys = read_keys(alloc, top.keys)?;
+    let deny = read_nets(alloc, top.deny)?;
     Ok(Parts {
         top: top.numbers,
         radios,
         servers,
         links,
         keys,
+        deny,
     })
 }
 

@@ -49,8 +49,8 @@ pub enum StationFault {
     /// A value isn't of the type and range of its key.
     #[error("value out of range")]
     Range { key: KeyText },
-    /// There are more radios and servers than 16, more radios of a plan than 4, more links than 8, or more keys
-    /// than 8.
+    /// There are more radios and servers than 16, more radios of a plan than 4, more links than 8, more keys than 8, or more
+    /// denied nets than 16.
     #[error("too many: {count}")]
     TooMany { key: KeyText, count: u64 },
     /// Memory ran out.

@@ -2,13 +2,14 @@
 ghost use Rattle.std.specs.Prelude.{◌≡◌, ◌∷◌, ◌++◌, List, [], IfOk, IfErr, map};
 ghost use Rattle.toml.specs.View.{view, items_view};
 ghost use Rattle.station_config.specs.Rows.{Text, table_at, tables_from, port_row};
-ghost use Rattle.station_config.specs.Values.{number_at, radio_of, server_of};
+ghost use Rattle.station_config.specs.Values.{net_of, number_at, radio_of, server_of};
 ghost use Rattle.station_config.specs.Faults.{bad_in, bad_in_keys, key_in, keys_at, missing_in, sheets};
 ghost use Rattle.station_config.specs.Finding.{Adds, AddsKeys, IsMisread, IsMisreadAt, ids_of};
-ghost use Rattle.station_config.specs.KeptStation.{key_kept, radio_kept, server_fields};
+ghost use Rattle.station_config.specs.KeptStation.{key_kept, net_kept, radio_kept, server_fields};
 
+use crate::denied_net::DeniedNet;
 use crate::keys::{Part, Spot};
-use crate::rows::{Misread, key, link, radio, server};
+use crate::rows::{Misread, key, link, net, radio, server};
 use crate::shared_key::SharedKey;
 use crate::station::{Radio, ServerRow};
 use std::alloc::Global;
@@ -124,6 +125,23 @@ fn add_key(
     }
 }
 
+fn add_net(nets: &mut Vec<DeniedNet>, place: usize, item: &Value) -> Result<(), KeyFault<'static>>
+    requires { keys_at missing_in (sheets Part.Deny (table_at place (view item.now))) ≡ [] }
+    ensures added { IfOk result (λ _. Adds Part.Deny net_of (table_at place (view item.now)) (map net_kept nets.old.items) (map net_kept nets.new.items)) }
+    ensures bad { IfErr result (IsMisreadAt (keys_at bad_in (sheets Part.Deny (table_at place (view item.now))))) }
+{
+    let Some(table) = item.as_table() else {
+        return Ok(());
+    };
+    match net(table) {
+        Ok(net) => match nets.push(net) {
+            Ok(()) => Ok(()),
+            Err(_) => Err(KeyFault::Memory),
+        },
+        Err(fault) => Err(placed(Part::Deny, place, fault)),
+    }
+}
+
 pub fn read_radios(alloc: Global, items: &[Value]) -> Result<Vec<Radio>, KeyFault<'static>>
     requires { keys_at missing_in (sheets Part.Radio (tables_from 0 (items_view items.now))) ≡ [] }
     ensures read { IfOk result (λ v. Adds Part.Radio radio_of (tables_from 0 (items_view items.now)) [] (map radio_kept v.items)) }
@@ -170,4 +188,16 @@ pub fn read_keys(alloc: Global, items: &[Value]) -> Result<Vec<SharedKey>, KeyFa
         add_key(alloc, &mut keys, place, item)?;
     }
     Ok(keys)
+}
+
+pub fn read_nets(alloc: Global, items: &[Value]) -> Result<Vec<DeniedNet>, KeyFault<'static>>
+    requires { keys_at missing_in (sheets Part.Deny (tables_from 0 (items_view items.now))) ≡ [] }
+    ensures read { IfOk result (λ v. Adds Part.Deny net_of (tables_from 0 (items_view items.now)) [] (map net_kept v.items)) }
+    ensures bad { IfErr result (IsMisreadAt (keys_at bad_in (sheets Part.Deny (tables_from 0 (items_view items.now))))) }
+{
+    let mut nets = Vec::new(alloc);
+    for (place, item) in items.iter().enumerate() {
+        add_net(&mut nets, place, item)?;
+    }
+    Ok(nets)
 }

@@ -7,13 +7,13 @@ ghost use Rattle.toml.specs.View.{view, array_view, items_view, table_view};
 ghost use Rattle.toml.specs.Text.{are_tables as spec_are_tables};
 ghost use Rattle.station_config.specs.Rows.{tables, table_at, tables_from, tables_in};
 ghost use Rattle.station_config.specs.Values.{read_or};
-ghost use Rattle.station_config.specs.Faults.{rows_of, is_known, is_wrong, item_sheets, key_sheets, keys_at, missing_in, required_keys, sheets, sheets_of, unknown_in};
+ghost use Rattle.station_config.specs.Faults.{rows_of, client_sheets, is_known, is_wrong, item_sheets, keys_at, missing_in, required_keys, sheets, sheets_of, unknown_in};
 ghost use Rattle.station_config.specs.Finding.{keys_for, spot_text, tables_seen};
 
 use toml::value::Array;
 use toml::{Table, Value};
 
-// A part of a station file: the top table, a radio, a server, a link or a key that is shared with clients.
+// A part of a station file: the top table, a radio, a server, a link, a key that is shared with clients or a denied net.
 #[derive(Clone, Copy, Debug)]
 pub enum Part {
     Top,
@@ -21,6 +21,7 @@ pub enum Part {
     Server,
     Link,
     Key,
+    Deny,
 }
 
 // What is asked of the keys of a table before their values are read.
@@ -43,11 +44,14 @@ fn known_keys(part: Part) -> &'static [&'static str]
     ensures { map (λ w. w.now) result.now ≡ map (λ row. row.key) (rows_of part) }
 {
     match part {
-        Part::Top => &["bound", "key", "link", "radio", "server", "start"],
+        Part::Top => &[
+            "bound", "clients", "deny", "gap", "key", "link", "radio", "server", "start",
+        ],
         Part::Radio => &["delay", "log", "plan"],
         Part::Server => &["address", "polls", "port"],
         Part::Link => &["port"],
         Part::Key => &["id", "secret"],
+        Part::Deny => &["net"],
     }
 }
 
@@ -61,6 +65,7 @@ fn keys_required(part: Part) -> &'static [&'static str]
         Part::Server => &["address", "port"],
         Part::Link => &["port"],
         Part::Key => &["id", "secret"],
+        Part::Deny => &["net"],
     }
 }
 
@@ -212,19 +217,30 @@ fn first_in_arrays<'a>(check: Check, table: &'a Table) -> Option<Spot<'a>>
     first_in_array(check, Part::Link, table, "link")
 }
 
-// The same where the keys that are shared with clients come last.
+// The same of the arrays that speak of clients: the shared keys come first, and then the denied nets.
+fn first_in_clients<'a>(check: Check, table: &'a Table) -> Option<Spot<'a>>
+    ensures { option_map spot_text result ≡ slice_get (keys_at (keys_for check) (client_sheets (table_view table.now))) 0 }
+{
+    let key = first_in_array(check, Part::Key, table, "key");
+    if key.is_some() {
+        return key;
+    }
+    first_in_array(check, Part::Deny, table, "deny")
+}
+
+// The same of all arrays.
 fn first_in_all<'a>(check: Check, table: &'a Table) -> Option<Spot<'a>>
-    ensures { option_map spot_text result ≡ slice_get (keys_at (keys_for check) (item_sheets (table_view table.now) ++ key_sheets (table_view table.now))) 0 }
+    ensures { option_map spot_text result ≡ slice_get (keys_at (keys_for check) (item_sheets (table_view table.now) ++ client_sheets (table_view table.now))) 0 }
 {
     let item = first_in_arrays(check, table);
     if item.is_some() {
         return item;
     }
-    first_in_array(check, Part::Key, table, "key")
+    first_in_clients(check, table)
 }
 
-// The first key that fails a check: the top table comes first, and then the radios, the servers, the links and the shared keys by
-// place.
+// The first key that fails a check: the top table comes first, and then the radios, the servers, the links, the shared keys and the
+// denied nets by place.
 pub fn first_at<'a>(check: Check, table: &'a Table) -> Option<Spot<'a>>
     ensures { option_map spot_text result ≡ slice_get (keys_at (keys_for check) (sheets_of (table_view table.now))) 0 }
 {

@@ -3,10 +3,12 @@
 
 mod address;
 mod counts;
+mod denied_net;
 mod document;
 mod fault;
 mod items;
 mod keys;
+mod nets;
 mod one_of_each;
 mod reading;
 mod rows;
@@ -17,6 +19,8 @@ pub use fault::{KeyText, StationFault};
 pub use reading::read_station;
 pub use station::{LinkRow, RadioRow, ServerRow, Station};
 
+#[cfg(test)]
+mod deny_tests;
 #[cfg(test)]
 mod key_tests;
 #[cfg(test)]

@@ -14,6 +14,8 @@ fn top_by_default() -> TopNumbers
     TopNumbers {
         bound: 1000,
         start: Local::new(0).unwrap(),
+        gap: 0,
+        clients: 1024,
     }
 }
 
@@ -30,7 +32,7 @@ fn plain_radio(alloc: Global, plan: Plan) -> Result<Radio, AllocError>
 
 impl Station {
     /// A station of one radio of each plan in the order DCF77, MSF, WWVB, each without delay and with a log named by its plan's word; with
-    /// no server, no link and no key, and with the bound and the start that a file has by default.
+    /// no server, no link, no key and no denied net, and with the numbers that a file has by default.
     pub fn one_of_each(alloc: Global) -> Result<Station, AllocError>
         ensures { IfOk result (λ station. station ≡ one_of_each) }
     {
@@ -44,6 +46,7 @@ impl Station {
             servers: Vec::new(alloc),
             links: Vec::new(alloc),
             keys: Vec::new(alloc),
+            deny: Vec::new(alloc),
         }))
     }
 }

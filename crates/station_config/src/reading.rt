@@ -22,6 +22,7 @@ fn key_text(alloc: Global, spot: Spot<'_>) -> Result<KeyText, AllocError>
         Part::Server => format!(in alloc; "server.{place}.{key}")?,
         Part::Link => format!(in alloc; "link.{place}.{key}")?,
         Part::Key => format!(in alloc; "key.{place}.{key}")?,
+        Part::Deny => format!(in alloc; "deny.{place}.{key}")?,
     };
     Ok(KeyText::new(text))
 }
@@ -52,8 +53,8 @@ fn fault(alloc: Global, key_fault: KeyFault<'_>) -> Result<StationFault, AllocEr
 ///
 /// The faults come in this order: a text that isn't TOML, unknown keys, missing keys, values that aren't of their type
 /// and range, and too many rows. Of several of one kind the top table's comes first, then those of the radios, the
-/// servers, the links and the keys by their places, and within a table by the bytes of the keys. Fails with `Memory` where memory
-/// runs out.
+/// servers, the links, the keys and the denied nets by their places, and within a table by the bytes of the keys. Fails with
+/// `Memory` where memory runs out.
 pub fn read_station(alloc: Global, text: &[u8]) -> Result<Station, StationFault>
     ensures said { IfOk result (Says text.now) }
     ensures refused { IfErr result (Refuses text.now) }

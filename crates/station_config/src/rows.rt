@@ -4,14 +4,16 @@ ghost use Rattle.std.specs.List.{list_all, list_any};
 ghost use Rattle.tick_units.specs.declared.marks.Plan.TheVariants.{Dcf};
 ghost use Rattle.toml.specs.Data.{get_member, string};
 ghost use Rattle.toml.specs.View.{view, table_view};
-ghost use Rattle.station_config.specs.Rows.{whole_in, text_in, secret_in, is_secret, is_visible, plan_in, address_in, whole, text, secret, plan, address, radio_rows, server_rows, link_rows, key_rows, port_row};
-ghost use Rattle.station_config.specs.Values.{key_of, number_at, radio_of, server_of};
+ghost use Rattle.station_config.specs.Rows.{whole_in, text_in, secret_in, is_secret, is_visible, plan_in, address_in, net_in, whole, text, secret, plan, address, net, radio_rows, server_rows, link_rows, key_rows, deny_rows, port_row};
+ghost use Rattle.station_config.specs.Values.{all_addresses, key_of, net_of, number_at, radio_of, server_of};
 ghost use Rattle.station_config.specs.Faults.{bad_in, bad_in_key, missing_in};
 ghost use Rattle.station_config.specs.Finding.{IsRead, IsMisread, ids_of};
-ghost use Rattle.station_config.specs.KeptStation.{key_kept, radio_kept, server_fields};
+ghost use Rattle.station_config.specs.KeptStation.{key_kept, net_kept, radio_kept, server_fields};
 
 use crate::address::address;
+use crate::denied_net::DeniedNet;
 use crate::keys::value_at;
+use crate::nets::denied_net;
 use crate::shared_key::SharedKey;
 use crate::station::{Radio, ServerRow};
 use feed_link::Address;
@@ -127,6 +129,13 @@ fn port(table: &Table) -> Option<u16>
     Some(port as u16)
 }
 
+fn cidr(table: &Table) -> Option<DeniedNet>
+    requires { IsSome (get_member (codes "net") (table_view table.now)) }
+    ensures { IsRead net all_addresses net_in (get_member (codes "net") (table_view table.now)) (option_map net_kept result) }
+{
+    denied_net(value_at(table, "net")?.as_str()?)
+}
+
 // The radio of a table that has all its keys.
 pub fn radio(alloc: Global, table: &Table) -> Result<Radio, Misread>
     requires { missing_in radio_rows (table_view table.now) ≡ [] }
@@ -208,5 +217,18 @@ pub fn key(alloc: Global, table: &Table, before: &[SharedKey]) -> Result<SharedK
     match String::from_str(alloc, secret) {
         Ok(secret) => Ok(SharedKey { id, secret }),
         Err(_) => Err(Misread::Memory),
+    }
+}
+
+// The denied net of a table that has all its keys.
+pub fn net(table: &Table) -> Result<DeniedNet, Misread>
+    requires { missing_in deny_rows (table_view table.now) ≡ [] }
+    ensures said { IfOk result (λ n. net_kept n ≡ net_of (table_view table.now)) }
+    ensures good { IfOk result (λ _. bad_in deny_rows (table_view table.now) ≡ []) }
+    ensures bad { IfErr result (IsMisread (bad_in deny_rows (table_view table.now))) }
+{
+    match cidr(table) {
+        Some(net) => Ok(net),
+        None => Err(Misread::Range("net")),
     }
 }

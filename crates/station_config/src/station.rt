@@ -2,12 +2,16 @@
 ghost use Rattle.std.specs.Prelude.{◌≡◌, ◌≤◌, ◌+◌, ◌++◌, option_map, length, map};
 ghost use Rattle.std.specs.List.{slice_get};
 ghost use Rattle.packet_auth.specs.Keys.{AreApart, keys_of};
+ghost use Rattle.kiss_gate.specs.Nets.{nets_of};
 ghost use Rattle.system_fold.specs.Settings.{AreLawful};
 ghost use Rattle.station_config.specs.Station.{IsStation, kind_of_radio, kind_of_server, settings_of};
 ghost use Rattle.station_config.specs.KeptStation.{key_kept, parts_fields, radio_given, radio_kept, server_fields};
 
+use crate::denied_net::DeniedNet;
+use crate::nets::deny_list;
 use crate::shared_key::SharedKey;
 use feed_link::Address;
+use kiss_gate::DenyList;
 use packet_auth::KeyRing;
 use std::marker::Model;
 use system_fold::{Settings, SourceKind};
@@ -55,10 +59,14 @@ pub struct TopNumbers {
     pub bound: u32,
     /// The first moment of the links, at most 2^49 microseconds.
     pub start: Local,
+    /// The least gap between the requests of a client, at most 60000000 microseconds; 0 sets none.
+    pub gap: u64,
+    /// How many clients a link remembers, 1 to 65536.
+    pub clients: u32,
 }
 
-// What was read of a station file: the numbers of its top table, the rows, the ports of the links, and the keys. It has no `Debug`, so that
-// no secret stands in any text.
+// What was read of a station file: the numbers of its top table, the rows, the ports of the links, the keys, and the denied nets. It has no
+// `Debug`, so that no secret stands in any text.
 #[derive(Drop)]
 pub struct Parts {
     pub top: TopNumbers,
@@ -66,6 +74,7 @@ pub struct Parts {
     pub servers: Vec<ServerRow>,
     pub links: Vec<u16>,
     pub keys: Vec<SharedKey>,
+    pub deny: Vec<DeniedNet>,
 }
 
 // The feeds of the radios.
@@ -101,10 +110,12 @@ fn ring_of(keys: &[SharedKey]) -> KeyRing
     ring
 }
 
-/// A station: what it hears, whom it asks, where it serves, and the keys that it shares with its clients. Contracts see it as a record of these.
+/// A station: what it hears, whom it asks, where it serves, the keys that it shares with its clients, and whom it denies. Contracts see it as a record
+/// of these.
 #[derive(Drop)]
 pub struct Station {
     settings: Settings,
+    denied: DenyList,
     parts: Parts,
 }
 
@@ -116,7 +127,7 @@ impl Model for Station {
 
     ghost view = { λ s. parts_fields s.parts };
 
-    ghost invariant = { λ s. IsInside s.settings (parts_fields s.parts) };
+    ghost invariant = { λ s. IsInside s.settings s.denied (parts_fields s.parts) };
 }
 
 impl Station {
@@ -128,7 +139,12 @@ impl Station {
         let mut settings = Settings::new(parts.top.bound);
         add_radios(&mut settings, parts.radios.as_slice());
         add_servers(&mut settings, parts.servers.as_slice());
-        Station { settings, parts }
+        let denied = deny_list(parts.deny.as_slice());
+        Station {
+            settings,
+            denied,
+            parts,
+        }
     }
 
     /// What a page of the station's feeds is reckoned by: the bound of its root dispersion, and its radios and then its servers as sources.
@@ -178,6 +194,33 @@ impl Station {
         ensures bounds { IsStation self.now }
     {
         ring_of(self.parts.keys.as_slice())
+    }
+
+    /// The least gap between the requests of a client in microseconds, 0 to 60000000; 0 sets none.
+    pub fn gap(&self) -> u64
+        ensures value { result ≡ self.now.top.gap }
+        ensures bounds { IsStation self.now }
+        ensures most { result ≤ 60000000 }
+    {
+        self.parts.top.gap
+    }
+
+    /// How many clients a link remembers, 1 to 65536.
+    pub fn clients(&self) -> u32
+        ensures value { result ≡ self.now.top.clients }
+        ensures bounds { IsStation self.now }
+        ensures least { 1 ≤ result }
+        ensures most { result ≤ 65536 }
+    {
+        self.parts.top.clients
+    }
+
+    /// The nets whose clients it denies, at most 16.
+    pub fn deny(&self) -> &DenyList
+        ensures value { nets_of result.now ≡ self.now.deny }
+        ensures bounds { IsStation self.now }
+    {
+        &self.denied
     }
 
     /// The radio at a place, from 0. `None` exactly where the place isn't below the number of radios.

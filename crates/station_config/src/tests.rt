@@ -118,7 +118,7 @@ const PORTS: &str = r#"[[server]]|address = "1.2.3.4"|port = 0 -> range server.0
 const UNKNOWN: &str = r#"leap = 1 -> unknown leap
 holdover = 600 -> unknown holdover
 bound = 500|holdover = 600 -> unknown holdover
-gap = 0 -> unknown gap
+gaps = 0 -> unknown gaps
 zone = 1|abc = 1 -> unknown abc
 zone = 1|Zone = 1 -> unknown Zone
 radios = [] -> unknown radios
@@ -340,7 +340,7 @@ fn faults(rt: HostRuntime) -> Result<(), Fail> {
     Ok(())
 }
 
-fn push_times(text: &mut String, row: &str, times: u8) -> Result<(), Fail> {
+pub(crate) fn push_times(text: &mut String, row: &str, times: u8) -> Result<(), Fail> {
     for _ in 0..times {
         text.push_str(row)?;
     }

@@ -1,11 +1,12 @@
 -- Scaffolding: what all workers of a station do.
-use Rattle.std.specs.Prelude.{◌≡◌, ◌≤◌, ℕ, ◌+◌, List, [], ◌++◌, All, None, length, map, vec_capacity}
+use Rattle.std.specs.Prelude.{◌≡◌, ◌≤◌, ℕ, ◌+◌, List, [], ◌++◌, All, None, length, map, vec_capacity, vec_len}
 use Rattle.atomic_table.specs.Seated.{TableId}
 use Rattle.feed_link.specs.Told.{SourceState, LinkState}
+use Rattle.kiss_gate.specs.Gates.{Gate}
 use Rattle.packet_auth.specs.Keys.{keys_of}
 use Rattle.page_cell.specs.Passes.{KnownReader}
 use Rattle.radio_receiver.specs.Histories.{History}
-use Rattle.station_config.specs.Station.{StationFields}
+use Rattle.station_config.specs.Station.{StationFields, gate_of}
 use Rattle.station_crew.specs.Jobs.{IsManned, RadioRan, PollRan}
 use Rattle.station_crew.specs.Leaving.{link_of, log_of, poll_pass, radio_pass, serve_pass, server_link, server_of}
 use Rattle.station_crew.specs.Lists.{Each, Pairs}
@@ -57,14 +58,16 @@ pub record HasRoomToLeave {L T : Type 0} (of_radios of_servers of_links : ℕ) (
   pub feeds : of_radios + of_servers ≤ vec_capacity left.feeds
   pub readers : of_links ≤ vec_capacity left.readers
 
--- room for all of it, and for the responders of the second phase
-pub record HasRoom {L T B : Type 0} (of_radios of_servers of_links : ℕ) (room : Room L T B) : Type 0 where
+-- room for all of it, and for the responders of the second phase; and this gate once for each link
+pub record HasRoom {L T B : Type 0} (gate : Gate) (of_radios of_servers of_links : ℕ) (room : Room L T B) : Type 0 where
   pub crew : HasRoomFor of_radios of_servers of_links room.crew
   pub none_told : room.told.items ≡ []
   pub told : of_links ≤ vec_capacity room.told
   pub left : HasRoomToLeave of_radios of_servers of_links room.left
+  pub gates : vec_len room.gates ≡ of_links
+  pub alike : All (λ g. g ≡ gate) room.gates.items
 
--- each worker has its receiver, its log or its link, and its server, in the station's order; the responders have the station's keys
+-- each worker has its receiver, its log or its link, and its server, in the station's order; the responders have the station's keys and a gate of its own each
 pub record CrewManned {L T B : Type 0} (stands : B → History → Type 0) (least : B → ℕ) (station : StationFields) (receivers : List B) (gear : Gear L T) (crew : Crew L T B) : Type 0 where
   pub receivers_are : Pairs (IsManned stands least) receivers crew.radios.items
   pub logs : map log_of crew.radios.items ≡ gear.logs.items
@@ -73,6 +76,7 @@ pub record CrewManned {L T B : Type 0} (stands : B → History → Type 0) (leas
   pub links : map link_of crew.responders.items ≡ gear.links.items
   pub unserved : All (λ j. j.work.second ≡ None) crew.responders.items
   pub keyed : All (λ j. keys_of j.responder.keys ≡ station.keys) crew.responders.items
+  pub gated : All (λ j. j.responder.clients ≡ gate_of station) crew.responders.items
 
 -- both phases were run, and this is what the workers left
 pub record CrewRan {L T B : Type 0} (stands : B → History → Type 0) (log_state : L → SourceState) (log_opening : L → ℕ) (state : T → LinkState) (opening : T → ℕ)

@@ -52,12 +52,12 @@ pub record PollRan {T : Type 0} (state : T → LinkState) (opening : T → ℕ) 
 -- a responder's first phase
 pub record HasServed {T : Type 0} (state : T → LinkState) (opening : T → ℕ) (budget : ℕ) (a b : ServeJob T) : Type 0 where
   pub same : IsSame (opening a.responder.link) (opening b.responder.link) a.responder.pass b.responder.pass a.responder.number b.responder.number a.responder.keys b.responder.keys
-  pub serves : Serves (keys_of a.responder.keys) (state a.responder.link) (state b.responder.link) a.responder.pass.view b.responder.pass.view budget b.work.first
+  pub serves : Serves (keys_of a.responder.keys) a.responder.clients b.responder.clients (state a.responder.link) (state b.responder.link) a.responder.pass.view b.responder.pass.view budget b.work.first
   pub second : b.work.second ≡ a.work.second
 
 -- a responder's second phase, where its first one made as many hearings as it was asked for
 pub record HasServedAgain {T : Type 0} (state : T → LinkState) (opening : T → ℕ) (budget : ℕ) (a b : ServeJob T) : Type 0 where
   pub same : IsSame (opening a.responder.link) (opening b.responder.link) a.responder.pass b.responder.pass a.responder.number b.responder.number a.responder.keys b.responder.keys
   pub first : b.work.first ≡ a.work.first
-  pub again : a.work.first.end ≡ Count → (served : Served) × (b.work.second ≡ Some served) × Serves (keys_of a.responder.keys) (state a.responder.link) (state b.responder.link) a.responder.pass.view b.responder.pass.view budget served
+  pub again : a.work.first.end ≡ Count → (served : Served) × (b.work.second ≡ Some served) × Serves (keys_of a.responder.keys) a.responder.clients b.responder.clients (state a.responder.link) (state b.responder.link) a.responder.pass.view b.responder.pass.view budget served
   pub not : a.work.first.end ≢ Count → (b.work.second ≡ a.work.second) × (b.responder.link ≡ a.responder.link) × (b.responder.pass ≡ a.responder.pass)

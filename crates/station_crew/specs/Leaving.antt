@@ -1,5 +1,4 @@
 -- Scaffolding: what each worker has, and gives back.
-use Rattle.feed_link.specs.Told.{LinkState}
 use Rattle.page_cell.specs.Passes.{Known, KnownReader}
 use Rattle.station_config.specs.Station.{ServerFields}
 use Rattle.station_crew.specs.declared.jobs.PollJob.{PollJob}

@@ -7,12 +7,13 @@ use Rattle.feed_workers.specs.Polling.{EndsPolls}
 use Rattle.feed_workers.specs.Polls.{due_link}
 use Rattle.feed_workers.specs.declared.work.LogWork.{LogWork}
 use Rattle.feed_workers.specs.declared.work.PollWork.{PollWork}
+use Rattle.kiss_gate.specs.Gates.{Gate}
 use Rattle.packet_auth.specs.Keys.{KeyFields}
 use Rattle.journal_entry.specs.declared.entry.Entry.{Entry}
 use Rattle.log_decoder.specs.Due.{due_log}
 use Rattle.radio_receiver.specs.Histories.{History}
 use Rattle.responder.specs.Serving.{EndsBy}
-use Rattle.responder.specs.Turns.{Turn, Reading, events_of, readings_of, IsTurn, answered_of, dropped_of, torn_of, Rises}
+use Rattle.responder.specs.Turns.{Turn, Reading, events_of, readings_of, AreTurns, answered_of, dropped_of, torn_of, kissed_of, unkept_of, Rises}
 use Rattle.responder.specs.declared.served.End.TheVariants.{Count}
 use Rattle.responder.specs.declared.served.Served.{Served}
 use Rattle.station_config.specs.Station.{RadioFields, ServerFields}
@@ -62,6 +63,8 @@ pub record CountsTurns (served : Served) (turns : List Turn) : Type 0 where
   pub answered : served.answered ≡ sum_by answered_of turns
   pub dropped : served.dropped ≡ sum_by dropped_of turns
   pub again : served.again ≡ sum_by torn_of turns
+  pub kissed : served.kissed ≡ sum_by kissed_of turns
+  pub unkept : served.unkept ≡ sum_by unkept_of turns
 
 -- these turns were taken in a phase of at most so many hearings, by which the link came from one state to the other
 pub record ServesPhase (budget : ℕ) (link link_now : LinkState) (served : Served) (turns : List Turn) : Type 0 where
@@ -76,17 +79,19 @@ pub record HasSecond (budget : ℕ) (link link_now : LinkState) (work : LinkWork
   pub served : work.first.end ≡ Count → (served : Served) × (work.second ≡ Some served) × ServesPhase budget link link_now served turns
   pub not : work.first.end ≢ Count → (work.second ≡ None) × (link_now ≡ link) × (turns ≡ [])
 
--- The turns of a link in both phases. Each reply is the one to its datagram from the page that was read in its turn, sealed by one of the keys
--- exactly where the datagram is authentic by it; each page that
--- was read is that of a beginning of the journal, and these beginnings never shorten. In the second phase each is the whole journal,
--- and no datagram is left unread for; of those that were in the first phase four times as many are no more than there are entries
-pub record ServesLink (keys : List KeyFields) (settings : SettingsFields) (journal : List Entry) (during after : ℕ) (link link_now : LinkState) (work : LinkWork) : Type 0 where
+-- The turns of a link in both phases. Each request is judged by the gate as the turns before it left it, from this one on, also from phase to
+-- phase; its reply is the one by the code and from the page that was read in its turn, sealed by one of the keys exactly where the datagram
+-- is authentic by it. Each page that was read is that of a beginning of the journal, and these beginnings never shorten. In the second phase
+-- each is the whole journal, and no datagram is left unread for; of those that were in the first phase four times as many are no more than
+-- there are entries
+pub record ServesLink (keys : List KeyFields) (gate : Gate) (settings : SettingsFields) (journal : List Entry) (during after : ℕ) (link link_now : LinkState) (work : LinkWork) : Type 0 where
   pub first : List Turn
   pub second : List Turn
   pub between : LinkState
   pub first_phase : ServesPhase during link between work.first first
   pub second_phase : HasSecond after between link_now work second
-  pub lawful : All (IsTurn keys) (first ++ second)
+  pub gate_now : Gate
+  pub lawful : AreTurns keys gate (first ++ second) gate_now
   pub pages : All (IsReadOf settings journal) (flat_map readings_of (first ++ second))
   pub last : ℕ
   pub rising : Rises 0 (flat_map readings_of (first ++ second)) last
@@ -109,8 +114,8 @@ pub record ServersServed {T : Type 0} (state : T → LinkState) (opening : T →
       AsksServer (slice_index_or servers i server) (first + i) limit journal (state (slice_index_or links i a)) (state (slice_index_or links_now i b)) (slice_index_or works i work)
 
 -- each link that the station serves on
-pub record LinksServed {T : Type 0} (state : T → LinkState) (opening : T → ℕ) (keys : List KeyFields) (settings : SettingsFields) (journal : List Entry) (during after : ℕ) (links links_now : List T) (works : List LinkWork) : Type 0 where
+pub record LinksServed {T : Type 0} (state : T → LinkState) (opening : T → ℕ) (keys : List KeyFields) (gate : Gate) (settings : SettingsFields) (journal : List Entry) (during after : ℕ) (links links_now : List T) (works : List LinkWork) : Type 0 where
   pub openings : map opening links_now ≡ map opening links
   pub count : length works ≡ length links
   pub at : (i : ℕ) (a b : T) (work : LinkWork) → i < length links →
-      ServesLink keys settings journal during after (state (slice_index_or links i a)) (state (slice_index_or links_now i b)) (slice_index_or works i work)
+      ServesLink keys gate settings journal during after (state (slice_index_or links i a)) (state (slice_index_or links_now i b)) (slice_index_or works i work)

@@ -21,6 +21,7 @@ pub record WasTold {T : Type 0} (feeds : List Known) (a b : ServeJob T) : Type 0
   pub link : b.responder.link ≡ a.responder.link
   pub work : b.work ≡ a.work
   pub keys : b.responder.keys ≡ a.responder.keys
+  pub clients : b.responder.clients ≡ a.responder.clients
   pub learnt : HasLearnt a.responder.pass b.responder.pass
   pub seen : HasSeenAll feeds b.responder.pass
 

@@ -72,7 +72,7 @@ pub fn leave_responders<T: Link + Drop>(
 {
     for job in jobs {
         let ServeJob { responder, work } = job;
-        let (link, pass) = responder.give_back();
+        let (link, pass, _) = responder.give_back();
         links.push_reserved(link);
         works.push_reserved(work);
         readers.push_reserved(pass);

@@ -17,6 +17,8 @@ pub use station::serve_station;
 pub use work::{Budget, LinkWork};
 
 #[cfg(test)]
+mod gate_tests;
+#[cfg(test)]
 mod key_tests;
 #[cfg(test)]
 mod tests;

@@ -2,7 +2,7 @@
 ghost use Rattle.std.specs.Prelude.{◌≡◌, ◌≤◌, ◌<◌, ◌+◌, ◌++◌, [], All, None, drop, length, map, slice_get, vec_capacity, vec_len};
 ghost use Rattle.packet_auth.specs.Keys.{keys_of};
 ghost use Rattle.page_cell.specs.Passes.{claim_of};
-ghost use Rattle.station_config.specs.Station.{IsStation};
+ghost use Rattle.station_config.specs.Station.{IsStation, gate_of};
 ghost use Rattle.station_config.specs.KeptStation.{server_fields};
 ghost use Rattle.station_crew.specs.Jobs.{IsManned};
 ghost use Rattle.station_crew.specs.Leaving.{link_of, log_of, poll_pass, radio_pass, serve_pass, server_link, server_of};
@@ -12,7 +12,7 @@ use crate::jobs::{PollJob, RadioJob, ServeJob};
 use crate::work::LinkWork;
 use feed_link::{Link, Source};
 use feed_workers::{LogEnd, LogWork, PollEnd, PollWork, PollWorker, RadioWorker};
-use packet_auth::KeyRing;
+use kiss_gate::ClientGate;
 use page_cell::{FeedPass, ReadPass};
 use radio_receiver::{BoxedReceiver, Receiver};
 use responder::{End, Responder, Served};
@@ -33,6 +33,8 @@ const UNSERVED: Served = Served {
     answered: 0,
     dropped: 0,
     again: 0,
+    kissed: 0,
+    unkept: 0,
     end: End::Count,
 };
 
@@ -111,27 +113,34 @@ pub fn man_pollers<T: Link + Drop>(
     }
 }
 
-/// A responder for each link that the station serves on, with the pass of a reader and the keys of the station.
+/// A responder for each link that the station serves on, with the pass of a reader, the keys of the station and a gate of clients.
 pub fn man_responders<T: Link + Drop>(
+    station: &Station,
     links: Vec<T>,
     readers: &mut Vec<ReadPass>,
-    keys: &KeyRing,
+    gates: Vec<ClientGate>,
     jobs: &mut Vec<ServeJob<T>>,
 )
     requires readers { vec_len links ≤ vec_len readers.old }
+    requires gates { vec_len links ≤ vec_len gates }
+    requires alike { All (λ gate. gate ≡ gate_of station.now) gates.items }
     requires few { vec_len links ≤ 8 }
     requires none { jobs.old.items ≡ [] }
     requires room { vec_len links ≤ vec_capacity jobs.old }
     ensures links { map link_of jobs.new.items ≡ links.items }
     ensures readers { map serve_pass jobs.new.items ++ readers.new.items ≡ readers.old.items }
     ensures none { All (λ j. j.work.second ≡ None) jobs.new.items }
-    ensures keyed { All (λ j. keys_of j.responder.keys ≡ keys_of keys.now) jobs.new.items }
+    ensures keyed { All (λ j. keys_of j.responder.keys ≡ station.now.keys) jobs.new.items }
+    ensures gated { All (λ j. j.responder.clients ≡ gate_of station.now) jobs.new.items }
 {
+    let keys = station.keys();
+    let mut gates = gates;
     for link in links {
         let number = jobs.len() as u32;
         let pass = readers.remove(0);
+        let gate = gates.remove(0);
         jobs.push_reserved(ServeJob {
-            responder: Responder::new(link, pass, number, *keys),
+            responder: Responder::new(link, pass, number, keys, gate),
             work: LinkWork {
                 first: UNSERVED,
                 second: None,

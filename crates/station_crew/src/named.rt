@@ -3,7 +3,7 @@ ghost use Rattle.std.specs.Prelude.{◌≡◌, ◌<◌, ◌≤◌, ◌+◌, ◌+
 ghost use Rattle.std.specs.List.{range_with_len};
 ghost use Rattle.page_cell.specs.Passes.{claim_of, key_of};
 ghost use Rattle.page_cell.specs.Views.{new_claim};
-ghost use Rattle.station_config.specs.Station.{IsStation, settings_of};
+ghost use Rattle.station_config.specs.Station.{IsStation, gate_of, settings_of};
 ghost use Rattle.station_crew.specs.Crews.{CrewManned, HasRoom, HasRoomFor, IsNewReader};
 ghost use Rattle.station_crew.specs.Leaving.{poll_pass, radio_pass, serve_pass};
 ghost use Rattle.station_gear.specs.Opens.{IsWhole};
@@ -15,6 +15,7 @@ use crate::manning::{man_pollers, man_radios, man_responders};
 use crate::work::{Budget, LinkWork};
 use feed_link::{Gate, Link, Source};
 use feed_workers::{LogWork, PollWork};
+use kiss_gate::ClientGate;
 use page_cell::{CellParts, FeedPass, ReadPass};
 use radio_receiver::{BoxedReceiver, Receiver};
 use station_config::Station;
@@ -34,12 +35,13 @@ pub struct Ended<L: Drop, T: Drop> {
     pub links: Vec<LinkWork>,
 }
 
-/// Room for the workers of a station, and for what they leave.
+/// Room for the workers of a station, and for what they leave; and a gate of clients for each link.
 #[derive(Drop)]
 pub struct Room<L: Drop, T: Drop, B: Drop> {
     pub crew: Crew<L, T, B>,
     pub told: Vec<ServeJob<T>>,
     pub left: Left<L, T>,
+    pub gates: Vec<ClientGate>,
 }
 
 // The passes of a cell.
@@ -55,6 +57,7 @@ fn man_crew<L: Source + Drop, T: Link + Drop>(
     passes: Passes,
     receivers: Vec<BoxedReceiver>,
     gear: Gear<L, T>,
+    gates: Vec<ClientGate>,
     crew: Crew<L, T, BoxedReceiver>,
 ) -> Crew<L, T, BoxedReceiver>
     requires station { IsStation station.now }
@@ -62,6 +65,8 @@ fn man_crew<L: Source + Drop, T: Link + Drop>(
     requires gear { IsWhole station.now gear }
     requires feeds { vec_len passes.feeds ≡ vec_len gear.logs + vec_len gear.servers }
     requires readers { vec_len passes.readers ≡ vec_len gear.links }
+    requires gates { vec_len gates ≡ vec_len gear.links }
+    requires alike { All (λ gate. gate ≡ gate_of station.now) gates.items }
     requires room { HasRoomFor (vec_len gear.logs) (vec_len gear.servers) (vec_len gear.links) crew }
     ensures manned { CrewManned (λ b h. stands_for b h) (λ b. least_start b) station.now receivers.items gear result }
     ensures feeds { map radio_pass result.radios.items ++ map poll_pass result.pollers.items ≡ passes.feeds.items }
@@ -79,7 +84,7 @@ fn man_crew<L: Source + Drop, T: Link + Drop>(
     let mut crew = crew;
     man_radios(receivers, logs, &mut feeds, &mut crew.radios);
     man_pollers(station, servers, &mut feeds, &mut crew.pollers);
-    man_responders(links, &mut readers, &station.keys(), &mut crew.responders);
+    man_responders(station, links, &mut readers, gates, &mut crew.responders);
     crew
 }
 
@@ -108,20 +113,25 @@ fn run_hub<
     requires feeds { All (λ f. f.table ≡ N.table) parts.feeds.items }
     requires readers { All (IsNewReader N.table) parts.readers.items }
     requires count { vec_len parts.readers ≡ vec_len gear.links }
-    requires room { HasRoom (vec_len gear.logs) (vec_len gear.servers) (vec_len gear.links) room }
+    requires room { HasRoom (gate_of station.now) (vec_len gear.logs) (vec_len gear.servers) (vec_len gear.links) room }
     ensures journal { IsJournalOf N.settings N.limit result.journal }
     ensures radios { RadiosServed L.state L.opening station.now.radios N.limit result.journal.entries gear.logs.items result.gear.logs.items result.radios.items }
     ensures servers { ServersServed T.state T.opening station.now.servers (length station.now.radios) N.limit result.journal.entries gear.servers.items result.gear.servers.items result.servers.items }
-    ensures links { LinksServed T.state T.opening station.now.keys N.settings result.journal.entries budget.during budget.after gear.links.items result.gear.links.items result.links.items }
+    ensures links { LinksServed T.state T.opening station.now.keys (gate_of station.now) N.settings result.journal.entries budget.during budget.after gear.links.items result.gear.links.items result.links.items }
 {
     let HubParts {
         hub,
         feeds,
         readers,
     } = parts;
-    let Room { crew, told, left } = room;
+    let Room {
+        crew,
+        told,
+        left,
+        gates,
+    } = room;
     let passes = Passes { feeds, readers };
-    let crew = man_crew(station, passes, receivers, gear, crew);
+    let crew = man_crew(station, passes, receivers, gear, gates, crew);
     let Left {
         gear,
         radios,
@@ -168,11 +178,11 @@ pub fn run_named<
     requires feeds { All (λ f. f.table ≡ N.table) parts.feeds.items }
     requires readers { All (IsNewReader N.table) parts.readers.items }
     requires count { vec_len parts.readers ≡ vec_len gear.links }
-    requires room { HasRoom (vec_len gear.logs) (vec_len gear.servers) (vec_len gear.links) room }
+    requires room { HasRoom (gate_of station.now) (vec_len gear.logs) (vec_len gear.servers) (vec_len gear.links) room }
     ensures journal { IfOk result (λ e. IsJournalOf (settings_of station.now) limit e.journal) }
     ensures radios { IfOk result (λ e. RadiosServed L.state L.opening station.now.radios limit e.journal.entries gear.logs.items e.gear.logs.items e.radios.items) }
     ensures servers { IfOk result (λ e. ServersServed T.state T.opening station.now.servers (length station.now.radios) limit e.journal.entries gear.servers.items e.gear.servers.items e.servers.items) }
-    ensures links { IfOk result (λ e. LinksServed T.state T.opening station.now.keys (settings_of station.now) e.journal.entries budget.during budget.after gear.links.items e.gear.links.items e.links.items) }
+    ensures links { IfOk result (λ e. LinksServed T.state T.opening station.now.keys (gate_of station.now) (settings_of station.now) e.journal.entries budget.during budget.after gear.links.items e.gear.links.items e.links.items) }
     ensures memory { IfErr result (λ g. g ≡ gear) }
 {
     match Hub::<N>::open(alloc, parts, station.settings(), limit) {

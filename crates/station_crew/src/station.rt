@@ -1,6 +1,6 @@
 //! A station whose logs and links are open is served.
-ghost use Rattle.std.specs.Prelude.{◌≡◌, ◌<◌, ◌≤◌, ◌^◌, ◌+◌, IfErr, IfOk, length};
-ghost use Rattle.station_config.specs.Station.{settings_of};
+ghost use Rattle.std.specs.Prelude.{◌≡◌, ◌<◌, ◌≤◌, ◌^◌, ◌+◌, All, IfErr, IfOk, length, vec_len};
+ghost use Rattle.station_config.specs.Station.{gate_of, settings_of};
 ghost use Rattle.station_crew.specs.Crews.{HasRoom, HasRoomFor, HasRoomForGear, HasRoomToLeave};
 ghost use Rattle.station_gear.specs.Opens.{IsWhole};
 ghost use Rattle.station_crew.specs.Served.{AreBlank, IsJournalOf, LinksServed, RadiosServed, ServersServed};
@@ -9,6 +9,7 @@ use crate::crew::{Crew, Left};
 use crate::named::{Ended, Room, run_named};
 use crate::work::Budget;
 use feed_link::{Gate, Link, Source};
+use kiss_gate::{ClientGate, GateOpen};
 use page_cell::PageCell;
 use radio_receiver::{BoxedReceiver, Receiver};
 use station_config::Station;
@@ -66,27 +67,52 @@ fn make_left<L: Drop, T: Drop>(alloc: Global, counts: Counts) -> Result<Left<L, 
     })
 }
 
-// Room for all.
+// The gate of clients that a link of a station begins with.
+fn open_gate(alloc: Global, station: &Station) -> Result<ClientGate, GateOpen>
+    ensures { IfOk result (λ gate. gate ≡ gate_of station.now) }
+{
+    ClientGate::open(alloc, station.deny(), station.gap(), station.clients())
+}
+
+// One for each of so many links.
+fn open_gates(alloc: Global, station: &Station, count: usize) -> Result<Vec<ClientGate>, AllocError>
+    ensures count { IfOk result (λ gates. vec_len gates ≡ count) }
+    ensures alike { IfOk result (λ gates. All (λ gate. gate ≡ gate_of station.now) gates.items) }
+{
+    let mut gates = Vec::with_capacity(alloc, count)?;
+    for _ in 0..count {
+        match open_gate(alloc, station) {
+            Ok(gate) => gates.push_reserved(gate),
+            Err(GateOpen::Memory) => return Err(AllocError),
+        }
+    }
+    Ok(gates)
+}
+
+// Room for all, and the gates.
 fn make_room<L: Drop, T: Drop, B: Drop>(
     alloc: Global,
+    station: &Station,
     counts: Counts,
 ) -> Result<Room<L, T, B>, AllocError>
     requires { counts.radios + counts.servers < 2 ^ 63 }
-    ensures { IfOk result (HasRoom counts.radios counts.servers counts.links) }
+    ensures { IfOk result (HasRoom (gate_of station.now) counts.radios counts.servers counts.links) }
 {
     Ok(Room {
         crew: make_crew(alloc, counts)?,
         told: Vec::with_capacity(alloc, counts.links)?,
         left: make_left(alloc, counts)?,
+        gates: open_gates(alloc, station, counts.links)?,
     })
 }
 
 /// Serves a station. In the first phase its radios' logs are read and its servers are polled into one journal of at most `limit` entries,
-/// 1 to 4194304, while the clients of its links are answered from the page of the journal so far, for `budget.during` hearings a link, by the station's
-/// keys where they ask so. In the
-/// second phase those links that go on are served for `budget.after` hearings more, from the page of the whole journal. The receivers are
-/// those of the radios, in order, and have heard nothing. All memory is taken before any log or link is used; where there isn't enough, the
-/// gear comes back as it was.
+/// 1 to 4194304, while the clients of its links are answered from the page of the journal so far, for `budget.during` hearings a link, by the
+/// station's keys where they ask so, or with a kiss code where the station denies them or they ask too often. In the second phase those
+/// links that go on are served for `budget.after` hearings more, from the page of the whole journal. Each link has a gate of clients of its
+/// own, which goes on from phase to phase. The receivers are those of the radios, in order, and have heard nothing. All memory is taken
+/// before any log or link is used, but for what a gate of clients takes for a new client; where there isn't enough, the gear comes back as
+/// it was.
 pub fn serve_station<R: Threads + Wait + Sync, L: Source + Drop, T: Link + Drop, G: Gate>(
     rt: &R,
     alloc: Global,
@@ -103,7 +129,7 @@ pub fn serve_station<R: Threads + Wait + Sync, L: Source + Drop, T: Link + Drop,
     ensures journal { IfOk result (λ e. IsJournalOf (settings_of station.now) limit e.journal) }
     ensures radios { IfOk result (λ e. RadiosServed L.state L.opening station.now.radios limit e.journal.entries gear.logs.items e.gear.logs.items e.radios.items) }
     ensures servers { IfOk result (λ e. ServersServed T.state T.opening station.now.servers (length station.now.radios) limit e.journal.entries gear.servers.items e.gear.servers.items e.servers.items) }
-    ensures links { IfOk result (λ e. LinksServed T.state T.opening station.now.keys (settings_of station.now) e.journal.entries budget.during budget.after gear.links.items e.gear.links.items e.links.items) }
+    ensures links { IfOk result (λ e. LinksServed T.state T.opening station.now.keys (gate_of station.now) (settings_of station.now) e.journal.entries budget.during budget.after gear.links.items e.gear.links.items e.links.items) }
     ensures memory { IfErr result (λ g. g ≡ gear) }
 {
     let counts = Counts {
@@ -111,7 +137,7 @@ pub fn serve_station<R: Threads + Wait + Sync, L: Source + Drop, T: Link + Drop,
         servers: station.servers(),
         links: station.links(),
     };
-    let Ok(room) = make_room(alloc, counts) else {
+    let Ok(room) = make_room(alloc, station, counts) else {
         return Err(gear);
     };
     let Ok(parts) = PageCell::open(alloc, station.settings(), counts.links as u32) else {

@@ -34,7 +34,7 @@ fn tell_all(cell: &PageCell, feeds: &mut [FeedPass], reader: &mut ReadPass)
     }
 }
 
-// A responder of the second phase, which has seen as much as every feed.
+// A responder of the second phase, which has seen as much as every feed. It goes on with its gate of clients.
 fn tell_responder<T: Link + Drop>(
     cell: &PageCell,
     feeds: &mut [FeedPass],
@@ -49,10 +49,10 @@ fn tell_responder<T: Link + Drop>(
 {
     let ServeJob { responder, work } = job;
     let keys = responder.keys();
-    let (link, mut pass) = responder.give_back();
+    let (link, mut pass, clients) = responder.give_back();
     tell_all(cell, feeds, &mut pass);
     ServeJob {
-        responder: Responder::new(link, pass, number, keys),
+        responder: Responder::new(link, pass, number, keys, clients),
         work,
     }
 }

@@ -261,6 +261,8 @@ fn counts(answered: u64, end: End) -> Served {
         answered,
         dropped: 0,
         again: 0,
+        kissed: 0,
+        unkept: 0,
         end,
     }
 }

@@ -4,8 +4,8 @@ ghost use Rattle.journal_entry.specs.declared.writer.TheConstants.{LINE_ROOM};
 ghost use Rattle.radio_engine.specs.Playing.{IsPlayedBy, IsPlayedLine, PlaysNext};
 ghost use Rattle.radio_engine.specs.Taking.{Fits};
 ghost use Rattle.line_cutter.specs.Cutting.{line_in};
-ghost use Rattle.script_line.specs.declared.line.ScriptLine.{ScriptLine};
 ghost use Rattle.script_player.specs.KeptPlayer.{HasPlayed, IsReady};
+ghost use Rattle.script_player.specs.Replay.{Played};
 ghost use Rattle.station_config.specs.Station.{StationFields};
 
 use crate::reading::{Gives, Line, Reach, Taker, Took};
@@ -36,7 +36,7 @@ fn play_text(
     requires ready { IsReady (λ b. least_start b) player.old }
     ensures ready { IsReady (λ b. least_start b) player.new }
     ensures fits { MatchResult result (λ length. length ≤ LINE_ROOM) (λ _. Unit {0}) }
-    ensures plays { (station : StationFields) (limit : ℕ) (before : List ScriptLine) → HasPlayed (λ b h. stands_for b h) player.old station limit before →
+    ensures plays { (station : StationFields) (limit : ℕ) (before : List Played) → HasPlayed (λ b h. stands_for b h) player.old station limit before →
         PlaysNext (λ b h. stands_for b h) player.new station limit before text.now line.new result }
 {
     let Some(script_line) = read_line(text) else {
@@ -72,7 +72,7 @@ impl Replayer<BoxedReceiver> {
         ensures cutter { self.new.cutter ≡ self.old.cutter }
         ensures fits { Fits result }
         ensures lines { self.new.lines ≤ self.old.lines + 1 }
-        ensures plays { (station : StationFields) (limit : ℕ) (before : List ScriptLine) → HasPlayed (λ b h. stands_for b h) self.old.player station limit before →
+        ensures plays { (station : StationFields) (limit : ℕ) (before : List Played) → HasPlayed (λ b h. stands_for b h) self.old.player station limit before →
             IsPlayedLine (λ b h. stands_for b h) self.old.lines self.new.lines self.new.player station limit before (line_in self.old.cutter) line.new result }
     {
         match play_text(&mut self.player, self.cutter.line(), line) {

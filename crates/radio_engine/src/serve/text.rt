@@ -40,6 +40,8 @@ struct Totals {
     answered: u128,
     dropped: u128,
     again: u128,
+    kissed: u128,
+    unkept: u128,
     end: End,
 }
 
@@ -51,6 +53,8 @@ fn of_one(first: Served) -> Totals
         answered: u128::from(first.answered),
         dropped: u128::from(first.dropped),
         again: u128::from(first.again),
+        kissed: u128::from(first.kissed),
+        unkept: u128::from(first.unkept),
         end: first.end,
     }
 }
@@ -63,6 +67,8 @@ fn of_both(first: Served, second: Served) -> Totals
         answered: u128::from(first.answered) + u128::from(second.answered),
         dropped: u128::from(first.dropped) + u128::from(second.dropped),
         again: u128::from(first.again) + u128::from(second.again),
+        kissed: u128::from(first.kissed) + u128::from(second.kissed),
+        unkept: u128::from(first.unkept) + u128::from(second.unkept),
         end: second.end,
     }
 }
@@ -102,6 +108,10 @@ fn write_link_line(number: usize, work: &LinkWork, line: &mut Line) -> usize
     text.number(totals.dropped);
     text.field(b"again");
     text.number(totals.again);
+    text.field(b"kissed");
+    text.number(totals.kissed);
+    text.field(b"unkept");
+    text.number(totals.unkept);
     text.field(b"end");
     text.field(end_word(totals.end));
     text.add(b"\n");

@@ -5,10 +5,10 @@ use Rattle.toml.specs.View.{table_view}
 use Rattle.station_config.specs.Faults.{bad_in, bad_in_keys, keys_at, missing_in, sheets}
 use Rattle.station_config.specs.Finding.{IsMisreadAt}
 use Rattle.station_config.specs.Rows.{port_row}
-use Rattle.station_config.specs.Values.{key_of, number_at, radio_of, server_of}
+use Rattle.station_config.specs.Values.{key_of, net_of, number_at, radio_of, server_of}
 use Rattle.station_config.specs.declared.keys.Part.TheVariants as part
 use Rattle.station_config.proofs.KeyWalks.{apart_none}
-use Rattle.station_config.proofs.Orders.{bad_key, bad_link, bad_radio, bad_server, no_bad, none_in}
+use Rattle.station_config.proofs.Orders.{bad_key, bad_link, bad_net, bad_radio, bad_server, no_bad, none_in}
 use Rattle.station_config.proofs.document.read_parts.Goals as goal
 
 pub read_radios-requires : goal.read_radios-requires
@@ -61,13 +61,29 @@ returns-in_err-keys-clause-bad c =
     let h = subst (λ ts. IsMisreadAt (bad_in_keys [] ts) o) c.in-Ok.ensures.keys c.in_err-keys.ensures.bad in
     rw (p.1, p.2) (bad_key (table_view c.args.table.now) o c.in-Ok.ensures.good radios servers links h)
 
+pub read_nets-requires : goal.read_nets-requires
+read_nets-requires c =
+    ap (λ ts. keys_at missing_in (sheets part.Deny ts)) c.in-Ok.ensures.deny ∙ (none_in missing_in (table_view c.args.table.now) c.requires).nets
+
+pub returns-in_err-deny-clause-bad : goal.returns-in_err-deny-clause-bad
+returns-in_err-deny-clause-bad c =
+    let p = err_from_is_err_and c.from_residual-in_err-deny.result c.from_residual-in_err-deny.ensures.1 in
+    let o = c.in_err-deny.field-0.0 in
+    let radios = sym (ap (λ ts. keys_at bad_in (sheets part.Radio ts)) c.in-Ok.ensures.radios) ∙ c.in_ok-radios.ensures.read.good in
+    let servers = sym (ap (λ ts. keys_at bad_in (sheets part.Server ts)) c.in-Ok.ensures.servers) ∙ c.in_ok-servers.ensures.read.good in
+    let links = sym (ap (λ ts. keys_at bad_in (sheets part.Link ts)) c.in-Ok.ensures.links) ∙ c.in_ok-links.ensures.read.good in
+    let keys = sym (ap (bad_in_keys []) c.in-Ok.ensures.keys) ∙ c.in_ok-keys.ensures.read.good in
+    let h = subst (λ ts. IsMisreadAt (keys_at bad_in (sheets part.Deny ts)) o) c.in-Ok.ensures.deny c.in_err-deny.ensures.bad in
+    rw (p.1, p.2) (bad_net (table_view c.args.table.now) o c.in-Ok.ensures.good radios servers links keys h)
+
 pub returns-clause-said : goal.returns-clause-said
 returns-clause-said c =
     let radios = c.in_ok-radios.ensures.read.rows ∙ ap (map (λ t. radio_of t.1)) c.in-Ok.ensures.radios in
     let servers = c.in_ok-servers.ensures.read.rows ∙ ap (map (λ t. server_of t.1)) c.in-Ok.ensures.servers in
     let links = c.in_ok-links.ensures.read.rows ∙ ap (map (λ t. number_at port_row t.1)) c.in-Ok.ensures.links in
     let keys = c.in_ok-keys.ensures.read.rows ∙ ap (map (λ t. key_of t.1)) c.in-Ok.ensures.keys in
-    λ i. record { top = c.in-Ok.ensures.numbers i; radios = radios i; servers = servers i; links = links i; keys = keys i }
+    let deny = c.in_ok-deny.ensures.read.rows ∙ ap (map (λ t. net_of t.1)) c.in-Ok.ensures.deny in
+    λ i. record { top = c.in-Ok.ensures.numbers i; radios = radios i; servers = servers i; links = links i; keys = keys i; deny = deny i }
 
 pub returns-clause-good : goal.returns-clause-good
 returns-clause-good c =
@@ -75,7 +91,8 @@ returns-clause-good c =
     let servers = sym (ap (λ ts. keys_at bad_in (sheets part.Server ts)) c.in-Ok.ensures.servers) ∙ c.in_ok-servers.ensures.read.good in
     let links = sym (ap (λ ts. keys_at bad_in (sheets part.Link ts)) c.in-Ok.ensures.links) ∙ c.in_ok-links.ensures.read.good in
     let keys = sym (ap (bad_in_keys []) c.in-Ok.ensures.keys) ∙ c.in_ok-keys.ensures.read.good in
-    no_bad (table_view c.args.table.now) c.in-Ok.ensures.good radios servers links keys
+    let nets = sym (ap (λ ts. keys_at bad_in (sheets part.Deny ts)) c.in-Ok.ensures.deny) ∙ c.in_ok-deny.ensures.read.good in
+    no_bad (table_view c.args.table.now) c.in-Ok.ensures.good radios servers links keys nets
 
 pub returns-clause-apart : goal.returns-clause-apart
 returns-clause-apart c = c.in_ok-keys.ensures.read.apart apart_none

@@ -1,6 +1,6 @@
 -- What the search leaves open of `crew::run_crew`.
-use Rattle.std.proofs.Common.{rules, ◌≡◌, ◌+◌, ◌<◌, ◌≤◌, ◌++◌, slice_index_or, length, map, refl, sym, ap, ◌∙◌, subst, arith}
-use Rattle.std.specs.Prelude.{All, vec_len}
+use Rattle.std.proofs.Common.{rules, ◌≡◌, ◌<◌, ◌++◌, slice_index_or, length, map, sym, ap, ◌∙◌, subst, arith}
+use Rattle.std.specs.Prelude.{All}
 use Rattle.std.proofs.lemmas.List.Elements.{All-append, All-map}
 use Rattle.page_cell.specs.Passes.{Known}
 use Rattle.station_crew.proofs.ListLaws.{each_keeps, pairs_at, pairs_keep, pairs_length}

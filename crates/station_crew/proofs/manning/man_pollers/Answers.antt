@@ -1,7 +1,6 @@
 -- What the search leaves open of `manning::man_pollers`.
-use Rattle.std.proofs.Common.{rules, ◌≡◌, ◌∙◌, ◌<◌, ◌+◌, [], ◌∷◌, ◌++◌, length, map, take, refl, sym, ap, subst, arith}
+use Rattle.std.proofs.Common.{rules, ◌≡◌, ◌∙◌, ◌<◌, [], ◌∷◌, ◌++◌, length, map, take, sym, ap, arith}
 use Rattle.std.specs.Prelude.{Some, slice_get, vec_len}
-use Rattle.std.specs.Vec.Iter.{into_iter_items}
 use Rattle.std.proofs.lemmas.List.{map-append}
 use Rattle.station_config.specs.Station.{ServerFields}
 use Rattle.station_crew.proofs.ListLaws.{first_removed, moved, take_one_more, told_whole}

@@ -1,14 +1,10 @@
 -- What the search leaves open of `manning::man_radios`.
-use Rattle.std.proofs.Common.{rules, ◌≡◌, ◌∙◌, ◌∷◌, ◌<◌, [], length, refl, sym, ap, subst, arith}
+use Rattle.std.proofs.Common.{rules, ◌≡◌, ◌∙◌, ◌∷◌, ◌<◌, [], length, sym, ap}
 use Rattle.std.specs.Vec.Iter.{into_iter_items}
 use Rattle.std.proofs.lemmas.List.{nil_from_length}
 use Rattle.station_crew.specs.Jobs.{IsManned}
 use Rattle.station_crew.specs.Leaving.{log_of, radio_pass}
-use Rattle.station_crew.specs.Lists.{Pairs, PairsFront}
 use Rattle.station_crew.proofs.ListLaws.{all_rest, first_removed, front_none, front_more, front_whole, moved}
-use Rattle.station_crew.proofs.FeedLaws.{seen_all}
-use Rattle.station_crew.proofs.LinkLaws.{links_served}
-use Rattle.station_crew.proofs.JournalLaws.{page-length}
 use Rattle.station_crew.proofs.manning.man_radios.Goals as goal
 
 pub loop-log-init : goal.loop-log-init

@@ -3,6 +3,7 @@ use Rattle.std.proofs.Common.{◌≡◌, ◌+◌, ◌≤◌, ◌++◌, length, m
 use Rattle.std.specs.Prelude.{All, None, vec_capacity, vec_len}
 use Rattle.std.specs.Vec.Iter.{into_iter_items}
 use Rattle.packet_auth.specs.Keys.{keys_of}
+use Rattle.station_config.specs.Station.{gate_of}
 use Rattle.station_crew.specs.Leaving.{link_of, serve_pass}
 use Rattle.station_crew.proofs.manning.man_responders.Given as goal
 
@@ -11,7 +12,10 @@ invariant-loop-link g l = record {
   links : map link_of l.jobs.items ++ into_iter_items l.link-iterator ≡ into_iter_items l.initial.link-iterator;
   passes : map serve_pass l.jobs.items ++ l.readers.items ≡ l.initial.readers.items;
   none : All (λ j. j.work.second ≡ None) l.jobs.items;
-  keyed : All (λ j. keys_of j.responder.keys ≡ keys_of l.keys) l.jobs.items;
+  keyed : All (λ j. keys_of j.responder.keys ≡ l.station.keys) l.jobs.items;
+  gated : All (λ j. j.responder.clients ≡ gate_of l.station) l.jobs.items;
+  alike : All (λ gate. gate ≡ gate_of l.station) l.gates.items;
+  gates : length (into_iter_items l.link-iterator) ≤ vec_len l.gates;
   count : length (into_iter_items l.link-iterator) ≤ vec_len l.readers;
   few : vec_len l.jobs + length (into_iter_items l.link-iterator) ≤ 8;
   room : vec_len l.jobs + length (into_iter_items l.link-iterator) ≤ vec_capacity l.jobs;

@@ -62,5 +62,6 @@ returns-clause-manned g c = record {
   asked = c.man_pollers.ensures.servers;
   links = c.man_responders.ensures.links;
   unserved = c.man_responders.ensures.none;
-  keyed = λ i d lt. c.man_responders.ensures.keyed i d lt ∙ c.keys.ensures.value;
+  keyed = c.man_responders.ensures.keyed;
+  gated = c.man_responders.ensures.gated;
 }

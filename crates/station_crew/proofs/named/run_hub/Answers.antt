@@ -7,7 +7,7 @@ use Rattle.std.proofs.lemmas.List.Elements.{All-append, All-map}
 use Rattle.page_cell.specs.Claims.{IsTrueOf}
 use Rattle.page_cell.specs.Passes.{Known, KnownReader, claim_of}
 use Rattle.page_cell.specs.Views.{new_claim}
-use Rattle.station_config.specs.Station.{kind_of_radio, kind_of_server}
+use Rattle.station_config.specs.Station.{gate_of, kind_of_radio, kind_of_server}
 use Rattle.station_crew.proofs.FeedLaws.{may_hear, may_poll, radios_served, seen_all, servers_served}
 use Rattle.station_crew.proofs.LinkLaws.{links_served}
 use Rattle.station_crew.proofs.ListLaws.{each_keeps}
@@ -156,7 +156,7 @@ returns-clause-links g c =
     let read = subst (All (λ (r : KnownReader). HasRead N.settings j r.view)) r.readers (subst (λ (s : SettingsFields). All (λ (r : KnownReader). HasRead s j r.view) c.run_crew-gear.result.readers.items) c.close.ensures.settings c.close.ensures.readers) in
     let new = subst (All (IsNewReader N.table)) (sym c.man_crew-crew.ensures.readers) c.requires.readers in
     let bound : (x : KnownReader) → HasSeenAll (map radio_pass r.radios ++ map poll_pass r.pollers) x → length j ≤ x.view.seen = λ x seen. seen_all (λ b h. (goal.Receiver-dyn g (b.vtable, b.value)).stands_for b.value h) (λ b. (goal.Receiver-dyn g (b.vtable, b.value)).least_start b.value) g.L.Source.state g.L.Source.opening g.T.Link.state g.T.Link.opening N.limit (length N.settings.sources) j crew.radios.items r.radios crew.pollers.items r.pollers claims r.radios_ran r.radio_count r.pollers_ran r.poller_count all lawful x.view.seen seen in
-    let told = links_served g.T.Link.state g.T.Link.opening c.args.station.now.keys N.settings j c.args.budget.during c.args.budget.after N.table (map radio_pass r.radios ++ map poll_pass r.pollers) crew.responders.items r.responders r.served r.responder_count new m.unserved m.keyed read bound in
-    subst (λ l. LinksServed g.T.Link.state g.T.Link.opening c.args.station.now.keys N.settings j c.args.budget.during c.args.budget.after l c.run_crew-gear.result.gear.links.items c.run_crew-gear.result.links.items) m.links
-    (subst (λ l. LinksServed g.T.Link.state g.T.Link.opening c.args.station.now.keys N.settings j c.args.budget.during c.args.budget.after (map link_of crew.responders.items) l c.run_crew-gear.result.links.items) (sym r.links)
-    (subst (λ l. LinksServed g.T.Link.state g.T.Link.opening c.args.station.now.keys N.settings j c.args.budget.during c.args.budget.after (map link_of crew.responders.items) (map link_of r.responders) l) (sym r.link_works) told))
+    let told = links_served g.T.Link.state g.T.Link.opening c.args.station.now.keys (gate_of c.args.station.now) N.settings j c.args.budget.during c.args.budget.after N.table (map radio_pass r.radios ++ map poll_pass r.pollers) crew.responders.items r.responders r.served r.responder_count new m.unserved m.keyed m.gated read bound in
+    subst (λ l. LinksServed g.T.Link.state g.T.Link.opening c.args.station.now.keys (gate_of c.args.station.now) N.settings j c.args.budget.during c.args.budget.after l c.run_crew-gear.result.gear.links.items c.run_crew-gear.result.links.items) m.links
+    (subst (λ l. LinksServed g.T.Link.state g.T.Link.opening c.args.station.now.keys (gate_of c.args.station.now) N.settings j c.args.budget.during c.args.budget.after (map link_of crew.responders.items) l c.run_crew-gear.result.links.items) (sym r.links)
+    (subst (λ l. LinksServed g.T.Link.state g.T.Link.opening c.args.station.now.keys (gate_of c.args.station.now) N.settings j c.args.budget.during c.args.budget.after (map link_of crew.responders.items) (map link_of r.responders) l) (sym r.link_works) told))

@@ -1,5 +1,5 @@
 -- What the search leaves open of `named::run_named`.
-use Rattle.std.proofs.Common.{rules, ◌≡◌, sym, subst}
+use Rattle.std.proofs.Common.{◌≡◌, sym, subst}
 use Rattle.std.specs.Prelude.{All}
 use Rattle.page_cell.specs.Passes.{Known}
 use Rattle.station_crew.specs.Crews.{IsNewReader}

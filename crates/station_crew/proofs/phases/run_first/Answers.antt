@@ -1,6 +1,5 @@
 -- What the search leaves open of `phases::run_first`.
-use Rattle.std.proofs.Common.{rules, ◌≡◌}
-use denote.Param.Send.{sendable, param_send, arg_send}
+use denote.Param.Send.{sendable}
 use Rattle.station_crew.proofs.phases.run_first.Goals as goal
 
 pub join_mut-requires-after_bounds : goal.join_mut-requires-after_bounds

@@ -1,11 +1,8 @@
 -- What the search leaves open of `station::serve_station`.
-use Rattle.std.proofs.Common.{rules, ◌≡◌, [], length, map, refl, sym, ap, ◌∙◌, subst, arith}
-use Rattle.std.specs.List.{range_with_len}
+use Rattle.std.proofs.Common.{◌≡◌, []}
 use Rattle.std.proofs.lemmas.List.Elements.{All-weaker}
 use Rattle.page_cell.specs.Passes.{KnownReader}
-use Rattle.page_cell.specs.Views.{new_claim}
 use Rattle.station_crew.specs.Crews.{IsNewReader}
-use Rattle.system_fold.specs.Settings.{SettingsFields}
 use Rattle.station_crew.proofs.station.serve_station.Goals as goal
 
 pub run_named-requires-clause-readers : goal.run_named-requires-clause-readers

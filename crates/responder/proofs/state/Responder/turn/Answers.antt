@@ -12,8 +12,8 @@ returns-in-Ok-Datagram-clause-goes g c =
     let a = g.L.Link.state c.args.self.now.link in
     let b = g.L.Link.state c.hear.new.self in
     let past = Came c.in-Ok-Datagram.arrival.from c.in-Ok-Datagram.arrival.at (take c.in-Ok-Datagram.arrival.length c.hear.new.piece) ∷ [] in
-    on_true c.answer.result _ (Goes keys [] a (g.L.Link.state c.answer.new.self.link) c.args.self.now.pass.view c.answer.new.self.pass.view c.args.served.now c.answer.new.served)
-    (λ h. whole_goes keys past a b (g.L.Link.state c.answer.new.self.link) c.args.self.now.pass.view c.answer.new.self.pass.view c.args.served.now c.answer.new.served (search rules) (search rules) h)
+    on_true c.answer.result _ (Goes keys c.args.self.now.clients c.answer.new.self.clients [] a (g.L.Link.state c.answer.new.self.link) c.args.self.now.pass.view c.answer.new.self.pass.view c.args.served.now c.answer.new.served)
+    (λ h. whole_goes keys c.args.self.now.clients c.answer.new.self.clients past a b (g.L.Link.state c.answer.new.self.link) c.args.self.now.pass.view c.answer.new.self.pass.view c.args.served.now c.answer.new.served (search rules) (search rules) h)
     c.answer.ensures.goes
 
 pub returns-in-Ok-Datagram-clause-stops : goal.returns-in-Ok-Datagram-clause-stops
@@ -22,6 +22,6 @@ returns-in-Ok-Datagram-clause-stops g c =
     let a = g.L.Link.state c.args.self.now.link in
     let b = g.L.Link.state c.hear.new.self in
     let past = Came c.in-Ok-Datagram.arrival.from c.in-Ok-Datagram.arrival.at (take c.in-Ok-Datagram.arrival.length c.hear.new.piece) ∷ [] in
-    on_false c.answer.result _ (Stops keys a (g.L.Link.state c.answer.new.self.link) c.args.self.now.pass.view c.answer.new.self.pass.view c.args.served.now c.answer.new.served)
-    (λ h. whole_unsent keys past a b (g.L.Link.state c.answer.new.self.link) c.args.self.now.pass.view c.answer.new.self.pass.view c.args.served.now c.answer.new.served (search rules) (search rules) h)
+    on_false c.answer.result _ (Stops keys c.args.self.now.clients c.answer.new.self.clients a (g.L.Link.state c.answer.new.self.link) c.args.self.now.pass.view c.answer.new.self.pass.view c.args.served.now c.answer.new.served)
+    (λ h. whole_unsent keys c.args.self.now.clients c.answer.new.self.clients past a b (g.L.Link.state c.answer.new.self.link) c.args.self.now.pass.view c.answer.new.self.pass.view c.args.served.now c.answer.new.served (search rules) (search rules) h)
     c.answer.ensures.stops

@@ -1,7 +1,7 @@
 -- What the search leaves open of `player::Player+BoxedReceiver::is_full`.
 use Rattle.station_config.specs.Station.{settings_of}
-use Rattle.script_player.specs.Replay.{due}
+use Rattle.script_player.specs.Replay.{due, lines_of}
 use Rattle.script_player.proofs.player.Player+BoxedReceiver.is_full.Goals as goal
 
 pub returns : goal.returns
-returns g c station limit before h = c.is_full.ensures (settings_of station) limit (due station before) h.journal
+returns g c station limit before h = c.is_full.ensures (settings_of station) limit (due station (lines_of before)) h.journal

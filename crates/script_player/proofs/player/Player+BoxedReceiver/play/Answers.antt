@@ -1,5 +1,5 @@
 -- What the search leaves open of `player::Player+BoxedReceiver::play`.
-use Rattle.script_player.proofs.PlayerLaws.{requests}
+use Rattle.std.proofs.Common.{refl}
 use Rattle.script_player.proofs.player.Player+BoxedReceiver.play.Goals as goal
 
 pub returns-in-Pulse-clause-plays : goal.returns-in-Pulse-clause-plays
@@ -15,6 +15,4 @@ pub returns-in-Swap-clause-plays : goal.returns-in-Swap-clause-plays
 returns-in-Swap-clause-plays g c station limit before h = rw c.in-Swap.is (c.swap.ensures.plays station limit before h)
 
 pub returns-in-Request-clause-plays : goal.returns-in-Request-clause-plays
-returns-in-Request-clause-plays g c station limit before h =
-    let r = c.in-Request in
-    rw r.is (requests (λ b h. (goal.Receiver-dyn g (b.vtable, b.value)).stands_for b.value h) c.args.self.now station limit before r.connection r.arrived r.sent r.datagram c.reply.result (c.reply.ensures station limit before r.connection h) h)
+returns-in-Request-clause-plays g c station limit before h = rw c.in-Request.is (refl, c.reply.ensures.given station limit before h)

@@ -1,14 +1,21 @@
 -- What the search leaves open of `player::Player+BoxedReceiver::reply`.
-use Rattle.std.proofs.Common.{◌≡◌, Ok, take, sym, ap, subst}
-use Rattle.packet_auth.specs.Keys.{keys_of}
-use Rattle.sealed_reply.specs.Replies.{reply_to}
-use Rattle.script_player.specs.Replay.{outcome_of_request, page_after}
+use Rattle.std.proofs.Common.{◌≡◌, take, Err, subst, ◌∙◌}
+use Rattle.reply_core.specs.Reply.{request_of}
+use Rattle.script_line.specs.declared.line.ScriptLine.TheVariants.{Request}
+use Rattle.script_player.specs.KeptPlayer.{HasGiven}
+use Rattle.script_player.proofs.PlayerLaws.{drops-request}
 use Rattle.script_player.proofs.player.Player+BoxedReceiver.reply.Goals as goal
 
-pub returns-in-Ok : goal.returns-in-Ok
-returns-in-Ok g c station limit before connection h =
+pub returns-in-Ok-clause-given : goal.returns-in-Ok-clause-given
+returns-in-Ok-clause-given g c station limit before h =
     let e : take c.write-length.result c.write-length.new.out ≡ c.args.datagram.now = c.write-length.ensures.bytes in
-    let of_slice : reply_to (keys_of c.args.self.now.keys) c.page.result (take c.write-length.result c.write-length.new.out) c.args.arrived c.args.sent ≡ Ok c.in-Ok.reply = c.in-Ok.ensures.replied in
-    let replied = subst (λ d. reply_to (keys_of c.args.self.now.keys) c.page.result d c.args.arrived c.args.sent ≡ Ok c.in-Ok.reply) e of_slice in
-    let from_page = subst (λ p. reply_to (keys_of c.args.self.now.keys) p c.args.datagram.now c.args.arrived c.args.sent ≡ Ok c.in-Ok.reply) (c.page.ensures station limit before h) replied in
-    ap outcome_of_request (sym (subst (λ keys. reply_to keys (page_after station limit before) c.args.datagram.now c.args.arrived c.args.sent ≡ Ok c.in-Ok.reply) h.keys from_page))
+    let same : c.in-Ok.request.datagram.now ≡ c.args.datagram.now = c.in-Ok.ensures.read ∙ e in
+    subst (λ d. HasGiven (λ b h. (goal.Receiver-dyn g (b.vtable, b.value)).stands_for b.value h) c.judge_and_reply.new.self station limit before (Request c.args.connection c.args.arrived c.args.sent d) c.judge_and_reply.result) same
+    (c.judge_and_reply.ensures.given station limit before h)
+
+pub returns-in-Err-clause-given : goal.returns-in-Err-clause-given
+returns-in-Err-clause-given g c station limit before h =
+    let e : take c.write-length.result c.write-length.new.out ≡ c.args.datagram.now = c.write-length.ensures.bytes in
+    let dropped : request_of (take c.write-length.result c.write-length.new.out) ≡ Err c.in-Err.why = c.in-Err.ensures.dropped in
+    drops-request (λ b h. (goal.Receiver-dyn g (b.vtable, b.value)).stands_for b.value h) c.args.self.now station limit before c.args.connection c.args.arrived c.args.sent c.args.datagram.now c.in-Err.why
+    (subst (λ d. request_of d ≡ Err c.in-Err.why) e dropped) h

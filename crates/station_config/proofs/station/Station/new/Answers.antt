@@ -1,5 +1,6 @@
 -- What the search leaves open of `station::Station::new`.
-use Rattle.std.proofs.Common.{◌∙◌, ap}
+use Rattle.std.proofs.Common.{◌∙◌, ap, map}
+use Rattle.station_config.specs.KeptStation.{net_kept}
 use Rattle.station_config.proofs.Feeds.{sources_are}
 use Rattle.station_config.proofs.station.Station.new.Goals as goal
 
@@ -9,4 +10,8 @@ invariant_of-result c =
     let p = sources_are c.new-settings.result.sources c.add_radios.new.settings.sources settings.sources c.as_slice.result.now c.args.parts.radios.items c.as_slice-2.result.now c.args.parts.servers.items
     (ap (λ s. s.sources) c.new-settings.ensures) (ap (λ s. s.sources) c.add_radios.ensures) c.as_slice.ensures.value (ap (λ s. s.sources) c.add_servers.ensures) c.as_slice-2.ensures.value in
     let bound = ap (λ s. s.bound) c.add_servers.ensures ∙ ap (λ s. s.bound) c.add_radios.ensures ∙ ap (λ s. s.bound) c.new-settings.ensures in
-    record { same = λ i. record { bound = bound i; sources = p i }; bounds = c.requires }
+    record {
+      same = λ i. record { bound = bound i; sources = p i };
+      denied = c.deny_list-denied.ensures ∙ ap (map net_kept) c.as_slice-3.ensures.value;
+      bounds = c.requires;
+    }

@@ -1,0 +1,43 @@
+-- What the worker of a leap second file does with its bytes, and why it ends. All of it is this project's own.
+use Rattle.std.specs.Prelude.{◌≡◌, ℕ, ◌⊎◌, ◌^◌, Bool, true, false, Some, None, List, map}
+use Rattle.feed_link.specs.Told.{SourceState}
+use Rattle.file_reader.specs.Ends.{HasReadFront, EndsReading}
+use Rattle.file_reader.specs.declared.reader.FileEnd.TheVariants as file
+use Rattle.journal_entry.specs.declared.entry.Entry.{Entry}
+use Rattle.journal_entry.specs.declared.entry.What.TheVariants.{Notice}
+use Rattle.leap_file.specs.Rows.{bad_line, leap_seconds}
+use Rattle.page_cell.specs.declared.view.Claim.{Claim}
+use Rattle.feed_workers.specs.Keeping.{Keeps}
+use Rattle.feed_workers.specs.declared.work.LogEnd.{LogEnd}
+use Rattle.feed_workers.specs.declared.work.LogEnd.TheVariants.{Whole, BadLine, Fault, Long}
+use Rattle.feed_workers.specs.declared.work.LogWork.{LogWork}
+
+-- a leap second file has at most 2^16 bytes
+abbrev pub most_of_a_list : ℕ
+most_of_a_list = 2 ^ 16
+
+-- each of these leap seconds is a notice of the feed at the station's first moment
+abbrev pub notices_of : ℕ → ℕ → List ℕ → List Entry
+notices_of feed start seconds = map (λ second. record { feed = feed; at = start; what = Notice second }) seconds
+
+-- the entries that are due for the bytes read of a file; `whole` says that its end was read
+abbrev pub due_leap : ℕ → ℕ → (whole : Bool) → List ℕ → List Entry
+due_leap feed start whole bytes = notices_of feed start (leap_seconds whole bytes)
+
+-- These bytes were read of a file of at most so many, and the reading ended so. Whole: at the file's end, with no bad line. BadLine: at the
+-- first bad line, which stands among the bytes or is the last one, without its line feed, at the file's end. Fault: a read failed. Long:
+-- there is another byte behind as many as a file may have. In the last two no line was bad so far
+abbrev pub EndsLeap : ℕ → SourceState → SourceState → List ℕ → (whole : Bool) → LogEnd → Type 0
+EndsLeap most log log_now bytes whole Whole = (whole ≡ true) × EndsReading file.Whole most log log_now bytes × (bad_line true bytes ≡ None)
+EndsLeap most log log_now bytes whole (BadLine line) =
+    ((whole ≡ false) × HasReadFront most log log_now bytes × (bad_line false bytes ≡ Some line))
+    ⊎ ((whole ≡ true) × EndsReading file.Whole most log log_now bytes × (bad_line false bytes ≡ None) × (bad_line true bytes ≡ Some line))
+EndsLeap most log log_now bytes whole Fault = (whole ≡ false) × EndsReading file.Fault most log log_now bytes × (bad_line false bytes ≡ None)
+EndsLeap most log log_now bytes whole Long = (whole ≡ false) × EndsReading file.TooLong most log log_now bytes × (bad_line false bytes ≡ None)
+
+-- these bytes were read, and the entries that are due for them were kept
+pub record RunsLeap (start most : ℕ) (log log_now : SourceState) (claim claim_now : Claim) (limit : ℕ) (work : LogWork) : Type 0 where
+  pub bytes : List ℕ
+  pub whole : Bool
+  pub kept : Keeps claim claim_now limit work.full (due_leap claim.number start whole bytes)
+  pub ends : EndsLeap most log log_now bytes whole work.end

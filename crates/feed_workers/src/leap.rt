@@ -1,0 +1,214 @@
+//! The worker of a leap second file, which reads the list of leap seconds in it.
+ghost use Rattle.std.specs.Prelude.{◌≡◌, ◌≤◌, ◌<◌, ◌++◌, ◌∷◌, [], ℕ, IfSome, List, Option, length};
+ghost use Rattle.std.specs.Option.{option_to_list};
+ghost use Rattle.feed_workers.specs.Keeping.{IsOfFeed, Keeps};
+ghost use Rattle.feed_workers.specs.Leaps.{RunsLeap, most_of_a_list, notices_of};
+ghost use Rattle.feed_workers.specs.Noticing.{EndsList, HasNoticed, NoticesByte, NoticesPiece};
+ghost use Rattle.journal_entry.specs.declared.entry.Entry.{Entry};
+ghost use Rattle.page_cell.specs.declared.view.Claim.{Claim};
+ghost use Rattle.page_cell.specs.Passes.{claim_of};
+ghost use Rattle.tick_units.specs.Years.{end_of_told};
+
+use crate::keeping::keep;
+use crate::work::{LogEnd, LogWork};
+use feed_link::{Gate, Source};
+use file_reader::{FileEnd, FileReader, Pulled};
+use journal_entry::{Entry, What};
+use leap_file::{BadLeap, LeapReader};
+use page_cell::FeedPass;
+use std::sync::Wait;
+use tick_units::Local;
+use verdict_journal::{Hub, HubName};
+
+// The most bytes of a leap second file.
+const LIMIT: usize = 1 << 16;
+
+// Keeps the notice of a leap second, where one was found.
+fn notice<N: HubName, R: Wait, G: Gate>(
+    rt: &R,
+    hub: &Hub<N>,
+    gate: &G,
+    start: Local,
+    pass: &mut FeedPass,
+    found: Option<u64>,
+    full: &mut bool,
+)
+    requires pass { IsOfFeed N.table (length N.settings.sources) (claim_of pass.old.view).number pass.old }
+    requires told { IfSome found (λ second. second < end_of_told) }
+    ensures pass { IsOfFeed N.table (length N.settings.sources) (claim_of pass.old.view).number pass.new }
+    ensures kept { (begin : Claim) (due : List Entry) → Keeps begin (claim_of pass.old.view) N.limit full.old due →
+        Keeps begin (claim_of pass.new.view) N.limit full.new (due ++ notices_of (claim_of pass.old.view).number start (option_to_list found)) }
+{
+    if let Some(second) = found {
+        let entry = Entry {
+            feed: pass.number(),
+            at: start,
+            what: What::Notice(second),
+        };
+        keep(rt, hub, gate, pass, entry, full);
+    }
+}
+
+// Takes a byte, and keeps the notice of the row that it ends. Fails where the line that it ends is bad.
+fn take_byte<N: HubName, R: Wait, G: Gate>(
+    rt: &R,
+    hub: &Hub<N>,
+    gate: &G,
+    reader: &mut LeapReader,
+    start: Local,
+    pass: &mut FeedPass,
+    byte: u8,
+    full: &mut bool,
+) -> Result<(), BadLeap>
+    requires pass { IsOfFeed N.table (length N.settings.sources) (claim_of pass.old.view).number pass.old }
+    ensures pass { IsOfFeed N.table (length N.settings.sources) (claim_of pass.old.view).number pass.new }
+    ensures noticed { (begin : Claim) (bytes : List ℕ) → HasNoticed reader.old start begin (claim_of pass.old.view) N.limit full.old bytes →
+        NoticesByte reader.new start begin (claim_of pass.new.view) N.limit full.new (bytes ++ byte ∷ []) result }
+{
+    match reader.take(byte) {
+        Ok(found) => {
+            notice(rt, hub, gate, start, pass, found, full);
+            Ok(())
+        }
+        Err(bad) => Err(bad),
+    }
+}
+
+// Takes a piece of a file, up to a bad line: that line, where there is one.
+fn take_piece<N: HubName, R: Wait, G: Gate>(
+    rt: &R,
+    hub: &Hub<N>,
+    gate: &G,
+    reader: &mut LeapReader,
+    start: Local,
+    pass: &mut FeedPass,
+    piece: &[u8],
+    full: &mut bool,
+) -> Option<u64>
+    requires pass { IsOfFeed N.table (length N.settings.sources) (claim_of pass.old.view).number pass.old }
+    ensures pass { IsOfFeed N.table (length N.settings.sources) (claim_of pass.old.view).number pass.new }
+    ensures noticed { (begin : Claim) (bytes : List ℕ) → HasNoticed reader.old start begin (claim_of pass.old.view) N.limit full.old bytes →
+        NoticesPiece reader.new start begin (claim_of pass.new.view) N.limit full.new (bytes ++ piece.now) result }
+{
+    for place in 0..piece.len() {
+        match take_byte(rt, hub, gate, reader, start, pass, piece[place], full) {
+            Ok(()) => {}
+            Err(bad) => return Some(bad.line),
+        }
+    }
+    None
+}
+
+// The file has come to its end: keeps the notice of a last line without its line feed. How the file ends.
+fn finish_list<N: HubName, R: Wait, G: Gate>(
+    rt: &R,
+    hub: &Hub<N>,
+    gate: &G,
+    reader: &mut LeapReader,
+    start: Local,
+    pass: &mut FeedPass,
+    full: &mut bool,
+) -> LogEnd
+    requires pass { IsOfFeed N.table (length N.settings.sources) (claim_of pass.old.view).number pass.old }
+    ensures pass { IsOfFeed N.table (length N.settings.sources) (claim_of pass.old.view).number pass.new }
+    ensures ended { (begin : Claim) (bytes : List ℕ) → HasNoticed reader.old start begin (claim_of pass.old.view) N.limit full.old bytes →
+        EndsList start begin (claim_of pass.new.view) N.limit full.new bytes result }
+{
+    match reader.finish() {
+        Ok(found) => {
+            notice(rt, hub, gate, start, pass, found, full);
+            LogEnd::Whole
+        }
+        Err(bad) => LogEnd::BadLine { line: bad.line },
+    }
+}
+
+// Reads a file to its end, to its first bad line, to its first fault or to 2^16 bytes, and keeps the entries that are due.
+fn read_list<L: Source, N: HubName, R: Wait, G: Gate>(
+    rt: &R,
+    hub: &Hub<N>,
+    gate: &G,
+    log: &mut L,
+    start: Local,
+    pass: &mut FeedPass,
+) -> LogWork
+    requires pass { IsOfFeed N.table (length N.settings.sources) (claim_of pass.old.view).number pass.old }
+    ensures log { L.opening log.new ≡ L.opening log.old }
+    ensures pass { IsOfFeed N.table (length N.settings.sources) (claim_of pass.old.view).number pass.new }
+    ensures runs { RunsLeap start most_of_a_list (L.state log.old) (L.state log.new) (claim_of pass.old.view) (claim_of pass.new.view) N.limit result }
+{
+    let mut full = false;
+    let mut list = LeapReader::new();
+    let mut reader = FileReader::new(LIMIT);
+    'pieces: loop {
+        match reader.pull(log) {
+            Pulled::Piece => {
+                let piece = reader.piece();
+                match take_piece(rt, hub, gate, &mut list, start, pass, piece, &mut full) {
+                    None => {}
+                    Some(line) => {
+                        return LogWork {
+                            end: LogEnd::BadLine { line },
+                            full,
+                        };
+                    }
+                }
+            }
+            Pulled::Ended(FileEnd::Whole) => {
+                let end = finish_list(rt, hub, gate, &mut list, start, pass, &mut full);
+                return LogWork { end, full };
+            }
+            Pulled::Ended(FileEnd::Fault) => {
+                return LogWork {
+                    end: LogEnd::Fault,
+                    full,
+                };
+            }
+            Pulled::Ended(FileEnd::TooLong) => {
+                return LogWork {
+                    end: LogEnd::Long,
+                    full,
+                };
+            }
+        }
+    }
+}
+
+/// The worker of a leap second file: it reads the published list of leap seconds, and keeps a notice of each at the station's first
+/// moment.
+#[derive(Drop)]
+pub struct LeapWorker<L: Drop> {
+    pub(crate) log: L,
+    pub(crate) start: Local,
+    pub(crate) pass: FeedPass,
+}
+
+impl<L: Source + Drop> LeapWorker<L> {
+    /// A worker over a file, with the station's first moment and the pass of its feed.
+    pub fn new(log: L, start: Local, pass: FeedPass) -> LeapWorker<L>
+        ensures { (result.log ≡ log) × (result.start ≡ start) × (result.pass ≡ pass) }
+    {
+        LeapWorker { log, start, pass }
+    }
+
+    /// Reads the file to its end, to its first bad line, to its first fault or to 65536 bytes, and keeps a notice of each leap second
+    /// where there is room.
+    pub fn run<N: HubName, R: Wait, G: Gate>(&mut self, rt: &R, hub: &Hub<N>, gate: &G) -> LogWork
+        requires pass { IsOfFeed N.table (length N.settings.sources) (claim_of self.old.pass.view).number self.old.pass }
+        ensures log { L.opening self.new.log ≡ L.opening self.old.log }
+        ensures start { self.new.start ≡ self.old.start }
+        ensures pass { IsOfFeed N.table (length N.settings.sources) (claim_of self.old.pass.view).number self.new.pass }
+        ensures runs { RunsLeap self.old.start most_of_a_list (L.state self.old.log) (L.state self.new.log) (claim_of self.old.pass.view) (claim_of self.new.pass.view) N.limit result }
+    {
+        let LeapWorker { log, start, pass } = self;
+        read_list(rt, hub, gate, log, *start, pass)
+    }
+
+    /// Gives the file and the pass back.
+    pub fn give_back(self) -> (L, FeedPass)
+        ensures { (result.0 ≡ self.log) × (result.1 ≡ self.pass) }
+    {
+        let LeapWorker { log, pass, .. } = self;
+        (log, pass)
+    }
+}

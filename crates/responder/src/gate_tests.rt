@@ -1,0 +1,165 @@
+//! A responder whose gate denies senders, or lets each pass once in a gap. The page is that of no entry, so an answer has the reference ID
+//! `INIT`; a kiss code stands there in its letters (RFC 5905, section 7.4).
+
+use crate::tests::{CLIENT, NONE, bytes_of, gate_of, link_of, moment, opened};
+use crate::{Responder, Served};
+use feed_link::{Address, Link, LinkEvent, MemoryLink, OpenGate, Planned};
+use kiss_gate::{ClientGate, DenyList};
+use packet_auth::KeyRing;
+use std::alloc::Global;
+use std::sync::Wait;
+use std::test::Fail;
+
+const OTHER: Address = Address {
+    ip: 0x0a01_0203,
+    port: 123,
+};
+
+// A link on which these come: of each its sender, its moment, its first byte and its length.
+fn hearing(alloc: Global, datagrams: &[(Address, u32, u8, usize)]) -> Result<MemoryLink, Fail> {
+    let mut hearings = Vec::new(alloc);
+    for (from, at, first, length) in datagrams {
+        hearings.push(Planned::Datagram {
+            from: *from,
+            at: moment(*at),
+            bytes: bytes_of(alloc, *first, *length)?,
+        })?;
+    }
+    Ok(link_of(alloc, hearings, 0, 40)?)
+}
+
+// Whether these replies were sent on a link, in order: of each its receiver and its reference ID. Each has 48 bytes and says that the
+// server isn't synchronised.
+fn has_sent(link: &MemoryLink, replies: &[(Address, &str)]) -> bool {
+    let mut count = 0usize;
+    for place in 0..link.count() {
+        if let Some(LinkEvent::Sent { to, bytes }) = link.event(place) {
+            let Some((client, id)) = replies.get(count) else {
+                return false;
+            };
+            if to != *client
+                || bytes.len() != 48
+                || bytes[0] != 0xe4
+                || &bytes[12..16] != id.as_bytes()
+            {
+                return false;
+            }
+            count = count.saturating_add(1);
+        }
+    }
+    count == replies.len()
+}
+
+// What a responder with this gate does on a link until nothing more comes, and its link and gate after it.
+fn serve<R: Wait>(
+    rt: &R,
+    alloc: Global,
+    link: MemoryLink,
+    gate: ClientGate,
+    hearings: u64,
+) -> Result<(Served, MemoryLink, ClientGate), Fail> {
+    let (cell, pass) = opened(alloc)?;
+    let mut responder = Responder::new(link, pass, 0, KeyRing::new(), gate);
+    let served = responder.serve(rt, &cell, &OpenGate::new(), hearings);
+    let (link, _, gate) = responder.give_back();
+    Ok((served, link, gate))
+}
+
+#[test]
+fn a_client_that_asks_within_the_gap_gets_rate(rt: HostRuntime) -> Result<(), Fail> {
+    let datagrams = [
+        (CLIENT, 100, 0x23, 48),
+        (OTHER, 200, 0x23, 48),
+        (CLIENT, 1099, 0x23, 48),
+        (CLIENT, 1100, 0x23, 48),
+    ];
+    let replies = [
+        (CLIENT, "INIT"),
+        (OTHER, "INIT"),
+        (CLIENT, "RATE"),
+        (CLIENT, "INIT"),
+    ];
+    let link = hearing(rt.alloc(), &datagrams)?;
+    let gate = gate_of(rt.alloc(), &DenyList::new(), 1000)?;
+    let (served, link, _) = serve(&rt, rt.alloc(), link, gate, 4)?;
+    assert_eq!(rt;
+        served,
+        Served {
+            answered: 3,
+            kissed: 1,
+            ..NONE
+        }
+    );
+    assert!(rt; has_sent(&link, &replies));
+    Ok(())
+}
+
+#[test]
+fn a_denied_sender_gets_deny(rt: HostRuntime) -> Result<(), Fail> {
+    let datagrams = [
+        (OTHER, 100, 0x23, 48),
+        (OTHER, 101, 0x24, 48),
+        (OTHER, 102, 0x23, 47),
+        (CLIENT, 103, 0x23, 48),
+        (OTHER, 104, 0x23, 68),
+    ];
+    let replies = [(OTHER, "DENY"), (CLIENT, "INIT"), (OTHER, "DENY")];
+    let mut deny = DenyList::new();
+    deny.add(0x0a00_0000, 8);
+    let link = hearing(rt.alloc(), &datagrams)?;
+    let gate = gate_of(rt.alloc(), &deny, 0)?;
+    let (served, link, _) = serve(&rt, rt.alloc(), link, gate, 5)?;
+    assert_eq!(rt;
+        served,
+        Served {
+            answered: 1,
+            dropped: 2,
+            kissed: 2,
+            ..NONE
+        }
+    );
+    assert!(rt; has_sent(&link, &replies));
+    Ok(())
+}
+
+// So it doesn't keep its sender's next request away.
+#[test]
+fn a_dropped_datagram_is_not_judged(rt: HostRuntime) -> Result<(), Fail> {
+    let datagrams = [
+        (CLIENT, 100, 0x24, 48),
+        (CLIENT, 150, 0x23, 48),
+        (CLIENT, 160, 0x23, 48),
+    ];
+    let link = hearing(rt.alloc(), &datagrams)?;
+    let gate = gate_of(rt.alloc(), &DenyList::new(), 1000)?;
+    let (served, link, _) = serve(&rt, rt.alloc(), link, gate, 3)?;
+    assert_eq!(rt;
+        served,
+        Served {
+            answered: 1,
+            dropped: 1,
+            kissed: 1,
+            ..NONE
+        }
+    );
+    assert!(rt; has_sent(&link, &[(CLIENT, "INIT"), (CLIENT, "RATE")]));
+    Ok(())
+}
+
+// A client that was let pass by one responder asks the next one, which has its gate.
+#[test]
+fn the_table_is_handed_on(rt: HostRuntime) -> Result<(), Fail> {
+    let gate = gate_of(rt.alloc(), &DenyList::new(), 1000)?;
+    let link = hearing(rt.alloc(), &[(CLIENT, 100, 0x23, 48)])?;
+    let (first, link, gate) = serve(&rt, rt.alloc(), link, gate, 1)?;
+    assert_eq!(rt; (first.answered, first.kissed), (1, 0));
+    assert!(rt; has_sent(&link, &[(CLIENT, "INIT")]));
+    let link = hearing(
+        rt.alloc(),
+        &[(CLIENT, 500, 0x23, 48), (OTHER, 501, 0x23, 48)],
+    )?;
+    let (second, link, _) = serve(&rt, rt.alloc(), link, gate, 2)?;
+    assert_eq!(rt; (second.answered, second.kissed), (1, 1));
+    assert!(rt; has_sent(&link, &[(CLIENT, "RATE"), (OTHER, "INIT")]));
+    Ok(())
+}

@@ -1,0 +1,63 @@
+//! Reads the nets that a station denies as CIDR writes them (RFC 4632), and makes a list of them.
+ghost use Rattle.std.specs.Prelude.{◌≡◌, ◌≤◌, IfSome, length, map, option_map};
+ghost use Rattle.kiss_gate.specs.Nets.{nets_of};
+ghost use Rattle.station_config.specs.KeptStation.{net_kept};
+ghost use Rattle.station_config.specs.Rows.{after_slash, before_slash, cidr_of, net_by, prefix_of};
+
+use crate::address::address;
+use crate::denied_net::DeniedNet;
+use decimal_text::whole_number;
+use kiss_gate::DenyList;
+
+// An IPv4 address has this number of bits.
+const BITS: u64 = 32;
+
+// The length of a prefix that a text is, from 0 to 32.
+fn prefix(text: &str) -> Option<u8>
+    ensures value { result ≡ prefix_of text.now }
+    ensures most { IfSome result (λ n. n ≤ 32) }
+{
+    let number = whole_number(text.as_bytes(), BITS)?;
+    Some(number as u8)
+}
+
+// The parts of a text before and behind its first slash; all of it and nothing where it has none.
+fn parts(text: &str) -> (&str, &str)
+    ensures before { result.0.now ≡ before_slash text.now }
+    ensures after { result.1.now ≡ after_slash text.now }
+{
+    match text.split_once('/') {
+        Some(parts) => parts,
+        None => (text, ""),
+    }
+}
+
+fn joined(address: Option<u32>, bits: Option<u8>) -> Option<DeniedNet>
+    requires { IfSome bits (λ n. n ≤ 32) }
+    ensures { option_map net_kept result ≡ net_by address bits }
+{
+    Some(DeniedNet {
+        address: address?,
+        bits: bits?,
+    })
+}
+
+// The net of an address and the length of a prefix that are parted by a slash.
+pub fn denied_net(text: &str) -> Option<DeniedNet>
+    ensures { option_map net_kept result ≡ cidr_of text.now }
+{
+    let (net, bits) = parts(text);
+    joined(address(net), prefix(bits))
+}
+
+// The list of these nets.
+pub fn deny_list(nets: &[DeniedNet]) -> DenyList
+    requires { length nets.now ≤ 16 }
+    ensures { nets_of result ≡ map net_kept nets.now }
+{
+    let mut list = DenyList::new();
+    for net in nets {
+        list.add(net.address, net.bits);
+    }
+    list
+}

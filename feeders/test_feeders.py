@@ -1,0 +1,171 @@
+#!/usr/bin/env python3
+"""Tests of the feeders over recorded edges. What they have to write are the logs of the examples, which no feeder made.
+
+    feeders/test_feeders.py
+
+What needs hardware isn't run here: gpiomon itself, and a serial port's lines.
+"""
+
+import os
+import pathlib
+import random
+import subprocess
+import sys
+import time
+import unittest
+
+HERE = pathlib.Path(__file__).parent
+RADIOS = HERE.parent / "examples" / "radios"
+PLANS = ("dcf77", "msf", "wwvb")
+
+
+def reductions_of(plan):
+    """The starts and widths of an example's log."""
+    return [tuple(map(int, line.split())) for line in (RADIOS / f"{plan}.log").read_text().splitlines()]
+
+
+def edges_of(reductions):
+    """The edges of a line that is high while the carrier is reduced: microseconds, and whether it rises."""
+    return [edge for start, width in reductions for edge in ((start, True), (start + width, False))]
+
+
+def stamp(at):
+    return f"{at // 10**6}.{at % 10**6:06}789"
+
+
+def ours(at, rising):
+    return f"{stamp(at)} {'rising' if rising else 'falling'}\n"
+
+
+def gpiomon_1(at, rising):
+    return f"event: {'RISING' if rising else 'FALLING'} EDGE offset: 17 timestamp: [{stamp(at):>16}]\n"
+
+
+def gpiomon_2(at, rising):
+    return f"{stamp(at)}\t{'rising' if rising else 'falling'}\tgpiochip0 17\n"
+
+
+def feed(text, *words):
+    """What the feeder writes of a text, and what it says on standard error."""
+    done = subprocess.run([HERE / "edges_to_log.py", *words], input=text.encode(), capture_output=True, check=True)
+    return done.stdout.decode(), done.stderr.decode()
+
+
+def log_of(reductions):
+    return "".join(f"{start} {width}\n" for start, width in reductions)
+
+
+class Edges(unittest.TestCase):
+    def gives(self, edges, reductions, form=ours, *words):
+        written, said = feed("".join(form(at, rising) for at, rising in edges), *words)
+        self.assertEqual(written, log_of(reductions))
+        self.assertEqual(said, "")
+
+    def test_each_plan_in_each_form(self):
+        for plan in PLANS:
+            reductions = reductions_of(plan)
+            for form in (ours, gpiomon_1, gpiomon_2):
+                with self.subTest(plan=plan, form=form.__name__):
+                    self.gives(edges_of(reductions), reductions, form)
+
+    def test_a_line_that_is_low_while_the_carrier_is_reduced(self):
+        for plan in PLANS:
+            reductions = reductions_of(plan)
+            with self.subTest(plan=plan):
+                self.gives([(at, not rising) for at, rising in edges_of(reductions)], reductions, ours, "--low")
+
+    def test_noise(self):
+        """Spikes of up to 4.9 ms in reductions and between them, none within 5 ms of an edge."""
+        chance = random.Random(7)
+        for plan in PLANS:
+            reductions = reductions_of(plan)
+            edges = edges_of(reductions)
+            noisy = []
+            for (at, rising), (then, _) in zip(edges, edges[1:]):
+                noisy.append((at, rising))
+                if then - at > 30_000 and chance.random() < 0.4:
+                    spike = at + chance.randrange(10_000, then - at - 15_000)
+                    noisy += [(spike, not rising), (spike + chance.randrange(1, 4_900), rising)]
+            noisy.append(edges[-1])
+            self.assertGreater(len(noisy), len(edges) + 200)
+            with self.subTest(plan=plan):
+                self.gives(noisy, reductions)
+
+    def test_lost_edges(self):
+        """Of each edge that was lost one reduction isn't told, and no other."""
+        for plan in PLANS:
+            reductions = reductions_of(plan)
+            edges = edges_of(reductions)
+            for lost in range(20, 28):
+                with self.subTest(plan=plan, lost=lost):
+                    left = reductions[: lost // 2] + reductions[lost // 2 + 1 :]
+                    self.gives(edges[:lost] + edges[lost + 1 :], left)
+
+    def test_widths(self):
+        second = 1_000_000
+        for width, told in ((4_999, None), (5_000, 5_000), (1_999_999, 1_999_999), (2_000_000, 2_000_000), (2_000_001, 2_000_000), (9_000_000, 2_000_000)):
+            with self.subTest(width=width):
+                edges = edges_of([(second, width), (20 * second, 100_000)])
+                self.gives(edges, ([(second, told)] if told else []) + [(20 * second, 100_000)])
+
+    def test_gaps(self):
+        second = 1_000_000
+        self.gives(edges_of([(second, 50_000), (second + 54_999, 45_001)]), [(second, 100_000)])
+        self.gives(edges_of([(second, 50_000), (second + 55_000, 45_000)]), [(second, 50_000), (second + 55_000, 45_000)])
+
+    def test_starts_rise(self):
+        """A clock that goes back, and the same edges twice."""
+        edges = edges_of([(5_000_000, 100_000)])
+        self.gives(edges + edges + edges_of([(4_000_000, 100_000), (6_000_000, 100_000)]), [(5_000_000, 100_000), (6_000_000, 100_000)])
+
+    def test_the_last_line_without_its_line_feed(self):
+        written, _ = feed("1.000000 rising\n1.100000 falling")
+        self.assertEqual(written, "1000000 100000\n")
+
+    def test_what_is_no_edge(self):
+        written, said = feed("gpiomon: error\n\n1.0 rising\n1.1 falling\nwaiting for line: -- rising\n")
+        self.assertEqual(written, "1000000 100000\n")
+        self.assertEqual(said, "no edge: gpiomon: error\nno edge: waiting for line: -- rising\n")
+
+
+class Live(unittest.TestCase):
+    def setUp(self):
+        self.feeder = subprocess.Popen([HERE / "edges_to_log.py"], stdin=subprocess.PIPE, stdout=subprocess.PIPE, bufsize=0)
+        self.addCleanup(self.feeder.wait)
+        self.addCleanup(self.feeder.stdout.close)
+        self.addCleanup(self.feeder.stdin.close)
+
+    def test_a_line_comes_as_its_reduction_ends(self):
+        for second in (1, 2):
+            self.feeder.stdin.write(ours(second * 10**6, True).encode() + ours(second * 10**6 + 100_000, False).encode())
+            self.assertEqual(self.feeder.stdout.readline(), f"{second}000000 100000\n".encode())
+
+    def test_an_outage_is_told_when_two_seconds_are_over(self):
+        self.feeder.stdin.write(ours(10**6, True).encode())
+        begin = time.monotonic()
+        self.assertEqual(self.feeder.stdout.readline(), b"1000000 2000000\n")
+        self.assertGreaterEqual(time.monotonic() - begin, 2)
+        self.feeder.stdin.write(ours(5 * 10**6, False).encode() + ours(6 * 10**6, True).encode() + ours(6_200_000, False).encode())
+        self.assertEqual(self.feeder.stdout.readline(), b"6000000 200000\n")
+
+    def test_an_edge_in_two_pieces(self):
+        line = ours(10**6, True).encode() + ours(1_100_000, False).encode()
+        for byte in line:
+            self.feeder.stdin.write(bytes([byte]))
+        self.assertEqual(self.feeder.stdout.readline(), b"1000000 100000\n")
+
+    def test_a_reader_that_ends(self):
+        self.feeder.stdout.close()
+        try:
+            for second in range(1, 4):
+                self.feeder.stdin.write(ours(second * 10**6, True).encode() + ours(second * 10**6 + 100_000, False).encode())
+                time.sleep(0.2)
+        except BrokenPipeError:
+            pass
+        self.assertEqual(self.feeder.wait(10), 1)
+
+
+if __name__ == "__main__":
+    os.environ["PYTHONDONTWRITEBYTECODE"] = "1"
+    sys.dont_write_bytecode = True
+    unittest.main()
