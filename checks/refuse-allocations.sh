@@ -4,6 +4,7 @@
 # A run may only end so:
 #   whole      the same text and status as without a refusal
 #   memory     `status 9 memory` alone, and 9
+#   unkept     the whole text, and the one line `unkept` behind the reply to a client that couldn't be remembered
 # With the fakes a refusal may also be one of the test's own (it then judges nothing) or of the output in memory, which is a
 # failed write. Anything else is printed as BAD, and the script ends with 1.
 #
@@ -45,6 +46,12 @@ printf 'bound =\n' > "$work/bad.toml"
 # One radio, so that the order of the journal's lines doesn't hang on threads.
 printf '[[radio]]\nplan = "dcf"\nlog = "examples/radios/dcf77.log"\n[[link]]\nport = 12301\n' > "$work/serve.toml"
 
+# A station with a gap, and a request of each of three clients.
+printf 'gap = 2000000\n' > "$work/gap.toml"
+for client in 0 1 2; do
+    printf 'request %s 1000000 1000000 23%078d1122334455667788\n' "$client" 0
+done > "$work/requests"
+
 # Journals of both forms, and one whose third line is bad.
 "$program" replay --station examples/station.toml --script examples/exchange.script | grep '^j2 ' > "$work/numbered"
 sed 's/^j2 [0-9]* -\{0,1\}[0-9]* //' "$work/numbered" > "$work/journal"
@@ -67,6 +74,8 @@ refuse() {
 ended() {
     if [ "$status" = "$1" ] && cmp -s "$work/out" "$work/whole"; then echo whole
     elif [ "$status" = 9 ] && cmp -s "$work/out" "$work/memory"; then echo memory
+    elif [ "$status" = "$1" ] && [ "$(grep -c '^unkept$' "$work/out")" = 1 ] && grep -B 1 '^unkept$' "$work/out" | grep -q '^reply ' \
+        && grep -v '^unkept$' "$work/out" | cmp -s - "$work/whole"; then echo unkept
     else echo "BAD: status $status"
     fi
 }
@@ -102,6 +111,9 @@ fakes() {
 }
 
 program replay --station examples/station.toml --script examples/exchange.script
+program replay --station "$work/gap.toml" --script "$work/requests" > "$work/gap"
+cat "$work/gap"
+[ "$(grep -c ' unkept$' "$work/gap")" = 3 ] || { echo 'not each of three clients was once unkept: BAD'; bad=1; }
 program replay --station "$work/fault.toml" --script examples/exchange.script
 program replay --station "$work/bad.toml" --script examples/exchange.script
 program serve --station "$work/serve.toml" --during 0
@@ -118,5 +130,5 @@ fakes fault_tests::want_of_memory_in_a_log
 fakes fault_tests::want_of_memory_in_a_refusal
 fakes broken_tests::want_of_memory_in_a_serving
 fakes broken_tests::want_of_memory_in_a_journal
-[ "$bad" = 0 ] && echo "refuse-allocations: $refusals refused, each run whole or for want of memory"
+[ "$bad" = 0 ] && echo "refuse-allocations: $refusals refused, each run whole, for want of memory, or with one client unkept"
 exit "$bad"
