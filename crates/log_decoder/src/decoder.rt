@@ -31,7 +31,9 @@ pub struct LogDecoder<B: Drop> {
     pub(crate) feed: u32,
 }
 
-// An answer as an entry of a feed.
+// An answer as an entry of a feed. It isn't inlined: a call is made only where there is an answer, so that none of an entry's words
+// are written where a reduction completes nothing.
+#[inline(never)]
 pub fn entry_of(feed: u32, heard: Heard) -> Entry
     ensures { result ≡ entry_of feed heard }
 {

@@ -30,7 +30,8 @@ impl<R: Receiver> LogDecoder<R> {
         }
     }
 
-    /// Takes bytes as `take` does.
+    /// Takes bytes up to the end of the first line that completes an entry, up to the byte that makes a line bad, or all of them.
+    #[inline(always)]
     pub fn take_direct(&mut self, bytes: &[u8]) -> Step
         requires some { 0 < length bytes.now }
         requires ready { IsReady (λ r. R.least_start r) self.old }
@@ -40,10 +41,19 @@ impl<R: Receiver> LogDecoder<R> {
         ensures taken { (feed : ℕ) (plan : Plan) (delay : ℕ) (before : List ℕ) → HasDecoded (λ r h. R.stands_for r h) self.old feed plan delay before →
             DecodesFront (λ r h. R.stands_for r h) self.new feed plan delay before (take result.count bytes.now) result.found }
     {
-        let front = self.reader.take_line(bytes);
+        let mut count = 0;
+        'lines: while count < bytes.len() {
+            let front = self.reader.take_line(bytes.split_at(count).1);
+            count += front.count;
+            let found = self.hear_found(front.found);
+            match found {
+                Ok(None) => {}
+                _ => return Step { count, found },
+            }
+        }
         Step {
-            count: front.count,
-            found: self.hear_found(front.found),
+            count,
+            found: Ok(None),
         }
     }
 
@@ -60,7 +70,9 @@ impl<R: Receiver> LogDecoder<R> {
         self.reader.finish()
     }
 
-    // Hears what a line says that the reader has taken.
+    // Hears what a line says that the reader has taken. It is all in one function, and each None is met at once, so that a value
+    // of many words is made only where there is an entry.
+    #[inline(always)]
     fn hear_found(
         &mut self,
         found: Result<Option<Reduction>, BadLine>,
@@ -75,22 +87,11 @@ impl<R: Receiver> LogDecoder<R> {
     {
         match found {
             Ok(None) => Ok(None),
-            Ok(Some(reduction)) => Ok(self.hear_one(reduction)),
+            Ok(Some(reduction)) => match self.receiver.hear(reduction) {
+                None => Ok(None),
+                Some(heard) => Ok(Some(entry_of(self.feed, heard))),
+            },
             Err(bad) => Err(bad),
         }
-    }
-
-    // Hears the reduction of a line: the entry of the minute that it completes, if it completes one.
-    fn hear_one(&mut self, reduction: Reduction) -> Option<Entry>
-        requires { R.least_start self.old.receiver ≤ reduction.at }
-        ensures reader { self.new.reader ≡ self.old.reader }
-        ensures feed { self.new.feed ≡ self.old.feed }
-        ensures heard { (h : History) → R.stands_for self.old.receiver h → R.stands_for self.new.receiver (with_reduction h reduction) }
-        ensures answered { (h : History) → R.stands_for self.old.receiver h →
-            map (entry_of self.old.feed) (answers_of (with_reduction h reduction)) ≡ map (entry_of self.old.feed) (answers_of h) ++ option_to_list result }
-        ensures least { R.least_start self.new.receiver ≡ reduction.at + 1 }
-    {
-        let heard = self.receiver.hear(reduction)?;
-        Some(entry_of(self.feed, heard))
     }
 }

@@ -77,6 +77,7 @@ impl SegmentKeeper {
     }
 
     // Hears the next mark: the segment that it closes, if it closes one.
+    #[inline(always)]
     pub fn hear(&mut self, mark: Mark) -> Option<Closed>
         ensures heard { (plan : Plan) (marks : List Mark) → HasKept self.old plan marks → HasKept self.new plan (marks ++ mark ∷ []) }
         ensures closed { (plan : Plan) (marks : List Mark) → HasKept self.old plan marks → MatchOption result

@@ -32,6 +32,7 @@ impl Pairing {
     }
 
     /// Hears the next mark: the answer to the segment that it closes, if it closes one, at this mark's start.
+    #[inline(always)]
     pub fn hear(&mut self, mark: Mark) -> Option<Heard>
         ensures heard { (plan : Plan) (marks : List Mark) → HasPaired self.old plan marks → HasPaired self.new plan (marks ++ mark ∷ []) }
         ensures answered { (plan : Plan) (marks : List Mark) → HasPaired self.old plan marks →

@@ -42,7 +42,7 @@ impl Frame {
     }
 
     // Reads the next mark.
-    #[inline]
+    #[inline(always)]
     pub fn add(&mut self, mark: Mark)
         ensures { (plan : Plan) (marks : List Mark) → HasMarksOf self.old plan marks → HasMarksOf self.new plan (marks ++ mark ∷ []) }
     {

@@ -7,3 +7,4 @@ pub mod ReaderLaws
 pub mod FrontsLaws
 pub mod NumberLaws
 pub mod WholeLaws
+mod WordLaws

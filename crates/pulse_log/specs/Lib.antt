@@ -3,3 +3,4 @@ pub mod Lines
 pub mod Reading
 pub mod Writing
 pub use Rattle.tick_units.specs.Log
+pub mod Words

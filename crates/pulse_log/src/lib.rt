@@ -1,6 +1,7 @@
 //! Pulse logs: a reader of their bytes, one by one or line by line, and the writing of a line.
 #![tactic(auto)]
 
+mod digits;
 mod line;
 mod reader;
 mod whole;

@@ -78,7 +78,7 @@ impl LineReader {
     }
 
     /// Takes bytes up to the end of the first line that ends among them, up to the byte that makes a line bad, or all of them.
-    #[inline(never)]
+    #[inline(always)]
     pub fn take_line(&mut self, bytes: &[u8]) -> Front
         requires { 0 < length bytes.now }
         ensures some { 0 < result.count }
@@ -94,6 +94,7 @@ impl LineReader {
     }
 
     // No line was bad, and none has begun.
+    #[inline]
     fn is_between_lines(&self) -> bool
         ensures { result ≡ true → (self.now.bad ≡ None) × (self.now.line.length ≡ 0) }
     {
@@ -101,6 +102,7 @@ impl LineReader {
     }
 
     // Takes a line at once, with its line feed.
+    #[inline]
     fn take_whole(&mut self, line: WholeLine) -> Front
         requires none { self.old.bad ≡ None }
         requires empty { self.old.line.length ≡ 0 }

@@ -2,10 +2,8 @@
 ghost use Rattle.std.specs.Prelude.{◌≡◌, ◌+◌, ◌<◌, ◌≤◌, ◌^◌, ◌∷◌, ◌++◌, [], length, take, decimal, IfSome};
 ghost use Rattle.pulse_log.specs.Writing.{line_of};
 
+use crate::digits::{Digits, digits_in_front};
 use tick_units::{Local, Reduction};
-
-// Each number of at most this number of digits is below 2^50.
-const STARTS: usize = 15;
 
 // Each number of at most this number of digits is below 2000000.
 const WIDTHS: usize = 6;
@@ -20,27 +18,25 @@ pub struct WholeLine {
     ghost most: { found.width ≤ 2000000 },
 }
 
-// A number in decimal at the front of some bytes, and how many digits it has.
-#[derive(Clone, Copy, Debug)]
-struct Number {
-    value: u64,
-    count: usize,
-}
-
 /// The line at the front of these bytes, where it's a lawful one that starts at `least` or later. None also where it goes on
-/// behind them, and where its start is 0 or has 16 digits or its width has 7: such a line is left to who reads byte by byte.
+/// behind them or stands at their very end, and where its start is 0 or has 16 digits or its width has 7: such a line is left to who
+/// reads byte by byte.
+#[inline(always)]
 pub fn line_in_front(bytes: &[u8], least: u64) -> Option<WholeLine>
     ensures within { IfSome result (λ line. line.count ≤ length bytes.now) }
     ensures some { IfSome result (λ line. 0 < line.count) }
     ensures text { IfSome result (λ line. take line.count bytes.now ≡ line_of line.found ++ 10 ∷ []) }
     ensures least { IfSome result (λ line. least ≤ line.found.at) }
 {
-    let start = number_in_front(bytes, STARTS)?;
+    let start = number_in_front(bytes)?;
     let Some(b' ') = bytes.get(start.count) else {
         return None;
     };
     let rest = bytes.split_at(start.count + 1).1;
-    let width = number_in_front(rest, WIDTHS)?;
+    let width = number_in_front(rest)?;
+    if width.count > WIDTHS {
+        return None;
+    }
     let Some(b'\n') = rest.get(width.count) else {
         return None;
     };
@@ -57,28 +53,18 @@ pub fn line_in_front(bytes: &[u8], least: u64) -> Option<WholeLine>
     })
 }
 
-// The number whose digits are the first of these bytes; at most so many of them are read. None where there is no digit or the
-// first is 0.
-fn number_in_front(bytes: &[u8], most: usize) -> Option<Number>
-    requires { most ≤ 15 }
+// The number whose digits are the first of these bytes. None where there is no digit, where the first is 0, and where they aren't
+// read in one go.
+#[inline(always)]
+fn number_in_front(bytes: &[u8]) -> Option<Digits>
     ensures within { IfSome result (λ number. number.count ≤ length bytes.now) }
     ensures text { IfSome result (λ number. take number.count bytes.now ≡ decimal number.value) }
     ensures some { IfSome result (λ number. 0 < number.value) }
-    ensures below { IfSome result (λ number. number.value < 10 ^ most) }
+    ensures short { IfSome result (λ number. number.count ≤ 6 → number.value < 10 ^ 6) }
 {
-    let front = &bytes[..bytes.len().min(most)];
-    let mut value = 0;
-    let mut count = 0;
-    'digits: for byte in front {
-        let digit = u64::from(*byte).wrapping_sub(u64::from(b'0'));
-        if 9 < digit {
-            break;
-        }
-        value = value * 10 + digit;
-        count += 1;
-    }
-    if count == 0 || bytes[0] == b'0' {
+    let number = digits_in_front(bytes)?;
+    if number.count == 0 || bytes[0] == b'0' {
         return None;
     }
-    Some(Number { value, count })
+    Some(number)
 }

@@ -19,7 +19,8 @@ pub struct Chain {
     least_start: u64,
 }
 
-// A moment less a delay, and not below 0.
+// A moment less a delay, and not below 0. It isn't inlined, so that it is worked out only where there is an answer.
+#[inline(never)]
 fn sent(at: Local, delay_us: u32) -> Local
     ensures { result ≡ at - delay_us }
 {
@@ -51,6 +52,7 @@ impl Chain {
     }
 
     #[tactic(auto, using(crate::proofs::LastLaws::least_push))]
+    #[inline(always)]
     pub fn hear(&mut self, reduction: Reduction) -> Option<Heard>
         ensures heard { (h : History) → HasChained self.old h → HasChained self.new (with_reduction h reduction) }
         ensures answered { (h : History) → HasChained self.old h → answers_of (with_reduction h reduction) ≡ answers_of h ++ option_to_list result }
@@ -58,8 +60,12 @@ impl Chain {
         ensures years { IfSome result (λ heard. BelievesYears heard.kind) }
     {
         self.least_start = reduction.at.get() + 1;
-        let mark = self.marker.hear(reduction)?;
-        let heard = self.pairing.hear(mark)?;
+        let Some(mark) = self.marker.hear(reduction) else {
+            return None;
+        };
+        let Some(heard) = self.pairing.hear(mark) else {
+            return None;
+        };
         Some(Heard {
             at: sent(heard.at, self.delay_us),
             kind: heard.kind,

@@ -106,6 +106,7 @@ impl<P: OfPlan> Receiver for PlanReceiver<P> {
         self.chain.fit(delay_us);
     }
 
+    #[inline(always)]
     fn hear(&mut self, reduction: Reduction) -> Option<Heard> {
         self.chain.hear(reduction)
     }

@@ -31,6 +31,7 @@ impl Marker {
     }
 
     /// Hears the next reduction: the mark that it completes, if it completes one.
+    #[inline(always)]
     pub fn hear(&mut self, reduction: Reduction) -> Option<Mark>
         ensures heard { (plan : Plan) (reductions : List Reduction) → HasHeard self.old plan reductions →
             HasHeard self.new plan (reductions ++ reduction ∷ []) }

@@ -1,35 +1,65 @@
 -- What the search leaves open of `decoder::LogDecoder::take_direct`.
-use Rattle.std.proofs.Common.{◌++◌, ℕ, take, sym, ◌∙◌, subst}
-use Rattle.pulse_log.specs.Reading.{HasRead}
-use Rattle.pulse_log.specs.declared.reader.LineReader.{LineReader}
-use Rattle.log_decoder.specs.Decoding.{FindsEntry}
+use Rattle.std.proofs.Common.{rules, ◌≡◌, ◌++◌, ℕ, List, take, Ok, None, ap, arith, length}
+use Rattle.std.proofs.lemmas.List.{length-take, length-drop}
+use Rattle.log_decoder.proofs.LinesLaws.{decodes_line, ends, goes_on, gives_none, ready_on}
 use Rattle.log_decoder.proofs.StepLaws.{may_hear}
 use Rattle.log_decoder.proofs.decoder.LogDecoder.take_direct.Goals as goal
 
-pub hear_found-requires : goal.hear_found-requires
-hear_found-requires g c = may_hear _ _ _ _ _ c.requires.ready.rises (c.take_line-front.ensures.taken c.requires.ready.bytes c.requires.ready.read)
+pub hear_found-found-requires : goal.hear_found-found-requires
+hear_found-found-requires g c =
+    let ready = c.lines.invariant.ready in
+    may_hear _ _ _ _ _ ready.rises (c.take_line-front.ensures.taken ready.bytes ready.read)
 
-pub returns-clause-ready : goal.returns-clause-ready
-returns-clause-ready g c =
-    let bytes = c.requires.ready.bytes in
-    let front = take c.take_line-front.result.count c.args.bytes.now in
-    let taken = c.take_line-front.ensures.taken bytes c.requires.ready.read in
+pub lines-preserved : goal.lines-preserved
+lines-preserved g c =
+    let front = c.take_line-front in
+    let heard = c.hear_found-found in
+    let piece = take front.result.count c.split_at.result.1.now in
     record {
-      bytes = bytes ++ front;
-      read = subst (λ (reader : LineReader). HasRead reader (bytes ++ front)) (sym c.hear_found.ensures.reader) taken.read;
-      rises = c.hear_found.ensures.least bytes (bytes ++ front) taken.found c.requires.ready.rises;
+      within = (let within = front.ensures.within in let most = c.lines.invariant.within in
+          let len = ap (λ (b : List ℕ). length b) c.split_at.ensures.back in
+          omega (arith, length-drop c.lines.count c.args.bytes.now));
+      ready =
+          let ready = c.lines.invariant.ready in
+          let taken = front.ensures.taken ready.bytes ready.read in
+          ready_on (λ r. g.R.Receiver.least_start r) heard.new.self front.new.self (ready.bytes ++ piece) heard.ensures.reader taken.read (heard.ensures.least ready.bytes (ready.bytes ++ piece) taken.found ready.rises);
+      so_far = λ feed plan delay before h.
+          let so_far = c.lines.invariant.so_far feed plan delay before h in
+          let longer = before ++ take c.lines.count c.args.bytes.now in
+          let taken = front.ensures.taken longer so_far.decoded.read in
+          let hears = heard.ensures.heard plan delay longer (longer ++ piece) taken.found so_far.decoded.heard in
+          let line = decodes_line (λ r h. g.R.Receiver.stands_for r h) c.lines.self heard.new.self front.new.self feed plan delay longer piece heard.result
+          so_far.decoded.of_feed heard.ensures.reader heard.ensures.feed taken.read hears in
+          let none : heard.result ≡ Ok None = search rules in
+          goes_on (λ r h. g.R.Receiver.stands_for r h) feed plan delay before c.lines.self heard.new.self c.args.bytes.now c.lines.count front.result.count heard.result none so_far
+          (rw c.split_at.ensures.back at line);
     }
+
+pub returns-in_default-clause-ready : goal.returns-in_default-clause-ready
+returns-in_default-clause-ready g c =
+    let ready = c.lines.invariant.ready in
+    let front = c.take_line-front in
+    let heard = c.hear_found-found in
+    let longer = ready.bytes ++ take front.result.count c.split_at.result.1.now in
+    let taken = front.ensures.taken ready.bytes ready.read in
+    ready_on (λ r. g.R.Receiver.least_start r) heard.new.self front.new.self longer heard.ensures.reader taken.read (heard.ensures.least ready.bytes longer taken.found ready.rises)
+
+pub returns-in_default-clause-taken : goal.returns-in_default-clause-taken
+returns-in_default-clause-taken g c = λ feed plan delay before h.
+    let front = c.take_line-front in
+    let heard = c.hear_found-found in
+    let piece = take front.result.count c.split_at.result.1.now in
+    let so_far = c.lines.invariant.so_far feed plan delay before h in
+    let longer = before ++ take c.lines.count c.args.bytes.now in
+    let taken = front.ensures.taken longer so_far.decoded.read in
+    let hears = heard.ensures.heard plan delay longer (longer ++ piece) taken.found so_far.decoded.heard in
+    let line = decodes_line (λ r h. g.R.Receiver.stands_for r h) c.lines.self heard.new.self front.new.self feed plan delay longer piece heard.result
+    so_far.decoded.of_feed heard.ensures.reader heard.ensures.feed taken.read hears in
+    ends (λ r h. g.R.Receiver.stands_for r h) feed plan delay before c.lines.self heard.new.self c.args.bytes.now c.lines.count front.result.count heard.result so_far
+    (rw c.split_at.ensures.back at line)
 
 pub returns-clause-taken : goal.returns-clause-taken
 returns-clause-taken g c = λ feed plan delay before h.
-    let front = take c.take_line-front.result.count c.args.bytes.now in
-    let taken = c.take_line-front.ensures.taken before h.read in
-    let heard = c.hear_found.ensures.heard plan delay before (before ++ front) taken.found h.heard in
-    record {
-      decoded = record {
-        of_feed = c.hear_found.ensures.feed ∙ h.of_feed;
-        read = subst (λ (reader : LineReader). HasRead reader (before ++ front)) (sym c.hear_found.ensures.reader) taken.read;
-        heard = heard.heard;
-      };
-      finds = subst (λ (n : ℕ). FindsEntry n plan delay before (before ++ front) c.hear_found.result) h.of_feed heard.finds;
-    }
+    let some = c.requires.some in
+    gives_none (λ r h. g.R.Receiver.stands_for r h) feed plan delay before c.lines.self (take c.lines.count c.args.bytes.now)
+    (omega (arith, length-take c.lines.count c.args.bytes.now, c.lines-test.false)) (c.lines.invariant.so_far feed plan delay before h)

@@ -5,9 +5,9 @@ use Rattle.minute_pair.specs.Pairing.{HasPaired}
 use Rattle.radio_receiver.proofs.LastLaws.{least_push, nothing_more}
 use Rattle.radio_receiver.proofs.chain.Chain.hear.Goals as goal
 
-pub returns-in_err-mark-clause-heard : goal.returns-in_err-mark-clause-heard
-returns-in_err-mark-clause-heard c h chained =
-    let same = nothing_more (marks_of h.plan h.reductions) _ (c.in_err-mark.ensures.marks h.plan h.reductions chained.marked) in
+pub returns-in_default-clause-heard : goal.returns-in_default-clause-heard
+returns-in_default-clause-heard c h chained =
+    let same = nothing_more (marks_of h.plan h.reductions) _ (c.in_default.ensures.marks h.plan h.reductions chained.marked) in
     record {
       marked = c.hear.ensures.heard h.plan h.reductions chained.marked;
       paired = subst (HasPaired c.args.self.now.pairing h.plan) (sym same) chained.paired;

@@ -1,0 +1,66 @@
+#!/bin/sh
+# What a pulse costs: instructions, loads and stores a pulse, counted by cachegrind, and the least time of several runs, of a small
+# program that decodes as `decode` does (decode_program.sh), beside plain C. Two trees are built in one run, each in a temporary folder
+# over copies of the crates, which proves them first (some ten minutes where nothing is kept): this one, and that of a commit before
+# digits were read eight bytes at once. Needs rt, git, gcc, python3, valgrind.
+#
+#     bench/decode_count.sh [MINUTES [RUNS [COMMIT]]]
+set -eu
+minutes=${1:-3000}
+runs=${2:-9}
+commit=${3:-b43d563}
+top=$(cd "$(dirname "$0")/.." && pwd)
+work=$(mktemp -d)
+trap 'rm -rf "$work"' EXIT
+crates="tick_units feed_link file_reader sink_text pulse_log second_marks civil_minute frame_rules civil_frame plan_dcf plan_msf
+    plan_wwvb minute_pair journal_entry radio_receiver log_decoder"
+. "$top/bench/decode_program.sh"
+for tree in before after; do
+    mkdir -p "$work/$tree/crates"
+    if [ "$tree" = before ]; then
+        for crate in $crates; do git -C "$top" archive "$commit" "crates/$crate" | tar -x -C "$work/before"; done
+        git -C "$top" show "$commit:crates.txt" > "$work/all.txt"
+    else
+        for crate in $crates; do
+            mkdir "$work/after/crates/$crate"
+            # What a check kept there is taken along, so that nothing is proved twice.
+            for part in src specs proofs out; do
+                if [ -d "$top/crates/$crate/$part" ]; then cp -a "$top/crates/$crate/$part" "$work/after/crates/$crate/"; fi
+            done
+        done
+        cp "$top/crates.txt" "$work/all.txt"
+    fi
+    for crate in $crates; do grep "^$crate:" "$work/all.txt"; done > "$work/$tree/crates.txt"
+    echo "decode_loop: tick_units feed_link file_reader sink_text pulse_log journal_entry radio_receiver log_decoder" >> "$work/$tree/crates.txt"
+    cp "$top/HANDLES" "$work/$tree/"
+    cp -r "$work/loop" "$work/$tree/crates/decode_loop"
+    (cd "$work/$tree/crates/decode_loop" && rt run > "$work/build.log" 2>&1) || { cat "$work/build.log" >&2; exit 1; }
+    cp "$work/$tree/crates/decode_loop/out/decode_loop" "$work/$tree.program"
+done
+gcc -O2 -o "$work/plain.program" "$top/bench/plain_decoder.c"
+python3 "$top/bench/make_dcf_log.py" --minutes "$minutes" --jitter 2500 > "$work/log"
+python3 "$top/bench/make_dcf_log.py" --minutes $((30 * minutes)) --jitter 2500 > "$work/long"
+python3 - "$work" "$runs" <<'PY'
+import re, resource, subprocess, sys
+work, runs = sys.argv[1], int(sys.argv[2])
+programs = {"the version before": ["before"], "now": ["after"], "plain C": ["plain", "decode"]}
+lines = lambda name: sum(1 for _ in open(f"{work}/{name}"))
+short, long, texts, least = lines("log"), lines("long"), [], {}
+spent = lambda: (lambda u: u.ru_utime + u.ru_stime)(resource.getrusage(resource.RUSAGE_CHILDREN))
+command = lambda words, log: [f"{work}/{words[0]}.program", *words[1:], f"{work}/{log}"]
+for _ in range(runs):
+    for name, words in programs.items():
+        begin = spent()
+        subprocess.run(command(words, "long"), stdout=subprocess.DEVNULL, check=True)
+        least[name] = min(spent() - begin, least.get(name, 1e9))
+for name, words in programs.items():
+    tool = ["valgrind", "--tool=cachegrind", "--cache-sim=yes", "--cachegrind-out-file=/dev/null"]
+    done = subprocess.run(tool + command(words, "log"), capture_output=True, text=True, check=True)
+    texts.append(done.stdout)
+    number = lambda text: int(text.replace(",", "")) / short
+    instructions = number(re.search(r"I\s+refs:\s+([\d,]+)", done.stderr)[1])
+    loads, stores = map(number, re.search(r"D\s+refs:.*\(\s*([\d,]+) rd\s+\+\s+([\d,]+) wr", done.stderr).groups())
+    print(f"{name:20} {instructions:6.0f} instructions {loads:5.1f} loads {stores:5.1f} stores {least[name] * 1e9 / long:6.1f} ns a pulse, "
+          f"{least[name] / least['plain C']:.2f} times plain C")
+sys.exit(len(set(texts)) != 1 and "the texts differ")
+PY

@@ -1,0 +1,18 @@
+-- What stays true in the loop of `take_direct`.
+use Rattle.std.proofs.Common.{ℕ, List, ◌≤◌, ◌-◌, length, take}
+use Rattle.tick_units.specs.declared.marks.Plan.{Plan}
+use Rattle.log_decoder.specs.Decoding.{HasDecoded, IsReady}
+use Rattle.log_decoder.proofs.LinesLaws.{GoesOn}
+use Rattle.log_decoder.proofs.decoder.LogDecoder.take_direct.Given as goal
+
+-- the lines so far gave no entry
+abbrev pub invariant-lines : goal.invariant-lines
+invariant-lines g l = record {
+  within : l.count ≤ length l.fn.bytes;
+  ready : IsReady (λ r. g.R.Receiver.least_start r) l.self;
+  so_far : (feed : ℕ) (plan : Plan) (delay : ℕ) (before : List ℕ) → HasDecoded (λ r h. g.R.Receiver.stands_for r h) l.fn.self feed plan delay before →
+      GoesOn (λ r h. g.R.Receiver.stands_for r h) l.self feed plan delay before (take l.count l.fn.bytes);
+}
+
+abbrev pub decreases-lines : goal.decreases-lines
+decreases-lines g l = length l.fn.bytes - l.count

@@ -1,0 +1,6 @@
+-- What the proof of `digits::keep_first` needs to be told.
+use Rattle.core.proofs.dec2flt.Eight.{bytes_up}
+use Rattle.pulse_log.proofs.digits.keep_first.Goals as goal
+
+pub returns : goal.returns
+returns c = bytes_up c.args.word c.args.count c.requires

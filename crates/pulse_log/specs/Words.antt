@@ -1,0 +1,25 @@
+-- Eight bytes as one word, the first of them the lowest, and the digits in front of them.
+use Rattle.std.specs.Prelude.{◌≡◌, ℕ, ◌<◌, ◌≤◌, List, length, take, nat_le}
+use Rattle.std.specs.Str.Parse.{digits_value, AllDigits}
+use Rattle.core.specs.Dec2flt.Digits.{IsEightBytes, IsEightDigits}
+use Rattle.core.specs.Int.Digits.{number_from_digits}
+use Rattle.core.specs.Slice.Scan.{digits_from, flag_word}
+use lib.Lanes.{number_l}
+
+-- the word of these eight bytes
+abbrev pub IsWordOf : List ℕ → ℕ → Type 0
+IsWordOf bytes word = IsEightBytes bytes × (word ≡ number_l 256 bytes)
+
+-- flags have the eighth bit of each byte of the word that is at least ten
+abbrev pub FlagsFromTen : ℕ → ℕ → Type 0
+FlagsFromTen word flags = (byte : ℕ → ℕ) → ((k : ℕ) → byte k < 256) → word ≡ digits_from byte 0 8 → flags ≡ flag_word (λ k. nat_le 10 (byte k))
+
+-- where the bytes of a word are the values of digits, this is the number that they write
+abbrev pub WritesNumber : ℕ → ℕ → Type 0
+WritesNumber word number = (digits : List ℕ) → IsEightDigits digits → word ≡ number_l 256 digits → number ≡ number_from_digits 10 digits
+
+-- the first so many bytes are digits, and this is the number that they write
+pub record SpellsFront (bytes : List ℕ) (count number : ℕ) : Type 0 where
+  pub within : count ≤ length bytes
+  pub digits : AllDigits 10 (take count bytes)
+  pub value : number ≡ digits_value 10 (take count bytes)
