@@ -1,13 +1,13 @@
 #!/bin/sh
 # What an entry costs in a fold, with the page after it: instructions an entry, counted by callgrind, of a small program that folds
 # the answers of so many servers, none or some of them ten seconds off. Two trees are built in one run, each in a temporary folder
-# over copies of the crates, which proves them first (some minutes where nothing is kept): this one, which keeps the ends of the
-# intervals in order and each source's figures, and that of a commit before the page had a rate. Needs rt, git, valgrind.
+# over copies of the crates, which proves them first (some minutes where nothing is kept): this one, and that of a commit before
+# what doesn't age of a distance was kept ready. Needs rt, git, valgrind.
 #
 #     bench/fold.sh [ENTRIES [COMMIT]]
 set -eu
 entries=${1:-200}
-commit=${2:-f232796}
+commit=${2:-b43d563}
 top=$(cd "$(dirname "$0")/.." && pwd)
 work=$(mktemp -d)
 trap 'rm -rf "$work"' EXIT
@@ -26,13 +26,6 @@ echo "fold_loop: tick_units feed_link journal_entry clock_page system_fold" >> "
 for tree in before after; do
     cp "$work/crates.txt" "$work/$tree/"
     cp -r "$work/loop" "$work/$tree/crates/fold_loop"
-    # Settings had a holdover then.
-    if [ "$tree" = before ]; then
-        rm -r "$work/before/crates/fold_loop/proofs/are_lawful"
-        sed -i 's/Settings::new(1000)/Settings::new(600_000_000)/
-            s/settings.bound() == 4_294_967_296/1 <= settings.holdover() \&\& settings.holdover() <= 86_400_000_000/' \
-            "$work/before/crates/fold_loop/src/main.rt"
-    fi
     (cd "$work/$tree/crates/fold_loop" && rt run -- 1 0 1 > "$work/build.log" 2>&1) || { cat "$work/build.log" >&2; exit 1; }
 done
 

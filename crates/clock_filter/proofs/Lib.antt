@@ -2,4 +2,5 @@
 pub mod FigureLaws
 pub mod HeldLaws
 pub mod KnownLaws
+pub mod ReadyLaws
 pub mod StageLaws

@@ -8,7 +8,7 @@ use crate::Figures;
 use tick_units::{LEAST_DISPERSION, Local, Span, isqrt, phi};
 
 // Half of the round-trip delay, which counts as at least 5 ms, rounded up.
-fn half_of_delay(f: &Figures) -> Span
+pub(crate) fn half_of_delay(f: &Figures) -> Span
     requires { unsigned_abs f.now.delay ≤ 2 ^ 68 }
     ensures value { result ≡ ceil_div (int_max (pos least_dispersion) (root_delay_of f.now)) 2 }
     ensures small { unsigned_abs result ≤ 2 ^ 68 }
@@ -18,7 +18,7 @@ fn half_of_delay(f: &Figures) -> Span
 }
 
 // The first stratum that is too far from a reference clock.
-const TOO_FAR: u8 = 15;
+pub(crate) const TOO_FAR: u8 = 15;
 
 /// The round-trip delay from the host to the source's reference clock.
 pub fn root_delay(f: &Figures) -> Span

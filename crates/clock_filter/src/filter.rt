@@ -10,6 +10,7 @@ use crate::Taken;
 use crate::figures::{Figures, figures_by};
 use crate::held::held_of;
 use crate::rate::rate_of;
+use crate::ready::Ready;
 use arrayvec::ArrayVec;
 use std::marker::Model;
 use tick_units::{Local, Sample};
@@ -20,7 +21,7 @@ use tick_units::{Local, Sample};
 pub struct Filter {
     last: ArrayVec<Taken, 8>,
     cut: u64,
-    known: Option<Figures>,
+    known: Option<Ready>,
 }
 
 impl Model for Filter {
@@ -36,12 +37,13 @@ impl Model for Filter {
 }
 
 // What the last samples of a source say from a cut on.
-fn figures_from(cut: u64, last: &[Taken]) -> Option<Figures>
+fn figures_from(cut: u64, last: &[Taken]) -> Option<Ready>
     requires { length last.now ≤ 8 }
     ensures { IsKnown cut last.now result }
 {
     let held = held_of(last, cut);
-    figures_by(rate_of(last, cut), held.as_slice())
+    let figures = figures_by(rate_of(last, cut), held.as_slice())?;
+    Some(Ready::of(figures))
 }
 
 impl Filter {
@@ -81,6 +83,17 @@ impl Filter {
     /// The figures of those of the last eight samples that aren't from before `cut`, in microseconds of the host's counter,
     /// and `None` where there are none.
     pub fn figures(&self, cut: u64) -> Option<Figures>
+        ensures value { (samples : List Taken) → StandsFor self.now samples → result ≡ figures.figures_of (held cut samples) }
+        ensures timely { IfSome result (IsTimely cut) }
+        ensures jitter { IfSome result (λ f. f.jitter2 ≤ 2 ^ 80) }
+        ensures measured { (samples : List Taken) → StandsFor self.now samples → AreLawful samples → IfSome result IsMeasured }
+    {
+        let ready = self.ready(cut)?;
+        Some(*ready.get())
+    }
+
+    /// The same figures, with what doesn't age of their distance.
+    pub fn ready(&self, cut: u64) -> Option<Ready>
         ensures value { (samples : List Taken) → StandsFor self.now samples → result ≡ figures.figures_of (held cut samples) }
         ensures timely { IfSome result (IsTimely cut) }
         ensures jitter { IfSome result (λ f. f.jitter2 ≤ 2 ^ 80) }

@@ -7,6 +7,7 @@ mod figures;
 mod filter;
 mod held;
 mod rate;
+mod ready;
 mod taken;
 #[cfg(test)]
 mod tests;
@@ -14,4 +15,5 @@ mod tests;
 pub use distances::{distance, is_fit, root_delay, root_dispersion};
 pub use figures::Figures;
 pub use filter::Filter;
+pub use ready::Ready;
 pub use taken::Taken;

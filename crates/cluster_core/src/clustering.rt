@@ -1,28 +1,40 @@
 //! Discards survivors until those that are left agree.
-ghost use Rattle.std.specs.Prelude.{◌≡◌, ◌<◌, ◌≤◌, true, false, All, Contains, List, length, nat_lt, IfSome, IfNone};
+ghost use Rattle.std.specs.Prelude.{◌≡◌, ◌/◌, ◌<◌, ◌≤◌, true, false, All, Contains, List, length, nat_lt, IfSome, IfNone};
 ghost use Rattle.std.specs.List.{list_all};
 ghost use Rattle.cluster_core.specs.Bounds.{IsWeighable, AreNear};
 ghost use Rattle.cluster_core.specs.Clusters.{Clusters, IsWorst, Settles, greatest_jitter, is_at_rest, selection_jitter, survivors_left};
+ghost use Rattle.cluster_core.specs.Sums.{AreSums};
 ghost use Rattle.cluster_core.specs.declared.survivor.Survivor.{Survivor};
 
 use crate::ordering::ordered;
+use crate::spread::{Sums, spread_of, sums_of};
 use crate::{Survivor, Survivors};
 use arrayvec::ArrayVec;
 
 // How many are left at least (NMIN).
 const LEAST: usize = 3;
 
+// A quotient, rounded down. Most sums fit in 64 bits, and are divided in one step.
+fn quotient(sum: u128, count: usize) -> u128
+    requires { 0 < count }
+    ensures { result ≡ sum / count }
+{
+    if sum < 1 << 64 {
+        u128::from(sum as u64 / count as u64)
+    } else {
+        sum / count as u128
+    }
+}
+
 // The mean of the squared distances of the others from one.
-fn selection_jitter_of(all: &[Survivor], x: &Survivor) -> u128
+fn selection_jitter_of(all: &[Survivor], sums: &Option<Sums>, x: &Survivor) -> u128
     requires some { 1 < length all.now }
     requires few { length all.now ≤ 16 }
+    requires kept { IfSome sums.now (λ s. AreSums s all.now) }
+    requires member { Contains all.now x.now }
     ensures { result ≡ selection_jitter all.now x.now }
 {
-    let mut sum = 0;
-    for y in all {
-        sum += y.offset.squared_apart(x.offset);
-    }
-    sum / (all.len() - 1) as u128
+    quotient(spread_of(all, sums, x), all.len() - 1)
 }
 
 // The last of those with the greatest selection jitter: its place, and that jitter.
@@ -39,12 +51,13 @@ fn worst_of(all: &[Survivor]) -> Worst
     ensures place { IsWorst all.now result.place }
     ensures jitter { result.jitter ≡ greatest_jitter all.now }
 {
+    let sums = sums_of(all);
     let mut worst = Worst {
         place: 0,
         jitter: 0,
     };
     for (place, x) in all.iter().enumerate() {
-        let jitter = selection_jitter_of(all, x);
+        let jitter = selection_jitter_of(all, &sums, x);
         if worst.jitter <= jitter {
             worst = Worst { place, jitter };
         }

@@ -65,7 +65,7 @@ fn weight_of(x: &Survivor) -> u64
     ensures some { 0 < result }
     ensures most { result ≤ 2 ^ 62 }
 {
-    ((1 << 62) / x.distance.unsigned_abs()) as u64
+    (1 << 62) / x.distance.unsigned_abs() as u64
 }
 
 // How far an offset is from a base.

@@ -5,6 +5,7 @@
 mod clustering;
 mod combining;
 mod ordering;
+mod spread;
 mod survivor;
 mod survivors;
 #[cfg(test)]

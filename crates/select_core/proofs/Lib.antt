@@ -8,3 +8,4 @@ pub mod SelectionLaws
 pub mod SoonerLaws
 pub mod StandingLaws
 pub mod SweepLaws
+pub mod UnanimousLaws

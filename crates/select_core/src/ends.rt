@@ -1,5 +1,5 @@
 //! The ends of intervals in order, and what lies open between them.
-ghost use Rattle.std.specs.Prelude.{◌≡◌, ◌+◌, ◌-◌, ◌<◌, ◌≤◌, List, [], ◌∷◌, length, reverse, slice_index_or, Contains, IsTrue, true, false};
+ghost use Rattle.std.specs.Prelude.{◌≡◌, ◌+◌, ◌-◌, ◌<◌, ◌≤◌, List, [], ◌∷◌, length, reverse, slice_index_or, IsTrue, true, false};
 ghost use Rattle.std.specs.List.Sorted.{IsPartitionPoint, IsPermutation};
 ghost use Rattle.select_core.specs.Ends as ends;
 ghost use Rattle.select_core.specs.Ends.{begins, edge, is_before, lower_end, upper_end};
@@ -117,15 +117,6 @@ impl Ends {
     {
         let place = self.place_of(&end);
         self.ends.insert(place, end);
-    }
-
-    /// Takes an end out.
-    pub fn remove(&mut self, end: End)
-        requires { Contains self.old end }
-        ensures { IsPermutation self.old (end ∷ self.new) }
-    {
-        let place = self.place_of(&end);
-        self.ends.remove(place);
     }
 
     // The place of an end: behind all that stand before it.

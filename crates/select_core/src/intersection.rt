@@ -73,7 +73,7 @@ fn high_allowing(candidates: &[Candidate], allowed: u32) -> Option<Span>
 }
 
 // The lesser of an end and what was the least before it, and the greater.
-fn lesser(least: Option<Span>, end: Span) -> Option<Span>
+pub(crate) fn lesser(least: Option<Span>, end: Span) -> Option<Span>
     ensures { result ≡ better int_lt least end }
 {
     match least {
@@ -82,7 +82,7 @@ fn lesser(least: Option<Span>, end: Span) -> Option<Span>
     }
 }
 
-fn greater(greatest: Option<Span>, end: Span) -> Option<Span>
+pub(crate) fn greater(greatest: Option<Span>, end: Span) -> Option<Span>
     ensures { result ≡ better (λ x y. int_lt y x) greatest end }
 {
     match greatest {

@@ -4,11 +4,13 @@
 mod chime;
 mod ends;
 mod intersection;
+mod narrowing;
 mod sweep;
 #[cfg(test)]
 mod sweep_tests;
 #[cfg(test)]
 mod tests;
+mod unanimous;
 
 pub use chime::{Candidate, Chime};
 pub use intersection::select;

@@ -1,35 +1,32 @@
 //! The interval that enough sources agree on, while sources come and go.
-ghost use Rattle.std.specs.Prelude.{◌≡◌, ◌+◌, ◌<◌, ◌≤◌, ◌≤ℤ◌, ◌-ℤ◌, ◌^◌, ◌≢◌, pos, List, [], length, slice_index_or, All, IsTrue, IfSome, IfNone};
+ghost use Rattle.std.specs.Prelude.{◌≡◌, ◌+◌, ◌<◌, ◌≤◌, ◌≤ℤ◌, ◌-ℤ◌, ◌^◌, ◌≢◌, pos, List, [], ◌∷◌, ◌++◌, length, slice_index_or, All, IsTrue, IfSome, IfNone};
 ghost use Rattle.std.specs.List.Sorted.{IsPermutation};
-ghost use Rattle.select_core.specs.Selection.{chime_allowing, chime_of, high_of, is_measured, low_of};
+ghost use Rattle.select_core.specs.Selection.{chime_of, is_measured};
 ghost use Rattle.select_core.specs.Sweeping.{others, with_candidate};
 ghost use Rattle.select_core.specs.declared.chime.Candidate.{Candidate};
 
-use crate::ends::{End, Ends, Side};
-use crate::intersection::serves;
+use crate::narrowing::narrowed;
+use crate::unanimous::unanimous;
 use crate::{Candidate, Chime};
 use arrayvec::ArrayVec;
 use std::marker::Model;
-use tick_units::Span;
 
-/// At most 16 candidates, one for each feed, with the ends of their intervals in order, so that the interval that enough of
-/// them agree on is found by going over the ends. Contracts see it as the list of the candidates.
+/// At most 16 candidates, one for each feed. Contracts see it as the list of the candidates.
 #[derive(Drop)]
 pub struct Sweep {
     standing: ArrayVec<Candidate, 16>,
-    ends: Ends,
 }
 
 impl Model for Sweep {
     ghost use Rattle.std.specs.Prelude.{List};
-    ghost use Rattle.select_core.specs.KeptSweep.{IsKept};
+    ghost use Rattle.select_core.specs.KeptSweep.{IsStanding};
     ghost use Rattle.select_core.specs.declared.chime.Candidate.{Candidate};
 
     ghost Value = { List Candidate };
 
     ghost view = { λ s. s.standing.items };
 
-    ghost invariant = { λ s. IsKept s.standing.items s.ends };
+    ghost invariant = { λ s. IsStanding s.standing.items };
 }
 
 impl Sweep {
@@ -39,8 +36,22 @@ impl Sweep {
     {
         Sweep {
             standing: ArrayVec::new(),
-            ends: Ends::new(),
         }
+    }
+
+    /// Lets no candidate stand any longer.
+    pub fn clear(&mut self)
+        ensures { self.new ≡ [] }
+    {
+        self.standing.clear();
+    }
+
+    /// The candidates.
+    pub fn as_slice(&self) -> &[Candidate]
+        ensures value { result.now ≡ self.now }
+        ensures few { length result.now ≤ 16 }
+    {
+        self.standing.as_slice()
     }
 
     /// Lets a candidate stand, in place of the one of its feed.
@@ -50,8 +61,16 @@ impl Sweep {
         ensures { self.new ≡ with_candidate c self.old }
     {
         self.remove(c.feed);
-        self.ends.insert(End::lower(&c));
-        self.ends.insert(End::upper(&c));
+        self.push(c);
+    }
+
+    /// Lets a candidate stand of a feed of which none stands.
+    pub fn push(&mut self, c: Candidate)
+        requires room { length self.old < 16 }
+        requires new { All (λ (x : Candidate). x.feed ≢ c.feed) self.old }
+        requires measured { IsTrue (is_measured c) }
+        ensures { self.new ≡ self.old ++ c ∷ [] }
+    {
         self.standing.push(c);
     }
 
@@ -60,9 +79,7 @@ impl Sweep {
         ensures { self.new ≡ others feed self.old }
     {
         if let Some(place) = place_of(self.standing.as_slice(), feed) {
-            let c = self.standing.remove(place);
-            self.ends.remove(End::lower(&c));
-            self.ends.remove(End::upper(&c));
+            self.standing.remove(place);
         }
     }
 
@@ -72,45 +89,10 @@ impl Sweep {
         ensures any_order { (candidates : List Candidate) → IsPermutation self.now candidates → result ≡ chime_of candidates }
         ensures narrow { IfSome result (λ chime. (chime.high -ℤ chime.low) ≤ℤ pos (2 ^ 33)) }
     {
-        for allowed in 0..(self.standing.len() as u32).div_ceil(2) {
-            if let Some(chime) = self.chime_allowing(allowed) {
-                return Some(chime);
-            }
+        match unanimous(self.standing.as_slice()) {
+            Some(chime) => Some(chime),
+            None => narrowed(self.standing.as_slice()),
         }
-        None
-    }
-
-    // The interval for a number of sources that may stand outside, if there is one.
-    fn chime_allowing(&self, allowed: u32) -> Option<Chime>
-        requires { allowed ≤ length self.now }
-        ensures chime { result ≡ chime_allowing self.now allowed }
-        ensures narrow { IfSome result (λ chime. (chime.high -ℤ chime.low) ≤ℤ pos (2 ^ 33)) }
-    {
-        let low = self.low_allowing(allowed)?;
-        let high = self.high_allowing(allowed)?;
-        if serves(self.standing.as_slice(), allowed, low, high) {
-            Some(Chime { low, high, allowed })
-        } else {
-            None
-        }
-    }
-
-    // The least lower end that all intervals but so many contain.
-    fn low_allowing(&self, allowed: u32) -> Option<Span>
-        requires { allowed ≤ length self.now }
-        ensures { result ≡ low_of self.now allowed }
-    {
-        let wanted = self.standing.len() - allowed as usize;
-        self.ends.edge(Side::Lower, wanted)
-    }
-
-    // The greatest upper end that all intervals but so many contain.
-    fn high_allowing(&self, allowed: u32) -> Option<Span>
-        requires { allowed ≤ length self.now }
-        ensures { result ≡ high_of self.now allowed }
-    {
-        let wanted = self.standing.len() - allowed as usize;
-        self.ends.edge(Side::Upper, wanted)
     }
 }
 

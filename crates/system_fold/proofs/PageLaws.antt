@@ -1,6 +1,6 @@
 -- From the sources that are fit to the page.
 use Rattle.std.proofs.Common.{◌≡◌, ℕ, ◌+◌, ◌-◌, ◌≤◌, ◌<◌, ◌^◌, Bool, true, false, List, [], ◌∷◌, ◌++◌, refl, sym, ap, ◌∙◌, arith, subst, length, take, get_or, map, ℤ, pos, ◌≤ℤ◌, ◌-ℤ◌, unsigned_abs}
-use Rattle.std.specs.Prelude.{All, Contains, IfSome, Option, None, Some, filter, find, ◌==◌, cond}
+use Rattle.std.specs.Prelude.{All, Contains, IfSome, Option, None, Some, filter, find, ◌==◌, cond, slice_get}
 use Rattle.std.specs.List.{cons_option}
 use Rattle.std.proofs.lemmas.Int.{ints}
 use Rattle.std.proofs.lemmas.List.{take_more}
@@ -12,8 +12,8 @@ use Rattle.select_core.specs.Selection.{chime_of, is_in}
 use Rattle.select_core.specs.declared.chime.Chime.{Chime}
 use Rattle.cluster_core.specs.Clusters.{survivors_left}
 use Rattle.cluster_core.specs.Mean.{mean}
-use Rattle.clock_page.specs.Page.{unsynchronised}
-use Rattle.system_fold.specs.Fields.{page_from}
+use Rattle.clock_page.specs.Page.{PageFields, unsynchronised}
+use Rattle.system_fold.specs.Fields.{fresh_of, page_from}
 use Rattle.system_fold.specs.Fit.{IsFit}
 use Rattle.system_fold.specs.Fit.{fit_feeds}
 use Rattle.system_fold.specs.Inputs.{inputs_of}
@@ -81,9 +81,40 @@ survivors-long chime now fit all =
     All-map (λ (x : Survivor). IsLength x.offset) (survivor_of now) (filter (λ s. is_in chime s.figures.offset) fit)
     (All-weaker (IsFit now) (λ s. IsLength s.figures.offset) (λ s h. h.measured.offset) _ (All-filter (λ (s : Source). is_in chime s.figures.offset) (IsFit now) fit all))
 
+-- the first of a list
+none-first : (s : Source) → Some s ≡ None → ⊥
+none-first s is = subst is_some is tt
+  where
+    is_some : Option Source → Type 0
+    is_some None = ⊥
+    is_some (Some x) = Unit {0}
+
+first-same : (s x : Source) → Some s ≡ Some x → s ≡ x
+first-same s x is = ap read is
+  where
+    read : Option Source → Source
+    read None = s
+    read (Some y) = y
+
 -- the first of the sources that are left is fit
-pub peer-fit : (now : ℕ) (fit left : List Source) (survivors : List Survivor) (peer : Source) → All (IsFit now) fit → left ≡ sources_at fit survivors → 0 < length left → peer ≡ get_or left 0 peer → IsFit now peer
-peer-fit now fit left survivors peer all is some here = subst (IsFit now) (sym here) (subst (All (IsFit now)) (sym is) (sources-all (IsFit now) fit survivors all) 0 peer some)
+pub peer-fit : (now : ℕ) (fit : List Source) (survivors : List Survivor) (peer : Source) → All (IsFit now) fit → Some peer ≡ slice_get (sources_at fit survivors) 0 → IsFit now peer
+peer-fit now fit survivors peer all is = by_list (sources_at fit survivors) (sources-all (IsFit now) fit survivors all) is
+  where
+    by_list : (left : List Source) → All (IsFit now) left → Some peer ≡ slice_get left 0 → IsFit now peer
+    by_list [] fits first = absurd (none-first peer first)
+    by_list (s ∷ others) fits first = subst (IsFit now) (sym (first-same peer s first)) (All-head (IsFit now) s others fits)
+
+-- so their page is told by it, and by when the newest sample of all was taken
+pub page-left : (inputs : PageInputs) (left : List Source) (peer : Source) (fresh : ℕ) (offset mean_offset : ℤ) (page : PageFields) → Some peer ≡ slice_get left 0 → fresh ≡ fresh_of left → offset ≡ mean_offset
+    → ((others : List Source) → fresh ≡ fresh_of (peer ∷ others) → page ≡ page_from inputs (peer ∷ others) offset) → page ≡ page_from inputs left mean_offset
+page-left inputs [] peer fresh offset mean_offset page first newest is told = absurd (none-first peer first)
+page-left inputs (s ∷ others) peer fresh offset mean_offset page first newest is told =
+    let same = first-same peer s first in
+    told others (newest ∙ ap (λ (t : Source). fresh_of (t ∷ others)) (sym same)) ∙ (λ i. page_from inputs (same i ∷ others) (is i))
+
+pub none-left : (left : List Source) → None ≡ slice_get left 0 → left ≡ []
+none-left [] none = refl
+none-left (s ∷ others) none = absurd (none-first s (sym none))
 
 -- between bounds of lengths
 pub length-between : (z : ℤ) → pos 0 ≤ℤ z → z ≤ℤ pos (2 ^ 66 - 1) → IsLength z
@@ -97,10 +128,6 @@ long-most xs all = All-weaker IsLong (λ x. x.offset ≤ℤ pos (2 ^ 66 - 1)) (�
   where
     most : (z : ℤ) → IsLength z → z ≤ℤ pos (2 ^ 66 - 1)
     most z h = let below = h.below in omega (arith, ints)
-
-pub nil-below : {X : Type 0} (xs : List X) → length xs < 1 → xs ≡ []
-nil-below [] below = refl
-nil-below (x ∷ xs) below = absurd (omega arith)
 
 -- the page inputs by what is kept
 abbrev pub inputs_by : FoldFields → Option Leap → PageInputs

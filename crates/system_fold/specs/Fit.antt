@@ -1,5 +1,5 @@
 -- Scaffolding: the sources that are fit, as they come out of what is kept of the feeds.
-use Rattle.std.specs.Prelude.{◌≡◌, ℕ, ◌-◌, ◌^◌, ◌≤◌, ◌<◌, nat_le, Option, None, Some, List, All, filter, length, pos, ◌≤ℤ◌, if◌then◌else◌}
+use Rattle.std.specs.Prelude.{◌≡◌, ◌≢◌, ℕ, ◌^◌, ◌≤◌, ◌<◌, Option, None, Some, List, All, length, pos, ◌≤ℤ◌, if◌then◌else◌}
 use Rattle.std.specs.List.{filter_map, enumerate_from}
 use Rattle.std.specs.Option.{option_map}
 use Rattle.clock_filter.specs.Bounds.{AreLawful, IsMeasured}
@@ -42,10 +42,6 @@ pub record AreFit (cut now : ℕ) (seen : List Feed) (fit : List Source) : Type 
   pub all : All (IsFit now) fit
   pub few : length fit ≤ length seen
 
--- the candidates of the feeds from a number on
-abbrev pub from_feed : ℕ → List Candidate → List Candidate
-from_feed first candidates = filter (λ c. nat_le first c.feed) candidates
-
--- from each number on there are no more candidates than there are feeds
-pub record AreFew (feeds : ℕ) (candidates : List Candidate) : Type 0 where
-  pub upward : (first : ℕ) → length (from_feed first candidates) ≤ feeds - first
+-- none of these is of a feed
+abbrev pub IsNew : ℕ → List Candidate → Type 0
+IsNew feed candidates = All (λ c. c.feed ≢ feed) candidates

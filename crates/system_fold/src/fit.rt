@@ -3,16 +3,14 @@ ghost use Rattle.std.specs.Prelude.{◌≡◌, ◌≤◌, ◌<◌, ◌^◌, ◌+
 ghost use Rattle.std.specs.List.{cons_option};
 ghost use Rattle.std.specs.Option.{option_map};
 ghost use Rattle.arrayvec.specs.ArrayVec.{array_vec_len};
-ghost use Rattle.select_core.specs.Sweeping.{others};
 ghost use Rattle.system_fold.specs.Fit as fit;
-ghost use Rattle.system_fold.specs.Fit.{AreFew, AreFit, IsFit, IsSound, fit_feeds};
+ghost use Rattle.system_fold.specs.Fit.{AreFit, IsFit, IsNew, IsSound, fit_feeds};
 ghost use Rattle.system_fold.specs.Selecting as selecting;
 
 use crate::feed::Feed;
 use crate::selecting::candidate_of;
 use crate::source::Source;
 use arrayvec::ArrayVec;
-use clock_filter::is_fit;
 use select_core::Sweep;
 use tick_units::Local;
 
@@ -23,8 +21,8 @@ fn fit_source(number: u32, feed: &Feed, cut: u64, now: Local) -> Option<Source>
     ensures feed { IfSome result (λ s. s.feed ≡ number) }
     ensures fit { IfSome result (IsFit now) }
 {
-    let figures = feed.filter.figures(cut)?;
-    if is_fit(&figures, now) {
+    let figures = feed.filter.ready(cut)?;
+    if figures.is_fit(now) {
         Some(Source {
             feed: number,
             kind: feed.kind,
@@ -61,16 +59,15 @@ pub fn fit_sources(feeds: &[Feed], cut: u64, now: Local) -> ArrayVec<Source, 16>
     fit
 }
 
-// Lets the candidate of a feed stand, where the feed is fit, and none of it where it isn't.
-fn stand(sweep: &mut Sweep, number: u32, source: &Option<Source>, now: Local)
-    requires feed { IfSome source.now (λ s. s.feed ≡ number) }
+// Lets the candidate of a source stand, if there is one.
+fn stand_some(sweep: &mut Sweep, source: &Option<Source>, now: Local)
     requires fit { IfSome source.now (IsFit now) }
-    requires room { length (others number sweep.old) < 16 }
-    ensures { sweep.new ≡ others number sweep.old ++ cons_option (option_map (selecting.candidate_of now) source.now) [] }
+    requires new { IfSome source.now (λ s. IsNew s.feed sweep.old) }
+    requires room { length sweep.old < 16 }
+    ensures { sweep.new ≡ sweep.old ++ cons_option (option_map (selecting.candidate_of now) source.now) [] }
 {
-    match source {
-        Some(source) => sweep.put(candidate_of(source, now)),
-        None => sweep.remove(number),
+    if let Some(source) = source {
+        sweep.push(candidate_of(source, now));
     }
 }
 
@@ -85,15 +82,14 @@ pub fn find_fit(
 )
     requires few { length feeds.now ≤ 16 }
     requires sound { All (IsSound now) feeds.now }
-    requires standing { AreFew (length feeds.now) sweep.old }
     ensures fit { AreFit cut now feeds.now fit.new.items }
     ensures sweep { sweep.new ≡ map (selecting.candidate_of now) fit.new.items }
 {
     fit.clear();
+    sweep.clear();
     for (index, feed) in feeds.iter().enumerate() {
-        let number = index as u32;
-        let source = fit_source(number, feed, cut, now);
-        stand(sweep, number, &source, now);
+        let source = fit_source(index as u32, feed, cut, now);
+        stand_some(sweep, &source, now);
         push_some(fit, source);
     }
 }

@@ -14,13 +14,13 @@ ghost use Rattle.system_fold.specs.Fields as pages;
 ghost use Rattle.system_fold.specs.Fields.{fresh_of};
 ghost use Rattle.system_fold.specs.Inputs.{AreBounded};
 ghost use Rattle.system_fold.specs.Page.{page_by};
+ghost use Rattle.system_fold.specs.declared.source.Source.{Source};
 
 use crate::SourceKind;
 use crate::inputs::PageInputs;
-use crate::moments::later;
-use crate::selecting::{agreed, sources_at, survivors_in};
+use crate::selecting::{agreed, left_of, survivors_in};
 use crate::source::Source;
-use clock_filter::{root_delay, root_dispersion};
+use clock_filter::root_delay;
 use clock_page::Page;
 use cluster_core::{Survivors, cluster, combine};
 use select_core::Chime;
@@ -32,20 +32,9 @@ fn reference_id(source: &Source) -> u32
 {
     match source.kind {
         SourceKind::Radio(plan) => plan.reference_id(),
-        SourceKind::Server(_) => source.figures.address,
+        SourceKind::Server(_) => source.figures.get().address,
         SourceKind::Leap => 0,
     }
-}
-
-// When the newest sample of these sources was taken.
-fn fresh(peer: &Source, others: &[Source]) -> Local
-    ensures { result ≡ fresh_of (peer.now ∷ others.now) }
-{
-    let mut fresh = peer.figures.newest;
-    for source in others {
-        fresh = later(fresh, source.figures.newest);
-    }
-    fresh
 }
 
 // The root delay of a page whose system peer this is.
@@ -53,7 +42,7 @@ fn root_delay_of(peer: &Source, now: Local) -> Short
     requires { IsFit now peer.now }
     ensures { result.0 ≡ units.to_short (root_delay_of peer.now.figures) }
 {
-    to_short(root_delay(&peer.figures))
+    to_short(root_delay(peer.figures.get()))
 }
 
 // The root dispersion of a page whose system peer this is.
@@ -61,46 +50,48 @@ fn root_disp_of(peer: &Source, now: Local) -> Short
     requires { IsFit now peer.now }
     ensures { result.0 ≡ pages.page_dispersion now peer.now }
 {
-    to_short(Span::from(LEAST_DISPERSION).max(root_dispersion(&peer.figures, now)))
+    to_short(Span::from(LEAST_DISPERSION).max(peer.figures.root_dispersion(now)))
 }
 
 // The page that tells the time by the sources that are left.
-fn told_by(inputs: &PageInputs, peer: &Source, others: &[Source], offset: Span) -> Page
+fn told_by(inputs: &PageInputs, peer: &Source, fresh: Local, root_disp: Short, offset: Span) -> Page
     requires inputs { AreBounded inputs.now }
     requires peer { IsFit inputs.now.moment peer.now }
     requires offset { IsLength offset }
-    requires within { is_above inputs.now.bound (pages.page_dispersion inputs.now.moment peer.now) 0 ≡ false }
-    ensures { result ≡ pages.told_by inputs.now peer.now others.now offset }
+    requires root_disp { root_disp.0 ≡ pages.page_dispersion inputs.now.moment peer.now }
+    requires within { is_above inputs.now.bound root_disp.0 0 ≡ false }
+    ensures { (others : List Source) → fresh ≡ fresh_of (peer.now ∷ others) → result ≡ pages.told_by inputs.now peer.now others offset }
 {
-    let root_disp = root_disp_of(peer, inputs.moment);
     Page {
         length: inputs.length,
         sync: true,
-        stratum: peer.figures.stratum + 1,
+        stratum: peer.figures.get().stratum + 1,
         refid: reference_id(peer),
         offset,
         anchor: inputs.moment,
         until: inputs.until(root_disp),
         root_delay: root_delay_of(peer, inputs.moment),
         root_disp,
-        reftime: stamp_of(offset + local_span(fresh(peer, others))),
+        reftime: stamp_of(offset + local_span(fresh)),
         leap_at: inputs.leap_second(),
-        rate: peer.figures.rate,
+        rate: peer.figures.get().rate,
     }
 }
 
-/// The page of the sources that are left, the first of which is the system peer, and of their mean offset.
+/// The page of the sources that are left, by the first of them, which is the system peer, when the newest sample of all was
+/// taken, and their mean offset.
 #[tactic(auto, unfolding(crate::specs::Fields::page_from))]
-pub fn page_from(inputs: &PageInputs, peer: &Source, others: &[Source], offset: Span) -> Page
+pub fn page_from(inputs: &PageInputs, peer: &Source, fresh: Local, offset: Span) -> Page
     requires inputs { AreBounded inputs.now }
     requires peer { IsFit inputs.now.moment peer.now }
     requires offset { IsLength offset }
-    ensures { result ≡ pages.page_from inputs.now (peer.now ∷ others.now) offset }
+    ensures { (others : List Source) → fresh ≡ fresh_of (peer.now ∷ others) → result ≡ pages.page_from inputs.now (peer.now ∷ others) offset }
 {
-    if inputs.is_above(root_disp_of(peer, inputs.moment)) {
+    let root_disp = root_disp_of(peer, inputs.moment);
+    if inputs.is_above(root_disp) {
         inputs.unsynchronised()
     } else {
-        told_by(inputs, peer, others, offset)
+        told_by(inputs, peer, fresh, root_disp, offset)
     }
 }
 
@@ -113,10 +104,10 @@ fn page_of_survivors(inputs: &PageInputs, fit: &[Source], survivors: &Survivors)
     requires long { All IsLong survivors.now }
     ensures { result ≡ pages.page_from inputs.now (selecting.sources_at fit.now survivors.now) (mean survivors.now) }
 {
-    let left = sources_at(fit, survivors.as_slice());
-    match left.as_slice() {
-        [peer, others @ ..] => page_from(inputs, peer, others, combine(survivors)),
-        [] => inputs.unsynchronised(),
+    let left = left_of(fit, survivors.as_slice());
+    match left.peer {
+        Some(peer) => page_from(inputs, peer, left.fresh, combine(survivors)),
+        None => inputs.unsynchronised(),
     }
 }
 

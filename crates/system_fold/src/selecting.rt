@@ -1,14 +1,16 @@
 //! The sources that agree.
-ghost use Rattle.std.specs.Prelude.{◌≡◌, ◌≤◌, ◌<◌, ◌^◌, ◌-ℤ◌, ◌≤ℤ◌, ◌==◌, ◌+◌, ◌++◌, ◌∷◌, [], Some, pos, List, All, find, length, map, IsTrue, IfSome};
+ghost use Rattle.std.specs.Prelude.{◌≡◌, ◌≤◌, ◌<◌, ◌^◌, ◌-ℤ◌, ◌≤ℤ◌, ◌==◌, ◌+◌, ◌++◌, ◌∷◌, [], Some, pos, List, All, find, length, map, slice_get, option_map, IsTrue, IfSome};
+ghost use Rattle.std.specs.List.{cons_option};
 ghost use Rattle.cluster_core.specs.Bounds.{IsWeighable};
 ghost use Rattle.select_core.specs.Selection.{are_measured, chime_of, is_in, is_measured};
+ghost use Rattle.system_fold.specs.Fields.{fresh_of};
 ghost use Rattle.system_fold.specs.Fit.{IsFit};
 ghost use Rattle.system_fold.specs.Selecting as selecting;
+ghost use Rattle.system_fold.specs.declared.source.Source.{Source};
 
-use crate::fit::push_some;
+use crate::moments::{beginning, later};
 use crate::source::Source;
 use arrayvec::ArrayVec;
-use clock_filter::distance;
 use cluster_core::{Survivor, Survivors};
 use select_core::{Candidate, Chime, select};
 use tick_units::Local;
@@ -21,8 +23,8 @@ pub fn candidate_of(source: &Source, now: Local) -> Candidate
 {
     Candidate {
         feed: source.feed,
-        offset: source.figures.offset,
-        distance: distance(&source.figures, now),
+        offset: source.figures.get().offset,
+        distance: source.figures.distance(now),
     }
 }
 
@@ -58,10 +60,10 @@ fn survivor_of(source: &Source, now: Local) -> Survivor
 {
     Survivor {
         feed: source.feed,
-        stratum: source.figures.stratum,
-        distance: distance(&source.figures, now),
-        offset: source.figures.offset,
-        jitter2: source.figures.jitter2,
+        stratum: source.figures.get().stratum,
+        distance: source.figures.distance(now),
+        offset: source.figures.get().offset,
+        jitter2: source.figures.get().jitter2,
     }
 }
 
@@ -73,7 +75,7 @@ fn add_if_in(survivors: &mut Survivors, chime: &Chime, source: &Source, now: Loc
     ensures measured { All IsWeighable survivors.old → All IsWeighable survivors.new }
     ensures few { length survivors.new ≤ length survivors.old + 1 }
 {
-    if chime.holds(source.figures.offset) {
+    if chime.holds(source.figures.get().offset) {
         survivors.add(survivor_of(source, now));
     }
 }
@@ -92,28 +94,62 @@ pub fn survivors_in(chime: &Chime, fit: &[Source], now: Local) -> Survivors
     survivors
 }
 
+/// Of the sources of survivors, in their order: the first, and when the newest sample of all was taken.
+#[derive(Clone, Copy)]
+pub struct Left<'a> {
+    pub peer: Option<&'a Source>,
+    pub fresh: Local,
+}
+
 // The source of a feed.
-fn source_at(fit: &[Source], feed: u32) -> Option<Source>
-    ensures { result ≡ find (λ s. s.feed == feed) fit.now }
+fn source_at(fit: &[Source], feed: u32) -> Option<&Source>
+    ensures { option_map (λ s. s.now) result ≡ find (λ s. s.feed == feed) fit.now }
 {
     let mut further = fit;
     'sources: while let [source, more @ ..] = further {
         if source.feed == feed {
-            return Some(*source);
+            return Some(source);
         }
         further = more;
     }
     None
 }
 
-/// The sources of survivors, in their order.
-pub fn sources_at(fit: &[Source], survivors: &[Survivor]) -> ArrayVec<Source, 16>
-    requires { length survivors.now ≤ 16 }
-    ensures { result.items ≡ selecting.sources_at fit.now survivors.now }
+// The first of two sources that there is.
+fn first_of<'a>(first: Option<&'a Source>, next: Option<&'a Source>) -> Option<&'a Source>
+    ensures { (xs : List Source) → option_map (λ s. s.now) first.entry ≡ slice_get xs 0 → option_map (λ s. s.now) result ≡ slice_get (xs ++ cons_option (option_map (λ s. s.now) next.entry) []) 0 }
 {
-    let mut left = ArrayVec::new();
+    match first {
+        Some(source) => Some(source),
+        None => next,
+    }
+}
+
+// The later of a moment and that of a source's newest sample, if there is a source.
+fn fresher(fresh: Local, source: Option<&Source>) -> Local
+    ensures { (xs : List Source) → fresh ≡ fresh_of xs → result ≡ fresh_of (xs ++ cons_option (option_map (λ s. s.now) source.entry) []) }
+{
+    match source {
+        Some(source) => later(fresh, source.figures.get().newest),
+        None => fresh,
+    }
+}
+
+/// Of the sources of survivors what a page says of them.
+pub fn left_of<'a>(fit: &'a [Source], survivors: &[Survivor]) -> Left<'a>
+    ensures peer { option_map (λ s. s.now) result.peer ≡ slice_get (selecting.sources_at fit.now survivors.now) 0 }
+    ensures fresh { result.fresh ≡ fresh_of (selecting.sources_at fit.now survivors.now) }
+{
+    let mut left = Left {
+        peer: None,
+        fresh: beginning(),
+    };
     for survivor in survivors {
-        push_some(&mut left, source_at(fit, survivor.feed));
+        let source = source_at(fit, survivor.feed);
+        left = Left {
+            peer: first_of(left.peer, source),
+            fresh: fresher(left.fresh, source),
+        };
     }
     left
 }

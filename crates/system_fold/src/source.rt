@@ -6,7 +6,7 @@ ghost use Rattle.system_fold.specs.Samples as samples;
 
 use crate::SourceKind;
 use crate::moments::beginning;
-use clock_filter::{Figures, Taken};
+use clock_filter::{Figures, Ready, Taken};
 use journal_entry::{Entry, What};
 use tick_units::{Kind, Local, Sample, Short, Span, local_span};
 
@@ -18,7 +18,7 @@ const RADIO_DISPERSION: u64 = 4_294_968;
 pub struct Source {
     pub feed: u32,
     pub kind: SourceKind,
-    pub figures: Figures,
+    pub figures: Ready,
 }
 
 /// What lies in the unused places of a list of sources.
@@ -27,7 +27,7 @@ impl Default for Source {
         Source {
             feed: 0,
             kind: SourceKind::Leap,
-            figures: Figures {
+            figures: Ready::of(Figures {
                 offset: Span::from(0),
                 delay: Span::from(0),
                 dispersion: Span::from(0),
@@ -39,7 +39,7 @@ impl Default for Source {
                 root_delay: Short(0),
                 root_disp: Short(0),
                 rate: 0,
-            },
+            }),
         }
     }
 }

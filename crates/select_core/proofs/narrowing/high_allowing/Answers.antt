@@ -1,0 +1,7 @@
+-- What the search leaves open of `narrowing::high_allowing`.
+use Rattle.std.proofs.Common.{◌∙◌}
+use Rattle.select_core.proofs.SweepLaws.{edge-high}
+use Rattle.select_core.proofs.narrowing.high_allowing.Goals as goal
+
+pub returns : goal.returns
+returns c = c.edge.ensures ∙ edge-high c.args.candidates.now c.args.ends.now c.args.allowed c.requires.kept c.requires.allowed
