@@ -54,6 +54,15 @@ repeated() {
     done
 }
 
+# docs/OPERATING.md ("Leap seconds")
+ends 0 'status 0' replay --station examples/leap-second.toml --script examples/leap-second.script
+wrote 'j2 1 0 1 0 notice 3692217600$'
+wrote 'reply 640106ec.*dc12c4a680000000'
+wrote 'j2 11 0 0 603000000 refused 3$'
+wrote 'reply e40006ec'
+wrote 'reply 240106ec.*dc12c68680000000'
+wrote 'page 17 1 1 4d534600 15857951251850330112 963000000 '
+
 # README.md, docs/OPERATING.md ("Without a receiver") and docs/FORMATS.md
 ends 0 'status 0' drill --seed 7
 for feed in 0 1 2; do wrote "feed $feed verdict 1381 lone 30 differs 0 refused 29\$"; done

@@ -33,6 +33,9 @@ WORDS = {
 }
 OF_RADIOS = ("verdict", "lone", "differs", "refused")
 
+# The plans of radios, and what stands in place of a plan for a server and for a leap second file.
+RADIOS, SERVER, LEAP = tuple(RULES), None, "leap"
+
 
 class Wrong(Exception):
     """Something that no page says."""
@@ -252,7 +255,7 @@ def judge_migrate(feeds, data, output, status, again):
 
 
 class Script:
-    """A script against a station: of each feed its plan, or None where it is a server."""
+    """A script against a station: of each feed its plan, `SERVER` where it is a server, and `LEAP` where it is a leap second file."""
 
     def __init__(self, plans):
         self.plans = plans
@@ -269,26 +272,33 @@ class Script:
         except (AttributeError, TypeError):
             return True
 
-    def feed(self, text, radio):
+    def feed(self, text, *plans):
         feed = number(text, len(self.plans))
-        return feed if feed is not None and (self.plans[feed] is not None) == radio else None
+        return feed if feed is not None and self.plans[feed] in plans else None
 
-    def is_pulse(self, feed, at, width):
-        feed = self.feed(feed, True)
-        return feed is not None and not self.pulses[feed].is_bad(at, width)
-
-    def is_ask(self, feed, at):
-        feed, at = self.feed(feed, False), number(at, MOMENTS)
+    def moves(self, feed, at):
+        """No moment of a server or of the leap second file is below an earlier one."""
+        at = number(at, MOMENTS)
         if feed is None or at is None or at < self.moments[feed]:
             return False
         self.moments[feed] = at
         return True
 
+    def is_pulse(self, feed, at, width):
+        feed = self.feed(feed, *RADIOS)
+        return feed is not None and not self.pulses[feed].is_bad(at, width)
+
+    def is_ask(self, feed, at):
+        return self.moves(self.feed(feed, SERVER), at)
+
     def is_answer(self, feed, at, text):
         return is_datagram(text) and self.is_ask(feed, at)
 
+    def is_leap(self, feed, at, second):
+        return number(second, PAST_SECOND) is not None and self.moves(self.feed(feed, LEAP), at)
+
     def is_swap(self, feed):
-        feed = self.feed(feed, True)
+        feed = self.feed(feed, *RADIOS)
         if feed is None or self.used[self.plans[feed]] >= 4:
             return False
         self.used[self.plans[feed]] += 1
@@ -324,8 +334,13 @@ def judge_replay(plans, data, output, status, limit=2**20):
     lost = False
     for text in texts[: bad and bad - 1]:
         word, *fields = text.split(" ")
-        if word in ("pulse", "answer") and len(journal.entries) == limit:
+        if word in ("pulse", "answer", "leap") and len(journal.entries) == limit:
             lost = True
+        elif word == "leap":
+            need(line is not None and line.startswith("j2 "), f"{line!r} for {text!r}")
+            journal.take(line)
+            need(numbered(line)[2] == "{} {} notice {}".format(*fields), f"{line!r} for {text!r}")
+            line = next(rest, None)
         elif word == "answer":
             need(line is not None and line.startswith("j2 "), f"{line!r} for {text!r}")
             entry = journal.take(line)

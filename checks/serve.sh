@@ -185,6 +185,41 @@ ask drain "$port" || wrong 'the server that is asked goes on'
 ended 0 'status 0'
 wrote 'link 0 answered 17 dropped 0 again 0 kissed 0 unkept 0 end count'
 
+# A leap second file: the rows of the list that the host has, but for the first, as `awk` finds them; else those of two years.
+listed() {
+    printf 'start = 5000000\nleap_file = "%s"\n' "$1" > "$work/station"
+    shift
+    for one; do radio dcf "$one"; done >> "$work/station"
+}
+list=/usr/share/zoneinfo/leap-seconds.list
+if [ ! -r "$list" ]; then
+    list=$work/list
+    printf '#NTP Time DTAI\n3644697600\t36\t# 1 Jul 2015\n3692217600\t37\t# 1 Jan 2017\n' > "$list"
+fi
+listed "$list"
+ends 0 'status 0' --station "$work/station"
+awk '/^[0-9]/ { if (row++) print "5000000 notice " $1 }' "$list" > "$work/rows"
+entries 0 | cmp -s - "$work/rows" || wrong "the notices aren't the rows of $list"
+listed "$list" examples/radios/dcf77.log
+ends 0 'status 0' --station "$work/station"
+entries 1 | cmp -s - "$work/rows" || wrong "the notices behind a radio aren't the rows of $list"
+[ "$(entries 0 | grep -c ' verdict ')" = 9 ] || wrong 'a radio before a leap second file has not nine verdicts'
+listed "$work/nosuch" examples/radios/dcf77.log
+refused 2 'status 2 open feed 1' --station "$work/station"
+listed / examples/radios/dcf77.log
+ends 4 'status 4 read feed 1' --station "$work/station"
+printf '3644697600 36\n3692217600 37\n3692217600 38\n' > "$work/falling"
+listed "$work/falling"
+ends 5 'status 5 line 0 3' --station "$work/station"
+wrote 'j2 1 0 0 5000000 notice 3692217600'
+head -c 65537 /dev/zero | tr '\0' '\n' > "$work/lines"
+listed "$work/lines"
+ends 10 'status 10 long feed 0' --station "$work/station"
+head -c 65536 "$work/lines" > "$work/list65536"
+listed "$work/list65536"
+ends 0 'status 0' --station "$work/station"
+checked=$((checked + 3))
+
 # An output that takes no more: closed from the start, full, and closed behind 100 bytes of a pipe of a page. Four radios' hours are
 # longer than that. Nothing is written anywhere else.
 { for one in 1 2 3 4; do radio dcf examples/dcf77-hour.log; done; } > "$work/station"

@@ -30,8 +30,9 @@ MEMORY = 1 << 20
 LONGEST = 30
 SEED = 2026
 REQUEST = "230006ec" + "00" * 36 + "1122334455667788"
-PLANS = ["dcf", "msf", "wwvb", None]
+PLANS = ["dcf", "msf", "wwvb", grammar.SERVER, grammar.LEAP]
 STATION = """bound = 1000
+leap_file = "leap-seconds.list"
 
 [[radio]]
 plan = "dcf"
@@ -63,7 +64,7 @@ def lines_of(name):
 
 
 def long_script():
-    """The radios' logs as pulses, an exchange with the server every minute, and requests, in order of time."""
+    """The radios' logs as pulses, an exchange with the server, a leap second and requests every minute, in order of time."""
     timed = []
     for feed, name in enumerate(("dcf77", "msf", "wwvb")):
         for line in lines_of(f"radios/{name}.log"):
@@ -74,6 +75,7 @@ def long_script():
         answer = "240206ec00000100000002000a000001" + f"{0:016x}{asked:016x}{served:016x}{served:016x}"
         timed.append((at, b"ask 3 %d\n" % at))
         timed.append((at + 1, b"answer 3 %d %s\n" % (at + 8000, answer.encode())))
+        timed.append((at + 1, b"leap 4 %d %d\n" % (at, 3976300800 + minute % 2 * 86400)))
         for text in (REQUEST, "2b" + REQUEST[2:], "24" + REQUEST[2:], "2300", REQUEST + "00" * 20):
             timed.append((at + 2, b"request %d %d %d %s\n" % (minute % 8, at, at + 50, text.encode())))
     timed += [(at, b"swap %d\n" % feed) for at, feed in ((200_000_000, 0), (300_000_000, 1), (400_000_000, 2))]

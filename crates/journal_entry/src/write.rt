@@ -12,6 +12,7 @@ use tick_units::{Kind, Sample};
 
 /// Writes the text of an entry at the front of `out`, without a line feed, and leaves the rest as it was. The answer is the
 /// number of bytes written, at most 141.
+// It isn't inlined: an entry is rare among pulses, and its text's room and registers would cost each of them.
 #[inline(never)]
 pub fn write_entry(e: &Entry, out: &mut [u8; LINE_ROOM]) -> usize
     ensures text { take result out.new ≡ text_of e.now }

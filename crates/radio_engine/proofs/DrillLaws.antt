@@ -1,7 +1,7 @@
 -- A drill: the logs of a day are read whole, and what its journal tells is told of the day's entries one feed after the other.
-use Rattle.std.proofs.Common.{◌≡◌, ◌≢◌, ℕ, zero, suc, ◌+◌, ◌<◌, ◌≤◌, ◌==◌, Bool, true, false, Option, None, Some, List, [], ◌∷◌, ◌++◌, length, map, filter, refl, sym, ap, ◌∙◌, subst, inl, inr, arith, append_assoc}
-use Rattle.std.specs.Prelude.{All, IsSome, min, nat_lt, slice_get, if◌then◌else◌}
-use Rattle.std.specs.List.{flat_map, sum_by}
+use Rattle.std.proofs.Common.{◌≡◌, ℕ, zero, suc, ◌+◌, ◌≤◌, ◌==◌, Bool, true, false, Option, None, Some, List, [], ◌∷◌, ◌++◌, length, map, refl, sym, ap, ◌∙◌, subst, inl, inr, arith}
+use Rattle.std.specs.Prelude.{All, IsSome, is_some, min, nat_lt, slice_get, if◌then◌else◌}
+use Rattle.std.specs.List.{sum_by}
 use Rattle.std.specs.Option.{option_to_list}
 use Rattle.std.proofs.lemmas.Bool.{le-ltb, ne_eqb}
 use Rattle.std.proofs.lemmas.Bool.Decides.{nat_tests}
@@ -13,21 +13,19 @@ use Rattle.feed_link.specs.Openings.{OutsideState}
 use Rattle.feed_link.specs.Openings.State.{OfLog}
 use Rattle.feed_link.specs.Told.{LinkState, SinkState, SourceState}
 use Rattle.feed_link.specs.declared.sure_source.SureSource.{SureSource}
-use Rattle.feed_workers.specs.Logs.{EndsLog, most_of_a_log}
 use Rattle.feed_workers.specs.declared.work.LogEnd.TheVariants as log
 use Rattle.journal_entry.specs.declared.entry.Entry.{Entry}
 use Rattle.journal_orders.specs.Orders.{KeepsFeeds, NamesNoLeap, leap_named}
 use Rattle.journal_orders.proofs.OrderLaws.{page-kept}
 use Rattle.log_decoder.specs.Due.{entry_of}
 use Rattle.page_cell.specs.Claims.{of_feed}
-use Rattle.drill_day.specs.Day.{IsDay, day_due, day_log, day_logs, source_of}
+use Rattle.drill_day.specs.Day.{day_due, day_log, day_logs, source_of}
 use Rattle.station_config.specs.Station.{RadioFields, one_of_each, settings_of}
 use Rattle.station_gear.specs.Gears.{log_states}
 use Rattle.station_gear.specs.declared.gear.Gear.{Gear}
 use Rattle.system_fold.specs.Page.{page_of}
 use Rattle.system_fold.specs.Settings.{IsKept}
 use Rattle.tick_units.specs.Log.{bad_at_end, pulses}
-use Rattle.tick_units.specs.declared.marks.Plan.{Plan}
 use Rattle.tick_units.specs.declared.marks.Plan.TheVariants.{Dcf, Msf, Wwvb}
 use Rattle.tick_units.specs.declared.verdicts.Heard.{Heard}
 use Rattle.radio_receiver.specs.Histories.{answers_of}
@@ -36,7 +34,7 @@ use Rattle.radio_engine.specs.Decoding.{IsGoodLog}
 use Rattle.radio_engine.specs.DrillScaffold.{FinishesDrill, HasDayGear, HasDrilled, feed_lines}
 use Rattle.radio_engine.specs.Drilling.{Drills, day_journal, day_run, drill_text, feed_line, whole_run}
 use Rattle.radio_engine.specs.Endings.{status_line, status_of}
-use Rattle.radio_engine.specs.Headline.{HasDueEntries, IsTold, LinkRun, LogRun, PollRun, StationRun, due_in_all, dues, each_cause, full_cause, link_cause, log_cause, poll_cause, radio_dues, server_dues}
+use Rattle.radio_engine.specs.Headline.{HasDueEntries, IsTold, LeapRun, LinkRun, LogRun, PollRun, StationRun, due_in_all, dues, each_cause, full_cause, leap_dues, link_cause, log_cause, poll_cause, radio_dues, server_dues}
 use Rattle.radio_engine.specs.Serving.{IsGoodLogRun}
 use Rattle.radio_engine.specs.Text.{page_text}
 use Rattle.radio_engine.specs.Writing.{Answers}
@@ -120,10 +118,20 @@ none_of : {X : Type 0} (xs : List X) → length xs ≡ 0 → xs ≡ []
 none_of [] n = refl
 none_of (x ∷ xs) n = absurd (omega (arith, n))
 
+none_there : {X : Type 0} (o : Option X) → is_some o ≡ false → o ≡ None
+none_there None e = refl
+none_there (Some x) e = absurd cc
+
+abbrev list_causes : Option LeapRun → List Ending
+list_causes o = each_cause (λ feed (leap : LeapRun). log_cause feed leap.end) 3 (option_to_list o)
+
 module _ {T : Type 0} (log_opening : SureSource → ℕ) (state : T → LinkState) (opening : T → ℕ) (orders : Orders) (seed : ℕ) (gear : Gear SureSource T) (done : Done) (last : Gear SureSource T)
-    (day : HasDayGear seed gear) (left : LeavesAll sure_state log_opening state opening one_of_each orders gear last done.journal done.radios.items done.servers.items done.links.items) where
+    (day : HasDayGear seed gear) (left : LeavesAll sure_state log_opening state opening one_of_each orders gear last done.journal done.radios.items done.servers.items done.leap done.links.items) where
   logs_open : length gear.logs.items ≡ 3
   logs_open = sym (length-map gear.logs.items sure_state) ∙ ap (λ (l : List SourceState). length l) day.logs
+
+  list_open : is_some gear.leap ≡ false
+  list_open = ap (λ (o : Option SureSource). is_some o) day.no_leap
 
   servers_open : length gear.servers.items ≡ 0
   servers_open = ap (λ (l : List T). length l) day.no_server
@@ -132,22 +140,25 @@ module _ {T : Type 0} (log_opening : SureSource → ℕ) (state : T → LinkStat
   links_open = ap (λ (l : List T). length l) day.no_link
 
   abbrev station_run : StationRun
-  station_run = serving.run sure_state log_opening state opening one_of_each orders gear logs_open servers_open links_open done last left
+  station_run = serving.run sure_state log_opening state opening one_of_each orders gear logs_open list_open servers_open links_open done last left
 
   abbrev texts : List (List ℕ)
   texts = day_logs seed
 
   abbrev logs_ran : LogsRun sure_state orders.limit done.journal.entries one_of_each.radios 0 gear.logs.items last.logs.items done.radios.items
-  logs_ran = serving.radios_run sure_state log_opening state opening one_of_each orders gear logs_open servers_open links_open done last left
+  logs_ran = serving.radios_run sure_state log_opening state opening one_of_each orders gear logs_open list_open servers_open links_open done last left
 
   texts_good : AreGood texts
   texts_good = ((day.days 0 Dcf).good, ((day.days 0 Dcf).short, ((day.days 1 Msf).good, ((day.days 1 Msf).short, ((day.days 2 Wwvb).good, ((day.days 2 Wwvb).short, tt))))))
 
   no_polls : station_run.servers ≡ []
-  no_polls = none_of station_run.servers (polled-length one_of_each.servers station_run.servers (serving.servers_run sure_state log_opening state opening one_of_each orders gear logs_open servers_open links_open done last left).polled)
+  no_polls = none_of station_run.servers (polled-length one_of_each.servers station_run.servers (serving.servers_run sure_state log_opening state opening one_of_each orders gear logs_open list_open servers_open links_open done last left).polled)
+
+  no_list : station_run.leap ≡ None
+  no_list = none_there station_run.leap ((serving.leap_run sure_state log_opening state opening one_of_each orders gear logs_open list_open servers_open links_open done last left).there ∙ list_open)
 
   no_clients : station_run.links ≡ []
-  no_clients = none_of station_run.links ((serving.clients_run sure_state log_opening state opening one_of_each orders gear logs_open servers_open links_open done last left).each ∙ links_open)
+  no_clients = none_of station_run.links ((serving.clients_run sure_state log_opening state opening one_of_each orders gear logs_open list_open servers_open links_open done last left).each ∙ links_open)
 
   read_whole : (each_cause (λ n (r : LogRun). log_cause n r.end) 0 logs_ran.runs ≡ []) × (radio_dues 0 one_of_each.radios logs_ran.runs ≡ radio_dues 0 one_of_each.radios (whole_with texts logs_ran.runs))
   read_whole = good_logs 0 one_of_each.radios logs_ran.runs (whole_with texts logs_ran.runs) logs_ran.read (good_each texts logs_ran.runs last.logs.items texts_good logs_ran.back_are)
@@ -158,11 +169,12 @@ module _ {T : Type 0} (log_opening : SureSource → ℕ) (state : T → LinkStat
   no_servers (poll ∷ polls) = refl
 
   dues_same : dues one_of_each station_run ≡ dues one_of_each (day_run seed done.journal.entries)
-  dues_same = ap (λ l. l ++ server_dues 3 one_of_each.servers station_run.servers) (read_whole.1 ∙ dues_with 0 one_of_each.radios texts logs_ran.runs logs_ran.each)
-      ∙ ap (λ l. radio_dues 0 one_of_each.radios (map whole_run texts) ++ l) (no_servers station_run.servers)
+  dues_same = ap (λ l. l ++ server_dues 3 one_of_each.servers station_run.servers ++ leap_dues 3 0 station_run.leap) (read_whole.1 ∙ dues_with 0 one_of_each.radios texts logs_ran.runs logs_ran.each)
+      ∙ ap (λ l. radio_dues 0 one_of_each.radios (map whole_run texts) ++ l ++ leap_dues 3 0 station_run.leap) (no_servers station_run.servers)
+      ∙ ap (λ o. radio_dues 0 one_of_each.radios (map whole_run texts) ++ [] ++ leap_dues 3 0 o) no_list
 
   ran : HasDueEntries one_of_each orders.limit station_run
-  ran = serving.entries sure_state log_opening state opening one_of_each orders gear logs_open servers_open links_open done last left
+  ran = serving.entries sure_state log_opening state opening one_of_each orders gear logs_open list_open servers_open links_open done last left
 
   has_due : HasDueEntries one_of_each orders.limit (day_run seed done.journal.entries)
   has_due = record {
@@ -175,9 +187,10 @@ module _ {T : Type 0} (log_opening : SureSource → ℕ) (state : T → LinkStat
   causes_are : causes_left orders.limit done ≡ option_to_list (full_cause orders.limit (nat_lt orders.limit (due_in_all one_of_each (day_run seed done.journal.entries))))
   causes_are =
       let behind : List Ending = option_to_list (full_cause orders.limit (nat_lt orders.limit (due_in_all one_of_each station_run))) in
-      serving.causes_same sure_state log_opening state opening one_of_each orders gear logs_open servers_open links_open done last left
-      ∙ ap (λ l. l ++ (each_cause (λ feed (poll : PollRun). poll_cause feed poll.end) 3 station_run.servers ++ (each_cause (λ number (link : LinkRun). link_cause number link.end) 0 station_run.links ++ behind))) read_whole.0
-      ∙ ap (λ (l : List PollRun). each_cause (λ feed (poll : PollRun). poll_cause feed poll.end) 3 l ++ (each_cause (λ number (link : LinkRun). link_cause number link.end) 0 station_run.links ++ behind)) no_polls
+      serving.causes_same sure_state log_opening state opening one_of_each orders gear logs_open list_open servers_open links_open done last left
+      ∙ ap (λ l. l ++ (each_cause (λ feed (poll : PollRun). poll_cause feed poll.end) 3 station_run.servers ++ (list_causes station_run.leap ++ (each_cause (λ number (link : LinkRun). link_cause number link.end) 0 station_run.links ++ behind)))) read_whole.0
+      ∙ ap (λ (l : List PollRun). each_cause (λ feed (poll : PollRun). poll_cause feed poll.end) 3 l ++ (list_causes station_run.leap ++ (each_cause (λ number (link : LinkRun). link_cause number link.end) 0 station_run.links ++ behind))) no_polls
+      ∙ ap (λ o. list_causes o ++ (each_cause (λ number (link : LinkRun). link_cause number link.end) 0 station_run.links ++ behind)) no_list
       ∙ ap (λ (l : List LinkRun). each_cause (λ number (link : LinkRun). link_cause number link.end) 0 l ++ behind) no_clients
       ∙ ap (λ (l : List (List Entry)). option_to_list (full_cause orders.limit (nat_lt orders.limit (sum_by (λ (d : List Entry). length d) l)))) dues_same
 
@@ -186,7 +199,7 @@ module _ {T : Type 0} (log_opening : SureSource → ℕ) (state : T → LinkStat
     settings_are = left.of_station.settings_are;
     entries = has_due;
     causes_are = causes_are;
-    each = serving.each_left sure_state log_opening state opening one_of_each orders gear logs_open servers_open links_open done last left;
+    each = serving.each_left sure_state log_opening state opening one_of_each orders gear logs_open list_open servers_open links_open done last left;
     days = day.days;
   }
 

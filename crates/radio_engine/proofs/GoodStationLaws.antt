@@ -1,6 +1,6 @@
 -- A station without a fault is served to the end.
-use Rattle.std.proofs.Common.{◌≡◌, ℕ, suc, ◌≤◌, ◌⊎◌, inl, inr, false, Option, Some, None, List, [], ◌∷◌, ◌++◌, drop, length, map, refl, sym, ap, ◌∙◌, subst, arith, length-append}
-use Rattle.std.specs.Prelude.{All, get_or, nat_lt, slice_get}
+use Rattle.std.proofs.Common.{◌≡◌, ℕ, suc, ◌≤◌, ◌⊎◌, inl, inr, Bool, true, false, Option, Some, None, List, [], ◌∷◌, ◌++◌, drop, length, map, refl, sym, ap, ◌∙◌, subst, arith, length-append, append_assoc}
+use Rattle.std.specs.Prelude.{All, IfSome, get_or, is_some, nat_lt, slice_get}
 use Rattle.std.specs.List.{sum_by}
 use Rattle.std.specs.Option.{option_to_list}
 use Rattle.std.proofs.lemmas.Bool.Decides.{nat_tests}
@@ -11,7 +11,10 @@ use Rattle.feed_link.specs.Openings.{Opening, OutsideState, State, Visit, Wanted
 use Rattle.feed_link.specs.Openings.State.{OfLog, OfLink}
 use Rattle.feed_link.specs.Openings.Wanted.{LogOf}
 use Rattle.feed_link.specs.Told.{LinkState, NetEvent, SinkState, SourceState, Adds}
+use Rattle.feed_workers.specs.Leaps.{EndsLeap, due_leap, most_of_a_list}
 use Rattle.feed_workers.specs.Logs.{EndsLog, most_of_a_log}
+use Rattle.leap_file.specs.Rows.{bad_line}
+use Rattle.leap_file.proofs.GrowthLaws.{bad_whole_is, stays_bad}
 use Rattle.feed_workers.specs.Polling.{EndsPolls}
 use Rattle.feed_workers.specs.declared.work.LogEnd.{LogEnd}
 use Rattle.feed_workers.specs.declared.work.LogEnd.TheVariants as log
@@ -24,14 +27,15 @@ use Rattle.journal_entry.specs.declared.entry.Entry.{Entry}
 use Rattle.responder.specs.declared.served.End.{End}
 use Rattle.responder.specs.declared.served.End.TheVariants.{Count, LinkEnd, LinkFault}
 use Rattle.station_config.specs.Faults.{Fault, Says, IsFirst, faults_of, Refuses as RefusesStation}
-use Rattle.station_config.specs.Station.{RadioFields, ServerFields, StationFields}
+use Rattle.station_config.specs.Station.{RadioFields, ServerFields, StationFields, leap_feed}
 use Rattle.station_config.specs.declared.fault.StationFault.{StationFault}
 use Rattle.station_config.specs.declared.fault.StationFault.TheVariants as fault
 use Rattle.station_crew.specs.Lists.{Pairs}
+use Rattle.station_crew.proofs.ListLaws.{length-is-some}
 use Rattle.radio_engine.specs.Decoding.{IsGoodLog}
 use Rattle.radio_engine.specs.Endings.{status_of}
-use Rattle.radio_engine.specs.Headline.{EndsPhases, IsAnswered, IsPolled, IsTold, LinkRun, LogRun, PollRun, StationRun, causes, due_in_all, dues, each_cause, full_cause, link_cause, log_cause, poll_cause, radio_dues, server_dues}
-use Rattle.radio_engine.specs.Serving.{EndsUnserved, HasGoodStation, IsGoodLink, IsGoodLogRun, RunsServe, ServesStation, back_in, opened_in}
+use Rattle.radio_engine.specs.Headline.{EndsPhases, IsAnswered, IsPolled, IsTold, LeapRun, LinkRun, LogRun, PollRun, StationRun, causes, due_in_all, dues, each_cause, full_cause, leap_dues, link_cause, log_cause, poll_cause, radio_dues, server_dues}
+use Rattle.radio_engine.specs.Serving.{EndsUnserved, HasGoodStation, IsGoodLeapRun, IsGoodLink, IsGoodList, IsGoodLogRun, RunsServe, ServesStation, back_in, opened_in}
 use Rattle.radio_engine.specs.StationFile.{EndsAtStation, IsObstacle, IsStation, line_at, most_of_a_station, status_at}
 use Rattle.radio_engine.specs.Writing.{Answers}
 use Rattle.radio_engine.specs.declared.ending.Ending.{Ending}
@@ -93,37 +97,6 @@ first_state s t ss ts e = cc
 rest_states : (s t : State) (ss ts : List State) → s ∷ ss ≡ t ∷ ts → ss ≡ ts
 rest_states s t ss ts e = cc
 
-log_is_link : (a : SourceState) (b : LinkState) → OfLog a ≡ OfLink b → ⊥
-log_is_link a b e = cc
-
--- what links told
-abbrev AreLinks : List State → Type 0
-AreLinks [] = Unit {0}
-AreLinks (OfLog log ∷ states) = ⊥
-AreLinks (OfLink link ∷ states) = AreLinks states
-
-of_links : {Y : Type 0} (f : Y → LinkState) (ys : List Y) → AreLinks (map (λ y. OfLink (f y)) ys)
-of_links f [] = tt
-of_links f (y ∷ ys) = of_links f ys
-
-both_links : {Y Z : Type 0} (f : Y → LinkState) (g : Z → LinkState) (ys : List Y) (zs : List Z) → AreLinks (map (λ y. OfLink (f y)) ys ++ map (λ z. OfLink (g z)) zs)
-both_links f g [] zs = of_links g zs
-both_links f g (y ∷ ys) zs = both_links f g ys zs
-
--- logs stand before links
-parted : {X Z : Type 0} (f : X → SourceState) (g : Z → SourceState) (xs : List X) (zs : List Z) (ss ts : List State) → AreLinks ss → AreLinks ts → map (λ x. OfLog (f x)) xs ++ ss ≡ map (λ z. OfLog (g z)) zs ++ ts →
-    (map (λ x. OfLog (f x)) xs ≡ map (λ z. OfLog (g z)) zs) × (ss ≡ ts)
-parted f g [] [] ss ts links too e = (refl, e)
-parted f g [] (z ∷ zs) [] ts links too e = absurd cc
-parted f g [] (z ∷ zs) (OfLog s ∷ ss) ts links too e = absurd links
-parted f g [] (z ∷ zs) (OfLink s ∷ ss) ts links too e = absurd (log_is_link (g z) s (sym (first_state (OfLink s) (OfLog (g z)) _ _ e)))
-parted f g (x ∷ xs) [] ss [] links too e = absurd cc
-parted f g (x ∷ xs) [] ss (OfLog t ∷ ts) links too e = absurd too
-parted f g (x ∷ xs) [] ss (OfLink t ∷ ts) links too e = absurd (log_is_link (f x) t (first_state (OfLog (f x)) (OfLink t) _ _ e))
-parted f g (x ∷ xs) (z ∷ zs) ss ts links too e =
-    let rest = parted f g xs zs ss ts links too (rest_states (OfLog (f x)) (OfLog (g z)) _ _ e) in
-    (ap (λ s. s ∷ map (λ y. OfLog (f y)) xs) (first_state (OfLog (f x)) (OfLog (g z)) _ _ e) ∙ ap (λ l. OfLog (g z) ∷ l) rest.0, rest.1)
-
 split_at : {X : Type 0} (front back other_front other_back : List X) → length front ≡ length other_front → front ++ back ≡ other_front ++ other_back → (front ≡ other_front) × (back ≡ other_back)
 split_at [] back [] other_back n e = (refl, e)
 split_at [] back (c ∷ other_front) other_back n e = absurd (omega (arith, n))
@@ -165,6 +138,46 @@ good_logs feed radios (r ∷ runs) (g ∷ goods) reads good same too =
     more : (of : List RadioFields) → r.bytes ≡ g.bytes → ((others : List RadioFields) → radio_dues (suc feed) others runs ≡ radio_dues (suc feed) others goods) → radio_dues feed of (r ∷ runs) ≡ radio_dues feed of (g ∷ goods)
     more [] bytes rest = refl
     more (radio ∷ others) bytes rest = ap (λ b. Rattle.log_decoder.specs.Due.due_log feed radio.plan radio.delay b ∷ radio_dues (suc feed) others runs) bytes ∙ ap (λ l. Rattle.log_decoder.specs.Due.due_log feed radio.plan radio.delay g.bytes ∷ l) (rest others)
+
+-- so is a leap second file
+good_file : (opened back : SourceState) (good : IsGoodList opened back) (bytes : List ℕ) (whole : Bool) (end : LogEnd) → EndsLeap most_of_a_list opened back bytes whole end →
+    (end ≡ log.Whole) × ((whole ≡ true) × (good.text ≡ bytes))
+good_file opened back good bytes whole log.Whole h =
+    let front = front_of opened.left back.left good.text (bytes ++ h.1.extra) good.told good.tells h.1.taken in
+    (refl, (h.0, whole_text bytes h.1.extra front.0 good.text front.2 h.1.cause.0 (none_left back.left front.0 front.1 h.1.cause.1)))
+good_file opened back good bytes whole (log.BadLine line) (inl h) =
+    let front = front_of opened.left back.left good.text bytes good.told good.tells h.1.taken in
+    let longer : good.text ++ 10 ∷ [] ≡ bytes ++ (front.0 ++ 10 ∷ []) = ap (λ l. l ++ 10 ∷ []) front.2 ∙ append_assoc bytes front.0 (10 ∷ []) in
+    let bad : bad_line true good.text ≡ Some line = bad_whole_is good.text ∙ ap (bad_line false) longer ∙ (stays_bad bytes (front.0 ++ 10 ∷ []) line h.2).bad in
+    absurd (let wrong : ◌≡◌ {A = Option ℕ} None (Some line) = sym good.lines ∙ bad in cc)
+good_file opened back good bytes whole (log.BadLine line) (inr h) =
+    let front = front_of opened.left back.left good.text (bytes ++ h.1.extra) good.told good.tells h.1.taken in
+    let same = whole_text bytes h.1.extra front.0 good.text front.2 h.1.cause.0 (none_left back.left front.0 front.1 h.1.cause.1) in
+    absurd (let wrong : ◌≡◌ {A = Option ℕ} None (Some line) = sym good.lines ∙ ap (bad_line true) same ∙ h.3 in cc)
+good_file opened back good bytes whole log.Fault h = absurd (good.no_fault (rose_by_one opened.faults back.faults h.1.cause.1))
+good_file opened back good bytes whole log.Long h =
+    let front = front_of opened.left back.left good.text (bytes ++ h.1.extra) good.told good.tells h.1.taken in
+    let size = h.1.cause.0 in
+    let one = h.1.cause.1 in
+    let most = good.most in
+    let len = ap length front.2 in
+    absurd (omega (arith, size, one, most, len, length-append (bytes ++ h.1.extra) front.0, length-append bytes h.1.extra))
+
+good_list : (feed start : ℕ) (run good : Option LeapRun) → IfSome run (λ r. EndsLeap most_of_a_list r.opened r.back r.bytes r.whole r.end) → IfSome good IsGoodLeapRun →
+    map (λ r. OfLog r.opened) (option_to_list run) ≡ map (λ r. OfLog r.opened) (option_to_list good) → map (λ r. OfLog r.back) (option_to_list run) ≡ map (λ r. OfLog r.back) (option_to_list good) →
+    (each_cause (λ n (r : LeapRun). log_cause n r.end) feed (option_to_list run) ≡ []) × (leap_dues feed start run ≡ leap_dues feed start good)
+good_list feed start None None read good same too = (refl, refl)
+good_list feed start None (Some g) read good same too = absurd cc
+good_list feed start (Some r) None read good same too = absurd cc
+good_list feed start (Some r) (Some g) read good same too =
+    let opened = log_state r.opened g.opened (first_state (OfLog r.opened) (OfLog g.opened) _ _ same) in
+    let back = log_state r.back g.back (first_state (OfLog r.back) (OfLog g.back) _ _ too) in
+    let whole = good_file g.opened g.back good.good r.bytes r.whole r.end
+    (subst (λ s. EndsLeap most_of_a_list s g.back r.bytes r.whole r.end) opened (subst (λ s. EndsLeap most_of_a_list r.opened s r.bytes r.whole r.end) back read)) in
+    let bytes : r.bytes ≡ g.bytes = sym whole.1.1 ∙ good.bytes_are in (
+      ap (λ e. option_to_list (log_cause feed e) ++ []) whole.0,
+      ap (λ b. due_leap feed start b r.bytes ∷ []) (whole.1.0 ∙ sym good.whole_is) ∙ ap (λ b. due_leap feed start g.whole b ∷ []) bytes,
+    )
 
 -- a link without a fault has the events that it tells
 good_events : (opened back : LinkState) (told events : List NetEvent) → IsGoodLink opened back told → Adds opened.events back.events events → events ≡ told
@@ -227,8 +240,8 @@ good_clients during after keys gate settings journal place (r ∷ runs) (g ∷ g
     let rest = good_clients during after keys gate settings journal (suc place) runs goods (All-tail (IsAnswered keys gate settings journal during after) r runs served) (All-tail (λ (l : LinkRun). Rose l.opened.faults l.back.faults → ⊥) g goods good) (rest_states (OfLink r.opened) (OfLink g.opened) _ _ same) (rest_states (OfLink r.back) (OfLink g.back) _ _ too) in
     ap (λ o. option_to_list o ++ each_cause (λ n (l : LinkRun). link_cause n l.end) (suc place) runs) none ∙ rest
 
-none_of_four : (a b c d : List Ending) → a ≡ [] → b ≡ [] → c ≡ [] → d ≡ [] → a ++ (b ++ (c ++ d)) ≡ []
-none_of_four a b c d p q r s = ap (λ l. l ++ (b ++ (c ++ d))) p ∙ ap (λ l. l ++ (c ++ d)) q ∙ ap (λ l. l ++ d) r ∙ s
+none_of_five : (a b c d e : List Ending) → a ≡ [] → b ≡ [] → c ≡ [] → d ≡ [] → e ≡ [] → a ++ (b ++ (c ++ (d ++ e))) ≡ []
+none_of_five a b c d e p q r s t = ap (λ l. l ++ (b ++ (c ++ (d ++ e)))) p ∙ ap (λ l. l ++ (c ++ (d ++ e))) q ∙ ap (λ l. l ++ (d ++ e)) r ∙ ap (λ l. l ++ e) s ∙ t
 
 nothing_told : (all : List Ending) (due : Ending) → all ≡ [] → IsTold all due → due ≡ ending.Whole
 nothing_told all due none (inl h) = h.1
@@ -272,6 +285,12 @@ module _ (of : StationFields) (opened back : SourceState) (station : IsStation o
 
 -- ---- all of it
 
+abbrev list_opened : StationRun → List State
+list_opened run = map (λ (r : LeapRun). OfLog r.opened) (option_to_list run.leap)
+
+abbrev list_back : StationRun → List State
+list_back run = map (λ (r : LeapRun). OfLog r.back) (option_to_list run.leap)
+
 abbrev links_opened : StationRun → List State
 links_opened run = map (λ (r : PollRun). OfLink r.opened) run.servers ++ map (λ (r : LinkRun). OfLink r.opened) run.links
 
@@ -300,24 +319,36 @@ module _ (name : List ℕ) (during after limit : ℕ) (outside outside_now : Out
           absurd (none_failed (log_visit name h.opened h.back ∷ h.visits) (log_visit name p.opened p.back ∷ p.visits) what e)
 
   module _ (h : ServesStation name during after limit outside outside_now out out_now result) (of_is : h.of ≡ p.of) (opened : opened_in h.run ≡ opened_in p.run) (back : back_in h.run ≡ back_in p.run) where
-    opened_logs : (map (λ (r : LogRun). OfLog r.opened) h.run.radios ≡ map (λ (r : LogRun). OfLog r.opened) p.run.radios) × (links_opened h.run ≡ links_opened p.run)
-    opened_logs = parted (λ (r : LogRun). r.opened) (λ (r : LogRun). r.opened) h.run.radios p.run.radios _ _
-        (both_links (λ (r : PollRun). r.opened) (λ (r : LinkRun). r.opened) h.run.servers h.run.links) (both_links (λ (r : PollRun). r.opened) (λ (r : LinkRun). r.opened) p.run.servers p.run.links) opened
+    radio_sizes : length h.run.radios ≡ length p.run.radios
+    radio_sizes = h.served.logs.each ∙ ap (λ (o : StationFields). length o.radios) of_is ∙ sym p.each_log
 
-    back_logs : (map (λ (r : LogRun). OfLog r.back) h.run.radios ≡ map (λ (r : LogRun). OfLog r.back) p.run.radios) × (links_back h.run ≡ links_back p.run)
-    back_logs = parted (λ (r : LogRun). r.back) (λ (r : LogRun). r.back) h.run.radios p.run.radios _ _
-        (both_links (λ (r : PollRun). r.back) (λ (r : LinkRun). r.back) h.run.servers h.run.links) (both_links (λ (r : PollRun). r.back) (λ (r : LinkRun). r.back) p.run.servers p.run.links) back
+    list_sizes : length (option_to_list h.run.leap) ≡ length (option_to_list p.run.leap)
+    list_sizes = length-is-some h.run.leap p.run.leap (h.served.logs.leap ∙ ap (λ (o : StationFields). is_some o.leap_file) of_is ∙ sym p.each_list)
+
+    opened_logs : (map (λ (r : LogRun). OfLog r.opened) h.run.radios ≡ map (λ (r : LogRun). OfLog r.opened) p.run.radios) × (list_opened h.run ++ links_opened h.run ≡ list_opened p.run ++ links_opened p.run)
+    opened_logs = split_at _ _ _ _ (length-map h.run.radios (λ (r : LogRun). OfLog r.opened) ∙ radio_sizes ∙ sym (length-map p.run.radios (λ (r : LogRun). OfLog r.opened))) opened
+
+    back_logs : (map (λ (r : LogRun). OfLog r.back) h.run.radios ≡ map (λ (r : LogRun). OfLog r.back) p.run.radios) × (list_back h.run ++ links_back h.run ≡ list_back p.run ++ links_back p.run)
+    back_logs = split_at _ _ _ _ (length-map h.run.radios (λ (r : LogRun). OfLog r.back) ∙ radio_sizes ∙ sym (length-map p.run.radios (λ (r : LogRun). OfLog r.back))) back
+
+    opened_list : (list_opened h.run ≡ list_opened p.run) × (links_opened h.run ≡ links_opened p.run)
+    opened_list = split_at (list_opened h.run) (links_opened h.run) (list_opened p.run) (links_opened p.run)
+        (length-map (option_to_list h.run.leap) (λ (r : LeapRun). OfLog r.opened) ∙ list_sizes ∙ sym (length-map (option_to_list p.run.leap) (λ (r : LeapRun). OfLog r.opened))) opened_logs.1
+
+    back_list : (list_back h.run ≡ list_back p.run) × (links_back h.run ≡ links_back p.run)
+    back_list = split_at (list_back h.run) (links_back h.run) (list_back p.run) (links_back p.run)
+        (length-map (option_to_list h.run.leap) (λ (r : LeapRun). OfLog r.back) ∙ list_sizes ∙ sym (length-map (option_to_list p.run.leap) (λ (r : LeapRun). OfLog r.back))) back_logs.1
 
     sizes : length h.run.servers ≡ length p.run.servers
-    sizes = polled-length h.of.servers h.run.servers h.served.polls.each ∙ ap (λ (o : StationFields). length o.servers) of_is ∙ sym p.each
+    sizes = polled-length h.of.servers h.run.servers h.served.polls.each ∙ ap (λ (o : StationFields). length o.servers) of_is ∙ sym p.each_server
 
     opened_links : (map (λ (r : PollRun). OfLink r.opened) h.run.servers ≡ map (λ (r : PollRun). OfLink r.opened) p.run.servers) × (map (λ (r : LinkRun). OfLink r.opened) h.run.links ≡ map (λ (r : LinkRun). OfLink r.opened) p.run.links)
     opened_links = split_at (map (λ (r : PollRun). OfLink r.opened) h.run.servers) (map (λ (r : LinkRun). OfLink r.opened) h.run.links) (map (λ (r : PollRun). OfLink r.opened) p.run.servers) (map (λ (r : LinkRun). OfLink r.opened) p.run.links)
-        (length-map h.run.servers (λ (r : PollRun). OfLink r.opened) ∙ sizes ∙ sym (length-map p.run.servers (λ (r : PollRun). OfLink r.opened))) opened_logs.1
+        (length-map h.run.servers (λ (r : PollRun). OfLink r.opened) ∙ sizes ∙ sym (length-map p.run.servers (λ (r : PollRun). OfLink r.opened))) opened_list.1
 
     back_links : (map (λ (r : PollRun). OfLink r.back) h.run.servers ≡ map (λ (r : PollRun). OfLink r.back) p.run.servers) × (map (λ (r : LinkRun). OfLink r.back) h.run.links ≡ map (λ (r : LinkRun). OfLink r.back) p.run.links)
     back_links = split_at (map (λ (r : PollRun). OfLink r.back) h.run.servers) (map (λ (r : LinkRun). OfLink r.back) h.run.links) (map (λ (r : PollRun). OfLink r.back) p.run.servers) (map (λ (r : LinkRun). OfLink r.back) p.run.links)
-        (length-map h.run.servers (λ (r : PollRun). OfLink r.back) ∙ sizes ∙ sym (length-map p.run.servers (λ (r : PollRun). OfLink r.back))) back_logs.1
+        (length-map h.run.servers (λ (r : PollRun). OfLink r.back) ∙ sizes ∙ sym (length-map p.run.servers (λ (r : PollRun). OfLink r.back))) back_list.1
 
     logs : (each_cause (λ n (r : LogRun). log_cause n r.end) 0 h.run.radios ≡ []) × (radio_dues 0 h.of.radios h.run.radios ≡ radio_dues 0 h.of.radios p.run.radios)
     logs = good_logs 0 h.of.radios h.run.radios p.run.radios h.served.logs.read p.logs opened_logs.0 back_logs.0
@@ -325,17 +356,23 @@ module _ (name : List ℕ) (during after limit : ℕ) (outside outside_now : Out
     polls : (each_cause (λ n (r : PollRun). poll_cause n r.end) (length h.of.radios) h.run.servers ≡ []) × (server_dues (length h.of.radios) h.of.servers h.run.servers ≡ server_dues (length h.of.radios) h.of.servers p.run.servers)
     polls = good_polls (length h.of.radios) h.of.servers h.run.servers p.run.servers h.served.polls.each p.polls opened_links.0 back_links.0
 
+    list : (each_cause (λ n (r : LeapRun). log_cause n r.end) (leap_feed h.of) (option_to_list h.run.leap) ≡ []) × (leap_dues (leap_feed h.of) h.of.top.start h.run.leap ≡ leap_dues (leap_feed h.of) h.of.top.start p.run.leap)
+    list = good_list (leap_feed h.of) h.of.top.start h.run.leap p.run.leap h.served.logs.leap_read p.list opened_list.0 back_list.0
+
     clients : each_cause (λ n (r : LinkRun). link_cause n r.end) 0 h.run.links ≡ []
     clients = good_clients during after _ _ _ h.run.journal 0 h.run.links p.run.links h.served.clients.served p.links opened_links.1 back_links.1
 
     same_dues : dues h.of h.run ≡ dues p.of p.run
-    same_dues = ap (λ l. l ++ server_dues (length h.of.radios) h.of.servers h.run.servers) logs.1 ∙ ap (λ l. radio_dues 0 h.of.radios p.run.radios ++ l) polls.1 ∙ ap (λ o. dues o p.run) of_is
+    same_dues =
+        let behind = leap_dues (leap_feed h.of) h.of.top.start h.run.leap in
+        ap (λ l. l ++ server_dues (length h.of.radios) h.of.servers h.run.servers ++ behind) logs.1 ∙ ap (λ l. radio_dues 0 h.of.radios p.run.radios ++ l ++ behind) polls.1
+        ∙ ap (λ l. radio_dues 0 h.of.radios p.run.radios ++ server_dues (length h.of.radios) h.of.servers p.run.servers ++ l) list.1 ∙ ap (λ o. dues o p.run) of_is
 
     not_full : nat_lt limit (due_in_all h.of h.run) ≡ false
     not_full = (let same = ap (sum_by (λ (l : List Entry). length l)) same_dues in let room = p.room in grind (arith, nat_tests))
 
     no_cause : causes h.of limit h.run ≡ []
-    no_cause = none_of_four _ _ _ _ logs.0 polls.0 clients (ap (λ b. option_to_list (full_cause limit b)) not_full)
+    no_cause = none_of_five _ _ _ _ _ logs.0 polls.0 list.0 clients (ap (λ b. option_to_list (full_cause limit b)) not_full)
 
     all_whole : result ≡ Done
     all_whole = answered _ result out out_now _ h.served.text.written no_write ∙ ap status_of (nothing_told (causes h.of limit h.run) h.served.due no_cause h.served.cause)

@@ -1,6 +1,7 @@
 -- What the workers of a station leave, place by place, is a run of the station.
-use Rattle.std.proofs.Common.{◌≡◌, ◌≢◌, ℕ, suc, ◌+◌, ◌<◌, inl, inr, Option, List, [], ◌∷◌, ◌++◌, length, map, refl, sym, ap, ◌∙◌, subst, arith}
-use Rattle.std.specs.Prelude.{All, option_map, slice_index_or}
+use Rattle.std.proofs.Common.{◌≡◌, ◌≢◌, ℕ, suc, ◌+◌, ◌<◌, inl, inr, Option, None, Some, List, [], ◌∷◌, ◌++◌, length, map, refl, sym, ap, ◌∙◌, subst, arith}
+use Rattle.std.specs.Prelude.{All, IfSome, is_some, option_map, slice_index_or}
+use Rattle.std.specs.Option.{option_to_list}
 use Rattle.std.specs.List.{flat_map, sum_by}
 use Rattle.std.proofs.lemmas.Grind.{flat_map-append}
 use Rattle.std.proofs.lemmas.List.{append-nil}
@@ -9,6 +10,7 @@ use Rattle.std.proofs.lemmas.List.Sums.{sum_by-append}
 use Rattle.feed_link.specs.Told.{SourceState, LinkState, Adds}
 use Rattle.feed_link.specs.Openings.State.{OfLog, OfLink}
 use Rattle.feed_link.proofs.ToldLaws.{Adds-more}
+use Rattle.feed_workers.specs.Leaps.{EndsLeap, most_of_a_list}
 use Rattle.feed_workers.specs.Logs.{EndsLog, most_of_a_log}
 use Rattle.feed_workers.specs.declared.work.LogWork.{LogWork}
 use Rattle.feed_workers.specs.declared.work.PollWork.{PollWork}
@@ -24,12 +26,12 @@ use Rattle.responder.specs.declared.served.End.TheVariants.{Count, LinkEnd, Link
 use Rattle.responder.specs.declared.served.Served.{Served}
 use Rattle.station_config.specs.Station.{RadioFields, ServerFields}
 use Rattle.station_crew.specs.Lists.{Pairs}
-use Rattle.station_crew.specs.Served.{AreBlank, AsksServer, HearsRadio, ServesLink, ServesPhase}
+use Rattle.station_crew.specs.Served.{AreBlank, AsksServer, HearsRadio, LeapServed, ServesLink, ServesPhase}
 use Rattle.station_crew.specs.declared.work.LinkWork.{LinkWork}
 use Rattle.station_gear.specs.Gears.{link_states, log_states}
 use Rattle.system_fold.specs.Settings.{SettingsFields}
 use Rattle.radio_engine.specs.Crewing.{end_of, end_by, in_both, line_of_work}
-use Rattle.radio_engine.specs.Headline.{IsAnswered, IsPolled, LinkRun, LogRun, PollRun, Tally, each_text, line_of_link, link_line, radio_dues, server_dues, tally_of}
+use Rattle.radio_engine.specs.Headline.{IsAnswered, IsPolled, LeapRun, LinkRun, LogRun, PollRun, Tally, each_text, leap_dues, line_of_link, link_line, radio_dues, server_dues, tally_of}
 use Rattle.radio_engine.proofs.CountLaws.{HaveDue}
 
 -- receivers that stand for silent ones of the radios, of which nothing was heard
@@ -136,6 +138,40 @@ polled-length [] [] p = refl
 polled-length [] (run ∷ runs) p = absurd p
 polled-length (server ∷ servers) [] p = absurd p
 polled-length (server ∷ servers) (run ∷ runs) p = ap suc (polled-length servers runs p.1)
+
+-- ---- the leap second file
+
+module _ {L : Type 0} (state : L → SourceState) (opening : L → ℕ) (limit : ℕ) (journal : List Entry) (start feed : ℕ) where
+  pub record LeapsRun (file now : Option L) (work : Option LogWork) : Type 0 where
+    pub run : Option LeapRun
+    pub openings : map opening (option_to_list now) ≡ map opening (option_to_list file)
+    pub opened_are : map (λ leap. OfLog leap.opened) (option_to_list run) ≡ log_states state (option_to_list file)
+    pub back_are : map (λ leap. OfLog leap.back) (option_to_list run) ≡ log_states state (option_to_list now)
+    pub there : is_some run ≡ is_some file
+    pub read : IfSome run (λ leap. EndsLeap most_of_a_list leap.opened leap.back leap.bytes leap.whole leap.end)
+    pub ends_are : map (λ leap. leap.end) (option_to_list run) ≡ map (λ w. w.end) (option_to_list work)
+    pub due : HaveDue limit journal feed (map (λ w. w.full) (option_to_list work)) (leap_dues feed start run)
+
+  pub leaps_run : (file now : Option L) (work : Option LogWork) → LeapServed state opening start feed limit journal file now work → LeapsRun file now work
+  leaps_run None None None h = record { run = None; openings = refl; opened_are = refl; back_are = refl; there = refl; read = tt; ends_are = refl; due = tt }
+  leaps_run None None (Some work) h = absurd h
+  leaps_run None (Some b) work h = absurd h
+  leaps_run (Some a) None work h = absurd h
+  leaps_run (Some a) (Some b) None h = absurd h
+  leaps_run (Some a) (Some b) (Some work) h = record {
+    run = Some (record { opened = state a; back = state b; bytes = h.1.bytes; whole = h.1.whole; end = work.end });
+    openings = ap (λ n. n ∷ []) h.0;
+    opened_are = refl;
+    back_are = refl;
+    there = refl;
+    read = h.1.ends;
+    ends_are = refl;
+    due = (h.1.due, tt);
+  }
+
+pub leap_dues-length : (feed start : ℕ) (run : Option LeapRun) → length (leap_dues feed start run) ≡ length (option_to_list run)
+leap_dues-length feed start None = refl
+leap_dues-length feed start (Some leap) = refl
 
 -- ---- links
 

@@ -9,8 +9,8 @@ use Rattle.feed_workers.specs.declared.work.LogWork.{LogWork}
 use Rattle.feed_workers.specs.declared.work.PollWork.{PollWork}
 use Rattle.responder.specs.declared.served.End.{End}
 use Rattle.responder.specs.declared.served.Served.{Served}
-use Rattle.station_config.specs.Station.{StationFields, gate_of, settings_of}
-use Rattle.station_crew.specs.Served.{IsJournalOf, LinksServed, RadiosServed, ServersServed}
+use Rattle.station_config.specs.Station.{StationFields, gate_of, leap_feed, settings_of}
+use Rattle.station_crew.specs.Served.{IsJournalOf, LeapServed, LinksServed, RadiosServed, ServersServed}
 use Rattle.station_crew.specs.declared.named.Ended.{Ended}
 use Rattle.station_crew.specs.declared.work.LinkWork.{LinkWork}
 use Rattle.station_gear.specs.Gears.{numbers_of, states_of, wanted_by}
@@ -49,15 +49,16 @@ end_by first (Some second) = second.end
 abbrev pub end_of : LinkWork → End
 end_of work = end_by work.first.end work.second
 
-abbrev pub any_full : List LogWork → List PollWork → Bool
-any_full radios servers = list_any (λ (w : LogWork). w.full) radios || list_any (λ (w : PollWork). w.full) servers
+abbrev pub any_full : List LogWork → List PollWork → Option LogWork → Bool
+any_full radios servers leap = list_any (λ (w : LogWork). w.full) radios || list_any (λ (w : PollWork). w.full) servers || list_any (λ (w : LogWork). w.full) (option_to_list leap)
 
 -- all that went wrong, by what the workers left
 abbrev pub causes_left : ℕ → Done → List Ending
 causes_left limit done = each_cause (λ feed (w : LogWork). log_cause feed w.end) 0 done.radios.items
     ++ (each_cause (λ feed (w : PollWork). poll_cause feed w.end) (length done.radios.items) done.servers.items
+    ++ (each_cause (λ feed (w : LogWork). log_cause feed w.end) (length done.radios.items + length done.servers.items) (option_to_list done.leap)
     ++ (each_cause (λ number work. link_cause number (end_of work)) 0 done.links.items
-    ++ option_to_list (full_cause limit (any_full done.radios.items done.servers.items))))
+    ++ option_to_list (full_cause limit (any_full done.radios.items done.servers.items done.leap)))))
 
 -- a count of both phases
 abbrev pub in_both : ℕ → Option ℕ → ℕ
@@ -99,28 +100,30 @@ pub record FinishesDone (limit : ℕ) (done : Done) (out out_now : SinkState) (r
 
 -- ---- what is done
 
--- what a missing log or link is called
-abbrev pub subject_of : Missing → Subject
-subject_of (missing.Feed number) = Feed number
-subject_of (missing.Link number) = Link number
+-- what a missing log or link of a station is called
+abbrev pub subject_of : StationFields → Missing → Subject
+subject_of of (missing.Feed number) = Feed number
+subject_of of missing.LeapFile = Feed (leap_feed of)
+subject_of of (missing.Link number) = Link number
 
 -- the workers of a station have run
 pub record LeavesAll {L T : Type 0} (log_state : L → SourceState) (log_opening : L → ℕ) (state : T → LinkState) (opening : T → ℕ) (of : StationFields) (orders : Orders) (gear now : Gear L T) (journal : State)
-    (radios : List LogWork) (servers : List PollWork) (links : List LinkWork) : Type 0 where
+    (radios : List LogWork) (servers : List PollWork) (leap : Option LogWork) (links : List LinkWork) : Type 0 where
   pub of_station : IsJournalOf (settings_of of) orders.limit journal
   pub radios_served : RadiosServed log_state log_opening of.radios orders.limit journal.entries gear.logs.items now.logs.items radios
   pub servers_served : ServersServed state opening of.servers (length of.radios) orders.limit journal.entries gear.servers.items now.servers.items servers
+  pub leap_served : LeapServed log_state log_opening of.top.start (leap_feed of) orders.limit journal.entries gear.leap now.leap leap
   pub links_served : LinksServed state opening of.keys (gate_of of) (settings_of of) journal.entries orders.budget.during orders.budget.after gear.links.items now.links.items links
 
 abbrev pub EndsAll : {L T : Type 0} → (L → SourceState) → (L → ℕ) → (T → LinkState) → (T → ℕ) → StationFields → Orders → Gear L T → Ended L T → Type 0
 EndsAll log_state log_opening state opening of orders gear ended =
-    LeavesAll log_state log_opening state opening of orders gear ended.gear ended.journal ended.radios.items ended.servers.items ended.links.items
+    LeavesAll log_state log_opening state opening of orders gear ended.gear ended.journal ended.radios.items ended.servers.items ended.leap ended.links.items
 
 -- they have, and all logs and links are given back
 pub record GivesServed {L T : Type 0} (log_state : L → SourceState) (log_opening : L → ℕ) (state : T → LinkState) (opening : T → ℕ) (of : StationFields) (orders : Orders) (gear : Gear L T)
     (outside outside_now : OutsideState) (done : Done) : Type 0 where
   pub now : Gear L T
-  pub left : LeavesAll log_state log_opening state opening of orders gear now done.journal done.radios.items done.servers.items done.links.items
+  pub left : LeavesAll log_state log_opening state opening of orders gear now done.journal done.radios.items done.servers.items done.leap done.links.items
   pub gives : GivesAllBack outside outside_now (numbers_of log_opening opening now) (states_of log_state state now)
 
 -- no memory was found, and they are given back as they were

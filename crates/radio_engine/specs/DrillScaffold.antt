@@ -1,5 +1,5 @@
 -- Scaffolding: what private functions of `drill` say.
-use Rattle.std.specs.Prelude.{◌≡◌, ℕ, ◌+◌, ◌≤◌, ◌==◌, nat_lt, Bool, Option, None, Some, List, [], ◌∷◌, ◌++◌, map, if◌then◌else◌}
+use Rattle.std.specs.Prelude.{◌≡◌, ℕ, ◌+◌, ◌≤◌, ◌==◌, nat_lt, Option, None, Some, List, [], ◌∷◌, ◌++◌, map, if◌then◌else◌}
 use Rattle.std.specs.List.{flat_map}
 use Rattle.std.specs.Option.{option_to_list}
 use Rattle.feed_link.specs.Memory.{sure_state}
@@ -76,6 +76,7 @@ feed_lines journal = flat_map (λ feed. feed_line feed (of_feed feed journal)) (
 -- a gear has the logs of a day, and nothing else
 pub record HasDayGear {T : Type 0} (seed : ℕ) (gear : Gear SureSource T) : Type 0 where
   pub logs : map sure_state gear.logs.items ≡ map source_of (day_logs seed)
+  pub no_leap : gear.leap ≡ None
   pub no_server : gear.servers.items ≡ []
   pub no_link : gear.links.items ≡ []
   pub days : (feed : ℕ) (plan : Plan) → IsDay feed plan seed

@@ -1,6 +1,6 @@
 -- What a drill does: a day of three radios is made up in memory, the workers of a station's radios read its logs side by side, and how
 -- often each feed was answered in which way is told, with the page of the journal. All of it is this project's own.
-use Rattle.std.specs.Prelude.{◌≡◌, ℕ, ◌≤◌, nat_lt, Bool, true, false, List, [], ◌∷◌, ◌++◌, count_by, map, codes, decimal, if◌then◌else◌}
+use Rattle.std.specs.Prelude.{◌≡◌, ℕ, ◌≤◌, nat_lt, Bool, true, false, None, List, [], ◌∷◌, ◌++◌, count_by, map, codes, decimal, if◌then◌else◌}
 use Rattle.std.specs.List.{flat_map}
 use Rattle.feed_link.specs.Openings.{OutsideState}
 use Rattle.feed_link.specs.Told.{SinkState}
@@ -77,7 +77,7 @@ whole_run text = record { opened = source_of text; back = source_of []; bytes = 
 
 -- the logs of the day were
 abbrev pub day_run : ℕ → List Entry → StationRun
-day_run seed journal = record { radios = map whole_run (day_logs seed); servers = []; links = []; journal = journal }
+day_run seed journal = record { radios = map whole_run (day_logs seed); leap = None; servers = []; links = []; journal = journal }
 
 -- the entries of the day, one feed after the other
 abbrev pub day_journal : ℕ → List Entry

@@ -1,13 +1,14 @@
 -- The headline: what a station that was served has done. Whatever way its threads interleave, its journal holds, for each feed in order,
--- exactly the entries that its code plan or polling rules give for its own input; and each datagram sent on a serving link is the reply
+-- exactly the entries that its code plan, its polling rules or the rows of its leap second file give for its own input; and each datagram sent on a serving link is the reply
 -- (RFC 5905) to one received there, made from the page of a beginning of that journal, never a shorter one than that link used before, or
 -- the kiss code that its sender gets, and authentic exactly where the one received is.
 -- Six records say it, and `IsServed` at the end has all of them.
-use Rattle.std.specs.Prelude.{◌≡◌, ◌≢◌, ◌⊎◌, ℕ, suc, ◌*◌, ◌<◌, ◌≤◌, min, nat_lt, Bool, Option, None, Some, List, [], ◌∷◌, ◌++◌, All, length, slice_get, codes, decimal, if◌then◌else◌}
+use Rattle.std.specs.Prelude.{◌≡◌, ◌≢◌, ◌⊎◌, ℕ, suc, ◌*◌, ◌<◌, ◌≤◌, min, nat_lt, Bool, Option, None, Some, IfSome, is_some, List, [], ◌∷◌, ◌++◌, All, length, slice_get, codes, decimal, if◌then◌else◌}
 use Rattle.std.specs.List.{flat_map, sum_by}
 use Rattle.std.specs.Option.{option_to_list}
 use mathlib.Core.List.{IsPrefix}
 use Rattle.feed_link.specs.Told.{SourceState, SinkState, LinkState, NetEvent, Adds}
+use Rattle.feed_workers.specs.Leaps.{EndsLeap, due_leap, most_of_a_list}
 use Rattle.feed_workers.specs.Logs.{EndsLog, most_of_a_log}
 use Rattle.feed_workers.specs.Polling.{EndsPolls}
 use Rattle.feed_workers.specs.Polls.{due_link}
@@ -25,7 +26,7 @@ use Rattle.responder.specs.Serving.{EndsBy}
 use Rattle.responder.specs.Turns.{Turn, events_of, readings_of, AreTurns, GoesOn, answered_of, dropped_of, torn_of, kissed_of, unkept_of, Rises}
 use Rattle.responder.specs.declared.served.End.{End}
 use Rattle.responder.specs.declared.served.End.TheVariants.{Count, LinkEnd, LinkFault}
-use Rattle.station_config.specs.Station.{RadioFields, ServerFields, StationFields, gate_of, settings_of}
+use Rattle.station_config.specs.Station.{RadioFields, ServerFields, StationFields, gate_of, leap_feed, settings_of}
 use Rattle.station_crew.specs.Lists.{Pairs}
 use Rattle.station_crew.specs.Served.{IsReadOf}
 use Rattle.system_fold.specs.Page.{page_of}
@@ -47,14 +48,22 @@ pub record LogRun : Type 0 where
   pub bytes : List ℕ
   pub end : LogEnd
 
--- of the link of a server: the same, and the events that it told in between
+-- of the leap second file: the same, and whether its end was read
+pub record LeapRun : Type 0 where
+  pub opened : SourceState
+  pub back : SourceState
+  pub bytes : List ℕ
+  pub whole : Bool
+  pub end : LogEnd
+
+-- of the link of a server: what it told and how its worker ended, and the events that it told in between
 pub record PollRun : Type 0 where
   pub opened : LinkState
   pub back : LinkState
   pub events : List NetEvent
   pub end : PollEnd
 
--- of a serving link: the same, and the turns of both phases. The second phase begins when all feeds have ended
+-- of a serving link: the same with the turns of both phases. The second phase begins when all feeds have ended
 pub record LinkRun : Type 0 where
   pub opened : LinkState
   pub back : LinkState
@@ -62,9 +71,10 @@ pub record LinkRun : Type 0 where
   pub second : List Turn
   pub end : End
 
--- of a station, in its order; and the journal that is printed
+-- of a station, in its order, with its leap second file where it has one; and the journal that is printed
 pub record StationRun : Type 0 where
   pub radios : List LogRun
+  pub leap : Option LeapRun
   pub servers : List PollRun
   pub links : List LinkRun
   pub journal : List Entry
@@ -83,9 +93,14 @@ server_dues feed [] polls = []
 server_dues feed (server ∷ servers) [] = []
 server_dues feed (server ∷ servers) (poll ∷ polls) = due_link feed server.address poll.events ∷ server_dues (suc feed) servers polls
 
--- the radios are the first feeds, the servers those behind them
+-- and for the bytes read of the leap second file, where there is one, at the station's first moment
+abbrev pub leap_dues : (feed start : ℕ) → Option LeapRun → List (List Entry)
+leap_dues feed start None = []
+leap_dues feed start (Some leap) = due_leap feed start leap.whole leap.bytes ∷ []
+
+-- the radios are the first feeds, the servers those behind them, and the leap second file is the last
 abbrev pub dues : StationFields → StationRun → List (List Entry)
-dues of run = radio_dues 0 of.radios run.radios ++ server_dues (length of.radios) of.servers run.servers
+dues of run = radio_dues 0 of.radios run.radios ++ server_dues (length of.radios) of.servers run.servers ++ leap_dues (leap_feed of) of.top.start run.leap
 
 abbrev pub due_in_all : StationFields → StationRun → ℕ
 due_in_all of run = sum_by length (dues of run)
@@ -100,11 +115,13 @@ pub record HasDueEntries (of : StationFields) (limit : ℕ) (run : StationRun) :
 
 -- ---- 2. Each log is read
 
--- The bytes read of each log are a beginning of what it told. They are all of it, unless a read of that log failed, a bad line was met, or
--- as many bytes were read as a log may have
+-- The bytes read of each log, and of the leap second file, are a beginning of what it told. They are all of it, unless a read of it failed,
+-- a bad line was met, or as many bytes were read as it may have
 pub record ReadsLogs (of : StationFields) (run : StationRun) : Type 0 where
   pub each : length run.radios ≡ length of.radios
   pub read : All (λ log. EndsLog most_of_a_log log.opened log.back log.bytes log.end) run.radios
+  pub leap : is_some run.leap ≡ is_some of.leap_file
+  pub leap_read : IfSome run.leap (λ leap. EndsLeap most_of_a_list leap.opened leap.back leap.bytes leap.whole leap.end)
 
 -- ---- 3. Each server is polled
 
@@ -218,12 +235,13 @@ abbrev pub each_cause : {X : Type 0} → (ℕ → X → Option Ending) → ℕ �
 each_cause cause place [] = []
 each_cause cause place (x ∷ xs) = option_to_list (cause place x) ++ each_cause cause (suc place) xs
 
--- all that went wrong: in the logs, with the servers, on the links, and with the journal
+-- all that went wrong: in the logs, with the servers, in the leap second file, on the links, and with the journal
 abbrev pub causes : StationFields → ℕ → StationRun → List Ending
 causes of limit run = each_cause (λ feed log. log_cause feed log.end) 0 run.radios
     ++ (each_cause (λ feed poll. poll_cause feed poll.end) (length of.radios) run.servers
+    ++ (each_cause (λ feed leap. log_cause feed leap.end) (leap_feed of) (option_to_list run.leap)
     ++ (each_cause (λ number link. link_cause number link.end) 0 run.links
-    ++ option_to_list (full_cause limit (nat_lt limit (due_in_all of run)))))
+    ++ option_to_list (full_cause limit (nat_lt limit (due_in_all of run))))))
 
 abbrev pub number_at : Ending → ℕ
 number_at ending = number_of (status_of ending)

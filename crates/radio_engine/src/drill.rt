@@ -37,6 +37,7 @@ fn day_gear<T: Drop>(alloc: Global, seed: u32) -> Result<Gear<SureSource, T>, Al
 {
     Ok(Gear {
         logs: make_logs(alloc, seed)?,
+        leap: None,
         servers: Vec::new(alloc),
         links: Vec::new(alloc),
     })
@@ -85,12 +86,14 @@ fn serve_day<R: Threads + Wait + Sync, O: Outside>(
                 gear: _gear,
                 radios,
                 servers,
+                leap,
                 links,
             } = ended;
             Ok(Done {
                 journal,
                 radios,
                 servers,
+                leap,
                 links,
             })
         }

@@ -26,6 +26,8 @@ mod fault_tests;
 #[cfg(test)]
 mod gate_tests;
 #[cfg(test)]
+mod leap_tests;
+#[cfg(test)]
 mod migrate_tests;
 #[cfg(test)]
 mod replay_tests;

@@ -5,7 +5,7 @@ ghost use Rattle.radio_engine.specs.Run.{Lacks};
 ghost use Rattle.feed_link.specs.ManyOut.{AreOut};
 ghost use Rattle.radio_engine.specs.Serving.{RunsServe};
 ghost use Rattle.receiver_rack.specs.Racks.{IsRack};
-ghost use Rattle.station_config.specs.Station.{IsStation};
+ghost use Rattle.station_config.specs.Station.{IsStation, leap_feed};
 ghost use Rattle.station_crew.specs.Served.{AreBlank};
 ghost use Rattle.station_gear.specs.Gears.{IsEmptyFor, numbers_of};
 ghost use Rattle.station_gear.specs.Opens.{IsWhole};
@@ -45,6 +45,7 @@ pub struct Done {
     pub journal: Journal,
     pub radios: Vec<LogWork>,
     pub servers: Vec<PollWork>,
+    pub leap: Option<LogWork>,
     pub links: Vec<LinkWork>,
 }
 
@@ -55,12 +56,20 @@ pub struct Kit<L: Drop, T: Drop> {
     pub gear: Gear<L, T>,
 }
 
+// The number of the leap second file's feed, which stands behind the servers.
+pub(crate) fn leap_feed(station: &Station) -> u32
+    ensures { result ≡ leap_feed station.now }
+{
+    (station.radios() + station.servers()) as u32
+}
+
 // What stands for a missing log or link in the status line.
-fn subject_of(missing: Missing) -> Subject
-    ensures { result ≡ subject_of missing }
+fn subject_of(station: &Station, missing: Missing) -> Subject
+    ensures { result ≡ subject_of station.now missing }
 {
     match missing {
         Missing::Feed(number) => Subject::Feed(number),
+        Missing::LeapFile => Subject::Feed(leap_feed(station)),
         Missing::Link(number) => Subject::Link(number),
     }
 }
@@ -141,6 +150,7 @@ fn serve_open<R: Threads + Wait + Sync, O: Outside>(
                 gear,
                 radios,
                 servers,
+                leap,
                 links,
             } = ended;
             give_back_gear(outside, gear);
@@ -148,6 +158,7 @@ fn serve_open<R: Threads + Wait + Sync, O: Outside>(
                 journal,
                 radios,
                 servers,
+                leap,
                 links,
             })
         }
@@ -179,7 +190,7 @@ fn open_and_serve<R: Threads + Wait + Sync, O: Outside>(
         Ok(()) => serve_open(rt, alloc, station, orders, kit, outside),
         Err(missing) => {
             give_back_gear(outside, kit.gear);
-            Err(Ending::NotOpened(subject_of(missing)))
+            Err(Ending::NotOpened(subject_of(station, missing)))
         }
     }
 }

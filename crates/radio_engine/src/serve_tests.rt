@@ -155,7 +155,7 @@ pub fn outside_of<G: Gate + Drop>(
 }
 
 // A station with these logs and links writes this text and ends so.
-fn writes(
+pub fn writes(
     rt: &(impl Abort + Threads + Wait + Sync),
     alloc: Global,
     words: &[&str],

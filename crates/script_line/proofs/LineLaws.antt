@@ -1,5 +1,5 @@
 -- A text is at most one line's, and a line is never too long to be cut out of a script.
-use Rattle.std.proofs.Common.{◌≡◌, ℕ, ◌^◌, ◌<◌, ◌≤◌, true, false, eqb, leb, ◌&&◌, List, [], ◌∷◌, length, get_or, drop, decimal, refl, ap, sym, ◌∙◌, arith, inl, inr}
+use Rattle.std.proofs.Common.{◌≡◌, ℕ, ◌+◌, ◌^◌, ◌<◌, ◌≤◌, true, false, eqb, leb, ◌&&◌, List, [], ◌∷◌, length, get_or, drop, decimal, refl, ap, sym, ◌∙◌, arith, inl, inr}
 use Rattle.std.specs.List.{list_all}
 use Rattle.std.proofs.lemmas.Bool.{and_parts, or_cases, or_from, leb-true, ne_eqb}
 use Rattle.std.proofs.lemmas.Fmt.{length-decimal-le}
@@ -9,11 +9,12 @@ use Rattle.journal_entry.specs.Texts.{spaced}
 use Rattle.journal_entry.specs.Reading.{has_space}
 use Rattle.journal_entry.proofs.LengthLaws.{moment_length, spaced_more}
 use Rattle.journal_entry.proofs.SameLaws.{fields_same, number_same}
+use Rattle.tick_units.specs.Years.{end_of_told}
 use Rattle.tick_units.specs.declared.marks.Reduction.{Reduction}
 use Rattle.script_line.specs.Datagrams.{IsDatagram, bytes_said, is_small_digit}
 use Rattle.script_line.specs.Texts.{IsLine, IsReduction, AreMoments, IsTextOf, text_of}
 use Rattle.script_line.specs.declared.line.ScriptLine.{ScriptLine}
-use Rattle.script_line.specs.declared.line.ScriptLine.TheVariants.{Pulse, Ask, Answer, Swap, Request}
+use Rattle.script_line.specs.declared.line.ScriptLine.TheVariants.{Pulse, Ask, Answer, Swap, Request, Leap}
 use Rattle.script_line.proofs.DatagramLaws.{said_bytes, small_text}
 
 no_space_in_digit : (c : ℕ) → is_small_digit c ≡ true → eqb c 32 ≡ false
@@ -74,35 +75,55 @@ answer_same feed other at moment bytes others a b c d x y e =
 swap_same : (feed other : ℕ) → feed < 2 ^ 32 → other < 2 ^ 32 → text_of (Swap feed) ≡ text_of (Swap other) → Swap feed ≡ Swap other
 swap_same feed other a b e = (let feed_is = number_same feed other [] [] (omega arith) (omega arith) (ap (drop 4) e) in λ i. Swap (feed_is.number i))
 
-abbrev letter_in : List ℕ → ℕ
-letter_in text = get_or text 1 0
+leap_same : (feed other at moment leap_at leap : ℕ) → feed < 2 ^ 32 → other < 2 ^ 32 → at < 2 ^ 50 → moment < 2 ^ 50 → leap_at < end_of_told → leap < end_of_told →
+    text_of (Leap feed at leap_at) ≡ text_of (Leap other moment leap) → Leap feed at leap_at ≡ Leap other moment leap
+leap_same feed other at moment leap_at leap a b c d x y e =
+    let feed_is = number_same feed other (decimal at ∷ decimal leap_at ∷ []) (decimal moment ∷ decimal leap ∷ []) (omega arith) (omega arith) (ap (drop 4) e) in
+    let at_is = number_same at moment (decimal leap_at ∷ []) (decimal leap ∷ []) (omega arith) (omega arith) feed_is.rest in
+    let leap_is = number_same leap_at leap [] [] (omega arith) (omega arith) at_is.rest in
+    λ i. Leap (feed_is.number i) (at_is.number i) (leap_is.number i)
+
+-- the sum of the first two letters, which differs from word to word
+abbrev letters_in : List ℕ → ℕ
+letters_in text = get_or text 0 0 + get_or text 1 0
 
 lines_same : (line other : ScriptLine) → IsLine line → IsLine other → text_of line ≡ text_of other → line ≡ other
 lines_same (Pulse feed r) (Pulse other s) a b e = pulse_same feed other r s a.0 b.0 a.1 b.1 e
-lines_same (Pulse feed r) (Ask other moment) a b e = (let letter = ap letter_in e in absurd (omega arith))
-lines_same (Pulse feed r) (Answer other moment others) a b e = (let letter = ap letter_in e in absurd (omega arith))
-lines_same (Pulse feed r) (Swap other) a b e = (let letter = ap letter_in e in absurd (omega arith))
-lines_same (Pulse feed r) (Request m came gone others) a b e = (let letter = ap letter_in e in absurd (omega arith))
-lines_same (Ask feed at) (Pulse other s) a b e = (let letter = ap letter_in e in absurd (omega arith))
+lines_same (Pulse feed r) (Ask other moment) a b e = (let letters = ap letters_in e in absurd (omega arith))
+lines_same (Pulse feed r) (Answer other moment others) a b e = (let letters = ap letters_in e in absurd (omega arith))
+lines_same (Pulse feed r) (Swap other) a b e = (let letters = ap letters_in e in absurd (omega arith))
+lines_same (Pulse feed r) (Request m came gone others) a b e = (let letters = ap letters_in e in absurd (omega arith))
+lines_same (Pulse feed r) (Leap other moment leap) a b e = (let letters = ap letters_in e in absurd (omega arith))
+lines_same (Ask feed at) (Pulse other s) a b e = (let letters = ap letters_in e in absurd (omega arith))
 lines_same (Ask feed at) (Ask other moment) a b e = ask_same feed other at moment a.0 b.0 a.1 b.1 e
-lines_same (Ask feed at) (Answer other moment others) a b e = (let letter = ap letter_in e in absurd (omega arith))
-lines_same (Ask feed at) (Swap other) a b e = (let letter = ap letter_in e in absurd (omega arith))
-lines_same (Ask feed at) (Request m came gone others) a b e = (let letter = ap letter_in e in absurd (omega arith))
-lines_same (Answer feed at bytes) (Pulse other s) a b e = (let letter = ap letter_in e in absurd (omega arith))
-lines_same (Answer feed at bytes) (Ask other moment) a b e = (let letter = ap letter_in e in absurd (omega arith))
+lines_same (Ask feed at) (Answer other moment others) a b e = (let letters = ap letters_in e in absurd (omega arith))
+lines_same (Ask feed at) (Swap other) a b e = (let letters = ap letters_in e in absurd (omega arith))
+lines_same (Ask feed at) (Request m came gone others) a b e = (let letters = ap letters_in e in absurd (omega arith))
+lines_same (Ask feed at) (Leap other moment leap) a b e = (let letters = ap letters_in e in absurd (omega arith))
+lines_same (Answer feed at bytes) (Pulse other s) a b e = (let letters = ap letters_in e in absurd (omega arith))
+lines_same (Answer feed at bytes) (Ask other moment) a b e = (let letters = ap letters_in e in absurd (omega arith))
 lines_same (Answer feed at bytes) (Answer other moment others) a b e = answer_same feed other at moment bytes others a.0 b.0 a.1 b.1 a.2 b.2 e
-lines_same (Answer feed at bytes) (Swap other) a b e = (let letter = ap letter_in e in absurd (omega arith))
-lines_same (Answer feed at bytes) (Request m came gone others) a b e = (let letter = ap letter_in e in absurd (omega arith))
-lines_same (Swap feed) (Pulse other s) a b e = (let letter = ap letter_in e in absurd (omega arith))
-lines_same (Swap feed) (Ask other moment) a b e = (let letter = ap letter_in e in absurd (omega arith))
-lines_same (Swap feed) (Answer other moment others) a b e = (let letter = ap letter_in e in absurd (omega arith))
+lines_same (Answer feed at bytes) (Swap other) a b e = (let letters = ap letters_in e in absurd (omega arith))
+lines_same (Answer feed at bytes) (Request m came gone others) a b e = (let letters = ap letters_in e in absurd (omega arith))
+lines_same (Answer feed at bytes) (Leap other moment leap) a b e = (let letters = ap letters_in e in absurd (omega arith))
+lines_same (Swap feed) (Pulse other s) a b e = (let letters = ap letters_in e in absurd (omega arith))
+lines_same (Swap feed) (Ask other moment) a b e = (let letters = ap letters_in e in absurd (omega arith))
+lines_same (Swap feed) (Answer other moment others) a b e = (let letters = ap letters_in e in absurd (omega arith))
 lines_same (Swap feed) (Swap other) a b e = swap_same feed other a b e
-lines_same (Swap feed) (Request m came gone others) a b e = (let letter = ap letter_in e in absurd (omega arith))
-lines_same (Request n arrived sent bytes) (Pulse other s) a b e = (let letter = ap letter_in e in absurd (omega arith))
-lines_same (Request n arrived sent bytes) (Ask other moment) a b e = (let letter = ap letter_in e in absurd (omega arith))
-lines_same (Request n arrived sent bytes) (Answer other moment others) a b e = (let letter = ap letter_in e in absurd (omega arith))
-lines_same (Request n arrived sent bytes) (Swap other) a b e = (let letter = ap letter_in e in absurd (omega arith))
+lines_same (Swap feed) (Request m came gone others) a b e = (let letters = ap letters_in e in absurd (omega arith))
+lines_same (Swap feed) (Leap other moment leap) a b e = (let letters = ap letters_in e in absurd (omega arith))
+lines_same (Request n arrived sent bytes) (Pulse other s) a b e = (let letters = ap letters_in e in absurd (omega arith))
+lines_same (Request n arrived sent bytes) (Ask other moment) a b e = (let letters = ap letters_in e in absurd (omega arith))
+lines_same (Request n arrived sent bytes) (Answer other moment others) a b e = (let letters = ap letters_in e in absurd (omega arith))
+lines_same (Request n arrived sent bytes) (Swap other) a b e = (let letters = ap letters_in e in absurd (omega arith))
 lines_same (Request n arrived sent bytes) (Request m came gone others) a b e = request_same n m arrived came sent gone bytes others a.0 b.0 a.1 b.1 a.2 b.2 e
+lines_same (Request n arrived sent bytes) (Leap other moment leap) a b e = (let letters = ap letters_in e in absurd (omega arith))
+lines_same (Leap feed at leap_at) (Pulse other s) a b e = (let letters = ap letters_in e in absurd (omega arith))
+lines_same (Leap feed at leap_at) (Ask other moment) a b e = (let letters = ap letters_in e in absurd (omega arith))
+lines_same (Leap feed at leap_at) (Answer other moment others) a b e = (let letters = ap letters_in e in absurd (omega arith))
+lines_same (Leap feed at leap_at) (Swap other) a b e = (let letters = ap letters_in e in absurd (omega arith))
+lines_same (Leap feed at leap_at) (Request m came gone others) a b e = (let letters = ap letters_in e in absurd (omega arith))
+lines_same (Leap feed at leap_at) (Leap other moment leap) a b e = leap_same feed other at moment leap_at leap a.0 b.0 a.1 b.1 a.2 b.2 e
 
 -- a text is at most one line's
 pub one_line : (text : List ℕ) (line other : ScriptLine) → IsTextOf text line → IsTextOf text other → line ≡ other
@@ -110,6 +131,9 @@ one_line text line other a b = lines_same line other a.lawful b.lawful (sym a.is
 
 feed_length : (n : ℕ) → n < 2 ^ 32 → length (decimal n) ≤ 10
 feed_length n small = length-decimal-le 10 n (omega arith) (omega arith) (omega arith)
+
+second_length : (n : ℕ) → n < end_of_told → length (decimal n) ≤ 10
+second_length n told = length-decimal-le 10 n (omega arith) (omega arith) (omega arith)
 
 datagram_length : (bytes : List ℕ) → IsDatagram bytes → length (encode_lower bytes) ≤ 2048
 datagram_length bytes h = (let most = h.most in omega (arith, length-encode_with lower_digits bytes))
@@ -155,4 +179,13 @@ short_line (Request n arrived sent bytes) h =
     let x = moment_length arrived (omega arith) in
     let y = moment_length sent below in
     let z = datagram_length bytes h.2 in
+    omega arith
+short_line (Leap feed at leap_at) h =
+    let told = h.2 in
+    let a = spaced_more (decimal feed) (decimal at ∷ decimal leap_at ∷ []) in
+    let b = spaced_more (decimal at) (decimal leap_at ∷ []) in
+    let c = spaced_more (decimal leap_at) [] in
+    let x = feed_length feed h.0 in
+    let y = moment_length at h.1 in
+    let z = second_length leap_at told in
     omega arith

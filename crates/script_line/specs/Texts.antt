@@ -3,10 +3,11 @@
 use Rattle.std.specs.Prelude.{◌≡◌, ℕ, ◌<◌, ◌≤◌, ◌^◌, List, [], ◌∷◌, ◌++◌, codes, decimal}
 use Rattle.hex.specs.Hex.{encode_lower}
 use Rattle.journal_entry.specs.Texts.{spaced}
+use Rattle.tick_units.specs.Years.{end_of_told}
 use Rattle.tick_units.specs.declared.marks.Reduction.{Reduction}
 use Rattle.script_line.specs.Datagrams.{IsDatagram}
 use Rattle.script_line.specs.declared.line.ScriptLine.{ScriptLine}
-use Rattle.script_line.specs.declared.line.ScriptLine.TheVariants.{Pulse, Ask, Answer, Swap, Request}
+use Rattle.script_line.specs.declared.line.ScriptLine.TheVariants.{Pulse, Ask, Answer, Swap, Request, Leap}
 
 abbrev pub word_of : ScriptLine → List ℕ
 word_of (Pulse feed reduction) = codes "pulse"
@@ -14,6 +15,7 @@ word_of (Ask feed at) = codes "ask"
 word_of (Answer feed at datagram) = codes "answer"
 word_of (Swap feed) = codes "swap"
 word_of (Request connection arrived sent datagram) = codes "request"
+word_of (Leap feed at leap_at) = codes "leap"
 
 abbrev pub fields_of : ScriptLine → List (List ℕ)
 fields_of (Pulse feed reduction) = decimal feed ∷ decimal reduction.at ∷ decimal reduction.width ∷ []
@@ -22,6 +24,7 @@ fields_of (Answer feed at datagram) = decimal feed ∷ decimal at ∷ encode_low
 fields_of (Swap feed) = decimal feed ∷ []
 fields_of (Request connection arrived sent datagram) =
     decimal connection ∷ decimal arrived ∷ decimal sent ∷ encode_lower datagram ∷ []
+fields_of (Leap feed at leap_at) = decimal feed ∷ decimal at ∷ decimal leap_at ∷ []
 
 -- without a line feed
 abbrev pub text_of : ScriptLine → List ℕ
@@ -45,6 +48,7 @@ IsLine (Ask feed at) = (feed < 2 ^ 32) × (at < 2 ^ 50)
 IsLine (Answer feed at datagram) = (feed < 2 ^ 32) × (at < 2 ^ 50) × IsDatagram datagram
 IsLine (Swap feed) = feed < 2 ^ 32
 IsLine (Request connection arrived sent datagram) = (connection < 8) × AreMoments arrived sent × IsDatagram datagram
+IsLine (Leap feed at leap_at) = (feed < 2 ^ 32) × (at < 2 ^ 50) × (leap_at < end_of_told)
 
 -- a text is this line's
 pub record IsTextOf (text : List ℕ) (line : ScriptLine) : Type 0 where

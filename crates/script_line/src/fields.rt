@@ -3,6 +3,7 @@ ghost use Rattle.std.specs.Prelude.{◌≡◌, ◌<◌, ◌≤◌, ◌^◌, ◌�
 ghost use Rattle.decimal_text.specs.Numbers.{BeginsWith};
 ghost use Rattle.hex.specs.Hex.{encode_lower};
 ghost use Rattle.journal_entry.specs.Texts.{spaced};
+ghost use Rattle.tick_units.specs.Years.{end_of_told};
 ghost use Rattle.script_line.specs.Datagrams.{IsDatagram};
 ghost use Rattle.script_line.specs.Reading.{HasSpaced};
 
@@ -19,6 +20,9 @@ const WIDEST: u64 = 2_000_000;
 
 // The greatest number of a connection.
 const LAST_CONNECTION: u64 = 7;
+
+// The last second that is told, 2100-01-02 23:59:59 UTC.
+const LAST_SECOND: u64 = 6_311_606_399;
 
 // The number that a text begins with, where it is at most so great, and fields stand behind it, each behind a space.
 fn number_before(text: &[u8], most: u64) -> Option<Number>
@@ -112,6 +116,16 @@ impl<'a> Fields<'a> {
     {
         let number = self.next_number(LAST_CONNECTION)?;
         Some(number as u8)
+    }
+
+    // The next field as a second, counted from 1900-01-01 00:00 UTC.
+    pub fn next_second(&mut self) -> Option<u64>
+        ensures second { IfSome result (λ n. (n < end_of_told)
+            × ((fields : List (List ℕ)) → HasSpaced self.new fields → HasSpaced self.old (decimal n ∷ fields))) }
+        ensures every { (n : ℕ) (fields : List (List ℕ)) → n < end_of_told → HasSpaced self.old (decimal n ∷ fields) →
+            (result ≡ Some n) × HasSpaced self.new fields }
+    {
+        self.next_number(LAST_SECOND)
     }
 
     // The one field that is left as a datagram.

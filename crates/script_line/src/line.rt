@@ -7,7 +7,7 @@ use tick_units::{Local, Reduction};
 pub enum ScriptLine<'a> {
     /// A radio's receiver hears a reduction of the carrier.
     Pulse {
-        /// The number of the feed, from 0: the radios in the order of the station file, then its servers.
+        /// The number of the feed, from 0: the radios in the order of the station file, then its servers, then its leap second file.
         feed: u32,
         reduction: Reduction,
     },
@@ -36,5 +36,13 @@ pub enum ScriptLine<'a> {
         /// When it is answered, not before that.
         sent: Local,
         datagram: Datagram<'a>,
+    },
+    /// The leap second file tells of a leap second.
+    Leap {
+        feed: u32,
+        /// When, on the host's counter.
+        at: Local,
+        /// The second behind the leap second, counted from 1900-01-01 00:00 UTC, before 2100-01-03 00:00 UTC.
+        leap_at: u64,
     },
 }

@@ -25,6 +25,8 @@ pub fn read_line<'a>(text: &'a [u8]) -> Option<ScriptLine<'a>>
         read_swap(Fields::new(rest))
     } else if let Some(rest) = text.strip_prefix(b"request") {
         read_request(Fields::new(rest))
+    } else if let Some(rest) = text.strip_prefix(b"leap") {
+        read_leap(Fields::new(rest))
     } else {
         None
     }
@@ -105,4 +107,19 @@ fn read_request<'a>(mut fields: Fields<'a>) -> Option<ScriptLine<'a>>
         sent,
         datagram,
     })
+}
+
+// A leap second that the file tells of.
+fn read_leap<'a>(mut fields: Fields<'a>) -> Option<ScriptLine<'a>>
+    ensures line { IfSome result (λ line. IsOfFields fields.entry line × (word_of line ≡ codes "leap")) }
+    ensures every { (feed at leap_at : ℕ) → IsOfFields fields.entry (ScriptLine.Leap feed at leap_at) → result ≡ Some (ScriptLine.Leap feed at leap_at) }
+{
+    let feed = fields.next_feed()?;
+    let at = fields.next_moment()?;
+    let leap_at = fields.next_second()?;
+    if fields.is_empty() {
+        Some(ScriptLine::Leap { feed, at, leap_at })
+    } else {
+        None
+    }
 }

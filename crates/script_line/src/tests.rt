@@ -68,6 +68,19 @@ fn a_request(rt: HostRuntime) -> Result<(), Fail> {
     Ok(())
 }
 
+// 2026-01-02 00:00 UTC by Python's calendar.
+#[test]
+fn a_leap_second(rt: HostRuntime) -> Result<(), Fail> {
+    let line = read_line(b"leap 1 302000000 3976300800").ok_or("no line")?;
+    let ScriptLine::Leap { feed, at, leap_at } = &line else {
+        return Err("no leap second".into());
+    };
+    assert_eq!(rt; *feed, 1);
+    assert_eq!(rt; at.get(), 302_000_000);
+    assert_eq!(rt; *leap_at, 3_976_300_800);
+    Ok(())
+}
+
 // A datagram has these bytes, and what lies behind them in the room stays.
 fn says(rt: &impl Abort, datagram: &Datagram<'_>, bytes: &[u8]) {
     let mut out = [b'#'; 1024];
@@ -91,6 +104,8 @@ fn numbers_at_their_bounds(rt: HostRuntime) {
             "swap 4294967295",
             "request 0 0 0 00",
             "request 7 1125899906842623 1125899906842623 ff",
+            "leap 0 0 0",
+            "leap 4294967295 1125899906842623 6311606399",
         ],
     );
     are_no_lines(
@@ -110,6 +125,10 @@ fn numbers_at_their_bounds(rt: HostRuntime) {
             "request 0 1125899906842624 1125899906842624 00",
             "request 0 0 1125899906842624 00",
             "request 0 2 1 00",
+            "leap 4294967296 0 0",
+            "leap 0 1125899906842624 0",
+            "leap 0 0 6311606400",
+            "leap 0 0 18446744073709551616",
         ],
     );
 }
@@ -182,6 +201,32 @@ fn texts_of_no_line(rt: HostRuntime) {
             "tick 0 0",
             "#",
             "reply 00",
+        ],
+    );
+    are_no_lines(
+        &rt,
+        &[
+            "leap",
+            "leap ",
+            "leap 0",
+            "leap 0 0",
+            "leap 0 0 ",
+            "leap 0 0 0 ",
+            "leap 0 0 0 0",
+            "leap  0 0 0",
+            "leap 0  0 0",
+            "leap 0 0  0",
+            "leap 00 0 0",
+            "leap 0 00 0",
+            "leap 0 0 00",
+            "leap 0 0 01",
+            "leap 0 0 +1",
+            "leap 0 0 -1",
+            "leap 0 0 0\r",
+            " leap 0 0 0",
+            "leap0 0 0",
+            "leaps 0 0 0",
+            "lea 0 0 0",
         ],
     );
 }

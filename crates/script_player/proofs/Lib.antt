@@ -1,4 +1,5 @@
 -- Lemmas that several proofs of this crate use.
+mod LeapLaws
 mod LineLaws
 mod ListLaws
 mod NewLaws

@@ -8,7 +8,7 @@ use Rattle.reply_core.specs.Reply.{request_of}
 use Rattle.reply_core.specs.declared.dropped.Dropped.{Dropped as WhyDropped}
 use Rattle.station_config.specs.Station.{StationFields, gate_of}
 use Rattle.script_line.specs.declared.line.ScriptLine.{ScriptLine}
-use Rattle.script_line.specs.declared.line.ScriptLine.TheVariants.{Pulse, Ask, Answer, Swap, Request}
+use Rattle.script_line.specs.declared.line.ScriptLine.TheVariants.{Pulse, Ask, Answer, Swap, Request, Leap}
 use Rattle.script_player.specs.Replay.{MayBePlayed, MayKeep, MayKeepSender, Played, gate_after, gate_behind, lines_of, outcome, played_so, sender_of}
 use Rattle.script_player.specs.Texts.{outcome_text, replay_text}
 use Rattle.script_player.proofs.LineLaws.{each_after-push}
@@ -36,6 +36,7 @@ line_may gate (Pulse feed reduction) = refl
 line_may gate (Ask feed at) = refl
 line_may gate (Answer feed at datagram) = refl
 line_may gate (Swap feed) = refl
+line_may gate (Leap feed at leap_at) = refl
 line_may gate (Request connection arrived sent datagram) = sender_may (request_of datagram) gate (sender_of connection) arrived
 
 pub may_be_kept : (station : StationFields) (before : List Played) (line : ScriptLine) → MayBePlayed station before (played_so line true)

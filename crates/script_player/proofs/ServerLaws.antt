@@ -46,13 +46,13 @@ HasServer-event old new fields feed lines line at event is moment address last p
 
 -- a line of no server
 pub HasServers-other : (servers : Servers) (station : StationFields) (lines : List ScriptLine) (line : ScriptLine) →
-    ((feed : ℕ) (address : Address) → event_in address feed line ≡ None) → ((feed : ℕ) → moment_in feed line ≡ None) →
+    ((feed : ℕ) (address : Address) → event_in address feed line ≡ None) → ((place : ℕ) → place < length station.servers → moment_in (length station.radios + place) line ≡ None) →
     HasServers servers station lines → HasServers servers station (lines ++ line ∷ [])
 HasServers-other servers station lines line none still h = record {
   first_is = h.first_is;
   polling = record {
     count = h.polling.count;
-    each = λ place server fields at here. HasServer-other server fields (length station.radios + place) lines line (none (length station.radios + place) fields.address) (still (length station.radios + place)) (h.polling.each place server fields at here);
+    each = λ place server fields at here. HasServer-other server fields (length station.radios + place) lines line (none (length station.radios + place) fields.address) (still place (slice_get_within station.servers place fields here)) (h.polling.each place server fields at here);
   };
 }
 

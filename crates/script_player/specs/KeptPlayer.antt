@@ -1,5 +1,5 @@
 -- Scaffolding: what a player keeps, against the definitions on all the lines before.
-use Rattle.std.specs.Prelude.{◌≡◌, ℕ, ◌+◌, ◌≤◌, ◌++◌, Bool, true, false, nat_lt, Option, Some, Result, Ok, Err, List, [], ◌∷◌, All, length, take}
+use Rattle.std.specs.Prelude.{◌≡◌, ℕ, ◌+◌, ◌≤◌, ◌++◌, Bool, true, false, nat_lt, Option, Some, option_map, Result, Ok, Err, List, [], ◌∷◌, All, length, take}
 use Rattle.std.specs.List.{slice_get}
 use Rattle.tick_units.specs.declared.marks.Plan.{Plan}
 use Rattle.tick_units.specs.declared.marks.Reduction.{Reduction}
@@ -10,11 +10,12 @@ use Rattle.system_fold.specs.Settings.{SettingsFields}
 use Rattle.system_fold.specs.KeptFold.{StandsForJournal}
 use Rattle.receiver_rack.specs.Racks.{IsSpare, left_of}
 use Rattle.packet_auth.specs.Keys.{keys_of}
-use Rattle.station_config.specs.Station.{RadioFields, ServerFields, StationFields, settings_of}
+use Rattle.station_config.specs.Station.{RadioFields, ServerFields, StationFields, leap_feed, settings_of}
 use Rattle.script_line.specs.declared.line.ScriptLine.{ScriptLine}
-use Rattle.script_line.specs.declared.line.ScriptLine.TheVariants.{Pulse, Answer}
+use Rattle.script_line.specs.declared.line.ScriptLine.TheVariants.{Pulse, Answer, Leap}
 use Rattle.script_player.specs.Keeping.{JournalFields}
-use Rattle.script_player.specs.Replay.{MayBePlayed, Played, due, due_of_radio, due_of_server, events_of, fitted, gate_after, history_of, is_lawful, last_moment, lines_of, outcome, played_so, pulses_of, radio_of, server_of}
+use Rattle.script_player.specs.Replay.{MayBePlayed, Played, due, due_of_radio, due_of_server, due_to, events_of, fitted, gate_after, history_of, is_lawful, last_moment, lines_of, outcome, played_so, pulses_of, radio_of, server_of}
+use Rattle.script_player.specs.declared.leap.LeapFeed.{LeapFeed}
 use Rattle.script_player.specs.declared.outcome.NotLawful.{NotLawful}
 use Rattle.script_player.specs.declared.outcome.Outcome.{Outcome}
 use Rattle.script_player.specs.declared.radio.Radio.{Radio}
@@ -94,6 +95,16 @@ pub record HasAnswered (servers : Servers) (station : StationFields) (lines : Li
   pub played : HasServers servers station (lines ++ Answer feed at datagram ∷ [])
   pub due_is : Some entry ≡ due_of_server (server_of station feed) feed at datagram lines
 
+-- the leap second file has its feed's number, where the station names one, and the moment of its last leap second
+pub record HasLeap (leap : LeapFeed) (station : StationFields) (lines : List ScriptLine) : Type 0 where
+  pub number_is : leap.number ≡ option_map (λ name. leap_feed station) station.leap_file
+  pub last : leap.last ≡ last_moment (leap_feed station) lines
+
+-- a leap second more, and the entry that it was due
+pub record HasTold (leap : LeapFeed) (station : StationFields) (lines : List ScriptLine) (feed at leap_at : ℕ) (entry : Entry) : Type 0 where
+  pub played : HasLeap leap station (lines ++ Leap feed at leap_at ∷ [])
+  pub due_is : Some entry ≡ due_to station lines (Leap feed at leap_at)
+
 -- of the entries that were due the first are kept, up to the limit
 pub record HasKept (journal : JournalFields) (settings : SettingsFields) (limit : ℕ) (entries : List Entry) : Type 0 where
   pub limit_is : journal.limit ≡ limit
@@ -105,6 +116,7 @@ pub record HasKept (journal : JournalFields) (settings : SettingsFields) (limit 
 pub record HasPlayed {B : Type 0} (stands : B → History → Type 0) (player : Player B) (station : StationFields) (limit : ℕ) (before : List Played) : Type 0 where
   pub radios : HasRadios stands player.radios station (lines_of before)
   pub servers : HasServers player.servers station (lines_of before)
+  pub leap : HasLeap player.leap station (lines_of before)
   pub journal : HasKept player.journal (settings_of station) limit (due station (lines_of before))
   pub keys : keys_of player.keys ≡ station.keys
   pub clients : player.clients ≡ gate_after station before

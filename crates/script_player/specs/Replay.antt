@@ -1,7 +1,7 @@
 -- What the lines of a recorded script come to. There is no state: what a line does is read off all the lines before it, and off
 -- whose judging was kept in them. How a script drives a station is this project's own; the receivers' answers are those of their code
 -- plans (PTB, NPL, NIST), the exchanges, the page, the replies and the kiss codes those of RFC 5905.
-use Rattle.std.specs.Prelude.{◌≡◌, ℕ, ◌+◌, ◌-◌, ◌==◌, nat_lt, nat_le, Bool, true, false, not, Option, None, Some, Result, Ok, Err, List, [], ◌∷◌, ◌++◌, length, map, fold, take, reverse, unwrap_or, if◌then◌else◌}
+use Rattle.std.specs.Prelude.{◌≡◌, ℕ, ◌+◌, ◌-◌, ◌==◌, nat_lt, nat_le, Bool, true, false, not, ◌&&◌, Option, None, Some, is_some, Result, Ok, Err, List, [], ◌∷◌, ◌++◌, length, map, fold, take, reverse, unwrap_or, if◌then◌else◌}
 use Rattle.std.specs.List.{count_by, filter_map, last_or, slice_get, take_while}
 use Rattle.std.specs.Option.{option_to_list}
 use Rattle.tick_units.specs.declared.marks.Plan.{Plan}
@@ -11,7 +11,7 @@ use Rattle.tick_units.specs.declared.verdicts.Heard.{Heard as Answered}
 use Rattle.feed_link.specs.declared.outside.Address.{Address}
 use Rattle.journal_entry.specs.declared.entry.Entry.{Entry}
 use Rattle.journal_entry.specs.declared.entry.What.{What}
-use Rattle.journal_entry.specs.declared.entry.What.TheVariants.{Heard, Sample, Declined}
+use Rattle.journal_entry.specs.declared.entry.What.TheVariants.{Heard, Sample, Declined, Notice}
 use Rattle.radio_receiver.specs.Histories.{History, answers_of, least_after, with_reduction}
 use Rattle.poll_core.specs.Histories.{Event, judge}
 use Rattle.poll_core.specs.Histories.Event.{Asked as WasAsked, Answered as WasAnswered}
@@ -29,26 +29,26 @@ use Rattle.clock_page.specs.Page.{PageFields}
 use Rattle.system_fold.specs.Numbered.{numbered_behind}
 use Rattle.system_fold.specs.Page.{page_of}
 use Rattle.system_fold.specs.Settings.{SettingsFields}
-use Rattle.station_config.specs.Station.{RadioFields, ServerFields, StationFields, gate_of, is_same_plan, plan_count, settings_of}
+use Rattle.station_config.specs.Station.{RadioFields, ServerFields, StationFields, gate_of, is_same_plan, leap_feed, plan_count, settings_of}
 use Rattle.script_line.specs.declared.line.ScriptLine.{ScriptLine}
-use Rattle.script_line.specs.declared.line.ScriptLine.TheVariants.{Pulse, Ask, Answer, Swap, Request}
+use Rattle.script_line.specs.declared.line.ScriptLine.TheVariants.{Pulse, Ask, Answer, Swap, Request, Leap}
 use Rattle.script_player.specs.declared.outcome.Outcome.{Outcome}
 use Rattle.script_player.specs.declared.outcome.Outcome.TheVariants.{Nothing, Kept, Asked, Replied, Dropped}
 
--- feeds are numbered: the radios of the station in order, then its servers
+-- feeds are numbered: the radios of the station in order, then its servers, then its leap second file
 abbrev pub radio_of : StationFields → ℕ → Option RadioFields
 radio_of station feed = slice_get station.radios feed
 
 abbrev pub server_of : StationFields → ℕ → Option ServerFields
 server_of station feed = if nat_lt feed (length station.radios) then None else slice_get station.servers (feed - length station.radios)
 
+abbrev pub is_leap_feed : StationFields → ℕ → Bool
+is_leap_feed station feed = is_some station.leap_file && (feed == leap_feed station)
+
 -- the pulse that a line gives to a feed
 abbrev pub pulse_in : ℕ → ScriptLine → Option Reduction
 pulse_in feed (Pulse number reduction) = if number == feed then Some reduction else None
-pulse_in feed (Ask number at) = None
-pulse_in feed (Answer number at datagram) = None
-pulse_in feed (Swap number) = None
-pulse_in feed (Request connection arrived sent datagram) = None
+pulse_in feed _ = None
 
 abbrev pub pulses_of : ℕ → List ScriptLine → List Reduction
 pulses_of feed lines = filter_map (pulse_in feed) lines
@@ -56,10 +56,7 @@ pulses_of feed lines = filter_map (pulse_in feed) lines
 -- a line that takes a feed's receiver away
 abbrev pub is_swap_of : ℕ → ScriptLine → Bool
 is_swap_of feed (Swap number) = number == feed
-is_swap_of feed (Pulse number reduction) = false
-is_swap_of feed (Ask number at) = false
-is_swap_of feed (Answer number at datagram) = false
-is_swap_of feed (Request connection arrived sent datagram) = false
+is_swap_of feed _ = false
 
 -- the lines behind a feed's last swap, or all where there is none: from the end back to it
 abbrev pub behind_swap : ℕ → List ScriptLine → List ScriptLine
@@ -80,10 +77,7 @@ is_plan_of plan (Some radio) = is_same_plan plan radio.plan
 
 abbrev pub is_swap_for : StationFields → Plan → ScriptLine → Bool
 is_swap_for station plan (Swap feed) = is_plan_of plan (radio_of station feed)
-is_swap_for station plan (Pulse feed reduction) = false
-is_swap_for station plan (Ask feed at) = false
-is_swap_for station plan (Answer feed at datagram) = false
-is_swap_for station plan (Request connection arrived sent datagram) = false
+is_swap_for station plan _ = false
 
 abbrev pub fitted : StationFields → Plan → List ScriptLine → ℕ
 fitted station plan lines = plan_count plan station.radios + count_by (is_swap_for station plan) lines
@@ -92,20 +86,17 @@ fitted station plan lines = plan_count plan station.radios + count_by (is_swap_f
 abbrev pub event_in : Address → ℕ → ScriptLine → Option Event
 event_in server feed (Ask number at) = if number == feed then Some (WasAsked at) else None
 event_in server feed (Answer number at datagram) = if number == feed then Some (WasAnswered at server datagram) else None
-event_in server feed (Pulse number reduction) = None
-event_in server feed (Swap number) = None
-event_in server feed (Request connection arrived sent datagram) = None
+event_in server feed _ = None
 
 abbrev pub events_of : Address → ℕ → List ScriptLine → List Event
 events_of server feed lines = filter_map (event_in server feed) lines
 
--- the moment of a feed's last request or answer, and 0 where there is none
+-- the moment of a feed's last request, answer or leap second, and 0 where there is none
 abbrev pub moment_in : ℕ → ScriptLine → Option ℕ
 moment_in feed (Ask number at) = if number == feed then Some at else None
 moment_in feed (Answer number at datagram) = if number == feed then Some at else None
-moment_in feed (Pulse number reduction) = None
-moment_in feed (Swap number) = None
-moment_in feed (Request connection arrived sent datagram) = None
+moment_in feed (Leap number at leap_at) = if number == feed then Some at else None
+moment_in feed _ = None
 
 abbrev pub last_moment : ℕ → List ScriptLine → ℕ
 last_moment feed lines = unwrap_or (last_or None (filter_map (moment_in feed) lines)) 0
@@ -120,6 +111,10 @@ abbrev pub may_poll : Option ServerFields → ℕ → ℕ → List ScriptLine �
 may_poll None feed at lines = false
 may_poll (Some server) feed at lines = nat_le (last_moment feed lines) at
 
+-- nor is one of the leap second file
+abbrev pub may_tell : Bool → ℕ → ℕ → List ScriptLine → Bool
+may_tell is_leap feed at lines = is_leap && nat_le (last_moment feed lines) at
+
 -- there are four receivers of each plan
 abbrev pub may_swap : StationFields → Option RadioFields → List ScriptLine → Bool
 may_swap station None lines = false
@@ -132,6 +127,7 @@ is_lawful station lines (Ask feed at) = may_poll (server_of station feed) feed a
 is_lawful station lines (Answer feed at datagram) = may_poll (server_of station feed) feed at lines
 is_lawful station lines (Swap feed) = may_swap station (radio_of station feed) lines
 is_lawful station lines (Request connection arrived sent datagram) = true
+is_lawful station lines (Leap feed at leap_at) = may_tell (is_leap_feed station feed) feed at lines
 
 -- the answer by which a receiver's list of answers grows with a reduction, if it grows
 abbrev pub new_answer : History → Reduction → Option Answered
@@ -157,13 +153,13 @@ due_of_server None feed at datagram lines = None
 due_of_server (Some server) feed at datagram lines =
     Some (entry_answered feed at (judge server.address (events_of server.address feed lines) at server.address datagram))
 
--- the entry that is due to a line behind these lines: one for each answer of a receiver, and one for each datagram of a server
+-- the entry that is due to a line behind these lines: one for each answer of a receiver, one for each datagram of a server, and one for each leap second
+-- that the file tells of
 abbrev pub due_to : StationFields → List ScriptLine → ScriptLine → Option Entry
 due_to station lines (Pulse feed reduction) = due_of_radio (radio_of station feed) feed reduction lines
 due_to station lines (Answer feed at datagram) = due_of_server (server_of station feed) feed at datagram lines
-due_to station lines (Ask feed at) = None
-due_to station lines (Swap feed) = None
-due_to station lines (Request connection arrived sent datagram) = None
+due_to station lines (Leap feed at leap_at) = Some (record { feed = feed; at = at; what = Notice leap_at })
+due_to station lines _ = None
 
 -- what each of some lines comes to, by all the lines before it
 abbrev pub each_after : {X A : Type 0} → (List X → X → List A) → List X → List X → List A
@@ -214,10 +210,7 @@ gate_behind_datagram (Err why) gate ip at was_kept = gate
 -- the gate behind a line: a request is judged as it arrives
 abbrev pub gate_behind : Gate → ScriptLine → Bool → Gate
 gate_behind gate (Request connection arrived sent datagram) was_kept = gate_behind_datagram (request_of datagram) gate (sender_of connection) arrived was_kept
-gate_behind gate (Pulse feed reduction) was_kept = gate
-gate_behind gate (Ask feed at) was_kept = gate
-gate_behind gate (Answer feed at datagram) was_kept = gate
-gate_behind gate (Swap feed) was_kept = gate
+gate_behind gate _ was_kept = gate
 
 -- the station's gate behind all these lines
 abbrev pub gate_after : StationFields → List Played → Gate
@@ -230,10 +223,7 @@ MayKeepSender (Err why) gate ip at was_kept = was_kept ≡ true
 
 abbrev pub MayKeep : Gate → ScriptLine → Bool → Type 0
 MayKeep gate (Request connection arrived sent datagram) was_kept = MayKeepSender (request_of datagram) gate (sender_of connection) arrived was_kept
-MayKeep gate (Pulse feed reduction) was_kept = was_kept ≡ true
-MayKeep gate (Ask feed at) was_kept = was_kept ≡ true
-MayKeep gate (Answer feed at datagram) was_kept = was_kept ≡ true
-MayKeep gate (Swap feed) was_kept = was_kept ≡ true
+MayKeep gate _ was_kept = was_kept ≡ true
 
 -- a line may be played so behind these lines; where both may be, the host's memory decides
 abbrev pub MayBePlayed : StationFields → List Played → Played → Type 0
@@ -247,6 +237,7 @@ outcome_of_request (Err why) was_kept = Dropped why
 abbrev pub outcome_of : StationFields → ℕ → List Played → ScriptLine → Bool → Outcome
 outcome_of station limit before (Pulse feed reduction) was_kept = outcome_of_due (settings_of station) limit (due station (lines_of before)) (due_to station (lines_of before) (Pulse feed reduction))
 outcome_of station limit before (Answer feed at datagram) was_kept = outcome_of_due (settings_of station) limit (due station (lines_of before)) (due_to station (lines_of before) (Answer feed at datagram))
+outcome_of station limit before (Leap feed at leap_at) was_kept = outcome_of_due (settings_of station) limit (due station (lines_of before)) (due_to station (lines_of before) (Leap feed at leap_at))
 outcome_of station limit before (Ask feed at) was_kept = Asked (layout (request_header at))
 outcome_of station limit before (Swap feed) was_kept = Nothing
 outcome_of station limit before (Request connection arrived sent datagram) was_kept =

@@ -2,6 +2,7 @@
 #![tactic(auto)]
 
 mod journal;
+mod leap;
 mod outcome;
 mod player;
 mod radio;
@@ -17,5 +18,7 @@ pub use text::write_outcome;
 
 #[cfg(test)]
 mod client_tests;
+#[cfg(test)]
+mod leap_tests;
 #[cfg(test)]
 mod tests;

@@ -1,5 +1,7 @@
 //! A station in the middle of a script.
-ghost use Rattle.std.specs.Prelude.{◌≡◌, ◌≤◌, ◌+◌, ◌^◌, [], ℕ, List, Ok, IfOk, vec_len, length};
+ghost use Rattle.std.specs.Prelude.{◌≡◌, ◌<◌, ◌≤◌, ◌+◌, ◌^◌, [], ℕ, List, Ok, IfOk, vec_len, length};
+ghost use Rattle.std.specs.Option.{ForSome};
+ghost use Rattle.tick_units.specs.Years.{end_of_told};
 ghost use Rattle.station_config.specs.Station.{StationFields};
 ghost use Rattle.script_line.specs.Texts.{IsLine};
 ghost use Rattle.script_line.specs.declared.line.ScriptLine.{ScriptLine};
@@ -8,6 +10,7 @@ ghost use Rattle.script_player.specs.Replay as replay;
 ghost use Rattle.script_player.specs.Replay.{Played, lines_of, page_after, sender_of};
 
 use crate::journal::Journal;
+use crate::leap::LeapFeed;
 use crate::radios::Radios;
 use crate::servers::Servers;
 use crate::{BoxedReceiver, NotLawful, Outcome};
@@ -38,11 +41,13 @@ fn sender_of(connection: u8) -> u32
 pub struct Player<B: Drop> {
     radios: Radios<B>,
     servers: Servers,
+    leap: LeapFeed,
     journal: Journal,
     keys: KeyRing,
     clients: ClientGate,
     ghost first: { servers.first ≡ vec_len radios.fitted },
-    ghost feeds: { length journal.fold.feeds ≡ vec_len radios.fitted + vec_len servers.servers },
+    ghost feeds: { vec_len radios.fitted + vec_len servers.servers ≤ length journal.fold.feeds },
+    ghost leaps: { ForSome leap.number (λ n. n < length journal.fold.feeds) },
 }
 
 impl Player<BoxedReceiver> {
@@ -68,6 +73,7 @@ impl Player<BoxedReceiver> {
         let radios = Radios::new(alloc, station, rack)?;
         let mut servers = Servers::new(alloc, station.radios() as u32);
         servers.add_all(station)?;
+        let leap = LeapFeed::new(station);
         let journal = Journal::new(station.settings(), limit);
         let Ok(clients) = ClientGate::open(alloc, station.deny(), station.gap(), station.clients())
         else {
@@ -76,6 +82,7 @@ impl Player<BoxedReceiver> {
         Ok(Player {
             radios,
             servers,
+            leap,
             journal,
             keys: station.keys(),
             clients,
@@ -107,6 +114,7 @@ impl Player<BoxedReceiver> {
                 sent,
                 datagram,
             } => Ok(self.reply(*connection, *arrived, *sent, datagram)),
+            ScriptLine::Leap { feed, at, leap_at } => self.tell(*feed, *at, *leap_at),
         }
     }
 
@@ -161,6 +169,18 @@ impl Player<BoxedReceiver> {
     {
         self.radios.swap(feed)?;
         Ok(Outcome::Nothing)
+    }
+
+    // The leap second file tells of a leap second.
+    fn tell(&mut self, feed: u32, at: Local, leap_at: u64) -> Result<Outcome, NotLawful>
+        requires told { leap_at < end_of_told }
+        requires ready { IsReady (λ b. least_start b) self.old }
+        ensures ready { IsReady (λ b. least_start b) self.new }
+        ensures plays { (station : StationFields) (limit : ℕ) (before : List Played) → HasPlayed (λ b h. stands_for b h) self.old station limit before →
+            Plays (λ b h. stands_for b h) self.new station limit before (lines.Leap feed at leap_at) result }
+    {
+        let entry = self.leap.tell(feed, at, leap_at)?;
+        Ok(self.journal.take(&entry))
     }
 
     // A client's datagram: where it is a request, it is judged and answered.

@@ -17,14 +17,14 @@ use tick_units::{Plan, Short, Span, Stamp};
 
 // What a script comes to: the text of its lines and the numbers of those that aren't lawful, and what is kept of its entries.
 #[derive(Drop)]
-struct Played {
-    text: Vec<u8>,
-    page: Page,
-    is_full: bool,
+pub struct Played {
+    pub text: Vec<u8>,
+    pub page: Page,
+    pub is_full: bool,
 }
 
 // Plays a script with four receivers of each plan.
-fn play(alloc: Global, station: &str, limit: u16, script: &str) -> Result<Played, Fail> {
+pub fn play(alloc: Global, station: &str, limit: u16, script: &str) -> Result<Played, Fail> {
     let mut rack: Vec<BoxedReceiver> = Vec::new(alloc);
     put_in_rack(&mut rack, Box::new(alloc, DcfReceiver::new())?, Plan::Dcf)?;
     put_in_rack(&mut rack, Box::new(alloc, MsfReceiver::new())?, Plan::Msf)?;
@@ -211,7 +211,7 @@ fn lines_of_other_feeds_are_not_lawful(rt: HostRuntime) -> Result<(), Fail> {
 }
 
 // A page is of so many entries, the latest of this moment.
-fn keeps(rt: &impl Abort, page: &Page, length: u64, anchor: u64) {
+pub fn keeps(rt: &impl Abort, page: &Page, length: u64, anchor: u64) {
     assert_eq!(rt; page.length, length);
     assert_eq!(rt; page.anchor.get(), anchor);
 }

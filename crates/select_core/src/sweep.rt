@@ -46,14 +46,6 @@ impl Sweep {
         self.standing.clear();
     }
 
-    /// The candidates.
-    pub fn as_slice(&self) -> &[Candidate]
-        ensures value { result.now ≡ self.now }
-        ensures few { length result.now ≤ 16 }
-    {
-        self.standing.as_slice()
-    }
-
     /// Lets a candidate stand, in place of the one of its feed.
     pub fn put(&mut self, c: Candidate)
         requires room { length (others c.feed self.old) < 16 }

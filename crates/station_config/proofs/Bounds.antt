@@ -1,5 +1,5 @@
 -- The bounds of a station's values, and of a station that has not too many rows.
-use Rattle.std.proofs.Common.{◌≡◌, ◌+◌, ◌^◌, ◌<◌, ◌≤◌, ℕ, zero, suc, pos, negsuc, Bool, true, false, List, [], ◌∷◌, Option, Some, None, All, cond, map, find, get_or, length, nat_le, nat_lt, refl, sym, ap, arith, unwrap_or, if◌then◌else◌}
+use Rattle.std.proofs.Common.{◌≡◌, ◌^◌, ◌<◌, ◌≤◌, ℕ, zero, suc, pos, negsuc, Bool, true, false, List, [], ◌∷◌, Option, Some, None, All, cond, map, find, get_or, length, nat_le, nat_lt, refl, sym, ap, arith, unwrap_or, if◌then◌else◌}
 use Rattle.std.specs.Prelude.{◌&&◌, is_some}
 use Rattle.std.proofs.lemmas.Bool.{true≢false, and_parts}
 use Rattle.std.proofs.lemmas.Bool.Decides.{nat_tests}
@@ -9,7 +9,7 @@ use Rattle.tick_units.specs.declared.marks.Plan.TheVariants.{Dcf, Msf, Wwvb}
 use Rattle.packet_auth.specs.Keys.{AreApart}
 use Rattle.station_config.specs.Faults.{counts_of}
 use Rattle.station_config.specs.Rows.{bound_row, clients_row, gap_row, radio_row, start_row, delay_row, whole_in}
-use Rattle.station_config.specs.Station.{IsStation, RadioFields, StationFields, plan_count}
+use Rattle.station_config.specs.Station.{IsStation, RadioFields, StationFields, feed_count, plan_count}
 use Rattle.station_config.specs.Values.{radio_of, read_or, station_of, tables_at}
 use Rattle.toml.specs.Data.{get_member}
 
@@ -52,7 +52,7 @@ none_found true x rest e = absurd (true≢false (sym (ap is_some e)))
 none_found false x rest e = (refl, e)
 
 pub record IsWithin (s : StationFields) : Type 0 where
-  pub sources : length s.radios + length s.servers ≤ 16
+  pub sources : feed_count s ≤ 16
   pub dcf : plan_count Dcf s.radios ≤ 4
   pub msf : plan_count Msf s.radios ≤ 4
   pub wwvb : plan_count Wwvb s.radios ≤ 4

@@ -1,5 +1,5 @@
 -- Scaffolding: what a station keeps, and what its clauses see of it.
-use Rattle.std.specs.Prelude.{◌≡◌, map, string_bytes}
+use Rattle.std.specs.Prelude.{◌≡◌, map, option_map, string_bytes}
 use Rattle.kiss_gate.specs.Nets.{nets_of}
 use Rattle.kiss_gate.specs.declared.nets.DenyList.{DenyList}
 use Rattle.kiss_gate.specs.declared.nets.Net.{Net}
@@ -35,6 +35,7 @@ parts_fields p = record {
   top = p.top;
   radios = map radio_kept p.radios.items;
   servers = map server_fields p.servers.items;
+  leap_file = option_map string_bytes p.leap_file;
   links = p.links.items;
   keys = map key_kept p.keys.items;
   deny = map net_kept p.deny.items;

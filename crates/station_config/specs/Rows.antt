@@ -1,5 +1,5 @@
 -- The keys of a station file, table by table, with what may stand at each (a TOML document of this project's own).
-use Rattle.std.specs.Prelude.{ℕ, ◌^◌, ◌-◌, ◌&&◌, ◌==◌, ◌+◌, ◌++◌, Bool, List, [], ◌∷◌, Option, None, Some, pos, codes, nat_le, nat_lt, length, is_some, if◌then◌else◌}
+use Rattle.std.specs.Prelude.{ℕ, ◌^◌, ◌-◌, ◌&&◌, ◌==◌, ◌+◌, ◌++◌, Bool, List, [], ◌∷◌, Option, None, Some, option_map, pos, codes, nat_le, nat_lt, length, is_some, if◌then◌else◌}
 use Rattle.std.specs.List.{before_first, after_first, list_all}
 use Rattle.std.specs.Int.{w32, from_be_bytes}
 use Rattle.decimal_text.specs.Numbers.{at_most}
@@ -24,6 +24,10 @@ whole_in least most _ = None
 abbrev pub text_in : Data → Option Text
 text_in (string s) = if nat_lt 0 (length s) then Some s else None
 text_in _ = None
+
+-- the same, where there may be none
+abbrev pub some_text_in : Data → Option (Option Text)
+some_text_in d = option_map Some (text_in d)
 
 -- a text of 1 to 32 visible characters of ASCII
 abbrev pub is_visible : ℕ → Bool
@@ -114,7 +118,7 @@ pub data Form : Type 0 where
   net : Form
   tables : Form
 
--- what stands for a key that isn't there: nothing may, or a number, or no tables
+-- what stands for a key that isn't there: nothing may, or a number, or no text and no tables
 pub data Need : Type 0 where
   required : Need
   preset : ℕ → Need
@@ -140,6 +144,9 @@ gap_row = record { key = codes "gap"; form = whole 0 60000000; need = preset 0 }
 
 abbrev pub key_row : Row
 key_row = record { key = codes "key"; form = tables; need = optional }
+
+abbrev pub leap_file_row : Row
+leap_file_row = record { key = codes "leap_file"; form = text; need = optional }
 
 abbrev pub link_row : Row
 link_row = record { key = codes "link"; form = tables; need = optional }
@@ -187,7 +194,7 @@ net_row = record { key = codes "net"; form = net; need = required }
 
 -- the rows of each table, by the bytes of their keys
 abbrev pub top_rows : List Row
-top_rows = bound_row ∷ clients_row ∷ deny_row ∷ gap_row ∷ key_row ∷ link_row ∷ radio_row ∷ server_row ∷ start_row ∷ []
+top_rows = bound_row ∷ clients_row ∷ deny_row ∷ gap_row ∷ key_row ∷ leap_file_row ∷ link_row ∷ radio_row ∷ server_row ∷ start_row ∷ []
 
 abbrev pub radio_rows : List Row
 radio_rows = delay_row ∷ log_row ∷ plan_row ∷ []

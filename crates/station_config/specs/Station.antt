@@ -1,13 +1,13 @@
--- What a station is: its radios, its servers, the links that it serves on, the keys that it shares with its clients, and whom it denies. All of it is this
--- project's own.
-use Rattle.std.specs.Prelude.{ℕ, [], ◌∷◌, ◌≤◌, ◌+◌, ◌^◌, Bool, List, All, ◌++◌, length, map, count_by, true, false}
+-- What a station is: its radios, its servers, its leap second file, the links that it serves on, the keys that it shares with its clients, and whom it
+-- denies. All of it is this project's own.
+use Rattle.std.specs.Prelude.{ℕ, [], ◌∷◌, ◌≤◌, ◌+◌, ◌^◌, Bool, Option, None, Some, List, All, ◌++◌, length, map, count_by, true, false}
 use Rattle.feed_link.specs.declared.outside.Address.{Address}
 use Rattle.packet_auth.specs.Keys.{AreApart, KeyFields}
 use Rattle.kiss_gate.specs.Gates.{Gate}
 use Rattle.kiss_gate.specs.declared.nets.Net.{Net}
 use Rattle.system_fold.specs.Settings.{SettingsFields, bound_of}
 use Rattle.system_fold.specs.declared.settings.SourceKind.{SourceKind}
-use Rattle.system_fold.specs.declared.settings.SourceKind.TheVariants.{Radio, Server}
+use Rattle.system_fold.specs.declared.settings.SourceKind.TheVariants.{Radio, Server, Leap}
 use Rattle.station_config.specs.declared.station.TopNumbers.{TopNumbers}
 use Rattle.tick_units.specs.Plans.{word_of}
 use Rattle.tick_units.specs.declared.marks.Plan.{Plan}
@@ -25,11 +25,13 @@ pub record ServerFields : Type 0 where
   pub polls : ℕ
 
 -- a station: the numbers of its top table, which are the bound of its pages in milliseconds, its first moment and the least gap between the requests of a
--- client in microseconds, and how many clients a link remembers; its radios and servers, the ports that it serves on, its keys, and the nets that it denies
+-- client in microseconds, and how many clients a link remembers; its radios and servers, the name of its leap second file where it has one, the ports that
+-- it serves on, its keys, and the nets that it denies
 pub record StationFields : Type 0 where
   pub top : TopNumbers
   pub radios : List RadioFields
   pub servers : List ServerFields
+  pub leap_file : Option (List ℕ)
   pub links : List ℕ
   pub keys : List KeyFields
   pub deny : List Net
@@ -44,9 +46,22 @@ is_same_plan _ _ = false
 abbrev pub plan_count : Plan → List RadioFields → ℕ
 plan_count plan radios = count_by (λ r. is_same_plan plan r.plan) radios
 
+-- the feed of a leap second file, where there is one
+abbrev pub leap_feeds : Option (List ℕ) → List SourceKind
+leap_feeds None = []
+leap_feeds (Some name) = Leap ∷ []
+
+-- how many feeds a station has
+abbrev pub feed_count : StationFields → ℕ
+feed_count station = length station.radios + length station.servers + length (leap_feeds station.leap_file)
+
+-- the number of its leap second file's feed, where it has one
+abbrev pub leap_feed : StationFields → ℕ
+leap_feed station = length station.radios + length station.servers
+
 -- a station within its bounds
 pub record IsStation (station : StationFields) : Type 0 where
-  pub sources : length station.radios + length station.servers ≤ 16
+  pub sources : feed_count station ≤ 16
   pub plans : (plan : Plan) → plan_count plan station.radios ≤ 4
   pub ports : length station.links ≤ 8
   pub keys : length station.keys ≤ 8
@@ -66,9 +81,9 @@ kind_of_radio r = Radio r.plan
 abbrev pub kind_of_server : ServerFields → SourceKind
 kind_of_server s = Server s.address
 
--- the feeds of a station are its radios in order, and then its servers
+-- the feeds of a station are its radios in order, then its servers, and then its leap second file
 abbrev pub settings_of : StationFields → SettingsFields
-settings_of station = record { bound = bound_of station.top.bound; sources = map kind_of_radio station.radios ++ map kind_of_server station.servers }
+settings_of station = record { bound = bound_of station.top.bound; sources = map kind_of_radio station.radios ++ map kind_of_server station.servers ++ leap_feeds station.leap_file }
 
 -- the gate that a link of the station begins with
 abbrev pub gate_of : StationFields → Gate
@@ -84,6 +99,7 @@ one_of_each = record {
   top = record { bound = 1000; start = 0; gap = 0; clients = 1024 };
   radios = plain_radio Dcf ∷ plain_radio Msf ∷ plain_radio Wwvb ∷ [];
   servers = [];
+  leap_file = None;
   links = [];
   keys = [];
   deny = [];

@@ -2,7 +2,7 @@
 use Rattle.std.specs.Prelude.{ℕ, List, [], map, Option, None, Some, unwrap_or}
 use Rattle.tick_units.specs.declared.marks.Plan.TheVariants.{Dcf}
 use Rattle.toml.specs.Data.{Data, Members, get_member}
-use Rattle.station_config.specs.Rows.{Form, whole, Need, preset, Row, whole_in, text_in, secret_in, plan_in, address_in, net_in, tables_in, bound_row, clients_row, deny_row, gap_row, key_row, link_row, radio_row, server_row, start_row, delay_row, log_row, plan_row, address_row, polls_row, port_row, id_row, secret_row, net_row}
+use Rattle.station_config.specs.Rows.{Form, whole, Need, preset, Row, whole_in, text_in, some_text_in, secret_in, plan_in, address_in, net_in, tables_in, bound_row, clients_row, deny_row, gap_row, key_row, leap_file_row, link_row, radio_row, server_row, start_row, delay_row, log_row, plan_row, address_row, polls_row, port_row, id_row, secret_row, net_row}
 use Rattle.packet_auth.specs.Keys.{KeyFields}
 use Rattle.kiss_gate.specs.declared.nets.Net.{Net}
 use Rattle.station_config.specs.Station.{RadioFields, ServerFields, StationFields}
@@ -62,11 +62,16 @@ top_of members = record {
   clients = number_at clients_row members;
 }
 
+-- the name of the leap second file, where there is one
+abbrev pub leap_file_of : Members → Option (List ℕ)
+leap_file_of members = read_or None some_text_in (get_member leap_file_row.key members)
+
 abbrev pub station_of : Members → StationFields
 station_of members = record {
   top = top_of members;
   radios = map (λ t. radio_of t.1) (tables_at radio_row members);
   servers = map (λ t. server_of t.1) (tables_at server_row members);
+  leap_file = leap_file_of members;
   links = map (λ t. number_at port_row t.1) (tables_at link_row members);
   keys = map (λ t. key_of t.1) (tables_at key_row members);
   deny = map (λ t. net_of t.1) (tables_at deny_row members);

@@ -1,6 +1,6 @@
 //! How many rows a station has, and how many it may have.
 ghost use Rattle.std.specs.Prelude.{◌≡◌, find, map, nat_lt, option_map};
-ghost use Rattle.station_config.specs.Station.{is_same_plan, plan_count};
+ghost use Rattle.station_config.specs.Station.{feed_count, is_same_plan, plan_count};
 ghost use Rattle.station_config.specs.Faults.{counts_of};
 ghost use Rattle.station_config.specs.Finding.{count_seen};
 ghost use Rattle.station_config.specs.KeptStation.{parts_fields, radio_kept};
@@ -39,6 +39,13 @@ fn first_over(counts: &[Count]) -> Option<Count>
     None
 }
 
+// All feeds.
+fn feed_count(parts: &Parts) -> usize
+    ensures { result ≡ feed_count (parts_fields parts.now) }
+{
+    parts.radios.len() + parts.servers.len() + usize::from(parts.leap_file.is_some())
+}
+
 // The first number of rows that is above what there may be.
 pub fn excess(parts: &Parts) -> Option<Count>
     ensures { option_map count_seen result ≡ find (λ c. nat_lt c.most c.count) (counts_of (parts_fields parts.now)) }
@@ -47,7 +54,7 @@ pub fn excess(parts: &Parts) -> Option<Count>
     first_over(&[
         Count {
             key: "radio",
-            count: (radios.len() + parts.servers.len()) as u64,
+            count: feed_count(parts) as u64,
             most: 16,
         },
         Count {

@@ -1,10 +1,10 @@
 //! The station of a document, or what stands against it.
-ghost use Rattle.std.specs.Prelude.{◌≡◌, ◌≤◌, ◌^◌, [], Some, IfOk, IfErr, slice_get};
+ghost use Rattle.std.specs.Prelude.{◌≡◌, ◌≤◌, ◌^◌, [], Some, IfOk, IfErr, option_map, slice_get, string_bytes};
 ghost use Rattle.packet_auth.specs.Keys.{AreApart};
 ghost use Rattle.toml.specs.Data.{get_member};
 ghost use Rattle.toml.specs.View.{items_view, table_view};
 ghost use Rattle.station_config.specs.Rows.{tables_from, top_rows, deny_row, key_row, link_row, radio_row, server_row, start_row, whole_in};
-ghost use Rattle.station_config.specs.Values.{station_of, tables_at, top_of};
+ghost use Rattle.station_config.specs.Values.{leap_file_of, station_of, tables_at, top_of};
 ghost use Rattle.station_config.specs.Faults.{bad_in, bad_values, faults_of, keys_at, missing_in, sheets_of};
 ghost use Rattle.station_config.specs.Finding.{IsFirstKeyFault, IsMisreadAt, IsRead};
 ghost use Rattle.station_config.specs.KeptStation.{parts_fields};
@@ -12,16 +12,17 @@ ghost use Rattle.station_config.specs.KeptStation.{parts_fields};
 use crate::counts::excess;
 use crate::items::{KeyFault, read_keys, read_links, read_nets, read_radios, read_servers};
 use crate::keys::{Check, Part, Spot, first_at, tables};
-use crate::rows::number;
+use crate::rows::{number, some_text};
 use crate::station::{Parts, Station, TopNumbers};
-use std::alloc::Global;
+use std::alloc::{AllocError, Global};
 use tick_units::Local;
 use toml::{Table, Value};
 
-// The numbers of the top table, and the arrays whose tables aren't read yet. It has no `Debug`, since secrets stand in them.
+// The numbers and the text of the top table, and the arrays whose tables aren't read yet. It has no `Debug`, since secrets stand in them.
 #[derive(Clone, Copy)]
 pub struct Top<'a> {
     pub numbers: TopNumbers,
+    pub leap_file: Option<&'a str>,
     pub radios: &'a [Value],
     pub servers: &'a [Value],
     pub links: &'a [Value],
@@ -39,6 +40,7 @@ fn start(table: &Table) -> Option<Local>
 // The top table, or the first of its keys whose value isn't of its type and range.
 fn read_top<'a>(table: &'a Table) -> Result<Top<'a>, &'static str>
     ensures numbers { IfOk result (λ t. t.numbers ≡ top_of (table_view table.now)) }
+    ensures leap_file { IfOk result (λ t. option_map (λ name. name.now) t.leap_file ≡ leap_file_of (table_view table.now)) }
     ensures radios { IfOk result (λ t. tables_from 0 (items_view t.radios.now) ≡ tables_at radio_row (table_view table.now)) }
     ensures servers { IfOk result (λ t. tables_from 0 (items_view t.servers.now) ≡ tables_at server_row (table_view table.now)) }
     ensures links { IfOk result (λ t. tables_from 0 (items_view t.links.now) ≡ tables_at link_row (table_view table.now)) }
@@ -52,6 +54,7 @@ fn read_top<'a>(table: &'a Table) -> Result<Top<'a>, &'static str>
     let deny = tables(table, "deny").ok_or("deny")?;
     let gap = number(table, "gap", 0, 60_000_000, 0).ok_or("gap")?;
     let keys = tables(table, "key").ok_or("key")?;
+    let leap_file = some_text(table, "leap_file").ok_or("leap_file")?;
     let links = tables(table, "link").ok_or("link")?;
     let radios = tables(table, "radio").ok_or("radio")?;
     let servers = tables(table, "server").ok_or("server")?;
@@ -63,12 +66,23 @@ fn read_top<'a>(table: &'a Table) -> Result<Top<'a>, &'static str>
             gap,
             clients: clients as u32,
         },
+        leap_file,
         radios,
         servers,
         links,
         keys,
         deny,
     })
+}
+
+// A name, to be kept.
+fn kept_name(alloc: Global, name: Option<&str>) -> Result<Option<String>, AllocError>
+    ensures { IfOk result (λ kept. option_map string_bytes kept ≡ option_map (λ text. text.now) name.entry) }
+{
+    match name {
+        Some(name) => Ok(Some(String::from_str(alloc, name)?)),
+        None => Ok(None),
+    }
 }
 
 // The values of a document whose tables have all their keys, or its first value that isn't of its type and range.
@@ -91,6 +105,9 @@ fn read_parts(alloc: Global, table: &Table) -> Result<Parts, KeyFault<'static>>
     };
     let radios = read_radios(alloc, top.radios)?;
     let servers = read_servers(alloc, top.servers)?;
+    let Ok(leap_file) = kept_name(alloc, top.leap_file) else {
+        return Err(KeyFault::Memory);
+    };
     let links = read_links(alloc, top.links)?;
     let keys = read_keys(alloc, top.keys)?;
     let deny = read_nets(alloc, top.deny)?;
@@ -98,6 +115,7 @@ fn read_parts(alloc: Global, table: &Table) -> Result<Parts, KeyFault<'static>>
         top: top.numbers,
         radios,
         servers,
+        leap_file,
         links,
         keys,
         deny,

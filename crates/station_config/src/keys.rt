@@ -45,7 +45,16 @@ fn known_keys(part: Part) -> &'static [&'static str]
 {
     match part {
         Part::Top => &[
-            "bound", "clients", "deny", "gap", "key", "link", "radio", "server", "start",
+            "bound",
+            "clients",
+            "deny",
+            "gap",
+            "key",
+            "leap_file",
+            "link",
+            "radio",
+            "server",
+            "start",
         ],
         Part::Radio => &["delay", "log", "plan"],
         Part::Server => &["address", "polls", "port"],

@@ -24,4 +24,6 @@ mod deny_tests;
 #[cfg(test)]
 mod key_tests;
 #[cfg(test)]
+mod leap_tests;
+#[cfg(test)]
 mod tests;

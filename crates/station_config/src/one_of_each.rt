@@ -32,7 +32,7 @@ fn plain_radio(alloc: Global, plan: Plan) -> Result<Radio, AllocError>
 
 impl Station {
     /// A station of one radio of each plan in the order DCF77, MSF, WWVB, each without delay and with a log named by its plan's word; with
-    /// no server, no link, no key and no denied net, and with the numbers that a file has by default.
+    /// no server, no leap second file, no link, no key and no denied net, and with the numbers that a file has by default.
     pub fn one_of_each(alloc: Global) -> Result<Station, AllocError>
         ensures { IfOk result (λ station. station ≡ one_of_each) }
     {
@@ -44,6 +44,7 @@ impl Station {
             top: top_by_default(),
             radios,
             servers: Vec::new(alloc),
+            leap_file: None,
             links: Vec::new(alloc),
             keys: Vec::new(alloc),
             deny: Vec::new(alloc),

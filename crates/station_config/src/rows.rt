@@ -4,7 +4,7 @@ ghost use Rattle.std.specs.List.{list_all, list_any};
 ghost use Rattle.tick_units.specs.declared.marks.Plan.TheVariants.{Dcf};
 ghost use Rattle.toml.specs.Data.{get_member, string};
 ghost use Rattle.toml.specs.View.{view, table_view};
-ghost use Rattle.station_config.specs.Rows.{whole_in, text_in, secret_in, is_secret, is_visible, plan_in, address_in, net_in, whole, text, secret, plan, address, net, radio_rows, server_rows, link_rows, key_rows, deny_rows, port_row};
+ghost use Rattle.station_config.specs.Rows.{whole_in, text_in, some_text_in, secret_in, is_secret, is_visible, plan_in, address_in, net_in, whole, text, secret, plan, address, net, radio_rows, server_rows, link_rows, key_rows, deny_rows, port_row};
 ghost use Rattle.station_config.specs.Values.{all_addresses, key_of, net_of, number_at, radio_of, server_of};
 ghost use Rattle.station_config.specs.Faults.{bad_in, bad_in_key, missing_in};
 ghost use Rattle.station_config.specs.Finding.{IsRead, IsMisread, ids_of};
@@ -56,13 +56,30 @@ pub fn number(table: &Table, key: &str, least: u64, most: u64, default: u64) -> 
     }
 }
 
+// A text that isn't empty.
+fn filled_text(value: &Value) -> Option<&str>
+    ensures { option_map (λ t. t.now) result ≡ text_in (view value.now) }
+{
+    let text = value.as_str()?;
+    if text.is_empty() { None } else { Some(text) }
+}
+
+// The text at a key where there is a value, which isn't empty.
+pub fn some_text<'a>(table: &'a Table, key: &str) -> Option<Option<&'a str>>
+    ensures { IsRead text None some_text_in (get_member key.now (table_view table.now)) (option_map (option_map (λ t. t.now)) result) }
+{
+    match value_at(table, key) {
+        Some(value) => Some(Some(filled_text(value)?)),
+        None => Some(None),
+    }
+}
+
 // The text at a key, which isn't empty.
 fn text<'a>(table: &'a Table, key: &str) -> Option<&'a str>
     requires { IsSome (get_member key.now (table_view table.now)) }
     ensures { IsRead text [] text_in (get_member key.now (table_view table.now)) (option_map (λ t. t.now) result) }
 {
-    let text = value_at(table, key)?.as_str()?;
-    if text.is_empty() { None } else { Some(text) }
+    filled_text(value_at(table, key)?)
 }
 
 // Visible characters of ASCII alone.

@@ -1,10 +1,10 @@
 //! A station, and what was read of its file.
-ghost use Rattle.std.specs.Prelude.{◌≡◌, ◌≤◌, ◌+◌, ◌++◌, option_map, length, map};
+ghost use Rattle.std.specs.Prelude.{◌≡◌, ◌≤◌, ◌+◌, ◌++◌, option_map, length, map, string_bytes};
 ghost use Rattle.std.specs.List.{slice_get};
 ghost use Rattle.packet_auth.specs.Keys.{AreApart, keys_of};
 ghost use Rattle.kiss_gate.specs.Nets.{nets_of};
 ghost use Rattle.system_fold.specs.Settings.{AreLawful};
-ghost use Rattle.station_config.specs.Station.{IsStation, kind_of_radio, kind_of_server, settings_of};
+ghost use Rattle.station_config.specs.Station.{IsStation, kind_of_radio, kind_of_server, leap_feeds, settings_of};
 ghost use Rattle.station_config.specs.KeptStation.{key_kept, parts_fields, radio_given, radio_kept, server_fields};
 
 use crate::denied_net::DeniedNet;
@@ -65,13 +65,14 @@ pub struct TopNumbers {
     pub clients: u32,
 }
 
-// What was read of a station file: the numbers of its top table, the rows, the ports of the links, the keys, and the denied nets. It has no
-// `Debug`, so that no secret stands in any text.
+// What was read of a station file: the numbers of its top table, the rows, the name of the leap second file, the ports of the links, the keys, and the
+// denied nets. It has no `Debug`, so that no secret stands in any text.
 #[derive(Drop)]
 pub struct Parts {
     pub top: TopNumbers,
     pub radios: Vec<Radio>,
     pub servers: Vec<ServerRow>,
+    pub leap_file: Option<String>,
     pub links: Vec<u16>,
     pub keys: Vec<SharedKey>,
     pub deny: Vec<DeniedNet>,
@@ -97,6 +98,16 @@ fn add_servers(settings: &mut Settings, servers: &[ServerRow])
     }
 }
 
+// The feed of the leap second file, where there is one.
+fn add_leap(settings: &mut Settings, leap_file: &Option<String>)
+    requires { length settings.old.sources + length (leap_feeds (option_map string_bytes leap_file.now)) ≤ 16 }
+    ensures { settings.new ≡ record settings.old { sources = settings.old.sources ++ leap_feeds (option_map string_bytes leap_file.now) } }
+{
+    if leap_file.is_some() {
+        settings.add(SourceKind::Leap);
+    }
+}
+
 // The ring of keys.
 fn ring_of(keys: &[SharedKey]) -> KeyRing
     requires most { length keys.now ≤ 8 }
@@ -110,8 +121,8 @@ fn ring_of(keys: &[SharedKey]) -> KeyRing
     ring
 }
 
-/// A station: what it hears, whom it asks, where it serves, the keys that it shares with its clients, and whom it denies. Contracts see it as a record
-/// of these.
+/// A station: what it hears, whom it asks, its leap second file, where it serves, the keys that it shares with its clients, and whom it denies. Contracts
+/// see it as a record of these.
 #[derive(Drop)]
 pub struct Station {
     settings: Settings,
@@ -139,6 +150,7 @@ impl Station {
         let mut settings = Settings::new(parts.top.bound);
         add_radios(&mut settings, parts.radios.as_slice());
         add_servers(&mut settings, parts.servers.as_slice());
+        add_leap(&mut settings, &parts.leap_file);
         let denied = deny_list(parts.deny.as_slice());
         Station {
             settings,
@@ -147,7 +159,8 @@ impl Station {
         }
     }
 
-    /// What a page of the station's feeds is reckoned by: the bound of its root dispersion, and its radios and then its servers as sources.
+    /// What a page of the station's feeds is reckoned by: the bound of its root dispersion, and its radios, then its servers and then its leap second file as
+    /// sources.
     pub fn settings(&self) -> &Settings
         ensures value { result.now ≡ settings_of self.now }
         ensures lawful { AreLawful result.now }
@@ -186,6 +199,17 @@ impl Station {
         ensures bounds { IsStation self.now }
     {
         self.parts.links.len()
+    }
+
+    /// The name of its leap second file, which isn't empty. `None` exactly where the station names none.
+    pub fn leap_file(&self) -> Option<&str>
+        ensures value { option_map (λ name. name.now) result ≡ self.now.leap_file }
+        ensures bounds { IsStation self.now }
+    {
+        match &self.parts.leap_file {
+            Some(name) => Some(name.as_str()),
+            None => None,
+        }
     }
 
     /// The keys that it shares with its clients.

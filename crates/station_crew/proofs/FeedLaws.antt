@@ -1,6 +1,7 @@
 -- What closing tells of each feed.
 use Rattle.std.proofs.Common.{◌≡◌, ◌⊎◌, inl, inr, ℕ, ◌+◌, ◌-◌, ◌==◌, ◌<◌, ◌≤◌, List, [], ◌∷◌, ◌++◌, Bool, take, map, length, refl, sym, ap, ◌∙◌, subst, arith, length-append, append_assoc}
-use Rattle.std.specs.Prelude.{All, get_or}
+use Rattle.std.specs.Prelude.{Option, Some, None, All, IfSome, get_or, option_map}
+use Rattle.std.specs.Option.{option_to_list}
 use Rattle.std.specs.List.{range_with_len}
 use Rattle.std.proofs.lemmas.List.{length-map, get_or-map}
 use Rattle.std.proofs.lemmas.List.Elements.{All-head, filter-append}
@@ -9,6 +10,7 @@ use mathlib.Core.List.{IsPrefix}
 use Rattle.atomic_table.specs.Seated.{TableId}
 use Rattle.feed_link.specs.Told.{SourceState, LinkState}
 use Rattle.feed_workers.specs.Keeping.{Keeps}
+use Rattle.feed_workers.specs.Leaps.{due_leap}
 use Rattle.feed_workers.specs.Polls.{due_link}
 use Rattle.journal_entry.specs.declared.entry.Entry.{Entry}
 use Rattle.log_decoder.specs.Decoding.{HasDecoded}
@@ -20,12 +22,14 @@ use Rattle.page_cell.specs.Views.{new_claim}
 use Rattle.page_cell.specs.declared.view.Claim.{Claim}
 use Rattle.radio_receiver.specs.Histories.{History}
 use Rattle.station_config.specs.Station.{RadioFields, ServerFields}
-use Rattle.station_crew.proofs.ListLaws.{all_right, below_or, each_map, last_same, left_at, map_both, pairs_at, pairs_length, right_at, snoc_view, some_of}
+use Rattle.station_crew.proofs.ListLaws.{all_right, below_or, each_map, last_same, map_both, pairs_at, pairs_length, snoc_view, some_of}
+use Rattle.station_crew.proofs.PassLaws.{feeds_length, leap_at, poller_at, radio_at}
 use Rattle.station_crew.specs.Due.{HasDue}
-use Rattle.station_crew.specs.Jobs.{IsManned, MayHear, MayPoll, PollRan, RadioRan}
-use Rattle.station_crew.specs.Leaving.{log_of, poll_pass, radio_pass, server_link, server_of}
-use Rattle.station_crew.specs.Lists.{Each, Pairs}
-use Rattle.station_crew.specs.Served.{AreBlank, AsksServer, HearsRadio, IsBlank, RadiosServed, ServersServed}
+use Rattle.station_crew.specs.Jobs.{IsManned, LeapRan, MayHear, MayNotice, MayPoll, PollRan, RadioRan}
+use Rattle.station_crew.specs.Leaving.{file_of, leap_pass, log_of, passes_of, poll_pass, radio_pass, server_link, server_of}
+use Rattle.station_crew.specs.Lists.{Both, Each, Pairs}
+use Rattle.station_crew.specs.Served.{AreBlank, AsksServer, HearsRadio, IsBlank, LeapServed, NoticesLeaps, RadiosServed, ServersServed}
+use Rattle.station_crew.specs.declared.jobs.LeapJob.{LeapJob}
 use Rattle.station_crew.specs.declared.jobs.PollJob.{PollJob}
 use Rattle.station_crew.specs.declared.jobs.RadioJob.{RadioJob}
 use Rattle.system_fold.specs.Settings.{IsKept}
@@ -66,6 +70,22 @@ asks_server state opening limit a b j f is r t le =
       due = due_of (claim_of a.worker.pass.view) (claim_of b.worker.pass.view) limit f b.work.full (due_link f a.worker.server r.runs.events) j number (ap (λ (c : Claim). c.own) is) (subst (λ n. Keeps (claim_of a.worker.pass.view) (claim_of b.worker.pass.view) limit b.work.full (due_link n a.worker.server r.runs.events)) number r.runs.kept) t le;
     }
 
+notices_leaps : {L : Type 0} (state : L → SourceState) (opening : L → ℕ) (limit : ℕ) (a b : LeapJob L) (j : List Entry) (f start : ℕ) → a.worker.start ≡ start
+    → claim_of a.worker.pass.view ≡ new_claim f → LeapRan state opening limit a b → IsTrueOf j (claim_of b.worker.pass.view) → length j ≤ limit
+    → NoticesLeaps start f limit j (state a.worker.log) (state b.worker.log) b.work
+notices_leaps state opening limit a b j f start begins is r t le =
+    let number = ap (λ (c : Claim). c.number) is in
+    let begin = claim_of a.worker.pass.view in
+    let end = claim_of b.worker.pass.view in
+    record {
+      bytes = r.runs.bytes;
+      whole = r.runs.whole;
+      ends = r.runs.ends;
+      due = due_of begin end limit f b.work.full (due_leap f start r.runs.whole r.runs.bytes) j number (ap (λ (c : Claim). c.own) is)
+          (subst (λ n. Keeps begin end limit b.work.full (due_leap n start r.runs.whole r.runs.bytes)) number
+          (subst (λ n. Keeps begin end limit b.work.full (due_leap begin.number n r.runs.whole r.runs.bytes)) begins r.runs.kept)) t le;
+    }
+
 -- the claim of the feed at a place
 claim_at : (feeds : List Known) (k i : ℕ) (d : Known) → map (λ f. claim_of f.view) feeds ≡ map new_claim (range_with_len 0 k) → i < length feeds → claim_of (get_or feeds i d).view ≡ new_claim i
 claim_at feeds k i d e lt =
@@ -74,26 +94,27 @@ claim_at feeds k i d e lt =
     sym (get_or-map (λ (f : Known). claim_of f.view) feeds i d (claim_of d.view) lt) ∙ ap (λ l. get_or l i (claim_of d.view)) e ∙ get_or-map-range_with_len new_claim 0 k i i (claim_of d.view) ltk (omega arith)
 
 module _ {L B T : Type 0} where
-  feeds_length : (radios : List (RadioJob L B)) (pollers : List (PollJob T)) → length (map radio_pass radios ++ map poll_pass pollers) ≡ length radios + length pollers
-  feeds_length radios pollers = length-append (map radio_pass radios) (map poll_pass pollers) ∙ (omega (arith, length-map radios radio_pass, length-map pollers poll_pass))
-
-  radio_claim : (radios : List (RadioJob L B)) (pollers : List (PollJob T)) (k i : ℕ) (d : RadioJob L B) → map (λ f. claim_of f.view) (map radio_pass radios ++ map poll_pass pollers) ≡ map new_claim (range_with_len 0 k) → i < length radios
+  radio_claim : (radios : List (RadioJob L B)) (pollers : List (PollJob T)) (leap : Option (LeapJob L)) (k i : ℕ) (d : RadioJob L B) → map (λ f. claim_of f.view) (passes_of radios pollers leap) ≡ map new_claim (range_with_len 0 k) → i < length radios
       → claim_of (get_or radios i d).worker.pass.view ≡ new_claim i
-  radio_claim radios pollers k i d e lt = ap (λ (f : Known). claim_of f.view) (sym (left_at radio_pass poll_pass radios pollers i d lt)) ∙ claim_at (map radio_pass radios ++ map poll_pass pollers) k i (radio_pass d) e (omega (arith, lt, feeds_length radios pollers))
+  radio_claim radios pollers leap k i d e lt = ap (λ (f : Known). claim_of f.view) (sym (radio_at radios pollers leap i d lt)) ∙ claim_at (passes_of radios pollers leap) k i (radio_pass d) e (omega (arith, lt, feeds_length radios pollers leap))
 
-  poller_claim : (radios : List (RadioJob L B)) (pollers : List (PollJob T)) (k i : ℕ) (d : PollJob T) → map (λ f. claim_of f.view) (map radio_pass radios ++ map poll_pass pollers) ≡ map new_claim (range_with_len 0 k) → i < length pollers
+  poller_claim : (radios : List (RadioJob L B)) (pollers : List (PollJob T)) (leap : Option (LeapJob L)) (k i : ℕ) (d : PollJob T) → map (λ f. claim_of f.view) (passes_of radios pollers leap) ≡ map new_claim (range_with_len 0 k) → i < length pollers
       → claim_of (get_or pollers i d).worker.pass.view ≡ new_claim (length radios + i)
-  poller_claim radios pollers k i d e lt = ap (λ (f : Known). claim_of f.view) (sym (right_at radio_pass poll_pass radios pollers i d lt)) ∙ claim_at (map radio_pass radios ++ map poll_pass pollers) k (length radios + i) (poll_pass d) e (omega (arith, lt, feeds_length radios pollers))
+  poller_claim radios pollers leap k i d e lt = ap (λ (f : Known). claim_of f.view) (sym (poller_at radios pollers leap i d lt)) ∙ claim_at (passes_of radios pollers leap) k (length radios + i) (poll_pass d) e (omega (arith, lt, feeds_length radios pollers leap))
+
+  leap_claim : (radios : List (RadioJob L B)) (pollers : List (PollJob T)) (job : LeapJob L) (k : ℕ) → map (λ f. claim_of f.view) (passes_of radios pollers (Some job)) ≡ map new_claim (range_with_len 0 k)
+      → claim_of job.worker.pass.view ≡ new_claim (length radios + length pollers)
+  leap_claim radios pollers job k e = ap (λ (f : Known). claim_of f.view) (sym (leap_at radios pollers job (leap_pass job))) ∙ claim_at (passes_of radios pollers (Some job)) k (length radios + length pollers) (leap_pass job) e (omega (arith, feeds_length radios pollers (Some job)))
 
   module _ (stands : B → History → Type 0) (least : B → ℕ) (log_state : L → SourceState) (log_opening : L → ℕ) (state : T → LinkState) (opening : T → ℕ) (limit k : ℕ) (j : List Entry)
-      (cs bs : List (RadioJob L B)) (ps qs : List (PollJob T)) (claims : map (λ f. claim_of f.view) (map radio_pass cs ++ map poll_pass ps) ≡ map new_claim (range_with_len 0 k))
+      (cs bs : List (RadioJob L B)) (ps qs : List (PollJob T)) (l m : Option (LeapJob L)) (claims : map (λ f. claim_of f.view) (passes_of cs ps l) ≡ map new_claim (range_with_len 0 k))
       (ran : Each (RadioRan stands log_state log_opening limit) cs bs) (same : length bs ≡ length cs) (polled : Each (PollRan state opening limit) ps qs) (same' : length qs ≡ length ps)
-      (all : All (λ f. IsTrueOf j (claim_of f.view)) (map radio_pass bs ++ map poll_pass qs)) where
+      (noticed : Both (LeapRan log_state log_opening limit) l m) (all : All (λ f. IsTrueOf j (claim_of f.view)) (passes_of bs qs m)) where
     true_radio : (i : ℕ) (d : RadioJob L B) → i < length bs → IsTrueOf j (claim_of (get_or bs i d).worker.pass.view)
-    true_radio i d lt = subst (λ (f : Known). IsTrueOf j (claim_of f.view)) (left_at radio_pass poll_pass bs qs i d lt) (all i (radio_pass d) (omega (arith, lt, feeds_length bs qs)))
+    true_radio i d lt = subst (λ (f : Known). IsTrueOf j (claim_of f.view)) (radio_at bs qs m i d lt) (all i (radio_pass d) (omega (arith, lt, feeds_length bs qs m)))
 
     true_poller : (i : ℕ) (d : PollJob T) → i < length qs → IsTrueOf j (claim_of (get_or qs i d).worker.pass.view)
-    true_poller i d lt = subst (λ (f : Known). IsTrueOf j (claim_of f.view)) (right_at radio_pass poll_pass bs qs i d lt) (all (length bs + i) (poll_pass d) (omega (arith, lt, feeds_length bs qs)))
+    true_poller i d lt = subst (λ (f : Known). IsTrueOf j (claim_of f.view)) (poller_at bs qs m i d lt) (all (length bs + i) (poll_pass d) (omega (arith, lt, feeds_length bs qs m)))
 
     pub radios_served : (radios : List RadioFields) (receivers : List B) → AreBlank stands least radios receivers → Pairs (IsManned stands least) receivers cs → length j ≤ limit
         → RadiosServed log_state log_opening radios limit j (map log_of cs) (map log_of bs) (map (λ x. x.work) bs)
@@ -113,7 +134,7 @@ module _ {L B T : Type 0} where
           subst (λ x. HearsRadio r i limit j (log_state x) (log_state (get_or (map log_of bs) i b)) (get_or (map (λ y. y.work) bs) i work)) (sym (get_or-map log_of cs i d a lt))
           (subst (λ x. HearsRadio r i limit j (log_state (get_or cs i d).worker.log) (log_state x) (get_or (map (λ y. y.work) bs) i work)) (sym (get_or-map log_of bs i d b ltb))
           (subst (λ x. HearsRadio r i limit j (log_state (get_or cs i d).worker.log) (log_state (get_or bs i d).worker.log) x) (sym (get_or-map (λ y. y.work) bs i d work ltb))
-          (hears_radio stands log_state log_opening limit r (get_or cs i d) (get_or bs i d) j i (radio_claim cs ps k i d claims lt) (w.start r.plan r.delay v.stands_for) (ran.at i d lt) (true_radio i d ltb) le))));
+          (hears_radio stands log_state log_opening limit r (get_or cs i d) (get_or bs i d) j i (radio_claim cs ps l k i d claims lt) (w.start r.plan r.delay v.stands_for) (ran.at i d lt) (true_radio i d ltb) le))));
     }
 
     pub servers_served : (servers : List ServerFields) → map server_of ps ≡ servers → length j ≤ limit
@@ -125,13 +146,27 @@ module _ {L B T : Type 0} where
           let lt : i < length ps = omega (arith, lt', length-map ps server_link) in
           let ltb : i < length qs = omega (arith, lt, same') in
           let d = some_of ps i lt in
-          let s : server_of (get_or ps i d) ≡ get_or servers i server = sym (get_or-map server_of ps i d server lt) ∙ ap (λ l. get_or l i server) are in
+          let s : server_of (get_or ps i d) ≡ get_or servers i server = sym (get_or-map server_of ps i d server lt) ∙ ap (λ xs. get_or xs i server) are in
           subst (λ x. AsksServer (get_or servers i server) (length cs + i) limit j (state x) (state (get_or (map server_link qs) i b)) (get_or (map (λ y. y.work) qs) i work)) (sym (get_or-map server_link ps i d a lt))
           (subst (λ x. AsksServer (get_or servers i server) (length cs + i) limit j (state (get_or ps i d).worker.link) (state x) (get_or (map (λ y. y.work) qs) i work)) (sym (get_or-map server_link qs i d b ltb))
           (subst (λ x. AsksServer (get_or servers i server) (length cs + i) limit j (state (get_or ps i d).worker.link) (state (get_or qs i d).worker.link) x) (sym (get_or-map (λ y. y.work) qs i d work ltb))
           (subst (λ x. AsksServer x (length cs + i) limit j (state (get_or ps i d).worker.link) (state (get_or qs i d).worker.link) (get_or qs i d).work) s
-          (asks_server state opening limit (get_or ps i d) (get_or qs i d) j (length cs + i) (poller_claim cs ps k i d claims lt) (polled.at i d lt) (true_poller i d ltb) le)))));
+          (asks_server state opening limit (get_or ps i d) (get_or qs i d) j (length cs + i) (poller_claim cs ps l k i d claims lt) (polled.at i d lt) (true_poller i d ltb) le)))));
     }
+
+    pub leap_served : (start : ℕ) → IfSome l (λ x. x.worker.start ≡ start) → length j ≤ limit
+        → LeapServed log_state log_opening start (length cs + length ps) limit j (option_map file_of l) (option_map file_of m) (option_map (λ x. x.work) m)
+    leap_served start begins le = served l m claims noticed all begins
+      where
+        served : (x y : Option (LeapJob L)) → map (λ f. claim_of f.view) (passes_of cs ps x) ≡ map new_claim (range_with_len 0 k) → Both (LeapRan log_state log_opening limit) x y
+            → All (λ f. IsTrueOf j (claim_of f.view)) (passes_of bs qs y) → IfSome x (λ z. z.worker.start ≡ start)
+            → LeapServed log_state log_opening start (length cs + length ps) limit j (option_map file_of x) (option_map file_of y) (option_map (λ z. z.work) y)
+        served None None told both true_of at = tt
+        served None (Some y) told both true_of at = absurd both
+        served (Some x) None told both true_of at = absurd both
+        served (Some x) (Some y) told both true_of at =
+            let it : IsTrueOf j (claim_of y.worker.pass.view) = subst (λ (f : Known). IsTrueOf j (claim_of f.view)) (leap_at bs qs y (leap_pass y)) (true_of (length bs + length qs) (leap_pass y) (omega (arith, feeds_length bs qs (Some y)))) in
+            (both.log, notices_leaps log_state log_opening limit x y j (length cs + length ps) start at (leap_claim cs ps x k told) both it le)
 
     -- the feed of the last entry has seen the whole journal
     last_seen : (front : List Entry) (e : Entry) (c : Claim) → j ≡ front ++ e ∷ [] → c.number ≡ e.feed → IsTrueOf j c → length j ≤ length c.seen
@@ -147,33 +182,51 @@ module _ {L B T : Type 0} where
             absurd (omega (arith, n, ap length (filter-append (λ (y : Entry). y.feed == c.number) c.seen r), length-append (of_feed c.number c.seen) (of_feed c.number r), length-append (of_feed c.number (c.seen ++ r)) (x ∷ [])))
 
     -- who has seen what all feeds have seen has seen the journal
-    pub seen_all : All (IsKept k) j → (n : ℕ) → All (λ f. length (claim_of f.view).seen ≤ n) (map radio_pass bs ++ map poll_pass qs) → length j ≤ n
+    pub seen_all : All (IsKept k) j → (n : ℕ) → All (λ f. length (claim_of f.view).seen ≤ n) (passes_of bs qs m) → length j ≤ n
     seen_all lawful n seen = go (snoc_view j)
       where
-        count_is : length cs + length ps ≡ k
-        count_is = let e = ap length claims in omega (arith, e, feeds_length cs ps, length-map (map radio_pass cs ++ map poll_pass ps) (λ (f : Known). claim_of f.view), length-map-range_with_len new_claim 0 k)
+        count_is : length cs + length ps + length (option_to_list l) ≡ k
+        count_is = let e = ap length claims in omega (arith, e, feeds_length cs ps l, length-map (passes_of cs ps l) (λ (f : Known). claim_of f.view), length-map-range_with_len new_claim 0 k)
 
         of_radio : (front : List Entry) (e : Entry) → j ≡ front ++ e ∷ [] → e.feed < length bs → length j ≤ n
         of_radio front e is lt =
             let d = some_of bs e.feed lt in
             let ltc : e.feed < length cs = omega (arith, lt, same) in
-            let number = (ran.at e.feed d ltc).feed ∙ ap (λ (z : Claim). z.number) (radio_claim cs ps k e.feed d claims ltc) in
+            let number = (ran.at e.feed d ltc).feed ∙ ap (λ (z : Claim). z.number) (radio_claim cs ps l k e.feed d claims ltc) in
             let a = last_seen front e (claim_of (get_or bs e.feed d).worker.pass.view) is number (true_radio e.feed d lt) in
-            let b = subst (λ (f : Known). length (claim_of f.view).seen ≤ n) (left_at radio_pass poll_pass bs qs e.feed d lt) (seen e.feed (radio_pass d) (omega (arith, lt, feeds_length bs qs))) in
+            let b = subst (λ (f : Known). length (claim_of f.view).seen ≤ n) (radio_at bs qs m e.feed d lt) (seen e.feed (radio_pass d) (omega (arith, lt, feeds_length bs qs m))) in
             omega (arith, a, b)
 
         of_poller : (front : List Entry) (e : Entry) (i : ℕ) → j ≡ front ++ e ∷ [] → e.feed ≡ length cs + i → i < length qs → length j ≤ n
         of_poller front e i is at lt =
             let d = some_of qs i lt in
             let ltc : i < length ps = omega (arith, lt, same') in
-            let number = (polled.at i d ltc).feed ∙ ap (λ (z : Claim). z.number) (poller_claim cs ps k i d claims ltc) ∙ sym at in
+            let number = (polled.at i d ltc).feed ∙ ap (λ (z : Claim). z.number) (poller_claim cs ps l k i d claims ltc) ∙ sym at in
             let a = last_seen front e (claim_of (get_or qs i d).worker.pass.view) is number (true_poller i d lt) in
-            let b = subst (λ (f : Known). length (claim_of f.view).seen ≤ n) (right_at radio_pass poll_pass bs qs i d lt) (seen (length bs + i) (poll_pass d) (omega (arith, lt, feeds_length bs qs))) in
+            let b = subst (λ (f : Known). length (claim_of f.view).seen ≤ n) (poller_at bs qs m i d lt) (seen (length bs + i) (poll_pass d) (omega (arith, lt, feeds_length bs qs m))) in
             omega (arith, a, b)
+
+        of_leap : (front : List Entry) (e : Entry) → j ≡ front ++ e ∷ [] → length cs + length ps ≤ e.feed → (x y : Option (LeapJob L)) → e.feed < length cs + length ps + length (option_to_list x)
+            → map (λ f. claim_of f.view) (passes_of cs ps x) ≡ map new_claim (range_with_len 0 k) → Both (LeapRan log_state log_opening limit) x y
+            → All (λ f. IsTrueOf j (claim_of f.view)) (passes_of bs qs y) → All (λ f. length (claim_of f.view).seen ≤ n) (passes_of bs qs y) → length j ≤ n
+        of_leap front e is ge None y lt told both true_of saw = absurd (omega (arith, ge, lt))
+        of_leap front e is ge (Some x) None lt told both true_of saw = absurd both
+        of_leap front e is ge (Some x) (Some y) lt told both true_of saw =
+            let at : e.feed ≡ length cs + length ps = omega (arith, ge, lt) in
+            let within : length bs + length qs < length (passes_of bs qs (Some y)) = omega (arith, feeds_length bs qs (Some y)) in
+            let number = both.feed ∙ ap (λ (z : Claim). z.number) (leap_claim cs ps x k told) ∙ sym at in
+            let it : IsTrueOf j (claim_of y.worker.pass.view) = subst (λ (f : Known). IsTrueOf j (claim_of f.view)) (leap_at bs qs y (leap_pass y)) (true_of (length bs + length qs) (leap_pass y) within) in
+            let a = last_seen front e (claim_of y.worker.pass.view) is number it in
+            let b = subst (λ (f : Known). length (claim_of f.view).seen ≤ n) (leap_at bs qs y (leap_pass y)) (saw (length bs + length qs) (leap_pass y) within) in
+            omega (arith, a, b)
+
+        behind : (front : List Entry) (e : Entry) → j ≡ front ++ e ∷ [] → e.feed < k → length bs ≤ e.feed → (e.feed < length cs + length ps) ⊎ (length cs + length ps ≤ e.feed) → length j ≤ n
+        behind front e is counted ge (inl lt) = of_poller front e (e.feed - length bs) is (omega (arith, same, ge)) (omega (arith, same, same', ge, lt))
+        behind front e is counted ge (inr past) = of_leap front e is past l m (omega (arith, counted, count_is)) claims noticed all seen
 
         placed : (front : List Entry) (e : Entry) → j ≡ front ++ e ∷ [] → e.feed < k → (e.feed < length bs) ⊎ (length bs ≤ e.feed) → length j ≤ n
         placed front e is counted (inl lt) = of_radio front e is lt
-        placed front e is counted (inr ge) = of_poller front e (e.feed - length bs) is (omega (arith, same, ge)) (omega (arith, same, same', ge, counted, count_is))
+        placed front e is counted (inr ge) = behind front e is counted ge (below_or e.feed (length cs + length ps))
 
         go : (j ≡ []) ⊎ ((r : List Entry) × (x : Entry) × (j ≡ r ++ x ∷ [])) → length j ≤ n
         go (inl none) = let e = ap length none in omega (arith, e)
@@ -181,35 +234,52 @@ module _ {L B T : Type 0} where
             let kept = All-head (IsKept k) e [] (all_right (IsKept k) front (e ∷ []) (subst (All (IsKept k)) is lawful)) in
             placed front e is kept.lawful.feed (below_or e.feed (length bs))
 
-module _ {L B T : Type 0} (stands : B → History → Type 0) (least : B → ℕ) (table : TableId) (k : ℕ) (cs : List (RadioJob L B)) (ps : List (PollJob T))
-    (claims : map (λ f. claim_of f.view) (map radio_pass cs ++ map poll_pass ps) ≡ map new_claim (range_with_len 0 k)) (tables : All (λ f. f.table ≡ table) (map radio_pass cs ++ map poll_pass ps)) where
-  feed_count : length cs + length ps ≡ k
-  feed_count = let e = ap length claims in omega (arith, e, feeds_length cs ps, length-map (map radio_pass cs ++ map poll_pass ps) (λ (f : Known). claim_of f.view), length-map-range_with_len new_claim 0 k)
+module _ {L B T : Type 0} (stands : B → History → Type 0) (least : B → ℕ) (table : TableId) (k : ℕ) (cs : List (RadioJob L B)) (ps : List (PollJob T)) (l : Option (LeapJob L))
+    (claims : map (λ f. claim_of f.view) (passes_of cs ps l) ≡ map new_claim (range_with_len 0 k)) (tables : All (λ f. f.table ≡ table) (passes_of cs ps l)) where
+  feed_count : length cs + length ps + length (option_to_list l) ≡ k
+  feed_count = let e = ap length claims in omega (arith, e, feeds_length cs ps l, length-map (passes_of cs ps l) (λ (f : Known). claim_of f.view), length-map-range_with_len new_claim 0 k)
 
   -- a radio's worker that was manned may run
   pub may_hear : (receivers : List B) → Pairs (IsManned stands least) receivers cs → All (MayHear least table k) cs
   may_hear receivers manned = λ i d lt.
       let e = some_of receivers i (omega (arith, lt, pairs_length (IsManned stands least) receivers cs manned)) in
-      let m = pairs_at (IsManned stands least) receivers cs i e d manned (omega (arith, lt, pairs_length (IsManned stands least) receivers cs manned)) in
-      let number = ap (λ (c : Claim). c.number) (radio_claim cs ps k i d claims lt) in
+      let h = pairs_at (IsManned stands least) receivers cs i e d manned (omega (arith, lt, pairs_length (IsManned stands least) receivers cs manned)) in
+      let number = ap (λ (c : Claim). c.number) (radio_claim cs ps l k i d claims lt) in
       record {
-        ready = m.ready;
+        ready = h.ready;
         pass = record {
-          table_is = ap (λ (f : Known). f.table) (sym (left_at radio_pass poll_pass cs ps i d lt)) ∙ tables i (radio_pass d) (omega (arith, lt, feeds_length cs ps));
-          feed_is = sym m.feed;
-          source = (let f = m.feed in omega (arith, f, number, lt, feed_count));
+          table_is = ap (λ (f : Known). f.table) (sym (radio_at cs ps l i d lt)) ∙ tables i (radio_pass d) (omega (arith, lt, feeds_length cs ps l));
+          feed_is = sym h.feed;
+          source = (let f = h.feed in omega (arith, f, number, lt, feed_count));
         };
-        feed = m.feed;
+        feed = h.feed;
       }
 
   -- so may a server's
   pub may_poll : All (MayPoll table k) ps
   may_poll = λ i d lt.
-      let number = ap (λ (c : Claim). c.number) (poller_claim cs ps k i d claims lt) in
+      let number = ap (λ (c : Claim). c.number) (poller_claim cs ps l k i d claims lt) in
       record {
         pass = record {
-          table_is = ap (λ (f : Known). f.table) (sym (right_at radio_pass poll_pass cs ps i d lt)) ∙ tables (length cs + i) (poll_pass d) (omega (arith, lt, feeds_length cs ps));
+          table_is = ap (λ (f : Known). f.table) (sym (poller_at cs ps l i d lt)) ∙ tables (length cs + i) (poll_pass d) (omega (arith, lt, feeds_length cs ps l));
           feed_is = refl;
           source = omega (arith, number, lt, feed_count);
         };
       }
+
+  -- and that of the leap second file
+  pub may_notice : IfSome l (MayNotice table k)
+  may_notice = may l claims tables feed_count
+    where
+      may : (x : Option (LeapJob L)) → map (λ f. claim_of f.view) (passes_of cs ps x) ≡ map new_claim (range_with_len 0 k) → All (λ f. f.table ≡ table) (passes_of cs ps x)
+          → length cs + length ps + length (option_to_list x) ≡ k → IfSome x (MayNotice table k)
+      may None told of counted = tt
+      may (Some x) told of counted =
+          let number = ap (λ (c : Claim). c.number) (leap_claim cs ps x k told) in
+          record {
+            pass = record {
+              table_is = ap (λ (f : Known). f.table) (sym (leap_at cs ps x (leap_pass x))) ∙ of (length cs + length ps) (leap_pass x) (omega (arith, feeds_length cs ps (Some x)));
+              feed_is = refl;
+              source = omega (arith, number, counted);
+            };
+          }

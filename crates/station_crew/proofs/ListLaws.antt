@@ -1,11 +1,14 @@
 -- Lists, place by place and side by side.
 use Rattle.std.proofs.Common.{◌≡◌, ◌⊎◌, inl, inr, ℕ, zero, suc, ◌+◌, ◌-◌, ◌<◌, ◌≤◌, List, [], ◌∷◌, ◌++◌, take, drop, remove, map, length, refl, sym, ap, ◌∙◌, subst, arith, length-append, append_assoc}
-use Rattle.std.specs.Prelude.{All, Some, get_or, slice_get, slice_set, slice_index_or}
+use Rattle.std.specs.Option.{option_to_list}
+use Rattle.std.specs.Prelude.{All, IfSome, Option, None, Some, is_some, option_map, get_or, slice_get, slice_set, slice_index_or}
 use Rattle.std.proofs.lemmas.List.{append-nil, map-append, length-map, get_or-map, get_or_append_left, get_or-append_right, take_more, set-get_or}
+use Rattle.std.proofs.lemmas.Bool.{true≢false}
 use Rattle.std.proofs.lemmas.Option.{get_or_from_slice_get}
 use Rattle.std.proofs.Math.Seq.{take-length}
 use Rattle.std.proofs.lemmas.List.Elements.{All-nil, All-cons, All-head, All-tail, All-push, All-weaker}
-use Rattle.station_crew.specs.Lists.{Each, Pairs, PairsFront}
+use Rattle.station_crew.specs.Lists.{Both, Each, Pairs, PairsFront}
+use Rattle.station_config.specs.Station.{leap_feeds}
 
 pub told_more : {J : Type 0} (seen : J → ℕ) (xs : List J) (i a b : ℕ) (d : J) → i < length xs → a ≤ b → seen (get_or xs i d) ≤ b → All (λ j. seen j ≤ a) (take i xs) → All (λ j. seen j ≤ b) (take (i + 1) xs)
 told_more seen xs i a b d lt le one all =
@@ -113,9 +116,35 @@ pairs_keep P Q belong keeps (x ∷ xs) [] p all = absurd p
 pairs_keep P Q belong keeps (x ∷ xs) (y ∷ ys) p all = All-cons Q y ys (keeps x y p.0 (All-head P x xs all)) (pairs_keep P Q belong keeps xs ys p.1 (All-tail P x xs all))
 
 -- all of them were taken
-pub all_taken : {X : Type 0} (rs ps rest one all : List X) → rs ++ one ≡ all → ps ++ rest ≡ one → length rs + length ps ≡ length all → rs ++ ps ≡ all
-all_taken rs ps [] one all e f n = ap (λ l. rs ++ l) (sym (append-nil ps) ∙ f) ∙ e
-all_taken rs ps (x ∷ rest) one all e f n = absurd (let a = ap length e in let b = ap length f in omega (arith, a, b, n, length-append rs one, length-append ps (x ∷ rest)))
+pub three_taken : {X : Type 0} (rs ps ls rest two one all : List X) → rs ++ one ≡ all → ps ++ two ≡ one → ls ++ rest ≡ two → length rs + length ps + length ls ≡ length all → rs ++ ps ++ ls ≡ all
+three_taken rs ps ls [] two one all e f h n = append_assoc rs ps ls ∙ ap (λ l. rs ++ (ps ++ l)) (sym (append-nil ls) ∙ h) ∙ ap (λ l. rs ++ l) f ∙ e
+three_taken rs ps ls (x ∷ rest) two one all e f h n =
+    absurd (let a = ap length e in let b = ap length f in let c = ap length h in omega (arith, a, b, c, n, length-append rs one, length-append ps two, length-append ls (x ∷ rest)))
+
+pub length-option-map : {X Y : Type 0} (f : X → Y) (o : Option X) → length (option_to_list (option_map f o)) ≡ length (option_to_list o)
+length-option-map f None = refl
+length-option-map f (Some x) = refl
+
+pub at-most-one : {X : Type 0} (o : Option X) → length (option_to_list o) ≤ 1
+at-most-one None = omega arith
+at-most-one (Some x) = omega arith
+
+pub length-is-some : {X Y : Type 0} (o : Option X) (p : Option Y) → is_some o ≡ is_some p → length (option_to_list o) ≡ length (option_to_list p)
+length-is-some None None e = refl
+length-is-some None (Some y) e = absurd (true≢false (sym e))
+length-is-some (Some x) None e = absurd (true≢false e)
+length-is-some (Some x) (Some y) e = refl
+
+-- what was said of one that may be there is said of what it became
+pub both_keeps : {X Y : Type 0} (P : Y → Type 0) (may : X → Type 0) (ran : X → Y → Type 0) → ((x : X) (y : Y) → ran x y → may x → P y) → (o : Option X) (p : Option Y) → Both ran o p → IfSome o may → All P (option_to_list p)
+both_keeps P may ran keeps None None both h = All-nil P
+both_keeps P may ran keeps None (Some y) both h = absurd both
+both_keeps P may ran keeps (Some x) None both h = absurd both
+both_keeps P may ran keeps (Some x) (Some y) both h = All-cons P y [] (keeps x y both h) (All-nil P)
+
+pub leap_feeds-length : (name : Option (List ℕ)) → length (leap_feeds name) ≡ length (option_to_list name)
+leap_feeds-length None = refl
+leap_feeds-length (Some name) = refl
 
 pub none_left : {X : Type 0} (ps rest all : List X) → ps ++ rest ≡ all → length ps ≡ length all → ps ≡ all
 none_left ps [] all e n = sym (append-nil ps) ∙ e

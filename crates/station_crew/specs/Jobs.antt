@@ -3,6 +3,7 @@ use Rattle.std.specs.Prelude.{◌≡◌, ◌≢◌, ℕ, [], Some}
 use Rattle.atomic_table.specs.Seated.{TableId}
 use Rattle.feed_link.specs.Told.{SourceState, LinkState}
 use Rattle.feed_workers.specs.Keeping.{IsOfFeed}
+use Rattle.feed_workers.specs.Leaps.{RunsLeap, most_of_a_list}
 use Rattle.feed_workers.specs.Logs.{RunsLog, most_of_a_log}
 use Rattle.feed_workers.specs.Polling.{RunsPolls}
 use Rattle.log_decoder.specs.Decoding.{HasDecoded, IsReady, feed_of}
@@ -12,6 +13,7 @@ use Rattle.radio_receiver.specs.Histories.{History}
 use Rattle.responder.specs.Serving.{IsSame, Serves}
 use Rattle.responder.specs.declared.served.End.TheVariants.{Count}
 use Rattle.responder.specs.declared.served.Served.{Served}
+use Rattle.station_crew.specs.declared.jobs.LeapJob.{LeapJob}
 use Rattle.station_crew.specs.declared.jobs.PollJob.{PollJob}
 use Rattle.station_crew.specs.declared.jobs.RadioJob.{RadioJob}
 use Rattle.station_crew.specs.declared.jobs.ServeJob.{ServeJob}
@@ -34,6 +36,10 @@ pub record MayHear {L B : Type 0} (least : B → ℕ) (table : TableId) (sources
 pub record MayPoll {T : Type 0} (table : TableId) (sources : ℕ) (j : PollJob T) : Type 0 where
   pub pass : IsOfFeed table sources (claim_of j.worker.pass.view).number j.worker.pass
 
+-- a leap second file's worker with a pass of this cell, for one of so many sources
+pub record MayNotice {L : Type 0} (table : TableId) (sources : ℕ) (j : LeapJob L) : Type 0 where
+  pub pass : IsOfFeed table sources (claim_of j.worker.pass.view).number j.worker.pass
+
 -- a radio's worker has run
 pub record RadioRan {L B : Type 0} (stands : B → History → Type 0) (state : L → SourceState) (opening : L → ℕ) (limit : ℕ) (a b : RadioJob L B) : Type 0 where
   pub log : opening b.worker.log ≡ opening a.worker.log
@@ -48,6 +54,13 @@ pub record PollRan {T : Type 0} (state : T → LinkState) (opening : T → ℕ) 
   pub table : b.worker.pass.table ≡ a.worker.pass.table
   pub feed : (claim_of b.worker.pass.view).number ≡ (claim_of a.worker.pass.view).number
   pub runs : RunsPolls a.worker.server a.worker.polls (state a.worker.link) (state b.worker.link) (claim_of a.worker.pass.view) (claim_of b.worker.pass.view) limit b.work
+
+-- a leap second file's worker has run
+pub record LeapRan {L : Type 0} (state : L → SourceState) (opening : L → ℕ) (limit : ℕ) (a b : LeapJob L) : Type 0 where
+  pub log : opening b.worker.log ≡ opening a.worker.log
+  pub table : b.worker.pass.table ≡ a.worker.pass.table
+  pub feed : (claim_of b.worker.pass.view).number ≡ (claim_of a.worker.pass.view).number
+  pub runs : RunsLeap a.worker.start most_of_a_list (state a.worker.log) (state b.worker.log) (claim_of a.worker.pass.view) (claim_of b.worker.pass.view) limit b.work
 
 -- a responder's first phase
 pub record HasServed {T : Type 0} (state : T → LinkState) (opening : T → ℕ) (budget : ℕ) (a b : ServeJob T) : Type 0 where

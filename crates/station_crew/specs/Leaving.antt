@@ -1,6 +1,9 @@
 -- Scaffolding: what each worker has, and gives back.
+use Rattle.std.specs.Prelude.{Option, List, ◌++◌, map}
+use Rattle.std.specs.Option.{option_to_list}
 use Rattle.page_cell.specs.Passes.{Known, KnownReader}
 use Rattle.station_config.specs.Station.{ServerFields}
+use Rattle.station_crew.specs.declared.jobs.LeapJob.{LeapJob}
 use Rattle.station_crew.specs.declared.jobs.PollJob.{PollJob}
 use Rattle.station_crew.specs.declared.jobs.RadioJob.{RadioJob}
 use Rattle.station_crew.specs.declared.jobs.ServeJob.{ServeJob}
@@ -19,6 +22,16 @@ server_of j = record { address = j.worker.server; polls = j.worker.polls }
 
 abbrev pub poll_pass : {T : Type 0} → PollJob T → Known
 poll_pass j = j.worker.pass
+
+abbrev pub file_of : {L : Type 0} → LeapJob L → L
+file_of j = j.worker.log
+
+abbrev pub leap_pass : {L : Type 0} → LeapJob L → Known
+leap_pass j = j.worker.pass
+
+-- the passes of all feeds, by their numbers
+abbrev pub passes_of : {L B T : Type 0} → List (RadioJob L B) → List (PollJob T) → Option (LeapJob L) → List Known
+passes_of radios pollers leap = map radio_pass radios ++ map poll_pass pollers ++ map leap_pass (option_to_list leap)
 
 abbrev pub link_of : {T : Type 0} → ServeJob T → T
 link_of j = j.responder.link

@@ -1,5 +1,5 @@
 -- Scaffolding: lists side by side.
-use Rattle.std.specs.Prelude.{◌≡◌, ℕ, ◌<◌, List, [], ◌∷◌, ◌++◌, All, length, slice_index_or}
+use Rattle.std.specs.Prelude.{◌≡◌, ℕ, ◌<◌, Option, None, Some, List, [], ◌∷◌, ◌++◌, All, length, slice_index_or}
 
 -- each is so
 pub record Every {J : Type 0} (P : J → Type 0) (xs : List J) : Type 0 where
@@ -15,6 +15,13 @@ Pairs belong [] [] = Unit {0}
 Pairs belong [] (y ∷ ys) = ⊥
 Pairs belong (x ∷ xs) [] = ⊥
 Pairs belong (x ∷ xs) (y ∷ ys) = belong x y × Pairs belong xs ys
+
+-- there is one in both, and these two belong together, or there is none
+abbrev pub Both : {X Y : Type 0} → (X → Y → Type 0) → Option X → Option Y → Type 0
+Both belong None None = Unit {0}
+Both belong None (Some y) = ⊥
+Both belong (Some x) None = ⊥
+Both belong (Some x) (Some y) = belong x y
 
 -- the same of a front of a list, of which the rest is still to come
 pub record PairsFront {X Y : Type 0} (belong : X → Y → Type 0) (all rest : List X) (ys : List Y) : Type 0 where

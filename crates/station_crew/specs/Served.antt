@@ -1,7 +1,8 @@
--- What the radios, the servers and the links of a station leave, by its journal. All of it is this project's own.
-use Rattle.std.specs.Prelude.{◌≡◌, ◌≢◌, ℕ, ◌+◌, ◌*◌, ◌<◌, ◌≤◌, List, [], ◌++◌, All, Some, None, length, map, slice_index_or, take}
+-- What the radios, the servers, the leap second file and the links of a station leave, by its journal. All of it is this project's own.
+use Rattle.std.specs.Prelude.{◌≡◌, ◌≢◌, ℕ, ◌+◌, ◌*◌, ◌<◌, ◌≤◌, Bool, Option, List, [], ◌++◌, All, Some, None, length, map, slice_index_or, take}
 use Rattle.std.specs.List.{flat_map, sum_by}
 use Rattle.feed_link.specs.Told.{SourceState, LinkState, NetEvent, Adds}
+use Rattle.feed_workers.specs.Leaps.{EndsLeap, due_leap, most_of_a_list}
 use Rattle.feed_workers.specs.Logs.{EndsLog, most_of_a_log}
 use Rattle.feed_workers.specs.Polling.{EndsPolls}
 use Rattle.feed_workers.specs.Polls.{due_link}
@@ -52,6 +53,13 @@ pub record AsksServer (server : ServerFields) (feed limit : ℕ) (journal : List
   pub told : Adds link.events link_now.events events
   pub ends : EndsPolls server.address server.polls link.faults link_now.faults events work.end
   pub due : HasDue limit journal feed work.full (due_link feed server.address events)
+
+-- these bytes were read of a leap second file, perhaps to its end, and the journal has the entries that are due for them at the station's first moment
+pub record NoticesLeaps (start feed limit : ℕ) (journal : List Entry) (file file_now : SourceState) (work : LogWork) : Type 0 where
+  pub bytes : List ℕ
+  pub whole : Bool
+  pub ends : EndsLeap most_of_a_list file file_now bytes whole work.end
+  pub due : HasDue limit journal feed work.full (due_leap feed start whole bytes)
 
 -- a page that was read is that of the first so many entries of the journal
 pub record IsReadOf (settings : SettingsFields) (journal : List Entry) (reading : Reading) : Type 0 where
@@ -112,6 +120,13 @@ pub record ServersServed {T : Type 0} (state : T → LinkState) (opening : T →
   pub count : length works ≡ length links
   pub at : (i : ℕ) (server : ServerFields) (a b : T) (work : PollWork) → i < length links →
       AsksServer (slice_index_or servers i server) (first + i) limit journal (state (slice_index_or links i a)) (state (slice_index_or links_now i b)) (slice_index_or works i work)
+
+-- the leap second file is the feed behind them, where there is one: what was done with it, which is still that of its opening
+abbrev pub LeapServed : {L : Type 0} → (L → SourceState) → (L → ℕ) → (start feed limit : ℕ) → List Entry → Option L → Option L → Option LogWork → Type 0
+LeapServed state opening start feed limit journal None None None = Unit {0}
+LeapServed state opening start feed limit journal (Some file) (Some file_now) (Some work) =
+    (opening file_now ≡ opening file) × NoticesLeaps start feed limit journal (state file) (state file_now) work
+LeapServed state opening start feed limit journal _ _ _ = ⊥
 
 -- each link that the station serves on
 pub record LinksServed {T : Type 0} (state : T → LinkState) (opening : T → ℕ) (keys : List KeyFields) (gate : Gate) (settings : SettingsFields) (journal : List Entry) (during after : ℕ) (links links_now : List T) (works : List LinkWork) : Type 0 where

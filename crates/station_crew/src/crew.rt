@@ -1,12 +1,12 @@
 // All workers of a station, in both phases.
-ghost use Rattle.std.specs.Prelude.{◌≡◌, ◌≤◌, [], All, length, vec_capacity, vec_len};
+ghost use Rattle.std.specs.Prelude.{◌≡◌, ◌≤◌, [], All, IfSome, length, vec_capacity, vec_len};
 ghost use Rattle.station_crew.specs.Crews.{CrewRan, HasRoomFor, HasRoomToLeave};
-ghost use Rattle.station_crew.specs.Jobs.{HasServed, HasServedAgain, MayHear, MayPoll, PollRan, RadioRan};
-ghost use Rattle.station_crew.specs.Lists.{Each, Every, Pairs};
+ghost use Rattle.station_crew.specs.Jobs.{HasServed, HasServedAgain, LeapRan, MayHear, MayNotice, MayPoll, PollRan, RadioRan};
+ghost use Rattle.station_crew.specs.Lists.{Both, Each, Every, Pairs};
 ghost use Rattle.station_crew.specs.Telling.{WasTold};
 
-use crate::jobs::{PollJob, RadioJob, ServeJob};
-use crate::leaving::{leave_pollers, leave_radios, leave_responders};
+use crate::jobs::{LeapJob, PollJob, RadioJob, ServeJob};
+use crate::leaving::{leave_leap, leave_pollers, leave_radios, leave_responders};
 use crate::phases::{run_first, run_second};
 use crate::telling::tell_responders;
 use crate::work::{Budget, LinkWork};
@@ -24,6 +24,7 @@ use verdict_journal::{Hub, HubName};
 pub struct Crew<L: Drop, T: Drop, B: Drop> {
     pub radios: Vec<RadioJob<L, B>>,
     pub pollers: Vec<PollJob<T>>,
+    pub leap: Option<LeapJob<L>>,
     pub responders: Vec<ServeJob<T>>,
 }
 
@@ -33,6 +34,7 @@ pub struct Left<L: Drop, T: Drop> {
     pub gear: Gear<L, T>,
     pub radios: Vec<LogWork>,
     pub servers: Vec<PollWork>,
+    pub leap: Option<LogWork>,
     pub links: Vec<LinkWork>,
     pub feeds: Vec<FeedPass>,
     pub readers: Vec<ReadPass>,
@@ -48,15 +50,18 @@ fn begin<
 >(rt: &R, hub: &Hub<N>, gate: &G, budget: u64, crew: &mut Crew<L, T, BoxedReceiver>)
     requires radios { Every (λ j. MayHear (λ b. least_start b) N.table (length N.settings.sources) j) crew.old.radios.items }
     requires pollers { Every (λ j. MayPoll N.table (length N.settings.sources) j) crew.old.pollers.items }
+    requires leap { IfSome crew.old.leap (λ j. MayNotice N.table (length N.settings.sources) j) }
     requires responders { Every (λ j. j.responder.pass.table ≡ N.table) crew.old.responders.items }
     ensures radios { Each (RadioRan (λ b h. stands_for b h) L.state L.opening N.limit) crew.old.radios.items crew.new.radios.items }
     ensures pollers { Each (PollRan T.state T.opening N.limit) crew.old.pollers.items crew.new.pollers.items }
+    ensures leap { Both (LeapRan L.state L.opening N.limit) crew.old.leap crew.new.leap }
     ensures responders { Each (HasServed T.state T.opening budget) crew.old.responders.items crew.new.responders.items }
     ensures counts { (vec_len crew.new.radios ≡ vec_len crew.old.radios) × (vec_len crew.new.pollers ≡ vec_len crew.old.pollers) × (vec_len crew.new.responders ≡ vec_len crew.old.responders) }
 {
     let Crew {
         radios,
         pollers,
+        leap,
         responders,
     } = crew;
     run_first(
@@ -66,6 +71,7 @@ fn begin<
         budget,
         radios.as_mut_slice(),
         pollers.as_mut_slice(),
+        leap,
         responders.as_mut_slice(),
     );
 }
@@ -122,6 +128,7 @@ pub fn run_crew<
 ) -> Left<L, T>
     requires radios { Every (λ j. MayHear (λ b. least_start b) N.table (length N.settings.sources) j) crew.radios.items }
     requires pollers { Every (λ j. MayPoll N.table (length N.settings.sources) j) crew.pollers.items }
+    requires leap { IfSome crew.leap (λ j. MayNotice N.table (length N.settings.sources) j) }
     requires responders { Every (λ j. j.responder.pass.table ≡ N.table) crew.responders.items }
     requires few { vec_len crew.responders ≤ 8 }
     requires told { (told.items ≡ []) × (vec_len crew.responders ≤ vec_capacity told) }
@@ -135,6 +142,7 @@ pub fn run_crew<
     let Crew {
         radios,
         pollers,
+        leap,
         responders,
     } = crew;
     leave_radios(
@@ -149,6 +157,9 @@ pub fn run_crew<
         &mut left.servers,
         &mut left.feeds,
     );
+    let (file, work) = leave_leap(leap, &mut left.feeds);
+    left.gear.leap = file;
+    left.leap = work;
     tell_crew(hub.cell(), &mut left.feeds, responders, &mut told);
     go_on(rt, hub, gate, budget.after, &mut told);
     leave_responders(

@@ -1,7 +1,7 @@
 // Workers, and what each has done.
 
 use crate::work::LinkWork;
-use feed_workers::{LogWork, PollWork, PollWorker, WorkerOf};
+use feed_workers::{LeapWorker, LogWork, PollWork, PollWorker, WorkerOf};
 use responder::Responder;
 
 /// A radio's worker, and what it did.
@@ -16,6 +16,13 @@ pub struct RadioJob<L: Drop, B: Drop> {
 pub struct PollJob<T: Drop> {
     pub worker: PollWorker<T>,
     pub work: PollWork,
+}
+
+/// A leap second file's worker, and what it did.
+#[derive(Drop)]
+pub struct LeapJob<L: Drop> {
+    pub worker: LeapWorker<L>,
+    pub work: LogWork,
 }
 
 /// A responder, and what it did in each phase.

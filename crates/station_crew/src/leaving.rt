@@ -1,8 +1,9 @@
 // What workers give back: logs and links, what they did, and their passes.
-ghost use Rattle.std.specs.Prelude.{◌≡◌, ◌≤◌, ◌+◌, ◌++◌, map, vec_capacity, vec_len};
-ghost use Rattle.station_crew.specs.Leaving.{link_of, log_of, poll_pass, radio_pass, serve_pass, server_link};
+ghost use Rattle.std.specs.Prelude.{◌≡◌, ◌≤◌, ◌+◌, ◌++◌, length, map, option_map, vec_capacity, vec_len};
+ghost use Rattle.std.specs.Option.{option_to_list};
+ghost use Rattle.station_crew.specs.Leaving.{file_of, leap_pass, link_of, log_of, poll_pass, radio_pass, serve_pass, server_link};
 
-use crate::jobs::{PollJob, RadioJob, ServeJob};
+use crate::jobs::{LeapJob, PollJob, RadioJob, ServeJob};
 use crate::work::LinkWork;
 use feed_link::{Link, Source};
 use feed_workers::{LogWork, PollWork};
@@ -46,6 +47,7 @@ pub fn leave_pollers<T: Link + Drop>(
     ensures links { links.new.items ≡ links.old.items ++ map server_link jobs.items }
     ensures works { works.new.items ≡ works.old.items ++ map (λ j. j.work) jobs.items }
     ensures feeds { feeds.new.items ≡ feeds.old.items ++ map poll_pass jobs.items }
+    ensures room { vec_capacity feeds.new ≡ vec_capacity feeds.old }
 {
     for job in jobs {
         let PollJob { worker, work } = job;
@@ -53,6 +55,26 @@ pub fn leave_pollers<T: Link + Drop>(
         links.push_reserved(link);
         works.push_reserved(work);
         feeds.push_reserved(pass);
+    }
+}
+
+/// The leap second file's worker gives back, where there is one: the file, and what it did.
+pub fn leave_leap<L: Source + Drop>(
+    job: Option<LeapJob<L>>,
+    feeds: &mut Vec<FeedPass>,
+) -> (Option<L>, Option<LogWork>)
+    requires feeds { vec_len feeds.old + length (option_to_list job) ≤ vec_capacity feeds.old }
+    ensures file { result.0 ≡ option_map file_of job }
+    ensures work { result.1 ≡ option_map (λ j. j.work) job }
+    ensures feeds { feeds.new.items ≡ feeds.old.items ++ map leap_pass (option_to_list job) }
+{
+    match job {
+        Some(LeapJob { worker, work }) => {
+            let (file, pass) = worker.give_back();
+            feeds.push_reserved(pass);
+            (Some(file), Some(work))
+        }
+        None => (None, None),
     }
 }
 

@@ -21,4 +21,6 @@ mod gate_tests;
 #[cfg(test)]
 mod key_tests;
 #[cfg(test)]
+mod leap_tests;
+#[cfg(test)]
 mod tests;

@@ -1,22 +1,24 @@
 // Workers, each with a pass of the cell.
-ghost use Rattle.std.specs.Prelude.{◌≡◌, ◌≤◌, ◌<◌, ◌+◌, ◌++◌, [], All, None, drop, length, map, slice_get, vec_capacity, vec_len};
+ghost use Rattle.std.specs.Prelude.{◌≡◌, ◌≤◌, ◌<◌, ◌+◌, ◌++◌, [], All, IfSome, None, drop, length, map, option_map, slice_get, vec_capacity, vec_len};
+ghost use Rattle.std.specs.Option.{option_to_list};
 ghost use Rattle.packet_auth.specs.Keys.{keys_of};
 ghost use Rattle.page_cell.specs.Passes.{claim_of};
 ghost use Rattle.station_config.specs.Station.{IsStation, gate_of};
 ghost use Rattle.station_config.specs.KeptStation.{server_fields};
 ghost use Rattle.station_crew.specs.Jobs.{IsManned};
-ghost use Rattle.station_crew.specs.Leaving.{link_of, log_of, poll_pass, radio_pass, serve_pass, server_link, server_of};
+ghost use Rattle.station_crew.specs.Leaving.{file_of, leap_pass, link_of, log_of, poll_pass, radio_pass, serve_pass, server_link, server_of};
 ghost use Rattle.station_crew.specs.Lists.{Pairs};
 
-use crate::jobs::{PollJob, RadioJob, ServeJob};
+use crate::jobs::{LeapJob, PollJob, RadioJob, ServeJob};
 use crate::work::LinkWork;
 use feed_link::{Link, Source};
-use feed_workers::{LogEnd, LogWork, PollEnd, PollWork, PollWorker, RadioWorker};
+use feed_workers::{LeapWorker, LogEnd, LogWork, PollEnd, PollWork, PollWorker, RadioWorker};
 use kiss_gate::ClientGate;
 use page_cell::{FeedPass, ReadPass};
 use radio_receiver::{BoxedReceiver, Receiver};
 use responder::{End, Responder, Served};
 use station_config::{ServerRow, Station};
+use tick_units::Local;
 
 // What is put down of a worker that hasn't run yet.
 const UNREAD: LogWork = LogWork {
@@ -110,6 +112,26 @@ pub fn man_pollers<T: Link + Drop>(
             worker: PollWorker::new(address, polls, link, feeds.remove(0)),
             work: UNASKED,
         });
+    }
+}
+
+/// A worker for the leap second file, where there is one, with the station's first moment and the pass of its feed.
+pub fn man_leap<L: Source + Drop>(
+    file: Option<L>,
+    start: Local,
+    feeds: &mut Vec<FeedPass>,
+) -> Option<LeapJob<L>>
+    requires feeds { length (option_to_list file) ≤ vec_len feeds.old }
+    ensures file { option_map file_of result ≡ file }
+    ensures begins { IfSome result (λ j. j.worker.start ≡ start) }
+    ensures feeds { map leap_pass (option_to_list result) ++ feeds.new.items ≡ feeds.old.items }
+{
+    match file {
+        Some(log) => Some(LeapJob {
+            worker: LeapWorker::new(log, start, feeds.remove(0)),
+            work: UNREAD,
+        }),
+        None => None,
     }
 }
 

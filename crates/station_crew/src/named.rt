@@ -1,17 +1,18 @@
 // A station's hub under a name of its own, from its opening to its closing.
 ghost use Rattle.std.specs.Prelude.{◌≡◌, ◌<◌, ◌≤◌, ◌+◌, ◌++◌, [], All, IfErr, IfOk, length, map, vec_len};
+ghost use Rattle.std.specs.Option.{option_to_list};
 ghost use Rattle.std.specs.List.{range_with_len};
 ghost use Rattle.page_cell.specs.Passes.{claim_of, key_of};
 ghost use Rattle.page_cell.specs.Views.{new_claim};
-ghost use Rattle.station_config.specs.Station.{IsStation, gate_of, settings_of};
+ghost use Rattle.station_config.specs.Station.{IsStation, gate_of, leap_feed, settings_of};
 ghost use Rattle.station_crew.specs.Crews.{CrewManned, HasRoom, HasRoomFor, IsNewReader};
-ghost use Rattle.station_crew.specs.Leaving.{poll_pass, radio_pass, serve_pass};
+ghost use Rattle.station_crew.specs.Leaving.{passes_of, serve_pass};
 ghost use Rattle.station_gear.specs.Opens.{IsWhole};
-ghost use Rattle.station_crew.specs.Served.{AreBlank, IsJournalOf, LinksServed, RadiosServed, ServersServed};
+ghost use Rattle.station_crew.specs.Served.{AreBlank, IsJournalOf, LeapServed, LinksServed, RadiosServed, ServersServed};
 
 use crate::crew::{Crew, Left, run_crew};
 use crate::jobs::ServeJob;
-use crate::manning::{man_pollers, man_radios, man_responders};
+use crate::manning::{man_leap, man_pollers, man_radios, man_responders};
 use crate::work::{Budget, LinkWork};
 use feed_link::{Gate, Link, Source};
 use feed_workers::{LogWork, PollWork};
@@ -32,6 +33,7 @@ pub struct Ended<L: Drop, T: Drop> {
     pub gear: Gear<L, T>,
     pub radios: Vec<LogWork>,
     pub servers: Vec<PollWork>,
+    pub leap: Option<LogWork>,
     pub links: Vec<LinkWork>,
 }
 
@@ -63,13 +65,13 @@ fn man_crew<L: Source + Drop, T: Link + Drop>(
     requires station { IsStation station.now }
     requires blank { AreBlank (λ b h. stands_for b h) (λ b. least_start b) station.now.radios receivers.items }
     requires gear { IsWhole station.now gear }
-    requires feeds { vec_len passes.feeds ≡ vec_len gear.logs + vec_len gear.servers }
+    requires feeds { vec_len passes.feeds ≡ vec_len gear.logs + vec_len gear.servers + length (option_to_list gear.leap) }
     requires readers { vec_len passes.readers ≡ vec_len gear.links }
     requires gates { vec_len gates ≡ vec_len gear.links }
     requires alike { All (λ gate. gate ≡ gate_of station.now) gates.items }
     requires room { HasRoomFor (vec_len gear.logs) (vec_len gear.servers) (vec_len gear.links) crew }
     ensures manned { CrewManned (λ b h. stands_for b h) (λ b. least_start b) station.now receivers.items gear result }
-    ensures feeds { map radio_pass result.radios.items ++ map poll_pass result.pollers.items ≡ passes.feeds.items }
+    ensures feeds { passes_of result.radios.items result.pollers.items result.leap ≡ passes.feeds.items }
     ensures readers { map serve_pass result.responders.items ≡ passes.readers.items }
 {
     let Passes {
@@ -78,12 +80,14 @@ fn man_crew<L: Source + Drop, T: Link + Drop>(
     } = passes;
     let Gear {
         logs,
+        leap,
         servers,
         links,
     } = gear;
     let mut crew = crew;
     man_radios(receivers, logs, &mut feeds, &mut crew.radios);
     man_pollers(station, servers, &mut feeds, &mut crew.pollers);
+    crew.leap = man_leap(leap, station.start(), &mut feeds);
     man_responders(station, links, &mut readers, gates, &mut crew.responders);
     crew
 }
@@ -117,6 +121,7 @@ fn run_hub<
     ensures journal { IsJournalOf N.settings N.limit result.journal }
     ensures radios { RadiosServed L.state L.opening station.now.radios N.limit result.journal.entries gear.logs.items result.gear.logs.items result.radios.items }
     ensures servers { ServersServed T.state T.opening station.now.servers (length station.now.radios) N.limit result.journal.entries gear.servers.items result.gear.servers.items result.servers.items }
+    ensures leap { LeapServed L.state L.opening station.now.top.start (leap_feed station.now) N.limit result.journal.entries gear.leap result.gear.leap result.leap }
     ensures links { LinksServed T.state T.opening station.now.keys (gate_of station.now) N.settings result.journal.entries budget.during budget.after gear.links.items result.gear.links.items result.links.items }
 {
     let HubParts {
@@ -136,6 +141,7 @@ fn run_hub<
         gear,
         radios,
         servers,
+        leap,
         links,
         feeds,
         readers,
@@ -145,6 +151,7 @@ fn run_hub<
         gear,
         radios,
         servers,
+        leap,
         links,
     }
 }
@@ -182,6 +189,7 @@ pub fn run_named<
     ensures journal { IfOk result (λ e. IsJournalOf (settings_of station.now) limit e.journal) }
     ensures radios { IfOk result (λ e. RadiosServed L.state L.opening station.now.radios limit e.journal.entries gear.logs.items e.gear.logs.items e.radios.items) }
     ensures servers { IfOk result (λ e. ServersServed T.state T.opening station.now.servers (length station.now.radios) limit e.journal.entries gear.servers.items e.gear.servers.items e.servers.items) }
+    ensures leap { IfOk result (λ e. LeapServed L.state L.opening station.now.top.start (leap_feed station.now) limit e.journal.entries gear.leap e.gear.leap e.leap) }
     ensures links { IfOk result (λ e. LinksServed T.state T.opening station.now.keys (gate_of station.now) (settings_of station.now) e.journal.entries budget.during budget.after gear.links.items e.gear.links.items e.links.items) }
     ensures memory { IfErr result (λ g. g ≡ gear) }
 {

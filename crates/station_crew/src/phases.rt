@@ -1,9 +1,9 @@
 // The workers side by side.
-ghost use Rattle.std.specs.Prelude.{◌≡◌, All, length};
-ghost use Rattle.station_crew.specs.Jobs.{HasServed, HasServedAgain, MayHear, MayPoll, PollRan, RadioRan};
-ghost use Rattle.station_crew.specs.Lists.{Each, Every};
+ghost use Rattle.std.specs.Prelude.{◌≡◌, All, IfSome, length};
+ghost use Rattle.station_crew.specs.Jobs.{HasServed, HasServedAgain, LeapRan, MayHear, MayNotice, MayPoll, PollRan, RadioRan};
+ghost use Rattle.station_crew.specs.Lists.{Both, Each, Every};
 
-use crate::jobs::{PollJob, RadioJob, ServeJob};
+use crate::jobs::{LeapJob, PollJob, RadioJob, ServeJob};
 use feed_link::{Gate, Link, Source};
 use radio_receiver::{BoxedReceiver, Receiver};
 use responder::End;
@@ -81,6 +81,20 @@ fn run_pollers<N: HubName + Send + Sync, R: Threads + Wait + Sync, T: Link + Dro
     );
 }
 
+fn run_leap<N: HubName, R: Wait, L: Source + Drop, G: Gate>(
+    rt: &R,
+    hub: &Hub<N>,
+    gate: &G,
+    leap: &mut Option<LeapJob<L>>,
+)
+    requires { IfSome leap.old (λ j. MayNotice N.table (length N.settings.sources) j) }
+    ensures { Both (LeapRan L.state L.opening N.limit) leap.old leap.new }
+{
+    if let Some(job) = leap {
+        job.work = job.worker.run(rt, hub, gate);
+    }
+}
+
 fn run_responder<N: HubName, R: Wait, T: Link + Drop, G: Gate>(
     rt: &R,
     hub: &Hub<N>,
@@ -154,6 +168,32 @@ pub fn run_second<N: HubName + Send + Sync, R: Threads + Wait + Sync, T: Link + 
     );
 }
 
+// The servers' workers beside that of the leap second file.
+fn run_others<
+    N: HubName + Send + Sync,
+    R: Threads + Wait + Sync,
+    L: Source + Drop,
+    T: Link + Drop,
+    G: Gate,
+>(rt: &R, hub: &Hub<N>, gate: &G, pollers: &mut [PollJob<T>], leap: &mut Option<LeapJob<L>>)
+    requires pollers { Every (λ j. MayPoll N.table (length N.settings.sources) j) pollers.old }
+    requires leap { IfSome leap.old (λ j. MayNotice N.table (length N.settings.sources) j) }
+    ensures pollers { Each (PollRan T.state T.opening N.limit) pollers.old pollers.new }
+    ensures leap { Both (LeapRan L.state L.opening N.limit) leap.old leap.new }
+{
+    join_mut(
+        rt,
+        &mut ||
+            requires { Every (λ j. MayPoll N.table (length N.settings.sources) j) pollers.now }
+            ensures { Each (PollRan T.state T.opening N.limit) pollers.entry.now pollers.exit.now }
+        { run_pollers(rt, hub, gate, pollers) },
+        &mut ||
+            requires { IfSome leap.now (λ j. MayNotice N.table (length N.settings.sources) j) }
+            ensures { Both (LeapRan L.state L.opening N.limit) leap.entry.now leap.exit.now }
+        { run_leap(rt, hub, gate, leap) },
+    );
+}
+
 // The feeds' workers side by side.
 fn run_feeds<
     N: HubName + Send + Sync,
@@ -167,11 +207,14 @@ fn run_feeds<
     gate: &G,
     radios: &mut [RadioJob<L, BoxedReceiver>],
     pollers: &mut [PollJob<T>],
+    leap: &mut Option<LeapJob<L>>,
 )
     requires radios { Every (λ j. MayHear (λ b. least_start b) N.table (length N.settings.sources) j) radios.old }
     requires pollers { Every (λ j. MayPoll N.table (length N.settings.sources) j) pollers.old }
+    requires leap { IfSome leap.old (λ j. MayNotice N.table (length N.settings.sources) j) }
     ensures radios { Each (RadioRan (λ b h. stands_for b h) L.state L.opening N.limit) radios.old radios.new }
     ensures pollers { Each (PollRan T.state T.opening N.limit) pollers.old pollers.new }
+    ensures leap { Both (LeapRan L.state L.opening N.limit) leap.old leap.new }
 {
     join_mut(
         rt,
@@ -180,9 +223,11 @@ fn run_feeds<
             ensures { Each (RadioRan (λ b h. stands_for b h) L.state L.opening N.limit) radios.entry.now radios.exit.now }
         { run_radios(rt, hub, gate, radios) },
         &mut ||
-            requires { Every (λ j. MayPoll N.table (length N.settings.sources) j) pollers.now }
-            ensures { Each (PollRan T.state T.opening N.limit) pollers.entry.now pollers.exit.now }
-        { run_pollers(rt, hub, gate, pollers) },
+            requires pollers { Every (λ j. MayPoll N.table (length N.settings.sources) j) pollers.now }
+            requires leap { IfSome leap.now (λ j. MayNotice N.table (length N.settings.sources) j) }
+            ensures pollers { Each (PollRan T.state T.opening N.limit) pollers.entry.now pollers.exit.now }
+            ensures leap { Both (LeapRan L.state L.opening N.limit) leap.entry.now leap.exit.now }
+        { run_others(rt, hub, gate, pollers, leap) },
     );
 }
 
@@ -200,13 +245,16 @@ pub fn run_first<
     budget: u64,
     radios: &mut [RadioJob<L, BoxedReceiver>],
     pollers: &mut [PollJob<T>],
+    leap: &mut Option<LeapJob<L>>,
     responders: &mut [ServeJob<T>],
 )
     requires radios { Every (λ j. MayHear (λ b. least_start b) N.table (length N.settings.sources) j) radios.old }
     requires pollers { Every (λ j. MayPoll N.table (length N.settings.sources) j) pollers.old }
+    requires leap { IfSome leap.old (λ j. MayNotice N.table (length N.settings.sources) j) }
     requires responders { Every (λ j. j.responder.pass.table ≡ N.table) responders.old }
     ensures radios { Each (RadioRan (λ b h. stands_for b h) L.state L.opening N.limit) radios.old radios.new }
     ensures pollers { Each (PollRan T.state T.opening N.limit) pollers.old pollers.new }
+    ensures leap { Both (LeapRan L.state L.opening N.limit) leap.old leap.new }
     ensures responders { Each (HasServed T.state T.opening budget) responders.old responders.new }
 {
     join_mut(
@@ -214,9 +262,11 @@ pub fn run_first<
         &mut ||
             requires radios { Every (λ j. MayHear (λ b. least_start b) N.table (length N.settings.sources) j) radios.now }
             requires pollers { Every (λ j. MayPoll N.table (length N.settings.sources) j) pollers.now }
+            requires leap { IfSome leap.now (λ j. MayNotice N.table (length N.settings.sources) j) }
             ensures radios { Each (RadioRan (λ b h. stands_for b h) L.state L.opening N.limit) radios.entry.now radios.exit.now }
             ensures pollers { Each (PollRan T.state T.opening N.limit) pollers.entry.now pollers.exit.now }
-        { run_feeds(rt, hub, gate, radios, pollers) },
+            ensures leap { Both (LeapRan L.state L.opening N.limit) leap.entry.now leap.exit.now }
+        { run_feeds(rt, hub, gate, radios, pollers, leap) },
         &mut ||
             requires { Every (λ j. j.responder.pass.table ≡ N.table) responders.now }
             ensures { Each (HasServed T.state T.opening budget) responders.entry.now responders.exit.now }

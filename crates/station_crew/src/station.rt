@@ -1,9 +1,9 @@
 //! A station whose logs and links are open is served.
 ghost use Rattle.std.specs.Prelude.{◌≡◌, ◌<◌, ◌≤◌, ◌^◌, ◌+◌, All, IfErr, IfOk, length, vec_len};
-ghost use Rattle.station_config.specs.Station.{gate_of, settings_of};
+ghost use Rattle.station_config.specs.Station.{gate_of, leap_feed, settings_of};
 ghost use Rattle.station_crew.specs.Crews.{HasRoom, HasRoomFor, HasRoomForGear, HasRoomToLeave};
 ghost use Rattle.station_gear.specs.Opens.{IsWhole};
-ghost use Rattle.station_crew.specs.Served.{AreBlank, IsJournalOf, LinksServed, RadiosServed, ServersServed};
+ghost use Rattle.station_crew.specs.Served.{AreBlank, IsJournalOf, LeapServed, LinksServed, RadiosServed, ServersServed};
 
 use crate::crew::{Crew, Left};
 use crate::named::{Ended, Room, run_named};
@@ -37,6 +37,7 @@ fn make_crew<L: Drop, T: Drop, B: Drop>(
     Ok(Crew {
         radios: Vec::with_capacity(alloc, counts.radios)?,
         pollers: Vec::with_capacity(alloc, counts.servers)?,
+        leap: None,
         responders: Vec::with_capacity(alloc, counts.links)?,
     })
 }
@@ -47,6 +48,7 @@ fn make_gear<L: Drop, T: Drop>(alloc: Global, counts: Counts) -> Result<Gear<L, 
 {
     Ok(Gear {
         logs: Vec::with_capacity(alloc, counts.radios)?,
+        leap: None,
         servers: Vec::with_capacity(alloc, counts.servers)?,
         links: Vec::with_capacity(alloc, counts.links)?,
     })
@@ -61,8 +63,9 @@ fn make_left<L: Drop, T: Drop>(alloc: Global, counts: Counts) -> Result<Left<L, 
         gear: make_gear(alloc, counts)?,
         radios: Vec::with_capacity(alloc, counts.radios)?,
         servers: Vec::with_capacity(alloc, counts.servers)?,
+        leap: None,
         links: Vec::with_capacity(alloc, counts.links)?,
-        feeds: Vec::with_capacity(alloc, counts.radios + counts.servers)?,
+        feeds: Vec::with_capacity(alloc, counts.radios + counts.servers + 1)?,
         readers: Vec::with_capacity(alloc, counts.links)?,
     })
 }
@@ -106,7 +109,7 @@ fn make_room<L: Drop, T: Drop, B: Drop>(
     })
 }
 
-/// Serves a station. In the first phase its radios' logs are read and its servers are polled into one journal of at most `limit` entries,
+/// Serves a station. In the first phase its radios' logs and its leap second file are read and its servers are polled into one journal of at most `limit` entries,
 /// 1 to 4194304, while the clients of its links are answered from the page of the journal so far, for `budget.during` hearings a link, by the
 /// station's keys where they ask so, or with a kiss code where the station denies them or they ask too often. In the second phase those
 /// links that go on are served for `budget.after` hearings more, from the page of the whole journal. Each link has a gate of clients of its
@@ -129,6 +132,7 @@ pub fn serve_station<R: Threads + Wait + Sync, L: Source + Drop, T: Link + Drop,
     ensures journal { IfOk result (λ e. IsJournalOf (settings_of station.now) limit e.journal) }
     ensures radios { IfOk result (λ e. RadiosServed L.state L.opening station.now.radios limit e.journal.entries gear.logs.items e.gear.logs.items e.radios.items) }
     ensures servers { IfOk result (λ e. ServersServed T.state T.opening station.now.servers (length station.now.radios) limit e.journal.entries gear.servers.items e.gear.servers.items e.servers.items) }
+    ensures leap { IfOk result (λ e. LeapServed L.state L.opening station.now.top.start (leap_feed station.now) limit e.journal.entries gear.leap e.gear.leap e.leap) }
     ensures links { IfOk result (λ e. LinksServed T.state T.opening station.now.keys (gate_of station.now) (settings_of station.now) e.journal.entries budget.during budget.after gear.links.items e.gear.links.items e.links.items) }
     ensures memory { IfErr result (λ g. g ≡ gear) }
 {

@@ -22,7 +22,7 @@ use verdict_journal::Journal;
 
 const NOON: [u32; 12] = [18, 20, 29, 30, 33, 35, 36, 44, 45, 51, 52, 55];
 
-const RADIO: &str = "[[radio]]\nplan = \"dcf\"\nlog = \"noon\"\n";
+pub(crate) const RADIO: &str = "[[radio]]\nplan = \"dcf\"\nlog = \"noon\"\n";
 
 const SERVER: &str = "[[server]]\naddress = \"127.0.0.1\"\nport = 123\npolls = 1\n";
 
@@ -138,6 +138,7 @@ fn answered(alloc: Global) -> Result<MemoryLink, Fail> {
 pub(crate) fn no_gear(alloc: Global) -> Fakes {
     Gear {
         logs: Vec::new(alloc),
+        leap: None,
         servers: Vec::new(alloc),
         links: Vec::new(alloc),
     }
@@ -195,6 +196,9 @@ fn serve_with<R: Threads + Wait + Sync, G: Gate>(
     if gear.logs.len() != station.radios() {
         return Err("logs")?;
     }
+    if gear.leap.is_some() != station.leap_file().is_some() {
+        return Err("leap second file")?;
+    }
     if gear.servers.len() != station.servers() {
         return Err("servers")?;
     }
@@ -224,7 +228,7 @@ pub(crate) fn serve<R: Threads + Wait + Sync, G: Gate>(
 }
 
 // The lines of a journal.
-fn text_of(alloc: Global, journal: &Journal) -> Result<String, Fail> {
+pub(crate) fn text_of(alloc: Global, journal: &Journal) -> Result<String, Fail> {
     let mut text = String::new(alloc);
     for place in 0..journal.len() {
         if let Some(entry) = journal.get(place) {

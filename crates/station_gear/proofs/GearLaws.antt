@@ -21,18 +21,23 @@ pub gear_sizes : {L T : Type 0} (log_number : L → ℕ) (link_number : T → �
     length (states_of log_state link_state gear) ≡ length (numbers_of log_number link_number gear)
 gear_sizes log_number link_number log_state link_state gear =
     let logs = gear.logs.items in
+    let leap = option_to_list gear.leap in
     let servers = gear.servers.items in
     let links = gear.links.items in
     omega (
       arith,
-      length-append (map (λ l. OfLog (log_state l)) logs) (map (λ l. OfLink (link_state l)) servers ++ map (λ l. OfLink (link_state l)) links),
+      length-append (map (λ l. OfLog (log_state l)) logs) (map (λ l. OfLog (log_state l)) leap ++ (map (λ l. OfLink (link_state l)) servers ++ map (λ l. OfLink (link_state l)) links)),
+      length-append (map (λ l. OfLog (log_state l)) leap) (map (λ l. OfLink (link_state l)) servers ++ map (λ l. OfLink (link_state l)) links),
       length-append (map (λ l. OfLink (link_state l)) servers) (map (λ l. OfLink (link_state l)) links),
-      length-append (map log_number logs) (map link_number servers ++ map link_number links),
+      length-append (map log_number logs) (map log_number leap ++ (map link_number servers ++ map link_number links)),
+      length-append (map log_number leap) (map link_number servers ++ map link_number links),
       length-append (map link_number servers) (map link_number links),
       length-map logs (λ l. OfLog (log_state l)),
+      length-map leap (λ l. OfLog (log_state l)),
       length-map servers (λ l. OfLink (link_state l)),
       length-map links (λ l. OfLink (link_state l)),
       length-map logs log_number,
+      length-map leap log_number,
       length-map servers link_number,
       length-map links link_number,
     )
@@ -51,10 +56,11 @@ gear_held of (Ok done) numbers states before now all = all.openings
 gear_held of (Err missing) numbers states before now stops = subst (λ o. HoldsOpenings (wanted_by of) numbers states before now o) (sym stops.named) stops.openings
 
 -- a use that keeps the numbers of each part keeps all of them
-pub same_numbers : (logs logs_now servers servers_now links links_now : List ℕ) → logs_now ≡ logs → servers_now ≡ servers → links_now ≡ links →
-    logs_now ++ (servers_now ++ links_now) ≡ logs ++ (servers ++ links)
-same_numbers logs logs_now servers servers_now links links_now first second third =
-    ap (λ l. l ++ (servers_now ++ links_now)) first ∙ ap (λ l. logs ++ (l ++ links_now)) second ∙ ap (λ l. logs ++ (servers ++ l)) third
+pub same_numbers : (logs logs_now leap leap_now servers servers_now links links_now : List ℕ) → logs_now ≡ logs → leap_now ≡ leap → servers_now ≡ servers →
+    links_now ≡ links → logs_now ++ (leap_now ++ (servers_now ++ links_now)) ≡ logs ++ (leap ++ (servers ++ links))
+same_numbers logs logs_now leap leap_now servers servers_now links links_now first second third fourth =
+    ap (λ l. l ++ (leap_now ++ (servers_now ++ links_now))) first ∙ ap (λ l. logs ++ (l ++ (servers_now ++ links_now))) second
+    ∙ ap (λ l. logs ++ (leap ++ (l ++ links_now))) third ∙ ap (λ l. logs ++ (leap ++ (servers ++ l))) fourth
 
 module _ (needed : List Wanted) (numbers numbers_now : List ℕ) (states : List State) (before mid : OutsideState) (failing : Option Wanted)
     (held : HoldsOpenings needed numbers states before mid failing) (same : numbers_now ≡ numbers) where

@@ -1,5 +1,7 @@
--- The gear of a station: the logs and links that it needs, in their order, and what those that are open are seen as.
-use Rattle.std.specs.Prelude.{◌≡◌, ◌≤◌, ℕ, List, [], ◌++◌, length, map, vec_capacity}
+-- The gear of a station: the logs and links that it needs, in their order, and what those that are open are seen as. A leap second file is
+-- a log.
+use Rattle.std.specs.Prelude.{◌≡◌, ◌≤◌, ℕ, None, List, [], ◌++◌, length, map, vec_capacity}
+use Rattle.std.specs.Option.{option_to_list}
 use Rattle.feed_link.specs.Told.{SourceState, LinkState}
 use Rattle.feed_link.specs.Openings.{Wanted, State}
 use Rattle.feed_link.specs.Openings.Wanted.{LogOf, LinkAt}
@@ -11,6 +13,10 @@ use Rattle.station_gear.specs.declared.gear.Gear.{Gear}
 abbrev pub logs_needed : StationFields → List Wanted
 logs_needed of = map (λ radio. LogOf radio.log) of.radios
 
+-- its leap second file, where it names one
+abbrev pub leap_needed : StationFields → List Wanted
+leap_needed of = map LogOf (option_to_list of.leap_file)
+
 -- for each server a link on any free port, whose moments count from the station's start
 abbrev pub servers_needed : StationFields → List Wanted
 servers_needed of = map (λ server. LinkAt 0 of.top.start) of.servers
@@ -21,7 +27,7 @@ links_needed of = map (λ port. LinkAt port of.top.start) of.links
 
 -- all that it opens, in order
 abbrev pub wanted_by : StationFields → List Wanted
-wanted_by of = logs_needed of ++ (servers_needed of ++ links_needed of)
+wanted_by of = logs_needed of ++ (leap_needed of ++ (servers_needed of ++ links_needed of))
 
 -- what some logs, and some links, tell at one moment
 abbrev pub log_states : {L : Type 0} → (L → SourceState) → List L → List State
@@ -32,15 +38,18 @@ link_states state links = map (λ link. OfLink (state link)) links
 
 -- what the objects of a gear tell, in the station's order
 abbrev pub states_of : {L T : Type 0} → (L → SourceState) → (T → LinkState) → Gear L T → List State
-states_of log link gear = log_states log gear.logs.items ++ (link_states link gear.servers.items ++ link_states link gear.links.items)
+states_of log link gear = log_states log gear.logs.items
+    ++ (log_states log (option_to_list gear.leap) ++ (link_states link gear.servers.items ++ link_states link gear.links.items))
 
 -- the numbers of their openings, in the station's order
 abbrev pub numbers_of : {L T : Type 0} → (L → ℕ) → (T → ℕ) → Gear L T → List ℕ
-numbers_of log link gear = map log gear.logs.items ++ (map link gear.servers.items ++ map link gear.links.items)
+numbers_of log link gear = map log gear.logs.items
+    ++ (map log (option_to_list gear.leap) ++ (map link gear.servers.items ++ map link gear.links.items))
 
 -- nothing is open, and there is room for all that the station has
 pub record IsEmptyFor {L T : Type 0} (of : StationFields) (gear : Gear L T) : Type 0 where
   pub no_log : gear.logs.items ≡ []
+  pub no_leap : gear.leap ≡ None
   pub no_server : gear.servers.items ≡ []
   pub no_link : gear.links.items ≡ []
   pub log_room : length of.radios ≤ vec_capacity gear.logs

@@ -1,14 +1,15 @@
 -- Which of the logs and links of a station were opened and are out, and which one is missing.
-use Rattle.std.specs.Prelude.{◌≡◌, ◌-◌, ℕ, min, Option, None, Some, Result, Ok, Err, List, ◌++◌, length, map, slice_get, vec_len}
-use Rattle.std.specs.Option.{MatchOption, option_to_list}
+use Rattle.std.specs.Prelude.{◌≡◌, ◌-◌, ◌&&◌, ℕ, min, nat_le, is_some, Option, None, Some, Result, Ok, Err, List, ◌++◌, length, map, slice_get, vec_len}
+use Rattle.std.specs.Option.{MatchOption, option_map, option_to_list}
 use Rattle.feed_link.specs.Faults.{RoseByOne}
 use Rattle.feed_link.specs.Openings.{Wanted, State, OutsideState, GrowsBy, failed}
+use Rattle.feed_link.specs.Openings.Wanted.{LogOf}
 use Rattle.feed_link.specs.ManyOut.{Held, held_opening, AreNumbers}
 use Rattle.station_config.specs.Station.{StationFields}
 use Rattle.station_gear.specs.Gears.{logs_needed, servers_needed, links_needed, wanted_by}
 use Rattle.station_gear.specs.declared.gear.Gear.{Gear}
 use Rattle.station_gear.specs.declared.gear.Missing.{Missing}
-use Rattle.station_gear.specs.declared.gear.Missing.TheVariants.{Feed, Link}
+use Rattle.station_gear.specs.declared.gear.Missing.TheVariants.{Feed, LeapFile, Link}
 
 -- The first of those needed were opened, in order, and their objects are out: their numbers are those of their openings, and each tells
 -- now what it told when it was opened. One more may follow, which failed; then the count of faults rose by one, and otherwise it stays.
@@ -33,9 +34,10 @@ pub record StopsIn (needed : List Wanted) (numbers : List ℕ) (states : List St
   pub what : Wanted
   pub openings : HoldsOpenings needed numbers states before now (Some what)
 
--- what is named: a feed's log or link, or a link that the station serves on
+-- what is named: a radio's log or a server's link, the leap second file, or a link that the station serves on
 abbrev pub named_by : StationFields → Missing → Option Wanted
 named_by of (Feed number) = slice_get (logs_needed of ++ servers_needed of) number
+named_by of LeapFile = option_map LogOf of.leap_file
 named_by of (Link place) = slice_get (links_needed of) place
 
 -- what failed, by what a call answers
@@ -52,10 +54,13 @@ pub record StopsAt (of : StationFields) (missing : Missing) (numbers : List ℕ)
 -- a gear has all that a station needs
 pub record IsWhole {L T : Type 0} (of : StationFields) (gear : Gear L T) : Type 0 where
   pub logs : vec_len gear.logs ≡ length of.radios
+  pub leap : is_some gear.leap ≡ is_some of.leap_file
   pub servers : vec_len gear.servers ≡ length of.servers
   pub links : vec_len gear.links ≡ length of.links
 
 -- it has what stands in front of the missing one, and no more
 abbrev pub IsUpTo : {L T : Type 0} → StationFields → Missing → Gear L T → Type 0
-IsUpTo of (Feed number) gear = (vec_len gear.logs ≡ min number (length of.radios)) × (vec_len gear.servers ≡ number - length of.radios) × (vec_len gear.links ≡ 0)
-IsUpTo of (Link place) gear = (vec_len gear.logs ≡ length of.radios) × (vec_len gear.servers ≡ length of.servers) × (vec_len gear.links ≡ place)
+IsUpTo of (Feed number) gear = (vec_len gear.logs ≡ min number (length of.radios))
+    × (is_some gear.leap ≡ (nat_le (length of.radios) number && is_some of.leap_file)) × (vec_len gear.servers ≡ number - length of.radios) × (vec_len gear.links ≡ 0)
+IsUpTo of LeapFile gear = (vec_len gear.logs ≡ length of.radios) × (gear.leap ≡ None) × (vec_len gear.servers ≡ 0) × (vec_len gear.links ≡ 0)
+IsUpTo of (Link place) gear = (vec_len gear.logs ≡ length of.radios) × (is_some gear.leap ≡ is_some of.leap_file) × (vec_len gear.servers ≡ length of.servers) × (vec_len gear.links ≡ place)

@@ -5,11 +5,12 @@ ghost use Rattle.station_gear.specs.Gears.{IsEmptyFor};
 use station_config::Station;
 use std::alloc::{AllocError, Global};
 
-/// The logs and links of a station that are open: its radios' logs, its servers' links and the links that it serves on, each in the
-/// station's order.
+/// The logs and links of a station that are open: its radios' logs, its leap second file, its servers' links and the links that it serves
+/// on, each in the station's order.
 #[derive(Drop)]
 pub struct Gear<L: Drop, T: Drop> {
     pub logs: Vec<L>,
+    pub leap: Option<L>,
     pub servers: Vec<T>,
     pub links: Vec<T>,
 }
@@ -19,6 +20,8 @@ pub struct Gear<L: Drop, T: Drop> {
 pub enum Missing {
     /// The log of a radio or the link of a server, by the number of its feed. Radios come first, from 0, then servers.
     Feed(u32),
+    /// The leap second file.
+    LeapFile,
     /// A link that the station serves on, by its place, from 0.
     Link(u32),
 }
@@ -30,6 +33,7 @@ impl<L: Drop, T: Drop> Gear<L, T> {
     {
         Ok(Gear {
             logs: Vec::with_capacity(alloc, station.radios())?,
+            leap: None,
             servers: Vec::with_capacity(alloc, station.servers())?,
             links: Vec::with_capacity(alloc, station.links())?,
         })

@@ -1,6 +1,7 @@
 //! Opens the logs and links of a station.
-ghost use Rattle.std.specs.Prelude.{◌≡◌, ◌≤◌, ◌<◌, [], length, map, vec_len, vec_capacity, MatchResult};
-ghost use Rattle.station_gear.specs.Gears.{IsEmptyFor, logs_needed, servers_needed, links_needed, wanted_by, log_states, link_states, states_of, numbers_of};
+ghost use Rattle.std.specs.Prelude.{◌≡◌, ◌≤◌, ◌<◌, [], length, map, vec_len, vec_capacity, MatchResult, IfOk, is_some};
+ghost use Rattle.std.specs.Option.{option_to_list};
+ghost use Rattle.station_gear.specs.Gears.{IsEmptyFor, logs_needed, leap_needed, servers_needed, links_needed, wanted_by, log_states, link_states, states_of, numbers_of};
 ghost use Rattle.station_gear.specs.Opens.{OpensAll, StopsIn, StopsAt, IsWhole, IsUpTo};
 
 use crate::{Gear, Missing};
@@ -27,6 +28,23 @@ fn open_logs<O: Outside>(
         logs.push_reserved(log);
     }
     Ok(())
+}
+
+// Opens the leap second file, where the station names one.
+fn open_leap<O: Outside>(outside: &mut O, station: &Station) -> Result<Option<O::Log>, Failed>
+    ensures opened { MatchResult result
+        (λ leap. OpensAll (leap_needed station.now) (map (λ log. O.Log.opening log) (option_to_list leap)) (log_states (λ log. O.Log.state log) (option_to_list leap)) (O.state outside.old) (O.state outside.new))
+        (λ _. StopsIn (leap_needed station.now) [] [] (O.state outside.old) (O.state outside.new)) }
+    ensures named { IfOk result (λ leap. is_some leap ≡ is_some station.now.leap_file) }
+    ensures gate { O.gate_out outside.new ≡ O.gate_out outside.old }
+{
+    let Some(name) = station.leap_file() else {
+        return Ok(None);
+    };
+    match outside.open_log(name) {
+        Ok(log) => Ok(Some(log)),
+        Err(Failed) => Err(Failed),
+    }
 }
 
 // Opens a link on a free port for each server, until one fails.
@@ -81,8 +99,8 @@ fn number(place: usize) -> u32
     place as u32
 }
 
-/// Opens the logs of a station's radios by their names, then a link on a free port for each of its servers, then the links that it
-/// serves on, each in the station's order; the moments of all links count from the station's start. It stops at the first that can't be
+/// Opens the logs of a station's radios by their names, then its leap second file, then a link on a free port for each of its servers, then
+/// the links that it serves on, each in the station's order; the moments of all links count from the station's start. It stops at the first that can't be
 /// opened: those opened before it stand in the gear.
 pub fn open_gear<O: Outside>(
     outside: &mut O,
@@ -99,6 +117,10 @@ pub fn open_gear<O: Outside>(
     let radios = station.radios();
     if let Err(Failed) = open_logs(outside, station, &mut gear.logs) {
         return Err(Missing::Feed(number(gear.logs.len())));
+    }
+    match open_leap(outside, station) {
+        Ok(leap) => gear.leap = leap,
+        Err(Failed) => return Err(Missing::LeapFile),
     }
     if let Err(Failed) = open_servers(outside, station, &mut gear.servers) {
         return Err(Missing::Feed(number(radios + gear.servers.len())));

@@ -1,5 +1,6 @@
 //! Gives the logs and links of a station back.
 ghost use Rattle.std.specs.Prelude.{◌≡◌, map};
+ghost use Rattle.std.specs.Option.{option_to_list};
 ghost use Rattle.feed_link.specs.ManyOut.{AreOut, GivesAllBack};
 ghost use Rattle.station_gear.specs.Gears.{log_states, link_states, states_of, numbers_of};
 
@@ -13,6 +14,17 @@ fn give_back_logs<O: Outside>(outside: &mut O, logs: Vec<O::Log>)
     ensures gate { O.gate_out outside.new ≡ O.gate_out outside.old }
 {
     for log in logs {
+        outside.give_back_log(log);
+    }
+}
+
+// Gives a log back, where there is one.
+fn give_back_leap<O: Outside>(outside: &mut O, leap: Option<O::Log>)
+    requires { AreOut (O.state outside.old).openings (map (λ log. O.Log.opening log) (option_to_list leap)) }
+    ensures back { GivesAllBack (O.state outside.old) (O.state outside.new) (map (λ log. O.Log.opening log) (option_to_list leap)) (log_states (λ log. O.Log.state log) (option_to_list leap)) }
+    ensures gate { O.gate_out outside.new ≡ O.gate_out outside.old }
+{
+    if let Some(log) = leap {
         outside.give_back_log(log);
     }
 }
@@ -36,10 +48,12 @@ pub fn give_back_gear<O: Outside>(outside: &mut O, gear: Gear<O::Log, O::Net>)
 {
     let Gear {
         logs,
+        leap,
         servers,
         links,
     } = gear;
     give_back_logs(outside, logs);
+    give_back_leap(outside, leap);
     give_back_links(outside, servers);
     give_back_links(outside, links);
 }

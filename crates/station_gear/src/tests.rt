@@ -1,6 +1,7 @@
-//! Stations whose logs and links are opened over an outside in memory that notes each call: all of them, each of them failing, and
-//! those of a station that has none.
+//! Stations whose logs and links are opened over an outside in memory that notes each call: all of them, with a leap second file and
+//! without one, each of them failing, and those of a station that has none.
 ghost use Rattle.std.specs.Prelude.{◌≡◌, ◌∷◌, List, map, IfOk};
+ghost use Rattle.std.specs.Option.{option_to_list};
 ghost use Rattle.feed_link.specs.Openings.{MakesOpenings, Visit};
 ghost use Rattle.feed_link.specs.Openings.Wanted.{LogOf};
 ghost use Rattle.station_gear.specs.Gears.{IsEmptyFor, wanted_by};
@@ -32,9 +33,31 @@ port = 5123
 port = 5001
 "#;
 
+// The same with a leap second file.
+const LISTED: &str = r#"start = 7000
+leap_file = "leap"
+[[radio]]
+plan = "dcf"
+log = "b.log"
+[[radio]]
+plan = "msf"
+log = "a.log"
+[[server]]
+address = "127.0.0.1"
+port = 4123
+[[link]]
+port = 5123
+[[link]]
+port = 5001
+"#;
+
 const ALL: &str =
     "log own; back log; log b.log; log a.log; link 0 @7000; link 5123 @7000; link 5001 @7000; \
 back log; back log; back link; back link; back link; ";
+
+const ALL_LISTED: &str =
+    "log own; back log; log b.log; log a.log; log leap; link 0 @7000; link 5123 @7000; link 5001 @7000; \
+back log; back log; back log; back link; back link; back link; ";
 
 // An outside in memory. It notes each opening and each giving back.
 #[derive(Drop)]
@@ -105,13 +128,14 @@ fn link(alloc: Global, port: u16) -> Result<MemoryLink, Fail> {
     Ok(MemoryLink::new(alloc, hearings, Vec::new(alloc), Vec::new(alloc), 4, 0)?)
 }
 
-// An outside with the logs "own", "a.log" and, under the name `second`, a third one, and with three links. The opening of this number
-// fails.
+// An outside with the logs "own", "a.log", "leap" and, under the name `second`, a fourth one, and with three links. The opening of this
+// number fails.
 fn outside(alloc: Global, second: &str, failing: u64) -> Result<Noting, Fail> {
     let mut logs = Vec::new(alloc);
     logs.push(log(alloc, "a.log", "A")?)?;
     logs.push(log(alloc, second, "B")?)?;
     logs.push(log(alloc, "own", "")?)?;
+    logs.push(log(alloc, "leap", "L")?)?;
     let mut links = Vec::new(alloc);
     for port in [31, 32, 33] {
         links.push(link(alloc, port)?)?;
@@ -152,6 +176,15 @@ fn read_logs<L: Source + Drop>(logs: &mut Vec<L>, seen: &mut String)
     }
 }
 
+fn read_leap<L: Source + Drop>(leap: &mut Option<L>, seen: &mut String)
+    ensures { map (λ log. L.opening log) (option_to_list leap.new) ≡ map (λ log. L.opening log) (option_to_list leap.old) }
+{
+    if let Some(log) = leap {
+        let byte = first_byte(log);
+        let _ = write!(seen, "{byte} ");
+    }
+}
+
 fn hear_links<T: Link + Drop>(links: &mut Vec<T>, seen: &mut String)
     ensures { map (λ link. T.opening link) links.new.items ≡ map (λ link. T.opening link) links.old.items }
 {
@@ -173,6 +206,7 @@ fn visit_gear<O: Outside>(
 {
     let opened = open_gear(outside, station, &mut gear);
     read_logs(&mut gear.logs, seen);
+    read_leap(&mut gear.leap, seen);
     hear_links(&mut gear.servers, seen);
     hear_links(&mut gear.links, seen);
     give_back_gear(outside, gear);
@@ -256,6 +290,32 @@ fn it_stops_at_the_first_that_fails(rt: HostRuntime) -> Result<(), Fail> {
     ];
     for (failing, missing, seen) in table {
         let visited = visit_station(rt.alloc(), STATION, "b.log", failing)?;
+        assert_eq!(rt; visited.answer, Err(missing));
+        assert_eq!(rt; visited.seen.as_str(), seen);
+    }
+    Ok(())
+}
+
+#[test]
+fn a_leap_second_file_is_opened_behind_the_logs(rt: HostRuntime) -> Result<(), Fail> {
+    let visited = visit_station(rt.alloc(), LISTED, "b.log", 0)?;
+    assert_eq!(rt; visited.answer, Ok(()));
+    assert_eq!(rt; visited.calls.as_str(), ALL_LISTED);
+    assert_eq!(rt; visited.seen.as_str(), "66 65 76 31 32 33 ");
+    assert_eq!(rt; visited.counts, [Some(1); 3]);
+    Ok(())
+}
+
+#[test]
+fn it_stops_at_the_first_that_fails_with_a_leap_second_file(rt: HostRuntime) -> Result<(), Fail> {
+    let table = [
+        (3, Missing::Feed(1), "66 "),
+        (4, Missing::LeapFile, "66 65 "),
+        (5, Missing::Feed(2), "66 65 76 "),
+        (6, Missing::Link(0), "66 65 76 31 "),
+    ];
+    for (failing, missing, seen) in table {
+        let visited = visit_station(rt.alloc(), LISTED, "b.log", failing)?;
         assert_eq!(rt; visited.answer, Err(missing));
         assert_eq!(rt; visited.seen.as_str(), seen);
     }

@@ -6,7 +6,7 @@ ghost use Rattle.radio_engine.specs.Crewing.{HasEach, HasLeast, any_full, causes
 ghost use Rattle.radio_engine.specs.Headline.{IsTold, each_cause, full_cause, link_cause, log_cause, number_at, poll_cause};
 ghost use Rattle.radio_engine.specs.declared.ending.Ending.{Ending};
 
-use super::Done;
+use super::{Done, leap_feed};
 use crate::ending::subject::Subject;
 use crate::ending::{Ending, status_by};
 use feed_workers::{LogEnd, LogWork, PollEnd, PollWork};
@@ -110,6 +110,16 @@ fn with_works<W: Work>(found: Option<Ending>, works: &[W], first: u32) -> Option
     found
 }
 
+// The one that is told of those so far and of a leap second file's worker, where there is one, whose feed has this number.
+fn with_leap(found: Option<Ending>, leap: Option<LogWork>, feed: u32) -> Option<Ending>
+    ensures { (all : List Ending) → HasLeast all found → HasLeast (all ++ each_cause (λ place work. log_cause place work.end) feed (option_to_list leap)) result }
+{
+    match leap {
+        Some(work) => with_next(found, work.cause(feed)),
+        None => found,
+    }
+}
+
 // Whether an entry of one of these radios found the journal full.
 fn has_full_radio(works: &[LogWork]) -> bool
     ensures { result ≡ list_any (λ w. w.full) works.now }
@@ -124,10 +134,20 @@ fn has_full_server(works: &[PollWork]) -> bool
     works.iter().any(|work| work.full)
 }
 
-fn is_full(radios: &[LogWork], servers: &[PollWork]) -> bool
-    ensures { result ≡ any_full radios.now servers.now }
+// Whether a notice of the leap second file did.
+fn has_full_leap(work: Option<LogWork>) -> bool
+    ensures { result ≡ list_any (λ w. w.full) (option_to_list work) }
 {
-    has_full_radio(radios) || has_full_server(servers)
+    match work {
+        Some(work) => work.full,
+        None => false,
+    }
+}
+
+fn is_full(radios: &[LogWork], servers: &[PollWork], leap: Option<LogWork>) -> bool
+    ensures { result ≡ any_full radios.now servers.now leap }
+{
+    has_full_radio(radios) || has_full_server(servers) || has_full_leap(leap)
 }
 
 fn full_cause(limit: u32, full: bool) -> Option<Ending>
@@ -145,10 +165,11 @@ pub fn ending_of(station: &Station, done: &Done, limit: u32) -> Ending
     requires { HasEach station.now done.now }
     ensures { IsTold (causes_left limit done.now) result }
 {
-    let feeds = station.radios() as u32;
+    let radios = station.radios() as u32;
     let found = with_works(None, done.radios.as_slice(), 0);
-    let found = with_works(found, done.servers.as_slice(), feeds);
+    let found = with_works(found, done.servers.as_slice(), radios);
+    let found = with_leap(found, done.leap, leap_feed(station));
     let found = with_works(found, done.links.as_slice(), 0);
-    let full = is_full(done.radios.as_slice(), done.servers.as_slice());
+    let full = is_full(done.radios.as_slice(), done.servers.as_slice(), done.leap);
     with_next(found, full_cause(limit, full)).unwrap_or(Ending::Whole)
 }

@@ -10,6 +10,6 @@ pub returns-in-Ok-clause-drilled : goal.returns-in-Ok-clause-drilled
 returns-in-Ok-clause-drilled g c =
     let ended = c.in-Ok.ended in
     drilled (λ log. 0) (λ net. g.O.Net.Link.state net) (λ net. g.O.Net.Link.opening net) c.args.orders c.args.seed c.args.kit.gear
-    (record { journal = ended.journal; radios = ended.radios; servers = ended.servers; links = ended.links }) ended.gear c.requires.gear
-    (subst (λ (of : StationFields). LeavesAll sure_state (λ log. 0) (λ net. g.O.Net.Link.state net) (λ net. g.O.Net.Link.opening net) of c.args.orders c.args.kit.gear ended.gear ended.journal ended.radios.items ended.servers.items ended.links.items)
+    (record { journal = ended.journal; radios = ended.radios; servers = ended.servers; leap = ended.leap; links = ended.links }) ended.gear c.requires.gear
+    (subst (λ (of : StationFields). LeavesAll sure_state (λ log. 0) (λ net. g.O.Net.Link.state net) (λ net. g.O.Net.Link.opening net) of c.args.orders c.args.kit.gear ended.gear ended.journal ended.radios.items ended.servers.items ended.leap ended.links.items)
     c.requires.station c.in-Ok.ensures.served)

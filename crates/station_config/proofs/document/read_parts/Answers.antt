@@ -83,7 +83,8 @@ returns-clause-said c =
     let links = c.in_ok-links.ensures.read.rows ∙ ap (map (λ t. number_at port_row t.1)) c.in-Ok.ensures.links in
     let keys = c.in_ok-keys.ensures.read.rows ∙ ap (map (λ t. key_of t.1)) c.in-Ok.ensures.keys in
     let deny = c.in_ok-deny.ensures.read.rows ∙ ap (map (λ t. net_of t.1)) c.in-Ok.ensures.deny in
-    λ i. record { top = c.in-Ok.ensures.numbers i; radios = radios i; servers = servers i; links = links i; keys = keys i; deny = deny i }
+    let leap = c.in-Ok-kept_name.ensures ∙ c.in-Ok.ensures.leap_file in
+    λ i. record { top = c.in-Ok.ensures.numbers i; radios = radios i; servers = servers i; leap_file = leap i; links = links i; keys = keys i; deny = deny i }
 
 pub returns-clause-good : goal.returns-clause-good
 returns-clause-good c =

@@ -2,10 +2,11 @@
 use Rattle.std.proofs.Common.{rules, ◌≡◌, ◌∙◌, ◌+◌, length, map, sym, ap, arith}
 use Rattle.std.proofs.lemmas.List.{length-map}
 use Rattle.std.specs.Prelude.{vec_len}
-use Rattle.feed_link.specs.Openings.State.{OfLink}
+use Rattle.std.specs.Option.{option_to_list}
+use Rattle.feed_link.specs.Openings.State.{OfLog, OfLink}
 use Rattle.feed_link.specs.Openings.Wanted.{LinkAt}
 use Rattle.station_gear.proofs.HoldingLaws.{stops_within}
-use Rattle.station_gear.proofs.PhaseLaws.{all_phases, link_fails, log_fails, server_fails}
+use Rattle.station_gear.proofs.PhaseLaws.{all_phases, leap_fails, link_fails, log_fails, server_fails}
 use Rattle.station_gear.proofs.opening.open_gear.Goals as goal
 
 pub number-requires-in-Err-open_links : goal.number-requires-in-Err-open_links
@@ -24,16 +25,40 @@ number-requires-in-Err-open_links g c =
 pub returns-in-Err-clause-opened : goal.returns-in-Err-clause-opened
 returns-in-Err-clause-opened g c =
     let size : length c.open_logs.new.logs.items ≡ vec_len c.open_logs.new.logs = search rules in
-    log_fails c.args.station.now _ _ _ _ _ _ _ _ c.in-Err.ensures.opened
+    log_fails c.args.station.now _ _ _ _ _ _ _ _ _ _ c.in-Err.ensures.opened
+    (ap (λ o. map (λ x. g.O.Log.Source.opening x) (option_to_list o)) c.requires.no_leap) (ap (λ o. map (λ x. OfLog (g.O.Log.Source.state x)) (option_to_list o)) c.requires.no_leap)
     (ap (map (λ x. g.O.Net.Link.opening x)) c.requires.no_server) (ap (map (λ x. OfLink (g.O.Net.Link.state x))) c.requires.no_server)
     (ap (map (λ x. g.O.Net.Link.opening x)) c.requires.no_link) (ap (map (λ x. OfLink (g.O.Net.Link.state x))) c.requires.no_link)
     c.number.result (c.number.ensures ∙ c.len.ensures ∙ sym size ∙ sym (length-map c.open_logs.new.logs.items (λ x. g.O.Log.Source.opening x)))
+
+pub number-requires-in-Err-open_servers : goal.number-requires-in-Err-open_servers
+number-requires-in-Err-open_servers g c =
+    let size : length c.open_servers.new.servers.items ≡ vec_len c.open_servers.new.servers = search rules in
+    let sources = c.radios-radios.ensures.bounds.sources in
+    omega (
+      arith,
+      size,
+      sources,
+      c.radios-radios.ensures.value,
+      c.len-in-Err-open_servers.ensures,
+      stops_within _ _ _ _ _ c.in-Err-open_servers.ensures.opened,
+      length-map c.open_servers.new.servers.items (λ x. g.O.Net.Link.opening x),
+      length-map c.args.station.now.servers (λ server. LinkAt 0 c.args.station.now.top.start),
+    )
+
+pub returns-in-Err-open_leap-clause-opened : goal.returns-in-Err-open_leap-clause-opened
+returns-in-Err-open_leap-clause-opened g c =
+    leap_fails c.args.station.now _ _ _ _ _ _ _ _ _ _ (g.O.Outside.state c.open_logs.new.outside) c.in_default.ensures.opened c.in-Err-open_leap.ensures.opened
+    (ap (λ o. map (λ x. g.O.Log.Source.opening x) (option_to_list o)) c.requires.no_leap) (ap (λ o. map (λ x. OfLog (g.O.Log.Source.state x)) (option_to_list o)) c.requires.no_leap)
+    (ap (map (λ x. g.O.Net.Link.opening x)) c.requires.no_server) (ap (map (λ x. OfLink (g.O.Net.Link.state x))) c.requires.no_server)
+    (ap (map (λ x. g.O.Net.Link.opening x)) c.requires.no_link) (ap (map (λ x. OfLink (g.O.Net.Link.state x))) c.requires.no_link)
 
 pub returns-in-Err-open_servers-clause-opened : goal.returns-in-Err-open_servers-clause-opened
 returns-in-Err-open_servers-clause-opened g c =
     let log_size = c.in_default.ensures.opened.all ∙ length-map c.args.station.now.radios _ ∙ sym c.radios-radios.ensures.value in
     let size : length c.open_servers.new.servers.items ≡ vec_len c.open_servers.new.servers = search rules in
-    server_fails c.args.station.now _ _ _ _ _ _ _ _ (g.O.Outside.state c.open_logs.new.outside) c.in_default.ensures.opened c.in-Err-open_servers.ensures.opened
+    server_fails c.args.station.now _ _ _ _ _ _ _ _ _ _ (g.O.Outside.state c.open_logs.new.outside) (g.O.Outside.state c.open_leap.new.outside)
+    c.in_default.ensures.opened c.in-Ok.ensures.opened c.in-Err-open_servers.ensures.opened
     (ap (map (λ x. g.O.Net.Link.opening x)) c.requires.no_link) (ap (map (λ x. OfLink (g.O.Net.Link.state x))) c.requires.no_link)
     c.number-in-Err-open_servers.result
     (c.number-in-Err-open_servers.ensures ∙ ap (λ n. n + c.len-in-Err-open_servers.result) (sym log_size)
@@ -43,9 +68,11 @@ returns-in-Err-open_servers-clause-opened g c =
 pub returns-in-Err-open_links-clause-opened : goal.returns-in-Err-open_links-clause-opened
 returns-in-Err-open_links-clause-opened g c =
     let size : length c.open_links.new.links.items ≡ vec_len c.open_links.new.links = search rules in
-    link_fails c.args.station.now _ _ _ _ _ _ _ _ (g.O.Outside.state c.open_logs.new.outside) (g.O.Outside.state c.open_servers.new.outside)
-    c.in_default.ensures.opened c.in_default-open_servers.ensures.opened c.in-Err-open_links.ensures.opened c.number-in-Err-open_links.result
+    link_fails c.args.station.now _ _ _ _ _ _ _ _ _ _ (g.O.Outside.state c.open_logs.new.outside) (g.O.Outside.state c.open_leap.new.outside) (g.O.Outside.state c.open_servers.new.outside)
+    c.in_default.ensures.opened c.in-Ok.ensures.opened c.in_default-open_servers.ensures.opened c.in-Err-open_links.ensures.opened c.number-in-Err-open_links.result
     (c.number-in-Err-open_links.ensures ∙ c.len-in-Err-open_links.ensures ∙ sym size ∙ sym (length-map c.open_links.new.links.items (λ x. g.O.Net.Link.opening x)))
 
 pub returns-clause-opened : goal.returns-clause-opened
-returns-clause-opened g c = all_phases c.args.station.now _ _ _ _ _ _ _ _ _ _ c.in_default.ensures.opened c.in_default-open_servers.ensures.opened c.in_default-open_links.ensures.opened
+returns-clause-opened g c =
+    all_phases c.args.station.now _ _ _ _ _ _ _ _ _ _ (g.O.Outside.state c.open_logs.new.outside) (g.O.Outside.state c.open_leap.new.outside) (g.O.Outside.state c.open_servers.new.outside)
+    c.in_default.ensures.opened c.in-Ok.ensures.opened c.in_default-open_servers.ensures.opened c.in_default-open_links.ensures.opened

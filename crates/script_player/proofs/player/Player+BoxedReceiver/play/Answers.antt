@@ -16,3 +16,6 @@ returns-in-Swap-clause-plays g c station limit before h = rw c.in-Swap.is (c.swa
 
 pub returns-in-Request-clause-plays : goal.returns-in-Request-clause-plays
 returns-in-Request-clause-plays g c station limit before h = rw c.in-Request.is (refl, c.reply.ensures.given station limit before h)
+
+pub returns-in-Leap-clause-plays : goal.returns-in-Leap-clause-plays
+returns-in-Leap-clause-plays g c station limit before h = rw c.in-Leap.is (c.tell.ensures.plays station limit before h)

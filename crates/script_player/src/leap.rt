@@ -1,0 +1,62 @@
+//! The leap second file of the station.
+ghost use Rattle.std.specs.Prelude.{◌≡◌, ◌<◌, ◌+◌, [], List, IfOk, Some};
+ghost use Rattle.tick_units.specs.Years.{end_of_told};
+ghost use Rattle.journal_entry.specs.Lawful.{IsLawful};
+ghost use Rattle.station_config.specs.Station.{StationFields};
+ghost use Rattle.script_line.specs.declared.line.ScriptLine.{ScriptLine};
+ghost use Rattle.script_player.specs.Replay.{is_leap_feed, may_tell};
+ghost use Rattle.script_player.specs.KeptPlayer.{Gives, HasLeap, HasTold};
+
+use crate::NotLawful;
+use journal_entry::{Entry, What};
+use station_config::Station;
+use tick_units::Local;
+
+// The feed of the leap second file.
+#[derive(Drop)]
+pub struct LeapFeed {
+    // Its number, behind those of the radios and of the servers, where the station names such a file.
+    number: Option<u32>,
+    // The moment of the last leap second that it told of, and 0 at first.
+    last: Local,
+}
+
+impl LeapFeed {
+    // That of a station, before its first leap second.
+    pub fn new(station: &Station) -> LeapFeed
+        ensures { HasLeap result station.now [] }
+    {
+        let number = (station.radios() + station.servers()) as u32;
+        LeapFeed {
+            number: match station.leap_file() {
+                Some(_) => Some(number),
+                None => None,
+            },
+            last: Local::new(0).unwrap(),
+        }
+    }
+
+    // The file tells of a leap second: the entry that it is due.
+    pub fn tell(&mut self, feed: u32, at: Local, leap_at: u64) -> Result<Entry, NotLawful>
+        requires { leap_at < end_of_told }
+        ensures number { self.new.number ≡ self.old.number }
+        ensures told { (station : StationFields) (lines : List ScriptLine) → HasLeap self.old station lines →
+            Gives (may_tell (is_leap_feed station feed) feed at lines) (HasTold self.new station lines feed at leap_at)
+            (HasLeap self.new station lines) result }
+        ensures own { IfOk result (λ _. self.old.number ≡ Some feed) }
+        ensures lawful { IfOk result (λ e. IsLawful (feed + 1) e) }
+    {
+        if self.number != Some(feed) {
+            return Err(NotLawful);
+        }
+        if at.get() < self.last.get() {
+            return Err(NotLawful);
+        }
+        self.last = at;
+        Ok(Entry {
+            feed,
+            at,
+            what: What::Notice(leap_at),
+        })
+    }
+}
