@@ -11,7 +11,9 @@ pub struct OpenGate;
 
 impl OpenGate {
     /// A gate that never holds.
-    pub fn new() -> OpenGate {
+    pub fn new() -> OpenGate
+        ensures { result ≡ record {} }
+    {
         OpenGate
     }
 }
@@ -77,12 +79,13 @@ impl HoldGate {
         }
     }
 
-    /// How often the held worker has passed its place.
+    /// How often the held worker has passed its place: what the lock holds, of which no contract can speak, since other threads write
+    /// it.
     pub fn passed<R: Wait>(&self, rt: &R) -> u32 {
         self.passed.lock(rt).held
     }
 
-    /// Whether the turns ran out at some passing.
+    /// Whether the turns ran out at some passing: what the lock holds, as for `passed`.
     pub fn ran_out<R: Wait>(&self, rt: &R) -> bool {
         self.passed.lock(rt).ran_out
     }

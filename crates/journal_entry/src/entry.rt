@@ -4,7 +4,7 @@ use tick_units::{Kind, Local, Sample};
 /// One line of the journal: what a feed told, and when.
 #[derive(Clone, Copy, Debug, PartialEq, Eq)]
 pub struct Entry {
-    /// The number of the feed, from 0: the radios in the order of the station file, then its servers.
+    /// The number of the feed, from 0: the radios in the order of the station file, then its servers, then its leap second file.
     pub feed: u32,
     /// When it was told, on the host's counter.
     pub at: Local,

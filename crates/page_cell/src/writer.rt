@@ -82,7 +82,8 @@ impl Writer {
         self.published += 1;
     }
 
-    /// Stores so many words of a page that is never published.
+    /// Stores so many words of a page that is never published. There is nothing to ensure: the writer is gone, and of the words of a
+    /// cell that isn't at rest no contract speaks.
     pub fn stop_half_way(self, cell: &PageCell, ten: &[u64; 10], count: usize)
         requires own { self.table ≡ cell.now.table }
         requires count { count ≤ 10 }
