@@ -106,6 +106,31 @@ split_at (a ∷ front) back (c ∷ other_front) other_back n e =
     let rest = split_at front back other_front other_back (omega (arith, n)) (ap (λ l. drop 1 l) e) in
     (ap (λ x. x ∷ front) one ∙ ap (λ l. c ∷ l) rest.0, rest.1)
 
+-- how many logs are among them
+count_logs : List State → ℕ
+count_logs [] = 0
+count_logs (OfLog s ∷ ss) = suc (count_logs ss)
+count_logs (OfLink s ∷ ss) = count_logs ss
+
+count_of_logs : {X : Type 0} (f : X → SourceState) (xs : List X) (ss : List State) → count_logs (map (λ x. OfLog (f x)) xs ++ ss) ≡ length xs + count_logs ss
+count_of_logs f [] ss = refl
+count_of_logs f (x ∷ xs) ss = ap suc (count_of_logs f xs ss)
+
+count_of_links : {Y : Type 0} (f : Y → LinkState) (ys : List Y) (ss : List State) → count_logs (map (λ y. OfLink (f y)) ys ++ ss) ≡ count_logs ss
+count_of_links f [] ss = refl
+count_of_links f (y ∷ ys) ss = count_of_links f ys ss
+
+no_log_of_links : {Y : Type 0} (f : Y → LinkState) (ys : List Y) → count_logs (map (λ y. OfLink (f y)) ys) ≡ 0
+no_log_of_links f [] = refl
+no_log_of_links f (y ∷ ys) = no_log_of_links f ys
+
+logs_opened : (run : StationRun) → count_logs (opened_in run) ≡ length run.radios + length (option_to_list run.leap)
+logs_opened run =
+    let links = count_of_links (λ (r : PollRun). r.opened) run.servers _ ∙ no_log_of_links (λ (r : LinkRun). r.opened) run.links in
+    let list = count_of_logs (λ (r : LeapRun). r.opened) (option_to_list run.leap) _ in
+    let logs = count_of_logs (λ (r : LogRun). r.opened) run.radios _ in
+    omega (arith, links, list, logs)
+
 -- ---- each is whole
 
 -- a log without a fault is read whole
@@ -319,11 +344,12 @@ module _ (name : List ℕ) (during after limit : ℕ) (outside outside_now : Out
           absurd (none_failed (log_visit name h.opened h.back ∷ h.visits) (log_visit name p.opened p.back ∷ p.visits) what e)
 
   module _ (h : ServesStation name during after limit outside outside_now out out_now result) (of_is : h.of ≡ p.of) (opened : opened_in h.run ≡ opened_in p.run) (back : back_in h.run ≡ back_in p.run) where
-    radio_sizes : length h.run.radios ≡ length p.run.radios
-    radio_sizes = h.served.logs.each ∙ ap (λ (o : StationFields). length o.radios) of_is ∙ sym p.each_log
-
     list_sizes : length (option_to_list h.run.leap) ≡ length (option_to_list p.run.leap)
     list_sizes = length-is-some h.run.leap p.run.leap (h.served.logs.leap ∙ ap (λ (o : StationFields). is_some o.leap_file) of_is ∙ sym p.each_list)
+
+    -- as many logs were opened in both, and of these as many lists
+    radio_sizes : length h.run.radios ≡ length p.run.radios
+    radio_sizes = let all = sym (logs_opened h.run) ∙ ap count_logs opened ∙ logs_opened p.run in let lists = list_sizes in omega (arith, all, lists)
 
     opened_logs : (map (λ (r : LogRun). OfLog r.opened) h.run.radios ≡ map (λ (r : LogRun). OfLog r.opened) p.run.radios) × (list_opened h.run ++ links_opened h.run ≡ list_opened p.run ++ links_opened p.run)
     opened_logs = split_at _ _ _ _ (length-map h.run.radios (λ (r : LogRun). OfLog r.opened) ∙ radio_sizes ∙ sym (length-map p.run.radios (λ (r : LogRun). OfLog r.opened))) opened

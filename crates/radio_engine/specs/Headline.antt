@@ -1,7 +1,7 @@
 -- The headline: what a station that was served has done. Whatever way its threads interleave, its journal holds, for each feed in order,
--- exactly the entries that its code plan, its polling rules or the rows of its leap second file give for its own input; and each datagram sent on a serving link is the reply
--- (RFC 5905) to one received there, made from the page of a beginning of that journal, never a shorter one than that link used before, or
--- the kiss code that its sender gets, and authentic exactly where the one received is.
+-- exactly the entries that its code plan, its polling rules or the rows of its leap second file give for its own input; and each datagram
+-- sent on a serving link is the reply (RFC 5905) to one received there, made from the page of a beginning of that journal, never a shorter
+-- one than that link used before, or the kiss code that its sender gets, and authentic exactly where the one received is.
 -- Six records say it, and `IsServed` at the end has all of them.
 use Rattle.std.specs.Prelude.{◌≡◌, ◌≢◌, ◌⊎◌, ℕ, suc, ◌*◌, ◌<◌, ◌≤◌, min, nat_lt, Bool, Option, None, Some, IfSome, is_some, List, [], ◌∷◌, ◌++◌, All, length, slice_get, codes, decimal, if◌then◌else◌}
 use Rattle.std.specs.List.{flat_map, sum_by}

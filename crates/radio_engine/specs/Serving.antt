@@ -114,7 +114,8 @@ pub record IsGoodLink (opened back : LinkState) (events : List NetEvent) : Type 
   pub no_fault : Rose opened.faults back.faults → ⊥
 
 -- A station and all that it opens were opened and given back, told their contents, and have no fault; and no more entries are due than its
--- journal may have
+-- journal may have. From outside a leap second file looks like a log, and the link of a server like one that serves: `each_list` and
+-- `each_server` say which is which, as the station file has it
 pub record HasGoodStation (name : List ℕ) (limit : ℕ) (outside outside_now : OutsideState) : Type 0 where
   pub before : List Opening
   pub opened : SourceState
@@ -127,7 +128,6 @@ pub record HasGoodStation (name : List ℕ) (limit : ℕ) (outside outside_now :
   pub most : length is_station.text ≤ most_of_a_station
   pub no_fault : Rose opened.faults back.faults → ⊥
   pub run : StationRun
-  pub each_log : length run.radios ≡ length of.radios
   pub each_list : is_some run.leap ≡ is_some of.leap_file
   pub each_server : length run.servers ≡ length of.servers
   pub opened_are : map (λ visit. visit.opened) visits ≡ opened_in run

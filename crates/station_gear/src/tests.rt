@@ -33,24 +33,6 @@ port = 5123
 port = 5001
 "#;
 
-// The same with a leap second file.
-const LISTED: &str = r#"start = 7000
-leap_file = "leap"
-[[radio]]
-plan = "dcf"
-log = "b.log"
-[[radio]]
-plan = "msf"
-log = "a.log"
-[[server]]
-address = "127.0.0.1"
-port = 4123
-[[link]]
-port = 5123
-[[link]]
-port = 5001
-"#;
-
 const ALL: &str =
     "log own; back log; log b.log; log a.log; link 0 @7000; link 5123 @7000; link 5001 @7000; \
 back log; back log; back link; back link; back link; ";
@@ -231,6 +213,13 @@ fn visit<O: Outside>(
     Ok(visit_gear(outside, station, gear, seen))
 }
 
+// The text of the station with a leap second file.
+fn listed(alloc: Global) -> Result<String, Fail> {
+    let mut text = String::from_str(alloc, "leap_file = \"leap\"\n")?;
+    text.push_str(STATION)?;
+    Ok(text)
+}
+
 // How many events the links of an outside tell, where they stand in their places.
 fn counts(outside: &Noting) -> [Option<usize>; 3] {
     [count(outside, 0), count(outside, 1), count(outside, 2)]
@@ -298,7 +287,8 @@ fn it_stops_at_the_first_that_fails(rt: HostRuntime) -> Result<(), Fail> {
 
 #[test]
 fn a_leap_second_file_is_opened_behind_the_logs(rt: HostRuntime) -> Result<(), Fail> {
-    let visited = visit_station(rt.alloc(), LISTED, "b.log", 0)?;
+    let text = listed(rt.alloc())?;
+    let visited = visit_station(rt.alloc(), text.as_str(), "b.log", 0)?;
     assert_eq!(rt; visited.answer, Ok(()));
     assert_eq!(rt; visited.calls.as_str(), ALL_LISTED);
     assert_eq!(rt; visited.seen.as_str(), "66 65 76 31 32 33 ");
@@ -314,8 +304,9 @@ fn it_stops_at_the_first_that_fails_with_a_leap_second_file(rt: HostRuntime) -> 
         (5, Missing::Feed(2), "66 65 76 "),
         (6, Missing::Link(0), "66 65 76 31 "),
     ];
+    let text = listed(rt.alloc())?;
     for (failing, missing, seen) in table {
-        let visited = visit_station(rt.alloc(), LISTED, "b.log", failing)?;
+        let visited = visit_station(rt.alloc(), text.as_str(), "b.log", failing)?;
         assert_eq!(rt; visited.answer, Err(missing));
         assert_eq!(rt; visited.seen.as_str(), seen);
     }

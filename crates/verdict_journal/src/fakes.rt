@@ -96,7 +96,7 @@ pub struct Seen {
 }
 
 /// Takes note of a reading.
-pub fn note(seen: &mut Seen, page: Page) {
+fn note(seen: &mut Seen, page: Page) {
     if let Some(last) = seen.pages.last() {
         if page.length == last.length {
             if page != *last {
