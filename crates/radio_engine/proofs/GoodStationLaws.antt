@@ -1,5 +1,5 @@
 -- A station without a fault is served to the end.
-use Rattle.std.proofs.Common.{◌≡◌, ℕ, suc, ◌≤◌, ◌⊎◌, inl, inr, Bool, true, false, Option, Some, None, List, [], ◌∷◌, ◌++◌, drop, length, map, refl, sym, ap, ◌∙◌, subst, arith, length-append, append_assoc}
+use Rattle.std.proofs.Common.{◌≡◌, ℕ, suc, ◌+◌, ◌≤◌, ◌⊎◌, inl, inr, Bool, true, false, Option, Some, None, List, [], ◌∷◌, ◌++◌, drop, length, map, refl, sym, ap, ◌∙◌, subst, arith, length-append, append_assoc}
 use Rattle.std.specs.Prelude.{All, IfSome, get_or, is_some, nat_lt, slice_get}
 use Rattle.std.specs.List.{sum_by}
 use Rattle.std.specs.Option.{option_to_list}
@@ -107,14 +107,14 @@ split_at (a ∷ front) back (c ∷ other_front) other_back n e =
     (ap (λ x. x ∷ front) one ∙ ap (λ l. c ∷ l) rest.0, rest.1)
 
 -- how many logs are among them
-count_logs : List State → ℕ
+abbrev count_logs : List State → ℕ
 count_logs [] = 0
 count_logs (OfLog s ∷ ss) = suc (count_logs ss)
 count_logs (OfLink s ∷ ss) = count_logs ss
 
 count_of_logs : {X : Type 0} (f : X → SourceState) (xs : List X) (ss : List State) → count_logs (map (λ x. OfLog (f x)) xs ++ ss) ≡ length xs + count_logs ss
-count_of_logs f [] ss = refl
-count_of_logs f (x ∷ xs) ss = ap suc (count_of_logs f xs ss)
+count_of_logs f [] ss = omega arith
+count_of_logs f (x ∷ xs) ss = let rest = count_of_logs f xs ss in omega (arith, rest)
 
 count_of_links : {Y : Type 0} (f : Y → LinkState) (ys : List Y) (ss : List State) → count_logs (map (λ y. OfLink (f y)) ys ++ ss) ≡ count_logs ss
 count_of_links f [] ss = refl
@@ -124,11 +124,17 @@ no_log_of_links : {Y : Type 0} (f : Y → LinkState) (ys : List Y) → count_log
 no_log_of_links f [] = refl
 no_log_of_links f (y ∷ ys) = no_log_of_links f ys
 
+abbrev list_opened : StationRun → List State
+list_opened run = map (λ (r : LeapRun). OfLog r.opened) (option_to_list run.leap)
+
+abbrev links_opened : StationRun → List State
+links_opened run = map (λ (r : PollRun). OfLink r.opened) run.servers ++ map (λ (r : LinkRun). OfLink r.opened) run.links
+
 logs_opened : (run : StationRun) → count_logs (opened_in run) ≡ length run.radios + length (option_to_list run.leap)
 logs_opened run =
-    let links = count_of_links (λ (r : PollRun). r.opened) run.servers _ ∙ no_log_of_links (λ (r : LinkRun). r.opened) run.links in
-    let list = count_of_logs (λ (r : LeapRun). r.opened) (option_to_list run.leap) _ in
-    let logs = count_of_logs (λ (r : LogRun). r.opened) run.radios _ in
+    let links : count_logs (links_opened run) ≡ 0 = count_of_links (λ (r : PollRun). r.opened) run.servers (map (λ (r : LinkRun). OfLink r.opened) run.links) ∙ no_log_of_links (λ (r : LinkRun). r.opened) run.links in
+    let list : count_logs (list_opened run ++ links_opened run) ≡ length (option_to_list run.leap) + count_logs (links_opened run) = count_of_logs (λ (r : LeapRun). r.opened) (option_to_list run.leap) (links_opened run) in
+    let logs : count_logs (opened_in run) ≡ length run.radios + count_logs (list_opened run ++ links_opened run) = count_of_logs (λ (r : LogRun). r.opened) run.radios (list_opened run ++ links_opened run) in
     omega (arith, links, list, logs)
 
 -- ---- each is whole
@@ -310,14 +316,8 @@ module _ (of : StationFields) (opened back : SourceState) (station : IsStation o
 
 -- ---- all of it
 
-abbrev list_opened : StationRun → List State
-list_opened run = map (λ (r : LeapRun). OfLog r.opened) (option_to_list run.leap)
-
 abbrev list_back : StationRun → List State
 list_back run = map (λ (r : LeapRun). OfLog r.back) (option_to_list run.leap)
-
-abbrev links_opened : StationRun → List State
-links_opened run = map (λ (r : PollRun). OfLink r.opened) run.servers ++ map (λ (r : LinkRun). OfLink r.opened) run.links
 
 abbrev links_back : StationRun → List State
 links_back run = map (λ (r : PollRun). OfLink r.back) run.servers ++ map (λ (r : LinkRun). OfLink r.back) run.links
