@@ -8,7 +8,6 @@ ghost use Rattle.clock_filter.specs.Ready as ready;
 use crate::Figures;
 use crate::distances::{TOO_FAR, half_of_delay};
 use std::marker::Model;
-use std::num::{nearest_u64_to_f64, saturating_f64_to_u64};
 use tick_units::{Local, Span, isqrt, phi};
 
 /// What the samples of a source say, with all that doesn't age of its distance worked out once. Contracts see it as the figures.
@@ -42,33 +41,8 @@ impl Model for Ready {
 // The most that a delay or a dispersion is of lawful samples, and more.
 const LONGEST: u128 = 1 << 68;
 
-// Whether a number is the square root of another, rounded down.
-#[tactic(auto, using(tick_units::proofs::RootLaws::root_from))]
-fn is_root(value: u64, number: u64) -> bool
-    ensures { result ≡ true → number ≡ root value }
-{
-    if number >= 1 << 32 {
-        return false;
-    }
-    let square = number * number;
-    square <= value && value - square <= 2 * number
-}
-
-// The square root of a number of 64 bits, rounded down. That of the number as a float is it but for numbers of more than 52 bits,
-// of a few of which it may not be; so it is looked at first.
-#[tactic(auto, using(tick_units::proofs::RootLaws::root_from))]
-fn root_of(value: u64) -> u64
-    ensures { result ≡ root value }
-{
-    let near = saturating_f64_to_u64(nearest_u64_to_f64(value).sqrt());
-    if is_root(value, near) {
-        near
-    } else {
-        value.isqrt()
-    }
-}
-
-// The square root, rounded down. Of one sample alone there is no jitter, and one below 1 s is a number of 64 bits.
+// The square root, rounded down. Of one sample alone there is no jitter, and one below 1 s is a number of 64 bits, whose root
+// takes half of the steps.
 #[tactic(auto, using(tick_units::proofs::RootLaws::root_from))]
 fn jitter_of(jitter2: u128) -> u64
     ensures { result ≡ root jitter2 }
@@ -76,7 +50,7 @@ fn jitter_of(jitter2: u128) -> u64
     if jitter2 == 0 {
         0
     } else if jitter2 < 1 << 64 {
-        root_of(jitter2 as u64)
+        (jitter2 as u64).isqrt()
     } else {
         isqrt(jitter2)
     }
