@@ -1,7 +1,8 @@
 #!/bin/sh
 # What a judgement of the gate of clients costs: instructions, counted by callgrind, of a small program that judges a request of each
-# sender of a list, no two alike, with a table of so many clients; once with senders that are spread, once with some that were made to
-# fall into one place of the table. A run of fewer judgements is taken off, so that what comes before falls out. With a full table of
+# sender of a list with a table of so many clients: of senders that are spread, no two alike; of some that were made to fall into one
+# place of the table; and of senders that ask by turns, so that each is known, which pass, or come too soon. A run of fewer judgements
+# is taken off, so that what comes before falls out. With a full table of
 # the most clients those that fall into one place take too long for callgrind, and are timed; that takes a minute and a half of processor time. The
 # program is built in a temporary folder over copies of the crates, which proves them first (some minutes where nothing is kept). Needs
 # rt, valgrind, gcc, python3.
@@ -47,23 +48,23 @@ fn judge_all(gate: &mut ClientGate, senders: &[u8], count: usize) -> u64 {
 }
 
 fn main(rt: HostRuntime) -> io::Result<()> {
-    let mut numbers = [0u64; 2];
+    let mut numbers = [0u64; 3];
     let mut place = 0;
     for word in env::args(&rt)?.skip(1) {
         if let Ok(n) = word.as_str().parse::<u64>() {
-            if place < 2 {
+            if place < 3 {
                 numbers[place] = n;
                 place += 1;
             }
         }
     }
-    let [clients, count] = numbers;
+    let [clients, count, gap] = numbers;
     let clients = match u32::try_from(clients) {
         Ok(clients) => clients.clamp(1, 65_536),
         Err(_) => 1,
     };
     let senders = fs::read(&rt, "senders")?;
-    let Ok(mut gate) = ClientGate::open(rt.alloc(), &DenyList::new(), 60_000_000, clients) else {
+    let Ok(mut gate) = ClientGate::open(rt.alloc(), &DenyList::new(), gap.min(60_000_000), clients) else {
         return Ok(());
     };
     let passed = judge_all(&mut gate, senders.as_slice(), count as usize);
@@ -95,20 +96,29 @@ int main(int argc, char **argv) {
 }
 C
 gcc -O2 -o "$work/find" "$work/find.c"
-(cd "$work/crates/gate_loop" && rt check > "$work/check.log" 2>&1 && : > senders && rt run -- 0 0 > "$work/run.log" 2>&1) || { tail -5 "$work/check.log" "$work/run.log"; exit 1; }
+(cd "$work/crates/gate_loop" && rt check > "$work/check.log" 2>&1 && : > senders && rt run -- 0 0 0 > "$work/run.log" 2>&1) || { tail -5 "$work/check.log" "$work/run.log"; exit 1; }
 program=$work/crates/gate_loop/out/gate_loop
-mkdir "$work/spread" "$work/place" "$work/most"
+mkdir "$work/spread" "$work/place" "$work/most" "$work/known" "$work/soon"
 python3 -c '
 import random, struct, sys
 random.seed(1)
 sys.stdout.buffer.write(struct.pack("<110000I", *random.sample(range(1, 2 ** 32), 110000)))' > "$work/spread/senders"
+python3 -c '
+import random, struct, sys
+random.seed(2)
+sys.stdout.buffer.write(struct.pack("<1024I", *random.sample(range(1, 2 ** 32), 1024)) * 12)' > "$work/known/senders"
+cp "$work/known/senders" "$work/soon/senders"
 "$work/find" 128 1 8000 > "$work/place/senders"
 "$work/find" 8192 64 80000 > "$work/most/senders"
 
-# The instructions of a run over so many senders of a list; each of them is new, and passes.
+# The instructions of a run over so many senders of a list with a gap. Each of them is new and passes, or is known and asks a thousand
+# microseconds later: with a gap of one microsecond it passes, with one of a minute only the first 1024 do.
 instructions() {
-    (cd "$work/$1" && valgrind --tool=callgrind --callgrind-out-file=/dev/null "$program" "$2" "$3" 2> "$work/err" > "$work/passed")
-    [ "$(cat "$work/passed")" = "$3" ] || { echo "passed $(cat "$work/passed") of $3" >&2; exit 1; }
+    gap=60000000
+    passes=$3
+    if [ "$1" = known ]; then gap=1; elif [ "$1" = soon ]; then passes=1024; fi
+    (cd "$work/$1" && valgrind --tool=callgrind --callgrind-out-file=/dev/null "$program" "$2" "$3" "$gap" 2> "$work/err" > "$work/passed")
+    [ "$(cat "$work/passed")" = "$passes" ] || { echo "passed $(cat "$work/passed") of $3" >&2; exit 1; }
     sed -n 's/.*Collected : //p' "$work/err"
 }
 
@@ -121,13 +131,15 @@ judgement() {
 judgement spread 1 5000 15000
 judgement spread 1024 5000 15000
 judgement spread 65536 80000 100000
+judgement known 1024 2000 12000
+judgement soon 1024 2000 12000
 judgement place 256 3000 5000
 judgement place 1024 3000 5000
 (cd "$work/most" && python3 - "$program" <<'PYTHON'
 import os, subprocess, sys
 def seconds(count):
     before = os.times()
-    subprocess.run([sys.argv[1], '65536', str(count)], check=True, stdout=subprocess.DEVNULL)
+    subprocess.run([sys.argv[1], '65536', str(count), '60000000'], check=True, stdout=subprocess.DEVNULL)
     return os.times().children_user - before.children_user
 few, more = seconds(66000), seconds(72000)
 print(f'most, 65536 clients: {(more - few) / 6000 * 1e3:.2f} ms of processor time a judgement')

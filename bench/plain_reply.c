@@ -19,16 +19,28 @@ static int64_t slew(int64_t rate, uint64_t us) {
 /* 15 parts per million of it, rounded up. */
 static uint64_t phi(uint64_t us) { return us / 48828125 * (3 << 20) + (us % 48828125 * (3 << 20) + 48828124) / 48828125; }
 
+/* Whether the words of a page that isn't synchronised say nothing more. */
+static int is_blank(const uint64_t *w) {
+    return w[1] == 0x494e4954 && w[5] == 0x00100000 && !(w[2] | w[4] | w[6] | w[7] | w[8] | w[9]);
+}
+
+/* Whether a second lies 1 to 86400 s behind that of a span, whose high word has the carry of the sum. */
+static int is_near(__int128 since, uint64_t leap_at) {
+    int64_t second = (int64_t)(since >> 32);
+    return second < (__int128)leap_at && leap_at <= (__int128)second + 86400;
+}
+
 __attribute__((noinline)) static int one_reply(const uint64_t *w, const uint8_t *in, size_t length, uint64_t at, uint8_t *out) {
     int64_t rate = (int64_t)w[9];
     if (rate < -2147483 || rate > 2147483 || w[8] >= 64 || w[3] >= 1ull << 50 || w[1] >> 41) return 0;
+    if (!(w[1] >> 40) && !is_blank(w)) return 0;
     if (length < 48) return 0;
     int version = in[0] >> 3 & 7;
     if (version == 0 || version > 4 || (in[0] & 7) != 3) return 0;
     int good = w[1] >> 40 && at < w[4];
-    uint64_t time = w[2] + span(at) + (at > w[3] ? slew(rate, at - w[3]) : 0);
-    uint64_t second = (w[8] << 32) + (time >> 32) + 0;
-    int leap = good ? second < w[7] && w[7] <= second + 86400 : 3;
+    int64_t grown = at > w[3] ? slew(rate, at - w[3]) : 0;
+    uint64_t time = w[2] + span(at) + grown;
+    int leap = good ? w[7] && is_near(((__int128)w[8] << 64) + w[2] + span(at) + grown, w[7]) : 3;
     out[0] = leap << 6 | version << 3 | 4;
     out[1] = good ? w[1] >> 32 : 0;
     out[2] = in[2];

@@ -1,31 +1,35 @@
 //! The clock filter of a source: its last eight samples.
-ghost use Rattle.std.specs.Prelude.{◌≡◌, ◌≤◌, ◌^◌, List, [], ◌∷◌, ◌++◌, length, IfSome};
+ghost use Rattle.std.specs.Prelude.{◌≡◌, ◌≤◌, ◌^◌, List, [], ◌∷◌, ◌++◌, length, filter, nat_le, IfSome};
+ghost use Rattle.tick_units.specs.Orders.{in_order};
 ghost use Rattle.clock_filter.specs.Bounds.{AreLawful, IsMeasured, IsTimely};
 ghost use Rattle.clock_filter.specs.Figures as figures;
-ghost use Rattle.clock_filter.specs.Held.{StandsFor, held};
+ghost use Rattle.clock_filter.specs.Held.{StandsFor, held, may_precede};
 ghost use Rattle.clock_filter.specs.Known.{IsKnown};
 ghost use Rattle.clock_filter.specs.declared.taken.Taken.{Taken};
 
 use crate::Taken;
 use crate::figures::{Figures, figures_by};
-use crate::held::held_of;
+use crate::held::{add_last, held_of, make_room};
 use crate::rate::rate_of;
 use crate::ready::Ready;
 use arrayvec::ArrayVec;
 use std::marker::Model;
 use tick_units::{Local, Sample};
 
-/// The clock filter of a source: its last eight samples, which stand for all that were added, and what they say from a cut on,
-/// which is worked out once. Contracts see it as the list of the samples.
+/// The clock filter of a source: its last eight samples, which stand for all that were added, those of them from a cut on in the
+/// order of their delays, and what these say, which is worked out once. Contracts see it as the list of the samples.
 #[derive(Drop)]
 pub struct Filter {
     last: ArrayVec<Taken, 8>,
     cut: u64,
+    held: ArrayVec<Taken, 8>,
     known: Option<Ready>,
 }
 
 impl Model for Filter {
-    ghost use Rattle.std.specs.Prelude.{List};
+    ghost use Rattle.std.specs.Prelude.{◌≡◌, List, filter, nat_le};
+    ghost use Rattle.tick_units.specs.Orders.{in_order};
+    ghost use Rattle.clock_filter.specs.Held.{may_precede};
     ghost use Rattle.clock_filter.specs.Known.{IsKnown};
     ghost use Rattle.clock_filter.specs.declared.taken.Taken.{Taken};
 
@@ -33,7 +37,17 @@ impl Model for Filter {
 
     ghost view = { λ f. f.last.items };
 
-    ghost invariant = { λ f. IsKnown f.cut f.last.items f.known };
+    ghost invariant = { λ f. IsKnown f.cut f.last.items f.known × (f.held.items ≡ in_order may_precede (filter (λ x. nat_le f.cut x.at) f.last.items)) };
+}
+
+// What the last samples of a source say from a cut on, where those from it on are in order.
+fn figures_in_order(cut: u64, last: &[Taken], held: &[Taken]) -> Option<Ready>
+    requires few { length held.now ≤ 8 }
+    requires held { held.now ≡ in_order may_precede (filter (λ x. nat_le cut x.at) last.now) }
+    ensures { IsKnown cut last.now result }
+{
+    let figures = figures_by(rate_of(last, cut), held)?;
+    Some(Ready::of(figures))
 }
 
 // What the last samples of a source say from a cut on.
@@ -41,9 +55,7 @@ fn figures_from(cut: u64, last: &[Taken]) -> Option<Ready>
     requires { length last.now ≤ 8 }
     ensures { IsKnown cut last.now result }
 {
-    let held = held_of(last, cut);
-    let figures = figures_by(rate_of(last, cut), held.as_slice())?;
-    Some(Ready::of(figures))
+    figures_in_order(cut, last, held_of(last, cut).as_slice())
 }
 
 impl Filter {
@@ -54,6 +66,7 @@ impl Filter {
         Filter {
             last: ArrayVec::new(),
             cut: 0,
+            held: ArrayVec::new(),
             known: None,
         }
     }
@@ -63,11 +76,10 @@ impl Filter {
         ensures { (samples : List Taken) → StandsFor self.old samples →
             StandsFor self.new (samples ++ (record { at = at; sample = s }) ∷ []) }
     {
-        if self.last.is_full() {
-            self.last.remove(0);
-        }
-        self.last.push(Taken { at, sample: s });
-        self.known = figures_from(self.cut, self.last.as_slice());
+        let taken = Taken { at, sample: s };
+        make_room(&mut self.last, &mut self.held, self.cut);
+        add_last(&mut self.last, &mut self.held, &taken, self.cut);
+        self.known = figures_in_order(self.cut, self.last.as_slice(), self.held.as_slice());
     }
 
     /// Works out what the samples say from this cut on, in microseconds of the host's counter, so that `figures` has it ready.
@@ -75,7 +87,8 @@ impl Filter {
         ensures { self.new ≡ self.old }
     {
         if cut != self.cut {
-            self.known = figures_from(cut, self.last.as_slice());
+            self.held = held_of(self.last.as_slice(), cut);
+            self.known = figures_in_order(cut, self.last.as_slice(), self.held.as_slice());
             self.cut = cut;
         }
     }

@@ -5,6 +5,7 @@
 mod distances;
 mod figures;
 mod filter;
+mod halves;
 mod held;
 mod rate;
 mod ready;

@@ -1,5 +1,5 @@
 -- A page and its words: which page it is follows from the words.
-use Rattle.std.proofs.Common.{◌≡◌, ℕ, ◌+◌, ◌-◌, ◌*◌, ◌/◌, ◌%◌, ◌^◌, ◌<◌, ◌≤◌, Bool, true, false, List, slice_index, ℤ, pos, negsuc, ◌≤ℤ◌, ◌<ℤ◌, refl, sym, ap, ◌∙◌, arith, subst, unsigned_abs}
+use Rattle.std.proofs.Common.{◌≡◌, ℕ, ◌+◌, ◌-◌, ◌*◌, ◌/◌, ◌%◌, ◌^◌, ◌<◌, ◌≤◌, Bool, true, false, List, [], ◌∷◌, length, slice_index, ℤ, pos, negsuc, ◌≤ℤ◌, ◌<ℤ◌, refl, sym, ap, ◌∙◌, arith, subst, unsigned_abs}
 use Rattle.std.specs.Int.{from_bool}
 use Rattle.std.proofs.lemmas.Int.{ints}
 use Rattle.tick_units.specs.Units.{floor_div}
@@ -64,6 +64,19 @@ one_rate (negsuc a) (negsuc b) g h same = let least = g.least in let least_too =
 
 pub rate-is : (w : List ℕ) (p : PageFields) (rate : ℤ) → AreWords w p → IsRate rate → slice_index w 9 ≡ word_of rate → rate ≡ p.rate
 rate-is w p rate h bounded is = one_rate rate p.rate bounded h.page.sound.rate (sym is ∙ sym (each_word w p h).rate)
+
+-- whether it is synchronised, and its stratum, in the half of a word
+bit-small : (b : Bool) → from_bool b ≤ 1
+bit-small true = omega arith
+bit-small false = omega arith
+
+pub state-below : (w : List ℕ) (p : PageFields) → AreWords w p → slice_index w 1 / 2 ^ 32 < 512
+state-below w p h =
+    let e = each_word w p h in
+    let bit = bit-small p.sync in
+    let stratum = h.page.stratum in
+    let refid = h.page.refid in
+    omega arith
 
 -- the words of a page that isn't synchronised
 state-unsynced : (w : List ℕ) (p : PageFields) → AreWords w p → p.sync ≡ false → slice_index w 1 / 2 ^ 32 < 256
@@ -134,3 +147,64 @@ synced-page w p h many = by_bit p.sync refl
           leap_at = e.leap_at i;
           rate = p.rate;
         }
+
+-- ten words one by one
+ten : (w : List ℕ) → length w ≡ 10 → w ≡ slice_index w 0 ∷ slice_index w 1 ∷ slice_index w 2 ∷ slice_index w 3 ∷ slice_index w 4 ∷ slice_index w 5 ∷ slice_index w 6 ∷ slice_index w 7 ∷ slice_index w 8 ∷ slice_index w 9 ∷ []
+ten [] long = absurd (omega arith)
+ten (a ∷ []) long = absurd (omega arith)
+ten (a ∷ b ∷ []) long = absurd (omega arith)
+ten (a ∷ b ∷ c ∷ []) long = absurd (omega arith)
+ten (a ∷ b ∷ c ∷ d ∷ []) long = absurd (omega arith)
+ten (a ∷ b ∷ c ∷ d ∷ e ∷ []) long = absurd (omega arith)
+ten (a ∷ b ∷ c ∷ d ∷ e ∷ f ∷ []) long = absurd (omega arith)
+ten (a ∷ b ∷ c ∷ d ∷ e ∷ f ∷ g ∷ []) long = absurd (omega arith)
+ten (a ∷ b ∷ c ∷ d ∷ e ∷ f ∷ g ∷ h ∷ []) long = absurd (omega arith)
+ten (a ∷ b ∷ c ∷ d ∷ e ∷ f ∷ g ∷ h ∷ i ∷ []) long = absurd (omega arith)
+ten (a ∷ b ∷ c ∷ d ∷ e ∷ f ∷ g ∷ h ∷ i ∷ j ∷ []) long = refl
+ten (a ∷ b ∷ c ∷ d ∷ e ∷ f ∷ g ∷ h ∷ i ∷ j ∷ k ∷ more) long = absurd (omega arith)
+
+-- ten words in which each number is within its range
+pub record AreInRange (w : List ℕ) (rate : ℤ) : Type 0 where
+  pub long : length w ≡ 10
+  pub entries : slice_index w 0 < 2 ^ 64
+  pub synced : 256 ≤ slice_index w 1 / 2 ^ 32
+  pub stratum : slice_index w 1 / 2 ^ 32 < 512
+  pub low : slice_index w 2 < 2 ^ 64
+  pub anchor : slice_index w 3 < 2 ^ 50
+  pub until : slice_index w 4 < 2 ^ 64
+  pub root_delay : slice_index w 5 / 2 ^ 32 < 2 ^ 32
+  pub reftime : slice_index w 6 < 2 ^ 64
+  pub leap_at : slice_index w 7 < 2 ^ 64
+  pub high : slice_index w 8 < 64
+  pub bound : IsRate rate
+  pub slewed : slice_index w 9 ≡ word_of rate
+
+-- they are those of the page that they spell
+pub spelled-are_words : (w : List ℕ) (rate : ℤ) → AreInRange w rate → AreWords w (spelled w rate)
+unfolding words
+spelled-are_words w rate r =
+    let synced = r.synced in
+    let stratum = r.stratum in
+    let low = r.low in
+    let high = r.high in
+    let state : slice_index w 1 ≡ 1 * 2 ^ 40 + slice_index w 1 / 2 ^ 32 % 256 * 2 ^ 32 + slice_index w 1 % 2 ^ 32 = omega arith in
+    let low_word : slice_index w 2 ≡ (slice_index w 8 * 2 ^ 64 + slice_index w 2) % 2 ^ 64 = omega arith in
+    let high_half : slice_index w 8 ≡ (slice_index w 8 * 2 ^ 64 + slice_index w 2) / 2 ^ 64 = omega arith in
+    let root : slice_index w 5 ≡ slice_index w 5 / 2 ^ 32 * 2 ^ 32 + slice_index w 5 % 2 ^ 32 = omega arith in
+    let few : slice_index w 8 * 2 ^ 64 + slice_index w 2 < 2 ^ 70 = omega arith in
+    record {
+      page = record {
+        sound = record { offset = omega (arith, ints); rate = r.bound; unsynchronised = λ off. absurd (let never : true ≡ false = off in cc) };
+        length = r.entries;
+        stratum = omega arith;
+        refid = omega arith;
+        offset = omega (arith, ints);
+        anchor = r.anchor;
+        until = r.until;
+        root_delay = r.root_delay;
+        root_disp = omega arith;
+        reftime = r.reftime;
+        leap_at = r.leap_at;
+      };
+      words = ten w r.long ∙ (λ i. slice_index w 0 ∷ state i ∷ low_word i ∷ slice_index w 3 ∷ slice_index w 4 ∷ root i ∷ slice_index w 6 ∷ slice_index w 7 ∷ high_half i ∷ r.slewed i ∷ []);
+    }

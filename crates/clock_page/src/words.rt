@@ -1,5 +1,5 @@
 //! The ten words of a page, and the page of ten words.
-ghost use Rattle.std.specs.Prelude.{◌≡◌, ◌+◌, ◌*◌, ◌-◌, ◌/◌, ◌%◌, ◌^◌, ◌<◌, ◌≤◌, pos, IfSome, IfNone};
+ghost use Rattle.std.specs.Prelude.{◌≡◌, ◌+◌, ◌*◌, ◌-◌, ◌/◌, ◌%◌, ◌^◌, ◌<◌, ◌≤◌, pos, IfSome, IfNone, Some, slice_index};
 ghost use Rattle.std.specs.Int.{from_bool};
 ghost use Rattle.clock_page.specs.Page as pages;
 ghost use Rattle.clock_page.specs.Page.{AreWords, IsPage, IsRate, PageFields, words};
@@ -36,7 +36,8 @@ fn state(sync: bool, stratum: u8) -> u32
 
 // The high and the low half of a word.
 fn high(word: u64) -> u32
-    ensures { result ≡ word / 2 ^ 32 }
+    ensures value { result ≡ word / 2 ^ 32 }
+    ensures fits { result < 2 ^ 32 }
 {
     (word >> 32) as u32
 }
@@ -51,6 +52,8 @@ fn low(word: u64) -> u32
 fn offset_of(high: u64, low: u64) -> Option<Span>
     ensures some { IfSome result (λ s. s ≡ pos (high * 2 ^ 64 + low)) }
     ensures none { IfNone result (64 ≤ high) }
+    ensures high { IfSome result (λ _. high < 64) }
+    ensures low { low < 2 ^ 64 }
 {
     if high >= 64 {
         return None;
@@ -83,29 +86,58 @@ fn rate_of(word: u64) -> Option<i32>
     }
 }
 
-// The one page whose words these can be.
-fn candidate(w: &[u64; 10]) -> Option<Page>
-    ensures { (p : PageFields) → AreWords w.now p → result ≡ Some p }
+// The one page that isn't synchronised whose words these can be.
+fn blank(w: &[u64; 10], anchor: Local) -> Page
+    requires anchor { anchor ≡ slice_index w.now 3 }
+    requires state { slice_index w.now 1 / 2 ^ 32 < 256 }
+    ensures { (p : PageFields) → AreWords w.now p → result ≡ p }
 {
-    let anchor = Local::new(w[3])?;
+    Page::unsynchronised(w[0], anchor)
+}
+
+// The page whose words these are, where it isn't synchronised.
+fn unsynced(w: &[u64; 10], anchor: Local) -> Option<Page>
+    requires anchor { anchor ≡ slice_index w.now 3 }
+    requires state { slice_index w.now 1 / 2 ^ 32 < 256 }
+    ensures page { IfSome result (AreWords w.now) }
+    ensures every { (p : PageFields) → AreWords w.now p → result ≡ Some p }
+{
+    let page = blank(w, anchor);
+    if page.to_words() == *w {
+        Some(page)
+    } else {
+        None
+    }
+}
+
+// What `state` gives is less.
+const STATES: u32 = 512;
+
+// The page whose words these are, where it is synchronised.
+fn synced(w: &[u64; 10], anchor: Local) -> Option<Page>
+    requires anchor { anchor ≡ slice_index w.now 3 }
+    requires state { 256 ≤ slice_index w.now 1 / 2 ^ 32 }
+    ensures page { IfSome result (AreWords w.now) }
+    ensures every { (p : PageFields) → AreWords w.now p → result ≡ Some p }
+{
     let state = high(w[1]);
-    if state < 256 {
-        return Some(Page::unsynchronised(w[0], anchor));
+    if state >= STATES {
+        return None;
     }
     let offset = offset_of(w[8], w[2])?;
     let rate = rate_of(w[9])?;
     Some(Page {
-        length: w[0],
+        length: whole(w[0]),
         sync: true,
         stratum: (state % 256) as u8,
         refid: low(w[1]),
         offset,
         anchor,
-        until: w[4],
+        until: whole(w[4]),
         root_delay: Short(high(w[5])),
         root_disp: Short(low(w[5])),
-        reftime: Stamp(w[6]),
-        leap_at: w[7],
+        reftime: Stamp(whole(w[6])),
+        leap_at: whole(w[7]),
         rate,
     })
 }
@@ -136,11 +168,11 @@ impl Page {
         ensures page { IfSome result (AreWords w) }
         ensures every { (p : PageFields) → AreWords w p → result ≡ Some p }
     {
-        let page = candidate(&w)?;
-        if page.to_words() == w {
-            Some(page)
+        let anchor = Local::new(w[3])?;
+        if high(w[1]) < 256 {
+            unsynced(&w, anchor)
         } else {
-            None
+            synced(&w, anchor)
         }
     }
 }

@@ -10,7 +10,7 @@ use Rattle.kiss_gate.specs.Nets.{is_denied}
 use Rattle.kiss_gate.specs.Gates.{Gate, with_table}
 use Rattle.kiss_gate.specs.Clients.{code_by, code_of, in_front, table_after}
 use Rattle.kiss_gate.specs.Histories.{Request, gate_after, senders, only, code_alone}
-use Rattle.kiss_gate.proofs.TableLaws.{Table}
+use Rattle.kiss_gate.proofs.TableLaws.{Table, one_left}
 
 -- the moment that a client has after a request, by the one that it had
 abbrev moment_by : Code → ℕ → ℕ → Option ℕ → Option ℕ
@@ -44,13 +44,6 @@ none_left ip [] = omega arith
 none_left ip (e ∷ es) = elim (cases_Bool (nat_eq ip e.0)) [
   | inl same ↦ rw same (omega arith)
   | inr other ↦ let rest = none_left ip es in rw other (omega arith)
-]
-
-one_left : (ip : ℕ) (es : Table) → is_some (lookup (nat_eq ip) es) ≡ true → length (remove_entry (nat_eq ip) es) + 1 ≡ length es
-one_left ip [] h = cc
-one_left ip (e ∷ es) h = elim (cases_Bool (nat_eq ip e.0)) [
-  | inl same ↦ rw same (omega arith)
-  | inr other ↦ let rest = one_left ip es (rw other at h) in rw other (omega arith)
 ]
 
 -- what a client has in the table after a request of one, if none is dropped

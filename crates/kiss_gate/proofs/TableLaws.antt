@@ -1,12 +1,15 @@
 -- What the cache of the clients does to the table, in the words of the gate.
-use Rattle.std.proofs.Common.{◌≡◌, ℕ, zero, suc, ◌+◌, ◌-◌, ◌≤◌, ◌<◌, List, [], ◌∷◌, length, take, Option, Some, None, nat_eq, refl, sym, ap, ◌∙◌, inl, inr, arith}
+use Rattle.std.proofs.Common.{◌≡◌, ℕ, zero, suc, ◌+◌, ◌-◌, ◌≤◌, ◌<◌, List, [], ◌∷◌, length, take, Option, Some, None, is_some, nat_eq, nat_lt, true, if◌then◌else◌, refl, sym, ap, ◌∙◌, inl, inr, arith}
 use Rattle.std.proofs.lemmas.Bool.{cases_Bool, eqb-true}
 use Rattle.std.proofs.lemmas.List.{take_all}
+use Rattle.std.specs.Cmp.{nat_eq_equiv}
 use Rattle.std.specs.Option.{option_map, option_map_or}
-use Rattle.std.specs.Map.{lookup, lookup_entry, remove_entry}
+use Rattle.std.specs.Map.{lookup, lookup_entry, remove_entry, set_value}
 use Rattle.lru.specs.LruCache.{LruCache, promoted, put_entries}
 use Rattle.lru.proofs.CallerLemmas.{Contains-lookup_entry}
-use Rattle.kiss_gate.specs.Clients.{in_front}
+use Rattle.reply_core.specs.declared.code.Code.{Code}
+use Rattle.reply_core.specs.declared.code.Code.TheVariants.{Pass, Rate}
+use Rattle.kiss_gate.specs.Clients.{in_front, is_soon}
 
 abbrev pub Table : Type 0
 Table = List (ℕ × ℕ)
@@ -57,3 +60,33 @@ put-by ip at (suc n) es (Some e) within some h =
 -- `put` puts it there with a new moment
 pub put-in_front : (c : LruCache ℕ ℕ) (ip at : ℕ) → length c.entries ≤ c.cap → 0 < c.cap → put_entries nat_eq c ip at ≡ take c.cap ((ip, at) ∷ remove_entry (nat_eq ip) c.entries)
 put-in_front c ip at within some = put-by ip at c.cap c.entries (lookup_entry (nat_eq ip) c.entries) within some refl
+
+pub one_left : (ip : ℕ) (es : Table) → is_some (lookup (nat_eq ip) es) ≡ true → length (remove_entry (nat_eq ip) es) + 1 ≡ length es
+one_left ip [] h = cc
+one_left ip (e ∷ es) h = elim (cases_Bool (nat_eq ip e.0)) [
+  | inl same ↦ rw same (omega arith)
+  | inr other ↦ let rest = one_left ip es (rw other at h) in rw other (omega arith)
+]
+
+-- a moment that is written through `get_mut` stands at the front
+pub set-in_front : (ip last at : ℕ) (es : Table) → Some last ≡ lookup (nat_eq ip) es → set_value (nat_eq ip) (promoted (nat_eq ip) es) at ≡ (ip, at) ∷ remove_entry (nat_eq ip) es
+set-in_front ip last at es found =
+    ap (λ l. set_value (nat_eq ip) l at) (promoted-in_front ip es ∙ ap (λ o. in_front ip o es) (sym found)) ∙ rw (nat_eq_equiv.refl ip) refl
+
+-- a known client leaves room for all others
+pub all-kept : (ip last at cap : ℕ) (es : Table) → length es ≤ cap → Some last ≡ lookup (nat_eq ip) es → (ip, at) ∷ remove_entry (nat_eq ip) es ≡ take cap ((ip, at) ∷ remove_entry (nat_eq ip) es)
+all-kept ip last at cap es within found =
+    let less = one_left ip es (ap is_some (sym found)) in sym (take_all cap ((ip, at) ∷ remove_entry (nat_eq ip) es) (omega arith))
+
+-- the moment that stays where the code is `Rate`, and the one that takes its place where it is `Pass`
+pub stays : (gap at last new : ℕ) (code : Code) → code ≡ (if is_soon gap at (Some last) then Rate else Pass) → new ≡ (if is_soon gap at (Some last) then last else at) → Some code ≡ Some Rate → new ≡ last
+stays gap at last new code is moment rate = elim (cases_Bool (nat_lt at (last + gap))) [
+  | inl soon ↦ rw soon at moment
+  | inr late ↦ (let pass = rw late at is in cc)
+]
+
+pub renews : (gap at last new : ℕ) (code : Code) → code ≡ (if is_soon gap at (Some last) then Rate else Pass) → new ≡ (if is_soon gap at (Some last) then last else at) → Some code ≡ Some Pass → new ≡ at
+renews gap at last new code is moment pass = elim (cases_Bool (nat_lt at (last + gap))) [
+  | inl soon ↦ (let rate = rw soon at is in cc)
+  | inr late ↦ rw late at moment
+]

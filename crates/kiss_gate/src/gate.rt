@@ -2,7 +2,7 @@
 ghost use Rattle.std.specs.Prelude.{◌≡◌, ◌≤◌, ◌<◌, ◌∷◌, [], List, None, IfOk, length, nat_eq, false, true};
 ghost use Rattle.std.specs.Map.{lookup};
 
-use crate::table::{bring_to_front, put_in_front};
+use crate::table::{judge_known, put_in_front};
 use crate::{DenyList, Judged};
 use lru::LruCache;
 use reply_core::Code;
@@ -41,7 +41,7 @@ impl Model for ClientGate {
 }
 
 impl ClientGate {
-    ghost use Rattle.kiss_gate.specs.Clients.{after, is_soon, IsJudged};
+    ghost use Rattle.kiss_gate.specs.Clients.{after, IsJudged};
     ghost use Rattle.kiss_gate.specs.Histories.{code_alone, gate_after, senders, Request};
     ghost use Rattle.kiss_gate.specs.Nets.{nets_of};
 
@@ -113,26 +113,12 @@ impl ClientGate {
                 kept: true,
             };
         }
-        if self.is_soon(ip, at) {
-            bring_to_front(&mut self.clients, ip);
-            return Judged {
-                code: Code::Rate,
-                kept: true,
-            };
-        }
-        Judged {
-            code: Code::Pass,
-            kept: put_in_front(&mut self.clients, ip, at),
-        }
-    }
-
-    // Whether a request comes less than the gap after the client was last let pass.
-    fn is_soon(&self, ip: u32, at: Local) -> bool
-        ensures { result ≡ is_soon self.now.gap at (lookup (nat_eq ip) self.now.table) }
-    {
-        match self.clients.peek(&ip) {
-            Some(last) => at.get() < last.get() + self.gap,
-            None => false,
+        match judge_known(&mut self.clients, ip, self.gap, at) {
+            Some(code) => Judged { code, kept: true },
+            None => Judged {
+                code: Code::Pass,
+                kept: put_in_front(&mut self.clients, ip, at),
+            },
         }
     }
 }

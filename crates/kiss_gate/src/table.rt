@@ -1,17 +1,49 @@
 //! The table of clients: an address and a moment each, the latest used first.
-ghost use Rattle.std.specs.Prelude.{◌≡◌, ◌∷◌, true, false, None, nat_eq, take};
+ghost use Rattle.std.specs.Prelude.{◌≡◌, ◌≤◌, ◌∷◌, true, false, None, Some, nat_eq, take, if◌then◌else◌};
 ghost use Rattle.std.specs.Map.{lookup, remove_entry};
+ghost use Rattle.std.specs.Option.{option_map};
 ghost use Rattle.lru.specs.LruCache.{lru_cache};
-ghost use Rattle.kiss_gate.specs.Clients.{in_front};
+ghost use Rattle.reply_core.specs.declared.code.Code.TheVariants.{Pass, Rate};
+ghost use Rattle.kiss_gate.specs.Clients.{in_front, is_soon};
 
 use lru::LruCache;
+use reply_core::Code;
 use tick_units::Local;
 
-// A client's pair goes to the front, with its moment as it was.
-pub(crate) fn bring_to_front(clients: &mut LruCache<u32, Local>, ip: u32)
-    ensures { clients.new ≡ lru_cache (in_front ip (lookup (nat_eq ip) clients.old.entries) clients.old.entries) clients.old.cap }
+// The code of a client that was last let pass at a moment: `Rate` where the new moment lies less than the gap after that, else
+// `Pass`, and the new moment takes its place.
+fn renew(last: &mut Local, gap: u64, at: Local) -> Code
+    requires { gap ≤ 60000000 }
+    ensures code { result ≡ (if is_soon gap at (Some last.old) then Rate else Pass) }
+    ensures moment { last.new ≡ (if is_soon gap at (Some last.old) then last.old else at) }
 {
-    clients.promote(&ip);
+    if at.get() < last.get() + gap {
+        return Code::Rate;
+    }
+    *last = at;
+    Code::Pass
+}
+
+// The code of a client that is in the table, whose pair goes to the front: with its moment as it was where the code is `Rate`, and
+// with the new one where it is `Pass`. A client that isn't in it has none, and nothing changes.
+pub(crate) fn judge_known(
+    clients: &mut LruCache<u32, Local>,
+    ip: u32,
+    gap: u64,
+    at: Local,
+) -> Option<Code>
+    requires { gap ≤ 60000000 }
+    ensures code { result ≡ option_map (λ last. if is_soon gap at (Some last) then Rate else Pass) (lookup (nat_eq ip) clients.old.entries) }
+    ensures soon { result ≡ Some Rate → clients.new ≡ lru_cache (in_front ip (lookup (nat_eq ip) clients.old.entries) clients.old.entries) clients.old.cap }
+    ensures passed { result ≡ Some Pass → clients.new ≡ lru_cache (take clients.old.cap ((ip, at) ∷ remove_entry (nat_eq ip) clients.old.entries)) clients.old.cap }
+    ensures unknown { result ≡ None → clients.new ≡ clients.old }
+{
+    // This says that there are no more pairs than there is room for.
+    let _few = clients.len();
+    match clients.get_mut(&ip) {
+        Some(last) => Some(renew(last, gap, at)),
+        None => None,
+    }
 }
 
 // A client's pair goes to the front, with a new moment; the last pair is dropped where there would be too many. The answer is whether
