@@ -34,6 +34,8 @@ fn numbers_before_more(rt: HostRuntime) {
         ("0 1", Some((0, 1))),
         ("200", Some((200, 3))),
         ("200/", Some((200, 3))),
+        ("200:", Some((200, 3))),
+        ("20\0", Some((20, 2))),
         ("201 1", None),
         ("2000 1", None),
         ("00 1", None),
@@ -50,4 +52,13 @@ fn numbers_before_more(rt: HostRuntime) {
         };
         assert_eq!(rt; found, expected, "{text}");
     }
+}
+
+// The greatest bound, 2^60 - 1, and one more.
+#[test]
+fn numbers_up_to_the_greatest_bound(rt: HostRuntime) {
+    const MOST: u64 = 1_152_921_504_606_846_975;
+    assert_eq!(rt; whole_number(b"1152921504606846975", MOST), Some(MOST));
+    assert_eq!(rt; whole_number(b"1152921504606846976", MOST), None);
+    assert_eq!(rt; whole_number(b"9999999999999999999", MOST), None);
 }

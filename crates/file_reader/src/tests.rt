@@ -101,6 +101,7 @@ fn pieces_come_in_order_and_the_end_stays(rt: HostRuntime) -> Result<(), Fail> {
     text.extend_from_slice(b"yz")?;
     let mut file = SureSource::new(text);
     let mut reader = FileReader::new(1000);
+    assert!(rt; reader.piece().is_empty());
     assert_eq!(rt; reader.pull(&mut file), Pulled::Piece);
     assert_eq!(rt; reader.piece(), [b'x'; 512].as_slice());
     assert_eq!(rt; reader.pull(&mut file), Pulled::Piece);

@@ -150,6 +150,7 @@ fn lines_of_no_form(rt: HostRuntime) {
         b"3644697600 36\n3692217600 37 1\n",
         // A remark without a blank before it.
         b"3644697600 36\n3692217600 37# 1 Jan 2017\n",
+        b"3644697600 36\n3692217600 37#\n",
         // A carriage return that ends no line, and other white space.
         b"3644697600 36\n3692217600\r 37\n",
         b"3644697600 36\n3692217600 37\r\r\n",

@@ -34,6 +34,10 @@ fn pieces_are_cut_anywhere(rt: HostRuntime) -> Result<(), Fail> {
         assert_eq!(rt; lines.as_slice(), b"pulse 0 1 2||ask 1 2|".as_slice());
         assert!(rt; tail);
     }
+    // A carriage return is a byte of its line.
+    let (lines, tail) = cut(rt.alloc(), b"a\r\nb\rc\n\r", 4)?;
+    assert_eq!(rt; lines.as_slice(), b"a\r|b\rc|".as_slice());
+    assert!(rt; tail);
     let (lines, tail) = cut(rt.alloc(), b"swap 0\n", 3)?;
     assert_eq!(rt; lines.as_slice(), b"swap 0|".as_slice());
     assert!(rt; !tail);

@@ -80,10 +80,12 @@ fn a_digest_under_another_identifier(rt: HostRuntime) {
 #[test]
 fn one_wrong_bit_at_each_place(rt: HostRuntime) {
     let ring = ring_of_three();
-    for place in 0..SEALED_LENGTH {
-        let mut changed = packet([0, 0, 0, 1], OF_LONGWAVE);
-        changed[place] ^= 0x80;
-        assert_eq!(rt; ring.authentic(&changed), None, "at {place}");
+    for bit in [0x80, 0x01] {
+        for place in 0..SEALED_LENGTH {
+            let mut changed = packet([0, 0, 0, 1], OF_LONGWAVE);
+            changed[place] ^= bit;
+            assert_eq!(rt; ring.authentic(&changed), None, "{bit} at {place}");
+        }
     }
 }
 

@@ -1,4 +1,6 @@
 // Texts over a sink in memory.
+ghost use Rattle.feed_link.specs.Memory.{sink_state};
+
 use super::*;
 use feed_link::MemorySink;
 use std::alloc::Global;
@@ -43,5 +45,33 @@ fn an_empty_text_is_no_write(rt: HostRuntime) -> Result<(), Fail> {
     let (bytes, failed) = held_after(rt.alloc(), &["", "one", "two"], fails)?;
     assert_eq!(rt; bytes.as_slice(), b"two".as_slice());
     assert_eq!(rt; failed, Some(1));
+    Ok(())
+}
+
+// A sink that takes at most two bytes a call.
+#[derive(Drop)]
+struct Slow {
+    out: MemorySink,
+}
+
+impl Sink for Slow {
+    ghost state = { λ s. sink_state s.out };
+
+    fn write(&mut self, piece: &[u8]) -> Result<usize, Failed> {
+        let most = piece.len().min(2);
+        self.out.write(&piece[..most])
+    }
+}
+
+// A text of five bytes takes three writes; of the second text the third write fails, which is the sixth of all.
+#[test]
+fn a_text_is_written_in_parts(rt: HostRuntime) -> Result<(), Fail> {
+    let mut out = Slow {
+        out: MemorySink::new(rt.alloc(), vec![in rt.alloc(); 6]?),
+    };
+    assert_eq!(rt; write_all(&mut out, b"abcde"), Ok(()));
+    assert_eq!(rt; out.out.bytes(), b"abcde".as_slice());
+    assert_eq!(rt; write_all(&mut out, b"12345"), Err(Failed));
+    assert_eq!(rt; out.out.bytes(), b"abcde1234".as_slice());
     Ok(())
 }
