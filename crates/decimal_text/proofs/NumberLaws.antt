@@ -1,6 +1,7 @@
 -- The number that a text begins with.
-use Rattle.std.proofs.Common.{◌≡◌, ℕ, zero, suc, ◌+◌, ◌*◌, ◌^◌, ◌<◌, ◌≤◌, List, [], ◌∷◌, ◌++◌, length, get_or, take, decimal, refl, ap, subst, sym, add-one, ◌∙◌, arith}
+use Rattle.std.proofs.Common.{◌≡◌, ℕ, zero, suc, ◌+◌, ◌*◌, ◌^◌, ◌<◌, ◌≤◌, List, [], ◌∷◌, ◌++◌, length, get_or, take, drop, decimal, refl, ap, subst, sym, add-one, ◌∙◌, inl, inr, arith}
 use Rattle.std.specs.Prelude.{◌≢◌, ◌||◌, nat_lt, IsTrue, Option, Some, None, IfSome, IfNone}
+use Rattle.std.proofs.lemmas.Bool.{cases_Bool}
 use Rattle.std.proofs.lemmas.Bool.Decides.{nat_tests}
 use Rattle.std.specs.Char.{digit_value}
 use Rattle.std.specs.Str.Parse.{AllDigits, digits_value}
@@ -11,7 +12,7 @@ use Rattle.std.proofs.lemmas.Fmt.{decimal_digit, decimal_nonempty, first_decimal
 use Rattle.std.proofs.lemmas.Int.Digits.{digits_value_more}
 use Rattle.std.proofs.lemmas.Str.{digit_value_digit}
 use Rattle.std.proofs.lemmas.Str.Parse.{IsNumeralModel, numerals_by_value, tells_digits, digit_at, digits_value-take-le}
-use Rattle.decimal_text.specs.Numbers.{EndsNumber}
+use Rattle.decimal_text.specs.Numbers.{BeginsWith, EndsNumber}
 use Rattle.decimal_text.specs.Reading.{SaysSoFar}
 use Rattle.decimal_text.specs.declared.number.Number.{Number}
 
@@ -122,3 +123,29 @@ found (Some number) text n i value rest ends small e h within stop some none =
 found None text n i value rest ends small e h within stop some none =
     let end = ends_at text n i value rest ends small e h within stop in
     absurd (none (end.1 ∙ ap decimal (sym end.2)))
+
+-- where the digits end, so does the number that they are
+not_digit : (byte : ℕ) → (digit_value byte < 10 → ⊥) → IsTrue (nat_lt byte 48 || nat_lt 57 byte)
+not_digit byte stop = elim (cases_Bool (nat_lt byte 48)) [
+  | inl low ↦ rw low refl
+  | inr least ↦ elim (cases_Bool (nat_lt 57 byte)) [
+    | inl high ↦ rw (least, high) refl
+    | inr most ↦ absurd (stop (let upto : byte ≤ 57 = grind (arith, nat_tests) in let value = digit_value_digit byte (grind (arith, nat_tests), upto) in omega arith))
+  ]
+]
+
+pub ends_here : (text : List ℕ) (i : ℕ) → (i < length text → digit_value (get_or text i 0) < 10 → ⊥) → EndsNumber (drop i text)
+ends_here [] zero stop = tt
+ends_here [] (suc i) stop = tt
+ends_here (byte ∷ bytes) zero stop = not_digit byte (λ digit. stop (omega arith) digit)
+ends_here (byte ∷ bytes) (suc i) stop = ends_here bytes i (λ within digit. stop (omega arith) digit)
+
+pub begins : (result : Option Number) (text : List ℕ) (i value most : ℕ) → i ≤ length text → value ≤ most → (i < length text → digit_value (get_or text i 0) < 10 → ⊥) →
+    IfSome result (λ number. (number.value ≡ value) × (number.length ≡ i) × (take i text ≡ decimal value)) → IfSome result (λ number. BeginsWith text most number)
+begins None text i value most within less stop some = tt
+begins (Some number) text i value most within less stop some = record {
+  within = let same = some.1 in omega arith;
+  is = ap (λ k. take k text) some.1 ∙ some.2 ∙ ap decimal (sym some.0);
+  ends = subst (λ k. EndsNumber (drop k text)) (sym some.1) (ends_here text i stop);
+  small = let same = some.0 in omega arith;
+}

@@ -32,7 +32,7 @@ day_logs seed = day_log Dcf seed ∷ day_log Msf seed ∷ day_log Wwvb seed ∷ 
 abbrev pub source_of : List ℕ → SourceState
 source_of text = record { left = Some text; faults = 0 }
 
--- A log has no bad line and at most three million bytes. One entry is due for each of its minutes, and none names a leap second
+-- A log has no bad line and at most three million bytes. As many entries are due as a day has minutes, and none names a leap second
 pub record IsDay (feed : ℕ) (plan : Plan) (seed : ℕ) : Type 0 where
   pub good : bad_at_end (day_log plan seed) ≡ None
   pub short : length (day_log plan seed) ≤ 3000000

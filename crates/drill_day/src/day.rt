@@ -49,7 +49,7 @@ fn add_log(
 pub fn make_logs(alloc: Global, seed: u32) -> Result<Vec<SureSource>, AllocError>
     ensures logs { IfOk result (λ logs. map sure_state logs.items ≡ map source_of (day_logs seed)) }
 
-    // They are lawful logs, for each minute of which one entry is due that names no leap second.
+    // They are lawful logs, for each of which as many entries are due as a day has minutes, and none names a leap second.
     ensures due { IfOk result (λ _. (feed : ℕ) (plan : Plan) → IsDay feed plan seed) }
 {
     let mut logs = Vec::with_capacity(alloc, 3)?;

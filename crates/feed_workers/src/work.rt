@@ -1,19 +1,19 @@
 //! What workers did, and why they ended.
 
-/// Why a radio's worker ended.
+/// Why the worker of a radio, or of a leap second file, ended.
 #[derive(Clone, Copy, Debug, PartialEq, Eq)]
 pub enum LogEnd {
-    /// The log was read to its end.
+    /// The file was read to its end.
     Whole,
     /// The line of this number, from 1, isn't lawful.
     BadLine { line: u64 },
     /// A read failed.
     Fault,
-    /// The log has more than 2^30 bytes.
+    /// The file has more bytes than it may: 2^30 of a log, 2^16 of a leap second file.
     Long,
 }
 
-/// What a radio's worker did.
+/// What the worker of a radio, or of a leap second file, did.
 #[derive(Clone, Copy, Debug, PartialEq, Eq)]
 pub struct LogWork {
     pub end: LogEnd,

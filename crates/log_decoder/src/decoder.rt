@@ -61,7 +61,8 @@ impl LogDecoder<BoxedReceiver> {
     }
 
     /// Takes bytes up to the end of the first line that ends among them, up to the byte that makes a line bad, or all of them.
-    /// A line gives at most one entry, which is that of the minute that it completes.
+    /// A line gives at most one entry, which is that of the minute that it completes. No clause says how many bytes are taken at a time: what
+    /// is given is due for those that were, and the caller goes on with the rest.
     pub fn take(&mut self, bytes: &[u8]) -> Step
         requires some { 0 < length bytes.now }
         requires ready { IsReady (λ b. least_start b) self.old }

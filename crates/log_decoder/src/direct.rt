@@ -30,7 +30,8 @@ impl<R: Receiver> LogDecoder<R> {
         }
     }
 
-    /// Takes bytes up to the end of the first line that completes an entry, up to the byte that makes a line bad, or all of them.
+    /// Takes bytes up to the end of the first line that completes an entry, up to the byte that makes a line bad, or all of them. As of
+    /// `take`, no clause says how many.
     #[inline(always)]
     pub fn take_direct(&mut self, bytes: &[u8]) -> Step
         requires some { 0 < length bytes.now }

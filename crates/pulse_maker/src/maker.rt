@@ -21,8 +21,8 @@ fn index_of(minute: u32) -> u32
 /// Writes the log of so many minutes, the first of which begins at the absolute second `first`, and gives the number of its
 /// lines. Its jitter and its spoilt minutes come from the seed.
 ///
-/// `first` is a whole minute from 2000-01-02 to 2099-12-31, and there are at most as many minutes as a day has. Failed where a
-/// write failed: the sink's count rose, and what was written is a front of the log.
+/// `first` is a whole minute from 2000-01-02 00:00 to 2099-12-30 00:00 UTC, and there are at most as many minutes as a day has. Failed
+/// where a write failed: the sink's count rose, and what was written is a front of the log.
 pub fn make<K: Sink>(
     plan: Plan,
     first: u64,
