@@ -414,10 +414,14 @@ def is_in(net, address):
     return numbers[0] == numbers[1]
 
 
+def is_name(value):
+    return isinstance(value, str) and value != ""
+
+
 TABLES = {
     "radio": {
         "plan": (True, lambda value: value in ("dcf", "msf", "wwvb")),
-        "log": (True, lambda value: isinstance(value, str) and value != ""),
+        "log": (True, is_name),
         "delay": (False, whole(0, 100000)),
     },
     "server": {"address": (True, is_address), "port": (True, whole(1, 65535)), "polls": (False, whole(0, 100000))},
@@ -433,6 +437,7 @@ TOP = {
     "start": (False, whole(0, 2**49)),
     "gap": (False, whole(0, 60_000_000)),
     "clients": (False, whole(1, 65536)),
+    "leap_file": (False, is_name),
 }
 
 
@@ -462,8 +467,9 @@ def station_fault(table):
                     return f"range {front}{key}"
                 taken.append(one[key])
     radios, servers, links, keys, nets = (places[name] for name in TABLES)
-    if len(radios) + len(servers) > 16:
-        return f"many radio {len(radios) + len(servers)}"
+    feeds = len(radios) + len(servers) + ("leap_file" in table)
+    if feeds > 16:
+        return f"many radio {feeds}"
     for plan in RULES:
         count = sum(radio["plan"] == plan for radio in radios)
         if count > 4:

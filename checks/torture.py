@@ -151,7 +151,7 @@ class Station(Kind):
     """Small stations: each table by chance, some of them often, with odd values here and there."""
 
     KEYS = {
-        "": ('bound = 500', "bound = 0", "bound = 16000", "start = 604000000", "start = 0x10", "leap = 1", "bound = 1_000", "bound = -5", "gap = 60000000", "gap = 60000001", "clients = 1000", "clients = 65537", "clients = 0", "gap = 2000000\nclients = 1"),
+        "": ('bound = 500', "bound = 0", "bound = 16000", "start = 604000000", "start = 0x10", "leap = 1", "bound = 1_000", "bound = -5", "gap = 60000000", "gap = 60000001", "clients = 1000", "clients = 65537", "clients = 0", "gap = 2000000\nclients = 1", 'leap_file = "leap"', 'leap_file = ""', "leap_file = 7"),
         "radio": ('plan = "dcf"', 'plan = "msf"', "plan = 'wwvb'", 'plan = "jjy"', 'log = "a.log"', 'log = ""', "delay = 1400", "delay = 100001"),
         "server": ('address = "127.0.0.1"', 'address = "1.2.3.256"', "port = 123", "port = 0", "polls = 3", "polls = true", 'polls = "8"'),
         "link": ("port = 5123", "port = 65535", "port = 65536", "port = 1.5", "ports = 1"),
@@ -170,7 +170,7 @@ class Station(Kind):
         super().__init__([], 0, 0)
 
     def lines(self, draw):
-        text = [draw.choice(self.KEYS[""])] if draw.random() < 0.3 else []
+        text = [draw.choice(self.KEYS[""])] if draw.random() < 0.4 else []
         for name, good in self.GOOD.items():
             for place in range(draw.choice((0, 1, 1, 2, 3, 5, 9) if name != "deny" else (0, 0, 1, 2, 17))):
                 text.append(f"[[{name}]]")

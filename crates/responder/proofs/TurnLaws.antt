@@ -223,7 +223,7 @@ last_count before now us LinkFault (inr (d, r, j, s, reply, e), rose) = subst (�
 
 ends_by : (n before mid now : ℕ) (ts us : List Turn) (e : End) → All GoesOn ts → length ts < n → mid ≡ before → IsLast mid now us e → EndsBy n before now (ts ++ us) e
 ends_by n before mid now ts us Count go lt same l = absurd l
-ends_by n before mid now ts us LinkEnd go lt same l = (ts, ap (λ q. ts ++ q) l.0, go, l.1 ∙ same)
+ends_by n before mid now ts us LinkEnd go lt same l = (ts, ap (λ q. ts ++ q) l.0, go, lt, l.1 ∙ same)
 ends_by n before mid now ts us LinkFault go lt same l = (ts, us, refl, go, l.0, lt, subst (λ m. RoseByOne m now) same l.1)
 
 sum_more : (f : Turn → ℕ) (ts us : List Turn) (s r : ℕ) → r ≡ s + sum_by f us → s ≡ sum_by f ts → r ≡ sum_by f (ts ++ us)

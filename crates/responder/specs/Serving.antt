@@ -37,7 +37,7 @@ IsFaulty last = (last ≡ []) ⊎ ((request : Request) × (reading : Reading) ×
 -- one. After each turn before the last one another may come
 abbrev pub EndsBy : ℕ → ℕ → ℕ → List Turn → End → Type 0
 EndsBy budget faults faults_now turns Count = All GoesOn turns × (length turns ≡ budget) × (faults_now ≡ faults)
-EndsBy budget faults faults_now turns LinkEnd = (front : List Turn) × (turns ≡ front ++ Last ∷ []) × All GoesOn front × (faults_now ≡ faults)
+EndsBy budget faults faults_now turns LinkEnd = (front : List Turn) × (turns ≡ front ++ Last ∷ []) × All GoesOn front × (length front < budget) × (faults_now ≡ faults)
 EndsBy budget faults faults_now turns LinkFault =
     (front : List Turn) × (last : List Turn) × (turns ≡ front ++ last) × All GoesOn front × IsFaulty last × (length front < budget) × RoseByOne faults faults_now
 
