@@ -199,6 +199,9 @@ def asked():
                 time.sleep(0.05)
 
 for number in (signal.SIGTERM, signal.SIGINT, signal.SIGHUP, signal.SIGQUIT, signal.SIGPIPE):
+    # A shell that runs this behind `&` leaves signals ignored, which a program would take over.
+    if number != signal.SIGPIPE:
+        signal.signal(number, signal.SIG_DFL)
     run = subprocess.Popen(["./radio_ntpd", "serve", "--station", station, "--during", "2"], stdout=subprocess.PIPE)
     with open(pipe, "wb", buffering=0) as writer:
         writer.write(open(log, "rb").read())
