@@ -75,7 +75,7 @@ runs 'when it was killed'
 ask wait 123 || exit 1
 [ "$(inside systemctl show --property=NRestarts --value radio_ntpd)" -ge 1 ] || wrong 'it was not started again'
 [ "$(inside ls /var/lib/radio_ntpd | grep -c '^journal\.')" -ge 2 ] || wrong "there are no two journals: $(inside ls /var/lib/radio_ntpd)"
-inside systemctl poweroff
+inside systemctl poweroff 2> "$work/off"
 wait "$nspawn"
 [ "$bad" = 0 ] && echo "$name: both run, tell the time after the fourth verdict, and come again"
 exit "$bad"
