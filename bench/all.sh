@@ -11,6 +11,6 @@ cd "$(dirname "$0")" || exit 1
 failed=
 for bench do
     echo "== $bench"
-    "./$bench.sh" || failed="$failed $bench"
+    "$PWD/$bench.sh" || failed="$failed $bench"
 done
 [ -z "$failed" ] || { echo "failed:$failed" >&2; exit 1; }
