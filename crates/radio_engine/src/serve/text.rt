@@ -151,6 +151,3 @@ pub fn finish_served<K: Sink>(station: &Station, done: &Done, limit: u32, out: &
         Err(Failed) => Status::WriteFault,
     }
 }
-
-#[cfg(test)]
-mod line_tests;
