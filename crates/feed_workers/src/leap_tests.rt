@@ -168,6 +168,30 @@ fn a_full_journal_keeps_the_first(rt: HostRuntime) -> Result<(), Fail> {
     )
 }
 
+// The second notice finds it full, and behind a comment of 600 bytes, in a later piece, stands the bad line.
+#[test]
+fn a_list_is_read_on_to_a_bad_line_behind_a_lost_notice(rt: HostRuntime) -> Result<(), Fail> {
+    let alloc = rt.alloc();
+    let mut text = Vec::from_slice(alloc, LIST.as_bytes())?;
+    for _ in 0..600u32 {
+        text.push(b'#')?;
+    }
+    text.extend_from_slice(b"\nx\n")?;
+    let bad = LogWork {
+        end: LogEnd::BadLine { line: 6 },
+        full: true,
+    };
+    reads(
+        &rt,
+        alloc,
+        text.as_slice(),
+        0,
+        1,
+        "0 5000000 notice 3644697600\n",
+        bad,
+    )
+}
+
 // Comments fill the file up to 65536 bytes and to one more.
 #[test]
 fn a_list_of_65536_bytes_is_whole(rt: HostRuntime) -> Result<(), Fail> {

@@ -322,6 +322,19 @@ fn a_full_journal_keeps_a_front_and_the_log_is_read_on(rt: HostRuntime) -> Resul
     Ok(())
 }
 
+// The second minute's entry finds it full, and a frame behind that, in a later piece, stands the bad line: 1 and three times 59 before it.
+#[test]
+fn a_log_is_read_on_to_a_bad_line_behind_a_lost_entry(rt: HostRuntime) -> Result<(), Fail> {
+    let mut log = two_frames(rt.alloc(), "")?;
+    add_frame(&mut log, &NOON, 122_000_000)?;
+    log.push_str("x\n")?;
+    let (work, lines) = read(&rt, rt.alloc(), log.as_str(), 0, 1)?;
+    let end = LogEnd::BadLine { line: 179 };
+    assert_eq!(rt; work, LogWork { end, full: true });
+    assert_eq!(rt; lines.as_str(), LONE);
+    Ok(())
+}
+
 // The answer of a server of stratum 2 to the request of 1 s, received at 2026-01-01 12:05:05 UTC and answered half a millisecond later.
 const ANSWER: [u8; 48] = [
     0x24, 0x02, 0x06, 0xec, 0x00, 0x00, 0x01, 0x00, 0x00, 0x00, 0x02, 0x00, 0x0a, 0x00, 0x00, 0x01, // to the refid

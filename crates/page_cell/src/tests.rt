@@ -35,6 +35,21 @@ fn a_receipt_is_learnt(rt: HostRuntime) -> Result<(), Fail> {
     Ok(())
 }
 
+// A receipt of less than a reader has seen takes nothing away.
+#[test]
+fn an_older_receipt_is_learnt(rt: HostRuntime) -> Result<(), Fail> {
+    let (cell, mut writer, mut readers) = opened(&rt, 1)?;
+    let mut reader = readers.pop().ok_or("no reader")?;
+    writer.publish(&cell);
+    let receipt = cell.receipt(&mut writer.feed);
+    writer.publish(&cell);
+    let page = cell.try_read(&mut reader).ok().ok_or("again")?;
+    assert_eq!(rt; (page.length, receipt.length()), (2, 1));
+    cell.learn(&mut reader, receipt);
+    assert_eq!(rt; reader.seen(), 2);
+    Ok(())
+}
+
 // The words of a page that isn't published yet aren't read.
 #[test]
 fn half_a_publishing_is_not_seen(rt: HostRuntime) -> Result<(), Fail> {

@@ -94,6 +94,30 @@ fn a_client_that_asks_within_the_gap_gets_rate(rt: HostRuntime) -> Result<(), Fa
     Ok(())
 }
 
+// The second request comes 999 us behind the first, and is answered 4.4 ms behind it.
+#[test]
+fn a_client_is_judged_by_when_its_request_came(rt: HostRuntime) -> Result<(), Fail> {
+    let alloc = rt.alloc();
+    let mut hearings = Vec::new(alloc);
+    for at in [100, 1099] {
+        hearings.push(Planned::Datagram {
+            from: CLIENT,
+            at: moment(at),
+            bytes: bytes_of(alloc, 0x23, 48)?,
+        })?;
+    }
+    let mut moments = Vec::new(alloc);
+    for at in [600, 5000] {
+        moments.push(moment(at))?;
+    }
+    let link = MemoryLink::new(alloc, hearings, moments, Vec::new(alloc), 40, 4000)?;
+    let gate = gate_of(alloc, &DenyList::new(), 1000)?;
+    let (served, link, _) = serve(&rt, alloc, link, gate, 2)?;
+    assert_eq!(rt; (served.answered, served.kissed), (1, 1));
+    assert!(rt; has_sent(&link, &[(CLIENT, "INIT"), (CLIENT, "RATE")]));
+    Ok(())
+}
+
 #[test]
 fn a_denied_sender_gets_deny(rt: HostRuntime) -> Result<(), Fail> {
     let datagrams = [

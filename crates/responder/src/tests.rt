@@ -228,6 +228,23 @@ fn a_reply_is_sealed_where_its_request_is_authentic(rt: HostRuntime) -> Result<(
     Ok(())
 }
 
+// The request comes at 7 us, which is 30064 of the 2^32 parts of a second, and is answered at 1 s.
+#[test]
+fn a_reply_has_the_moments_of_its_hearing_and_its_sending(rt: HostRuntime) -> Result<(), Fail> {
+    let alloc = rt.alloc();
+    let mut hearings = Vec::new(alloc);
+    hearings.push(datagram(alloc, 0x23, 48)?)?;
+    let moments = vec![in alloc; moment(1_000_000)]?;
+    let link = MemoryLink::new(alloc, hearings, moments, Vec::new(alloc), 9, 4000)?;
+    let (served, link) = serve(&rt, alloc, link, 1)?;
+    assert_eq!(rt; served.answered, 1);
+    let mut want = [0u8; 48];
+    want.copy_from_slice(&SEALED[..48]);
+    want[40..].copy_from_slice(&[0, 0, 0, 1, 0, 0, 0, 0]);
+    assert!(rt; has_sent(&link, &want));
+    Ok(())
+}
+
 // A link that hears a request, nothing, a request, and its end.
 fn two_requests(alloc: Global, failing: u64, events: usize) -> Result<MemoryLink, Fail> {
     let mut hearings = Vec::new(alloc);
