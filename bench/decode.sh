@@ -1,39 +1,40 @@
 #!/bin/sh
-# How long decoding takes: ns a pulse of the built program, beside a plain C decoder and a plain C line reader of the same
-# log in the same run. It builds nothing of ours: run ./radio_ntpd once before.
+# How long decoding takes: processor time a pulse of the built program, beside a plain C decoder and a plain C line reader of the same
+# log in the same run, by turns, so that what else the machine does falls on all of them. It builds nothing of ours: run ./radio_ntpd
+# once before.
 #
-#     bench/decode.sh [MINUTES] [RUNS]
+#     bench/decode.sh [MINUTES [RUNS]]
 #
 # 90000 minutes are 5.3 million pulses.
 set -eu
 minutes=${1:-90000}
-runs=${2:-5}
+runs=${2:-9}
 . "$(dirname "$0")/built.sh"
 python3 "$top/bench/make_dcf_log.py" --minutes "$minutes" --jitter 2500 > "$work/log"
-pulses=$(wc -l < "$work/log")
 gcc -O2 -o "$work/plain" "$top/bench/plain_decoder.c"
-
-# The least of several runs, in ns a pulse; $1 names it, the rest is the command.
-measure() {
-    name=$1
-    shift
-    python3 - "$pulses" "$runs" "$name" "$@" <<'PY'
-import subprocess, sys, time
-pulses, runs, name, command = int(sys.argv[1]), int(sys.argv[2]), sys.argv[3], sys.argv[4:]
-least = None
-for _ in range(runs):
-    begin = time.perf_counter()
-    subprocess.run(command, stdout=subprocess.DEVNULL, check=True)
-    took = time.perf_counter() - begin
-    least = took if least is None else min(least, took)
-print(f"{name:28} {least * 1e9 / pulses:8.1f} ns a pulse")
-PY
+python3 -B - "$runs" "$program" "$work/plain" "$work/log" <<'PY'
+import os, resource, subprocess, sys
+runs, program, plain, log = int(sys.argv[1]), *sys.argv[2:]
+commands = {
+    "radio_ntpd decode": [program, "decode", "--plan", "dcf", "--log", log],
+    "plain C decoder": [plain, "decode", log],
+    "plain C reader of lines": [plain, "read", log],
 }
-
-echo "$pulses pulses, the least of $runs runs"
-measure 'radio_ntpd decode' "$program" decode --plan dcf --log "$work/log"
-measure 'plain C decoder' "$work/plain" decode "$work/log"
-measure 'plain C reader of lines' "$work/plain" read "$work/log"
+with open(log) as lines:
+    pulses = sum(1 for _ in lines)
+def spent():
+    used = resource.getrusage(resource.RUSAGE_CHILDREN)
+    return used.ru_utime + used.ru_stime
+least = {}
+for _ in range(runs):
+    for name, command in commands.items():
+        begin = spent()
+        subprocess.run(command, stdout=subprocess.DEVNULL, check=True)
+        least[name] = min(spent() - begin, least.get(name, 1e9))
+print(f"{pulses} pulses, the least of {runs} runs, at a load of {os.getloadavg()[0]:.0f}")
+for name, took in least.items():
+    print(f"{name:28} {took * 1e9 / pulses:8.1f} ns of processor a pulse, {took / least['plain C decoder']:.2f} times plain C's decoder")
+PY
 
 "$program" decode --plan dcf --log "$work/log" > "$work/ours"
 "$work/plain" decode "$work/log" > "$work/plain.text"

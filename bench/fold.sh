@@ -15,8 +15,9 @@ crates="tick_units feed_link journal_entry clock_filter select_core cluster_core
 mkdir -p "$work/after/crates" "$work/before/crates"
 for crate in $crates; do
     mkdir "$work/after/crates/$crate"
-    for part in src specs proofs; do
-        [ -d "$top/crates/$crate/$part" ] && cp -r "$top/crates/$crate/$part" "$work/after/crates/$crate/"
+    # What a check kept there is taken along, so that nothing is proved twice.
+    for part in src specs proofs out; do
+        if [ -d "$top/crates/$crate/$part" ]; then cp -a "$top/crates/$crate/$part" "$work/after/crates/$crate/"; fi
     done
     git -C "$top" archive "$commit" "crates/$crate" | tar -x -C "$work/before"
     grep "^$crate:" "$top/crates.txt" >> "$work/crates.txt"

@@ -2,7 +2,7 @@
 # How long moving a journal over takes: ns a line of the built program, over journals of 100 thousand and of a million lines of four
 # servers' samples, beside `wc -l` of the same files and beside the bare fold of the same entries with the page after each, in one
 # run; and the peak memory of each. A line costs the same however long the journal is, and memory doesn't grow with it. The fold is a
-# small program that is built in a temporary folder over copies of the crates, which proves them first. Needs rt, gcc, python3; it
+# small program that is built in a temporary folder over copies of the crates, which proves what isn't kept. Needs rt, gcc, python3; it
 # doesn't build the program: run ./radio_ntpd once before.
 #
 #     bench/migrate.sh [SHORT LONG [RUNS]]
@@ -15,8 +15,9 @@ runs=${3:-3}
 mkdir -p "$work/crates"
 for crate in tick_units feed_link journal_entry clock_filter select_core cluster_core clock_page system_fold; do
     mkdir "$work/crates/$crate"
-    for part in src specs proofs; do
-        [ -d "$top/crates/$crate/$part" ] && cp -r "$top/crates/$crate/$part" "$work/crates/$crate/"
+    # What a check kept there is taken along, so that nothing is proved twice.
+    for part in src specs proofs out; do
+        if [ -d "$top/crates/$crate/$part" ]; then cp -a "$top/crates/$crate/$part" "$work/crates/$crate/"; fi
     done
     grep "^$crate:" "$top/crates.txt" >> "$work/crates.txt"
 done
@@ -38,10 +39,10 @@ gcc -O2 -o "$work/measure" "$top/bench/measure.c"
 
 # Measures a command over so many lines; $1 names it.
 measure() {
-    name=$1 lines=$2
+    label=$1 count=$2
     shift 2
-    "$work/measure" "$runs" "$@" |
-        awk -v name="$name" -v lines="$lines" '{ printf "%-8s %9d lines %9.1f ns a line %8d KiB at most\n", name, lines, $1 / lines, $2 }'
+    "$work/measure" "$runs" "$@" > "$work/measured"
+    awk -v label="$label" -v lines="$count" '{ printf "%-8s %9d lines %9.1f ns a line %8d KiB at most\n", label, lines, $1 / lines, $2 }' "$work/measured"
 }
 
 echo "the least of $runs runs"

@@ -141,9 +141,11 @@ grep -q '^page ' "$work/served" || wrong 'two radios on one pipe leave no page'
 # A log that is still being written: before it tells a time clients hear that there is none, and then they hear the radio's.
 mkfifo "$work/live"
 { echo 'start = 604000000'; radio msf "$work/live"; link "$port"; } > "$work/station"
+# Taken before it starts, so that it is off by the start of one program alone.
+unheard=$(ask local 604000000)
 serve --station "$work/station" --during 32 --after 1
 exec 3> "$work/live"
-ask wait "$port" && ask look "$port" 10 "$(ask local 604000000)" 3 0 INIT || wrong 'before its radio is heard a server has a time'
+ask wait "$port" && ask look "$port" 10 "$unheard" 3 0 INIT || wrong 'before its radio is heard a server has a time'
 cat examples/radios/msf.log >&3
 ask soon "$port" && ask look "$port" 10 "$ahead" 0 1 MSF || wrong 'a server has no time of a log that goes on'
 exec 3>&-

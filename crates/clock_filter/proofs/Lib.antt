@@ -1,6 +1,5 @@
 -- Lemmas that several proofs of this crate use.
 pub mod FigureLaws
-pub mod HalfLaws
 pub mod HeldLaws
 pub mod KnownLaws
 pub mod OldestLaws

@@ -5,7 +5,6 @@ ghost use Rattle.tick_units.specs.Units.{ceil_div, least_dispersion};
 ghost use Rattle.clock_filter.specs.Distance.{root_delay_of, root_dispersion_of, distance_of, is_fit_at};
 
 use crate::Figures;
-use crate::halves::halved_up;
 use tick_units::{LEAST_DISPERSION, Local, Span, isqrt, phi};
 
 // Half of the round-trip delay, which counts as at least 5 ms, rounded up.
@@ -15,7 +14,7 @@ pub(crate) fn half_of_delay(f: &Figures) -> Span
     ensures small { unsigned_abs result ≤ 2 ^ 68 }
     ensures least { pos 1 ≤ℤ result }
 {
-    halved_up(Span::from(LEAST_DISPERSION).max(root_delay(f)), 1)
+    Span::from(LEAST_DISPERSION).max(root_delay(f)).halved_up(1)
 }
 
 // The first stratum that is too far from a reference clock.

@@ -5,7 +5,6 @@ ghost use Rattle.tick_units.specs.Units as units;
 ghost use Rattle.clock_filter.specs.Figures as figures;
 
 use crate::Taken;
-use crate::halves::halved_up;
 use tick_units::{Local, Short, Span, phi};
 
 // How many stages the filter has (NSTAGE).
@@ -103,7 +102,7 @@ fn dispersion_of(now: Local, held: &[Taken]) -> Span
 {
     let mut sum = Span::from(0);
     for stage in 0..STAGES {
-        sum = sum + halved_up(age_of(now, held, stage), stage as u32 + 1);
+        sum = sum + age_of(now, held, stage).halved_up(stage as u32 + 1);
     }
     sum
 }

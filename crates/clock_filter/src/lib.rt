@@ -5,7 +5,6 @@
 mod distances;
 mod figures;
 mod filter;
-mod halves;
 mod held;
 mod rate;
 mod ready;

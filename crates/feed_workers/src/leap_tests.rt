@@ -192,16 +192,17 @@ fn a_list_is_read_on_to_a_bad_line_behind_a_lost_notice(rt: HostRuntime) -> Resu
     )
 }
 
-// Comments fill the file up to 65536 bytes and to one more.
+// A comment stands before the last row, which ends at byte 65536 of the file. Then there is a byte more.
 #[test]
 fn a_list_of_65536_bytes_is_whole(rt: HostRuntime) -> Result<(), Fail> {
     let alloc = rt.alloc();
     let mut text = Vec::with_capacity(alloc, 65_537)?;
-    text.extend_from_slice(LIST.as_bytes())?;
-    for _ in text.len()..65_535 {
+    text.extend_from_slice(b"3550089600\t35\n3644697600\t36\n")?;
+    for _ in text.len()..65_521 {
         text.push(b'#')?;
     }
-    text.push(b'\n')?;
+    text.extend_from_slice(b"\n3692217600\t37\n")?;
+    assert_eq!(rt; text.len(), 65_536);
     reads(&rt, alloc, text.as_slice(), 0, 10, TWO, WHOLE)?;
     text.push(b'\n')?;
     let long = LogWork {

@@ -59,6 +59,7 @@ impl FileReader {
     pub fn new(limit: usize) -> FileReader
         ensures limit { limit_of result ≡ limit }
         ensures room { room_of result ≡ limit }
+        ensures none { piece_of result ≡ [] }
         ensures start { (file : SourceState) → HasPulled result file file [] }
     {
         FileReader {

@@ -8,7 +8,7 @@ use radio_receiver::{BoxedReceiver, Receiver};
 use std::alloc::AllocError;
 use tick_units::Plan;
 
-/// Puts a blank receiver of a plan at the end of a rack.
+/// Puts one blank receiver of a plan more into a rack.
 ///
 /// # Errors
 /// There is no memory.

@@ -34,7 +34,7 @@ abbrev pub IsFaulty : List Turn → Type 0
 IsFaulty last = (last ≡ []) ⊎ ((request : Request) × (reading : Reading) × (judged : Judged) × (sent : ℕ) × (reply : List ℕ) × (last ≡ Unsent request reading judged sent reply ∷ []))
 
 -- Count: as many hearings as were asked for. LinkEnd: the last turn is the link's end. LinkFault: one call of the link failed, the last
--- one. After each turn before the last one another may come
+-- one. Before either of these there were fewer turns than hearings asked for, and after each of them another may come
 abbrev pub EndsBy : ℕ → ℕ → ℕ → List Turn → End → Type 0
 EndsBy budget faults faults_now turns Count = All GoesOn turns × (length turns ≡ budget) × (faults_now ≡ faults)
 EndsBy budget faults faults_now turns LinkEnd = (front : List Turn) × (turns ≡ front ++ Last ∷ []) × All GoesOn front × (length front < budget) × (faults_now ≡ faults)

@@ -86,12 +86,13 @@ impl<L: Link + Drop> Responder<L> {
         }
     }
 
-    // One hearing, and what follows from it. True where another turn may come.
+    // One hearing into a piece, and what follows from it. True where another turn may come.
     fn turn<R: Wait, G: Gate>(
         &mut self,
         rt: &R,
         cell: &PageCell,
         gate: &G,
+        piece: &mut [u8; 1024],
         served: &mut Served,
     ) -> bool
         requires pass { self.old.pass.table ≡ cell.now.table }
@@ -100,8 +101,7 @@ impl<L: Link + Drop> Responder<L> {
         ensures goes { OnTrue result (Goes (keys_of self.old.keys) self.old.clients self.new.clients [] (L.state self.old.link) (L.state self.new.link) self.old.pass.view self.new.pass.view served.old served.new) }
         ensures stops { OnFalse result (Stops (keys_of self.old.keys) self.old.clients self.new.clients (L.state self.old.link) (L.state self.new.link) self.old.pass.view self.new.pass.view served.old served.new) }
     {
-        let mut piece = [0u8; 1024];
-        match self.link.hear(&mut piece) {
+        match self.link.hear(piece) {
             Ok(Hearing::Datagram(arrival)) => {
                 let datagram = &piece[..arrival.length];
                 self.answer(rt, cell, gate, &arrival, datagram, served)
@@ -143,8 +143,9 @@ impl<L: Link + Drop> Responder<L> {
             unkept: 0,
             end: End::Count,
         };
+        let mut piece = [0u8; 1024];
         for _ in 0..budget {
-            if !self.turn(rt, cell, gate, &mut served) {
+            if !self.turn(rt, cell, gate, &mut piece, &mut served) {
                 return served;
             }
         }

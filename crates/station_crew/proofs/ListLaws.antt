@@ -1,5 +1,6 @@
 -- Lists, place by place and side by side.
 use Rattle.std.proofs.Common.{◌≡◌, ◌⊎◌, inl, inr, ℕ, zero, suc, ◌+◌, ◌-◌, ◌<◌, ◌≤◌, List, [], ◌∷◌, ◌++◌, take, drop, remove, map, length, refl, sym, ap, ◌∙◌, subst, arith, length-append, append_assoc}
+use Rattle.std.specs.List.{range_with_len}
 use Rattle.std.specs.Option.{option_to_list}
 use Rattle.std.specs.Prelude.{All, IfSome, Option, None, Some, is_some, option_map, get_or, slice_get, slice_set, slice_index_or}
 use Rattle.std.proofs.lemmas.List.{append-nil, map-append, length-map, get_or-map, get_or_append_left, get_or-append_right, take_more, set-get_or}
@@ -182,3 +183,14 @@ all_rest P xs ys x split all = All-tail P x ys (subst (All P) split all)
 -- one more was put behind a list
 pub all_pushed : {X : Type 0} (P : X → Type 0) (xs ys : List X) (x : X) → ys ≡ xs ++ x ∷ [] → All P xs → P x → All P ys
 all_pushed P xs ys x pushed all one = subst (All P) (sym pushed) (All-push P xs x all one)
+
+-- counting goes on by the next number
+counted_more : (first n next : ℕ) → first + n ≡ next → range_with_len first (suc n) ≡ range_with_len first n ++ next ∷ []
+counted_more first zero next e = let is : first ≡ next = omega (arith, e) in ap (λ k. k ∷ []) is
+counted_more first (suc n) next e = ap (λ l. first ∷ l) (counted_more (first + 1) n next (omega (arith, e)))
+
+-- one more was put behind a list that is numbered from 0, with the next number
+pub numbered_more : {J : Type 0} (number : J → ℕ) (js ks : List J) (j : J) (n m : ℕ) → ks ≡ js ++ j ∷ [] → number j ≡ n → m ≡ n + 1 → map number js ≡ range_with_len 0 n → map number ks ≡ range_with_len 0 m
+numbered_more number js ks j n m pushed is more before =
+    let next : suc n ≡ m = omega (arith, more) in
+    ap (map number) pushed ∙ map-append number js (j ∷ []) ∙ ap (λ l. l ++ number j ∷ []) before ∙ ap (λ k. range_with_len 0 n ++ k ∷ []) is ∙ sym (counted_more 0 n n (omega arith)) ∙ ap (range_with_len 0) next

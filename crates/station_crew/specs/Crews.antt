@@ -1,5 +1,6 @@
 -- Scaffolding: what all workers of a station do.
 use Rattle.std.specs.Prelude.{◌≡◌, ◌≤◌, ℕ, ◌+◌, Option, List, [], All, None, IfSome, length, map, option_map, vec_capacity, vec_len}
+use Rattle.std.specs.List.{range_with_len}
 use Rattle.atomic_table.specs.Seated.{TableId}
 use Rattle.feed_link.specs.Told.{SourceState, LinkState}
 use Rattle.kiss_gate.specs.Gates.{Gate}
@@ -8,7 +9,7 @@ use Rattle.page_cell.specs.Passes.{KnownReader}
 use Rattle.radio_receiver.specs.Histories.{History}
 use Rattle.station_config.specs.Station.{StationFields, gate_of}
 use Rattle.station_crew.specs.Jobs.{IsManned, RadioRan, PollRan, LeapRan}
-use Rattle.station_crew.specs.Leaving.{file_of, link_of, log_of, passes_of, serve_pass, server_link, server_of}
+use Rattle.station_crew.specs.Leaving.{file_of, link_of, log_of, number_of, passes_of, serve_pass, server_link, server_of}
 use Rattle.station_crew.specs.Lists.{Both, Each, Pairs}
 use Rattle.station_crew.specs.Telling.{HasServedTwice}
 use Rattle.station_crew.specs.declared.crew.Crew.{Crew}
@@ -71,7 +72,7 @@ pub record HasRoom {L T B : Type 0} (gate : Gate) (of_radios of_servers of_links
   pub gates : vec_len room.gates ≡ of_links
   pub alike : All (λ g. g ≡ gate) room.gates.items
 
--- each worker has its receiver, its log or its link, and its server, in the station's order, and the leap second file's begins at the station's first moment; the responders have the station's keys and a gate of its own each
+-- each worker has its receiver, its log or its link, and its server, in the station's order, and the leap second file's begins at the station's first moment; the responders are numbered from 0, and have the station's keys and a gate of its own each
 pub record CrewManned {L T B : Type 0} (stands : B → History → Type 0) (least : B → ℕ) (station : StationFields) (receivers : List B) (gear : Gear L T) (crew : Crew L T B) : Type 0 where
   pub receivers_are : Pairs (IsManned stands least) receivers crew.radios.items
   pub logs : map log_of crew.radios.items ≡ gear.logs.items
@@ -80,6 +81,7 @@ pub record CrewManned {L T B : Type 0} (stands : B → History → Type 0) (leas
   pub file : option_map file_of crew.leap ≡ gear.leap
   pub begins : IfSome crew.leap (λ j. j.worker.start ≡ station.top.start)
   pub links : map link_of crew.responders.items ≡ gear.links.items
+  pub numbered : map number_of crew.responders.items ≡ range_with_len 0 (vec_len gear.links)
   pub unserved : All (λ j. j.work.second ≡ None) crew.responders.items
   pub keyed : All (λ j. keys_of j.responder.keys ≡ station.keys) crew.responders.items
   pub gated : All (λ j. j.responder.clients ≡ gate_of station) crew.responders.items

@@ -1,5 +1,5 @@
 -- Scaffolding: what each worker has, and gives back.
-use Rattle.std.specs.Prelude.{Option, List, ◌++◌, map}
+use Rattle.std.specs.Prelude.{ℕ, Option, List, ◌++◌, map}
 use Rattle.std.specs.Option.{option_to_list}
 use Rattle.page_cell.specs.Passes.{Known, KnownReader}
 use Rattle.station_config.specs.Station.{ServerFields}
@@ -35,6 +35,9 @@ passes_of radios pollers leap = map radio_pass radios ++ map poll_pass pollers +
 
 abbrev pub link_of : {T : Type 0} → ServeJob T → T
 link_of j = j.responder.link
+
+abbrev pub number_of : {T : Type 0} → ServeJob T → ℕ
+number_of j = j.responder.number
 
 abbrev pub serve_pass : {T : Type 0} → ServeJob T → KnownReader
 serve_pass j = j.responder.pass

@@ -1,7 +1,9 @@
 // All workers of a station, in both phases.
-ghost use Rattle.std.specs.Prelude.{◌≡◌, ◌≤◌, [], All, IfSome, length, vec_capacity, vec_len};
+ghost use Rattle.std.specs.Prelude.{◌≡◌, ◌≤◌, [], All, IfSome, length, map, vec_capacity, vec_len};
+ghost use Rattle.std.specs.List.{range_with_len};
 ghost use Rattle.station_crew.specs.Crews.{CrewRan, HasRoomFor, HasRoomToLeave};
 ghost use Rattle.station_crew.specs.Jobs.{HasServed, HasServedAgain, LeapRan, MayHear, MayNotice, MayPoll, PollRan, RadioRan};
+ghost use Rattle.station_crew.specs.Leaving.{number_of};
 ghost use Rattle.station_crew.specs.Lists.{Both, Each, Every, Pairs};
 ghost use Rattle.station_crew.specs.Telling.{WasTold};
 
@@ -90,6 +92,7 @@ fn tell_crew<T: Link + Drop>(
     requires room { vec_len jobs ≤ vec_capacity told.old }
     ensures same { feeds.new.items ≡ feeds.old.items }
     ensures told { Pairs (WasTold feeds.old.items) jobs.items told.new.items }
+    ensures numbers { map number_of told.new.items ≡ range_with_len 0 (vec_len jobs) }
 {
     tell_responders(cell, feeds.as_mut_slice(), jobs, told);
 }

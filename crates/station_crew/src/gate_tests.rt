@@ -20,6 +20,11 @@ const NEIGHBOUR: Address = Address {
     port: 5000,
 };
 
+const THIRD: Address = Address {
+    ip: 0x7f00_0003,
+    port: 5000,
+};
+
 // A link that hears requests of version 4, of each its sender and its moment, and then its end.
 fn asked(alloc: Global, requests: &[(Address, u32)]) -> Result<MemoryLink, Fail> {
     let mut hearings = Vec::new(alloc);
@@ -121,5 +126,37 @@ fn each_link_has_a_gate_of_its_own(rt: HostRuntime) -> Result<(), Fail> {
         let link = ended.gear.links.get(place).ok_or("no link")?;
         assert!(rt; has_sent(link, &[(CLIENT, "INIT")]), "link {place}");
     }
+    Ok(())
+}
+
+// A table of two keeps the two that were let pass last: of three clients the second is known, and the first was forgotten.
+#[test]
+fn a_table_has_as_many_clients_as_the_station_says(rt: HostRuntime) -> Result<(), Fail> {
+    let alloc = rt.alloc();
+    let requests = [
+        (CLIENT, 303_000_000),
+        (NEIGHBOUR, 303_100_000),
+        (THIRD, 303_200_000),
+        (NEIGHBOUR, 303_300_000),
+        (CLIENT, 303_400_000),
+    ];
+    let replies = [
+        (CLIENT, "INIT"),
+        (NEIGHBOUR, "INIT"),
+        (THIRD, "INIT"),
+        (NEIGHBOUR, "RATE"),
+        (CLIENT, "INIT"),
+    ];
+    let mut text = String::from_str(alloc, "gap = 2000000\nclients = 2\n")?;
+    text.push_str(LINK)?;
+    let mut gear = no_gear(alloc);
+    gear.links.push(asked(alloc, &requests)?)?;
+    let budget = Budget {
+        during: 5,
+        after: 0,
+    };
+    let ended = serve(&rt, alloc, &OpenGate::new(), text.as_str(), 1, budget, gear)?;
+    let link = ended.gear.links.get(0).ok_or("no link")?;
+    assert!(rt; has_sent(link, &replies));
     Ok(())
 }

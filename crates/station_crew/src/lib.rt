@@ -23,4 +23,6 @@ mod key_tests;
 #[cfg(test)]
 mod leap_tests;
 #[cfg(test)]
+mod number_tests;
+#[cfg(test)]
 mod tests;

@@ -1,12 +1,13 @@
 // Workers, each with a pass of the cell.
 ghost use Rattle.std.specs.Prelude.{◌≡◌, ◌≤◌, ◌<◌, ◌+◌, ◌++◌, [], All, IfSome, None, drop, length, map, option_map, slice_get, vec_capacity, vec_len};
+ghost use Rattle.std.specs.List.{range_with_len};
 ghost use Rattle.std.specs.Option.{option_to_list};
 ghost use Rattle.packet_auth.specs.Keys.{keys_of};
 ghost use Rattle.page_cell.specs.Passes.{claim_of};
 ghost use Rattle.station_config.specs.Station.{IsStation, gate_of};
 ghost use Rattle.station_config.specs.KeptStation.{server_fields};
 ghost use Rattle.station_crew.specs.Jobs.{IsManned};
-ghost use Rattle.station_crew.specs.Leaving.{file_of, leap_pass, link_of, log_of, poll_pass, radio_pass, serve_pass, server_link, server_of};
+ghost use Rattle.station_crew.specs.Leaving.{file_of, leap_pass, link_of, log_of, number_of, poll_pass, radio_pass, serve_pass, server_link, server_of};
 ghost use Rattle.station_crew.specs.Lists.{Pairs};
 
 use crate::jobs::{LeapJob, PollJob, RadioJob, ServeJob};
@@ -135,7 +136,8 @@ pub fn man_leap<L: Source + Drop>(
     }
 }
 
-/// A responder for each link that the station serves on, with the pass of a reader, the keys of the station and a gate of clients.
+/// A responder for each link that the station serves on, numbered from 0, with the pass of a reader, the keys of the station and
+/// a gate of clients.
 pub fn man_responders<T: Link + Drop>(
     station: &Station,
     links: Vec<T>,
@@ -151,6 +153,7 @@ pub fn man_responders<T: Link + Drop>(
     requires room { vec_len links ≤ vec_capacity jobs.old }
     ensures links { map link_of jobs.new.items ≡ links.items }
     ensures readers { map serve_pass jobs.new.items ++ readers.new.items ≡ readers.old.items }
+    ensures numbers { map number_of jobs.new.items ≡ range_with_len 0 (vec_len links) }
     ensures none { All (λ j. j.work.second ≡ None) jobs.new.items }
     ensures keyed { All (λ j. keys_of j.responder.keys ≡ station.now.keys) jobs.new.items }
     ensures gated { All (λ j. j.responder.clients ≡ gate_of station.now) jobs.new.items }

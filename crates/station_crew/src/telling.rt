@@ -1,6 +1,8 @@
 // Between the phases: each responder is told how much every feed has seen.
-ghost use Rattle.std.specs.Prelude.{◌≡◌, ◌≤◌, ◌+◌, [], All, length, vec_capacity, vec_len};
+ghost use Rattle.std.specs.Prelude.{◌≡◌, ◌≤◌, ◌+◌, [], All, length, map, vec_capacity, vec_len};
+ghost use Rattle.std.specs.List.{range_with_len};
 ghost use Rattle.page_cell.specs.Passes.{claim_of};
+ghost use Rattle.station_crew.specs.Leaving.{number_of};
 ghost use Rattle.station_crew.specs.Lists.{Pairs};
 ghost use Rattle.station_crew.specs.Telling.{HasLearnt, HasSeenAll, WasTold};
 
@@ -46,6 +48,7 @@ fn tell_responder<T: Link + Drop>(
     requires number { number + 1 ≤ 8 }
     ensures same { feeds.new ≡ feeds.old }
     ensures told { WasTold feeds.old job result }
+    ensures number { result.responder.number ≡ number }
 {
     let ServeJob { responder, work } = job;
     let keys = responder.keys();
@@ -57,7 +60,7 @@ fn tell_responder<T: Link + Drop>(
     }
 }
 
-/// The responders of the second phase, each of which has seen as much as every feed.
+/// The responders of the second phase, numbered from 0 as in the first, each of which has seen as much as every feed.
 pub fn tell_responders<T: Link + Drop>(
     cell: &PageCell,
     feeds: &mut [FeedPass],
@@ -71,6 +74,7 @@ pub fn tell_responders<T: Link + Drop>(
     requires room { vec_len jobs ≤ vec_capacity told.old }
     ensures same { feeds.new ≡ feeds.old }
     ensures told { Pairs (WasTold feeds.old) jobs.items told.new.items }
+    ensures numbers { map number_of told.new.items ≡ range_with_len 0 (vec_len jobs) }
 {
     for job in jobs {
         let number = told.len() as u32;

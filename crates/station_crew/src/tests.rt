@@ -105,7 +105,7 @@ fn minutes(alloc: Global, count: u32) -> Result<MemorySource, Fail> {
 }
 
 // A link that hears so many requests at 363 s, and then its end.
-fn asked(alloc: Global, count: u32) -> Result<MemoryLink, Fail> {
+pub(crate) fn asked(alloc: Global, count: u32) -> Result<MemoryLink, Fail> {
     let mut hearings = Vec::new(alloc);
     for _ in 0..count {
         hearings.push(Planned::Datagram {

@@ -1,3 +1,4 @@
 -- The lemmas of this crate.
+pub mod HalfLaws
 pub mod OrderLaws
 pub mod RootLaws

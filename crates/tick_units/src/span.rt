@@ -114,11 +114,17 @@ impl Span {
     }
 
     /// Halved so many times, rounded up.
+    #[tactic(auto, using(crate::proofs::HalfLaws::half_above))]
     pub fn halved_up(self, times: u32) -> Span
         requires { times < 64 }
         ensures { result ≡ ceil_div self (2 ^ times) }
     {
-        -(-self).halved_down(times)
+        // Most spans are numbers of 64 bits above 0. A shift halves them, where a quotient of 128 bits takes a call.
+        if 0 < self.units && self.units < 1 << 64 {
+            Span::from(((self.units as u64 - 1) >> times) + 1)
+        } else {
+            -(-self).halved_down(times)
+        }
     }
 }
 

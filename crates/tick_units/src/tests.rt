@@ -105,6 +105,27 @@ fn spans_are_reckoned_with(rt: HostRuntime) {
     assert_eq!(rt; Span::from(Short(3)).get(), 3 * 65_536);
 }
 
+// Around 2^64 units, from where on a span takes more than 64 bits, and around 0.
+#[test]
+fn halves_are_rounded_up_on_both_sides_of_64_bits(rt: HostRuntime) {
+    for (units, times, half) in [
+        (0, 1, 0),
+        (1, 1, 1),
+        (1, 63, 1),
+        (4, 1, 2),
+        (18_446_744_073_709_551_615, 1, 9_223_372_036_854_775_808),
+        (18_446_744_073_709_551_616, 1, 9_223_372_036_854_775_808),
+        (18_446_744_073_709_551_617, 1, 9_223_372_036_854_775_809),
+        (18_446_744_073_709_551_615, 63, 2),
+        (18_446_744_073_709_551_617, 63, 3),
+    ] {
+        assert_eq!(rt;
+            Span::new(units).map(|span| span.halved_up(times).get()),
+            Some(half)
+        );
+    }
+}
+
 // The letters of RFC 5905, section 7.3, figure 12, as ASCII has them.
 #[test]
 fn plans_have_words_and_letters(rt: HostRuntime) {

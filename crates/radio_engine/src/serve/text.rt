@@ -20,6 +20,9 @@ use station_config::Station;
 use station_crew::LinkWork;
 use verdict_journal::Journal;
 
+#[cfg(test)]
+mod line_tests;
+
 // Writes the lines of a journal.
 fn write_journal<K: Sink>(journal: &Journal, out: &mut K) -> Result<(), Failed>
     ensures ok { OnOk result (WritesAll (K.state out.old) (K.state out.new) (journal_text journal.now.settings journal.now.entries)) }

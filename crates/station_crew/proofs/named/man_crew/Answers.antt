@@ -102,6 +102,7 @@ returns-clause-manned g c = record {
   file = c.man_leap.ensures.file;
   begins = subst (λ n. IfSome c.man_leap.result (λ j. j.worker.start ≡ n)) c.start.ensures.value c.man_leap.ensures.begins;
   links = c.man_responders.ensures.links;
+  numbered = c.man_responders.ensures.numbers;
   unserved = c.man_responders.ensures.none;
   keyed = c.man_responders.ensures.keyed;
   gated = c.man_responders.ensures.gated;

@@ -1,7 +1,9 @@
 -- The loop of `telling::tell_responders`.
-use Rattle.std.proofs.Common.{◌≡◌, ◌+◌, ◌≤◌, length}
+use Rattle.std.proofs.Common.{◌≡◌, ◌+◌, ◌≤◌, length, map}
 use Rattle.std.specs.Prelude.{All, vec_capacity, vec_len}
+use Rattle.std.specs.List.{range_with_len}
 use Rattle.std.specs.Vec.Iter.{into_iter_items, into_iter_len}
+use Rattle.station_crew.specs.Leaving.{number_of}
 use Rattle.station_crew.specs.Lists.{PairsFront}
 use Rattle.station_crew.specs.Telling.{WasTold}
 use Rattle.station_crew.proofs.telling.tell_responders.Given as goal
@@ -10,8 +12,10 @@ abbrev pub invariant-loop-job : goal.invariant-loop-job
 invariant-loop-job g l = record {
   same : l.feeds ≡ l.initial.feeds;
   told : PairsFront (WasTold l.initial.feeds) (into_iter_items l.initial.job-iterator) (into_iter_items l.job-iterator) l.told.items;
+  numbers : map number_of l.told.items ≡ range_with_len 0 (vec_len l.told);
   readers : All (λ j. j.responder.pass.table ≡ l.cell.table) (into_iter_items l.job-iterator);
   size : length (into_iter_items l.job-iterator) ≡ into_iter_len l.job-iterator;
+  whole : vec_len l.told + length (into_iter_items l.job-iterator) ≡ length (into_iter_items l.initial.job-iterator);
   few : vec_len l.told + length (into_iter_items l.job-iterator) ≤ 8;
   room : vec_len l.told + length (into_iter_items l.job-iterator) ≤ vec_capacity l.told;
 }
