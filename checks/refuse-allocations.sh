@@ -11,12 +11,12 @@
 #     checks/refuse-allocations.sh
 #
 # Each line has the number, whether there was such an allocation, and how the run ended; the last says how many there were. It builds
-# nothing: run `rt ci` before, or `rt run` in crates/radio_ntpd and `rt test` in crates/radio_engine. It takes a few seconds, wants a C
+# nothing: run `rt ci` before, or `rt run` in crates/radio_ntpd and `rt test` in crates/engine_tests. It takes a few seconds, wants a C
 # compiler and glibc, and is no part of the gate.
 set -u
 cd "$(dirname "$0")/.." || exit 1
 program=crates/radio_ntpd/out/radio_ntpd
-tests=crates/radio_engine/out/radio_engine_tests
+tests=crates/engine_tests/out/engine_tests_tests
 for built in "$program" "$tests"; do
     [ -x "$built" ] || { echo "$built isn't built yet" >&2; exit 1; }
 done

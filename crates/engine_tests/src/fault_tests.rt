@@ -1,7 +1,7 @@
 // What is written and how it ends where calls of the outside fail, each at each of its numbers, or where memory is refused.
-use crate::Status;
 use crate::replay_tests::{Failing, NONE, WORDS, request, run};
 use crate::test_station::EMPTY_PAGE;
+use radio_engine::Status;
 use std::alloc::{AllocError, Global};
 use std::process::Abort;
 use std::sync::Wait;

@@ -1,11 +1,11 @@
 //! Stations with a leap second file, over the fakes. Its rows are those that `leap-seconds.list` has for the ends of June 2015 and of 2016.
 ghost use Rattle.feed_link.specs.MemoryOutside.{is_gate_out};
 
-use crate::Status;
+use crate::runs::written_over;
 use crate::serve_tests::{joined, outside_of, writes};
 use crate::test_station::{ANSWER, ASKED, EMPTY_PAGE, file, minutes, moment, one};
-use crate::tests::written_over;
 use feed_link::{FakeOpen, HoldGate, MemoryLink, NamedLog, OpenGate, Planned};
+use radio_engine::Status;
 use std::alloc::Global;
 use std::process::Abort;
 use std::sync::Wait;

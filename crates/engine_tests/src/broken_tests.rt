@@ -2,13 +2,13 @@
 //! told by its name, and the rest goes on. The minutes are those of DCF77 by PTB's table, 1 January 2026, 13:00 (12:00 UTC) and behind it;
 //! the answer of the server was worked by hand from RFC 5905, section 8.
 
-use crate::Status;
+use crate::runs::written_over;
 use crate::test_station::{
     ANSWER, ASKED, CLIENT, EMPTY_PAGE, LONE, LONE_PAGE, VERDICT, VERDICT_PAGE, file, minutes,
     moment, one,
 };
-use crate::tests::written_over;
 use feed_link::{FakeOpen, LinkEvent, MemoryLink, MemoryOutside, NamedLog, OpenGate, Planned};
+use radio_engine::Status;
 use std::alloc::{AllocError, Global};
 use std::process::Abort;
 use std::sync::Wait;

@@ -3,16 +3,16 @@
 ghost use Rattle.std.specs.Prelude.{◌≡◌, IfOk, false};
 ghost use Rattle.feed_link.specs.MemoryOutside.{is_gate_out};
 
-use crate::Status;
+use crate::runs::written_over;
 use crate::test_station::{
     ANSWER, ASKED, CLIENT, EMPTY_PAGE, LONE, LONE_PAGE, VERDICT, VERDICT_PAGE, file, minutes,
     moment, one,
 };
-use crate::tests::written_over;
 use feed_link::{
     Address, FakeOpen, Gate, HoldGate, LinkEvent, MemoryLink, MemoryOutside, NamedLog, OpenGate,
     Planned,
 };
+use radio_engine::Status;
 use std::alloc::{AllocError, Global};
 use std::process::Abort;
 use std::sync::Wait;

@@ -4,8 +4,8 @@ use denote.Param.Object.{read_made}
 use Rattle.tick_units.specs.declared.marks.Plan.TheVariants.{Dcf, Msf, Wwvb}
 use Rattle.radio_receiver.specs.Histories.{History, blank_of}
 use Rattle.receiver_rack.proofs.MadeLaws.{none_yet, rack_of}
-use Rattle.radio_engine.proofs.tests.run_over.OwnLists.{own-1}
-use Rattle.radio_engine.proofs.tests.run_over.Goals as goal
+use Rattle.engine_tests.proofs.runs.run_over.OwnLists.{own-1}
+use Rattle.engine_tests.proofs.runs.run_over.Goals as goal
 
 pub put_in_rack-requires : goal.put_in_rack-requires
 put_in_rack-requires g c =

@@ -2,10 +2,10 @@
 ghost use Rattle.std.specs.Prelude.{◌≡◌, IfOk, false};
 ghost use Rattle.feed_link.specs.MemoryOutside.{is_gate_out};
 
+use crate::runs::{outside_of, run_over};
 use crate::test_station::{file, minutes, one};
-use crate::tests::{outside_of, run_over};
-use crate::{Status, run_station};
 use feed_link::{FakeOpen, Gate, MemoryOutside, MemorySink, OpenGate};
+use radio_engine::{Status, run_station};
 use radio_receiver::{CountingReceiver, DcfReceiver, MsfReceiver, WwvbReceiver};
 use receiver_rack::put_in_rack;
 use script_player::BoxedReceiver;

@@ -1,7 +1,7 @@
 //! Tests of `migrate` over the fakes: journals of both forms, bad lines, and each fault on the way.
 
-use crate::Status;
 use crate::replay_tests::{Failing, NONE, run};
+use radio_engine::Status;
 use std::alloc::Global;
 use std::process::Abort;
 use std::sync::Wait;

@@ -1,9 +1,9 @@
 //! Tests of `replay` over the fakes: worked scripts, and each fault on their way.
 
-use crate::Status;
+use crate::runs::{outside_of, written_over};
 use crate::test_station::EMPTY_PAGE;
-use crate::tests::{outside_of, written_over};
 use feed_link::{FakeOpen, MemorySource, NamedLog};
+use radio_engine::Status;
 use std::alloc::{AllocError, Global};
 use std::process::Abort;
 use std::sync::Wait;

@@ -1,12 +1,12 @@
 //! Tests of the gate of clients over the fakes: what `replay` and `serve` tell a client that asks too often, one of a denied net, and the
 //! others. The kiss codes are those of RFC 5905, section 7.4; the minutes are those of the other tests.
 
-use crate::Status;
 use crate::replay_tests::{DCF, NONE, WORDS, pulses, run};
+use crate::runs::written_over;
 use crate::serve_tests::{REPLY, REQUEST, joined, outside_of};
 use crate::test_station::{CLIENT, file, minutes, moment, one};
-use crate::tests::written_over;
 use feed_link::{Address, FakeOpen, LinkEvent, MemoryLink, OpenGate, Planned};
+use radio_engine::Status;
 use std::alloc::{AllocError, Global};
 use std::process::Abort;
 use std::sync::Wait;

@@ -2,9 +2,9 @@
 ghost use Rattle.std.specs.Prelude.{◌≡◌, IfOk, false};
 ghost use Rattle.feed_link.specs.MemoryOutside.{is_gate_out};
 
-use crate::Status;
-use crate::tests::written_over;
+use crate::runs::written_over;
 use feed_link::{FakeOpen, Gate, HoldGate, MemoryOutside, OpenGate};
+use radio_engine::Status;
 use std::alloc::Global;
 use std::process::Abort;
 use std::sync::Wait;

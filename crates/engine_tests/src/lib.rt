@@ -1,0 +1,28 @@
+//! Tests of the engine: whole runs of every command over the fakes, through the one call that the program makes. They stand in a
+//! crate of their own, so that a change of one proves none of the engine anew.
+#![tactic(auto)]
+
+#[cfg(test)]
+mod broken_tests;
+#[cfg(test)]
+mod counting_tests;
+#[cfg(test)]
+mod decode_tests;
+#[cfg(test)]
+mod drill_tests;
+#[cfg(test)]
+mod fault_tests;
+#[cfg(test)]
+mod gate_tests;
+#[cfg(test)]
+mod leap_tests;
+#[cfg(test)]
+mod migrate_tests;
+#[cfg(test)]
+mod replay_tests;
+#[cfg(test)]
+mod runs;
+#[cfg(test)]
+mod serve_tests;
+#[cfg(test)]
+mod test_station;

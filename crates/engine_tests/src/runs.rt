@@ -1,0 +1,66 @@
+//! The one call of the program over the fakes, as every test here makes it.
+ghost use Rattle.std.specs.Prelude.{◌≡◌, IfOk, false};
+ghost use Rattle.feed_link.specs.MemoryOutside.{is_gate_out};
+
+use feed_link::{FakeOpen, Gate, MemoryOutside, MemorySink, NamedLog, OpenGate};
+use radio_engine::{Status, run_station};
+use radio_receiver::{DcfReceiver, MsfReceiver, WwvbReceiver};
+use receiver_rack::put_in_rack;
+use script_player::BoxedReceiver;
+use std::alloc::{AllocError, Global};
+use std::sync::Wait;
+use std::thread::Threads;
+use tick_units::Plan;
+
+// An outside with these logs and no links, whose opening of this number fails.
+pub fn outside_of(
+    alloc: Global,
+    logs: Vec<NamedLog>,
+    failing: u64,
+) -> Result<MemoryOutside<OpenGate>, FakeOpen>
+    ensures { IfOk result (λ outside. is_gate_out outside ≡ false) }
+{
+    let fails = vec![in alloc; failing]?;
+    MemoryOutside::new(alloc, logs, Vec::new(alloc), OpenGate::new(), fails, 4, 100)
+}
+
+// What the words write over this outside, and their status; the writing of this number fails.
+pub fn written_over<R: Threads + Wait + Sync, G: Gate + Drop>(
+    rt: &R,
+    alloc: Global,
+    words: &[&str],
+    outside: &mut MemoryOutside<G>,
+    fails: u64,
+) -> Result<(Vec<u8>, Status), AllocError>
+    requires { is_gate_out outside.old ≡ false }
+{
+    let mut out = MemorySink::new(alloc, vec![in alloc; fails]?);
+    let status = run_over(rt, alloc, words, outside, &mut out)?;
+    Ok((out.into_bytes(), status))
+}
+
+// Runs the words with four receivers of each plan.
+pub fn run_over<R: Threads + Wait + Sync, G: Gate + Drop>(
+    rt: &R,
+    alloc: Global,
+    words: &[&str],
+    outside: &mut MemoryOutside<G>,
+    out: &mut MemorySink,
+) -> Result<Status, AllocError>
+    requires { is_gate_out outside.old ≡ false }
+{
+    let mut rack: Vec<BoxedReceiver> = Vec::new(alloc);
+    put_in_rack(&mut rack, Box::new(alloc, DcfReceiver::new())?, Plan::Dcf)?;
+    put_in_rack(&mut rack, Box::new(alloc, MsfReceiver::new())?, Plan::Msf)?;
+    put_in_rack(&mut rack, Box::new(alloc, WwvbReceiver::new())?, Plan::Wwvb)?;
+    put_in_rack(&mut rack, Box::new(alloc, DcfReceiver::new())?, Plan::Dcf)?;
+    put_in_rack(&mut rack, Box::new(alloc, MsfReceiver::new())?, Plan::Msf)?;
+    put_in_rack(&mut rack, Box::new(alloc, WwvbReceiver::new())?, Plan::Wwvb)?;
+    put_in_rack(&mut rack, Box::new(alloc, DcfReceiver::new())?, Plan::Dcf)?;
+    put_in_rack(&mut rack, Box::new(alloc, MsfReceiver::new())?, Plan::Msf)?;
+    put_in_rack(&mut rack, Box::new(alloc, WwvbReceiver::new())?, Plan::Wwvb)?;
+    put_in_rack(&mut rack, Box::new(alloc, DcfReceiver::new())?, Plan::Dcf)?;
+    put_in_rack(&mut rack, Box::new(alloc, MsfReceiver::new())?, Plan::Msf)?;
+    put_in_rack(&mut rack, Box::new(alloc, WwvbReceiver::new())?, Plan::Wwvb)?;
+    Ok(run_station(rt, alloc, words, rack, outside, out))
+}
