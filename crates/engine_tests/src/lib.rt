@@ -1,5 +1,5 @@
-//! Tests of the engine: whole runs of every command over the fakes, through the one call that the program makes. They stand in a
-//! crate of their own, so that a change of one proves none of the engine anew.
+//! Tests of the engine: whole runs of every command over the fakes, through the one call that the program makes, and lines of links whose
+//! counts no run reaches. They stand in a crate of their own, so that a change of one proves none of the engine anew.
 #![tactic(auto)]
 
 #[cfg(test)]
@@ -16,6 +16,8 @@ mod fault_tests;
 mod gate_tests;
 #[cfg(test)]
 mod leap_tests;
+#[cfg(test)]
+mod line_tests;
 #[cfg(test)]
 mod migrate_tests;
 #[cfg(test)]

@@ -14,3 +14,4 @@ mod station_file;
 
 pub use ending::status::Status;
 pub use run::{end_without_memory, run_station};
+pub use serve::text::write_link_line;

@@ -11,7 +11,7 @@ ghost use Rattle.station_gear.specs.Gears.{IsEmptyFor, numbers_of};
 ghost use Rattle.station_gear.specs.Opens.{IsWhole};
 
 pub mod cause;
-mod text;
+pub mod text;
 
 use crate::ending::Ending;
 use crate::ending::status::Status;

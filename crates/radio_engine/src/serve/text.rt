@@ -20,9 +20,6 @@ use station_config::Station;
 use station_crew::LinkWork;
 use verdict_journal::Journal;
 
-#[cfg(test)]
-mod line_tests;
-
 // Writes the lines of a journal.
 fn write_journal<K: Sink>(journal: &Journal, out: &mut K) -> Result<(), Failed>
     ensures ok { OnOk result (WritesAll (K.state out.old) (K.state out.new) (journal_text journal.now.settings journal.now.entries)) }
@@ -96,8 +93,9 @@ fn end_word(end: End) -> &'static [u8]
     }
 }
 
-// Writes the line of a link at the front of `line`. The answer is its number of bytes.
-fn write_link_line(number: usize, work: &LinkWork, line: &mut Line) -> usize
+/// Writes the line of a link at the front of `line`: its number from 0, how many datagrams of each kind its responder met in both phases,
+/// and how it ended. The answer is the number of bytes.
+pub fn write_link_line(number: usize, work: &LinkWork, line: &mut Line) -> usize
     ensures text { take result line.new ≡ line_of_work number work.now }
     ensures within { result ≤ LINE_ROOM }
 {

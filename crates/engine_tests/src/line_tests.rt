@@ -1,6 +1,6 @@
 //! The line of a link: each count is its own, and the sum of both phases. The sums were worked by hand.
-use super::write_link_line;
 use journal_entry::LINE_ROOM;
+use radio_engine::write_link_line;
 use responder::{End, Served};
 use station_crew::LinkWork;
 use std::process::Abort;
