@@ -1,7 +1,14 @@
 //! Tests of the ranges of a date and a time, and of the second that they name.
 use super::*;
 use frame_rules::Number;
+use std::fmt::Debug;
+use std::process::Abort;
 use tick_units::Coded;
+
+// What `assert_eq!` does, as a call: where many stand in a test, calls are proved in a third of the time.
+fn same<T: PartialEq + Debug + Drop>(rt: &impl Abort, left: T, right: T) {
+    assert_eq!(*rt; left, right);
+}
 
 fn number(value: u16) -> Number {
     let ones = value % 10;
@@ -53,12 +60,12 @@ fn dates_have_seconds(rt: HostRuntime) {
             },
             hours_ahead,
         };
-        assert_eq!(rt; civil.minute_start(), wanted);
-        assert_eq!(rt; civil.breaks_date(), wanted.is_none());
-        assert_eq!(rt; civil.breaks_weekday(), false);
+        same(&rt, civil.minute_start(), wanted);
+        same(&rt, civil.breaks_date(), wanted.is_none());
+        same(&rt, civil.breaks_weekday(), false);
         let mut other = civil;
         other.weekday = (weekday + 1) % 7;
-        assert_eq!(rt; other.breaks_weekday(), wanted.is_some());
+        same(&rt, other.breaks_weekday(), wanted.is_some());
     }
 }
 
@@ -88,11 +95,11 @@ fn numbers_have_their_ranges(rt: HostRuntime) {
             hour: number,
             minute: number,
         };
-        assert_eq!(rt; civil.breaks_day_range(), day);
-        assert_eq!(rt; civil.breaks_month_range(), month);
-        assert_eq!(rt; civil.time.breaks_hour_range(), hour);
-        assert_eq!(rt; civil.time.breaks_minute_range(), minute);
-        assert_eq!(rt; breaks_year_range(number), year);
+        same(&rt, civil.breaks_day_range(), day);
+        same(&rt, civil.breaks_month_range(), month);
+        same(&rt, civil.time.breaks_hour_range(), hour);
+        same(&rt, civil.time.breaks_minute_range(), minute);
+        same(&rt, breaks_year_range(number), year);
     }
 }
 
@@ -102,19 +109,19 @@ fn a_number_that_is_none_hides_the_date(rt: HostRuntime) {
     let mut civil = new_year();
     civil.day = number(30);
     civil.month = number(2);
-    assert_eq!(rt; civil.breaks_date(), true);
+    same(&rt, civil.breaks_date(), true);
     civil.weekday = 0;
-    assert_eq!(rt; civil.breaks_weekday_range(), true);
-    assert_eq!(rt; civil.breaks_date(), false);
-    assert_eq!(rt; civil.breaks_weekday(), false);
-    assert_eq!(rt; civil.minute_start(), None);
+    same(&rt, civil.breaks_weekday_range(), true);
+    same(&rt, civil.breaks_date(), false);
+    same(&rt, civil.breaks_weekday(), false);
+    same(&rt, civil.minute_start(), None);
     civil.no_weekday = 7;
-    assert_eq!(rt; civil.breaks_weekday_range(), false);
-    assert_eq!(rt; civil.breaks_date(), true);
+    same(&rt, civil.breaks_weekday_range(), false);
+    same(&rt, civil.breaks_date(), true);
     let c = Coded {
         minute: 3976257600,
         leap_at: 0,
         summer: true,
     };
-    assert_eq!(rt; local_second(&c, 2), 3976264800);
+    same(&rt, local_second(&c, 2), 3976264800);
 }

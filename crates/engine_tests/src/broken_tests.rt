@@ -2,7 +2,7 @@
 //! told by its name, and the rest goes on. The minutes are those of DCF77 by PTB's table, 1 January 2026, 13:00 (12:00 UTC) and behind it;
 //! the answer of the server was worked by hand from RFC 5905, section 8.
 
-use crate::runs::written_over;
+use crate::runs::{same, written_over};
 use crate::test_station::{
     ANSWER, ASKED, CLIENT, EMPTY_PAGE, LONE, LONE_PAGE, VERDICT, VERDICT_PAGE, file, minutes,
     moment, one,
@@ -110,12 +110,12 @@ fn is_whole_or_wants_memory(rt: &impl Abort, ran: Result<Ran, FakeOpen>, whole: 
     };
     let written = ran.written.as_slice();
     match ran.status {
-        Status::Memory => assert_eq!(rt; written, b"status 9 memory\n".as_slice()),
+        Status::Memory => same(&rt, written, b"status 9 memory\n".as_slice()),
         Status::WriteFault => {
             assert!(rt; whole.as_bytes().starts_with(written));
             assert!(rt; written.len() < whole.len());
         }
-        _ => assert_eq!(rt; written, whole.as_bytes()),
+        _ => same(&rt, written, whole.as_bytes()),
     }
 }
 
@@ -136,7 +136,7 @@ fn hears(
         whole.push_str(text)?;
     }
     assert_eq!(rt; ran.written.as_slice(), whole.as_bytes(), "of {log}");
-    assert_eq!(rt; ran.status, end);
+    same(&rt, ran.status, end);
     Ok(())
 }
 
@@ -223,11 +223,12 @@ fn each_reading_of_a_station_that_is_served_may_fail(rt: HostRuntime) -> Result<
         let station = file(alloc, "s", RADIO, fails)?;
         let files = one(alloc, file(alloc, "a", "", 1)?)?;
         let ran = run(&rt, alloc, &SERVE, station, files, Vec::new(alloc))?;
-        assert_eq!(rt;
+        same(
+            &rt,
             ran.written.as_slice(),
-            b"status 4 read station\n".as_slice()
+            b"status 4 read station\n".as_slice(),
         );
-        assert_eq!(rt; ran.status, Status::ReadFault);
+        same(&rt, ran.status, Status::ReadFault);
     }
     Ok(())
 }
@@ -256,14 +257,14 @@ fn datagrams_are_short_under_48_bytes(rt: HostRuntime) -> Result<(), Fail> {
         let want = format!(in alloc;
             "link 0 answered {answered} dropped {dropped} again 0 kissed 0 unkept 0 end linkend\n{EMPTY_PAGE}status 0\n"
         )?;
-        assert_eq!(rt; ran.written.as_slice(), want.as_bytes());
+        same(&rt, ran.written.as_slice(), want.as_bytes());
         let served = ran.outside.link(0).ok_or("a link is out")?;
         let begins = if answered == 1 {
             Some(&NO_TIME[..])
         } else {
             None
         };
-        assert_eq!(rt; sent(served), (answered, begins));
+        same(&rt, sent(served), (answered, begins));
     }
     Ok(())
 }
@@ -278,12 +279,12 @@ fn a_second_hearing_that_fails_leaves_one_turn(rt: HostRuntime) -> Result<(), Fa
     let want = format!(in alloc;
         "link 0 answered 1 dropped 0 again 0 kissed 0 unkept 0 end linkfault\n{EMPTY_PAGE}status 7 link 0\n"
     )?;
-    assert_eq!(rt; ran.written.as_slice(), want.as_bytes());
-    assert_eq!(rt; ran.status, Status::LinkFault);
+    same(&rt, ran.written.as_slice(), want.as_bytes());
+    same(&rt, ran.status, Status::LinkFault);
     // The arrival, the moment and the reply.
     let served = ran.outside.link(0).ok_or("a link is out")?;
-    assert_eq!(rt; served.count(), 3);
-    assert_eq!(rt; sent(served), (1, Some(&NO_TIME[..])));
+    same(&rt, served.count(), 3);
+    same(&rt, sent(served), (1, Some(&NO_TIME[..])));
     Ok(())
 }
 
@@ -297,12 +298,12 @@ fn a_second_sending_that_fails_cuts_its_round(rt: HostRuntime) -> Result<(), Fai
     let want = format!(in alloc;
         "j2 1 0 0 1010000 {SAMPLE}page 1 0 0 494e4954 0 1010000 0 0 1048576 0000000000000000 0 0\nstatus 7 feed 0\n"
     )?;
-    assert_eq!(rt; ran.written.as_slice(), want.as_bytes());
-    assert_eq!(rt; ran.status, Status::LinkFault);
+    same(&rt, ran.written.as_slice(), want.as_bytes());
+    same(&rt, ran.status, Status::LinkFault);
     let polled = ran.outside.link(0).ok_or("a link is out")?;
-    assert_eq!(rt; polled.count(), 4);
+    same(&rt, polled.count(), 4);
     assert!(rt; matches!(polled.event(3), Some(LinkEvent::Moment(_))));
-    assert_eq!(rt; sent(polled), (1, Some(&REQUEST[..])));
+    same(&rt, sent(polled), (1, Some(&REQUEST[..])));
     Ok(())
 }
 
@@ -320,8 +321,8 @@ fn a_poller_that_fails_leaves_the_radio_whole(rt: HostRuntime) -> Result<(), Fai
     let want = format!(in alloc;
         "{LONE}{VERDICT}link 0 answered 1 dropped 0 again 0 kissed 0 unkept 0 end linkend\n{VERDICT_PAGE}status 7 feed 1\n"
     )?;
-    assert_eq!(rt; ran.written.as_slice(), want.as_bytes());
-    assert_eq!(rt; ran.status, Status::LinkFault);
+    same(&rt, ran.written.as_slice(), want.as_bytes());
+    same(&rt, ran.status, Status::LinkFault);
     Ok(())
 }
 
@@ -364,18 +365,18 @@ fn of_each_feed_a_full_journal_has_a_front(rt: HostRuntime) -> Result<(), Fail> 
     let written = ran.written.as_slice();
     let first = front_of(written, b'0').ok_or("the entries of the first radio")?;
     let second = front_of(written, b'1').ok_or("the entries of the second radio")?;
-    assert_eq!(rt; first.saturating_add(second), 3);
+    same(&rt, first.saturating_add(second), 3);
     let mut last = written.split(|byte| *byte == b'\n').skip(3);
     let link = b"link 0 answered 17 dropped 0 again 0 kissed 0 unkept 0 end count".as_slice();
-    assert_eq!(rt; last.next(), Some(link));
+    same(&rt, last.next(), Some(link));
     assert!(rt;
         last.next()
             .is_some_and(|line| line.starts_with(b"page 3 0 0 494e4954 0 "))
     );
-    assert_eq!(rt; last.next(), Some(b"status 6 full 3".as_slice()));
-    assert_eq!(rt; ran.status, Status::JournalFull);
+    same(&rt, last.next(), Some(b"status 6 full 3".as_slice()));
+    same(&rt, ran.status, Status::JournalFull);
     let served = ran.outside.link(0).ok_or("a link is out")?;
-    assert_eq!(rt; sent(served), (17, Some(&NO_TIME[..])));
+    same(&rt, sent(served), (17, Some(&NO_TIME[..])));
     Ok(())
 }
 

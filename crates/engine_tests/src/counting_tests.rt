@@ -2,7 +2,7 @@
 ghost use Rattle.std.specs.Prelude.{◌≡◌, IfOk, false};
 ghost use Rattle.feed_link.specs.MemoryOutside.{is_gate_out};
 
-use crate::runs::{outside_of, run_over};
+use crate::runs::{outside_of, run_over, same};
 use crate::test_station::{file, minutes, one};
 use feed_link::{FakeOpen, Gate, MemoryOutside, MemorySink, OpenGate};
 use radio_engine::{Status, run_station};
@@ -118,12 +118,12 @@ fn a_swap_gives_the_same_with_receivers_that_count(rt: HostRuntime) -> Result<()
     let mut outside = swapped(alloc)?;
     let mut out = MemorySink::new(alloc, Vec::new(alloc));
     let status = run_over(&rt, alloc, &REPLAY, &mut outside, &mut out)?;
-    assert_eq!(rt; out.into_bytes().as_slice(), WHOLE.as_bytes());
-    assert_eq!(rt; status, Status::Done);
+    same(&rt, out.into_bytes().as_slice(), WHOLE.as_bytes());
+    same(&rt, status, Status::Done);
     let mut outside = swapped(alloc)?;
     let mut out = MemorySink::new(alloc, Vec::new(alloc));
     let status = run_counting(&rt, alloc, &REPLAY, &mut outside, &mut out)?;
-    assert_eq!(rt; out.into_bytes().as_slice(), WHOLE.as_bytes());
-    assert_eq!(rt; status, Status::Done);
+    same(&rt, out.into_bytes().as_slice(), WHOLE.as_bytes());
+    same(&rt, status, Status::Done);
     Ok(())
 }

@@ -1,5 +1,5 @@
 //! Tests of `decode`, and of words that are refused.
-use crate::runs::{outside_of, written_over};
+use crate::runs::{outside_of, same, written_over};
 use feed_link::{MemorySource, NamedLog};
 use radio_engine::Status;
 use std::alloc::{AllocError, Global};
@@ -157,8 +157,8 @@ fn decodes(
 ) -> Result<(), Fail> {
     let text = log_of(alloc, frames, changes, close)?;
     let (written, status) = run(rt, alloc, &WORDS, text.as_str(), NONE)?;
-    assert_eq!(rt; written.as_slice(), want.as_bytes());
-    assert_eq!(rt; status, Status::Done);
+    same(&rt, written.as_slice(), want.as_bytes());
+    same(&rt, status, Status::Done);
     Ok(())
 }
 
@@ -338,8 +338,8 @@ fn decodes_msf(
     want: &str,
 ) -> Result<(), Fail> {
     let (written, status) = run(rt, alloc, &MSF, text, NONE)?;
-    assert_eq!(rt; written.as_slice(), want.as_bytes());
-    assert_eq!(rt; status, Status::Done);
+    same(&rt, written.as_slice(), want.as_bytes());
+    same(&rt, status, Status::Done);
     Ok(())
 }
 
@@ -412,7 +412,7 @@ fn wwvb_minutes_are_read(rt: HostRuntime) -> Result<(), Fail> {
         let text = wwvb_log(rt.alloc(), ones, more)?;
         let (written, status) = run(&rt, rt.alloc(), &WWVB, text.as_str(), NONE)?;
         assert_eq!(rt; written.as_slice(), want.as_bytes(), "with {more}");
-        assert_eq!(rt; status, Status::Done);
+        same(&rt, status, Status::Done);
     }
     Ok(())
 }
@@ -437,7 +437,7 @@ fn a_log_ends_at_its_first_bad_line(rt: HostRuntime) -> Result<(), Fail> {
         let mut want = String::new(rt.alloc());
         writeln!(want, "status 5 line 0 {line}")?;
         assert_eq!(rt; written.as_slice(), want.as_bytes(), "at {text}");
-        assert_eq!(rt; status, Status::BadLine);
+        same(&rt, status, Status::BadLine);
     }
     Ok(())
 }
@@ -447,7 +447,7 @@ fn what_is_lawful_is_taken(rt: HostRuntime) -> Result<(), Fail> {
     for text in ["", "0 1\n", "1125899906842623 2000000\n"] {
         let (written, status) = run(&rt, rt.alloc(), &WORDS, text, NONE)?;
         assert_eq!(rt; written.as_slice(), b"status 0\n".as_slice(), "at {text}");
-        assert_eq!(rt; status, Status::Done);
+        same(&rt, status, Status::Done);
     }
     Ok(())
 }
@@ -459,8 +459,8 @@ fn entries_before_a_bad_line_stand(rt: HostRuntime) -> Result<(), Fail> {
     let (written, status) = run(&rt, rt.alloc(), &WORDS, text.as_str(), NONE)?;
     let want =
         "0 62000000 lone 3976257600\n0 122000000 verdict 3976257660 0\nstatus 5 line 0 121\n";
-    assert_eq!(rt; written.as_slice(), want.as_bytes());
-    assert_eq!(rt; status, Status::BadLine);
+    same(&rt, written.as_slice(), want.as_bytes());
+    same(&rt, status, Status::BadLine);
     Ok(())
 }
 
@@ -482,12 +482,12 @@ fn a_read_that_fails_ends_the_log(rt: HostRuntime) -> Result<(), Fail> {
         let failing = Failing { read, ..NONE };
         let (written, status) = run(&rt, rt.alloc(), &WORDS, text.as_str(), failing)?;
         assert_eq!(rt; written.as_slice(), want.as_bytes(), "at {read}");
-        assert_eq!(rt; status, Status::ReadFault);
+        same(&rt, status, Status::ReadFault);
     }
     let past = Failing { read: 6, ..NONE };
     let (written, status) = run(&rt, rt.alloc(), &WORDS, text.as_str(), past)?;
-    assert_eq!(rt; written.as_slice(), TWO_FRAMES.as_bytes());
-    assert_eq!(rt; status, Status::Done);
+    same(&rt, written.as_slice(), TWO_FRAMES.as_bytes());
+    same(&rt, status, Status::Done);
     Ok(())
 }
 
@@ -497,8 +497,12 @@ fn a_log_that_cannot_be_opened(rt: HostRuntime) -> Result<(), Fail> {
     let failing = Failing { open: 1, ..NONE };
     for (words, failing) in [(other, NONE), (WORDS, failing)] {
         let (written, status) = run(&rt, rt.alloc(), &words, "", failing)?;
-        assert_eq!(rt; written.as_slice(), b"status 2 open feed 0\n".as_slice());
-        assert_eq!(rt; status, Status::OpenFault);
+        same(
+            &rt,
+            written.as_slice(),
+            b"status 2 open feed 0\n".as_slice(),
+        );
+        same(&rt, status, Status::OpenFault);
     }
     Ok(())
 }
@@ -516,8 +520,8 @@ fn other_words_are_usage(rt: HostRuntime) -> Result<(), Fail> {
     ];
     for words in table {
         let (written, status) = run(&rt, rt.alloc(), words, "", NONE)?;
-        assert_eq!(rt; written.as_slice(), b"status 1 usage\n".as_slice());
-        assert_eq!(rt; status, Status::Usage);
+        same(&rt, written.as_slice(), b"status 1 usage\n".as_slice());
+        same(&rt, status, Status::Usage);
     }
     Ok(())
 }
@@ -538,6 +542,6 @@ fn statuses_have_their_numbers(rt: HostRuntime) {
         (Status::TooLong, 10),
     ];
     for (status, number) in table {
-        assert_eq!(rt; status.number(), number);
+        same(&rt, status.number(), number);
     }
 }

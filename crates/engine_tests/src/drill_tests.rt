@@ -2,7 +2,7 @@
 ghost use Rattle.std.specs.Prelude.{◌≡◌, IfOk, false};
 ghost use Rattle.feed_link.specs.MemoryOutside.{is_gate_out};
 
-use crate::runs::written_over;
+use crate::runs::{same, written_over};
 use feed_link::{FakeOpen, Gate, HoldGate, MemoryOutside, OpenGate};
 use radio_engine::Status;
 use std::alloc::Global;
@@ -50,8 +50,8 @@ fn tells(
     want: &str,
 ) -> Result<(), Fail> {
     let (written, status) = told(rt, alloc, &["drill", "--seed", seed], 0)?;
-    assert_eq!(rt; written.as_slice(), want.as_bytes());
-    assert_eq!(rt; status, Status::Done);
+    same(&rt, written.as_slice(), want.as_bytes());
+    same(&rt, status, Status::Done);
     Ok(())
 }
 
@@ -80,8 +80,8 @@ fn waits(
     let gate = HoldGate::new(held, 1, other, 4, 1, 1_000_000_000);
     let mut outside = bare(alloc, gate)?;
     let (written, status) = written_over(rt, alloc, &["drill", "--seed=7"], &mut outside, 0)?;
-    assert_eq!(rt; written.as_slice(), SEED_7.as_bytes());
-    assert_eq!(rt; status, Status::Done);
+    same(&rt, written.as_slice(), SEED_7.as_bytes());
+    same(&rt, status, Status::Done);
     let gate = outside.turns().ok_or("the gate is out")?;
     assert!(rt; gate.passed(rt) >= 1);
     assert!(rt; !gate.ran_out(rt));
@@ -102,8 +102,8 @@ fn the_second_feed_waits_for_the_first(rt: HostRuntime) -> Result<(), Fail> {
 #[test]
 fn a_journal_of_4320_entries_has_room_for_a_day(rt: HostRuntime) -> Result<(), Fail> {
     let (written, status) = told(&rt, rt.alloc(), &["drill", "--seed=7", "--limit=4320"], 0)?;
-    assert_eq!(rt; written.as_slice(), SEED_7.as_bytes());
-    assert_eq!(rt; status, Status::Done);
+    same(&rt, written.as_slice(), SEED_7.as_bytes());
+    same(&rt, status, Status::Done);
     Ok(())
 }
 
@@ -111,7 +111,7 @@ fn a_journal_of_4320_entries_has_room_for_a_day(rt: HostRuntime) -> Result<(), F
 fn a_journal_of_4319_entries_is_full(rt: HostRuntime) -> Result<(), Fail> {
     let (written, status) = told(&rt, rt.alloc(), &["drill", "--seed=7", "--limit=4319"], 0)?;
     assert!(rt; written.as_slice().ends_with(b"\nstatus 6 full 4319\n"));
-    assert_eq!(rt; status, Status::JournalFull);
+    same(&rt, status, Status::JournalFull);
     Ok(())
 }
 
@@ -140,8 +140,8 @@ fn a_journal_of_three_entries_is_told(rt: HostRuntime) -> Result<(), Fail> {
         &["drill", "--seed", "7", "--limit", "3"],
         0,
     )?;
-    assert_eq!(rt; status, Status::JournalFull);
-    assert_eq!(rt; sum_of_feeds(written.as_slice()), 3);
+    same(&rt, status, Status::JournalFull);
+    same(&rt, sum_of_feeds(written.as_slice()), 3);
     assert!(rt; written.as_slice().ends_with(b" 0 0\nstatus 6 full 3\n"));
     Ok(())
 }
@@ -161,8 +161,8 @@ fn is_cut(
         number = number.saturating_add(1);
     }
     let (written, status) = told(rt, alloc, &["drill", "--seed=7"], fails)?;
-    assert_eq!(rt; written.as_slice(), want.as_slice());
-    assert_eq!(rt; status, Status::WriteFault);
+    same(&rt, written.as_slice(), want.as_slice());
+    same(&rt, status, Status::WriteFault);
     Ok(())
 }
 
@@ -200,8 +200,8 @@ fn a_drill_without_a_seed_is_refused(rt: HostRuntime) -> Result<(), Fail> {
     ];
     for words in table {
         let (written, status) = told(&rt, rt.alloc(), words, 0)?;
-        assert_eq!(rt; written.as_slice(), b"status 1 usage\n".as_slice());
-        assert_eq!(rt; status, Status::Usage);
+        same(&rt, written.as_slice(), b"status 1 usage\n".as_slice());
+        same(&rt, status, Status::Usage);
     }
     Ok(())
 }

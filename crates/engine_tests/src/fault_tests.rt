@@ -1,5 +1,6 @@
 // What is written and how it ends where calls of the outside fail, each at each of its numbers, or where memory is refused.
 use crate::replay_tests::{Failing, NONE, WORDS, request, run};
+use crate::runs::same;
 use crate::test_station::EMPTY_PAGE;
 use radio_engine::Status;
 use std::alloc::{AllocError, Global};
@@ -88,8 +89,8 @@ fn gives(
         script.as_str(),
         failing,
     )?;
-    assert_eq!(rt; written.as_slice(), want.as_bytes());
-    assert_eq!(rt; status, end);
+    same(&rt, written.as_slice(), want.as_bytes());
+    same(&rt, status, end);
     Ok(())
 }
 
@@ -171,14 +172,14 @@ fn stops_at_each_writing(
         let failing = Failing { write, ..NONE };
         let (written, status) = run(rt, alloc, words, station.as_bytes(), script, failing)?;
         assert_eq!(rt; written.as_slice(), want.as_bytes(), "at {write}");
-        assert_eq!(rt; status, Status::WriteFault);
+        same(&rt, status, Status::WriteFault);
         want.push_str(piece)?;
         write = write.saturating_add(1);
     }
     let failing = Failing { write, ..NONE };
     let (written, status) = run(rt, alloc, words, station.as_bytes(), script, failing)?;
-    assert_eq!(rt; written.as_slice(), want.as_bytes());
-    assert_eq!(rt; status, end);
+    same(&rt, written.as_slice(), want.as_bytes());
+    same(&rt, status, end);
     Ok(())
 }
 
@@ -261,14 +262,14 @@ fn is_whole_or_wants_memory(
     };
     let written = written.as_slice();
     match status {
-        Status::Memory => assert_eq!(rt; written, b"status 9 memory\n".as_slice()),
+        Status::Memory => same(&rt, written, b"status 9 memory\n".as_slice()),
         Status::WriteFault => {
             assert!(rt; whole.as_bytes().starts_with(written));
             assert!(rt; written.len() < whole.len());
         }
         _ => {
-            assert_eq!(rt; written, whole.as_bytes());
-            assert_eq!(rt; status, end);
+            same(&rt, written, whole.as_bytes());
+            same(&rt, status, end);
         }
     }
 }

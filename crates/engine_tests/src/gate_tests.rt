@@ -2,7 +2,7 @@
 //! others. The kiss codes are those of RFC 5905, section 7.4; the minutes are those of the other tests.
 
 use crate::replay_tests::{DCF, NONE, WORDS, pulses, run};
-use crate::runs::written_over;
+use crate::runs::{same, written_over};
 use crate::serve_tests::{REPLY, REQUEST, joined, outside_of};
 use crate::test_station::{CLIENT, file, minutes, moment, one};
 use feed_link::{Address, FakeOpen, LinkEvent, MemoryLink, OpenGate, Planned};
@@ -47,7 +47,7 @@ fn are_replied(
         request(&mut script, *connection, *arrived, *sent)?;
     }
     let (written, status) = run(rt, alloc, &WORDS, station.as_bytes(), script.as_str(), NONE)?;
-    assert_eq!(rt; status, Status::Done);
+    same(&rt, status, Status::Done);
     let mut lines = written.split(|byte| *byte == b'\n').skip(5);
     for reply in want {
         let line = lines.next().ok_or("no reply")?;
@@ -153,7 +153,7 @@ fn no_request_is_judged_that_is_dropped(rt: HostRuntime) -> Result<(), Fail> {
     assert!(rt;
         lines.next().is_some_and(|line| line.starts_with(b"reply e40006ec000000000010000052415445"))
     );
-    assert_eq!(rt; status, Status::Done);
+    same(&rt, status, Status::Done);
     Ok(())
 }
 
@@ -162,11 +162,12 @@ fn a_net_of_33_bits(rt: HostRuntime) -> Result<(), Fail> {
     let alloc = rt.alloc();
     let station = joined(alloc, &[DCF, "[[deny]]\nnet = \"127.0.0.2/33\"\n"])?;
     let (written, status) = run(&rt, alloc, &WORDS, station.as_bytes(), "", NONE)?;
-    assert_eq!(rt;
+    same(
+        &rt,
         written.as_slice(),
-        b"status 3 station range deny.0.net\n".as_slice()
+        b"status 3 station range deny.0.net\n".as_slice(),
     );
-    assert_eq!(rt; status, Status::Station);
+    same(&rt, status, Status::Station);
     Ok(())
 }
 
@@ -231,24 +232,27 @@ fn two_links_judge_over_both_phases(rt: HostRuntime) -> Result<(), Fail> {
             .windows(lines.len())
             .any(|part| part == lines.as_bytes())
     );
-    assert_eq!(rt; status, Status::Done);
+    same(&rt, status, Status::Done);
     let first = outside.link(0).ok_or("no link")?;
     assert!(rt; sent_to(alloc, first, CLIENT)?.ends_with(b"RATE"));
-    assert_eq!(rt; sent_to(alloc, first, CLIENT)?.len(), 8);
-    assert_eq!(rt;
+    same(&rt, sent_to(alloc, first, CLIENT)?.len(), 8);
+    same(
+        &rt,
         sent_to(alloc, first, STRANGER)?.as_slice(),
-        b"DENY".as_slice()
+        b"DENY".as_slice(),
     );
-    assert_eq!(rt;
+    same(
+        &rt,
         sent_to(alloc, first, OTHER)?.as_slice(),
-        b"DCF\0".as_slice()
+        b"DCF\0".as_slice(),
     );
     let second = outside.link(1).ok_or("no link")?;
-    assert_eq!(rt; sent_to(alloc, second, CLIENT)?.len(), 4);
+    same(&rt, sent_to(alloc, second, CLIENT)?.len(), 4);
     assert!(rt; !sent_to(alloc, second, CLIENT)?.ends_with(b"RATE"));
-    assert_eq!(rt;
+    same(
+        &rt,
         sent_to(alloc, second, STRANGER)?.as_slice(),
-        b"DENY".as_slice()
+        b"DENY".as_slice(),
     );
     Ok(())
 }
@@ -265,7 +269,7 @@ fn a_link_tells_the_time_once_a_gap(rt: HostRuntime) -> Result<(), Fail> {
     let mut outside = outside_of(alloc, station.as_str(), logs, links, OpenGate::new(), 0)?;
     let words = ["serve", "--station", "s", "--during", "0", "--after", "4"];
     let (_, status) = written_over(&rt, alloc, &words, &mut outside, 0)?;
-    assert_eq!(rt; status, Status::Done);
+    same(&rt, status, Status::Done);
     let link = outside.link(0).ok_or("no link")?;
     let mut told = 0usize;
     for place in 0..link.count() {
@@ -275,7 +279,7 @@ fn a_link_tells_the_time_once_a_gap(rt: HostRuntime) -> Result<(), Fail> {
             }
         }
     }
-    assert_eq!(rt; told, 1);
+    same(&rt, told, 1);
     assert!(rt; sent_to(alloc, link, CLIENT)?.ends_with(b"RATE"));
     Ok(())
 }

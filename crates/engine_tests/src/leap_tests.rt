@@ -1,7 +1,7 @@
 //! Stations with a leap second file, over the fakes. Its rows are those that `leap-seconds.list` has for the ends of June 2015 and of 2016.
 ghost use Rattle.feed_link.specs.MemoryOutside.{is_gate_out};
 
-use crate::runs::written_over;
+use crate::runs::{same, written_over};
 use crate::serve_tests::{joined, outside_of, writes};
 use crate::test_station::{ANSWER, ASKED, EMPTY_PAGE, file, minutes, moment, one};
 use feed_link::{FakeOpen, HoldGate, MemoryLink, NamedLog, OpenGate, Planned};
@@ -113,7 +113,7 @@ fn remarks(alloc: Global, count: u32, rest: &str) -> Result<String, Fail> {
 fn a_list_may_have_65536_bytes(rt: HostRuntime) -> Result<(), Fail> {
     let alloc = rt.alloc();
     let whole = remarks(alloc, 1008, "3644697600 36\n#\n")?;
-    assert_eq!(rt; whole.len(), 65_536);
+    same(&rt, whole.len(), 65_536);
     writes_list(
         &rt,
         alloc,
@@ -193,8 +193,8 @@ fn it_is_opened_behind_the_logs(rt: HostRuntime) -> Result<(), Fail> {
         let logs = logs(alloc, LIST, 0)?;
         let mut outside = outside_of(alloc, WITH_SERVER, logs, links, OpenGate::new(), opening)?;
         let (written, status) = written_over(&rt, alloc, &WORDS, &mut outside, 0)?;
-        assert_eq!(rt; written.as_slice(), want.as_bytes());
-        assert_eq!(rt; status, Status::OpenFault);
+        same(&rt, written.as_slice(), want.as_bytes());
+        same(&rt, status, Status::OpenFault);
     }
     Ok(())
 }
@@ -217,8 +217,8 @@ fn its_feed_stands_behind_the_servers(rt: HostRuntime) -> Result<(), Fail> {
             "status 0\n",
         ],
     )?;
-    assert_eq!(rt; written.as_slice(), want.as_str().as_bytes());
-    assert_eq!(rt; status, Status::Done);
+    same(&rt, written.as_slice(), want.as_str().as_bytes());
+    same(&rt, status, Status::Done);
     Ok(())
 }
 
@@ -235,7 +235,7 @@ fn the_page_of_a_station_is_armed(rt: HostRuntime) -> Result<(), Fail> {
     let end = "j2 6 0 1 0 notice 3978892800\n\
 page 6 1 1 44434600 17077896086183477248 302000000 4364906902 0 61542 ed00e13000000000 3978892800 0\nstatus 0\n";
     assert!(rt; written.as_slice().ends_with(end.as_bytes()));
-    assert_eq!(rt; status, Status::Done);
+    same(&rt, status, Status::Done);
     Ok(())
 }
 
@@ -262,6 +262,6 @@ fn a_leap_second_is_replayed(rt: HostRuntime) -> Result<(), Fail> {
     let mut outside = outside_of(alloc, LISTED, logs, Vec::new(alloc), OpenGate::new(), 0)?;
     let (written, status) = written_over(&rt, alloc, &REPLAY, &mut outside, 0)?;
     assert!(rt; written.as_slice().ends_with(ANNOUNCED.as_bytes()));
-    assert_eq!(rt; status, Status::Done);
+    same(&rt, status, Status::Done);
     Ok(())
 }

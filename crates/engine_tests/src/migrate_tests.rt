@@ -1,6 +1,7 @@
 //! Tests of `migrate` over the fakes: journals of both forms, bad lines, and each fault on the way.
 
 use crate::replay_tests::{Failing, NONE, run};
+use crate::runs::same;
 use radio_engine::Status;
 use std::alloc::Global;
 use std::process::Abort;
@@ -31,7 +32,7 @@ fn moves(
 ) -> Result<(), Fail> {
     let (written, status) = run(rt, alloc, &WORDS, STATION.as_bytes(), journal, NONE)?;
     assert_eq!(rt; written.as_slice(), want.as_bytes(), "{journal}");
-    assert_eq!(rt; status, end);
+    same(&rt, status, end);
     Ok(())
 }
 
@@ -174,8 +175,8 @@ fn fails(
     end: Status,
 ) -> Result<(), Fail> {
     let (written, status) = run(rt, alloc, &WORDS, STATION.as_bytes(), BARE, failing)?;
-    assert_eq!(rt; written.as_slice(), want.as_bytes());
-    assert_eq!(rt; status, end);
+    same(&rt, written.as_slice(), want.as_bytes());
+    same(&rt, status, end);
     Ok(())
 }
 
@@ -240,10 +241,11 @@ fn writings_that_fail(rt: HostRuntime) -> Result<(), Fail> {
 fn a_station_with_a_fault_moves_nothing(rt: HostRuntime) -> Result<(), Fail> {
     let alloc = rt.alloc();
     let (written, status) = run(&rt, alloc, &WORDS, b"holdover = 600\n", BARE, NONE)?;
-    assert_eq!(rt;
+    same(
+        &rt,
         written.as_slice(),
-        b"status 3 station unknown holdover\n".as_slice()
+        b"status 3 station unknown holdover\n".as_slice(),
     );
-    assert_eq!(rt; status, Status::Station);
+    same(&rt, status, Status::Station);
     Ok(())
 }

@@ -1,6 +1,6 @@
 //! Tests of `replay` over the fakes: worked scripts, and each fault on their way.
 
-use crate::runs::{outside_of, written_over};
+use crate::runs::{outside_of, same, written_over};
 use crate::test_station::EMPTY_PAGE;
 use feed_link::{FakeOpen, MemorySource, NamedLog};
 use radio_engine::Status;
@@ -122,8 +122,8 @@ fn writes(
     end: Status,
 ) -> Result<(), Fail> {
     let (written, status) = run(rt, alloc, words, station.as_bytes(), script, NONE)?;
-    assert_eq!(rt; written.as_slice(), want.as_bytes());
-    assert_eq!(rt; status, end);
+    same(&rt, written.as_slice(), want.as_bytes());
+    same(&rt, status, end);
     Ok(())
 }
 
@@ -172,7 +172,7 @@ fn a_page_ends(rt: HostRuntime) -> Result<(), Fail> {
     let past = lines.next().ok_or("another")?;
     assert!(rt; near.starts_with(b"reply 240106ec"));
     assert!(rt; past.starts_with(b"reply e40006ec0000000000100000494e4954"));
-    assert_eq!(rt; status, Status::Done);
+    same(&rt, status, Status::Done);
     Ok(())
 }
 
@@ -207,7 +207,7 @@ fn a_reply_follows_the_rate(rt: HostRuntime) -> Result<(), Fail> {
         NONE,
     )?;
     assert!(rt; written.ends_with(LATE_END.as_bytes()));
-    assert_eq!(rt; status, Status::Done);
+    same(&rt, status, Status::Done);
     Ok(())
 }
 
@@ -229,7 +229,7 @@ fn a_page_above_its_bound_tells_no_time(rt: HostRuntime) -> Result<(), Fail> {
         NONE,
     )?;
     assert!(rt; written.ends_with(HALF_A_SECOND.as_bytes()));
-    assert_eq!(rt; status, Status::Done);
+    same(&rt, status, Status::Done);
     Ok(())
 }
 
@@ -276,7 +276,7 @@ fn a_full_journal_goes_on(rt: HostRuntime) -> Result<(), Fail> {
             b"\npage 2 0 0 494e4954 0 122000000 0 0 1048576 0000000000000000 0 0\nstatus 6 full 2\n"
         )
     );
-    assert_eq!(rt; status, Status::JournalFull);
+    same(&rt, status, Status::JournalFull);
     // A bad line comes before it.
     script.push_str("\n")?;
     let (written, status) = run(
@@ -292,7 +292,7 @@ fn a_full_journal_goes_on(rt: HostRuntime) -> Result<(), Fail> {
             b"\npage 2 0 0 494e4954 0 122000000 0 0 1048576 0000000000000000 0 0\nstatus 5 script 181\n"
         )
     );
-    assert_eq!(rt; status, Status::BadLine);
+    same(&rt, status, Status::BadLine);
     Ok(())
 }
 
@@ -319,7 +319,7 @@ fn servers_are_asked(rt: HostRuntime) -> Result<(), Fail> {
         NONE,
     )?;
     assert!(rt; written.starts_with(want.as_bytes()));
-    assert_eq!(rt; status, Status::Done);
+    same(&rt, status, Status::Done);
     Ok(())
 }
 
@@ -342,7 +342,7 @@ fn a_swap_loses_its_half_frame(rt: HostRuntime) -> Result<(), Fail> {
             b"j2 1 0 0 62000000 lone 3976257600\nj2 2 0 0 182000000 lone 3976257720\npage 2 "
         )
     );
-    assert_eq!(rt; status, Status::Done);
+    same(&rt, status, Status::Done);
     Ok(())
 }
 
@@ -425,8 +425,12 @@ fn a_station_with_a_fault(rt: HostRuntime) -> Result<(), Fail> {
         )?;
     }
     let (written, status) = run(&rt, rt.alloc(), &WORDS, b"bound = \xff\n", "", NONE)?;
-    assert_eq!(rt; written.as_slice(), b"status 3 station toml\n".as_slice());
-    assert_eq!(rt; status, Status::Station);
+    same(
+        &rt,
+        written.as_slice(),
+        b"status 3 station toml\n".as_slice(),
+    );
+    same(&rt, status, Status::Station);
     Ok(())
 }
 
@@ -542,7 +546,7 @@ fn a_leap_second_ends_a_page(rt: HostRuntime) -> Result<(), Fail> {
     assert!(rt; written.starts_with(LEAP_ENTRIES.as_bytes()));
     assert!(rt; past.starts_with(b"reply e40006ec"));
     assert!(rt; written.ends_with(LEAP_END.as_bytes()));
-    assert_eq!(rt; status, Status::Done);
+    same(&rt, status, Status::Done);
     Ok(())
 }
 

@@ -3,7 +3,7 @@
 ghost use Rattle.std.specs.Prelude.{◌≡◌, IfOk, false};
 ghost use Rattle.feed_link.specs.MemoryOutside.{is_gate_out};
 
-use crate::runs::written_over;
+use crate::runs::{same, written_over};
 use crate::test_station::{
     ANSWER, ASKED, CLIENT, EMPTY_PAGE, LONE, LONE_PAGE, VERDICT, VERDICT_PAGE, file, minutes,
     moment, one,
@@ -167,8 +167,8 @@ pub fn writes(
 ) -> Result<(), Fail> {
     let mut outside = outside_of(alloc, station, logs, links, OpenGate::new(), 0)?;
     let (written, status) = written_over(rt, alloc, words, &mut outside, 0)?;
-    assert_eq!(rt; written.as_slice(), want.as_bytes());
-    assert_eq!(rt; status, end);
+    same(&rt, written.as_slice(), want.as_bytes());
+    same(&rt, status, end);
     Ok(())
 }
 
@@ -226,11 +226,11 @@ fn a_link_that_ends_is_told(rt: HostRuntime) -> Result<(), Fail> {
     let (written, status) = written_over(&rt, alloc, &DURING_2, &mut outside, 0)?;
     let line = "link 0 answered 1 dropped 0 again 0 kissed 0 unkept 0 end linkend\n";
     let want = joined(alloc, &[line, EMPTY_PAGE, "status 0\n"])?;
-    assert_eq!(rt; written.as_slice(), want.as_str().as_bytes());
-    assert_eq!(rt; status, Status::Done);
+    same(&rt, written.as_slice(), want.as_str().as_bytes());
+    same(&rt, status, Status::Done);
     let link = outside.link(0).ok_or("no link")?;
     let (count, last) = replies(link);
-    assert_eq!(rt; count, 1);
+    same(&rt, count, 1);
     assert!(rt; last.is_some_and(|reply| reply.starts_with(&[0xe4, 0x00, 0x06, 0xec])));
     assert!(rt; outside.turns().is_some());
     Ok(())
@@ -304,10 +304,10 @@ fn the_third_sending_fails(rt: HostRuntime) -> Result<(), Fail> {
         alloc,
         &[LONE, VERDICT, line, VERDICT_PAGE, "status 7 link 0\n"],
     )?;
-    assert_eq!(rt; written.as_slice(), want.as_str().as_bytes());
-    assert_eq!(rt; status, Status::LinkFault);
+    same(&rt, written.as_slice(), want.as_str().as_bytes());
+    same(&rt, status, Status::LinkFault);
     let link = outside.link(0).ok_or("no link")?;
-    assert_eq!(rt; replies(link).0, 2);
+    same(&rt, replies(link).0, 2);
     Ok(())
 }
 
@@ -495,8 +495,8 @@ fn each_opening_may_fail(rt: HostRuntime) -> Result<(), Fail> {
         links.push(asked(alloc, 1, 0)?)?;
         let mut outside = outside_of(alloc, ALL, logs, links, OpenGate::new(), open)?;
         let (written, status) = written_over(&rt, alloc, &WORDS, &mut outside, 0)?;
-        assert_eq!(rt; written.as_slice(), want.as_bytes());
-        assert_eq!(rt; status, Status::OpenFault);
+        same(&rt, written.as_slice(), want.as_bytes());
+        same(&rt, status, Status::OpenFault);
         for place in 0..2usize {
             assert!(rt; outside.link(place).is_some_and(|link| link.count() == 0));
         }
@@ -550,13 +550,13 @@ fn each_writing_may_fail(rt: HostRuntime) -> Result<(), Fail> {
         for line in lines.iter().take(fails.saturating_sub(1)) {
             want.push_str(line)?;
         }
-        assert_eq!(rt; written.as_slice(), want.as_str().as_bytes());
+        same(&rt, written.as_slice(), want.as_str().as_bytes());
         let end = if fails <= 5 {
             Status::WriteFault
         } else {
             Status::Done
         };
-        assert_eq!(rt; status, end);
+        same(&rt, status, end);
     }
     Ok(())
 }
@@ -592,12 +592,12 @@ fn held<R: Threads + Wait + Sync + Abort>(
     let gate = outside.turns().ok_or("the gate is out")?;
     assert!(rt; gate.passed(rt) >= 1);
     assert!(rt; !gate.ran_out(rt));
-    assert_eq!(rt; status, Status::Done);
+    same(&rt, status, Status::Done);
     let end = joined(alloc, &[FIVE_OF_3, "status 0\n"])?;
     assert!(rt; ends_with(written, end.as_str()));
     for place in 0..2usize {
         let link = outside.link(place).ok_or("a link is out")?;
-        assert_eq!(rt; replies(link).1, Some(&REPLY[..]));
+        same(&rt, replies(link).1, Some(&REPLY[..]));
     }
     Ok(())
 }
@@ -638,16 +638,16 @@ fn two_radios_fill_a_journal(rt: HostRuntime) -> Result<(), Fail> {
     let station = joined(alloc, &[TWO_RADIOS, LINK])?;
     let mut outside = outside_of(alloc, station.as_str(), logs, links, OpenGate::new(), 0)?;
     let (written, status) = written_over(&rt, alloc, &LIMIT_3, &mut outside, 0)?;
-    assert_eq!(rt; status, Status::JournalFull);
+    same(&rt, status, Status::JournalFull);
     assert!(rt; ends_with(written.as_slice(), "status 6 full 3\n"));
     let entries = written
         .as_slice()
         .split(|byte| *byte == b'\n')
         .filter(|line| line.starts_with(b"j2 "));
-    assert_eq!(rt; entries.count(), 3);
+    same(&rt, entries.count(), 3);
     let link = outside.link(0).ok_or("a link is out")?;
     let (count, last) = replies(link);
-    assert_eq!(rt; count, 1);
+    same(&rt, count, 1);
     assert!(rt; last.is_some_and(|reply| reply.starts_with(&[0xe4, 0x00, 0x06, 0xec])));
     Ok(())
 }
@@ -683,7 +683,7 @@ fn a_reply_is_authentic_where_its_request_is(rt: HostRuntime) -> Result<(), Fail
     let station = joined(alloc, &[RADIO, LINK, KEY])?;
     let mut outside = outside_of(alloc, station.as_str(), logs, links, OpenGate::new(), 0)?;
     let (_, status) = written_over(&rt, alloc, &AFTER_4, &mut outside, 0)?;
-    assert_eq!(rt; status, Status::Done);
+    same(&rt, status, Status::Done);
     let link = outside.link(0).ok_or("a link is out")?;
     let mut sealed = Vec::from_slice(alloc, &REPLY)?;
     sealed.extend_from_slice(&BEHIND_REPLY)?;

@@ -1,5 +1,6 @@
 // Links in memory: what was planned comes in order, and each fault, bound and room shows where it was stated.
 use super::*;
+use crate::tests::same;
 use std::alloc::Global;
 use std::test::Fail;
 use tick_units::Local;
@@ -114,10 +115,11 @@ const HEARD: &str = "5000:2@7 97 98; 7; quiet; true; 5000:3@7 99 100 101; 9; 9; 
 #[test]
 fn a_link_hears_what_was_planned_and_then_its_end(rt: HostRuntime) -> Result<(), Fail> {
     let (text, told) = talk(rt.alloc(), 0, AMPLE)?;
-    assert_eq!(rt; text.as_str(), HEARD);
-    assert_eq!(rt;
+    same(&rt, text.as_str(), HEARD);
+    same(
+        &rt,
         told.as_str(),
-        "8: from 5000 @7 x2; moment 7; quiet; to 5000 x4; from 5000 @7 x3; moment 9; moment 9; end; "
+        "8: from 5000 @7 x2; moment 7; quiet; to 5000 x4; from 5000 @7 x3; moment 9; moment 9; end; ",
     );
     Ok(())
 }
@@ -144,7 +146,7 @@ fn a_call_that_fails_leaves_its_hearing_for_the_next(rt: HostRuntime) -> Result<
     ];
     for (failing, want) in table {
         let (text, _) = talk(rt.alloc(), failing, AMPLE)?;
-        assert_eq!(rt; text.as_str(), want);
+        same(&rt, text.as_str(), want);
     }
     Ok(())
 }
@@ -185,8 +187,8 @@ fn past_its_room_a_link_tells_nothing(rt: HostRuntime) -> Result<(), Fail> {
     ];
     for (space, want) in table {
         let (text, told) = talk(rt.alloc(), 0, space)?;
-        assert_eq!(rt; told.as_str(), want);
-        assert_eq!(rt; text.as_str(), HEARD);
+        same(&rt, told.as_str(), want);
+        same(&rt, text.as_str(), HEARD);
     }
     Ok(())
 }
@@ -205,11 +207,11 @@ fn of_a_longer_datagram_1024_bytes_are_heard(rt: HostRuntime) -> Result<(), Fail
         let mut link = MemoryLink::new(rt.alloc(), hearings, moments, fails, 1, 2000)?;
         let mut piece = [0u8; 1024];
         match link.hear(&mut piece)? {
-            Hearing::Datagram(arrival) => assert_eq!(rt; arrival.length, heard),
+            Hearing::Datagram(arrival) => same(&rt, arrival.length, heard),
             _ => assert!(rt; false),
         }
-        assert_eq!(rt; link.moment().get(), 1);
-        assert_eq!(rt; piece.iter().filter(|byte| **byte == 7).count(), heard);
+        same(&rt, link.moment().get(), 1);
+        same(&rt, piece.iter().filter(|byte| **byte == 7).count(), heard);
     }
     Ok(())
 }
@@ -252,12 +254,12 @@ fn links_are_handed_out_in_order_and_come_back_to_their_places(
     rt: HostRuntime,
 ) -> Result<(), Fail> {
     let mut outside = two_links(rt.alloc(), 9)?;
-    assert_eq!(rt; counts(&outside), [Some(0), Some(0), None]);
-    assert_eq!(rt; visit(&mut outside), Ok(()));
-    assert_eq!(rt; counts(&outside), [Some(1), Some(0), None]);
-    assert_eq!(rt; visit(&mut outside), Err(Failed));
-    assert_eq!(rt; counts(&outside), [Some(1), Some(0), None]);
-    assert_eq!(rt; visit(&mut outside), Err(Failed));
+    same(&rt, counts(&outside), [Some(0), Some(0), None]);
+    same(&rt, visit(&mut outside), Ok(()));
+    same(&rt, counts(&outside), [Some(1), Some(0), None]);
+    same(&rt, visit(&mut outside), Err(Failed));
+    same(&rt, counts(&outside), [Some(1), Some(0), None]);
+    same(&rt, visit(&mut outside), Err(Failed));
     Ok(())
 }
 
@@ -266,9 +268,9 @@ fn a_link_that_is_out_does_not_stand_in_its_place(rt: HostRuntime) -> Result<(),
     let mut outside = two_links(rt.alloc(), 1)?;
     assert!(rt; outside.open_link(123, moment(3)).is_err());
     let net = outside.open_link(123, moment(3))?;
-    assert_eq!(rt; counts(&outside), [None, Some(0), None]);
+    same(&rt, counts(&outside), [None, Some(0), None]);
     outside.give_back_link(net);
-    assert_eq!(rt; counts(&outside), [Some(0), Some(0), None]);
+    same(&rt, counts(&outside), [Some(0), Some(0), None]);
     Ok(())
 }
 
@@ -288,11 +290,11 @@ fn a_gate_is_out_until_it_is_given_back(rt: HostRuntime) -> Result<(), Fail> {
 fn a_gate_holds_a_worker_until_its_turns_run_out(rt: HostRuntime) {
     let gate = HoldGate::new(0, 1, 100, 3, 2, 5);
     gate.pass(&rt, 0, 2);
-    assert_eq!(rt; (gate.passed(&rt), gate.ran_out(&rt)), (0, false));
+    same(&rt, (gate.passed(&rt), gate.ran_out(&rt)), (0, false));
     gate.pass(&rt, 100, 3);
     gate.pass(&rt, 101, 3);
     gate.pass(&rt, 0, 1);
-    assert_eq!(rt; (gate.passed(&rt), gate.ran_out(&rt)), (1, true));
+    same(&rt, (gate.passed(&rt), gate.ran_out(&rt)), (1, true));
 }
 
 #[test]
@@ -302,5 +304,5 @@ fn a_gate_opens_once_the_other_worker_has_passed(rt: HostRuntime) {
     gate.pass(&rt, 100, 3);
     gate.pass(&rt, 0, 1);
     gate.pass(&rt, 0, 1);
-    assert_eq!(rt; (gate.passed(&rt), gate.ran_out(&rt)), (2, false));
+    same(&rt, (gate.passed(&rt), gate.ran_out(&rt)), (2, false));
 }

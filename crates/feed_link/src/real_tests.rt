@@ -2,6 +2,7 @@
 ghost use Rattle.std.specs.Prelude.{◌≡◌, ◌≤◌, IfOk};
 
 use super::*;
+use crate::tests::same;
 use std::io::{self, ErrorKind, Read, Write};
 use std::test::Fail;
 
@@ -50,17 +51,17 @@ impl Write for Shaky {
 #[test]
 fn a_file_is_read_on_after_an_interruption(rt: HostRuntime) {
     let mut source = FileSource::new(Shaky { calls: 0 });
-    assert_eq!(rt; read_three(&mut source).0, Ok(0));
-    assert_eq!(rt; read_three(&mut source).0, Err(Failed));
+    same(&rt, read_three(&mut source).0, Ok(0));
+    same(&rt, read_three(&mut source).0, Err(Failed));
 }
 
 #[test]
 fn a_write_of_nothing_is_a_fault(rt: HostRuntime) {
     let mut sink = StreamSink::new(Shaky { calls: 0 });
-    assert_eq!(rt; sink.write(b"a"), Err(Failed));
+    same(&rt, sink.write(b"a"), Err(Failed));
     let mut sink = StreamSink::new(Shaky { calls: 0 });
-    assert_eq!(rt; sink.write(b""), Ok(0));
-    assert_eq!(rt; sink.write(b"a"), Err(Failed));
+    same(&rt, sink.write(b""), Ok(0));
+    same(&rt, sink.write(b"a"), Err(Failed));
 }
 
 // A file of the bytes 1, 2, 3 .. up to a last one, of which each call gives one.
@@ -85,9 +86,9 @@ impl Read for OneByOne {
 fn a_file_that_gives_one_byte_a_call_loses_none(rt: HostRuntime) {
     let mut source = FileSource::new(OneByOne { next: 0, last: 3 });
     for want in [1, 2, 3] {
-        assert_eq!(rt; read_three(&mut source), (Ok(1), [want, 0, 0]));
+        same(&rt, read_three(&mut source), (Ok(1), [want, 0, 0]));
     }
-    assert_eq!(rt; read_three(&mut source), (Ok(0), [0; 3]));
+    same(&rt, read_three(&mut source), (Ok(0), [0; 3]));
 }
 
 // A file that fills every piece.
@@ -104,8 +105,8 @@ impl Read for Full {
 #[test]
 fn a_file_may_give_more_than_512_bytes_at_a_call(rt: HostRuntime) {
     let mut piece = [0u8; 700];
-    assert_eq!(rt; FileSource::new(Full).read(&mut piece), Ok(700));
-    assert_eq!(rt; piece, [7; 700]);
+    same(&rt, FileSource::new(Full).read(&mut piece), Ok(700));
+    same(&rt, piece, [7; 700]);
 }
 
 // A stream that takes at most three bytes a call, keeps the last of them, and fails once: at its second call.
@@ -136,8 +137,8 @@ impl Write for Narrow {
 #[test]
 fn a_short_write_is_answered_as_short_and_a_fault_in_mid_piece_as_a_fault(rt: HostRuntime) {
     let mut sink = StreamSink::new(Narrow { calls: 0, last: 0 });
-    assert_eq!(rt; sink.write(b"abcde"), Ok(3));
-    assert_eq!(rt; sink.write(b"de"), Err(Failed));
-    assert_eq!(rt; sink.write(b"de"), Ok(2));
-    assert_eq!(rt; sink.write(b""), Ok(0));
+    same(&rt, sink.write(b"abcde"), Ok(3));
+    same(&rt, sink.write(b"de"), Err(Failed));
+    same(&rt, sink.write(b"de"), Ok(2));
+    same(&rt, sink.write(b""), Ok(0));
 }

@@ -2,6 +2,7 @@
 ghost use Rattle.std.specs.Prelude.{◌≡◌};
 
 use super::*;
+use crate::tests::same;
 use crate::udp::Counter;
 use std::io::{self, ErrorKind};
 use std::net::{IpAddr, Ipv4Addr, SocketAddr, UdpSocket};
@@ -85,8 +86,8 @@ fn silence_is_quiet_and_an_error_of_the_socket_is_a_fault(rt: HostRuntime) {
         (ErrorKind::OutOfMemory, Err(Failed), Err(Failed)),
     ];
     for (kind, hears, sends) in table {
-        assert_eq!(rt; heard(&rt, failing(kind, 1, 123)), hears);
-        assert_eq!(rt; sent(&rt, failing(kind, 1, 123)), sends);
+        same(&rt, heard(&rt, failing(kind, 1, 123)), hears);
+        same(&rt, sent(&rt, failing(kind, 1, 123)), sends);
     }
 }
 
@@ -100,8 +101,8 @@ fn a_call_is_made_again_that_was_interrupted_or_told_of_another_datagram(rt: Hos
         ErrorKind::NetworkUnreachable,
     ];
     for kind in table {
-        assert_eq!(rt; heard(&rt, failing(kind, 3, 123)), Ok(123));
-        assert_eq!(rt; sent(&rt, failing(kind, 3, 123)), Ok(()));
+        same(&rt, heard(&rt, failing(kind, 3, 123)), Ok(123));
+        same(&rt, sent(&rt, failing(kind, 3, 123)), Ok(()));
     }
 }
 
@@ -113,15 +114,15 @@ fn a_datagram_without_a_way_is_lost_and_no_fault(rt: HostRuntime) {
         ErrorKind::InvalidInput,
     ];
     for kind in table {
-        assert_eq!(rt; sent(&rt, failing(kind, 1, 123)), Ok(()));
-        assert_eq!(rt; heard(&rt, failing(kind, 1, 123)), Err(Failed));
+        same(&rt, sent(&rt, failing(kind, 1, 123)), Ok(()));
+        same(&rt, heard(&rt, failing(kind, 1, 123)), Err(Failed));
     }
 }
 
 #[test]
 fn a_sender_without_a_port_is_not_heard(rt: HostRuntime) {
-    assert_eq!(rt; heard(&rt, failing(ErrorKind::Other, 0, 0)), Ok(7));
-    assert_eq!(rt; heard(&rt, failing(ErrorKind::Other, 0, 9)), Ok(9));
+    same(&rt, heard(&rt, failing(ErrorKind::Other, 0, 0)), Ok(7));
+    same(&rt, heard(&rt, failing(ErrorKind::Other, 0, 9)), Ok(9));
 }
 
 // The link of a free port, and a client's socket that waits for at most two seconds.
@@ -140,16 +141,16 @@ fn a_link_of_the_host_hears_and_answers(rt: HostRuntime) -> Result<(), Fail> {
         ip: 0x7f00_0001,
         port,
     };
-    assert_eq!(rt; link.send(to, b"abc"), Ok(()));
+    same(&rt, link.send(to, b"abc"), Ok(()));
     let mut piece = [0u8; 1024];
     let (length, from) = server.receive(&mut piece)?;
-    assert_eq!(rt; &piece[..length], b"abc".as_slice());
+    same(&rt, &piece[..length], b"abc".as_slice());
     let long = [7u8; 1100];
-    assert_eq!(rt; server.transmit(from, &long)?, 1100);
+    same(&rt, server.transmit(from, &long)?, 1100);
     match link.hear(&mut piece)? {
         Hearing::Datagram(arrival) => {
-            assert_eq!(rt; (arrival.from, arrival.length), (to, 1024));
-            assert_eq!(rt; piece.as_slice(), &long[..1024]);
+            same(&rt, (arrival.from, arrival.length), (to, 1024));
+            same(&rt, piece.as_slice(), &long[..1024]);
             assert!(rt; arrival.at.get() >= first.get());
             assert!(rt; link.moment().get() >= arrival.at.get());
         }
@@ -169,7 +170,7 @@ fn two_seconds_of_silence_are_quiet_also_behind_a_dead_server(rt: HostRuntime) -
         ip: 0x7f00_0001,
         port: 9,
     };
-    assert_eq!(rt; link.send(to, b"abc"), Ok(()));
+    same(&rt, link.send(to, b"abc"), Ok(()));
     let mut piece = [0u8; 1024];
     let before = link.moment().get();
     let heard = link.hear(&mut piece)?;

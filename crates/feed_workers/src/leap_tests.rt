@@ -3,7 +3,7 @@ ghost use Rattle.std.specs.Prelude.{◌≡◌, ◌<◌, ◌≤◌, [], All};
 ghost use Rattle.page_cell.specs.Passes.{key_of};
 ghost use Rattle.system_fold.specs.Settings.{AreLawful};
 
-use crate::tests::{moment, settings_of, text_of};
+use crate::tests::{moment, same, settings_of, text_of};
 use crate::{LeapWorker, LogEnd, LogWork};
 use feed_link::{MemorySource, OpenGate};
 use page_cell::{CellParts, PageCell};
@@ -84,8 +84,8 @@ fn reads<R: Abort + Wait>(
     let Some((did, journal)) = run_list::<Brand, R>(rt, alloc, parts, &settings, limit, log) else {
         return Err("no hub")?;
     };
-    assert_eq!(rt; text_of(alloc, &journal)?.as_str(), want);
-    assert_eq!(rt; did, work);
+    same(&rt, text_of(alloc, &journal)?.as_str(), want);
+    same(&rt, did, work);
     Ok(())
 }
 
@@ -202,7 +202,7 @@ fn a_list_of_65536_bytes_is_whole(rt: HostRuntime) -> Result<(), Fail> {
         text.push(b'#')?;
     }
     text.extend_from_slice(b"\n3692217600\t37\n")?;
-    assert_eq!(rt; text.len(), 65_536);
+    same(&rt, text.len(), 65_536);
     reads(&rt, alloc, text.as_slice(), 0, 10, TWO, WHOLE)?;
     text.push(b'\n')?;
     let long = LogWork {

@@ -1,5 +1,6 @@
 //! The published list: the rows of `leap-seconds.list` as Debian's tzdata 2025b has it, with lines of the kinds that stand around them.
 use super::*;
+use crate::tests::same;
 use std::test::Fail;
 
 // What the file says before its rows, and behind them.
@@ -91,12 +92,12 @@ fn the_published_list_tells_of_27_leap_seconds(rt: HostRuntime) -> Result<(), Fa
     let mut found = [0; 28];
     let mut reader = LeapReader::new();
     let head = take_piece(&mut reader, HEAD, &mut found, 0)?;
-    assert_eq!(rt; head, 0);
+    same(&rt, head, 0);
     let rows = take_pieces(&mut reader, &ROWS, &mut found, 0)?;
-    assert_eq!(rt; rows, 27);
+    same(&rt, rows, 27);
     assert!(rt; found.starts_with(&SECONDS));
     let tail = take_piece(&mut reader, TAIL, &mut found, 27)?;
-    assert_eq!(rt; tail, 27);
-    assert_eq!(rt; reader.finish(), Ok(None));
+    same(&rt, tail, 27);
+    same(&rt, reader.finish(), Ok(None));
     Ok(())
 }

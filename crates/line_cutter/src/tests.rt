@@ -3,7 +3,14 @@ ghost use Rattle.std.specs.Prelude.{◌<◌};
 
 use crate::{Cut, LineCutter};
 use std::alloc::{AllocError, Global};
+use std::fmt::Debug;
+use std::process::Abort;
 use std::test::Fail;
+
+// What `assert_eq!` does, as a call: where many stand in a test, calls are proved in a third of the time.
+fn same<T: PartialEq + Debug + Drop>(rt: &impl Abort, left: T, right: T) {
+    assert_eq!(*rt; left, right);
+}
 
 const SCRIPT: &[u8] = b"pulse 0 1 2\n\nask 1 2\nswap 0";
 
@@ -31,15 +38,15 @@ fn cut(alloc: Global, script: &[u8], length: usize) -> Result<(Vec<u8>, bool), A
 fn pieces_are_cut_anywhere(rt: HostRuntime) -> Result<(), Fail> {
     for length in 1..30 {
         let (lines, tail) = cut(rt.alloc(), SCRIPT, length)?;
-        assert_eq!(rt; lines.as_slice(), b"pulse 0 1 2||ask 1 2|".as_slice());
+        same(&rt, lines.as_slice(), b"pulse 0 1 2||ask 1 2|".as_slice());
         assert!(rt; tail);
     }
     // A carriage return is a byte of its line.
     let (lines, tail) = cut(rt.alloc(), b"a\r\nb\rc\n\r", 4)?;
-    assert_eq!(rt; lines.as_slice(), b"a\r|b\rc|".as_slice());
+    same(&rt, lines.as_slice(), b"a\r|b\rc|".as_slice());
     assert!(rt; tail);
     let (lines, tail) = cut(rt.alloc(), b"swap 0\n", 3)?;
-    assert_eq!(rt; lines.as_slice(), b"swap 0|".as_slice());
+    same(&rt, lines.as_slice(), b"swap 0|".as_slice());
     assert!(rt; !tail);
     Ok(())
 }
@@ -50,13 +57,13 @@ fn a_line_is_too_long_where_the_limit_says(rt: HostRuntime) {
     for limit in 1..10usize {
         let mut cutter = LineCutter::new(limit);
         let whole = cutter.take(&b"123456789"[..limit - 1]);
-        assert_eq!(rt; whole.count, limit - 1);
-        assert_eq!(rt; whole.cut, Cut::More);
-        assert_eq!(rt; cutter.take(b"\n").cut, Cut::Line);
-        assert_eq!(rt; cutter.line().len(), limit - 1);
+        same(&rt, whole.count, limit - 1);
+        same(&rt, whole.cut, Cut::More);
+        same(&rt, cutter.take(b"\n").cut, Cut::Line);
+        same(&rt, cutter.line().len(), limit - 1);
         let longer = cutter.take(&b"123456789"[..limit]);
-        assert_eq!(rt; longer.count, limit);
-        assert_eq!(rt; longer.cut, Cut::TooLong);
+        same(&rt, longer.count, limit);
+        same(&rt, longer.cut, Cut::TooLong);
     }
 }
 
@@ -64,15 +71,15 @@ fn a_line_is_too_long_where_the_limit_says(rt: HostRuntime) {
 fn a_line_is_too_long_at_its_4096th_byte(rt: HostRuntime) {
     let mut cutter = LineCutter::new(4096);
     let whole = [b'a'; 4095];
-    assert_eq!(rt; cutter.take(&whole).cut, Cut::More);
+    same(&rt, cutter.take(&whole).cut, Cut::More);
     let taken = cutter.take(b"\nnext");
-    assert_eq!(rt; taken.cut, Cut::Line);
-    assert_eq!(rt; taken.count, 1);
-    assert_eq!(rt; cutter.line(), whole.as_slice());
-    assert_eq!(rt; cutter.take(&whole[1..]).cut, Cut::More);
+    same(&rt, taken.cut, Cut::Line);
+    same(&rt, taken.count, 1);
+    same(&rt, cutter.line(), whole.as_slice());
+    same(&rt, cutter.take(&whole[1..]).cut, Cut::More);
     let taken = cutter.take(b"bc\n");
-    assert_eq!(rt; taken.cut, Cut::TooLong);
-    assert_eq!(rt; taken.count, 2);
+    same(&rt, taken.cut, Cut::TooLong);
+    same(&rt, taken.count, 2);
     let again = cutter.take(b"bc\n");
-    assert_eq!(rt; again, taken);
+    same(&rt, again, taken);
 }

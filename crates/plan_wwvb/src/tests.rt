@@ -3,9 +3,15 @@ ghost use Rattle.std.specs.Prelude.{◌≡◌, false};
 ghost use Rattle.plan_wwvb.specs.Spelling.{IsSpellable};
 
 use super::*;
+use std::fmt::Debug;
 use std::process::Abort;
 use std::test::Fail;
 use tick_units::{Broken, Coded, Local, Mark, Symbol};
+
+// What `assert_eq!` does, as a call: where many stand in a test, calls are proved in a third of the time.
+fn same<T: PartialEq + Debug + Drop>(rt: &impl Abort, left: T, right: T) {
+    assert_eq!(*rt; left, right);
+}
 
 // The places that are 1, from Python's datetime. Thursday 2026-01-01, 12:00, DUT1 above 0.
 const NEW_YEAR: [usize; 8] = [13, 17, 33, 36, 38, 47, 51, 52];
@@ -88,7 +94,7 @@ fn frames_are_read(rt: HostRuntime) -> Result<(), Fail> {
     ];
     for (ones, wanted) in rows {
         let marks = frame(ones, &[])?;
-        assert_eq!(rt; read_closed(&marks[..60])?, wanted);
+        same(&rt, read_closed(&marks[..60])?, wanted);
     }
     Ok(())
 }
@@ -127,7 +133,7 @@ fn each_rule_is_broken_alone(rt: HostRuntime) -> Result<(), Fail> {
     ];
     for (places, rule) in rows {
         let marks = frame(&NEW_YEAR, places)?;
-        assert_eq!(rt; read_closed(&marks[..60])?, broken(rule));
+        same(&rt, read_closed(&marks[..60])?, broken(rule));
     }
     Ok(())
 }
@@ -136,7 +142,7 @@ fn each_rule_is_broken_alone(rt: HostRuntime) -> Result<(), Fail> {
 #[test]
 fn a_common_year_has_365_days(rt: HostRuntime) -> Result<(), Fail> {
     let marks = frame(&DAY_366, &[53])?;
-    assert_eq!(rt; read_closed(&marks[..60])?, broken(56));
+    same(&rt, read_closed(&marks[..60])?, broken(56));
     Ok(())
 }
 
@@ -144,7 +150,7 @@ fn a_common_year_has_365_days(rt: HostRuntime) -> Result<(), Fail> {
 #[test]
 fn a_date_is_judged_where_there_is_one(rt: HostRuntime) -> Result<(), Fail> {
     let marks = frame(&LAST_MINUTE, &[53, 56])?;
-    assert_eq!(rt; read_closed(&marks[..60])?, broken(56));
+    same(&rt, read_closed(&marks[..60])?, broken(56));
     Ok(())
 }
 
@@ -152,7 +158,7 @@ fn a_date_is_judged_where_there_is_one(rt: HostRuntime) -> Result<(), Fail> {
 #[test]
 fn no_leap_second_is_announced_in_the_last_minute(rt: HostRuntime) -> Result<(), Fail> {
     let marks = frame(&LAST_MINUTE, &[56])?;
-    assert_eq!(rt; read_closed(&marks[..60])?, broken(58));
+    same(&rt, read_closed(&marks[..60])?, broken(58));
     Ok(())
 }
 
@@ -161,12 +167,12 @@ fn markers_are_long_and_no_other_place(rt: HostRuntime) -> Result<(), Fail> {
     for marker in MARKERS {
         let mut marks = frame(&NEW_YEAR, &[])?;
         marks[marker].symbol = Symbol::Zero;
-        assert_eq!(rt; read_closed(&marks[..60])?, broken(50));
+        same(&rt, read_closed(&marks[..60])?, broken(50));
     }
     for place in [1, 4, 36, 40, 55, 58] {
         let mut marks = frame(&NEW_YEAR, &[])?;
         marks[place].symbol = Symbol::Long;
-        assert_eq!(rt; read_closed(&marks[..60])?, broken(50));
+        same(&rt, read_closed(&marks[..60])?, broken(50));
     }
     Ok(())
 }
@@ -196,10 +202,10 @@ fn turn(marks: &mut [Mark; 61], places: &[usize]) {
 fn lesser_is_named(rt: &impl Abort, breaks: &[(&[usize], u8)]) -> Result<(), Fail> {
     for (i, (places, rule)) in breaks.iter().enumerate() {
         let mut marks = frame(&NEW_YEAR, places)?;
-        assert_eq!(rt; read_closed(&marks[..60])?, broken(*rule));
+        same(&rt, read_closed(&marks[..60])?, broken(*rule));
         if let Some((next, _)) = breaks.get(i + 1) {
             turn(&mut marks, next);
-            assert_eq!(rt; read_closed(&marks[..60])?, broken(*rule));
+            same(&rt, read_closed(&marks[..60])?, broken(*rule));
         }
     }
     Ok(())
@@ -217,13 +223,13 @@ fn of_two_rules_the_lesser_is_named(rt: HostRuntime) -> Result<(), Fail> {
 fn spacing_comes_before_width_and_width_before_length(rt: HostRuntime) -> Result<(), Fail> {
     let mut marks = frame(&NEW_YEAR, &[4])?;
     marks[9].symbol = Symbol::One;
-    assert_eq!(rt; read_closed(&marks[..60])?, broken(50));
+    same(&rt, read_closed(&marks[..60])?, broken(50));
     let close = Local::new(61_000_000).ok_or("close")?;
-    assert_eq!(rt; read(&marks[..59], close), broken(3));
+    same(&rt, read(&marks[..59], close), broken(3));
     marks[3].symbol = Symbol::Odd;
-    assert_eq!(rt; read_closed(&marks[..60])?, broken(2));
-    assert_eq!(rt; read(&marks[..59], close), broken(2));
-    assert_eq!(rt; read_closed(&marks[..59])?, broken(1));
+    same(&rt, read_closed(&marks[..60])?, broken(2));
+    same(&rt, read(&marks[..59], close), broken(2));
+    same(&rt, read_closed(&marks[..59])?, broken(1));
     Ok(())
 }
 
@@ -239,13 +245,13 @@ fn marks_are_counted_and_spaced(rt: HostRuntime) -> Result<(), Fail> {
     ];
     for (close, wanted) in rows {
         let close = Local::new(close).ok_or("close")?;
-        assert_eq!(rt; read(&marks[..60], close), wanted);
+        same(&rt, read(&marks[..60], close), wanted);
     }
     let close = Local::new(63_000_000).ok_or("close")?;
-    assert_eq!(rt; read(&marks, close), broken(3));
-    assert_eq!(rt; read(&[], close), broken(3));
+    same(&rt, read(&marks, close), broken(3));
+    same(&rt, read(&[], close), broken(3));
     marks[1].at = Local::new(3_100_001).ok_or("start")?;
-    assert_eq!(rt; read_closed(&marks[..60])?, broken(1));
+    same(&rt, read_closed(&marks[..60])?, broken(1));
     Ok(())
 }
 
@@ -253,7 +259,7 @@ fn marks_are_counted_and_spaced(rt: HostRuntime) -> Result<(), Fail> {
 #[test]
 fn what_is_passed_over_changes_nothing(rt: HostRuntime) -> Result<(), Fail> {
     let marks = frame(&NEW_YEAR, &[36, 37, 38, 40, 41, 42, 43, 55, 57, 58])?;
-    assert_eq!(rt; read_closed(&marks[..60])?, minute(3976257660, 0));
+    same(&rt, read_closed(&marks[..60])?, minute(3976257660, 0));
     Ok(())
 }
 
@@ -262,7 +268,7 @@ fn spells(rt: &impl Abort, c: &Coded, ones: &[usize])
     requires { IsSpellable c.now }
 {
     let mut out = [Symbol::Odd; 61];
-    assert_eq!(rt; spell(c, &mut out), 60);
+    same(&rt, spell(c, &mut out), 60);
     for (place, written) in out.iter().enumerate() {
         let wanted = if place == 60 {
             Symbol::Odd
@@ -273,7 +279,7 @@ fn spells(rt: &impl Abort, c: &Coded, ones: &[usize])
         } else {
             Symbol::Zero
         };
-        assert_eq!(rt; *written, wanted);
+        same(&rt, *written, wanted);
     }
 }
 

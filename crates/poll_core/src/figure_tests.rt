@@ -1,6 +1,6 @@
 //! Figures of exchanges at the bounds of their fields.
 use crate::tests::{
-    DELAY, DISPERSION, OFFSET, RECEIVE, ROOT_DISP, SERVER, TRANSMIT, answered, sample, with,
+    DELAY, DISPERSION, OFFSET, RECEIVE, ROOT_DISP, SERVER, TRANSMIT, answered, same, sample, with,
 };
 use std::test::Fail;
 use tick_units::Span;
@@ -40,7 +40,7 @@ fn eras(rt: HostRuntime) -> Result<(), Fail> {
     ] {
         let bytes = with(RECEIVE, &[a, b, c, d, 0, 0, 0, 0, a, b, c, d]);
         let found = answered(SERVER, &bytes)?.map(|sample| sample.offset.get());
-        assert_eq!(rt; found, Ok(offset));
+        same(&rt, found, Ok(offset));
     }
     Ok(())
 }
@@ -50,7 +50,7 @@ fn eras(rt: HostRuntime) -> Result<(), Fail> {
 fn a_delay_has_a_floor(rt: HostRuntime) -> Result<(), Fail> {
     let found = answered(SERVER, &with(TRANSMIT, &[0xed, 0x00, 0xe1, 0x32]))?;
     let delay = found.map(|sample| sample.delay);
-    assert_eq!(rt; delay, Ok(Span::from(4_096)));
+    same(&rt, delay, Ok(Span::from(4_096)));
     Ok(())
 }
 

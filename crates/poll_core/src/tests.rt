@@ -4,8 +4,15 @@ ghost use Rattle.poll_core.specs.Polling.{asked_at};
 
 use crate::{Poll, PollRefusal};
 use feed_link::Address;
+use std::fmt::Debug;
+use std::process::Abort;
 use std::test::Fail;
 use tick_units::{Local, Sample, Short, Span, Stamp};
+
+// What `assert_eq!` does, as a call: where many stand in a test, calls are proved in a third of the time.
+pub(crate) fn same<T: PartialEq + Debug + Drop>(rt: &impl Abort, left: T, right: T) {
+    assert_eq!(*rt; left, right);
+}
 
 pub const SERVER: Address = Address {
     ip: 0x7f00_0001,
@@ -99,12 +106,12 @@ pub const DISPERSION: u64 = 8_837;
 #[test]
 fn an_exchange(rt: HostRuntime) -> Result<(), Fail> {
     let mut poll = Poll::new(SERVER);
-    assert_eq!(rt; poll.ask(moment(1_000_000)?), REQUEST);
+    same(&rt, poll.ask(moment(1_000_000)?), REQUEST);
     let arrived = moment(1_010_000)?;
     let first = poll.answer(arrived, SERVER, &ANSWER);
-    assert_eq!(rt; first, Ok(sample(OFFSET, DELAY, DISPERSION)));
+    same(&rt, first, Ok(sample(OFFSET, DELAY, DISPERSION)));
     let again = poll.answer(arrived, SERVER, &ANSWER);
-    assert_eq!(rt; again, Err(PollRefusal::NotAsked));
+    same(&rt, again, Err(PollRefusal::NotAsked));
     Ok(())
 }
 
@@ -124,9 +131,9 @@ fn refused(
 fn a_stranger(rt: HostRuntime) -> Result<(), Fail> {
     for from in [OTHER_PORT, OTHER_HOST] {
         let (found, then) = refused(from, &ANSWER)?;
-        assert_eq!(rt; found, PollRefusal::Stranger { from });
-        assert_eq!(rt; found.code(), 1);
-        assert_eq!(rt; then, Ok(sample(OFFSET, DELAY, DISPERSION)));
+        same(&rt, found, PollRefusal::Stranger { from });
+        same(&rt, found.code(), 1);
+        same(&rt, then, Ok(sample(OFFSET, DELAY, DISPERSION)));
     }
     Ok(())
 }
@@ -160,9 +167,9 @@ fn each_fault_of_an_answer(rt: HostRuntime) -> Result<(), Fail> {
     ];
     for (bytes, refusal, code) in table {
         let (found, then) = refused(SERVER, &bytes)?;
-        assert_eq!(rt; found, refusal);
-        assert_eq!(rt; found.code(), code);
-        assert_eq!(rt; then, Ok(sample(OFFSET, DELAY, DISPERSION)));
+        same(&rt, found, refusal);
+        same(&rt, found.code(), code);
+        same(&rt, then, Ok(sample(OFFSET, DELAY, DISPERSION)));
     }
     Ok(())
 }
@@ -171,9 +178,9 @@ fn each_fault_of_an_answer(rt: HostRuntime) -> Result<(), Fail> {
 fn a_short_answer(rt: HostRuntime) -> Result<(), Fail> {
     for length in [0, 47] {
         let (found, then) = refused(SERVER, &ANSWER[..length])?;
-        assert_eq!(rt; found, PollRefusal::Short { length });
-        assert_eq!(rt; found.code(), 2);
-        assert_eq!(rt; then, Ok(sample(OFFSET, DELAY, DISPERSION)));
+        same(&rt, found, PollRefusal::Short { length });
+        same(&rt, found.code(), 2);
+        same(&rt, then, Ok(sample(OFFSET, DELAY, DISPERSION)));
     }
     Ok(())
 }
@@ -182,8 +189,8 @@ fn a_short_answer(rt: HostRuntime) -> Result<(), Fail> {
 fn an_answer_to_no_request(rt: HostRuntime) -> Result<(), Fail> {
     let mut poll = Poll::new(SERVER);
     let found = poll.answer(moment(1_010_000)?, SERVER, &ANSWER);
-    assert_eq!(rt; found, Err(PollRefusal::NotAsked));
-    assert_eq!(rt; PollRefusal::NotAsked.code(), 3);
+    same(&rt, found, Err(PollRefusal::NotAsked));
+    same(&rt, PollRefusal::NotAsked.code(), 3);
     Ok(())
 }
 
@@ -198,8 +205,8 @@ fn a_duplicate(rt: HostRuntime) -> Result<(), Fail> {
     let refusal = PollRefusal::Duplicate {
         transmit: Stamp(0xed00_e131_0020_c49b),
     };
-    assert_eq!(rt; second, Err(refusal));
-    assert_eq!(rt; refusal.code(), 7);
+    same(&rt, second, Err(refusal));
+    same(&rt, refusal.code(), 7);
     Ok(())
 }
 
@@ -213,7 +220,7 @@ fn a_late_answer(rt: HostRuntime) -> Result<(), Fail> {
         origin: Stamp(0x8000_0001_0000_0000),
         asked: Stamp(0x8000_0002_0000_0000),
     };
-    assert_eq!(rt; late, Err(refusal));
+    same(&rt, late, Err(refusal));
     Ok(())
 }
 
@@ -223,21 +230,25 @@ fn an_answer_with_each_fault(rt: HostRuntime) -> Result<(), Fail> {
     let mut poll = Poll::new(SERVER);
     let arrived = moment(0)?;
     let nothing = [0; 48];
-    assert_eq!(rt;
+    same(
+        &rt,
         poll.answer(arrived, OTHER_PORT, &nothing[..47]),
-        Err(PollRefusal::Stranger { from: OTHER_PORT })
+        Err(PollRefusal::Stranger { from: OTHER_PORT }),
     );
-    assert_eq!(rt;
+    same(
+        &rt,
         poll.answer(arrived, SERVER, &nothing[..47]),
-        Err(PollRefusal::Short { length: 47 })
+        Err(PollRefusal::Short { length: 47 }),
     );
-    assert_eq!(rt;
+    same(
+        &rt,
         poll.answer(arrived, SERVER, &nothing),
-        Err(PollRefusal::NotAsked)
+        Err(PollRefusal::NotAsked),
     );
-    assert_eq!(rt;
+    same(
+        &rt,
         answered(SERVER, &nothing)?,
-        Err(PollRefusal::Version { version: 0 })
+        Err(PollRefusal::Version { version: 0 }),
     );
     Ok(())
 }
@@ -257,7 +268,7 @@ fn of_two_faults_the_lesser_number_counts(rt: HostRuntime) -> Result<(), Fail> {
         (with_no_stamp, PollRefusal::ZeroStamp),
     ] {
         let (found, _) = refused(SERVER, &bytes)?;
-        assert_eq!(rt; found, refusal);
+        same(&rt, found, refusal);
     }
     Ok(())
 }
@@ -274,13 +285,13 @@ fn a_duplicate_with_another_fault(rt: HostRuntime) -> Result<(), Fail> {
         origin: Stamp(0x8000_0001_0000_0000),
         asked: Stamp(0x8000_0002_0000_0000),
     };
-    assert_eq!(rt; second, Err(bogus));
+    same(&rt, second, Err(bogus));
     let _same = poll.ask(moment(1_000_000)?);
     let third = poll.answer(moment(1_010_000)?, SERVER, &with(0, &[0xe4]));
     let duplicate = PollRefusal::Duplicate {
         transmit: Stamp(0xed00_e131_0020_c49b),
     };
-    assert_eq!(rt; third, Err(duplicate));
+    same(&rt, third, Err(duplicate));
     Ok(())
 }
 

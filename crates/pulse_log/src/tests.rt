@@ -1,8 +1,15 @@
 //! Tests of lines, of their faults, and of logs in pieces.
 use super::*;
 use std::alloc::{AllocError, Global};
+use std::fmt::Debug;
+use std::process::Abort;
 use std::test::Fail;
 use tick_units::{Local, Reduction};
+
+// What `assert_eq!` does, as a call: where many stand in a test, calls are proved in a third of the time.
+fn same<T: PartialEq + Debug + Drop>(rt: &impl Abort, left: T, right: T) {
+    assert_eq!(*rt; left, right);
+}
 
 // What a reader answers over a log, byte by byte and at its end: starts and widths, and the bad line.
 fn read(alloc: Global, log: &[u8]) -> Result<(Vec<(u64, u32)>, Option<u64>), AllocError> {
@@ -114,8 +121,8 @@ fn lawful_lines_are_read(rt: HostRuntime) -> Result<(), Fail> {
     ];
     for (log, want) in table {
         let (found, bad) = read(rt.alloc(), log.as_bytes())?;
-        assert_eq!(rt; found.as_slice(), want);
-        assert_eq!(rt; bad, None);
+        same(&rt, found.as_slice(), want);
+        same(&rt, bad, None);
         let (found, bad) = read_in_pieces(rt.alloc(), log.as_bytes(), 512)?;
         assert_eq!(rt; found.as_slice(), want, "at once");
         assert_eq!(rt; bad, None, "at once");
@@ -165,9 +172,9 @@ fn the_first_line_that_is_not_lawful_is_told(rt: HostRuntime) -> Result<(), Fail
 fn a_line_is_bad_at_its_32nd_byte(rt: HostRuntime) -> Result<(), Fail> {
     let mut reader = LineReader::new();
     for _ in 0..31u8 {
-        assert_eq!(rt; reader.take(b'1'), Ok(None));
+        same(&rt, reader.take(b'1'), Ok(None));
     }
-    assert_eq!(rt; reader.take(b'1'), Err(BadLine { line: 1 }));
+    same(&rt, reader.take(b'1'), Err(BadLine { line: 1 }));
     Ok(())
 }
 
@@ -177,11 +184,11 @@ fn a_bad_line_is_told_on(rt: HostRuntime) -> Result<(), Fail> {
     for byte in b"7 1\n8 x" {
         let _ = reader.take(*byte);
     }
-    assert_eq!(rt; reader.take(b'\n'), Err(BadLine { line: 2 }));
+    same(&rt, reader.take(b'\n'), Err(BadLine { line: 2 }));
     for byte in b"9 1\n10 1\n" {
-        assert_eq!(rt; reader.take(*byte), Err(BadLine { line: 2 }));
+        same(&rt, reader.take(*byte), Err(BadLine { line: 2 }));
     }
-    assert_eq!(rt; reader.finish(), Err(BadLine { line: 2 }));
+    same(&rt, reader.finish(), Err(BadLine { line: 2 }));
     Ok(())
 }
 
@@ -204,8 +211,8 @@ fn lines_are_written(rt: HostRuntime) -> Result<(), Fail> {
         let at = Local::new(at).ok_or("a start")?;
         let mut out = [b'#'; 40];
         let length = write_line(Reduction { at, width }, &mut out);
-        assert_eq!(rt; out.as_slice(), want.as_bytes());
-        assert_eq!(rt; Some(length), want.find('#'));
+        same(&rt, out.as_slice(), want.as_bytes());
+        same(&rt, Some(length), want.find('#'));
     }
     Ok(())
 }

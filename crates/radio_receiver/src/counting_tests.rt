@@ -1,7 +1,7 @@
 //! Tests of a receiver round a receiver: what it answers is what the inner one answers, and it counts what it hears.
 ghost use Rattle.std.specs.Prelude.{◌≡◌, ◌≤◌};
 
-use crate::tests::{dcf_minute, last_answer, lone, msf_minute, wwvb_minute};
+use crate::tests::{dcf_minute, last_answer, lone, msf_minute, same, wwvb_minute};
 use crate::{CountingReceiver, DcfReceiver, MsfReceiver, Receiver, WwvbReceiver};
 use std::alloc::Global;
 use std::test::Fail;
@@ -85,25 +85,25 @@ fn it_answers_what_its_inner_receiver_answers(rt: HostRuntime) -> Result<(), Fai
         rt.alloc(),
         CountingReceiver::new(DcfReceiver::new()),
     )?;
-    assert_eq!(rt; counting.plan(), Plan::Dcf);
+    same(&rt, counting.plan(), Plan::Dcf);
     let heard = last_answer(counting, 0, list.as_slice());
-    assert_eq!(rt; heard, lone(62_000_000, 3_976_257_600));
+    same(&rt, heard, lone(62_000_000, 3_976_257_600));
     let list = msf_minute(rt.alloc())?;
     let counting: Box<dyn Receiver + Send> = Box::new(
         rt.alloc(),
         CountingReceiver::new(MsfReceiver::new()),
     )?;
-    assert_eq!(rt; counting.plan(), Plan::Msf);
+    same(&rt, counting.plan(), Plan::Msf);
     let heard = last_answer(counting, 1_500, list.as_slice());
-    assert_eq!(rt; heard, lone(61_998_500, 3_976_257_600));
+    same(&rt, heard, lone(61_998_500, 3_976_257_600));
     let list = wwvb_minute(rt.alloc())?;
     let counting: Box<dyn Receiver + Send> = Box::new(
         rt.alloc(),
         CountingReceiver::new(WwvbReceiver::new()),
     )?;
-    assert_eq!(rt; counting.plan(), Plan::Wwvb);
+    same(&rt, counting.plan(), Plan::Wwvb);
     let heard = last_answer(counting, 100_000, list.as_slice());
-    assert_eq!(rt; heard, lone(61_900_000, 3_944_592_060));
+    same(&rt, heard, lone(61_900_000, 3_944_592_060));
     Ok(())
 }
 
@@ -112,14 +112,14 @@ fn it_answers_what_its_inner_receiver_answers(rt: HostRuntime) -> Result<(), Fai
 fn it_counts_each_reduction(rt: HostRuntime) -> Result<(), Fail> {
     let alloc = rt.alloc();
     let (counted, heard) = counts(alloc, Box::new(alloc, DcfReceiver::new())?, 20_000)?;
-    assert_eq!(rt; counted, [0, 0, 61]);
-    assert_eq!(rt; heard, lone(61_980_000, 3_976_257_600));
+    same(&rt, counted, [0, 0, 61]);
+    same(&rt, heard, lone(61_980_000, 3_976_257_600));
     let (counted, heard) = counts(alloc, Box::new(alloc, MsfReceiver::new())?, 0)?;
-    assert_eq!(rt; counted, [0, 0, 63]);
-    assert_eq!(rt; heard, lone(62_000_000, 3_976_257_600));
+    same(&rt, counted, [0, 0, 63]);
+    same(&rt, heard, lone(62_000_000, 3_976_257_600));
     let (counted, heard) = counts(alloc, Box::new(alloc, WwvbReceiver::new())?, 0)?;
-    assert_eq!(rt; counted, [0, 0, 62]);
-    assert_eq!(rt; heard, lone(62_000_000, 3_944_592_060));
+    same(&rt, counted, [0, 0, 62]);
+    same(&rt, heard, lone(62_000_000, 3_944_592_060));
     Ok(())
 }
 
@@ -128,7 +128,7 @@ fn it_counts_each_reduction(rt: HostRuntime) -> Result<(), Fail> {
 fn the_inner_receiver_goes_on(rt: HostRuntime) -> Result<(), Fail> {
     let alloc = rt.alloc();
     let (counted, heard) = goes_on(alloc, Box::new(alloc, DcfReceiver::new())?)?;
-    assert_eq!(rt; counted, [40, 40, 61]);
-    assert_eq!(rt; heard, lone(62_000_000, 3_976_257_600));
+    same(&rt, counted, [40, 40, 61]);
+    same(&rt, heard, lone(62_000_000, 3_976_257_600));
     Ok(())
 }

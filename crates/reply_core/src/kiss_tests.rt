@@ -2,7 +2,7 @@
 ghost use Rattle.std.specs.Prelude.{◌≢◌, ◌≤◌};
 ghost use Rattle.reply_core.specs.declared.code.Code.TheVariants.{Pass};
 
-use crate::tests::{REQUEST, answered, moment, of_a_fast_counter, of_a_radio};
+use crate::tests::{REQUEST, answered, moment, of_a_fast_counter, of_a_radio, same};
 use crate::{Code, Dropped, kiss};
 use clock_page::Page;
 use std::test::Fail;
@@ -47,15 +47,16 @@ fn a_client_asks_too_often(rt: HostRuntime) -> Result<(), Fail> {
         0xed, 0x00, 0xe1, 0x32, 0x00, 0x00, 0x00, 0x00, 0xed, 0x00, 0xe1, 0x32, 0x00, 0x20, 0xc4,
         0x9b,
     ];
-    assert_eq!(rt;
+    same(
+        &rt,
         kissed(
             Code::Rate,
             &of_a_radio()?,
             &REQUEST,
             304_000_000,
-            304_000_500
+            304_000_500,
         )?,
-        Ok(packet)
+        Ok(packet),
     );
     Ok(())
 }
@@ -70,15 +71,16 @@ fn a_client_is_denied(rt: HostRuntime) -> Result<(), Fail> {
         0xed, 0x00, 0xe1, 0x31, 0x00, 0x00, 0x00, 0x00, 0xed, 0x00, 0xe1, 0x31, 0x00, 0x20, 0xc4,
         0x9b,
     ];
-    assert_eq!(rt;
+    same(
+        &rt,
         kissed(
             Code::Deny,
             &of_a_radio()?,
             &REQUEST,
             303_000_000,
-            303_000_500
+            303_000_500,
         )?,
-        Ok(packet)
+        Ok(packet),
     );
     Ok(())
 }
@@ -97,9 +99,10 @@ fn a_server_that_is_not_synchronised_has_the_same_codes(rt: HostRuntime) -> Resu
     let page = Page::unsynchronised(4, moment(242_000_000)?);
     let mut request = REQUEST;
     request[0] = 0x0b;
-    assert_eq!(rt;
+    same(
+        &rt,
         kissed(Code::Deny, &page, &request, 243_000_000, 243_000_500)?,
-        Ok(denied)
+        Ok(denied),
     );
 
     let rated = [
@@ -112,15 +115,16 @@ fn a_server_that_is_not_synchronised_has_the_same_codes(rt: HostRuntime) -> Resu
     ];
     request[0] = 0x1b;
     request[2] = 17;
-    assert_eq!(rt;
+    same(
+        &rt,
         kissed(
             Code::Rate,
             &of_a_radio()?,
             &request,
             4_364_906_902,
-            4_364_906_902
+            4_364_906_902,
         )?,
-        Ok(rated)
+        Ok(rated),
     );
     Ok(())
 }
@@ -135,7 +139,7 @@ fn a_code_has_the_stamps_of_the_answer(rt: HostRuntime) -> Result<(), Fail> {
     let Ok(packet) = kissed(Code::Rate, &page, &REQUEST, 372_003_000, 372_003_000)? else {
         return Err("dropped")?;
     };
-    assert_eq!(rt; packet[24..], answer[24..]);
+    same(&rt, &packet[24..], &answer[24..]);
     assert!(rt; packet.starts_with(&[0xe4, 0x00, 0x06, 0xec, 0, 0, 0, 0, 0x00, 0x10, 0, 0]));
     Ok(())
 }
@@ -146,10 +150,11 @@ fn codes_are_dropped_as_answers_are(rt: HostRuntime) -> Result<(), Fail> {
     let page = of_a_radio()?;
     for code in [Code::Deny, Code::Rate] {
         assert!(rt; code != Code::Pass);
-        assert_eq!(rt; kissed(code, &page, &[], 0, 0)?, Err(Dropped::Short));
-        assert_eq!(rt;
+        same(&rt, kissed(code, &page, &[], 0, 0)?, Err(Dropped::Short));
+        same(
+            &rt,
             kissed(code, &page, &REQUEST[..47], 0, 0)?,
-            Err(Dropped::Short)
+            Err(Dropped::Short),
         );
         for (first, dropped) in [
             (0x2b, Dropped::Version),
@@ -170,9 +175,10 @@ fn codes_are_dropped_as_answers_are(rt: HostRuntime) -> Result<(), Fail> {
         long[..48].copy_from_slice(&REQUEST);
         let packet = kissed(code, &page, &long, 303_000_000, 303_000_500)?;
         assert!(rt; packet.is_ok());
-        assert_eq!(rt;
+        same(
+            &rt,
             packet,
-            kissed(code, &page, &REQUEST, 303_000_000, 303_000_500)?
+            kissed(code, &page, &REQUEST, 303_000_000, 303_000_500)?,
         );
     }
     Ok(())

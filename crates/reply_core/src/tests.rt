@@ -3,8 +3,15 @@ ghost use Rattle.std.specs.Prelude.{◌≡◌, ◌≤◌, IfOk};
 
 use crate::{Dropped, reply};
 use clock_page::Page;
+use std::fmt::Debug;
+use std::process::Abort;
 use std::test::Fail;
 use tick_units::{Local, Short, Span, Stamp};
+
+// What `assert_eq!` does, as a call: where many stand in a test, calls are proved in a third of the time.
+pub(crate) fn same<T: PartialEq + Debug + Drop>(rt: &impl Abort, left: T, right: T) {
+    assert_eq!(*rt; left, right);
+}
 
 pub(crate) fn moment(microseconds: u64) -> Result<Local, Fail>
     ensures { IfOk result (λ l. l ≡ microseconds) }
@@ -69,9 +76,10 @@ fn an_answer_of_a_server_that_is_not_synchronised(rt: HostRuntime) -> Result<(),
         0x00, 0x00, 0x00, 0xf3, 0x00, 0x00, 0x00, 0x00, 0x00, 0x00, 0x00, 0xf3, 0x00, 0x20, 0xc4,
         0x9b,
     ];
-    assert_eq!(rt;
+    same(
+        &rt,
         answered(&page, &REQUEST, 243_000_000, 243_000_500)?,
-        Ok(answer)
+        Ok(answer),
     );
     Ok(())
 }
@@ -87,9 +95,10 @@ fn an_answer_of_a_synchronised_server(rt: HostRuntime) -> Result<(), Fail> {
         0xed, 0x00, 0xe1, 0x31, 0x00, 0x00, 0x00, 0x00, 0xed, 0x00, 0xe1, 0x31, 0x00, 0x20, 0xc4,
         0x9b,
     ];
-    assert_eq!(rt;
+    same(
+        &rt,
         answered(&page, &REQUEST, 303_000_000, 303_000_500)?,
-        Ok(answer)
+        Ok(answer),
     );
     Ok(())
 }
@@ -123,9 +132,10 @@ fn an_answer_follows_the_rate(rt: HostRuntime) -> Result<(), Fail> {
         0xed, 0x00, 0xe1, 0x75, 0xff, 0xf7, 0xce, 0xda, 0xed, 0x00, 0xe1, 0x75, 0xff, 0xf7, 0xce,
         0xda,
     ];
-    assert_eq!(rt;
+    same(
+        &rt,
         answered(&page, &REQUEST, 372_003_000, 372_003_000)?,
-        Ok(answer)
+        Ok(answer),
     );
     Ok(())
 }
@@ -177,8 +187,12 @@ fn a_leap_second_is_announced(rt: HostRuntime) -> Result<(), Fail> {
 #[test]
 fn what_is_no_request_is_dropped(rt: HostRuntime) -> Result<(), Fail> {
     let page = of_a_radio()?;
-    assert_eq!(rt; answered(&page, &[], 0, 0)?, Err(Dropped::Short));
-    assert_eq!(rt; answered(&page, &REQUEST[..47], 0, 0)?, Err(Dropped::Short));
+    same(&rt, answered(&page, &[], 0, 0)?, Err(Dropped::Short));
+    same(
+        &rt,
+        answered(&page, &REQUEST[..47], 0, 0)?,
+        Err(Dropped::Short),
+    );
     for (first, dropped) in [
         (0x2b, Dropped::Version),
         (0x03, Dropped::Version),
@@ -203,8 +217,8 @@ fn a_drop_writes_nothing(rt: HostRuntime) -> Result<(), Fail> {
         moment(0)?,
         &mut out,
     );
-    assert_eq!(rt; dropped, Err(Dropped::Short));
-    assert_eq!(rt; out, [0xaa; 48]);
+    same(&rt, dropped, Err(Dropped::Short));
+    same(&rt, out, [0xaa; 48]);
     Ok(())
 }
 
@@ -221,9 +235,10 @@ fn each_version_is_answered(rt: HostRuntime) -> Result<(), Fail> {
             begins(answer, [head, 0x01, 0x06, 0xec], *b"DCF\0"),
             "{first}"
         );
-        assert_eq!(rt;
+        same(
+            &rt,
             answer,
-            answered(&page, &datagram[..48], 303_000_000, 303_000_500)?
+            answered(&page, &datagram[..48], 303_000_000, 303_000_500)?,
         );
     }
     Ok(())

@@ -1,7 +1,7 @@
 //! A responder whose gate denies senders, or lets each pass once in a gap. The page is that of no entry, so an answer has the reference ID
 //! `INIT`; a kiss code stands there in its letters (RFC 5905, section 7.4).
 
-use crate::tests::{CLIENT, NONE, bytes_of, gate_of, link_of, moment, opened};
+use crate::tests::{CLIENT, NONE, bytes_of, gate_of, link_of, moment, opened, same};
 use crate::{Responder, Served};
 use feed_link::{Address, Link, LinkEvent, MemoryLink, OpenGate, Planned};
 use kiss_gate::{ClientGate, DenyList};
@@ -82,13 +82,14 @@ fn a_client_that_asks_within_the_gap_gets_rate(rt: HostRuntime) -> Result<(), Fa
     let link = hearing(rt.alloc(), &datagrams)?;
     let gate = gate_of(rt.alloc(), &DenyList::new(), 1000)?;
     let (served, link, _) = serve(&rt, rt.alloc(), link, gate, 4)?;
-    assert_eq!(rt;
+    same(
+        &rt,
         served,
         Served {
             answered: 3,
             kissed: 1,
             ..NONE
-        }
+        },
     );
     assert!(rt; has_sent(&link, &replies));
     Ok(())
@@ -113,7 +114,7 @@ fn a_client_is_judged_by_when_its_request_came(rt: HostRuntime) -> Result<(), Fa
     let link = MemoryLink::new(alloc, hearings, moments, Vec::new(alloc), 40, 4000)?;
     let gate = gate_of(alloc, &DenyList::new(), 1000)?;
     let (served, link, _) = serve(&rt, alloc, link, gate, 2)?;
-    assert_eq!(rt; (served.answered, served.kissed), (1, 1));
+    same(&rt, (served.answered, served.kissed), (1, 1));
     assert!(rt; has_sent(&link, &[(CLIENT, "INIT"), (CLIENT, "RATE")]));
     Ok(())
 }
@@ -133,14 +134,15 @@ fn a_denied_sender_gets_deny(rt: HostRuntime) -> Result<(), Fail> {
     let link = hearing(rt.alloc(), &datagrams)?;
     let gate = gate_of(rt.alloc(), &deny, 0)?;
     let (served, link, _) = serve(&rt, rt.alloc(), link, gate, 5)?;
-    assert_eq!(rt;
+    same(
+        &rt,
         served,
         Served {
             answered: 1,
             dropped: 2,
             kissed: 2,
             ..NONE
-        }
+        },
     );
     assert!(rt; has_sent(&link, &replies));
     Ok(())
@@ -157,14 +159,15 @@ fn a_dropped_datagram_is_not_judged(rt: HostRuntime) -> Result<(), Fail> {
     let link = hearing(rt.alloc(), &datagrams)?;
     let gate = gate_of(rt.alloc(), &DenyList::new(), 1000)?;
     let (served, link, _) = serve(&rt, rt.alloc(), link, gate, 3)?;
-    assert_eq!(rt;
+    same(
+        &rt,
         served,
         Served {
             answered: 1,
             dropped: 1,
             kissed: 1,
             ..NONE
-        }
+        },
     );
     assert!(rt; has_sent(&link, &[(CLIENT, "INIT"), (CLIENT, "RATE")]));
     Ok(())
@@ -176,14 +179,14 @@ fn the_table_is_handed_on(rt: HostRuntime) -> Result<(), Fail> {
     let gate = gate_of(rt.alloc(), &DenyList::new(), 1000)?;
     let link = hearing(rt.alloc(), &[(CLIENT, 100, 0x23, 48)])?;
     let (first, link, gate) = serve(&rt, rt.alloc(), link, gate, 1)?;
-    assert_eq!(rt; (first.answered, first.kissed), (1, 0));
+    same(&rt, (first.answered, first.kissed), (1, 0));
     assert!(rt; has_sent(&link, &[(CLIENT, "INIT")]));
     let link = hearing(
         rt.alloc(),
         &[(CLIENT, 500, 0x23, 48), (OTHER, 501, 0x23, 48)],
     )?;
     let (second, link, _) = serve(&rt, rt.alloc(), link, gate, 2)?;
-    assert_eq!(rt; (second.answered, second.kissed), (1, 1));
+    same(&rt, (second.answered, second.kissed), (1, 1));
     assert!(rt; has_sent(&link, &[(CLIENT, "RATE"), (OTHER, "INIT")]));
     Ok(())
 }

@@ -11,13 +11,20 @@ use kiss_gate::{ClientGate, DenyList, GateOpen};
 use packet_auth::KeyRing;
 use page_cell::{PageCell, ReadPass};
 use std::alloc::Global;
+use std::fmt::Debug;
 use std::net::{IpAddr, Ipv4Addr, SocketAddr, UdpSocket};
+use std::process::Abort;
 use std::sync::Wait;
 use std::test::Fail;
 use std::time::Duration;
 use std::{io, thread};
 use system_fold::Settings;
 use tick_units::Local;
+
+// What `assert_eq!` does, as a call: where many stand in a test, calls are proved in a third of the time.
+pub(crate) fn same<T: PartialEq + Debug + Drop>(rt: &impl Abort, left: T, right: T) {
+    assert_eq!(*rt; left, right);
+}
 
 pub(crate) const CLIENT: Address = Address {
     ip: 0x7f00_0001,
@@ -153,16 +160,17 @@ fn each_datagram_is_answered_or_dropped(rt: HostRuntime) -> Result<(), Fail> {
         let (served, link) = serve(&rt, rt.alloc(), link_of(rt.alloc(), hearings, 0, 9)?, 1)?;
         let answered = u64::from(want.is_some());
         let dropped = u64::from(want.is_none());
-        assert_eq!(rt;
+        same(
+            &rt,
             served,
             Served {
                 answered,
                 dropped,
                 ..NONE
-            }
+            },
         );
-        assert_eq!(rt; sent(&link), want);
-        assert_eq!(rt; link.count(), if want.is_some() { 3 } else { 2 });
+        same(&rt, sent(&link), want);
+        same(&rt, link.count(), if want.is_some() { 3 } else { 2 });
     }
     Ok(())
 }
@@ -215,12 +223,13 @@ fn a_reply_is_sealed_where_its_request_is_authentic(rt: HostRuntime) -> Result<(
         let link = asking(rt.alloc(), id, DIGEST)?;
         let mut responder = Responder::new(link, pass, 7, ring, open_to_all(rt.alloc())?);
         let served = responder.serve(&rt, &cell, &OpenGate::new(), 1);
-        assert_eq!(rt;
+        same(
+            &rt,
             served,
             Served {
                 answered: 1,
                 ..NONE
-            }
+            },
         );
         let link = responder.give_back().0;
         assert!(rt; has_sent(&link, &SEALED[..want]), "key {id}");
@@ -237,7 +246,7 @@ fn a_reply_has_the_moments_of_its_hearing_and_its_sending(rt: HostRuntime) -> Re
     let moments = vec![in alloc; moment(1_000_000)]?;
     let link = MemoryLink::new(alloc, hearings, moments, Vec::new(alloc), 9, 4000)?;
     let (served, link) = serve(&rt, alloc, link, 1)?;
-    assert_eq!(rt; served.answered, 1);
+    same(&rt, served.answered, 1);
     let mut want = [0u8; 48];
     want.copy_from_slice(&SEALED[..48]);
     want[40..].copy_from_slice(&[0, 0, 0, 1, 0, 0, 0, 0]);
@@ -268,15 +277,16 @@ fn a_fault_of_the_link_ends_the_serving(rt: HostRuntime) -> Result<(), Fail> {
     ];
     for (failing, answered, end, events) in table {
         let (served, link) = serve(&rt, rt.alloc(), two_requests(rt.alloc(), failing, 9)?, 9)?;
-        assert_eq!(rt;
+        same(
+            &rt,
             served,
             Served {
                 answered,
                 end,
                 ..NONE
-            }
+            },
         );
-        assert_eq!(rt; link.count(), events);
+        same(&rt, link.count(), events);
     }
     Ok(())
 }
@@ -285,8 +295,8 @@ fn a_fault_of_the_link_ends_the_serving(rt: HostRuntime) -> Result<(), Fail> {
 fn it_hears_as_often_as_it_is_asked_to(rt: HostRuntime) -> Result<(), Fail> {
     for (budget, answered, events) in [(0, 0, 0), (1, 1, 3), (2, 1, 4), (3, 2, 7)] {
         let (served, link) = serve(&rt, rt.alloc(), two_requests(rt.alloc(), 0, 9)?, budget)?;
-        assert_eq!(rt; served, Served { answered, ..NONE });
-        assert_eq!(rt; link.count(), events);
+        same(&rt, served, Served { answered, ..NONE });
+        same(&rt, link.count(), events);
     }
     Ok(())
 }
@@ -295,15 +305,16 @@ fn it_hears_as_often_as_it_is_asked_to(rt: HostRuntime) -> Result<(), Fail> {
 fn a_link_past_its_room_is_served_on(rt: HostRuntime) -> Result<(), Fail> {
     let (served, link) = serve(&rt, rt.alloc(), two_requests(rt.alloc(), 0, 2)?, 9)?;
     let end = End::LinkEnd;
-    assert_eq!(rt;
+    same(
+        &rt,
         served,
         Served {
             answered: 2,
             end,
             ..NONE
-        }
+        },
     );
-    assert_eq!(rt; link.count(), 0);
+    same(&rt, link.count(), 0);
     Ok(())
 }
 
@@ -346,6 +357,10 @@ fn a_client_on_the_loopback_is_answered(rt: HostRuntime) -> Result<(), Fail> {
     let Ok(replies) = child.join(&rt) else {
         return Err("the client was not answered")?;
     };
-    assert_eq!(rt; (replies, served.answered, served.end), (3, 3, End::Count));
+    same(
+        &rt,
+        (replies, served.answered, served.end),
+        (3, 3, End::Count),
+    );
     Ok(())
 }

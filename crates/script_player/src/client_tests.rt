@@ -1,5 +1,5 @@
 // What clients get that ask too often or are denied, behind the five minutes of DCF77 from noon on.
-use crate::tests::{gives, noon};
+use crate::tests::{gives, noon, same};
 use crate::{Outcome, write_outcome};
 use journal_entry::LINE_ROOM;
 use packet_auth::KeyRing;
@@ -150,7 +150,7 @@ fn the_line_behind_a_reply(rt: HostRuntime) -> Result<(), Fail> {
         let mut text = [b'#'; LINE_ROOM];
         let length = write_outcome(&Outcome::Replied { reply, kept }, &mut text);
         let end = text[..length].strip_prefix(b"reply ").ok_or("no reply")?;
-        assert_eq!(rt; end.get(96..).ok_or("too short")?, want.as_bytes());
+        same(&rt, end.get(96..).ok_or("too short")?, want.as_bytes());
     }
     Ok(())
 }

@@ -1,5 +1,5 @@
 // Leap seconds that the leap second file tells of.
-use crate::tests::{gives, keeps, noon, play};
+use crate::tests::{gives, keeps, noon, play, same};
 use std::process::Abort;
 use std::test::Fail;
 use tick_units::{Short, Span, Stamp};
@@ -30,20 +30,20 @@ fn a_leap_second_is_announced(rt: HostRuntime) -> Result<(), Fail> {
         "230006ec0000000000000000000000000000000000000000000000000000000000000000000000001122334455667788\n",
     )?;
     let played = play(rt.alloc(), RADIO, 1000, script.as_str())?;
-    assert_eq!(rt; played.text.as_slice(), ENTRIES.as_bytes());
+    same(&rt, played.text.as_slice(), ENTRIES.as_bytes());
     let page = &played.page;
-    assert_eq!(rt; page.length, 6);
+    same(&rt, page.length, 6);
     assert!(rt; page.sync);
-    assert_eq!(rt; page.stratum, 1);
-    assert_eq!(rt; page.refid, 0x4443_4600);
+    same(&rt, page.stratum, 1);
+    same(&rt, page.refid, 0x4443_4600);
     assert!(rt; page.offset == Span::from(17_077_896_086_183_477_248));
-    assert_eq!(rt; page.anchor.get(), 302_000_000);
-    assert_eq!(rt; page.until, 4_364_906_902);
-    assert_eq!(rt; page.root_delay, Short(0));
-    assert_eq!(rt; page.root_disp, Short(61_542));
-    assert_eq!(rt; page.reftime, Stamp(0xed00_e130_0000_0000));
-    assert_eq!(rt; page.leap_at, 3_976_300_800);
-    assert_eq!(rt; page.rate, 0);
+    same(&rt, page.anchor.get(), 302_000_000);
+    same(&rt, page.until, 4_364_906_902);
+    same(&rt, page.root_delay, Short(0));
+    same(&rt, page.root_disp, Short(61_542));
+    same(&rt, page.reftime, Stamp(0xed00_e130_0000_0000));
+    same(&rt, page.leap_at, 3_976_300_800);
+    same(&rt, page.rate, 0);
     Ok(())
 }
 
@@ -82,7 +82,7 @@ fn a_full_journal_drops_leap_seconds(rt: HostRuntime) -> Result<(), Fail> {
         let played = play(rt.alloc(), RADIO, limit, script)?;
         let mut want = String::from_str(rt.alloc(), kept)?;
         want.push_str("3 is not lawful\n")?;
-        assert_eq!(rt; played.text.as_slice(), want.as_bytes());
+        same(&rt, played.text.as_slice(), want.as_bytes());
         assert!(rt; played.is_full);
         keeps(&rt, &played.page, u64::from(limit), anchor);
     }

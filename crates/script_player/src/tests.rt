@@ -11,9 +11,15 @@ use receiver_rack::put_in_rack;
 use script_line::read_line;
 use station_config::read_station;
 use std::alloc::{AllocError, Global};
+use std::fmt::Debug;
 use std::process::Abort;
 use std::test::Fail;
 use tick_units::{Plan, Short, Span, Stamp};
+
+// What `assert_eq!` does, as a call: where many stand in a test, calls are proved in a third of the time.
+pub(crate) fn same<T: PartialEq + Debug + Drop>(rt: &impl Abort, left: T, right: T) {
+    assert_eq!(*rt; left, right);
+}
 
 // What a script comes to: the text of its lines and the numbers of those that aren't lawful, and what is kept of its entries.
 #[derive(Drop)]
@@ -107,7 +113,7 @@ pub fn gives(
     want: &str,
 ) -> Result<(), Fail> {
     let played = play(alloc, station, MANY, script)?;
-    assert_eq!(rt; played.text.as_slice(), want.as_bytes());
+    same(&rt, played.text.as_slice(), want.as_bytes());
     assert!(rt; !played.is_full);
     Ok(())
 }
@@ -212,8 +218,8 @@ fn lines_of_other_feeds_are_not_lawful(rt: HostRuntime) -> Result<(), Fail> {
 
 // A page is of so many entries, the latest of this moment.
 pub fn keeps(rt: &impl Abort, page: &Page, length: u64, anchor: u64) {
-    assert_eq!(rt; page.length, length);
-    assert_eq!(rt; page.anchor.get(), anchor);
+    same(&rt, page.length, length);
+    same(&rt, page.anchor.get(), anchor);
 }
 
 // An entry that is dropped is heard all the same: the moment of its server stays.
@@ -234,8 +240,8 @@ fn a_full_journal_drops_what_is_due(rt: HostRuntime) -> Result<(), Fail> {
         let mut want = kept.clone()?;
         want.push_str("4 is not lawful\n")?;
         let played = play(rt.alloc(), SERVER, limit, script.as_str())?;
-        assert_eq!(rt; played.text.as_slice(), want.as_bytes());
-        assert_eq!(rt; played.is_full, is_full);
+        same(&rt, played.text.as_slice(), want.as_bytes());
+        same(&rt, played.is_full, is_full);
         keeps(&rt, &played.page, u64::from(limit), anchor);
     }
     Ok(())
@@ -304,7 +310,7 @@ fn a_reply_is_of_the_entries_so_far(rt: HostRuntime) -> Result<(), Fail> {
         MANY,
         script.as_str(),
     )?;
-    assert_eq!(rt; played.text.as_slice(), ENTRIES.as_bytes());
+    same(&rt, played.text.as_slice(), ENTRIES.as_bytes());
     is_of_noon(&rt, &played.page);
     Ok(())
 }
@@ -335,22 +341,22 @@ fn a_reply_is_sealed_as_its_request_is(rt: HostRuntime) -> Result<(), Fail> {
     let station =
         "[[radio]]\nplan = \"dcf\"\nlog = \"log\"\n[[key]]\nid = 1\nsecret = \"longwave\"\n";
     let played = play(rt.alloc(), station, MANY, script.as_str())?;
-    assert_eq!(rt; played.text.as_slice(), SEALED.as_bytes());
+    same(&rt, played.text.as_slice(), SEALED.as_bytes());
     Ok(())
 }
 
 // The page that docs/PAGE.md works out.
 fn is_of_noon(rt: &impl Abort, page: &Page) {
-    assert_eq!(rt; page.length, 5);
+    same(&rt, page.length, 5);
     assert!(rt; page.sync);
-    assert_eq!(rt; page.stratum, 1);
-    assert_eq!(rt; page.refid, 0x4443_4600);
+    same(&rt, page.stratum, 1);
+    same(&rt, page.refid, 0x4443_4600);
     assert!(rt; page.offset == Span::from(17_077_896_086_183_477_248));
-    assert_eq!(rt; page.anchor.get(), 302_000_000);
-    assert_eq!(rt; page.until, 4_364_906_902);
-    assert_eq!(rt; page.root_delay, Short(0));
-    assert_eq!(rt; page.root_disp, Short(61_542));
-    assert_eq!(rt; page.reftime, Stamp(0xed00_e130_0000_0000));
-    assert_eq!(rt; page.leap_at, 0);
-    assert_eq!(rt; page.rate, 0);
+    same(&rt, page.anchor.get(), 302_000_000);
+    same(&rt, page.until, 4_364_906_902);
+    same(&rt, page.root_delay, Short(0));
+    same(&rt, page.root_disp, Short(61_542));
+    same(&rt, page.reftime, Stamp(0xed00_e130_0000_0000));
+    same(&rt, page.leap_at, 0);
+    same(&rt, page.rate, 0);
 }

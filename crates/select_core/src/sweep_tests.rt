@@ -2,7 +2,7 @@
 ghost use Rattle.std.specs.Prelude.{◌≤◌, length, IsTrue};
 ghost use Rattle.select_core.specs.Selection.{are_measured, is_measured};
 
-use crate::tests::{between, source};
+use crate::tests::{between, same, source};
 use crate::{Candidate, Chime, Sweep, select};
 use std::test::Fail;
 
@@ -39,12 +39,13 @@ fn three_in_each_order(rt: HostRuntime) -> Result<(), Fail> {
     let a = source(0, 5, 5)?;
     let b = source(1, 7, 5)?;
     let stray = source(2, 105, 5)?;
-    assert_eq!(rt; in_each_order(&a, &b, &stray), [between(2, 10, 1)?; 6]);
+    same(&rt, in_each_order(&a, &b, &stray), [between(2, 10, 1)?; 6]);
     let touching = source(2, 15, 5)?;
     let bridge = source(1, 10, 5)?;
-    assert_eq!(rt;
+    same(
+        &rt,
         in_each_order(&a, &touching, &bridge),
-        [between(5, 15, 1)?; 6]
+        [between(5, 15, 1)?; 6],
     );
     Ok(())
 }
@@ -53,14 +54,16 @@ fn three_in_each_order(rt: HostRuntime) -> Result<(), Fail> {
 #[test]
 fn touching_in_each_order(rt: HostRuntime) -> Result<(), Fail> {
     let upward = [source(0, 5, 5)?, source(1, 15, 5)?, source(2, 20, 5)?];
-    assert_eq!(rt;
+    same(
+        &rt,
         in_each_order(&upward[0], &upward[1], &upward[2]),
-        [between(10, 20, 1)?; 6]
+        [between(10, 20, 1)?; 6],
     );
     let downward = [source(0, -5, 5)?, source(1, -15, 5)?, source(2, -20, 5)?];
-    assert_eq!(rt;
+    same(
+        &rt,
         in_each_order(&downward[0], &downward[1], &downward[2]),
-        [between(-20, -10, 1)?; 6]
+        [between(-20, -10, 1)?; 6],
     );
     Ok(())
 }
@@ -70,19 +73,19 @@ fn two_in_each_order(rt: HostRuntime) -> Result<(), Fail> {
     let a = source(0, 5, 5)?;
     for offset in [105, 15, 14] {
         let b = source(1, offset, 5)?;
-        assert_eq!(rt; swept(&[a, b]), None);
-        assert_eq!(rt; swept(&[b, a]), None);
+        same(&rt, swept(&[a, b]), None);
+        same(&rt, swept(&[b, a]), None);
     }
     let b = source(1, 8, 5)?;
-    assert_eq!(rt; swept(&[a, b]), between(3, 10, 0)?);
-    assert_eq!(rt; swept(&[b, a]), between(3, 10, 0)?);
+    same(&rt, swept(&[a, b]), between(3, 10, 0)?);
+    same(&rt, swept(&[b, a]), between(3, 10, 0)?);
     Ok(())
 }
 
 #[test]
 fn one_and_none(rt: HostRuntime) -> Result<(), Fail> {
-    assert_eq!(rt; swept(&[source(0, 5, 5)?]), between(0, 10, 0)?);
-    assert_eq!(rt; swept(&[]), None);
+    same(&rt, swept(&[source(0, 5, 5)?]), between(0, 10, 0)?);
+    same(&rt, swept(&[]), None);
     Ok(())
 }
 
@@ -93,13 +96,13 @@ fn a_candidate_that_is_removed_counts_no_longer(rt: HostRuntime) -> Result<(), F
     sweep.put(source(1, 7, 5)?);
     sweep.put(source(2, 105, 5)?);
     sweep.remove(2);
-    assert_eq!(rt; sweep.chime(), between(2, 10, 0)?);
+    same(&rt, sweep.chime(), between(2, 10, 0)?);
     sweep.remove(2);
-    assert_eq!(rt; sweep.chime(), between(2, 10, 0)?);
+    same(&rt, sweep.chime(), between(2, 10, 0)?);
     sweep.remove(0);
-    assert_eq!(rt; sweep.chime(), between(2, 12, 0)?);
+    same(&rt, sweep.chime(), between(2, 12, 0)?);
     sweep.remove(1);
-    assert_eq!(rt; sweep.chime(), None);
+    same(&rt, sweep.chime(), None);
     Ok(())
 }
 
@@ -109,7 +112,7 @@ fn a_feed_has_one_candidate(rt: HostRuntime) -> Result<(), Fail> {
     let mut sweep = Sweep::new();
     sweep.put(source(0, 5, 5)?);
     sweep.put(source(0, 50, 3)?);
-    assert_eq!(rt; sweep.chime(), between(47, 53, 0)?);
+    same(&rt, sweep.chime(), between(47, 53, 0)?);
     Ok(())
 }
 
@@ -117,30 +120,30 @@ fn a_feed_has_one_candidate(rt: HostRuntime) -> Result<(), Fail> {
 #[test]
 fn the_sweep_gives_what_select_gives(rt: HostRuntime) -> Result<(), Fail> {
     let tied_below = [source(0, 5, 5)?, source(1, 7, 7)?, source(2, 9, 9)?];
-    assert_eq!(rt; swept(&tied_below), between(0, 10, 0)?);
-    assert_eq!(rt; select(&tied_below), between(0, 10, 0)?);
+    same(&rt, swept(&tied_below), between(0, 10, 0)?);
+    same(&rt, select(&tied_below), between(0, 10, 0)?);
     let tied_above = [source(0, -5, 5)?, source(1, -7, 7)?, source(2, -9, 9)?];
-    assert_eq!(rt; swept(&tied_above), between(-10, 0, 0)?);
-    assert_eq!(rt; select(&tied_above), between(-10, 0, 0)?);
+    same(&rt, swept(&tied_above), between(-10, 0, 0)?);
+    same(&rt, select(&tied_above), between(-10, 0, 0)?);
     let touching = [source(0, 0, 2)?, source(1, 4, 2)?, source(2, 8, 2)?];
-    assert_eq!(rt; swept(&touching), None);
-    assert_eq!(rt; select(&touching), None);
+    same(&rt, swept(&touching), None);
+    same(&rt, select(&touching), None);
     let within = [
         source(0, 0, 100)?,
         source(1, 10, 5)?,
         source(2, 12, 5)?,
         source(3, 14, 5)?,
     ];
-    assert_eq!(rt; swept(&within), between(7, 17, 1)?);
-    assert_eq!(rt; select(&within), between(7, 17, 1)?);
+    same(&rt, swept(&within), between(7, 17, 1)?);
+    same(&rt, select(&within), between(7, 17, 1)?);
     let split = [
         source(0, 5, 5)?,
         source(1, 5, 5)?,
         source(2, 105, 5)?,
         source(3, 105, 5)?,
     ];
-    assert_eq!(rt; swept(&split), None);
-    assert_eq!(rt; select(&split), None);
+    same(&rt, swept(&split), None);
+    same(&rt, select(&split), None);
     Ok(())
 }
 
@@ -165,7 +168,7 @@ fn sixteen_that_rise(rt: HostRuntime) -> Result<(), Fail> {
         source(14, 14, 100)?,
         source(15, 15, 100)?,
     ];
-    assert_eq!(rt; swept(&sources), between(-85, 100, 0)?);
-    assert_eq!(rt; select(&sources), between(-85, 100, 0)?);
+    same(&rt, swept(&sources), between(-85, 100, 0)?);
+    same(&rt, select(&sources), between(-85, 100, 0)?);
     Ok(())
 }

@@ -2,7 +2,7 @@
 ghost use Rattle.std.specs.Prelude.{◌≡◌, IfOk};
 ghost use Rattle.station_config.specs.Station.{gate_of};
 
-use crate::tests::{answer, push_times, wrong};
+use crate::tests::{answer, push_times, same, wrong};
 use crate::{Station, read_station};
 use kiss_gate::{ClientGate, GateOpen};
 use reply_core::Code;
@@ -86,20 +86,24 @@ start = -1|[[deny]]|net = "" -> range start
 
 #[test]
 fn gaps_and_clients(rt: HostRuntime) -> Result<(), Fail> {
-    assert_eq!(rt; wrong(rt.alloc(), NUMBERS, "", "|")?, None);
+    same(&rt, wrong(rt.alloc(), NUMBERS, "", "|")?, None);
     Ok(())
 }
 
 #[test]
 fn texts_of_nets(rt: HostRuntime) -> Result<(), Fail> {
-    assert_eq!(rt; wrong(rt.alloc(), NETS, "[[deny]]|net = \"", "\"|")?, None);
+    same(
+        &rt,
+        wrong(rt.alloc(), NETS, "[[deny]]|net = \"", "\"|")?,
+        None,
+    );
     Ok(())
 }
 
 #[test]
 fn faults_of_nets(rt: HostRuntime) -> Result<(), Fail> {
-    assert_eq!(rt; wrong(rt.alloc(), TABLES, "", "|")?, None);
-    assert_eq!(rt; wrong(rt.alloc(), ORDER, "", "|")?, None);
+    same(&rt, wrong(rt.alloc(), TABLES, "", "|")?, None);
+    same(&rt, wrong(rt.alloc(), ORDER, "", "|")?, None);
     Ok(())
 }
 
@@ -109,18 +113,27 @@ fn seventeen_nets(rt: HostRuntime) -> Result<(), Fail> {
     let alloc = rt.alloc();
     let mut nets = String::new(alloc);
     push_times(&mut nets, "[[deny]]\nnet = \"1.2.3.4/8\"\n", 16)?;
-    assert_eq!(rt; answer(alloc, nets.as_bytes())?.as_str(), "4294967296 0");
+    same(
+        &rt,
+        answer(alloc, nets.as_bytes())?.as_str(),
+        "4294967296 0",
+    );
     let bad = format!(in alloc; "{nets}[[deny]]\nnet = \"\"\n")?;
-    assert_eq!(rt;
+    same(
+        &rt,
         answer(alloc, bad.as_bytes())?.as_str(),
-        "range deny.16.net"
+        "range deny.16.net",
     );
     nets.push_str("[[deny]]\nnet = \"1.2.3.4/8\"\n")?;
-    assert_eq!(rt; answer(alloc, nets.as_bytes())?.as_str(), "many deny 17");
+    same(
+        &rt,
+        answer(alloc, nets.as_bytes())?.as_str(),
+        "many deny 17",
+    );
     for id in 1..10u8 {
         nets.push_str(format!(in alloc; "[[key]]\nid = {id}\nsecret = \"a\"\n")?.as_str())?;
     }
-    assert_eq!(rt; answer(alloc, nets.as_bytes())?.as_str(), "many key 9");
+    same(&rt, answer(alloc, nets.as_bytes())?.as_str(), "many key 9");
     Ok(())
 }
 
@@ -160,11 +173,11 @@ const DENYING: &[u8] =
 fn the_numbers_of_a_station(rt: HostRuntime) -> Result<(), Fail> {
     let alloc = rt.alloc();
     let denying = station(alloc, DENYING)?;
-    assert_eq!(rt; (denying.gap(), denying.clients()), (2_000_000, 2));
+    same(&rt, (denying.gap(), denying.clients()), (2_000_000, 2));
     let plain = station(alloc, b"")?;
-    assert_eq!(rt; (plain.gap(), plain.clients()), (0, 1024));
+    same(&rt, (plain.gap(), plain.clients()), (0, 1024));
     let drill = Station::one_of_each(alloc)?;
-    assert_eq!(rt; (drill.gap(), drill.clients()), (0, 1024));
+    same(&rt, (drill.gap(), drill.clients()), (0, 1024));
     Ok(())
 }
 

@@ -1,6 +1,6 @@
 //! The keys of a station file, lawful ones and faulty ones.
 use crate::read_station;
-use crate::tests::{answer, wrong};
+use crate::tests::{answer, same, wrong};
 use std::test::Fail;
 
 // Each line has a file, with `|` for its line feeds, and what it comes to.
@@ -58,20 +58,20 @@ link = 1|key = 1 -> range key
 
 #[test]
 fn identifiers_of_keys(rt: HostRuntime) -> Result<(), Fail> {
-    assert_eq!(rt; wrong(rt.alloc(), IDENTIFIERS, "", "|")?, None);
+    same(&rt, wrong(rt.alloc(), IDENTIFIERS, "", "|")?, None);
     Ok(())
 }
 
 #[test]
 fn secrets_of_keys(rt: HostRuntime) -> Result<(), Fail> {
     let before = "[[key]]|id = 1|secret = \"";
-    assert_eq!(rt; wrong(rt.alloc(), SECRETS, before, "\"|")?, None);
+    same(&rt, wrong(rt.alloc(), SECRETS, before, "\"|")?, None);
     Ok(())
 }
 
 #[test]
 fn faults_of_keys(rt: HostRuntime) -> Result<(), Fail> {
-    assert_eq!(rt; wrong(rt.alloc(), ORDER, "", "|")?, None);
+    same(&rt, wrong(rt.alloc(), ORDER, "", "|")?, None);
     Ok(())
 }
 
@@ -85,13 +85,21 @@ fn nine_keys(rt: HostRuntime) -> Result<(), Fail> {
         keys.push_str(format!(in alloc; "[[key]]\nid = {id}\nsecret = \"a\"\n")?.as_str())?;
         links.push_str("[[link]]\nport = 1\n")?;
     }
-    assert_eq!(rt; answer(alloc, keys.as_bytes())?.as_str(), "4294967296 0");
+    same(
+        &rt,
+        answer(alloc, keys.as_bytes())?.as_str(),
+        "4294967296 0",
+    );
     let nine = format!(in alloc; "{keys}[[key]]\nid = 9\nsecret = \"a\"\n")?;
-    assert_eq!(rt; answer(alloc, nine.as_bytes())?.as_str(), "many key 9");
+    same(&rt, answer(alloc, nine.as_bytes())?.as_str(), "many key 9");
     let both = format!(in alloc; "{nine}{links}[[link]]\nport = 1\n")?;
-    assert_eq!(rt; answer(alloc, both.as_bytes())?.as_str(), "many link 9");
+    same(&rt, answer(alloc, both.as_bytes())?.as_str(), "many link 9");
     let twice = format!(in alloc; "{keys}[[key]]\nid = 8\nsecret = \"a\"\n")?;
-    assert_eq!(rt; answer(alloc, twice.as_bytes())?.as_str(), "range key.8.id");
+    same(
+        &rt,
+        answer(alloc, twice.as_bytes())?.as_str(),
+        "range key.8.id",
+    );
     Ok(())
 }
 
@@ -119,13 +127,13 @@ fn the_keys_of_a_station(rt: HostRuntime) -> Result<(), Fail> {
         return Err("refused")?;
     };
     let keys = station.keys();
-    assert_eq!(rt; keys.authentic(&packet(7, OF_LONGWAVE)), Some(7));
-    assert_eq!(rt; keys.authentic(&packet(2, OF_SHORTWAVE)), Some(2));
-    assert_eq!(rt; keys.authentic(&packet(2, OF_LONGWAVE)), None);
-    assert_eq!(rt; keys.authentic(&packet(1, OF_LONGWAVE)), None);
+    same(&rt, keys.authentic(&packet(7, OF_LONGWAVE)), Some(7));
+    same(&rt, keys.authentic(&packet(2, OF_SHORTWAVE)), Some(2));
+    same(&rt, keys.authentic(&packet(2, OF_LONGWAVE)), None);
+    same(&rt, keys.authentic(&packet(1, OF_LONGWAVE)), None);
     let Ok(station) = read_station(alloc, b"") else {
         return Err("refused")?;
     };
-    assert_eq!(rt; station.keys().authentic(&packet(7, OF_LONGWAVE)), None);
+    same(&rt, station.keys().authentic(&packet(7, OF_LONGWAVE)), None);
     Ok(())
 }

@@ -1,6 +1,6 @@
 //! The leap second file of a station.
 use crate::read_station;
-use crate::tests::{answer, wrong};
+use crate::tests::{answer, same, wrong};
 use std::alloc::Global;
 use std::test::Fail;
 
@@ -24,13 +24,13 @@ leap_file = ""|[[link]] -> missing link.0.port
 
 #[test]
 fn names_of_leap_second_files(rt: HostRuntime) -> Result<(), Fail> {
-    assert_eq!(rt; wrong(rt.alloc(), VALUES, "", "|")?, None);
+    same(&rt, wrong(rt.alloc(), VALUES, "", "|")?, None);
     Ok(())
 }
 
 #[test]
 fn faults_of_leap_second_files(rt: HostRuntime) -> Result<(), Fail> {
-    assert_eq!(rt; wrong(rt.alloc(), ORDER, "", "|")?, None);
+    same(&rt, wrong(rt.alloc(), ORDER, "", "|")?, None);
     Ok(())
 }
 
@@ -48,8 +48,8 @@ fn it_is_a_feed_beside_radios_and_servers(rt: HostRuntime) -> Result<(), Fail> {
     let Ok(station) = read_station(rt.alloc(), FEEDS.as_bytes()) else {
         return Err("refused")?;
     };
-    assert_eq!(rt; station.leap_file(), Some("leap-seconds.list"));
-    assert_eq!(rt; station.settings().count(), 3);
+    same(&rt, station.leap_file(), Some("leap-seconds.list"));
+    same(&rt, station.settings().count(), 3);
     Ok(())
 }
 
@@ -58,8 +58,8 @@ fn a_station_may_have_none(rt: HostRuntime) -> Result<(), Fail> {
     let Ok(station) = read_station(rt.alloc(), b"[[radio]]\nplan = \"msf\"\nlog = \"a\"\n") else {
         return Err("refused")?;
     };
-    assert_eq!(rt; station.leap_file(), None);
-    assert_eq!(rt; station.settings().count(), 1);
+    same(&rt, station.leap_file(), None);
+    same(&rt, station.settings().count(), 1);
     Ok(())
 }
 
@@ -80,11 +80,12 @@ fn it_counts_as_a_feed(rt: HostRuntime) -> Result<(), Fail> {
     let Ok(station) = read_station(alloc, servers(alloc, top, 15)?.as_str().as_bytes()) else {
         return Err("refused")?;
     };
-    assert_eq!(rt; station.settings().count(), 16);
+    same(&rt, station.settings().count(), 16);
     let many = servers(alloc, top, 16)?;
-    assert_eq!(rt;
+    same(
+        &rt,
         answer(alloc, many.as_str().as_bytes())?.as_str(),
-        "many radio 17"
+        "many radio 17",
     );
     Ok(())
 }

@@ -1,8 +1,15 @@
 //! Station files, lawful ones and faulty ones, and what each comes to.
 use crate::{KeyText, Station, StationFault, read_station};
 use std::alloc::Global;
+use std::fmt::Debug;
+use std::process::Abort;
 use std::test::Fail;
 use tick_units::Plan;
+
+// What `assert_eq!` does, as a call: where many stand in a test, calls are proved in a third of the time.
+pub(crate) fn same<T: PartialEq + Debug + Drop>(rt: &impl Abort, left: T, right: T) {
+    assert_eq!(*rt; left, right);
+}
 
 // The station of a listening laboratory.
 const LABORATORY: &str = r#"bound = 500
@@ -284,15 +291,15 @@ fn the_laboratory(rt: HostRuntime) -> Result<(), Fail> {
     let text = answer(alloc, LABORATORY.as_bytes())?;
     let want =
         "2147483648 0 dcf dcf.log 1400 msf msf.log 2700 wwvb wwvb.log 24000 7f000001 4123 8 5123";
-    assert_eq!(rt; text.as_str(), want);
+    same(&rt, text.as_str(), want);
     if let Ok(station) = read_station(alloc, LABORATORY.as_bytes()) {
-        assert_eq!(rt; station.radios(), 3);
-        assert_eq!(rt; station.servers(), 1);
-        assert_eq!(rt; station.links(), 1);
+        same(&rt, station.radios(), 3);
+        same(&rt, station.servers(), 1);
+        same(&rt, station.links(), 1);
         assert!(rt; station.radio(3).is_none());
         assert!(rt; station.server(1).is_none());
         assert!(rt; station.link(1).is_none());
-        assert_eq!(rt; station.settings().count(), 4);
+        same(&rt, station.settings().count(), 4);
     }
     Ok(())
 }
@@ -300,25 +307,29 @@ fn the_laboratory(rt: HostRuntime) -> Result<(), Fail> {
 #[test]
 fn defaults(rt: HostRuntime) -> Result<(), Fail> {
     let alloc = rt.alloc();
-    assert_eq!(rt; answer(alloc, b"")?.as_str(), "4294967296 0");
-    assert_eq!(rt; wrong(alloc, DEFAULTS, "", "|")?, None);
+    same(&rt, answer(alloc, b"")?.as_str(), "4294967296 0");
+    same(&rt, wrong(alloc, DEFAULTS, "", "|")?, None);
     Ok(())
 }
 
 #[test]
 fn no_text(rt: HostRuntime) -> Result<(), Fail> {
     let alloc = rt.alloc();
-    assert_eq!(rt; answer(alloc, b"start = 0\xff")?.as_str(), "toml");
-    assert_eq!(rt; answer(alloc, b"leap = \"\xc3\x28\"\n")?.as_str(), "toml");
+    same(&rt, answer(alloc, b"start = 0\xff")?.as_str(), "toml");
+    same(
+        &rt,
+        answer(alloc, b"leap = \"\xc3\x28\"\n")?.as_str(),
+        "toml",
+    );
     Ok(())
 }
 
 #[test]
 fn values(rt: HostRuntime) -> Result<(), Fail> {
     let alloc = rt.alloc();
-    assert_eq!(rt; wrong(alloc, NUMBERS, "", "|")?, None);
-    assert_eq!(rt; wrong(alloc, RADIOS, "", "|")?, None);
-    assert_eq!(rt; wrong(alloc, PORTS, "", "|")?, None);
+    same(&rt, wrong(alloc, NUMBERS, "", "|")?, None);
+    same(&rt, wrong(alloc, RADIOS, "", "|")?, None);
+    same(&rt, wrong(alloc, PORTS, "", "|")?, None);
     Ok(())
 }
 
@@ -326,17 +337,17 @@ fn values(rt: HostRuntime) -> Result<(), Fail> {
 fn addresses(rt: HostRuntime) -> Result<(), Fail> {
     let alloc = rt.alloc();
     let before = "[[server]]|port = 123|address = \"";
-    assert_eq!(rt; wrong(alloc, ADDRESSES, before, "\"|")?, None);
+    same(&rt, wrong(alloc, ADDRESSES, before, "\"|")?, None);
     Ok(())
 }
 
 #[test]
 fn faults(rt: HostRuntime) -> Result<(), Fail> {
     let alloc = rt.alloc();
-    assert_eq!(rt; wrong(alloc, UNKNOWN, "", "|")?, None);
-    assert_eq!(rt; answer(alloc, b"\"\" = 1\n")?.as_str(), "unknown ");
-    assert_eq!(rt; wrong(alloc, FIRST, "", "|")?, None);
-    assert_eq!(rt; wrong(alloc, ARRAYS, "", "|")?, None);
+    same(&rt, wrong(alloc, UNKNOWN, "", "|")?, None);
+    same(&rt, answer(alloc, b"\"\" = 1\n")?.as_str(), "unknown ");
+    same(&rt, wrong(alloc, FIRST, "", "|")?, None);
+    same(&rt, wrong(alloc, ARRAYS, "", "|")?, None);
     Ok(())
 }
 
@@ -406,12 +417,20 @@ fn of_rows(
 #[test]
 fn too_many(rt: HostRuntime) -> Result<(), Fail> {
     let alloc = rt.alloc();
-    assert_eq!(rt; of_rows(alloc, 5, 5, 5, 2, 9)?.as_str(), "many radio 17");
-    assert_eq!(rt; of_rows(alloc, 0, 0, 0, 17, 0)?.as_str(), "many radio 17");
-    assert_eq!(rt; of_rows(alloc, 5, 6, 4, 0, 9)?.as_str(), "many radio 5");
-    assert_eq!(rt; of_rows(alloc, 4, 6, 5, 0, 9)?.as_str(), "many radio 6");
-    assert_eq!(rt; of_rows(alloc, 4, 3, 5, 0, 9)?.as_str(), "many radio 5");
-    assert_eq!(rt; of_rows(alloc, 4, 4, 4, 4, 9)?.as_str(), "many link 9");
+    same(
+        &rt,
+        of_rows(alloc, 5, 5, 5, 2, 9)?.as_str(),
+        "many radio 17",
+    );
+    same(
+        &rt,
+        of_rows(alloc, 0, 0, 0, 17, 0)?.as_str(),
+        "many radio 17",
+    );
+    same(&rt, of_rows(alloc, 5, 6, 4, 0, 9)?.as_str(), "many radio 5");
+    same(&rt, of_rows(alloc, 4, 6, 5, 0, 9)?.as_str(), "many radio 6");
+    same(&rt, of_rows(alloc, 4, 3, 5, 0, 9)?.as_str(), "many radio 5");
+    same(&rt, of_rows(alloc, 4, 4, 4, 4, 9)?.as_str(), "many link 9");
     Ok(())
 }
 
@@ -428,9 +447,10 @@ fn as_many_as_may_be(rt: HostRuntime) -> Result<(), Fail> {
     let full = file_of(alloc, rows)?;
     assert!(rt; read_station(alloc, full.as_bytes()).is_ok());
     let text = format!(in alloc; "{full}[[link]]\nport = 0\n")?;
-    assert_eq!(rt;
+    same(
+        &rt,
         answer(alloc, text.as_bytes())?.as_str(),
-        "range link.8.port"
+        "range link.8.port",
     );
     Ok(())
 }
@@ -439,20 +459,21 @@ fn as_many_as_may_be(rt: HostRuntime) -> Result<(), Fail> {
 #[test]
 fn one_of_each_plan(rt: HostRuntime) -> Result<(), Fail> {
     let station = Station::one_of_each(rt.alloc())?;
-    assert_eq!(rt;
+    same(
+        &rt,
         (station.radios(), station.servers(), station.links()),
-        (3, 0, 0)
+        (3, 0, 0),
     );
-    assert_eq!(rt; station.start().get(), 0);
+    same(&rt, station.start().get(), 0);
     for (place, plan, log) in [
         (0, Plan::Dcf, "dcf"),
         (1, Plan::Msf, "msf"),
         (2, Plan::Wwvb, "wwvb"),
     ] {
         let radio = station.radio(place).ok_or("a radio")?;
-        assert_eq!(rt; radio.plan, plan);
-        assert_eq!(rt; radio.log, log);
-        assert_eq!(rt; radio.delay, 0);
+        same(&rt, radio.plan, plan);
+        same(&rt, radio.log, log);
+        same(&rt, radio.delay, 0);
     }
     Ok(())
 }

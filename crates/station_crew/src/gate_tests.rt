@@ -1,7 +1,7 @@
 //! A station that denies a net and lets each client pass once in a gap, over a link in memory. It has no feed, so an answer has the reference ID
 //! `INIT`; a kiss code stands there in its letters (RFC 5905, section 7.4).
 
-use crate::tests::{CLIENT, LINK, moment, no_gear, serve};
+use crate::tests::{CLIENT, LINK, moment, no_gear, same, serve};
 use crate::{Budget, LinkWork};
 use feed_link::{Address, LinkEvent, MemoryLink, OpenGate, Planned};
 use responder::{End, Served};
@@ -101,7 +101,7 @@ fn the_gate_goes_on_from_phase_to_phase(rt: HostRuntime) -> Result<(), Fail> {
         first: counts(1, 1),
         second: Some(counts(2, 1)),
     };
-    assert_eq!(rt; ended.links.get(0).copied(), Some(work));
+    same(&rt, ended.links.get(0).copied(), Some(work));
     let link = ended.gear.links.get(0).ok_or("no link")?;
     assert!(rt; has_sent(link, &replies));
     Ok(())

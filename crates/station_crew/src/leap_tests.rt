@@ -1,7 +1,7 @@
 //! Stations with a leap second file: the rows are those of `leap-seconds.list` for the leap seconds at the ends of June 2015 and of 2016.
 ghost use Rattle.std.specs.Prelude.{◌<◌, ◌≤◌};
 
-use crate::tests::{RADIO, no_gear, serve, text_of};
+use crate::tests::{RADIO, no_gear, same, serve, text_of};
 use crate::{Budget, Ended};
 use feed_link::{MemoryLink, MemorySource, OpenGate};
 use feed_workers::{LogEnd, LogWork};
@@ -61,9 +61,9 @@ fn each_row_but_the_first_is_a_notice(rt: HostRuntime) -> Result<(), Fail> {
         9,
     )?;
     let text = text_of(rt.alloc(), &ended.journal)?;
-    assert_eq!(rt; text.as_str(), "0 7000 notice 3692217600\n");
+    same(&rt, text.as_str(), "0 7000 notice 3692217600\n");
     let end = LogEnd::Whole;
-    assert_eq!(rt; ended.leap, Some(LogWork { end, full: false }));
+    same(&rt, ended.leap, Some(LogWork { end, full: false }));
     assert!(rt; ended.gear.leap.is_some());
     Ok(())
 }
@@ -74,8 +74,8 @@ fn its_feed_stands_behind_the_radios(rt: HostRuntime) -> Result<(), Fail> {
     station.push_str(RADIO)?;
     let ended = serve_list(&rt, rt.alloc(), station.as_str(), true, LIST, 9)?;
     let text = text_of(rt.alloc(), &ended.journal)?;
-    assert_eq!(rt; text.as_str(), "1 0 notice 3692217600\n");
-    assert_eq!(rt; ended.radios.len(), 1);
+    same(&rt, text.as_str(), "1 0 notice 3692217600\n");
+    same(&rt, ended.radios.len(), 1);
     Ok(())
 }
 
@@ -83,9 +83,9 @@ fn its_feed_stands_behind_the_radios(rt: HostRuntime) -> Result<(), Fail> {
 fn a_row_that_skips_a_second_is_a_bad_line(rt: HostRuntime) -> Result<(), Fail> {
     let list = "# list\n3644697600\t36\n3692217600\t38\n";
     let ended = serve_list(&rt, rt.alloc(), "leap_file = \"leap\"\n", false, list, 9)?;
-    assert_eq!(rt; ended.journal.len(), 0);
+    same(&rt, ended.journal.len(), 0);
     let end = LogEnd::BadLine { line: 3 };
-    assert_eq!(rt; ended.leap, Some(LogWork { end, full: false }));
+    same(&rt, ended.leap, Some(LogWork { end, full: false }));
     Ok(())
 }
 
@@ -94,18 +94,18 @@ fn a_full_journal_loses_a_notice_and_says_so(rt: HostRuntime) -> Result<(), Fail
     let list = "3550089600 35\n3644697600 36\n3692217600 37\n";
     let ended = serve_list(&rt, rt.alloc(), "leap_file = \"leap\"\n", false, list, 1)?;
     let text = text_of(rt.alloc(), &ended.journal)?;
-    assert_eq!(rt; text.as_str(), "0 0 notice 3644697600\n");
+    same(&rt, text.as_str(), "0 0 notice 3644697600\n");
     let end = LogEnd::Whole;
-    assert_eq!(rt; ended.leap, Some(LogWork { end, full: true }));
+    same(&rt, ended.leap, Some(LogWork { end, full: true }));
     Ok(())
 }
 
 #[test]
 fn an_empty_list_tells_nothing(rt: HostRuntime) -> Result<(), Fail> {
     let ended = serve_list(&rt, rt.alloc(), "leap_file = \"leap\"\n", false, "", 9)?;
-    assert_eq!(rt; ended.journal.len(), 0);
+    same(&rt, ended.journal.len(), 0);
     let end = LogEnd::Whole;
-    assert_eq!(rt; ended.leap, Some(LogWork { end, full: false }));
+    same(&rt, ended.leap, Some(LogWork { end, full: false }));
     Ok(())
 }
 
@@ -114,6 +114,6 @@ fn a_station_without_one_has_no_work_for_it(rt: HostRuntime) -> Result<(), Fail>
     let alloc = rt.alloc();
     let gear = no_gear(alloc);
     let ended = serve(&rt, alloc, &OpenGate::new(), "", 1, NO_HEARINGS, gear)?;
-    assert_eq!(rt; ended.leap, None);
+    same(&rt, ended.leap, None);
     Ok(())
 }

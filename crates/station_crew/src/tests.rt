@@ -14,11 +14,18 @@ use responder::{End, Served};
 use station_config::{Station, read_station};
 use station_gear::Gear;
 use std::alloc::Global;
+use std::fmt::Debug;
+use std::process::Abort;
 use std::sync::Wait;
 use std::test::Fail;
 use std::thread::Threads;
 use tick_units::{Local, Plan};
 use verdict_journal::Journal;
+
+// What `assert_eq!` does, as a call: where many stand in a test, calls are proved in a third of the time.
+pub(crate) fn same<T: PartialEq + Debug + Drop>(rt: &impl Abort, left: T, right: T) {
+    assert_eq!(*rt; left, right);
+}
 
 const NOON: [u32; 12] = [18, 20, 29, 30, 33, 35, 36, 44, 45, 51, 52, 55];
 
@@ -287,24 +294,25 @@ fn a_link_is_answered_in_both_phases(rt: HostRuntime) -> Result<(), Fail> {
     };
     let gate = HoldGate::new(0, 1, 100, 3, 1, 1_000_000_000);
     let ended = serve(&rt, alloc, &gate, text.as_str(), 9, budget, gear)?;
-    assert_eq!(rt; ended.journal.len(), 6);
+    same(&rt, ended.journal.len(), 6);
     let end = LogEnd::Whole;
-    assert_eq!(rt;
+    same(
+        &rt,
         ended.radios.get(0).copied(),
-        Some(LogWork { end, full: false })
+        Some(LogWork { end, full: false }),
     );
     let work = LinkWork {
         first: counts(1, End::Count),
         second: Some(counts(1, End::Count)),
     };
-    assert_eq!(rt; ended.links.get(0).copied(), Some(work));
+    same(&rt, ended.links.get(0).copied(), Some(work));
     let link = ended.gear.links.get(0).ok_or("no link")?;
     let init = *b"INIT";
     let dcf = [0x44, 0x43, 0x46, 0x00];
     let second = [0xed, 0x00, 0xe1, 0x6d];
     assert!(rt; reply(link, 0).is_some_and(|told| told.0 == 0xe4 && told.1 == 0 && told.2 == init));
-    assert_eq!(rt; reply(link, 1), Some((0x24, 1, dcf, second)));
-    assert_eq!(rt; reply(link, 2), None);
+    same(&rt, reply(link, 1), Some((0x24, 1, dcf, second)));
+    same(&rt, reply(link, 2), None);
     Ok(())
 }
 
@@ -326,7 +334,7 @@ fn the_first_phase_answers_from_the_journal_so_far(rt: HostRuntime) -> Result<()
     let link = ended.gear.links.get(0).ok_or("no link")?;
     let dcf = [0x44, 0x43, 0x46, 0x00];
     let second = [0xed, 0x00, 0xe1, 0x6d];
-    assert_eq!(rt; reply(link, 0), Some((0x24, 1, dcf, second)));
+    same(&rt, reply(link, 0), Some((0x24, 1, dcf, second)));
     Ok(())
 }
 
@@ -340,15 +348,16 @@ fn a_station_without_feeds_is_served(rt: HostRuntime) -> Result<(), Fail> {
         after: 1,
     };
     let ended = serve(&rt, alloc, &OpenGate::new(), LINK, 1, budget, gear)?;
-    assert_eq!(rt; ended.journal.len(), 0);
+    same(&rt, ended.journal.len(), 0);
     let work = LinkWork {
         first: counts(2, End::Count),
         second: Some(counts(1, End::Count)),
     };
-    assert_eq!(rt; ended.links.get(0).copied(), Some(work));
-    assert_eq!(rt;
+    same(&rt, ended.links.get(0).copied(), Some(work));
+    same(
+        &rt,
         (ended.radios.len(), ended.servers.len(), ended.links.len()),
-        (0, 0, 1)
+        (0, 0, 1),
     );
     Ok(())
 }
@@ -364,11 +373,12 @@ fn a_full_journal_keeps_a_front(rt: HostRuntime) -> Result<(), Fail> {
     };
     let ended = serve(&rt, alloc, &OpenGate::new(), RADIO, 1, budget, gear)?;
     let lines = text_of(alloc, &ended.journal)?;
-    assert_eq!(rt; lines.as_str(), LONE);
+    same(&rt, lines.as_str(), LONE);
     let end = LogEnd::Whole;
-    assert_eq!(rt;
+    same(
+        &rt,
         ended.radios.get(0).copied(),
-        Some(LogWork { end, full: true })
+        Some(LogWork { end, full: true }),
     );
     Ok(())
 }
@@ -394,11 +404,11 @@ fn a_link_that_ends_has_no_second_phase(rt: HostRuntime) -> Result<(), Fail> {
         first: counts(2, End::Count),
         second: Some(counts(1, End::LinkEnd)),
     };
-    assert_eq!(rt; ended.links.get(0).copied(), Some(one));
-    assert_eq!(rt; ended.links.get(1).copied(), Some(two));
+    same(&rt, ended.links.get(0).copied(), Some(one));
+    same(&rt, ended.links.get(1).copied(), Some(two));
     let first = ended.gear.links.get(0).ok_or("no link")?;
     let second = ended.gear.links.get(1).ok_or("no link")?;
-    assert_eq!(rt; (first.count(), second.count()), (4, 10));
+    same(&rt, (first.count(), second.count()), (4, 10));
     Ok(())
 }
 
@@ -413,11 +423,12 @@ fn a_server_is_polled(rt: HostRuntime) -> Result<(), Fail> {
     };
     let ended = serve(&rt, alloc, &OpenGate::new(), SERVER, 9, budget, gear)?;
     let lines = text_of(alloc, &ended.journal)?;
-    assert_eq!(rt; lines.as_str(), SAMPLE);
+    same(&rt, lines.as_str(), SAMPLE);
     let end = PollEnd::Rounds;
-    assert_eq!(rt;
+    same(
+        &rt,
         ended.servers.get(0).copied(),
-        Some(PollWork { end, full: false })
+        Some(PollWork { end, full: false }),
     );
     Ok(())
 }
@@ -440,6 +451,6 @@ fn radios_are_numbered_before_servers(rt: HostRuntime) -> Result<(), Fail> {
     let lines = text_of(alloc, &ended.journal)?;
     let mut want = String::from_str(alloc, BOTH)?;
     want.push_str(OF_SECOND)?;
-    assert_eq!(rt; lines.as_str(), want.as_str());
+    same(&rt, lines.as_str(), want.as_str());
     Ok(())
 }

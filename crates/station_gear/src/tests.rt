@@ -14,8 +14,15 @@ use feed_link::{
 };
 use station_config::{Station, read_station};
 use std::alloc::Global;
+use std::fmt::Debug;
+use std::process::Abort;
 use std::test::Fail;
 use tick_units::Local;
+
+// What `assert_eq!` does, as a call: where many stand in a test, calls are proved in a third of the time.
+fn same<T: PartialEq + Debug + Drop>(rt: &impl Abort, left: T, right: T) {
+    assert_eq!(*rt; left, right);
+}
 
 const STATION: &str = r#"start = 7000
 [[radio]]
@@ -261,10 +268,10 @@ fn visit_station(alloc: Global, text: &str, second: &str, failing: u64) -> Resul
 #[test]
 fn all_are_opened_in_order_and_come_back_to_their_places(rt: HostRuntime) -> Result<(), Fail> {
     let visited = visit_station(rt.alloc(), STATION, "b.log", 0)?;
-    assert_eq!(rt; visited.answer, Ok(()));
-    assert_eq!(rt; visited.calls.as_str(), ALL);
-    assert_eq!(rt; visited.seen.as_str(), "66 65 31 32 33 ");
-    assert_eq!(rt; visited.counts, [Some(1); 3]);
+    same(&rt, visited.answer, Ok(()));
+    same(&rt, visited.calls.as_str(), ALL);
+    same(&rt, visited.seen.as_str(), "66 65 31 32 33 ");
+    same(&rt, visited.counts, [Some(1); 3]);
     Ok(())
 }
 
@@ -279,8 +286,8 @@ fn it_stops_at_the_first_that_fails(rt: HostRuntime) -> Result<(), Fail> {
     ];
     for (failing, missing, seen) in table {
         let visited = visit_station(rt.alloc(), STATION, "b.log", failing)?;
-        assert_eq!(rt; visited.answer, Err(missing));
-        assert_eq!(rt; visited.seen.as_str(), seen);
+        same(&rt, visited.answer, Err(missing));
+        same(&rt, visited.seen.as_str(), seen);
     }
     Ok(())
 }
@@ -289,10 +296,10 @@ fn it_stops_at_the_first_that_fails(rt: HostRuntime) -> Result<(), Fail> {
 fn a_leap_second_file_is_opened_behind_the_logs(rt: HostRuntime) -> Result<(), Fail> {
     let text = listed(rt.alloc())?;
     let visited = visit_station(rt.alloc(), text.as_str(), "b.log", 0)?;
-    assert_eq!(rt; visited.answer, Ok(()));
-    assert_eq!(rt; visited.calls.as_str(), ALL_LISTED);
-    assert_eq!(rt; visited.seen.as_str(), "66 65 76 31 32 33 ");
-    assert_eq!(rt; visited.counts, [Some(1); 3]);
+    same(&rt, visited.answer, Ok(()));
+    same(&rt, visited.calls.as_str(), ALL_LISTED);
+    same(&rt, visited.seen.as_str(), "66 65 76 31 32 33 ");
+    same(&rt, visited.counts, [Some(1); 3]);
     Ok(())
 }
 
@@ -307,8 +314,8 @@ fn it_stops_at_the_first_that_fails_with_a_leap_second_file(rt: HostRuntime) -> 
     let text = listed(rt.alloc())?;
     for (failing, missing, seen) in table {
         let visited = visit_station(rt.alloc(), text.as_str(), "b.log", failing)?;
-        assert_eq!(rt; visited.answer, Err(missing));
-        assert_eq!(rt; visited.seen.as_str(), seen);
+        same(&rt, visited.answer, Err(missing));
+        same(&rt, visited.seen.as_str(), seen);
     }
     Ok(())
 }
@@ -316,29 +323,34 @@ fn it_stops_at_the_first_that_fails_with_a_leap_second_file(rt: HostRuntime) -> 
 #[test]
 fn what_was_opened_before_a_failure_comes_back(rt: HostRuntime) -> Result<(), Fail> {
     let visited = visit_station(rt.alloc(), STATION, "b.log", 5)?;
-    assert_eq!(rt; visited.answer, Err(Missing::Link(0)));
-    assert_eq!(rt;
+    same(&rt, visited.answer, Err(Missing::Link(0)));
+    same(
+        &rt,
         visited.calls.as_str(),
-        "log own; back log; log b.log; log a.log; link 0 @7000; link 5123 @7000; back log; back log; back link; "
+        "log own; back log; log b.log; log a.log; link 0 @7000; link 5123 @7000; back log; back log; back link; ",
     );
-    assert_eq!(rt; visited.counts, [Some(1), Some(0), Some(0)]);
+    same(&rt, visited.counts, [Some(1), Some(0), Some(0)]);
     Ok(())
 }
 
 #[test]
 fn a_log_that_is_not_there_is_missing(rt: HostRuntime) -> Result<(), Fail> {
     let visited = visit_station(rt.alloc(), STATION, "c.log", 0)?;
-    assert_eq!(rt; visited.answer, Err(Missing::Feed(0)));
-    assert_eq!(rt; visited.calls.as_str(), "log own; back log; log b.log; ");
-    assert_eq!(rt; visited.counts, [Some(0); 3]);
+    same(&rt, visited.answer, Err(Missing::Feed(0)));
+    same(
+        &rt,
+        visited.calls.as_str(),
+        "log own; back log; log b.log; ",
+    );
+    same(&rt, visited.counts, [Some(0); 3]);
     Ok(())
 }
 
 #[test]
 fn a_station_with_nothing_in_it_opens_nothing(rt: HostRuntime) -> Result<(), Fail> {
     let visited = visit_station(rt.alloc(), "", "b.log", 0)?;
-    assert_eq!(rt; visited.answer, Ok(()));
-    assert_eq!(rt; visited.calls.as_str(), "log own; back log; ");
-    assert_eq!(rt; visited.seen.as_str(), "");
+    same(&rt, visited.answer, Ok(()));
+    same(&rt, visited.calls.as_str(), "log own; back log; ");
+    same(&rt, visited.seen.as_str(), "");
     Ok(())
 }

@@ -1,6 +1,7 @@
 //! Pages after each entry of a journal, while sources become fit and unfit and others stand outside.
 use crate::SourceKind;
 use crate::journals::{journal_of, page_after, settings_of};
+use crate::tests::same;
 use journal_entry::{Entry, What};
 use std::test::Fail;
 use tick_units::{Kind, Local, Plan};
@@ -52,9 +53,10 @@ fn a_source_is_unfit_after_a_leap_and_fit_again(rt: HostRuntime) -> Result<(), F
             "0 543000000 verdict 3692217780 0",
         ],
     )?;
-    assert_eq!(rt;
+    same(
+        &rt,
         told_after(&rt, &[DCF], &journal)?.as_slice(),
-        [4, 8].as_slice()
+        [4, 8].as_slice(),
     );
     Ok(())
 }
@@ -69,9 +71,10 @@ fn a_source_stands_outside_and_becomes_unfit(rt: HostRuntime) -> Result<(), Fail
         journal.push(minute(1, number, 0)?)?;
         journal.push(minute(2, number, 0)?)?;
     }
-    assert_eq!(rt;
+    same(
+        &rt,
         told_after(&rt, &[DCF; 3], &journal)?.as_slice(),
-        [10, 12, 13, 14, 15].as_slice()
+        [10, 12, 13, 14, 15].as_slice(),
     );
     Ok(())
 }
@@ -86,12 +89,13 @@ fn seven_of_sixteen_stand_outside(rt: HostRuntime) -> Result<(), Fail> {
         }
     }
     let told = told_after(&rt, &[DCF; 16], &journal)?;
-    assert_eq!(rt;
+    same(
+        &rt,
         told.as_slice(),
         [
-            49, 50, 51, 52, 53, 54, 55, 56, 57, 58, 59, 60, 61, 62, 63, 64
+            49, 50, 51, 52, 53, 54, 55, 56, 57, 58, 59, 60, 61, 62, 63, 64,
         ]
-        .as_slice()
+        .as_slice(),
     );
     Ok(())
 }

@@ -4,8 +4,15 @@ ghost use Rattle.std.specs.Prelude.{◌<◌};
 use crate::Settings;
 use crate::journals::{DCF, SERVER, line_of, page_after, settings_of, text_after};
 use journal_entry::{Entry, What};
+use std::fmt::Debug;
+use std::process::Abort;
 use std::test::Fail;
 use tick_units::{Local, Sample, Short, Span};
+
+// What `assert_eq!` does, as a call: where many stand in a test, calls are proved in a third of the time.
+pub(crate) fn same<T: PartialEq + Debug + Drop>(rt: &impl Abort, left: T, right: T) {
+    assert_eq!(*rt; left, right);
+}
 
 // A station with one receiver, and a bound of a second.
 fn of_one_radio() -> Result<Settings, Fail> {
@@ -44,7 +51,7 @@ fn a_radio_is_believed_after_four_minutes(rt: HostRuntime) -> Result<(), Fail> {
         ),
     ] {
         let text = text_after(&rt, &settings, &MINUTES[..entries])?;
-        assert_eq!(rt; text.as_str(), line);
+        same(&rt, text.as_str(), line);
     }
     Ok(())
 }
@@ -85,7 +92,7 @@ fn a_page_ends_with_a_leap_second(rt: HostRuntime) -> Result<(), Fail> {
         ),
     ] {
         let text = text_after(&rt, &settings, &OVER_A_LEAP[..entries])?;
-        assert_eq!(rt; text.as_str(), line);
+        same(&rt, text.as_str(), line);
     }
     Ok(())
 }
@@ -123,9 +130,10 @@ fn sixteen_servers(rt: HostRuntime) -> Result<(), Fail> {
         }
     }
     let page = page_after(&settings, &journal)?;
-    assert_eq!(rt;
+    same(
+        &rt,
         line_of(&rt, &page)?.as_str(),
-        "page 64 1 2 0a000000 15857950998457259431 283000015 4443563167 245 61446 dc12c3850098b734 0 0"
+        "page 64 1 2 0a000000 15857950998457259431 283000015 4443563167 245 61446 dc12c3850098b734 0 0",
     );
     Ok(())
 }
@@ -143,9 +151,10 @@ const A_LATE_MINUTE: [&str; 6] = [
 #[test]
 fn a_page_tells_the_rate_of_its_peer(rt: HostRuntime) -> Result<(), Fail> {
     let text = text_after(&rt, &of_one_radio()?, &A_LATE_MINUTE)?;
-    assert_eq!(rt;
+    same(
+        &rt,
         text.as_str(),
-        "page 6 1 1 44434600 17077896086170592347 362003000 37547671946 0 28981 ed00e16c00000000 0 -53687"
+        "page 6 1 1 44434600 17077896086170592347 362003000 37547671946 0 28981 ed00e16c00000000 0 -53687",
     );
     Ok(())
 }
@@ -154,24 +163,28 @@ fn a_page_tells_the_rate_of_its_peer(rt: HostRuntime) -> Result<(), Fail> {
 #[test]
 fn a_page_is_trusted_up_to_the_bound(rt: HostRuntime) -> Result<(), Fail> {
     let narrow = text_after(&rt, &settings_of(939, &[DCF])?, &MINUTES)?;
-    assert_eq!(rt;
+    same(
+        &rt,
         narrow.as_str(),
-        "page 5 0 0 494e4954 0 302000000 0 0 1048576 0000000000000000 0 0"
+        "page 5 0 0 494e4954 0 302000000 0 0 1048576 0000000000000000 0 0",
     );
     let near = text_after(&rt, &settings_of(940, &[DCF])?, &MINUTES)?;
-    assert_eq!(rt;
+    same(
+        &rt,
         near.as_str(),
-        "page 5 1 1 44434600 17077896086183477248 302000000 364906898 0 61542 ed00e13000000000 0 0"
+        "page 5 1 1 44434600 17077896086183477248 302000000 364906898 0 61542 ed00e13000000000 0 0",
     );
     let half = text_after(&rt, &settings_of(500, &[DCF])?, &MINUTES)?;
-    assert_eq!(rt;
+    same(
+        &rt,
         half.as_str(),
-        "page 5 0 0 494e4954 0 302000000 0 0 1048576 0000000000000000 0 0"
+        "page 5 0 0 494e4954 0 302000000 0 0 1048576 0000000000000000 0 0",
     );
     let widest = text_after(&rt, &settings_of(16_000, &[DCF])?, &MINUTES)?;
-    assert_eq!(rt;
+    same(
+        &rt,
         widest.as_str(),
-        "page 5 1 1 44434600 17077896086183477248 302000000 1004364906902 0 61542 ed00e13000000000 0 0"
+        "page 5 1 1 44434600 17077896086183477248 302000000 1004364906902 0 61542 ed00e13000000000 0 0",
     );
     Ok(())
 }
@@ -201,17 +214,20 @@ fn page_told_by(rt: &HostRuntime, root_disp: u32) -> Result<String, Fail> {
 // At the bound itself a page is trusted for one microsecond, with a unit less for a second and 17253 more, with one more not at all.
 #[test]
 fn a_page_ends_at_the_least_moment(rt: HostRuntime) -> Result<(), Fail> {
-    assert_eq!(rt;
+    same(
+        &rt,
         page_told_by(&rt, 8_191)?.as_str(),
-        "page 8 1 2 7f000001 17077896352471449600 7000000 8017253 0 8191 ed00e04700000000 0 0"
+        "page 8 1 2 7f000001 17077896352471449600 7000000 8017253 0 8191 ed00e04700000000 0 0",
     );
-    assert_eq!(rt;
+    same(
+        &rt,
         page_told_by(&rt, 8_192)?.as_str(),
-        "page 8 1 2 7f000001 17077896352471449600 7000000 7000001 0 8192 ed00e04700000000 0 0"
+        "page 8 1 2 7f000001 17077896352471449600 7000000 7000001 0 8192 ed00e04700000000 0 0",
     );
-    assert_eq!(rt;
+    same(
+        &rt,
         page_told_by(&rt, 8_193)?.as_str(),
-        "page 8 0 0 494e4954 0 7000000 0 0 1048576 0000000000000000 0 0"
+        "page 8 0 0 494e4954 0 7000000 0 0 1048576 0000000000000000 0 0",
     );
     Ok(())
 }

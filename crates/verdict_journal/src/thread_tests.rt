@@ -4,6 +4,7 @@ ghost use Rattle.page_cell.specs.Passes.{key_of};
 ghost use Rattle.system_fold.specs.Settings.{AreLawful};
 
 use crate::fakes::{Seen, append_all, are_of, minute, of_radios, read_all};
+use crate::tests::same;
 use crate::{Hub, HubName, HubParts, Journal};
 use clock_page::Page;
 use page_cell::{CellParts, FeedPass, PageCell, ReadPass};
@@ -247,11 +248,11 @@ fn two_threads_append_while_a_third_reads(rt: HostRuntime) -> Result<(), Fail> {
     else {
         return Err("memory")?;
     };
-    assert_eq!(rt; done.taken, (100, 100));
+    same(&rt, done.taken, (100, 100));
     assert!(rt; done.seen.in_order);
-    assert_eq!(rt; done.journal.len(), 200);
-    assert_eq!(rt; minutes_of(&done.journal, 0), Some(100));
-    assert_eq!(rt; minutes_of(&done.journal, 1), Some(100));
+    same(&rt, done.journal.len(), 200);
+    same(&rt, minutes_of(&done.journal, 0), Some(100));
+    same(&rt, minutes_of(&done.journal, 1), Some(100));
     Ok(())
 }
 
@@ -278,9 +279,9 @@ fn a_million_readings_beside_a_writer(rt: HostRuntime) -> Result<(), Fail> {
         seen,
         journal,
     } = done;
-    assert_eq!(rt; taken, (20_000, 0));
+    same(&rt, taken, (20_000, 0));
     assert!(rt; seen.in_order);
-    assert_eq!(rt; journal.len(), 20_000);
+    same(&rt, journal.len(), 20_000);
     let mut pages = seen.pages;
     assert!(rt; are_of(&journal, pages.as_slice(), &settings, 20_000));
 
