@@ -4,6 +4,7 @@ pub mod FeedLaws
 pub mod StandingLaws
 pub mod FitLaws
 pub mod SourceLaws
+pub mod SilenceLaws
 pub mod SoundLaws
 pub mod PageLaws
 pub mod SweepLaws

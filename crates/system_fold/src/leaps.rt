@@ -5,6 +5,7 @@ ghost use Rattle.system_fold.specs.KeptFold.{KeepsLeaps, best_with, or_older, wo
 ghost use Rattle.journal_entry.specs.declared.entry.Entry.{Entry};
 
 use crate::moments::{beginning, later};
+use crate::words::Words;
 use journal_entry::{Entry, What};
 use tick_units::{Kind, Local};
 
@@ -38,12 +39,12 @@ pub struct Verdict {
 }
 
 /// What is kept of a journal for its leaps.
-#[derive(Clone, Copy)]
+#[derive(Drop)]
 pub struct Leaps {
     pub latest: Local,
     pub cut: u64,
     pub verdict: Option<Verdict>,
-    pub words: [Option<Word>; 16],
+    pub words: Words,
 }
 
 // The word that an entry is, if it is one.
@@ -199,7 +200,7 @@ impl Leaps {
             latest: beginning(),
             cut: 0,
             verdict: None,
-            words: [None; 16],
+            words: Words::new(),
         }
     }
 
@@ -209,7 +210,7 @@ impl Leaps {
         ensures { self.new ≡ record self.old { words = words_with self.old.words e.now.feed (word_in e.now.at e.now.what) } }
     {
         if let Some(word) = word_said(e.at, &e.what) {
-            self.words[e.feed as usize] = Some(word);
+            self.words.put(e.feed, word);
         }
     }
 
@@ -231,15 +232,13 @@ impl Leaps {
         self.note_word(e);
         self.note_verdict(e);
         self.latest = later(self.latest, e.at);
-        self.cut = self
-            .cut
-            .max(last_passed(self.latest, &self.verdict, &self.words));
+        self.cut = self.cut.max(last_passed(self.latest, &self.verdict, self.words.telling()));
     }
 
     /// The leap that is armed.
     pub fn armed(&self) -> Option<Leap>
         ensures { (journal : List Entry) → KeepsLeaps self.now journal → result ≡ armed_of journal }
     {
-        next_ahead(self.latest, &self.verdict, &self.words)
+        next_ahead(self.latest, &self.verdict, self.words.telling())
     }
 }

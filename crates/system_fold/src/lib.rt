@@ -16,6 +16,7 @@ mod settings;
 mod source;
 mod text;
 mod whole;
+mod words;
 
 pub use fold::FoldState;
 pub use plain::page_from_scratch;

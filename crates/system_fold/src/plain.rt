@@ -17,6 +17,7 @@ use crate::inputs::PageInputs;
 use crate::leaps::{Leaps, Verdict, Word, last_passed, verdict_said, word_said};
 use crate::moments::{beginning, later};
 use crate::page::page_by;
+use crate::words::Words;
 use crate::{Settings, SourceKind};
 use arrayvec::ArrayVec;
 use clock_page::Page;
@@ -104,7 +105,7 @@ fn leaps_of(journal: &[Entry]) -> Leaps
         latest: now_of(journal),
         cut: cut_of(journal),
         verdict: last_verdict(journal),
-        words: words_of(journal),
+        words: Words::of(words_of(journal)),
     }
 }
 
