@@ -6,7 +6,7 @@ ghost use Rattle.cluster_core.specs.Clusters.{Clusters, IsWorst, Settles, greate
 ghost use Rattle.cluster_core.specs.Sums.{AreSums};
 ghost use Rattle.cluster_core.specs.declared.survivor.Survivor.{Survivor};
 
-use crate::ordering::ordered;
+use crate::ordering::put_all;
 use crate::spread::{Sums, spread_of, sums_of};
 use crate::{Survivor, Survivors};
 use arrayvec::ArrayVec;
@@ -109,7 +109,8 @@ pub fn cluster(s: &mut Survivors)
     ensures measured { All IsWeighable s.old → All IsWeighable s.new }
     ensures near { AreNear s.old → AreNear s.new }
 {
-    let mut left = ordered(s.as_slice());
+    let mut left = ArrayVec::new();
+    put_all(&mut left, s.as_slice());
     settle(&mut left);
     *s = Survivors::of(left);
 }

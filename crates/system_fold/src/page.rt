@@ -18,7 +18,7 @@ ghost use Rattle.system_fold.specs.declared.source.Source.{Source};
 
 use crate::SourceKind;
 use crate::inputs::PageInputs;
-use crate::selecting::{agreed, left_of, survivors_in};
+use crate::selecting::{add_survivors, agreed, left_of};
 use crate::source::Source;
 use clock_filter::root_delay;
 use clock_page::Page;
@@ -123,7 +123,8 @@ pub fn page_within(inputs: &PageInputs, fit: &[Source], chime: &Option<Chime>) -
 {
     match chime {
         Some(chime) => {
-            let mut survivors = survivors_in(chime, fit, inputs.moment);
+            let mut survivors = Survivors::new();
+            add_survivors(&mut survivors, chime, fit, inputs.moment);
             cluster(&mut survivors);
             page_of_survivors(inputs, fit, &survivors)
         }

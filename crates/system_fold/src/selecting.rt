@@ -80,18 +80,17 @@ fn add_if_in(survivors: &mut Survivors, chime: &Chime, source: &Source, now: Loc
     }
 }
 
-/// What the clustering is told of the sources whose offset lies in the interval.
-pub fn survivors_in(chime: &Chime, fit: &[Source], now: Local) -> Survivors
+/// Adds what the clustering is told of the sources whose offset lies in the interval to survivors of which there are none yet.
+pub fn add_survivors(survivors: &mut Survivors, chime: &Chime, fit: &[Source], now: Local)
+    requires none { survivors.old ≡ [] }
     requires few { length fit.now ≤ 16 }
     requires fit { All (IsFit now) fit.now }
-    ensures value { result ≡ selecting.survivors_in (Some chime.now) now fit.now }
-    ensures measured { All IsWeighable result }
+    ensures value { survivors.new ≡ selecting.survivors_in (Some chime.now) now fit.now }
+    ensures measured { All IsWeighable survivors.new }
 {
-    let mut survivors = Survivors::new();
     for source in fit {
-        add_if_in(&mut survivors, chime, source, now);
+        add_if_in(survivors, chime, source, now);
     }
-    survivors
 }
 
 /// Of the sources of survivors, in their order: the first, and when the newest sample of all was taken.
