@@ -65,6 +65,14 @@ impl SegmentKeeper {
         }
     }
 
+    // Its plan.
+    #[inline]
+    pub fn plan(&self) -> Plan
+        ensures { (plan : Plan) (marks : List Mark) → HasKept self.now plan marks → result ≡ plan }
+    {
+        self.frame.plan()
+    }
+
     // Begins a segment.
     fn begin(&mut self, mark: Mark)
         ensures frame { (plan : Plan) (marks : List Mark) → HasMarksOf self.old.frame plan marks → HasMarksOf self.new.frame plan (mark ∷ []) }

@@ -31,6 +31,14 @@ impl Pairing {
         }
     }
 
+    /// Its plan.
+    #[inline]
+    pub fn plan(&self) -> Plan
+        ensures { (plan : Plan) (marks : List Mark) → HasPaired self.now plan marks → result ≡ plan }
+    {
+        self.keeper.plan()
+    }
+
     /// Hears the next mark: the answer to the segment that it closes, if it closes one, at this mark's start.
     #[inline(always)]
     pub fn hear(&mut self, mark: Mark) -> Option<Heard>

@@ -1,5 +1,5 @@
 //! A marker and a pairing behind it, with a path delay.
-ghost use Rattle.std.specs.Prelude.{◌≡◌, ◌+◌, ◌++◌, ◌-◌, ◌==◌, IfSome};
+ghost use Rattle.std.specs.Prelude.{◌≡◌, ◌+◌, ◌++◌, ◌-◌, ◌==◌, true, IfSome};
 ghost use Rattle.std.specs.Option.{option_to_list};
 ghost use Rattle.tick_units.specs.declared.marks.Plan.{Plan};
 ghost use Rattle.minute_pair.specs.Years.{BelievesYears};
@@ -70,6 +70,29 @@ impl Chain {
             at: sent(heard.at, self.delay_us),
             kind: heard.kind,
         })
+    }
+
+    // Whether its marker and its pairing are of a plan.
+    #[inline]
+    fn is_of(&self, plan: Plan) -> bool
+        ensures { (h : History) → HasChained self.now h → h.plan ≡ plan → result ≡ true }
+    {
+        self.marker.plan() == plan && self.pairing.plan() == plan
+    }
+
+    // Hears a reduction as a chain of this plan, which it is. Once that is asked, the compiler leaves out what the other plans would do.
+    #[inline(always)]
+    pub fn hear_as(&mut self, plan: Plan, reduction: Reduction) -> Option<Heard>
+        ensures heard { (h : History) → h.plan ≡ plan → HasChained self.old h → HasChained self.new (with_reduction h reduction) }
+        ensures answered { (h : History) → h.plan ≡ plan → HasChained self.old h → answers_of (with_reduction h reduction) ≡ answers_of h ++ option_to_list result }
+        ensures least { self.new.least_start ≡ reduction.at + 1 }
+        ensures years { IfSome result (λ heard. BelievesYears heard.kind) }
+    {
+        if !self.is_of(plan) {
+            self.least_start = reduction.at.get() + 1;
+            return None;
+        }
+        self.hear(reduction)
     }
 
     #[tactic(auto, using(crate::proofs::LastLaws::blank_is))]

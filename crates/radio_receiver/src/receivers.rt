@@ -108,7 +108,7 @@ impl<P: OfPlan> Receiver for PlanReceiver<P> {
 
     #[inline(always)]
     fn hear(&mut self, reduction: Reduction) -> Option<Heard> {
-        self.chain.hear(reduction)
+        self.chain.hear_as(P::plan(), reduction)
     }
 
     fn blank(&self) -> bool {

@@ -30,6 +30,14 @@ impl Marker {
         }
     }
 
+    /// Its plan.
+    #[inline]
+    pub fn plan(&self) -> Plan
+        ensures { (plan : Plan) (reductions : List Reduction) → HasHeard self.now plan reductions → result ≡ plan }
+    {
+        self.plan
+    }
+
     /// Hears the next reduction: the mark that it completes, if it completes one.
     #[inline(always)]
     pub fn hear(&mut self, reduction: Reduction) -> Option<Mark>
