@@ -18,12 +18,3 @@ mod station;
 pub use fault::{KeyText, StationFault};
 pub use reading::read_station;
 pub use station::{LinkRow, RadioRow, ServerRow, Station};
-
-#[cfg(test)]
-mod deny_tests;
-#[cfg(test)]
-mod key_tests;
-#[cfg(test)]
-mod leap_tests;
-#[cfg(test)]
-mod tests;

@@ -15,14 +15,3 @@ mod work;
 pub use named::Ended;
 pub use station::serve_station;
 pub use work::{Budget, LinkWork};
-
-#[cfg(test)]
-mod gate_tests;
-#[cfg(test)]
-mod key_tests;
-#[cfg(test)]
-mod leap_tests;
-#[cfg(test)]
-mod number_tests;
-#[cfg(test)]
-mod tests;

@@ -5,13 +5,13 @@ ghost use Rattle.radio_receiver.specs.Histories.{blank_of};
 ghost use Rattle.station_crew.specs.Served.{AreBlank};
 ghost use Rattle.tick_units.specs.declared.marks.Plan.TheVariants.{Dcf};
 
-use crate::{Budget, Ended, LinkWork, serve_station};
 use feed_link::{Address, Gate, HoldGate, LinkEvent, MemoryLink, MemorySource, OpenGate, Planned};
 use feed_workers::{LogEnd, LogWork, PollEnd, PollWork};
 use journal_entry::{LINE_ROOM, write_entry};
 use radio_receiver::{BoxedReceiver, DcfReceiver, Receiver};
 use responder::{End, Served};
 use station_config::{Station, read_station};
+use station_crew::{Budget, Ended, LinkWork, serve_station};
 use station_gear::Gear;
 use std::alloc::Global;
 use std::fmt::Debug;

@@ -3,8 +3,8 @@ use Rattle.std.proofs.Common.{◌≡◌, ◌∙◌, refl, sym, subst, inl, inr, 
 use denote.Param.Object.{read_made}
 use Rattle.tick_units.specs.declared.marks.Plan.TheVariants.{Dcf}
 use Rattle.radio_receiver.specs.Histories.{History, blank_of}
-use Rattle.station_crew.proofs.tests.serve.OwnLists.{own-1}
-use Rattle.station_crew.proofs.tests.serve.Goals as goal
+use Rattle.crew_tests.proofs.tests.serve.OwnLists.{own-1}
+use Rattle.crew_tests.proofs.tests.serve.Goals as goal
 
 pub serve_with-requires-clause-stands : goal.serve_with-requires-clause-stands
 serve_with-requires-clause-stands g c κs within =

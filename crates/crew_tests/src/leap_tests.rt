@@ -2,9 +2,9 @@
 ghost use Rattle.std.specs.Prelude.{◌<◌, ◌≤◌};
 
 use crate::tests::{RADIO, no_gear, same, serve, text_of};
-use crate::{Budget, Ended};
 use feed_link::{MemoryLink, MemorySource, OpenGate};
 use feed_workers::{LogEnd, LogWork};
+use station_crew::{Budget, Ended};
 use std::alloc::Global;
 use std::sync::Wait;
 use std::test::Fail;

@@ -1,9 +1,9 @@
 //! The numbers by which responders pass the gate at which a test may hold them: 100 for the station's first link, and one more for
 //! each behind it.
 
-use crate::Budget;
 use crate::tests::{LINK, asked, no_gear, serve};
 use feed_link::HoldGate;
+use station_crew::Budget;
 use std::alloc::Global;
 use std::sync::Wait;
 use std::test::Fail;

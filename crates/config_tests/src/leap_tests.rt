@@ -1,6 +1,6 @@
 //! The leap second file of a station.
-use crate::read_station;
 use crate::tests::{answer, same, wrong};
+use station_config::read_station;
 use std::alloc::Global;
 use std::test::Fail;
 

@@ -1,9 +1,9 @@
 //! A station with keys over a link in memory. The digests are those of Python's `hashlib`; the reply's header was worked by hand from RFC
 //! 5905, section 7.3, for a server that isn't synchronised.
 
-use crate::Budget;
 use crate::tests::{CLIENT, LINK, moment, no_gear, serve};
 use feed_link::{LinkEvent, MemoryLink, OpenGate, Planned};
+use station_crew::Budget;
 use std::alloc::Global;
 use std::test::Fail;
 

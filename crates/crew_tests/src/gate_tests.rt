@@ -2,9 +2,9 @@
 //! `INIT`; a kiss code stands there in its letters (RFC 5905, section 7.4).
 
 use crate::tests::{CLIENT, LINK, moment, no_gear, same, serve};
-use crate::{Budget, LinkWork};
 use feed_link::{Address, LinkEvent, MemoryLink, OpenGate, Planned};
 use responder::{End, Served};
+use station_crew::{Budget, LinkWork};
 use std::alloc::Global;
 use std::test::Fail;
 

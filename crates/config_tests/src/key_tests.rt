@@ -1,6 +1,6 @@
 //! The keys of a station file, lawful ones and faulty ones.
-use crate::read_station;
 use crate::tests::{answer, same, wrong};
+use station_config::read_station;
 use std::test::Fail;
 
 // Each line has a file, with `|` for its line feeds, and what it comes to.

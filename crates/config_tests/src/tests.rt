@@ -1,5 +1,5 @@
 //! Station files, lawful ones and faulty ones, and what each comes to.
-use crate::{KeyText, Station, StationFault, read_station};
+use station_config::{KeyText, Station, StationFault, read_station};
 use std::alloc::Global;
 use std::fmt::Debug;
 use std::process::Abort;

@@ -3,9 +3,9 @@ ghost use Rattle.std.specs.Prelude.{◌≡◌, IfOk};
 ghost use Rattle.station_config.specs.Station.{gate_of};
 
 use crate::tests::{answer, push_times, same, wrong};
-use crate::{Station, read_station};
 use kiss_gate::{ClientGate, GateOpen};
 use reply_core::Code;
+use station_config::{Station, read_station};
 use std::alloc::Global;
 use std::test::Fail;
 use tick_units::Local;

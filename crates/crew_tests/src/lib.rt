@@ -1,0 +1,14 @@
+//! Tests of the crew of a station: stations over fakes in memory, served in both phases. They stand in a crate of their own, so that the crew
+//! is not proved once more with them.
+#![tactic(auto)]
+
+#[cfg(test)]
+mod gate_tests;
+#[cfg(test)]
+mod key_tests;
+#[cfg(test)]
+mod leap_tests;
+#[cfg(test)]
+mod number_tests;
+#[cfg(test)]
+mod tests;
