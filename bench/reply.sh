@@ -12,8 +12,8 @@ trap 'rm -rf "$work"' EXIT
 mkdir -p "$work/crates/reply_loop/src"
 for crate in tick_units ntp_packet clock_page reply_core; do
     mkdir "$work/crates/$crate"
-    for part in src specs proofs; do
-        [ -d "$top/crates/$crate/$part" ] && cp -r "$top/crates/$crate/$part" "$work/crates/$crate/"
+    for part in src specs proofs out; do
+        if [ -d "$top/crates/$crate/$part" ]; then cp -a "$top/crates/$crate/$part" "$work/crates/$crate/"; fi
     done
 done
 cat > "$work/crates.txt" <<'CRATES'

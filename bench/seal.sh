@@ -12,8 +12,8 @@ trap 'rm -rf "$work"' EXIT
 mkdir -p "$work/crates/seal_loop/src"
 for crate in tick_units ntp_packet packet_auth clock_page reply_core sealed_reply; do
     mkdir "$work/crates/$crate"
-    for part in src specs proofs; do
-        if [ -d "$top/crates/$crate/$part" ]; then cp -r "$top/crates/$crate/$part" "$work/crates/$crate/"; fi
+    for part in src specs proofs out; do
+        if [ -d "$top/crates/$crate/$part" ]; then cp -a "$top/crates/$crate/$part" "$work/crates/$crate/"; fi
     done
     grep "^$crate:" "$top/crates.txt" >> "$work/crates.txt"
 done

@@ -14,8 +14,8 @@ mkdir -p "$work/crates/turn_loop/src" "$work/crates/turn_loop/proofs/settings_of
 for crate in tick_units feed_link journal_entry clock_filter select_core cluster_core clock_page system_fold ntp_packet packet_auth reply_core \
     kiss_gate sealed_reply page_cell responder; do
     mkdir "$work/crates/$crate"
-    for part in src specs proofs; do
-        [ -d "$top/crates/$crate/$part" ] && cp -r "$top/crates/$crate/$part" "$work/crates/$crate/"
+    for part in src specs proofs out; do
+        if [ -d "$top/crates/$crate/$part" ]; then cp -a "$top/crates/$crate/$part" "$work/crates/$crate/"; fi
     done
     grep "^$crate:" "$top/crates.txt" >> "$work/crates.txt"
 done
