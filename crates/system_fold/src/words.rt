@@ -11,6 +11,7 @@ use std::marker::Model;
 #[derive(Drop)]
 pub struct Words {
     of: [Option<Word>; 16],
+    // Whether it is known that none of them names a leap second.
     silent: bool,
 }
 
