@@ -3,7 +3,8 @@ use Rattle.std.proofs.Common.{◌≡◌, ℕ, zero, suc, max, Bool, true, false,
 use Rattle.std.specs.Prelude.{Option, None, Some, map, fold, ◌&&◌, ◌||◌, ◌==◌, nat_lt, if◌then◌else◌}
 use Rattle.std.specs.List.{filter_map, cons_option, list_all}
 use Rattle.tick_units.specs.Orders.{best}
-use Rattle.system_fold.specs.Leaps.{leap_of, moment_of, names_none, passed_by, passed_among, ahead_of, armed_among}
+use Rattle.system_fold.specs.Leaps.{leap_of, moment_of, passed_by, passed_among, ahead_of, armed_among}
+use Rattle.system_fold.specs.Silence.{names_none}
 use Rattle.system_fold.specs.declared.leaps.Leap.{Leap}
 use Rattle.system_fold.specs.declared.leaps.Verdict.{Verdict}
 use Rattle.system_fold.specs.declared.leaps.Word.{Word}

@@ -3,7 +3,7 @@
 -- several feeds are weighed is this project's own; what a leap second is, RFC 5905 has in section 7.3 (the leap indicator).
 -- A leap second is named by the second that begins when it ends. Seconds are counted without leap seconds, so a moment that is
 -- reckoned from before a leap second is that of its begin, and one that is reckoned from after it is that of its end.
-use Rattle.std.specs.Prelude.{ℕ, ◌+◌, ◌-◌, ◌*◌, ◌^◌, ◌==◌, nat_lt, nat_le, ◌||◌, Bool, true, Option, None, Some, List, filter, map, if◌then◌else◌}
+use Rattle.std.specs.Prelude.{ℕ, ◌+◌, ◌-◌, ◌*◌, ◌^◌, ◌==◌, nat_lt, nat_le, ◌||◌, Option, None, Some, List, filter, map, if◌then◌else◌}
 use Rattle.std.specs.List.{filter_map, last_or, range_with_len}
 use Rattle.tick_units.specs.Orders.{greatest, best}
 use Rattle.tick_units.specs.declared.verdicts.Kind.TheVariants.{Refused, Lone, Differs}
@@ -61,12 +61,6 @@ leap_of last None = None
 leap_of last (Some (Told at second leap_at)) = if leap_at == 0 then None else Some (record { moment = moment_of at second leap_at; leap_at = leap_at })
 leap_of None (Some (Announced leap_at)) = None
 leap_of (Some v) (Some (Announced leap_at)) = if leap_at == 0 || nat_lt leap_at v.second then None else Some (record { moment = moment_of v.at v.second leap_at; leap_at = leap_at })
-
--- a word that names none, whatever the last Verdict is
-abbrev pub names_none : Option Word → Bool
-names_none None = true
-names_none (Some (Told at second leap_at)) = leap_at == 0
-names_none (Some (Announced leap_at)) = leap_at == 0
 
 -- the moment of a leap second, where it isn't above now, or 0
 abbrev pub passed_by : ℕ → Option Leap → ℕ

@@ -1,6 +1,6 @@
 -- Read Page (the page of a journal), and then what it is made of: Settings, Inputs and Ends; Journal, Samples and Leaps (what a journal says);
 -- Sources and Selecting (which sources agree); Fields (the fields of the page); PageText (its line);
--- Numbered (the lines of a journal). Feeds, Fit, Surviving and KeptFold
+-- Numbered (the lines of a journal). Feeds, Fit, Surviving, Silence and KeptFold
 -- are scaffolding.
 pub mod Ends
 pub mod Feeds
@@ -16,5 +16,6 @@ pub mod PageText
 pub mod Samples
 pub mod Selecting
 pub mod Settings
+pub mod Silence
 pub mod Sources
 pub mod Surviving

@@ -1,7 +1,7 @@
 //! The word of each feed on leap seconds.
 ghost use Rattle.std.specs.Prelude.{◌≡◌, ◌<◌, ℕ, Option, Some, true, [], slice_set};
-ghost use Rattle.system_fold.specs.Leaps as leaps;
 ghost use Rattle.system_fold.specs.Leaps.{armed_among, passed_among, words_of};
+ghost use Rattle.system_fold.specs.Silence as silence;
 ghost use Rattle.system_fold.specs.declared.leaps.Verdict.{Verdict};
 
 use crate::leaps::Word;
@@ -18,7 +18,7 @@ pub struct Words {
 impl Model for Words {
     ghost use Rattle.std.specs.Prelude.{◌≡◌, true, List, Option, length};
     ghost use Rattle.std.specs.List.{list_all};
-    ghost use Rattle.system_fold.specs.Leaps.{names_none};
+    ghost use Rattle.system_fold.specs.Silence.{names_none};
     ghost use Rattle.system_fold.specs.declared.leaps.Word.{Word};
 
     ghost Value = { List (Option Word) };
@@ -30,7 +30,7 @@ impl Model for Words {
 
 // Whether a word names no leap second.
 fn names_none(word: &Option<Word>) -> bool
-    ensures { result ≡ leaps.names_none word.now }
+    ensures { result ≡ silence.names_none word.now }
 {
     match word {
         None => true,
@@ -42,7 +42,7 @@ fn names_none(word: &Option<Word>) -> bool
 // Whether words of which one is new name no leap second, as far as is known.
 fn are_silent(others: bool, new: &Option<Word>) -> bool
     ensures others { result ≡ true → others ≡ true }
-    ensures new { result ≡ true → leaps.names_none new.now ≡ true }
+    ensures new { result ≡ true → silence.names_none new.now ≡ true }
 {
     others && names_none(new)
 }
