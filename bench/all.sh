@@ -1,8 +1,7 @@
 #!/bin/sh
 # Runs every bench of this folder that ends within minutes, one after the other, so that all ratios come from one run on one machine. Each
 # one's figures stand under its name; a bench that fails is told at the end, and the others run all the same. `limit.sh` needs a gigabyte of
-# disk and `launch.py` a quiet minute: they are run by themselves. Needs what those need: the built program (run ./radio_ntpd
-# once before), rt, gcc, python3, valgrind, OpenSSL's headers.
+# disk and is run by itself. Needs what those need: the built program (run ./radio_ntpd once before), rt, gcc, python3, valgrind, OpenSSL's headers.
 #
 #     bench/all.sh [BENCH...]
 set -u

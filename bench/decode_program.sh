@@ -11,7 +11,7 @@ ghost use Rattle.journal_entry.specs.declared.writer.TheConstants.{LINE_ROOM};
 
 use feed_link::{Failed, HostOutside, Outside, Sink, Source, StreamSink};
 use file_reader::{FileEnd, FileReader, Pulled};
-use journal_entry::{Entry, LINE_ROOM, write_entry};
+use journal_entry::{Entry, LINE_ROOM, write_unnumbered};
 use log_decoder::LogDecoder;
 use pulse_log::BadLine;
 use radio_receiver::{DcfReceiver, MsfReceiver, Receiver, WwvbReceiver};
@@ -49,7 +49,7 @@ enum Taken {
 fn write_entry_line(entry: &Entry, line: &mut Line) -> usize
     ensures within { result ≤ LINE_ROOM }
 {
-    let end = write_entry(entry, line);
+    let end = write_unnumbered(entry, line);
     line[end] = b'\n';
     end + 1
 }

@@ -2,9 +2,11 @@
 """What `drill` tells, worked out by a program of its own from docs/FORMATS.md and docs/PAGE.md: the minutes of the made logs as they were
 spelt, not as they are read. It gave the lines that the tests of engine_tests compare with.
 
-usage: drill_model.py SEED [LIMIT]
+usage: drill_model.py SEED
 """
-import sys
+import argparse
+
+import ends
 import made_log
 import page_model
 
@@ -33,7 +35,9 @@ def entries(feed, plan, seed):
             yield dict(feed=feed, at=at, kind='verdict', second=second, leap_at=0)
 
 def main():
-    seed = int(sys.argv[1])
+    words = argparse.ArgumentParser(description=__doc__, formatter_class=argparse.RawDescriptionHelpFormatter)
+    words.add_argument('seed', type=int)
+    seed = words.parse_args().seed
     journal = []
     for feed, plan in enumerate(('dcf', 'msf', 'wwvb')):
         journal += entries(feed, plan, seed)
@@ -43,4 +47,4 @@ def main():
     print(page_model.page(journal, ['dcf', 'msf', 'wwvb'], 1000))
 
 if __name__ == '__main__':
-    main()
+    ends.run(main)

@@ -1,5 +1,6 @@
 # A maker of logs apart from the program, by the description in docs/FORMATS.md.
-import datetime,sys
+import datetime
+import ends
 P31=2**31
 EPOCH=datetime.datetime(1900,1,1)
 def bits_lo(n,c): return [(n>>i)&1 for i in range(c)]
@@ -68,7 +69,7 @@ def made(plan,first,minutes,seed):
         x=(1103515245*x+12345)%P31
         for off,w in parts: out.append("%d %d\n"%(5000000+i*1000000+x%2001+off,w))
     return "".join(out)
-if __name__=="__main__":
+def main():
     for plan in('dcf','msf','wwvb'):
         for minutes in(1,8,1440):
             t=made(plan,3981312000,minutes,7)
@@ -76,3 +77,5 @@ if __name__=="__main__":
             fnv=0xcbf29ce484222325
             for b in t.encode(): fnv=((fnv^b)*0x100000001b3)%2**64
             print(plan,minutes,len(ls),len(t),ls[0],ls[1],ls[-2],ls[-1],hex(fnv),sum(int(l.split()[1])==30000 for l in ls))
+if __name__=="__main__":
+    ends.run(main)

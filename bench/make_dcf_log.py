@@ -14,6 +14,8 @@ import datetime
 import random
 import sys
 
+import ends
+
 
 def put(bits, place, number, tens_weights, ones_weights=(1, 2, 4, 8)):
     for weights, digit in ((ones_weights, number % 10), (tens_weights, number // 10)):
@@ -76,4 +78,4 @@ def main():
 
 
 if __name__ == "__main__":
-    main()
+    ends.run(main)

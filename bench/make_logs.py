@@ -16,6 +16,7 @@ import datetime
 import pathlib
 import random
 
+import ends
 from make_script import dcf_minute, msf_minute, wwvb_minute
 
 MINUTE = 60_000_000
@@ -71,4 +72,4 @@ def main():
 
 
 if __name__ == "__main__":
-    main()
+    ends.run(main)

@@ -17,6 +17,7 @@ import itertools
 import random
 import sys
 
+import ends
 from make_dcf_log import frame as dcf_bits
 
 FIRST = datetime.datetime(2026, 1, 1, 12, 0)
@@ -144,4 +145,4 @@ def main():
 
 
 if __name__ == "__main__":
-    main()
+    ends.run(main)

@@ -6,8 +6,11 @@ usage: page_model.py [-v] BOUND KIND... < ENTRIES
 BOUND is in milliseconds, KIND is dcf, msf, wwvb, server or leap, one for each feed; ENTRIES are lines of a journal.
 -v also tells the cut, the armed leap second, the fit sources, the interval and the feeds that are left.
 """
+import argparse
 import math
 import sys
+
+import ends
 
 def local_span(u): return u * 2**32 // 10**6
 def ceil_div(a, b): return -((-a) // b)
@@ -134,7 +137,18 @@ def page(J, kinds, bound_ms):
     reftime = (offset + local_span(fresh)) % 2**64
     return f"page {len(J)} 1 {s['stratum']+1} {refid:08x} {offset} {now} {until} {rootdelay} {rootdisp} {reftime:016x} {armed[2] if armed else 0} {p['rate']}"
 
+def main():
+    words = argparse.ArgumentParser(description=__doc__, formatter_class=argparse.RawDescriptionHelpFormatter)
+    words.add_argument('-v', action='store_true')
+    words.add_argument('bound', type=int)
+    words.add_argument('kind', nargs='*', choices=('dcf', 'msf', 'wwvb', 'server', 'leap', []))
+    asked = words.parse_args()
+    lines = [line.rstrip('\n') for line in sys.stdin if line.strip()]
+    try:
+        entries = [parse(line) for line in lines]
+    except (ValueError, IndexError):
+        sys.exit('page_model.py: a line is no entry of version 1')
+    print(page(entries, asked.kind, asked.bound))
+
 if __name__ == '__main__':
-    args = [a for a in sys.argv[1:] if a != '-v']
-    lines = [l.rstrip('\n') for l in sys.stdin if l.strip()]
-    print(page([parse(l) for l in lines], args[1:], int(args[0])))
+    ends.run(main)

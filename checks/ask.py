@@ -185,7 +185,7 @@ def drain(port):
 
 
 def main():
-    command, words = sys.argv[1], sys.argv[2:]
+    command, words = (sys.argv[1:2] or [""])[0], sys.argv[2:]
     if command == "port":
         print(free_port())
     elif command == "ahead":
@@ -212,4 +212,9 @@ def main():
 
 
 if __name__ == "__main__":
-    main()
+    try:
+        main()
+    except (IndexError, ValueError):
+        sys.exit(f"ask.py: wrong words: {' '.join(sys.argv[1:])}\n\n{__doc__}")
+    except OSError as fault:
+        sys.exit(f"ask.py: {fault}")

@@ -9,6 +9,7 @@ is sent behind some hundred others at most, and its reply says that all before i
 server is gone.
 """
 
+import argparse
 import random
 import socket
 import struct
@@ -142,7 +143,11 @@ def drain(port):
 
 
 def main():
-    port, count = map(int, sys.argv[1:])
+    words = argparse.ArgumentParser(description=__doc__, formatter_class=argparse.RawDescriptionHelpFormatter)
+    words.add_argument("port", type=int)
+    words.add_argument("count", type=int)
+    asked_for = words.parse_args()
+    port, count = asked_for.port, asked_for.count
     draw = random.Random(123)
     senders, silent = Senders(port, 8), Senders(port, 4)
     asked = unheard = waiting = 0
@@ -164,4 +169,7 @@ def main():
 
 
 if __name__ == "__main__":
-    main()
+    try:
+        main()
+    except OSError as fault:
+        sys.exit(f"hostile.py: {fault}")

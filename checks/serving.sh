@@ -5,8 +5,9 @@ PATH="$PATH:/usr/sbin:/sbin"
 work=$(mktemp -d) || exit 1
 bad=0
 servers=
-# It's built here where that hasn't been done; no words are a usage error.
-./radio_ntpd > "$work/built"
+# It's built here where that hasn't been done; no words are a usage error. RADIO_NTPD names another program.
+program=${RADIO_NTPD:-./radio_ntpd}
+"$program" > "$work/built"
 
 # Ends what still runs: each server that was started, by its number.
 finish() {
@@ -49,7 +50,7 @@ station() {
 serve() {
     start=$(sed -n 's/^start = //p' "$2")
     ahead=$(ask ahead "${start:-0}")
-    timeout 60 ./radio_ntpd serve "$@" > "$work/serving" &
+    timeout 60 "$program" serve "$@" > "$work/serving" &
     server=$!
     servers="$servers $server"
 }

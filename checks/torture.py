@@ -9,6 +9,7 @@ A kind is a log of a plan, a script, a station, or a journal of either form. A f
 on the seed, the kind and the number alone.
 """
 
+import argparse
 import multiprocessing
 import os
 import pathlib
@@ -221,7 +222,8 @@ def kinds(folder):
     output, status = run(["replay", "--station", f"{folder}/station", "--script", f"{folder}/long"])
     run.end()
     numbered = [line for line in output.splitlines(keepends=True) if line.startswith(b"j2 ")]
-    assert status == 0 and len(numbered) > 30, (status, output[-200:])
+    if status != 0 or len(numbered) <= 30:
+        sys.exit(f"torture.py: the program doesn't replay a script: it ends with {status}; is it built?")
     plain = [line.split(b" ", 3)[3] for line in numbered]
     plain += [b"3 5 notice 3976300800\n", b"0 7 differs 5 6 7\n", b"3 9 sample -5 1 1 2 0a000001 3 4\n"]
     return {
@@ -338,12 +340,22 @@ def work(ours, all_, folder, count, until, seed, told):
 
 
 def main():
-    if sys.argv[1] == "--one":
-        name, number, seed = sys.argv[2], int(sys.argv[3]), int(sys.argv[4]) if len(sys.argv) > 4 else SEED
+    words = argparse.ArgumentParser(description=__doc__, formatter_class=argparse.RawDescriptionHelpFormatter)
+    words.add_argument("--one", metavar="KIND")
+    words.add_argument("numbers", nargs="+", type=float)
+    asked = words.parse_args()
+    least = 1 if asked.one else 2
+    if not least <= len(asked.numbers) <= least + 1:
+        words.error(f"{least} or {least + 1} numbers")
+    seed = int(asked.numbers[least]) if len(asked.numbers) > least else SEED
+    if asked.one:
         with tempfile.TemporaryDirectory() as folder:
-            sys.stdout.buffer.write(spoilt(kinds(pathlib.Path(folder))[name], name, number, seed)[0])
+            all_ = kinds(pathlib.Path(folder))
+            if asked.one not in all_:
+                words.error(f"a kind is one of {', '.join(all_)}")
+            sys.stdout.buffer.write(spoilt(all_[asked.one], asked.one, int(asked.numbers[0]), seed)[0])
         return
-    count, seconds, seed = int(sys.argv[1]), float(sys.argv[2]), int(sys.argv[3]) if len(sys.argv) > 3 else SEED
+    count, seconds = int(asked.numbers[0]), asked.numbers[1]
     shared = "/dev/shm" if os.access("/dev/shm", os.W_OK) else None
     with tempfile.TemporaryDirectory(dir=shared) as folder:
         all_ = kinds(pathlib.Path(folder))
@@ -374,4 +386,7 @@ def main():
 
 
 if __name__ == "__main__":
-    main()
+    try:
+        main()
+    except OSError as fault:
+        sys.exit(f"torture.py: {fault}")

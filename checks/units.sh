@@ -1,81 +1,174 @@
 #!/bin/sh
-# Starts the units of examples/ as docs/OPERATING.md installs them, in a Debian of its own that systemd-nspawn boots. The edges of a
-# receiver are those of examples/radios/dcf77.log, played in real time in place of gpiomon; they go through the feeder's unit and its
-# FIFO into the server's unit. The server has to say INIT at first, and the time after its fourth verdict; it is killed and has to come
-# again. It takes seven minutes and 400 MB of disk, and isn't in the gate. Needs root, debootstrap, systemd-container, port 123.
+# The keeper's unit under systemd, in a Debian of its own that systemd-nspawn boots, with the package of packaging/build_deb.sh in it and a receiver in
+# software in the place of one on a pin. Clients on port 123 have to get the time. Then ten kills in turn (all of it, the keeper, the server, the
+# receiver), and each time the *time* has to come back, within 50 ms of the host's clock; the files are read anew without a gap; a keeper that hangs is
+# ended by systemd's watchdog; a stop leaves a whole journal and no process. It takes five minutes and 400 MB of disk, and isn't in the gate. Needs root,
+# debootstrap, systemd-container, port 123 and the network of Debian's packages; DEBIAN names a folder that has such a Debian already, with systemd,
+# python3 and procps, which is copied. RADIO_NTPD names the program where it isn't the one of this folder.
 #
 #     checks/units.sh
 set -u
 cd "$(dirname "$0")/.." || exit 1
 name=units
-. checks/serving.sh
+export LC_ALL=C
+PATH="$PATH:/usr/sbin:/sbin"
+work=$(mktemp -d) || exit 1
 host="$work/host"
+bad=0
+nspawn=
+# Ends the Debian, if it still runs: its own first process takes this signal as a power-off.
+finish() {
+    if [ -n "$nspawn" ]; then
+        kill "$nspawn" 2> "$work/none"
+        wait "$nspawn"
+    fi
+    rm -rf "$work"
+}
+trap finish EXIT
+trap 'exit 1' INT TERM
+wrong() {
+    echo "$name: $*" >&2
+    bad=1
+}
+
+deb=$(packaging/build_deb.sh "$work") || exit 1
 {
-    debootstrap --variant=minbase --include=systemd,systemd-sysv,python3-minimal,libpython3-stdlib bookworm "$host"
-    chroot "$host" groupadd gpio
-    chroot "$host" useradd --system --home-dir /var/lib/radio_ntpd radio_ntpd
-    install -D crates/radio_ntpd/out/radio_ntpd "$host/opt/radio_ntpd/bin/radio_ntpd"
-    cp -r feeders examples tools "$host/opt/radio_ntpd/"
-    printf '[[radio]]\nplan = "dcf"\nlog = "/run/radio_ntpd/dcf.log"\ndelay = 1400\n\n[[link]]\nport = 123\n' > "$work/station.toml"
-    install -D -m 600 "$work/station.toml" "$host/etc/radio_ntpd/station.toml"
-    chroot "$host" chown radio_ntpd /etc/radio_ntpd/station.toml
-    cp examples/radio_*.service "$host/etc/systemd/system/"
-    chroot "$host" systemctl enable radio_feeder radio_ntpd
+    if [ -n "${DEBIAN:-}" ]; then
+        cp -a "$DEBIAN" "$host"
+    else
+        debootstrap --variant=minbase --include=systemd,systemd-sysv,python3,procps bookworm "$host"
+    fi && cp "$deb" "$host/tmp/radio-ntpd.deb" && chroot "$host" dpkg --install /tmp/radio-ntpd.deb && chroot "$host" systemctl enable radio_ntpd
 } > "$work/installed" 2>&1 || { tail -n 5 "$work/installed" >&2; exit 1; }
+mkdir -p "$host/opt/checks" "$host/opt/bench"
+cp checks/receiver.py "$host/opt/checks/"
+cp bench/*.py "$host/opt/bench/"
+printf 'bound = 1000\n[[radio]]\nplan = "dcf"\nlog = "x"\n[[link]]\nport = 123\n' > "$host/etc/radio_ntpd/station.toml"
+# A receiver has no history. This one has eight minutes of it at its first start, so that the check needn't wait for them.
+cat > "$host/usr/local/bin/receiver" <<'SH'
+#!/bin/sh
+history=8
+[ ! -e /var/lib/radio_ntpd/heard ] || history=0
+: > /var/lib/radio_ntpd/heard
+exec /opt/checks/receiver.py dcf --edges --history $history
+SH
+chmod +x "$host/usr/local/bin/receiver"
+cat > "$host/etc/radio_ntpd/keeper.toml" <<'TOML'
+station = "station.toml"
+state = "/var/lib/radio_ntpd"
+[[radio]]
+command = "receiver | /usr/lib/radio_ntpd/feeders/edges_to_log.py"
+TOML
 
-# Prints the edges of the log a little late, as gpiomon of libgpiod 2 does; the log's first whole minute begins two seconds from now.
-cat > "$host/usr/local/bin/gpiomon" <<'PY'
-#!/usr/bin/python3
-import signal
-import time
+# How far the time on port 123 is off, in milliseconds, by the quickest of eight exchanges; or why there is none. It waits so many seconds, $1, for one.
+cat > "$work/time.py" <<'PY'
+import socket, struct, sys, time
 
-began = time.monotonic_ns() // 1000
-with open("/run/radio_ntpd/began", "w") as file:
-    file.write(str(time.time()))
-for line in open("/opt/radio_ntpd/examples/radios/dcf77.log"):
-    start, width = map(int, line.split())
-    for at, edge in ((began + start, "rising"), (began + start + width, "falling")):
-        time.sleep(max(0, at + 3000 - time.monotonic_ns() // 1000) / 1e6)
-        print(f"{at // 1000000}.{at % 1000000:06d}000\t{edge}\tgpiochip0 17", flush=True)
-signal.pause()
+
+def exchange(client):
+    """How long an exchange took (s), how far the time is off by it (s), and its leap indicator; None where no answer comes."""
+    left = time.time()
+    try:
+        client.send(bytes([0x23, 0, 6, 0xEC]) + bytes(36) + struct.pack(">d", left))
+        reply = client.recv(1024)
+        while reply[24:32] != struct.pack(">d", left):
+            reply = client.recv(1024)
+    except OSError:
+        return None
+    came = time.time()
+    received, sent = (one / 2**32 - 2208988800 for one in struct.unpack(">QQ", reply[32:48]))
+    return came - left, ((received + sent) - (left + came)) / 2, reply[0] >> 6
+
+
+end = time.monotonic() + float(sys.argv[1])
+said = "nobody answers"
+with socket.socket(socket.AF_INET, socket.SOCK_DGRAM) as client:
+    client.connect(("127.0.0.1", 123))
+    client.settimeout(1)
+    while time.monotonic() < end:
+        first = exchange(client)
+        if first and first[2] != 3:
+            took, off, _ = min(filter(None, [first, *(exchange(client) for _ in range(7))]))
+            print(f"{off * 1e3:.1f} ms off, within {took * 5e2:.1f} ms")
+            sys.exit(0 if abs(off) < 0.05 else 1)
+        said = "there is no time" if first else said
+        time.sleep(0.05)
+print(said)
+sys.exit(1)
 PY
-chmod +x "$host/usr/local/bin/gpiomon"
 
 systemd-nspawn --quiet --directory="$host" --register=no --keep-unit --boot > "$work/booted" 2>&1 < /dev/null &
 nspawn=$!
-servers="$servers $nspawn"
 leader=
-for _ in 1 2 3 4 5 6 7 8 9 10; do
+for _ in 1 2 3 4 5 6 7 8 9 10 11 12 13 14 15; do
     sleep 2
-    leader=$(pgrep -P "$nspawn") && nsenter --all --target="$leader" test -s /run/radio_ntpd/began && break
+    leader=$(pgrep -P "$nspawn") && nsenter --all --target="$leader" test -d /run/systemd/system && break
 done
 [ -n "$leader" ] || { echo "$name: nothing was booted: $(tail -n 3 "$work/booted")" >&2; exit 1; }
 inside() {
     nsenter --all --target="$leader" "$@"
 }
-runs() {
-    for unit in radio_feeder radio_ntpd; do
-        [ "$(inside systemctl is-active "$unit")" = active ] || wrong "$unit doesn't run $1: $(inside systemctl status "$unit" 2>&1 | tail -n 5)"
-    done
+has_time() {
+    told=$(python3 -B "$work/time.py" "$2") || wrong "$1: $told; $(inside journalctl --no-pager -n 8 -u radio_ntpd 2>&1)"
+}
+property() {
+    inside systemctl show --property="$1" --value radio_ntpd
+}
+# The children of the keeper's own process that have these words.
+child() {
+    inside pgrep -o -u radio_ntpd -f "$1"
 }
 
-runs 'at first'
-ask wait 123 || exit 1
-ahead=$(python3 -c "import datetime; print(datetime.datetime(2026, 1, 1, 12, tzinfo=datetime.timezone.utc).timestamp() - $(inside cat /run/radio_ntpd/began) - 2)")
-local=$(python3 -c 'import time; print(time.clock_gettime(time.CLOCK_MONOTONIC) - time.time() - 2208988800)')
-ask look 123 2 "$local" 3 0 INIT || wrong 'no INIT before the fourth verdict'
-sleep 310
-ask look 123 20 "$ahead" 0 1 DCF || wrong 'no time behind the fourth verdict'
-runs 'behind the fourth verdict'
+has_time 'at the start' 90
+[ "$(property ActiveState)" = active ] || wrong "the unit is $(property ActiveState)"
+# The state is renewed every ten seconds, and the root dispersion is great until eight minutes were read.
+turns=0
+until inside radio_keeper status > "$work/status"; do
+    turns=$((turns + 1))
+    [ $turns -lt 30 ] || { wrong "the status says: $(head -n 3 "$work/status")"; break; }
+    sleep 1
+done
 
-# It is killed, and comes again without time.
-inside systemctl kill --signal=KILL radio_ntpd
-sleep 5
-runs 'when it was killed'
-ask wait 123 || exit 1
-[ "$(inside systemctl show --property=NRestarts --value radio_ntpd)" -ge 1 ] || wrong 'it was not started again'
-[ "$(inside ls /var/lib/radio_ntpd | grep -c '^journal\.')" -ge 2 ] || wrong "there are no two journals: $(inside ls /var/lib/radio_ntpd)"
+killed=0
+longest=0
+while [ $killed -lt 10 ]; do
+    case $((killed % 4)) in
+        0) what='all of it' && inside systemctl kill --kill-whom=all --signal=KILL radio_ntpd ;;
+        1) what='the keeper' && inside kill -KILL "$(property MainPID)" ;;
+        2) what='the server' && inside kill -KILL "$(child 'radio_ntpd serve')" ;;
+        3) what='the receiver' && inside kill -KILL "$(child 'receiver.py dcf')" ;;
+    esac || wrong "$what couldn't be killed"
+    began=$(date +%s%N)
+    sleep 0.2
+    has_time "$what was killed" 30
+    took=$((($(date +%s%N) - began) / 1000000))
+    [ $took -le $longest ] || longest=$took
+    killed=$((killed + 1))
+    sleep 8
+    has_time "eight seconds after $what was killed" 5
+done
+[ "$(property NRestarts)" -ge 5 ] || wrong "systemd started it again $(property NRestarts) times"
+
+before=$(property MainPID)
+inside systemctl reload radio_ntpd || wrong "it can't be reloaded"
+has_time 'after a reload' 5
+[ "$(property MainPID)" = "$before" ] || wrong 'a reload started another keeper'
+
+inside kill -STOP "$before"
+turns=0
+until [ "$(property MainPID)" != "$before" ]; do
+    turns=$((turns + 1))
+    [ $turns -lt 100 ] || { wrong 'a keeper that hangs goes on'; break; }
+    sleep 1
+done
+has_time 'a keeper that hung was ended' 30
+
+inside systemctl stop radio_ntpd || wrong "it can't be stopped"
+[ -z "$(inside pgrep -u radio_ntpd)" ] || wrong "behind the stop there is $(inside pgrep -a -u radio_ntpd)"
+last=$(find "$host/var/lib/radio_ntpd/journals" -name '*.journal' | LC_ALL=C sort | tail -n 1)
+[ "$(tail -n 1 "$last")" = 'status 0' ] || wrong "the last journal ends with $(tail -n 1 "$last")"
+[ "$(property Result)" = success ] || wrong "the unit's result is $(property Result)"
 inside systemctl poweroff 2> "$work/off"
 wait "$nspawn"
-[ "$bad" = 0 ] && echo "$name: both run, tell the time after the fourth verdict, and come again"
+nspawn=
+[ "$bad" = 0 ] && echo "$name: ten kills, a reload, a keeper that hung: the time came back each time, within ${longest} ms at most"
 exit "$bad"

@@ -1,69 +1,79 @@
 #!/usr/bin/env python3
 """Turns the edges of a receiver's output into a pulse log, live: one line for each reduction of the carrier, as it ends.
 
-    gpiomon CHIP LINE | feeders/edges_to_log.py [--low] > LOG
+    feeders/edges_to_log.py [--low] gpiomon CHIP LINE > LOG
     feeders/serial_edges.py DEVICE | feeders/edges_to_log.py [--low] > LOG
 
-It reads lines with the seconds of a monotonic clock and the word `rising` or `falling`, as gpiomon of libgpiod 1 and 2 and
-`serial_edges.py` print them. The line is high while the carrier is reduced; with --low it is low then, as with a receiver whose output
-is inverted.
+It runs the command that it is given and reads what that prints, or it reads its standard input where it is given none. A line has the seconds
+of a monotonic clock and the word `rising` or `falling`, as gpiomon of libgpiod 1 and 2 and `serial_edges.py` print them. The line is high
+while the carrier is reduced; with --low it is low then, as with a receiver whose output is inverted.
 
-Reductions below 5 ms are noise and left out, and so are gaps below 5 ms within a reduction. One above 2 s is told as 2 s, when these
+Reductions below 5 ms are noise and left out, and so are gaps below 5 ms within a reduction. One above 2 s is reported as 2 s, when these
 are over. Where an edge was lost the reduction's width isn't known, and it is left out: its minute is refused then. Starts rise strictly.
-A line that is no edge is told on standard error and passed over.
+A line that is no edge is reported on standard error and passed over.
+
+It exits with the command's status, and 128 and the signal's number where a signal ended it; with 0 at the end of its input and where SIGINT
+or SIGTERM ended it; with 1 where its reader has ended, a read fails, or gpiomon reported an error on that input (2>&1); with 2
+for wrong words, and with 127 where there is no such command.
 """
 
 import argparse
 import os
 import re
 import select
+import signal
+import subprocess
 import sys
+from typing import Callable, Iterator
 
 LEAST = 5_000  # a shorter reduction or gap is noise, in microseconds
 GREATEST = 2_000_000  # the greatest width of a log
+END = 2**50  # the moments of a log are below it
 # What is waited for until nothing more can belong to a reduction, in seconds; an edge may reach us some time after it happened.
 SETTLED = 0.2
-TIME = re.compile(rb"(\d+)\.(\d{1,9})")
-EDGE = re.compile(rb"\b(rising|falling)\b", re.IGNORECASE)
+# libgpiod 2 and serial_edges.py: "12.345678901 rising gpiochip0 17"; libgpiod 1: "event: RISING EDGE offset: 17 timestamp: [12.345678901]".
+EDGE = re.compile(rb"\s*(?P<seconds>\d+)\.(?P<part>\d{1,9})\s+(?P<edge>rising|falling)\b")
+EDGE_1 = re.compile(rb"event:\s*(?P<edge>RISING|FALLING) EDGE\b.*\[\s*(?P<seconds>\d+)\.(?P<part>\d{1,9})\]")
 
 
-def read_edge(line):
-    """The microseconds of an edge and whether it is rising, or None where the line tells none."""
-    time, edge = TIME.search(line), EDGE.search(line)
-    if not time or not edge:
+def read_edge(line: bytes) -> tuple[int, bool] | None:
+    """The microseconds of an edge and whether it is rising, or None where the line has none."""
+    found = EDGE.match(line) or EDGE_1.match(line)
+    if not found:
         return None
-    seconds, fraction = time.groups()
-    return int(seconds) * 1_000_000 + int(fraction.ljust(9, b"0")) // 1000, edge[1].lower() == b"rising"
+    at = int(found["seconds"]) * 1_000_000 + int(found["part"].ljust(9, b"0")) // 1000
+    return at, found["edge"].lower() == b"rising"
 
 
 class Reductions:
-    """The reductions of a carrier, from its edges: `write` gets the start and the width of each."""
+    """The reductions of a carrier, from its edges: `write` gets the start and the width of each, in microseconds."""
 
-    def __init__(self, write):
+    def __init__(self, write: Callable[[int, int], None]) -> None:
         self.write = write
-        self.began = None  # the start of the reduction that goes on
-        self.ended = None  # the last reduction, start and end, while a gap of noise may still follow
+        self.began: int | None = None  # the start of the reduction that goes on
+        self.ended: tuple[int, int] | None = None  # the last reduction, start and end, while a gap of noise may still follow
         self.last = -1  # the last start that was written
 
-    def tell(self, start, width):
+    def report(self, start: int, width: int) -> None:
         if width >= LEAST and start > self.last:
             self.write(start, min(width, GREATEST))
             self.last = start
 
-    def settle(self):
+    def settle(self) -> None:
         """Nothing more belongs to the reduction that ended."""
         if self.ended:
             start, end = self.ended
             self.ended = None
-            self.tell(start, end - start)
+            self.report(start, end - start)
 
-    def cut(self):
-        """The reduction that goes on is longer than a log tells."""
+    def cut(self) -> None:
+        """The reduction that goes on is longer than a log has it."""
         if self.began is not None:
-            self.tell(self.began, GREATEST)
+            self.report(self.began, GREATEST)
             self.began = None
 
-    def edge(self, at, reduced):
+    def edge(self, at: int, reduced: bool) -> None:
+        """At this moment a reduction begins, or one ends."""
         if self.ended and not 0 <= at - self.ended[1] < LEAST:
             self.settle()
         if self.began is not None and at - self.began >= GREATEST:
@@ -78,21 +88,21 @@ class Reductions:
             self.ended = (self.began, at)
             self.began = None
 
-    def wait(self):
+    def wait(self) -> float | None:
         """How long to wait for an edge, in seconds, or None where it doesn't matter."""
         if self.ended:
             return SETTLED
         return GREATEST / 1e6 + SETTLED if self.began is not None else None
 
-    def waited(self):
+    def waited(self) -> None:
         """No edge came for so long."""
         self.settle()
         self.cut()
 
 
-def lines_of(file, reductions):
-    """The lines of a file as they come; `reductions` is told where none comes for a while."""
-    behind = b""
+def lines_of(file: int, reductions: Reductions) -> Iterator[bytes]:
+    """The lines of a file as they come; `reductions` is called where none comes for a while."""
+    rest = b""
     while True:
         if not select.select([file], [], [], reductions.wait())[0]:
             reductions.waited()
@@ -100,33 +110,112 @@ def lines_of(file, reductions):
         piece = os.read(file, 4096)
         if not piece:
             break
-        *lines, behind = (behind + piece).split(b"\n")
+        *lines, rest = (rest + piece).split(b"\n")
         yield from lines
-    if behind:
-        yield behind
+    if rest:
+        yield rest
 
 
-def main():
+def say(text: str) -> None:
+    print(text, file=sys.stderr, flush=True)
+
+
+class Feeder:
+    """Reads edges from a file and writes their log."""
+
+    def __init__(self, low: bool) -> None:
+        self.low = low
+        self.failed = False  # whether gpiomon reported an error on this input
+        self.beyond = False  # whether a moment was beyond what a log has
+        self.reductions = Reductions(lambda start, width: print(start, width, flush=True))
+
+    def read(self, file: int) -> None:
+        """Reads all of a file."""
+        for line in lines_of(file, self.reductions):
+            self.line(line)
+        self.reductions.settle()
+
+    def line(self, line: bytes) -> None:
+        text = line.decode("utf-8", "replace").strip()
+        if text.startswith("gpiomon:"):
+            self.failed = True
+            say(text)
+        elif not (edge := read_edge(line)):
+            if text:
+                say(f"no edge: {text}")
+        elif edge[0] >= END:
+            if not self.beyond:
+                say(f"beyond the moments of a log: {text} (is it stamped by the monotonic clock?)")
+            self.beyond = True
+        else:
+            self.reductions.edge(edge[0], edge[1] != self.low)
+
+
+def end(child: subprocess.Popen) -> int:
+    """Ends a command that may still run, and gives its exit status as a shell has it."""
+    if child.poll() is None:
+        child.terminate()
+    try:
+        status = child.wait(5)
+    except subprocess.TimeoutExpired:
+        child.kill()
+        status = child.wait()
+    return status if status >= 0 else 128 - status
+
+
+def run(feeder: Feeder, command: list[str]) -> int:
+    """Reads what a command prints; its exit status."""
+    try:
+        child = subprocess.Popen(command, stdin=subprocess.DEVNULL, stdout=subprocess.PIPE)
+    except OSError as fault:
+        say(f"{command[0]}: {fault.strerror}")
+        return 127
+    try:
+        feeder.read(child.stdout.fileno())
+        # It has closed its output, so it is about to end by itself.
+        child.wait(5)
+    except subprocess.TimeoutExpired:
+        pass
+    finally:
+        status = end(child)
+    if status:
+        say(f"{command[0]} ended with {status}")
+    return status
+
+
+def feed(feeder: Feeder, command: list[str]) -> int:
+    """Reads what a command prints, or standard input where there is none, until it ends or a signal comes; the exit status."""
+    try:
+        if command:
+            return run(feeder, command)
+        feeder.read(sys.stdin.fileno())
+    except KeyboardInterrupt:
+        feeder.reductions.settle()
+        return 0
+    return 1 if feeder.failed else 0
+
+
+def main() -> int:
     words = argparse.ArgumentParser(description=__doc__, formatter_class=argparse.RawDescriptionHelpFormatter)
     words.add_argument("--low", action="store_true", help="the line is low while the carrier is reduced")
-    low = words.parse_args().low
-    reductions = Reductions(lambda start, width: print(start, width, flush=True))
+    words.add_argument("command", nargs=argparse.REMAINDER, help="what prints the edges, with its own words")
+    asked = words.parse_args()
+    command = asked.command[1:] if asked.command[:1] == ["--"] else asked.command
+    if sys.stdout is None or (sys.stdin is None and not command):
+        say("edges_to_log.py: its input or its output is closed")
+        return 1
+    feeder = Feeder(asked.low)
+    signal.signal(signal.SIGTERM, signal.default_int_handler)
     try:
-        for line in lines_of(sys.stdin.fileno(), reductions):
-            edge = read_edge(line)
-            if edge:
-                at, rising = edge
-                reductions.edge(at, rising != low)
-            elif line.strip():
-                print(f"no edge: {line.decode(errors='replace')}", file=sys.stderr)
-        reductions.settle()
+        return feed(feeder, command)
     except BrokenPipeError:
         # Whoever read the log has ended. What stands in the buffer has nowhere to go.
         os.dup2(os.open(os.devnull, os.O_WRONLY), sys.stdout.fileno())
-        sys.exit(1)
-    except KeyboardInterrupt:
-        reductions.settle()
+        return 1
+    except OSError as fault:
+        say(f"edges_to_log.py: {fault.strerror or fault}")
+        return 1
 
 
 if __name__ == "__main__":
-    main()
+    sys.exit(main())

@@ -5,56 +5,85 @@
 
 A receiver's output lies on DCD where nothing else is said. Many receivers take their power from DTR and RTS: `--dtr on --rts off` is what
 most want. An edge's time is read when the kernel wakes us, some tens of microseconds after it.
+
+It exits with 1 where the device isn't there, may not be read, is no serial port, or is unplugged, and where its reader has ended; with 2 for
+wrong words; with 0 where SIGINT or SIGTERM ended it.
 """
 
 import argparse
 import array
+import errno
 import fcntl
 import os
+import signal
+import sys
 import termios
 import time
+from typing import NoReturn
 
 INPUTS = {"dcd": termios.TIOCM_CD, "cts": termios.TIOCM_CTS, "dsr": termios.TIOCM_DSR, "ri": termios.TIOCM_RI}
 OUTPUTS = {"dtr": termios.TIOCM_DTR, "rts": termios.TIOCM_RTS}
 
 
-def put(port, line, state):
+def put(port: int, line: str, state: str) -> None:
     """Puts an output line on or off."""
     request = termios.TIOCMBIS if state == "on" else termios.TIOCMBIC
     fcntl.ioctl(port, request, array.array("i", [OUTPUTS[line]]))
 
 
-def is_high(port, line):
+def is_high(port: int, line: str) -> bool:
     bits = array.array("i", [0])
     fcntl.ioctl(port, termios.TIOCMGET, bits)
     return bool(bits[0] & INPUTS[line])
 
 
-def main():
+def watch(port: int, line: str) -> NoReturn:
+    """Prints the edges of an input line, without end."""
+    was_high = is_high(port, line)
+    while True:
+        fcntl.ioctl(port, termios.TIOCMIWAIT, INPUTS[line])
+        at = time.monotonic_ns()
+        high = is_high(port, line)
+        # Two edges between two looks are noise.
+        if high != was_high:
+            print(f"{at // 10**9}.{at % 10**9:09} {'rising' if high else 'falling'}", flush=True)
+        was_high = high
+
+
+def cause(fault: OSError) -> str:
+    """What went wrong with the device, in words."""
+    if fault.errno in (errno.ENOTTY, errno.EINVAL):
+        return "it is no serial port with modem lines"
+    if fault.errno in (errno.EIO, errno.ENODEV, errno.ENXIO):
+        return f"it was unplugged or doesn't answer ({fault.strerror})"
+    return fault.strerror or str(fault)
+
+
+def main() -> int:
     words = argparse.ArgumentParser(description=__doc__, formatter_class=argparse.RawDescriptionHelpFormatter)
     words.add_argument("device")
     words.add_argument("--line", choices=INPUTS, default="dcd")
     words.add_argument("--dtr", choices=("on", "off"))
     words.add_argument("--rts", choices=("on", "off"))
     asked = words.parse_args()
-    port = os.open(asked.device, os.O_RDONLY | os.O_NOCTTY | os.O_NONBLOCK)
-    for line in OUTPUTS:
-        state = getattr(asked, line)
-        if state:
-            put(port, line, state)
-    was_high = is_high(port, asked.line)
+    signal.signal(signal.SIGTERM, signal.default_int_handler)
     try:
-        while True:
-            fcntl.ioctl(port, termios.TIOCMIWAIT, INPUTS[asked.line])
-            at = time.monotonic_ns()
-            high = is_high(port, asked.line)
-            # Two edges between two looks are noise.
-            if high != was_high:
-                print(f"{at // 10**9}.{at % 10**9:09} {'rising' if high else 'falling'}", flush=True)
-            was_high = high
-    except (KeyboardInterrupt, BrokenPipeError):
-        pass
+        port = os.open(asked.device, os.O_RDONLY | os.O_NOCTTY | os.O_NONBLOCK)
+        for line in OUTPUTS:
+            state = getattr(asked, line)
+            if state:
+                put(port, line, state)
+        watch(port, asked.line)
+    except BrokenPipeError:
+        # Whoever read the edges has ended. What stands in the buffer has nowhere to go.
+        os.dup2(os.open(os.devnull, os.O_WRONLY), sys.stdout.fileno())
+        return 1
+    except OSError as fault:
+        print(f"{asked.device}: {cause(fault)}", file=sys.stderr)
+        return 1
+    except KeyboardInterrupt:
+        return 0
 
 
 if __name__ == "__main__":
-    main()
+    sys.exit(main())

@@ -45,10 +45,17 @@ def gpiomon_2(at, rising):
     return f"{stamp(at)}\t{'rising' if rising else 'falling'}\tgpiochip0 17\n"
 
 
+def ran(*words, text="", program="edges_to_log.py"):
+    """A feeder that ended by itself: what it wrote, what it said on standard error, and its exit status."""
+    done = subprocess.run([HERE / program, *words], input=text.encode(), capture_output=True, timeout=60)
+    return done.stdout.decode(), done.stderr.decode(), done.returncode
+
+
 def feed(text, *words):
     """What the feeder writes of a text, and what it says on standard error."""
-    done = subprocess.run([HERE / "edges_to_log.py", *words], input=text.encode(), capture_output=True, check=True)
-    return done.stdout.decode(), done.stderr.decode()
+    written, said, status = ran(*words, text=text)
+    assert status == 0, said
+    return written, said
 
 
 def log_of(reductions):
@@ -123,9 +130,17 @@ class Edges(unittest.TestCase):
         self.assertEqual(written, "1000000 100000\n")
 
     def test_what_is_no_edge(self):
-        written, said = feed("gpiomon: error\n\n1.0 rising\n1.1 falling\nwaiting for line: -- rising\n")
+        others = ("waiting for line: -- rising", "2026-11-29T12:00:00.123456789Z rising gpiochip0 17", "event: RISING EDGE offset: 17")
+        written, said = feed("\n1.0 rising\n1.1 falling\n" + "".join(f"{line}\n" for line in others))
         self.assertEqual(written, "1000000 100000\n")
-        self.assertEqual(said, "no edge: gpiomon: error\nno edge: waiting for line: -- rising\n")
+        self.assertEqual(said, "".join(f"no edge: {line}\n" for line in others))
+
+    def test_a_clock_that_is_not_monotonic(self):
+        """The realtime clock is beyond the moments of a log: it is said once."""
+        text = "1789000000.0 rising\n1789000000.1 falling\n1.0 rising\n1.1 falling\n"
+        written, said = feed(text)
+        self.assertEqual(written, "1000000 100000\n")
+        self.assertEqual(said, "beyond the moments of a log: 1789000000.0 rising (is it stamped by the monotonic clock?)\n")
 
 
 class Live(unittest.TestCase):

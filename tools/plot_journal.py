@@ -1,126 +1,118 @@
 #!/usr/bin/env python3
-"""Draws two pictures of a journal, as `serve`, `replay`, `migrate` or `decode` writes it: how each radio was received hour by hour, by kind
-of entry and by the rule that a minute broke, and how far each feed's time was off over the run, with its spread hour by hour and, where
-the journal is of version 2, the rate of the host's counter.
+"""Draws pictures of journals, as `serve`, `replay`, `migrate` or `decode` writes them, and of a radio's log.
 
-    tools/plot_journal.py JOURNAL RECEPTION.png OFFSETS.png
+    tools/plot_journal.py [--station FILE] [--reception PNG] [--offsets PNG] [--day PNG] JOURNAL...
+    tools/plot_journal.py --phase PNG LOG
 
-It needs matplotlib. Lines that are no entries are passed over.
+--reception  how each feed was received over the run, by kind of entry and by the rule that a minute broke
+--offsets    how far each feed's time was off the line through all of them, its spread, and the rate of the host's counter
+--day        a day at a glance, of as many runs as are given, by UTC: reception, offsets, root dispersion, whether clients had the time
+--phase      when a radio's seconds began, as they came and as feeders/steady.py gives them
+
+With --station feeds have the names of their plans or servers, and the bound is the station's. A long journal has the median of each
+hour and a band in which eight tenths lie, a short one its points. Of --reception and --offsets several journals are taken as one run.
+Lines that are no entries are passed over.
+
+It needs matplotlib (Debian's python3-matplotlib). It exits with 1 where a file can't be read, has no entry, or can't be written, and where
+matplotlib isn't there, and with 2 for wrong words.
 """
 
-import collections
-import statistics
+import argparse
+import importlib.util
+import pathlib
 import sys
+import tomllib
 
-import matplotlib
+from journal_text import Run, line_through, read_journal, read_station, run_of, station_of, reported_each_minute
 
-matplotlib.use("Agg")
-import matplotlib.pyplot as plt
-
-SECOND = 2**32
-HOUR = 3_600_000_000
-KINDS = ("verdict", "lone", "differs", "refused", "sample", "declined", "notice")
-# The colours tell kinds apart in print too; refused minutes are shades by their rule.
-COLOURS = {"verdict": "#2a7f3f", "lone": "#b8d8b0", "differs": "#e0a030", "sample": "#2f6fb0", "declined": "#a0a0d0", "notice": "#705090"}
-
-Entry = collections.namedtuple("Entry", "feed at kind fields rate")
+FEEDERS = pathlib.Path(__file__).resolve().parent.parent / "feeders"
+MOST = 500.0  # the most that a phase is off, in milliseconds
 
 
-def read_entry(line):
-    """An entry of either version, or None."""
-    fields = line.split()
-    rate = None
-    if fields[:1] == ["j2"] and len(fields) > 3:
-        rate = int(fields[2])
-        fields = fields[3:]
-    if len(fields) < 3 or not fields[0].isdigit() or not fields[1].isdigit() or fields[2] not in KINDS:
-        return None
-    return Entry(int(fields[0]), int(fields[1]), fields[2], fields[3:], rate)
+class Fault(Exception):
+    """Why no picture can be drawn, in a sentence."""
 
 
-def offset_of(entry):
-    """How far UTC is ahead of the host's counter by an entry, in seconds, or None where it doesn't say."""
-    if entry.kind == "verdict":
-        return int(entry.fields[0]) - entry.at / 1e6
-    if entry.kind == "sample":
-        return int(entry.fields[0]) / SECOND
-    return None
+def phases_of(log: str) -> list[tuple[int, float, float]]:
+    """The starts of a log's seconds: moments, and by how many milliseconds each is off the log's line, as it came and steady."""
+    sys.path.insert(0, str(FEEDERS))
+    from steady import Steady, around  # the feeder stands in a folder of its own
+
+    steady, put = Steady(), 0
+    starts: list[tuple[int, int]] = []
+    with open(log, encoding="ascii", errors="replace") as file:
+        for line in file:
+            fields = line.split()
+            if len(fields) == 2 and fields[0].isdigit():
+                put = steady.start(int(fields[0]))
+                if steady.second == [int(fields[0])] and steady.phases.marks:
+                    starts.append((int(fields[0]), put))
+    if len(starts) < 2:
+        raise Fault(f"{log} has no marks that agree on a phase")
+    phases = [(starts[0][0], 0.0)]
+    for (_, before), (at, put) in zip(starts, starts[1:]):
+        phases.append((at, phases[-1][1] + around(put - before)))
+    level, slope = line_through(phases)
+    return [(at, (due := phase - level - slope * at) / 1000 + (at - put) / 1000, due / 1000) for (at, phase), (_, put) in zip(phases, starts)]
 
 
-def label_of(entry):
-    """What an entry is counted as."""
-    return f"rule {entry.fields[0]}" if entry.kind == "refused" else entry.kind
-
-
-def order_of(label):
-    """Kinds in their order, then rules by their numbers."""
-    return (1, int(label[5:])) if label.startswith("rule ") else (0, KINDS.index(label))
-
-
-def draw_reception(entries, name):
-    feeds = sorted({entry.feed for entry in entries})
-    labels = sorted({label_of(entry) for entry in entries}, key=order_of)
-    rules = [label for label in labels if label not in COLOURS]
-    shades = {label: plt.get_cmap("Reds")(0.35 + 0.6 * place / max(1, len(rules) - 1)) for place, label in enumerate(rules)}
-    first = min(entry.at for entry in entries) // HOUR
-    hours = range(max(entry.at for entry in entries) // HOUR - first + 1)
-    figure, rows = plt.subplots(len(feeds), 1, sharex=True, squeeze=False, figsize=(9, 1 + 2 * len(feeds)), constrained_layout=True)
-    for feed, row in zip(feeds, rows[:, 0]):
-        counts = collections.Counter((label_of(entry), entry.at // HOUR - first) for entry in entries if entry.feed == feed)
-        below = [0] * len(hours)
-        for label in labels:
-            heights = [counts[label, hour] for hour in hours]
-            if any(heights):
-                row.bar(hours, heights, bottom=below, width=0.9, color=COLOURS.get(label) or shades[label], label=label)
-                below = [low + height for low, height in zip(below, heights)]
-        row.set_ylabel(f"feed {feed}\nentries an hour")
-        row.legend(loc="center left", bbox_to_anchor=(1, 0.5), fontsize="small", frameon=False)
-    rows[-1, 0].set_xlabel("hour of the run")
-    figure.savefig(name, dpi=110)
-
-
-def draw_offsets(entries, name):
-    told = [(entry, offset_of(entry)) for entry in entries]
-    told = [(entry, offset) for entry, offset in told if offset is not None]
-    first = min(entry.at for entry in entries)
-    figure, (above, middle, below) = plt.subplots(3, 1, sharex=True, figsize=(9, 8), constrained_layout=True)
-    middle_offset = statistics.median(offset for _, offset in told) if told else 0
-    for feed in sorted({entry.feed for entry, _ in told}):
-        own = [((entry.at - first) / HOUR, (offset - middle_offset) * 1000) for entry, offset in told if entry.feed == feed]
-        points = above.plot(*zip(*own), ".", markersize=2, label=f"feed {feed}")
-        spread = collections.defaultdict(list)
-        for hour, offset in own:
-            spread[int(hour)].append(offset)
-        hours = [hour for hour in sorted(spread) if len(spread[hour]) > 1]
-        middle.plot([hour + 0.5 for hour in hours], [statistics.stdev(spread[hour]) for hour in hours], "o-", markersize=3, color=points[0].get_color())
-    samples = [((entry.at - first) / HOUR, int(entry.fields[2]) / SECOND * 1000) for entry, _ in told if entry.kind == "sample"]
-    if samples:
-        middle.plot(*zip(*samples), "x", markersize=3, color="black", label="dispersion of a sample")
-        middle.legend(frameon=False, fontsize="small")
-    rates = [((entry.at - first) / HOUR, entry.rate / SECOND * 1e6) for entry in entries if entry.rate is not None]
-    if rates:
-        # Feeds that are read from files run ahead of each other, so the entries of a journal needn't rise.
-        below.plot(*zip(*rates), ".", markersize=2, color="#444444")
-    above.set_ylabel("offset from the median, ms")
-    if told:
-        above.legend(loc="center left", bbox_to_anchor=(1, 0.5), fontsize="small", frameon=False, markerscale=5)
-    middle.set_ylabel("spread an hour, ms")
-    below.set_ylabel("rate, parts in a million")
-    below.set_xlabel("hours of the run")
-    figure.savefig(name, dpi=110)
-
-
-def main():
-    if len(sys.argv) != 4:
-        sys.exit(__doc__)
-    journal, reception, offsets = sys.argv[1:]
-    with open(journal, encoding="ascii", errors="replace") as file:
-        entries = [entry for entry in map(read_entry, file) if entry]
+def draw(words: argparse.Namespace, plots) -> None:
+    """Draws what was asked for."""
+    if words.phase:
+        plots.phase(phases_of(words.files[0]), MOST, words.phase)
+    if not (words.reception or words.offsets or words.day):
+        return
+    journals = [read_journal(name) for name in words.files]
+    entries = [entry for journal in journals for entry in journal]
     if not entries:
-        sys.exit(f"{journal} has no entry")
-    draw_reception(entries, reception)
-    draw_offsets(entries, offsets)
+        raise Fault(f"{words.files[0]} has no entry")
+    station = read_station(words.station) if words.station else station_of(entries)
+    if words.reception:
+        plots.reception(entries, station, words.reception)
+    if words.offsets:
+        plots.offsets(has_time(run_of(entries), words.files[0]), station, words.offsets)
+    if words.day:
+        runs = [run for journal in journals if (run := run_of(journal))]
+        has_time(runs[0] if runs else None, words.files[0])
+        plots.day(runs, [reported_each_minute(run, station) for run in runs], station, words.day)
+
+
+def has_time(run: Run | None, name: str) -> Run:
+    if run is None:
+        raise Fault(f"{name} has no entry that gives the time")
+    return run
+
+
+def read_words() -> argparse.Namespace:
+    words = argparse.ArgumentParser(description=__doc__, formatter_class=argparse.RawDescriptionHelpFormatter)
+    words.add_argument("--station")
+    pictures = [words.add_argument(f"--{name}", metavar="PNG") for name in ("reception", "offsets", "day", "phase")]
+    words.add_argument("files", nargs="+", metavar="FILE")
+    asked = words.parse_args()
+    if not any(getattr(asked, picture.dest) for picture in pictures):
+        words.error("say which picture, as --offsets offsets.png")
+    if asked.phase and (len(asked.files) > 1 or asked.reception or asked.offsets or asked.day):
+        words.error("--phase goes with one log and no other picture")
+    return asked
+
+
+def main() -> int:
+    words = read_words()
+    if not importlib.util.find_spec("matplotlib"):
+        print("plot_journal.py needs matplotlib (Debian's python3-matplotlib)", file=sys.stderr)
+        return 1
+    try:
+        import plots
+
+        draw(words, plots)
+    except tomllib.TOMLDecodeError as fault:
+        print(f"{words.station}: {fault}", file=sys.stderr)
+        return 1
+    except (OSError, Fault, ImportError) as fault:
+        print(f"plot_journal.py: {fault}", file=sys.stderr)
+        return 1
+    return 0
 
 
 if __name__ == "__main__":
-    main()
+    sys.exit(main())

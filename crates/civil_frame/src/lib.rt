@@ -6,6 +6,3 @@ mod ranges;
 
 pub use civil_time::{CivilTime, TimeOfDay, local_second};
 pub use ranges::breaks_year_range;
-
-#[cfg(test)]
-mod tests;

@@ -9,8 +9,6 @@ mod held;
 mod rate;
 mod ready;
 mod taken;
-#[cfg(test)]
-mod tests;
 
 pub use distances::{distance, is_fit, root_delay, root_dispersion};
 pub use figures::Figures;

@@ -2,8 +2,6 @@
 #![tactic(auto)]
 
 mod page;
-#[cfg(test)]
-mod tests;
 mod times;
 mod words;
 

@@ -8,8 +8,6 @@ mod ordering;
 mod spread;
 mod survivor;
 mod survivors;
-#[cfg(test)]
-mod tests;
 
 pub use clustering::cluster;
 pub use combining::combine;

@@ -8,6 +8,3 @@ mod rows;
 
 pub use commands::{Command, WordsFault};
 pub use reading::read_words;
-
-#[cfg(test)]
-mod tests;

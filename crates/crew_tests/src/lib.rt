@@ -3,6 +3,8 @@
 #![tactic(auto)]
 
 #[cfg(test)]
+mod beside_tests;
+#[cfg(test)]
 mod gate_tests;
 #[cfg(test)]
 mod key_tests;
@@ -10,5 +12,7 @@ mod key_tests;
 mod leap_tests;
 #[cfg(test)]
 mod number_tests;
+#[cfg(test)]
+mod place_tests;
 #[cfg(test)]
 mod tests;

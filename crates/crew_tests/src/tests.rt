@@ -7,7 +7,7 @@ ghost use Rattle.tick_units.specs.declared.marks.Plan.TheVariants.{Dcf};
 
 use feed_link::{Address, Gate, HoldGate, LinkEvent, MemoryLink, MemorySource, OpenGate, Planned};
 use feed_workers::{LogEnd, LogWork, PollEnd, PollWork};
-use journal_entry::{LINE_ROOM, write_entry};
+use journal_entry::{ENTRY_ROOM, write_entry};
 use radio_receiver::{BoxedReceiver, DcfReceiver, Receiver};
 use responder::{End, Served};
 use station_config::{Station, read_station};
@@ -31,7 +31,7 @@ const NOON: [u32; 12] = [18, 20, 29, 30, 33, 35, 36, 44, 45, 51, 52, 55];
 
 pub(crate) const RADIO: &str = "[[radio]]\nplan = \"dcf\"\nlog = \"noon\"\n";
 
-const SERVER: &str = "[[server]]\naddress = \"127.0.0.1\"\nport = 123\npolls = 1\n";
+pub(crate) const SERVER: &str = "[[server]]\naddress = \"127.0.0.1\"\nport = 123\npolls = 1\n";
 
 pub(crate) const LINK: &str = "[[link]]\nport = 5123\n";
 
@@ -41,7 +41,7 @@ pub(crate) const CLIENT: Address = Address {
 };
 
 // A request of version 4 with a poll of 64 s, sent at 0x1122334455667788 by the client's clock.
-const REQUEST: [u8; 48] = [
+pub(crate) const REQUEST: [u8; 48] = [
     0x23, 0x00, 0x06, 0xec, 0x00, 0x00, 0x00, 0x00, 0x00, 0x00, 0x00, 0x00, 0x00, 0x00, 0x00, 0x00, // to the refid
     0x00, 0x00, 0x00, 0x00, 0x00, 0x00, 0x00, 0x00, 0x00, 0x00, 0x00, 0x00, 0x00, 0x00, 0x00, 0x00, // to the origin
     0x00, 0x00, 0x00, 0x00, 0x00, 0x00, 0x00, 0x00, 0x11, 0x22, 0x33, 0x44, 0x55, 0x66, 0x77, 0x88,
@@ -100,7 +100,7 @@ fn add_frame(text: &mut String, minute: u32) -> Result<(), Fail> {
 }
 
 // The log of so many minutes: the last one closes at 2 s more than these.
-fn minutes(alloc: Global, count: u32) -> Result<MemorySource, Fail> {
+pub(crate) fn minutes(alloc: Global, count: u32) -> Result<MemorySource, Fail> {
     let mut text = String::from_str(alloc, "0 100000\n")?;
     for minute in 0..count {
         add_frame(&mut text, minute)?;
@@ -126,7 +126,7 @@ pub(crate) fn asked(alloc: Global, count: u32) -> Result<MemoryLink, Fail> {
 }
 
 // A link whose first moment is 1 s, over which a server answers.
-fn answered(alloc: Global) -> Result<MemoryLink, Fail> {
+pub(crate) fn answered(alloc: Global) -> Result<MemoryLink, Fail> {
     let mut hearings = Vec::new(alloc);
     hearings.push(Planned::Datagram {
         from: Address {
@@ -239,7 +239,7 @@ pub(crate) fn text_of(alloc: Global, journal: &Journal) -> Result<String, Fail> 
     let mut text = String::new(alloc);
     for place in 0..journal.len() {
         if let Some(entry) = journal.get(place) {
-            let mut line = [0; LINE_ROOM];
+            let mut line = [0; ENTRY_ROOM];
             let count = write_entry(&entry, &mut line);
             for byte in line.iter().take(count) {
                 text.push(char::from(*byte))?;
@@ -252,7 +252,7 @@ pub(crate) fn text_of(alloc: Global, journal: &Journal) -> Result<String, Fail> 
 
 // What the reply of this number on a link says, from 0: leap indicator, version and mode, stratum, the reference ID, and the whole seconds
 // at which the request came.
-fn reply(link: &MemoryLink, number: usize) -> Option<(u8, u8, [u8; 4], [u8; 4])> {
+pub(crate) fn reply(link: &MemoryLink, number: usize) -> Option<(u8, u8, [u8; 4], [u8; 4])> {
     let mut replies = 0usize;
     for place in 0..link.count() {
         if let Some(LinkEvent::Sent { to, bytes }) = link.event(place) {
@@ -267,7 +267,7 @@ fn reply(link: &MemoryLink, number: usize) -> Option<(u8, u8, [u8; 4], [u8; 4])>
     None
 }
 
-fn counts(answered: u64, end: End) -> Served {
+pub(crate) fn counts(answered: u64, end: End) -> Served {
     Served {
         answered,
         dropped: 0,

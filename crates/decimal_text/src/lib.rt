@@ -6,6 +6,3 @@ mod whole;
 
 pub use number::{Number, first_number};
 pub use whole::whole_number;
-
-#[cfg(test)]
-mod tests;

@@ -4,6 +4,3 @@
 mod day;
 
 pub use day::make_logs;
-
-#[cfg(test)]
-mod tests;

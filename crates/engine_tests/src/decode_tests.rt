@@ -43,7 +43,8 @@ const BEFORE_LEAP: [usize; 17] = [
 
 const LEAP: [usize; 15] = [18, 19, 20, 29, 35, 36, 42, 43, 44, 45, 50, 51, 52, 54, 58];
 
-const TWO_FRAMES: &str = "0 62000000 lone 3976257600\n0 122000000 verdict 3976257660 0\nstatus 0\n";
+pub(crate) const TWO_FRAMES: &str =
+    "0 62000000 lone 3976257600\n0 122000000 verdict 3976257660 0\nstatus 0\n";
 
 // A frame in a log: its places that are One, the start of its first mark, how far its marks are apart, and how many it has.
 #[derive(Clone, Copy)]
@@ -110,7 +111,7 @@ fn width_at(at: u64, width: u64, changes: &[Change]) -> u64 {
     width
 }
 
-fn two_frames(alloc: Global) -> Result<String, AllocError> {
+pub(crate) fn two_frames(alloc: Global) -> Result<String, AllocError> {
     log_of(
         alloc,
         &[frame_at(&NOON, 2_000_000), frame_at(&NOON_1, 62_000_000)],

@@ -157,7 +157,7 @@ fn calls_past_the_last_fail_nothing(rt: HostRuntime) -> Result<(), Fail> {
 }
 
 // The words write these pieces one by one and end so. Where a writing fails, the pieces before it stand and nothing else.
-fn stops_at_each_writing(
+pub(crate) fn stops_at_each_writing(
     rt: &(impl Abort + Threads + Wait + Sync),
     alloc: Global,
     words: &[&str],

@@ -3,6 +3,8 @@
 #![tactic(auto)]
 
 #[cfg(test)]
+mod beside_tests;
+#[cfg(test)]
 mod broken_tests;
 #[cfg(test)]
 mod counting_tests;
@@ -21,7 +23,11 @@ mod line_tests;
 #[cfg(test)]
 mod migrate_tests;
 #[cfg(test)]
+mod rack_tests;
+#[cfg(test)]
 mod replay_tests;
+#[cfg(test)]
+mod row_tests;
 #[cfg(test)]
 mod runs;
 #[cfg(test)]

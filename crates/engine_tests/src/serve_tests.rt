@@ -43,14 +43,14 @@ const LIMIT_3: [&str; 9] = [
 
 const RADIO: &str = "[[radio]]\nplan = \"dcf\"\nlog = \"a\"\n";
 
-const TWO_RADIOS: &str =
+pub(crate) const TWO_RADIOS: &str =
     "[[radio]]\nplan = \"dcf\"\nlog = \"a\"\n[[radio]]\nplan = \"dcf\"\nlog = \"b\"\n";
 
-const SERVER: &str = "[[server]]\naddress = \"127.0.0.1\"\nport = 123\npolls = 1\n";
+pub(crate) const SERVER: &str = "[[server]]\naddress = \"127.0.0.1\"\nport = 123\npolls = 1\n";
 
-const SERVER_3: &str = "[[server]]\naddress = \"127.0.0.1\"\nport = 123\npolls = 3\n";
+pub(crate) const SERVER_3: &str = "[[server]]\naddress = \"127.0.0.1\"\nport = 123\npolls = 3\n";
 
-const LINK: &str = "[[link]]\nport = 5123\n";
+pub(crate) const LINK: &str = "[[link]]\nport = 5123\n";
 
 const DELAYED: &str =
     "[[radio]]\nplan = \"msf\"\nlog = \"a\"\n[[radio]]\nplan = \"dcf\"\nlog = \"b\"\ndelay = 1400\n";
@@ -90,7 +90,7 @@ pub const REPLY: [u8; 48] = [
 ];
 
 // A link that hears so many requests at 303 s, and then its end; its call of this number fails.
-fn asked(alloc: Global, count: u32, fails: u64) -> Result<MemoryLink, FakeOpen> {
+pub(crate) fn asked(alloc: Global, count: u32, fails: u64) -> Result<MemoryLink, FakeOpen> {
     let mut hearings = Vec::new(alloc);
     for _ in 0..count {
         hearings.push(Planned::Datagram {
@@ -120,7 +120,7 @@ fn hears(alloc: Global, datagrams: &[Vec<u8>]) -> Result<MemoryLink, FakeOpen> {
 }
 
 // A link whose first moment is 1 s, over which the answer comes twice: first from this sender, then from the server.
-fn answered(alloc: Global, first: Address, fails: u64) -> Result<MemoryLink, FakeOpen> {
+pub(crate) fn answered(alloc: Global, first: Address, fails: u64) -> Result<MemoryLink, FakeOpen> {
     let mut hearings = Vec::new(alloc);
     for from in [first, ASKED] {
         hearings.push(Planned::Datagram {
@@ -182,7 +182,7 @@ pub fn joined(alloc: Global, texts: &[&str]) -> Result<String, AllocError> {
 }
 
 // The last reply on a link, and how many there are.
-fn replies(link: &MemoryLink) -> (usize, Option<&[u8]>) {
+pub(crate) fn replies(link: &MemoryLink) -> (usize, Option<&[u8]>) {
     let mut count = 0usize;
     let mut last = None;
     for place in 0..link.count() {

@@ -1,6 +1,7 @@
--- What real files and streams tell: their counts of faults alone.
+-- What real files, streams and links tell: their counts of faults, and a link its latest moment.
 use Rattle.std.specs.Prelude.{ℕ, None}
-use Rattle.feed_link.specs.Told.{SourceState, SinkState}
+use Rattle.feed_link.specs.Told.{SourceState, SinkState, LinkState}
+use Rattle.feed_link.specs.Openings.{OutsideState}
 
 abbrev pub file_state : ℕ → SourceState
 file_state faults = record { left = None; faults = faults }
@@ -8,6 +9,12 @@ file_state faults = record { left = None; faults = faults }
 abbrev pub stream_state : ℕ → SinkState
 stream_state faults = record { held = None; faults = faults }
 
--- files are not told apart by their openings
+abbrev pub socket_state : ℕ → ℕ → LinkState
+socket_state latest faults = record { events = None; latest = latest; faults = faults }
+
+abbrev pub host_state : ℕ → OutsideState
+host_state faults = record { openings = None; room = record { openings = 0; names = 0 }; faults = faults }
+
+-- files and links are not told apart by their openings
 abbrev pub file_number : ℕ
 file_number = 0

@@ -1,17 +1,44 @@
 // The host's files and sockets, and the outside that opens them.
-ghost use Rattle.std.specs.Prelude.{◌≡◌, ◌≤◌, None, false};
-ghost use Rattle.feed_link.specs.Faults.{RoseByOne};
+ghost use Rattle.std.specs.Prelude.{◌≡◌, ◌≤◌, ◌∷◌, [], None, false, IfOk, MatchResult};
+ghost use Rattle.feed_link.specs.Faults.{RoseByOne, HasCause};
+ghost use Rattle.feed_link.specs.Openings.{GrowsBy, IsNext, answered, failed};
+ghost use Rattle.feed_link.specs.Openings.Wanted.{LinkAt};
+ghost use Rattle.feed_link.specs.Openings.State.{OfLink};
+ghost use Rattle.feed_link.specs.Real.{host_state, socket_state, file_number};
 
 use crate::udp::Counter;
 use crate::{Failed, FileSource, OpenGate, Outside, UdpLink};
+use std::fs;
+use std::io::{self, ErrorKind};
 use std::net::{IpAddr, Ipv4Addr, Net, SocketAddr, UdpSocket};
 use std::rt::Files;
 use std::time::{Clock, Duration};
-use std::{fs, io};
 use tick_units::Local;
 
 // For how many seconds a link hears nothing before it says so.
 const SILENCE: u64 = 2;
+
+/// Why the host refuses an opening.
+#[derive(Clone, Copy, Debug, PartialEq, Eq)]
+pub enum Refusal {
+    NotThere,
+    NoRight,
+    /// The port is another socket's.
+    Taken,
+    Other,
+}
+
+impl Refusal {
+    /// The reason that an error of this kind gives.
+    pub fn of(kind: ErrorKind) -> Refusal {
+        match kind {
+            ErrorKind::NotFound => Refusal::NotThere,
+            ErrorKind::PermissionDenied => Refusal::NoRight,
+            ErrorKind::AddrInUse => Refusal::Taken,
+            _ => Refusal::Other,
+        }
+    }
+}
 
 /// The host's files and sockets. It counts its faults and tells nothing of its openings.
 #[derive(Drop)]
@@ -20,6 +47,7 @@ pub struct HostOutside<'a, R: Files + Net + Clock> {
     counter: Counter<'a, R>,
     faults: u64,
     is_out: bool,
+    refusal: Option<Refusal>,
 }
 
 impl<'a, R: Files + Net + Clock> HostOutside<'a, R> {
@@ -34,16 +62,24 @@ impl<'a, R: Files + Net + Clock> HostOutside<'a, R> {
             counter: Counter::new(rt),
             faults: 0,
             is_out: false,
+            refusal: None,
         }
     }
 
+    /// Why the last opening that failed was refused. It is for people to read, and no clause speaks of it.
+    pub fn refusal(&self) -> Option<Refusal> {
+        self.refusal
+    }
+
     // An opening failed.
-    fn fail(&mut self) -> Failed
+    fn fail(&mut self, kind: ErrorKind) -> Failed
         ensures faults { RoseByOne self.old.faults self.new.faults }
         ensures later { self.old.faults ≤ self.new.faults }
         ensures gate { self.new.is_out ≡ self.old.is_out }
+        ensures counter { self.new.counter ≡ self.old.counter }
     {
         self.faults = self.faults.saturating_add(1);
+        self.refusal = Some(Refusal::of(kind));
         Failed
     }
 }
@@ -73,14 +109,25 @@ where
     fn open_log(&mut self, name: &str) -> Result<FileSource<R::File>, Failed> {
         match fs::open(self.rt, name) {
             Ok(file) => Ok(FileSource::new(file)),
-            Err(_) => Err(self.fail()),
+            Err(error) => Err(self.fail(error.kind())),
         }
     }
 
-    fn open_link(&mut self, port: u16, start: Local) -> Result<UdpLink<'a, R, UdpSocket>, Failed> {
+    fn open_link(&mut self, port: u16, start: Local) -> Result<UdpLink<'a, R, UdpSocket>, Failed>
+        ensures opened { MatchResult result
+            (λ net. GrowsBy (host_state self.old.faults) (host_state self.new.faults) (answered (LinkAt port start) (OfLink (socket_state net.latest net.faults)) ∷ []))
+            (λ _. GrowsBy (host_state self.old.faults) (host_state self.new.faults) (failed (LinkAt port start) ∷ [])) }
+        ensures number { IfOk result (λ _. IsNext (host_state self.old.faults).openings file_number) }
+        ensures cause { HasCause self.old.faults self.new.faults result }
+        ensures gate { self.new.is_out ≡ self.old.is_out }
+
+        // Its moments count from the start on, by the one counter of this outside.
+        ensures made { IfOk result (λ net. (net.counter ≡ self.old.counter) × (net.start ≡ start) × (net.latest ≡ start)) }
+        ensures counter { self.new.counter ≡ self.old.counter }
+    {
         match bind(self.rt, port) {
             Ok(socket) => Ok(UdpLink::new(socket, self.counter.again(), start)),
-            Err(_) => Err(self.fail()),
+            Err(error) => Err(self.fail(error.kind())),
         }
     }
 

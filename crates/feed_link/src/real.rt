@@ -78,6 +78,13 @@ impl<W: Write + Drop> StreamSink<W> {
     {
         StreamSink { stream, faults: 0 }
     }
+
+    /// The stream.
+    pub fn stream(&self) -> &W
+        ensures { result.now ≡ self.now.stream }
+    {
+        &self.stream
+    }
 }
 
 // Writes the first bytes of a piece, at least one where there is one. A call that is interrupted is made again.

@@ -1,24 +1,37 @@
 // A real link: a socket of UDP.
-ghost use Rattle.std.specs.Prelude.{◌≡◌, ℕ, ◌≤◌, None, length, IfOk, IfSome};
-ghost use Rattle.feed_link.specs.Faults.{RoseByOne};
+ghost use Rattle.std.specs.Prelude.{◌≡◌, ℕ, ◌≤◌, ◌/◌, ◌^◌, ◌-◌, min, List, None, Option, length, IfOk, IfSome, MatchOption, MatchResult};
+ghost use Rattle.std.specs.Duration.{as_nanos};
+ghost use Rattle.feed_link.specs.Faults.{RoseByOne, HasCause};
+ghost use Rattle.feed_link.specs.Links.{Hears, IsDeaf, TellsMoment, Sends};
+ghost use Rattle.feed_link.specs.Real.{socket_state, file_number};
+ghost use Rattle.feed_link.specs.Sockets.{Passed, Receives, Transmits, Gives, GivesNone, GivesHearing, IsFor, Posts, Repeats, address_of, is_passed_over, moment_of};
 
 use crate::{Address, Arrival, Failed, Hearing, Link};
 use std::io::{self, ErrorKind};
 use std::net::{IpAddr, Ipv4Addr, SocketAddr, UdpSocket};
-use std::time::{Clock, Instant};
+use std::time::{Clock, Duration, Instant};
 use tick_units::Local;
 
 // How often a datagram is sent anew where the host was interrupted or told of the fate of an earlier one.
 const TRIES: u32 = 1000;
 
+// The number of the greatest moment.
+const GREATEST_MOMENT: u64 = (1 << 50) - 1;
+
 /// A socket that gives and takes datagrams, with a bound on how long it waits for one.
 pub trait DatagramSocket {
+    /// What it gave and took so far, where that is known. Of the host's own socket it is not.
+    ghost passed: { Self → Option (List Passed) } = { λ _. None };
+
     /// The next datagram: how many of its bytes stand in the piece, and who sent it.
     fn receive(&mut self, piece: &mut [u8]) -> io::Result<(usize, SocketAddr)>
-        ensures within { IfOk result (λ r. r.0 ≤ length piece.new) };
+        ensures within { IfOk result (λ r. r.0 ≤ length piece.new) }
+        ensures given { Receives (passed self.old) (passed self.new) result piece.new };
 
     /// Sends a datagram: how many of its bytes were taken.
-    fn transmit(&mut self, to: SocketAddr, bytes: &[u8]) -> io::Result<usize>;
+    fn transmit(&mut self, to: SocketAddr, bytes: &[u8]) -> io::Result<usize>
+        ensures within { IfOk result (λ n. n ≤ length bytes.now) }
+        ensures taken { Transmits (passed self.old) (passed self.new) result to bytes.now };
 }
 
 impl DatagramSocket for UdpSocket {
@@ -63,7 +76,29 @@ impl<'a, R: Clock> Counter<'a, R> {
     fn microseconds(&self) -> Option<u64> {
         let made = self.made?;
         let elapsed = made.elapsed(self.rt).ok()?;
-        Some(u64::try_from(elapsed.as_micros()).unwrap_or(u64::MAX))
+        Some(whole_microseconds(elapsed))
+    }
+}
+
+// A duration in whole microseconds.
+fn whole_microseconds(elapsed: Duration) -> u64
+    ensures { result ≡ min (as_nanos elapsed / 1_000) (2 ^ 64 - 1) }
+{
+    u64::try_from(elapsed.as_micros()).unwrap_or(u64::MAX)
+}
+
+// The moment of a counter that was at `start` this number of microseconds ago. It is the latest one again where the counter can't
+// be read, or has stood still.
+fn moment_at(start: Local, latest: Local, counted: Option<u64>) -> Local
+    ensures { result ≡ moment_of start latest counted }
+{
+    let Some(counted) = counted else {
+        return latest;
+    };
+    let at = start.get().saturating_add(counted).min(GREATEST_MOMENT);
+    match Local::new(at) {
+        Some(at) if at.get() > latest.get() => at,
+        _ => latest,
     }
 }
 
@@ -78,7 +113,9 @@ pub struct UdpLink<'a, R: Clock, S: DatagramSocket + Drop> {
 }
 
 // The sender of a datagram, where it can be answered: it has an IPv4 address and a port.
-fn sender(from: SocketAddr) -> Option<Address> {
+fn sender(from: SocketAddr) -> Option<Address>
+    ensures { result ≡ address_of from }
+{
     match from {
         SocketAddr::V4(v4) if v4.port() != 0 => Some(Address {
             ip: v4.ip().to_bits(),
@@ -86,6 +123,13 @@ fn sender(from: SocketAddr) -> Option<Address> {
         }),
         _ => None,
     }
+}
+
+// Where a socket sends to.
+fn receiver(to: Address) -> SocketAddr
+    ensures { IsFor to result }
+{
+    SocketAddr::new(IpAddr::V4(Ipv4Addr::from_bits(to.ip)), to.port)
 }
 
 // Whether the host tells of the fate of an earlier datagram, or was interrupted: the call is then made again.
@@ -114,19 +158,24 @@ fn is_lost(kind: ErrorKind) -> bool {
 
 // Waits for a datagram that can be answered: its sender and how many bytes of it were heard, or None where nothing came for the
 // time of the socket.
+#[tactic(auto, using(crate::proofs::SocketLaws::no_call, crate::proofs::SocketLaws::one_more))]
 fn hear_some<S: DatagramSocket>(
     socket: &mut S,
     piece: &mut [u8],
 ) -> Result<Option<(Address, usize)>, Failed>
-    ensures { IfOk result (λ heard. IfSome heard (λ h. h.1 ≤ length piece.new)) }
+    ensures within { IfOk result (λ heard. IfSome heard (λ h. h.1 ≤ length piece.new)) }
+    ensures given { MatchResult result
+        (λ heard. MatchOption heard
+        (GivesNone (S.passed socket.old) (S.passed socket.new))
+        (λ h. Gives (S.passed socket.old) (S.passed socket.new) h.0 h.1 piece.new))
+        (λ _. Repeats is_passed_over (S.passed socket.old) (S.passed socket.new)) }
 {
     for _ in 0..u64::MAX {
         match socket.receive(piece) {
-            Ok((length, from)) => {
-                if let Some(from) = sender(from) {
-                    return Ok(Some((from, length)));
-                }
-            }
+            Ok((length, from)) => match sender(from) {
+                Some(from) => return Ok(Some((from, length))),
+                None => {}
+            },
             Err(e) if e.kind() == ErrorKind::WouldBlock || e.kind() == ErrorKind::TimedOut => {
                 return Ok(None);
             }
@@ -137,14 +186,14 @@ fn hear_some<S: DatagramSocket>(
     Err(Failed)
 }
 
-// Sends a datagram whole. It is lost where there is no way to its receiver.
-fn send_whole<S: DatagramSocket>(
-    socket: &mut S,
-    to: SocketAddr,
-    bytes: &[u8],
-) -> Result<(), Failed> {
+// Sends a datagram whole. It is lost where there is no way to its receiver. It is a fault where a part of it was taken.
+#[tactic(auto, using(crate::proofs::SocketLaws::no_call, crate::proofs::SocketLaws::one_more))]
+fn send_whole<S: DatagramSocket>(socket: &mut S, to: Address, bytes: &[u8]) -> Result<(), Failed>
+    ensures { Posts (S.passed socket.old) (S.passed socket.new) result to bytes.now }
+{
+    let at = receiver(to);
     for _ in 0..TRIES {
-        match socket.transmit(to, bytes) {
+        match socket.transmit(at, bytes) {
             Ok(count) if count == bytes.len() => return Ok(()),
             Ok(_) => return Err(Failed),
             Err(e) if is_lost(e.kind()) => return Ok(()),
@@ -158,7 +207,7 @@ fn send_whole<S: DatagramSocket>(
 impl<'a, R: Clock, S: DatagramSocket + Drop> UdpLink<'a, R, S> {
     /// The link of a socket, whose moments count from `start` on.
     pub fn new(socket: S, counter: Counter<'a, R>, start: Local) -> UdpLink<'a, R, S>
-        ensures { (result.faults ≡ 0) × (result.latest ≡ start) }
+        ensures { result ≡ record { socket = socket; counter = counter.entry; start = start; latest = start; faults = 0 } }
     {
         UdpLink {
             socket,
@@ -173,25 +222,18 @@ impl<'a, R: Clock, S: DatagramSocket + Drop> UdpLink<'a, R, S> {
     fn fail(&mut self) -> Failed
         ensures faults { RoseByOne self.old.faults self.new.faults }
         ensures later { self.old.faults ≤ self.new.faults }
-        ensures latest { self.new.latest ≡ self.old.latest }
+        ensures others { self.new ≡ record self.old { faults = self.new.faults } }
     {
         self.faults = self.faults.saturating_add(1);
         Failed
     }
 
-    // The moment now. It is the last one again where the counter can't be read.
+    // The moment now.
     fn now(&self) -> Local
-        ensures { self.now.latest ≤ result }
+        ensures later { self.now.latest ≤ result }
+        ensures value { (counted : Option ℕ) × (result ≡ moment_of self.now.start self.now.latest counted) }
     {
-        let Some(counted) = self.counter.microseconds() else {
-            return self.latest;
-        };
-        let most = (1 << 50) - 1;
-        let at = self.start.get().saturating_add(counted).min(most);
-        match Local::new(at) {
-            Some(at) if at.get() > self.latest.get() => at,
-            _ => self.latest,
-        }
+        moment_at(self.start, self.latest, self.counter.microseconds())
     }
 }
 
@@ -200,7 +242,20 @@ impl<R: Clock + Sync, S: DatagramSocket + Send + Drop> Link for UdpLink<'_, R, S
 
     ghost opening = { λ s. 0 };
 
-    fn hear(&mut self, piece: &mut [u8; 1024]) -> Result<Hearing, Failed> {
+    fn hear(&mut self, piece: &mut [u8; 1024]) -> Result<Hearing, Failed>
+        ensures heard { MatchResult result
+            (λ hearing. Hears (socket_state self.old.latest self.old.faults) (socket_state self.new.latest self.new.faults) hearing piece.new)
+            (λ _. IsDeaf (socket_state self.old.latest self.old.faults) (socket_state self.new.latest self.new.faults)) }
+        ensures cause { HasCause self.old.faults self.new.faults result }
+        ensures number { file_number ≡ file_number }
+
+        // What it hears is what the socket gave.
+        ensures socket { MatchResult result
+            (λ hearing. GivesHearing (S.passed self.old.socket) (S.passed self.new.socket) hearing piece.new)
+            (λ _. Repeats is_passed_over (S.passed self.old.socket) (S.passed self.new.socket)) }
+        ensures counter { self.new.counter ≡ self.old.counter }
+        ensures start { self.new.start ≡ self.old.start }
+    {
         match hear_some(&mut self.socket, piece.as_mut_slice()) {
             Ok(Some((from, length))) => {
                 self.latest = self.now();
@@ -215,14 +270,29 @@ impl<R: Clock + Sync, S: DatagramSocket + Send + Drop> Link for UdpLink<'_, R, S
         }
     }
 
-    fn moment(&mut self) -> Local {
+    fn moment(&mut self) -> Local
+        ensures told { TellsMoment (socket_state self.old.latest self.old.faults) (socket_state self.new.latest self.new.faults) result }
+        ensures number { file_number ≡ file_number }
+
+        // The counter is read anew, and the socket stays as it is.
+        ensures value { (counted : Option ℕ) × (result ≡ moment_of self.old.start self.old.latest counted) }
+        ensures others { self.new ≡ record self.old { latest = result } }
+    {
         self.latest = self.now();
         self.latest
     }
 
-    fn send(&mut self, to: Address, bytes: &[u8]) -> Result<(), Failed> {
-        let ip = IpAddr::V4(Ipv4Addr::from_bits(to.ip));
-        match send_whole(&mut self.socket, SocketAddr::new(ip, to.port), bytes) {
+    fn send(&mut self, to: Address, bytes: &[u8]) -> Result<(), Failed>
+        ensures sent { Sends (socket_state self.old.latest self.old.faults) (socket_state self.new.latest self.new.faults) result to bytes.now }
+        ensures cause { HasCause self.old.faults self.new.faults result }
+        ensures number { file_number ≡ file_number }
+
+        // What it sends the socket took whole, where there was a way.
+        ensures socket { Posts (S.passed self.old.socket) (S.passed self.new.socket) result to bytes.now }
+        ensures counter { self.new.counter ≡ self.old.counter }
+        ensures start { self.new.start ≡ self.old.start }
+    {
+        match send_whole(&mut self.socket, to, bytes) {
             Ok(()) => Ok(()),
             Err(Failed) => Err(self.fail()),
         }

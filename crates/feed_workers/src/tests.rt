@@ -10,7 +10,7 @@ use feed_link::{
     Address, HostOutside, Link, LinkEvent, MemoryLink, MemorySource, OpenGate, Outside, Planned,
     Source, SureSource,
 };
-use journal_entry::{LINE_ROOM, write_entry};
+use journal_entry::{ENTRY_ROOM, write_entry};
 use page_cell::{CellParts, PageCell};
 use radio_receiver::{BoxedReceiver, DcfReceiver, Receiver};
 use std::alloc::Global;
@@ -68,7 +68,7 @@ pub(crate) fn text_of(alloc: Global, journal: &Journal) -> Result<String, Fail> 
     let mut text = String::new(alloc);
     for place in 0..journal.len() {
         if let Some(entry) = journal.get(place) {
-            let mut line = [0; LINE_ROOM];
+            let mut line = [0; ENTRY_ROOM];
             let count = write_entry(&entry, &mut line);
             for byte in line.iter().take(count) {
                 text.push(char::from(*byte))?;

@@ -6,6 +6,3 @@ mod whole;
 
 pub use reader::{FileEnd, FileReader, PIECE, Pulled};
 pub use whole::read_whole;
-
-#[cfg(test)]
-mod tests;

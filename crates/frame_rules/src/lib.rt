@@ -20,6 +20,3 @@ pub use places::{KEPT_PLACES, Places};
 pub use rules::{Rule, breaks_length, first_broken};
 pub use segment::Segment;
 pub use spelling::{Spelling, bit_symbol};
-
-#[cfg(test)]
-mod tests;

@@ -16,10 +16,5 @@ pub use lawful::is_lawful;
 pub use line::{Form, JournalLine, read_line};
 pub use numbered::{MOST_RATE, Numbered};
 pub use read::{read_entry, read_numbered};
-pub use write::{write_entry, write_numbered};
-pub use writer::{LINE_ROOM, TextWriter};
-
-#[cfg(test)]
-mod numbered_tests;
-#[cfg(test)]
-mod tests;
+pub use write::{write_entry, write_numbered, write_unnumbered};
+pub use writer::{ENTRY_ROOM, LINE_ROOM, TextWriter};

@@ -10,7 +10,7 @@ ghost use Rattle.journal_entry.specs.declared.numbered.Numbered as numbered;
 ghost use Rattle.tick_units.specs.declared.sample.Sample as sample;
 
 use crate::fields::Fields;
-use crate::{Entry, LINE_ROOM, MOST_RATE, Numbered, What, words, write_entry, write_numbered};
+use crate::{Entry, LINE_ROOM, MOST_RATE, Numbered, What, words, write_numbered, write_unnumbered};
 use tick_units::{Kind, Sample, Short};
 
 /// The entry whose text this is, and `None` where it is no entry's.
@@ -20,7 +20,7 @@ pub fn read_entry(text: &[u8]) -> Option<Entry>
 {
     let entry = candidate(text)?;
     let mut again = [0; LINE_ROOM];
-    let length = write_entry(&entry, &mut again);
+    let length = write_unnumbered(&entry, &mut again);
     if &again[..length] == text {
         Some(entry)
     } else {

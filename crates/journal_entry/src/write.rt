@@ -5,16 +5,31 @@ ghost use Rattle.journal_entry.specs.Numbers.{numbered_text};
 ghost use Rattle.journal_entry.specs.Texts.{kind_fields, what_fields, text_of};
 ghost use Rattle.journal_entry.specs.Writing.{AddsFields, HasRoom, written};
 
-use crate::writer::{LINE_ROOM, TextWriter};
+use crate::writer::{ENTRY_ROOM, LINE_ROOM, TextWriter};
 use crate::{Entry, Numbered, What, words};
 use itoa::Buffer;
 use tick_units::{Kind, Sample};
 
-/// Writes the text of an entry at the front of `out`, without a line feed, and leaves the rest as it was. The answer is the
+/// Writes the text of an entry at the beginning of `out`, without a line feed, and leaves the rest as it was. The answer is the
 /// number of bytes written, at most 141.
+#[tactic(auto, using(std::proofs::lemmas::Slice::overwrites))]
+pub fn write_entry(e: &Entry, out: &mut [u8; ENTRY_ROOM]) -> usize
+    ensures text { take result out.new ≡ text_of e.now }
+    ensures rest { drop result out.new ≡ drop result out.old }
+    ensures length { result ≡ length (text_of e.now) }
+    ensures most { result ≤ 141 }
+    ensures entry { IsEntry e.now }
+{
+    let mut line = [0; LINE_ROOM];
+    let length = write_unnumbered(e, &mut line);
+    out[..length].copy_from_slice(&line[..length]);
+    length
+}
+
+/// Writes the text of an entry as `write_entry` does, in the room of a line.
 // It isn't inlined: an entry is rare among pulses, and its text's room and registers would cost each of them.
 #[inline(never)]
-pub fn write_entry(e: &Entry, out: &mut [u8; LINE_ROOM]) -> usize
+pub fn write_unnumbered(e: &Entry, out: &mut [u8; LINE_ROOM]) -> usize
     ensures text { take result out.new ≡ text_of e.now }
     ensures rest { drop result out.new ≡ drop result out.old }
     ensures length { result ≡ length (text_of e.now) }

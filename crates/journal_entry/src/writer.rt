@@ -9,6 +9,9 @@ use tick_units::{Local, Span, Stamp};
 /// The room for the text of a line, in bytes. A line of a journal that is longer than this is bad.
 pub const LINE_ROOM: usize = 300;
 
+/// The room for the text of one entry, or of one page, in bytes.
+pub const ENTRY_ROOM: usize = 256;
+
 /// Writes the fields of a text at the front of its room.
 #[derive(Drop)]
 pub struct TextWriter<'a> {

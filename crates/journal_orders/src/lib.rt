@@ -2,7 +2,5 @@
 #![tactic(auto)]
 
 mod leaps;
-#[cfg(test)]
-mod tests;
 
 pub use leaps::names_no_leap;

@@ -4,10 +4,10 @@
 
 mod gate;
 mod judged;
+#[cfg(test)]
+mod net_tests;
 mod nets;
 mod table;
-#[cfg(test)]
-mod tests;
 
 pub use gate::{ClientGate, GateOpen};
 pub use judged::Judged;

@@ -2,12 +2,8 @@
 #![tactic(auto)]
 
 mod line;
-#[cfg(test)]
-mod list_tests;
 mod part;
 mod reader;
 mod row;
-#[cfg(test)]
-mod tests;
 
 pub use reader::{BadLeap, LeapReader};

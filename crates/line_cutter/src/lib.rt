@@ -4,6 +4,3 @@
 mod cutter;
 
 pub use cutter::{Cut, LineCutter, Taken};
-
-#[cfg(test)]
-mod tests;

@@ -5,6 +5,3 @@ mod decoder;
 mod direct;
 
 pub use decoder::{LogDecoder, Step};
-
-#[cfg(test)]
-mod tests;

@@ -10,8 +10,4 @@ mod plans;
 pub use pairing::Pairing;
 
 #[cfg(test)]
-mod frame_tests;
-#[cfg(test)]
 mod leap_tests;
-#[cfg(test)]
-mod tests;

@@ -4,8 +4,6 @@
 mod header;
 mod protocol;
 mod reading;
-#[cfg(test)]
-mod tests;
 mod writing;
 
 pub use header::Header;

@@ -5,7 +5,5 @@ mod comparing;
 mod key;
 mod lookup;
 mod ring;
-#[cfg(test)]
-mod tests;
 
 pub use ring::{HEADER_LENGTH, KeyRing, SEALED_LENGTH};

@@ -29,6 +29,3 @@ mod spelling;
 
 pub use reading::{Dcf, Frame, read};
 pub use spelling::spell;
-
-#[cfg(test)]
-mod tests;

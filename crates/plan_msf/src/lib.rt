@@ -26,6 +26,3 @@ mod spelling;
 
 pub use reading::{Frame, Msf, read};
 pub use spelling::spell;
-
-#[cfg(test)]
-mod tests;

@@ -3,13 +3,9 @@
 
 mod checks;
 mod exchange;
-#[cfg(test)]
-mod figure_tests;
 mod poll;
 mod refusal;
 mod request;
-#[cfg(test)]
-mod tests;
 
 pub use poll::Poll;
 pub use refusal::PollRefusal;

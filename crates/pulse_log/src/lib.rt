@@ -9,6 +9,3 @@ mod writer;
 
 pub use reader::{BadLine, Front, LineReader};
 pub use writer::write_line;
-
-#[cfg(test)]
-mod tests;

@@ -1,37 +1,83 @@
-//! A stratum 1 NTP server whose reference clocks are longwave radios. The program hands its words and its receivers to the one
-//! call that does all, and ends with that call's status.
+//! A stratum 1 NTP server whose reference clocks are longwave radios. The program hands its arguments and its receivers to the one
+//! call that does all, and ends with that call's status. What a person needs to know of it follows on standard error.
 #![tactic(auto)]
 
-ghost use Rattle.std.specs.Prelude.{◌≡◌, IfOk, MatchResult, drop, false, map};
+ghost use Rattle.std.specs.Prelude.{◌≡◌, IfOk, IfErr, IsOkAnd, Err, MatchResult, [], alloc_error, drop, false, map};
+ghost use Rattle.std.specs.IoError.{error_kind};
 ghost use Rattle.std.specs.Process.{exit_status};
 ghost use Rattle.std.specs.String.{string_bytes};
 ghost use Rattle.std.specs.Vec.Iter.{into_iter_items};
-ghost use Rattle.radio_engine.specs.Endings.{number_of};
+ghost use Rattle.radio_engine.specs.Endings.{number_of, status_of, status_line};
 ghost use Rattle.radio_engine.specs.Run.{IsRun};
+ghost use Rattle.radio_engine.specs.Writing.{Answers};
+ghost use Rattle.radio_engine.specs.declared.ending.Ending.TheVariants.{NoMemory};
+ghost use Rattle.radio_engine.specs.declared.ending.status.Status.{Status};
+
+mod report;
 
 use feed_link::{HostOutside, Outside, Sink, StreamSink};
 use radio_engine::{Status, end_without_memory, run_station};
 use radio_receiver::{DcfReceiver, MsfReceiver, Receiver, WwvbReceiver};
 use receiver_rack::put_in_rack;
+use report::write_report;
+use standard_error::Watched;
 use std::alloc::{AllocError, Global};
+use std::env;
 use std::env::Args;
 use std::fs::{self, Files};
+use std::io::{self, ErrorKind};
 use std::os::fd::AsRawFd;
 use std::process::ExitCode;
 use std::sync::Wait;
 use std::thread::Threads;
-use std::{env, io};
 use tick_units::Plan;
 
 fn main(rt: HostRuntime) -> ExitCode {
     let _standard = hold_standard_streams(&rt);
     let mut outside = HostOutside::new(&rt);
-    let mut out = StreamSink::new(io::writer(&rt));
-    let status = match words(&rt) {
-        Ok(words) => run_words(&rt, rt.alloc(), words.as_slice(), &mut outside, &mut out),
-        Err(AllocError) => end_without_memory(&mut out),
-    };
-    exit_code(status)
+    let mut out = StreamSink::new(Watched::new(io::writer(&rt)));
+    let all = env::args(&rt);
+    let are_text = all.is_ok();
+    let words = words_of(rt.alloc(), all);
+    let code = run_program(&rt, rt.alloc(), &words, &mut outside, &mut out);
+    write_report(&rt, &words, are_text, outside.refusal(), out.stream());
+    code
+}
+
+// Runs the program: the command that the arguments ask for; or, where no memory was found for them, the status line alone. It ends with
+// the number of its status.
+fn run_program<R: Threads + Wait + Sync, O: Outside, K: Sink>(
+    rt: &R,
+    alloc: Global,
+    words: &Result<Vec<String>, AllocError>,
+    outside: &mut O,
+    out: &mut K,
+) -> ExitCode
+    requires { O.gate_out outside.old ≡ false }
+    ensures { (status : Status) × (exit_status result ≡ number_of status) × MatchResult words.now
+        (λ w. IsRun (map (λ t. string_bytes t) w.items) (O.state outside.old) (O.state outside.new) (K.state out.old) (K.state out.new) status)
+        (λ _. Answers (status_of NoMemory) status (K.state out.old) (K.state out.new) (status_line NoMemory) × (O.state outside.new ≡ O.state outside.old)) }
+{
+    exit_code(run_given(rt, alloc, words, outside, out))
+}
+
+// The status of the program.
+fn run_given<R: Threads + Wait + Sync, O: Outside, K: Sink>(
+    rt: &R,
+    alloc: Global,
+    words: &Result<Vec<String>, AllocError>,
+    outside: &mut O,
+    out: &mut K,
+) -> Status
+    requires { O.gate_out outside.old ≡ false }
+    ensures { MatchResult words.now
+        (λ w. IsRun (map (λ t. string_bytes t) w.items) (O.state outside.old) (O.state outside.new) (K.state out.old) (K.state out.new) result)
+        (λ _. Answers (status_of NoMemory) result (K.state out.old) (K.state out.new) (status_line NoMemory) × (O.state outside.new ≡ O.state outside.old)) }
+{
+    match words {
+        Ok(words) => run_words(rt, alloc, words.as_slice(), outside, out),
+        Err(_) => end_without_memory(out),
+    }
 }
 
 // The program's exit status.
@@ -62,12 +108,18 @@ where
     Some(file)
 }
 
-// The words that the host gives, and none where one of them isn't UTF-8, since no lawful words have such a one.
-fn words(rt: &HostRuntime) -> Result<Vec<String>, AllocError> {
-    match env::args(rt) {
-        Ok(all) => behind_the_name(rt.alloc(), all),
-        Err(error) if error.kind() == io::ErrorKind::OutOfMemory => Err(AllocError),
-        Err(_) => Ok(Vec::new(rt.alloc())),
+// The arguments after the program's name. There are none where one of them isn't UTF-8, since no valid argument is such a one.
+fn words_of(alloc: Global, all: io::Result<Args>) -> Result<Vec<String>, AllocError>
+    ensures given { IfOk all (λ args. IfOk result (λ words. words.items ≡ drop 1 (into_iter_items args))) }
+    ensures memory { IfErr all (λ e. error_kind e ≡ ErrorKind.OutOfMemory → result ≡ Err alloc_error) }
+    ensures no_text { IfErr all (λ e. (error_kind e ≡ ErrorKind.OutOfMemory → ⊥) → IsOkAnd result (λ words. words.items ≡ [])) }
+{
+    match all {
+        Ok(all) => behind_the_name(alloc, all),
+        Err(error) => match error.kind() {
+            ErrorKind::OutOfMemory => Err(AllocError),
+            _ => Ok(Vec::new(alloc)),
+        },
     }
 }
 

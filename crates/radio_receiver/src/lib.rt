@@ -11,8 +11,3 @@ pub use receiver::{BoxedReceiver, Receiver};
 pub use receivers::{
     DcfPlan, DcfReceiver, MsfPlan, MsfReceiver, OfPlan, PlanReceiver, WwvbPlan, WwvbReceiver,
 };
-
-#[cfg(test)]
-mod counting_tests;
-#[cfg(test)]
-mod tests;

@@ -5,10 +5,6 @@
 mod answering;
 mod code;
 mod dropped;
-#[cfg(test)]
-mod kiss_tests;
-#[cfg(test)]
-mod tests;
 
 pub use answering::{REPLY_LENGTH, kiss, read_request, reply, write_reply};
 pub use code::Code;

@@ -9,6 +9,3 @@ mod read;
 pub use datagram::Datagram;
 pub use line::ScriptLine;
 pub use read::read_line;
-
-#[cfg(test)]
-mod tests;

@@ -15,10 +15,3 @@ pub use outcome::{NotLawful, Outcome};
 pub use player::Player;
 pub use radio_receiver::BoxedReceiver;
 pub use text::write_outcome;
-
-#[cfg(test)]
-mod client_tests;
-#[cfg(test)]
-mod leap_tests;
-#[cfg(test)]
-mod tests;

@@ -3,8 +3,6 @@
 
 mod answering;
 mod reply;
-#[cfg(test)]
-mod tests;
 
 pub use answering::{Request, sealed_like};
 pub use reply::Reply;

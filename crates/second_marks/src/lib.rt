@@ -6,6 +6,3 @@ mod held;
 mod marker;
 
 pub use marker::Marker;
-
-#[cfg(test)]
-mod tests;

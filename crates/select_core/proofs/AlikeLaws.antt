@@ -1,12 +1,14 @@
 -- Lists with the same items, each as often: what is counted in them and the best of them are the same.
-use Rattle.std.proofs.Common.{◌≡◌, ℕ, ◌+◌, ◌≤◌, Bool, true, false, cond, List, [], ◌∷◌, ℤ, refl, sym, ap, ◌∙◌, arith, length}
+use Rattle.std.proofs.Common.{◌≡◌, ℕ, suc, ◌+◌, ◌<◌, ◌≤◌, Bool, true, false, cond, List, [], ◌∷◌, ℤ, refl, sym, ap, ◌∙◌, arith, subst, length, get_or}
 use Rattle.std.specs.Prelude.{Option, None, Some, ◌&&◌, map, filter, fold, count_by, int_le, reverse}
 use Rattle.std.specs.List.Sorted.{IsPermutation}
+use Rattle.std.proofs.lemmas.Bool.{and_from, and_left, and_right}
 use Rattle.std.proofs.lemmas.Int.{ints}
 use Rattle.std.proofs.lemmas.List.Sorted.{IsPermutation-reverse, sum_by-IsPermutation}
-use Rattle.std.proofs.lemmas.List.Sums.{count_by-le-length, sum_by-cons, sum_by-le-sum_by}
+use Rattle.std.proofs.lemmas.List.Sums.{count_by-le-length, get_or-le-sum_by, sum_by-cons, sum_by-le-sum_by}
 use Rattle.tick_units.specs.Orders.{better, best}
-use Rattle.select_core.specs.Ends.{AreAlike, is_sooner}
+use Rattle.select_core.specs.Ends.{is_sooner}
+use Rattle.select_core.specs.Points.{AreAlike}
 use Rattle.select_core.specs.declared.ends.Side.{Side}
 use Rattle.select_core.proofs.NarrowLaws.{count-yes, count-no}
 use Rattle.select_core.proofs.SoonerLaws.{sooner-chain, sooner-never, sooner-one_way, sooner-same}
@@ -54,6 +56,19 @@ length-alike {X} xs ys same = sym (all-counted xs) ∙ same (λ _. true) ∙ all
     all-counted : (zs : List X) → count_by (λ _. true) zs ≡ length zs
     all-counted [] = refl
     all-counted (z ∷ zs) = omega (arith, count-yes (λ (_ : X). true) z zs refl, all-counted zs)
+
+-- what is there is counted
+pub count-at : {X : Type 0} (p : X → Bool) (xs : List X) (i : ℕ) (x : X) → i < length xs → x ≡ get_or xs i x → cond {A = ℕ} (p x) 1 0 ≤ count_by p xs
+count-at p xs i x below is = subst (λ y. cond {A = ℕ} (p y) 1 0 ≤ count_by p xs) (sym is) (get_or-le-sum_by (λ y. cond (p y) 1 0) xs i x below)
+
+count-zero : {X : Type 0} (p : X → Bool) (xs : List X) → ((k : ℕ) (d : X) → k < length xs → p (get_or xs k d) ≡ false) → count_by p xs ≡ 0
+count-zero p [] none = refl
+count-zero p (x ∷ xs) none = count-no p x xs (none 0 x (omega arith)) ∙ count-zero p xs (λ k d below. none (suc k) d (omega arith))
+
+-- where none passes a test
+pub filter-none : {X : Type 0} (p : X → Bool) (xs : List X) → ((k : ℕ) (d : X) → k < length xs → p (get_or xs k d) ≡ false) → filter p xs ≡ []
+filter-none p [] none = refl
+filter-none p (x ∷ xs) none = ap (λ (b : Bool). cond b (x ∷ filter p xs) (filter p xs)) (none 0 x (omega arith)) ∙ filter-none p xs (λ k d below. none (suc k) d (omega arith))
 
 -- a test that is passed where another is, is passed as often or more
 pub count-le : {X : Type 0} (p q : X → Bool) (xs : List X) → ((x : X) → p x ≡ true → q x ≡ true) → count_by p xs ≤ count_by q xs
@@ -150,3 +165,25 @@ module _ (from : Side) where
 
   pub best-alike : (xs ys : List ℤ) → AreAlike xs ys → best (is_sooner from) xs ≡ best (is_sooner from) ys
   best-alike xs ys same = same-best (best (is_sooner from) xs) (best (is_sooner from) ys) xs ys same (best-tells xs) (best-tells ys)
+
+  -- a point that is there is the best where none is sooner
+  pub best-at : (xs : List ℤ) (k : ℕ) (y : ℤ) → k < length xs → y ≡ get_or xs k y → ((j : ℕ) (d : ℤ) → j < length xs → is_sooner from (get_or xs j d) y ≡ false) → best (is_sooner from) xs ≡ Some y
+  best-at xs k y below is none = same-best (best (is_sooner from) xs) (Some y) xs xs (λ test. refl) (best-tells xs) (record {
+    there = omega (arith, count-at (λ x. is_at x y) xs k y below is, ap (λ (b : Bool). cond {A = ℕ} b 1 0) (is_at-itself y));
+    none = count-zero (λ x. is_sooner from x y) xs none;
+  })
+
+  -- so it is among those that pass a test
+  pub best-passing : (p : ℤ → Bool) (xs : List ℤ) (k : ℕ) (y : ℤ) → k < length xs → y ≡ get_or xs k y → p y ≡ true → ((j : ℕ) (d : ℤ) → j < length xs → p (get_or xs j d) ≡ true → is_sooner from (get_or xs j d) y ≡ false)
+      → best (is_sooner from) (filter p xs) ≡ Some y
+  best-passing p xs k y below is passed none = same-best (best (is_sooner from) (filter p xs)) (Some y) (filter p xs) (filter p xs) (λ test. refl) (best-tells (filter p xs)) (record {
+    there = omega (arith, count-filter (λ x. is_at x y) p xs, count-at (λ x. p x && is_at x y) xs k y below is, ap (λ (b : Bool). cond {A = ℕ} b 1 0) (and_from (p y) (is_at y y) passed (is_at-itself y)));
+    none = count-filter (λ x. is_sooner from x y) p xs ∙ count-zero (λ x. p x && is_sooner from x y) xs (λ j d less. by_test j d less (p (get_or xs j d)) refl);
+  })
+    where
+      by_test : (j : ℕ) (d : ℤ) → j < length xs → (b : Bool) → p (get_or xs j d) ≡ b → (p (get_or xs j d) && is_sooner from (get_or xs j d) y) ≡ false
+      by_test j d less true here = and_right (p (get_or xs j d)) (is_sooner from (get_or xs j d) y) (none j d less here)
+      by_test j d less false here = and_left (p (get_or xs j d)) (is_sooner from (get_or xs j d) y) here
+
+  pub best-nowhere : (p : ℤ → Bool) (xs : List ℤ) → ((j : ℕ) (d : ℤ) → j < length xs → p (get_or xs j d) ≡ false) → best (is_sooner from) (filter p xs) ≡ None
+  best-nowhere p xs none = ap (best (is_sooner from)) (filter-none p xs none)

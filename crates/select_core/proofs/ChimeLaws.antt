@@ -5,7 +5,7 @@ use Rattle.std.specs.List.{filter_map, range_with_len}
 use Rattle.std.specs.List.Sorted.{IsPermutation}
 use Rattle.std.proofs.lemmas.List.Elements.{filter_agree}
 use Rattle.tick_units.specs.Orders.{best}
-use Rattle.select_core.specs.Ends.{AreAlike}
+use Rattle.select_core.specs.Points.{AreAlike}
 use Rattle.select_core.specs.Selection.{chime_allowing, chime_between, chime_of, contains, high_of, is_held, is_within, low_of, lower, serves, upper}
 use Rattle.select_core.specs.declared.chime.Candidate.{Candidate}
 use Rattle.select_core.specs.declared.ends.Side.TheVariants.{Lower, Upper}

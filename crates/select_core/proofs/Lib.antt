@@ -4,6 +4,7 @@ pub mod ChimeLaws
 pub mod EdgeLaws
 pub mod NarrowLaws
 pub mod OrderLaws
+pub mod PointLaws
 pub mod SelectionLaws
 pub mod SoonerLaws
 pub mod StandingLaws

@@ -2,5 +2,6 @@
 -- same interval by the ends that are gone over once; KeptSweep is scaffolding.
 pub mod Ends
 pub mod KeptSweep
+pub mod Points
 pub mod Selection
 pub mod Sweeping

@@ -5,11 +5,8 @@ mod chime;
 mod ends;
 mod intersection;
 mod narrowing;
+mod points;
 mod sweep;
-#[cfg(test)]
-mod sweep_tests;
-#[cfg(test)]
-mod tests;
 mod unanimous;
 
 pub use chime::{Candidate, Chime};

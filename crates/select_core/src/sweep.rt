@@ -1,32 +1,37 @@
 //! The interval that enough sources agree on, while sources come and go.
-ghost use Rattle.std.specs.Prelude.{◌≡◌, ◌+◌, ◌<◌, ◌≤◌, ◌≤ℤ◌, ◌-ℤ◌, ◌^◌, ◌≢◌, pos, List, [], ◌∷◌, ◌++◌, length, slice_index_or, All, IsTrue, IfSome, IfNone};
-ghost use Rattle.std.specs.List.Sorted.{IsPermutation};
+ghost use Rattle.std.specs.Prelude.{◌≡◌, ◌+◌, ◌<◌, ◌≤◌, ◌≤ℤ◌, ◌-ℤ◌, ◌^◌, ◌≢◌, ℕ, pos, List, [], length, insert, remove, slice_index_or, slice_set, IsTrue, IfSome, true, false, nat_lt};
+ghost use Rattle.std.specs.List.Sorted.{IsPartitionPoint, IsPermutation};
+ghost use Rattle.arrayvec.specs.ArrayVec.{array_vec_len};
 ghost use Rattle.select_core.specs.Selection.{chime_of, is_measured};
 ghost use Rattle.select_core.specs.Sweeping.{others, with_candidate};
 ghost use Rattle.select_core.specs.declared.chime.Candidate.{Candidate};
 
 use crate::narrowing::narrowed;
+use crate::points::Points;
 use crate::unanimous::unanimous;
 use crate::{Candidate, Chime};
 use arrayvec::ArrayVec;
 use std::marker::Model;
 
-/// At most 16 candidates, one for each feed. Contracts see it as the list of the candidates.
+/// At most 16 candidates, one for each feed, with the lower and the upper ends of their intervals in order. Contracts see it as
+/// the list of the candidates, in the order of their feeds.
 #[derive(Drop)]
 pub struct Sweep {
     standing: ArrayVec<Candidate, 16>,
+    lowers: Points,
+    uppers: Points,
 }
 
 impl Model for Sweep {
     ghost use Rattle.std.specs.Prelude.{List};
-    ghost use Rattle.select_core.specs.KeptSweep.{IsStanding};
+    ghost use Rattle.select_core.specs.KeptSweep.{AreEnds, IsStanding};
     ghost use Rattle.select_core.specs.declared.chime.Candidate.{Candidate};
 
     ghost Value = { List Candidate };
 
     ghost view = { λ s. s.standing.items };
 
-    ghost invariant = { λ s. IsStanding s.standing.items };
+    ghost invariant = { λ s. IsStanding s.standing.items × AreEnds s.standing.items s.lowers s.uppers };
 }
 
 impl Sweep {
@@ -36,14 +41,9 @@ impl Sweep {
     {
         Sweep {
             standing: ArrayVec::new(),
+            lowers: Points::new(),
+            uppers: Points::new(),
         }
-    }
-
-    /// Lets no candidate stand any longer.
-    pub fn clear(&mut self)
-        ensures { self.new ≡ [] }
-    {
-        self.standing.clear();
     }
 
     /// Lets a candidate stand, in place of the one of its feed.
@@ -52,27 +52,80 @@ impl Sweep {
         requires measured { IsTrue (is_measured c) }
         ensures { self.new ≡ with_candidate c self.old }
     {
-        self.remove(c.feed);
-        self.push(c);
-    }
-
-    /// Lets a candidate stand of a feed of which none stands.
-    pub fn push(&mut self, c: Candidate)
-        requires room { length self.old < 16 }
-        requires new { All (λ (x : Candidate). x.feed ≢ c.feed) self.old }
-        requires measured { IsTrue (is_measured c) }
-        ensures { self.new ≡ self.old ++ c ∷ [] }
-    {
-        self.standing.push(c);
+        // Looked at for what the list keeps: its order.
+        let _order = &self.standing;
+        let place = self.place_of(c.feed);
+        if self.has_at(place, c.feed) {
+            self.exchange(place, c);
+        } else {
+            self.add(place, c);
+        }
     }
 
     /// Lets the candidate of a feed stand no longer; a feed that has none changes nothing.
     pub fn remove(&mut self, feed: u32)
         ensures { self.new ≡ others feed self.old }
     {
-        if let Some(place) = place_of(self.standing.as_slice(), feed) {
-            self.standing.remove(place);
+        // Looked at for what the list keeps: its order.
+        let _order = &self.standing;
+        let place = self.place_of(feed);
+        if self.has_at(place, feed) {
+            self.take_out(place);
         }
+    }
+
+    // The place of a feed's candidate: after those of lesser feeds.
+    fn place_of(&self, feed: u32) -> usize
+        ensures within { result ≤ length self.now }
+        ensures point { IsPartitionPoint (λ (x : Candidate). nat_lt x.feed feed ≡ true) (λ (x : Candidate). nat_lt x.feed feed ≡ false) self.now result }
+    {
+        self.standing.partition_point(|c| c.feed < feed)
+    }
+
+    // Whether the candidate at a place is there and of a feed.
+    fn has_at(&self, place: usize, feed: u32) -> bool
+        ensures there { result ≡ true → (place < length self.now) × ((d : Candidate) → (slice_index_or self.now place d).feed ≡ feed) }
+        ensures not_there { result ≡ false → place < length self.now → (d : Candidate) → (slice_index_or self.now place d).feed ≢ feed }
+    {
+        let standing = self.standing.as_slice();
+        place < standing.len() && standing[place].feed == feed
+    }
+
+    // Puts a candidate in place of that of its feed.
+    fn exchange(&mut self, place: usize, c: Candidate)
+        requires place { place < length self.old }
+        requires feed { (d : Candidate) → (slice_index_or self.old place d).feed ≡ c.feed }
+        requires measured { IsTrue (is_measured c) }
+        ensures { self.new ≡ slice_set self.old place c }
+    {
+        let before = self.standing.as_slice()[place];
+        self.lowers.replace(before.lower(), c.lower());
+        self.uppers.replace(before.upper(), c.upper());
+        set_at(&mut self.standing, place, c);
+    }
+
+    // Puts a candidate of a feed of which none stands in its place.
+    fn add(&mut self, place: usize, c: Candidate)
+        requires room { length self.old < 16 }
+        requires within { place ≤ length self.old }
+        requires before { (k : ℕ) (d : Candidate) → k < place → (slice_index_or self.old k d).feed < c.feed }
+        requires after { (k : ℕ) (d : Candidate) → place ≤ k → k < length self.old → c.feed < (slice_index_or self.old k d).feed }
+        requires measured { IsTrue (is_measured c) }
+        ensures { self.new ≡ insert self.old place c }
+    {
+        self.lowers.insert(c.lower());
+        self.uppers.insert(c.upper());
+        self.standing.insert(place, c);
+    }
+
+    // Takes the candidate at a place out.
+    fn take_out(&mut self, place: usize)
+        requires { place < length self.old }
+        ensures { self.new ≡ remove self.old place }
+    {
+        let c = self.standing.remove(place);
+        self.lowers.remove(c.lower());
+        self.uppers.remove(c.upper());
     }
 
     /// The interval that enough of the candidates agree on, as `select` gives it of them in any order.
@@ -81,17 +134,17 @@ impl Sweep {
         ensures any_order { (candidates : List Candidate) → IsPermutation self.now candidates → result ≡ chime_of candidates }
         ensures narrow { IfSome result (λ chime. (chime.high -ℤ chime.low) ≤ℤ pos (2 ^ 33)) }
     {
-        match unanimous(self.standing.as_slice()) {
+        match unanimous(self.standing.as_slice(), &self.lowers, &self.uppers) {
             Some(chime) => Some(chime),
-            None => narrowed(self.standing.as_slice()),
+            None => narrowed(self.standing.as_slice(), &self.lowers, &self.uppers),
         }
     }
 }
 
-// The place of a feed's candidate.
-fn place_of(standing: &[Candidate], feed: u32) -> Option<usize>
-    ensures some { IfSome result (λ place. (place < length standing.now) × ((d : Candidate) → (slice_index_or standing.now place d).feed ≡ feed)) }
-    ensures none { IfNone result (All (λ (c : Candidate). c.feed ≢ feed) standing.now) }
+// Puts a candidate at a place.
+fn set_at(standing: &mut ArrayVec<Candidate, 16>, place: usize, c: Candidate)
+    requires { place < array_vec_len standing.old }
+    ensures { standing.new.items ≡ slice_set standing.old.items place c }
 {
-    standing.iter().position(|c| c.feed == feed)
+    standing[place] = c;
 }

@@ -1,45 +1,23 @@
 //! The interval that all sources agree on.
-ghost use Rattle.std.specs.Prelude.{◌≡◌, ◌≤◌, ◌≤ℤ◌, ◌-ℤ◌, ◌^◌, pos, length, map, Some, IsTrue, IfSome};
-ghost use Rattle.select_core.specs.Selection.{are_measured, chime_of, greatest, least, lower, upper};
+ghost use Rattle.std.specs.Prelude.{◌≡◌, ◌≤◌, ◌≤ℤ◌, ◌-ℤ◌, ◌^◌, pos, length, Some, IsTrue, IfSome};
+ghost use Rattle.select_core.specs.KeptSweep.{AreEnds};
+ghost use Rattle.select_core.specs.Selection.{are_measured, chime_of};
 
-use crate::intersection::{greater, lesser, serves};
+use crate::intersection::serves;
+use crate::points::Points;
 use crate::{Candidate, Chime};
-use tick_units::Span;
 
-// The greatest lower end.
-fn greatest_lower(candidates: &[Candidate]) -> Option<Span>
-    requires { IsTrue (are_measured candidates.now) }
-    ensures { result ≡ greatest (map lower candidates.now) }
-{
-    let mut low = None;
-    for c in candidates {
-        low = greater(low, c.lower());
-    }
-    low
-}
-
-// The least upper end.
-fn least_upper(candidates: &[Candidate]) -> Option<Span>
-    requires { IsTrue (are_measured candidates.now) }
-    ensures { result ≡ least (map upper candidates.now) }
-{
-    let mut high = None;
-    for c in candidates {
-        high = lesser(high, c.upper());
-    }
-    high
-}
-
-/// The interval that all intervals contain, where all offsets lie in it. Most often there is one, and then it is the one that
-/// selection finds; `None` says nothing.
-pub fn unanimous(candidates: &[Candidate]) -> Option<Chime>
+/// The interval that all intervals contain, from the greatest lower end to the least upper one, where all offsets lie in it. Most
+/// often there is one, and then it is the one that selection finds; `None` says nothing.
+pub fn unanimous(candidates: &[Candidate], lowers: &Points, uppers: &Points) -> Option<Chime>
     requires few { length candidates.now ≤ 16 }
     requires measured { IsTrue (are_measured candidates.now) }
+    requires ends { AreEnds candidates.now lowers.now uppers.now }
     ensures chime { IfSome result (λ chime. chime_of candidates.now ≡ Some chime) }
     ensures narrow { IfSome result (λ chime. (chime.high -ℤ chime.low) ≤ℤ pos (2 ^ 33)) }
 {
-    let low = greatest_lower(candidates)?;
-    let high = least_upper(candidates)?;
+    let low = lowers.greatest()?;
+    let high = uppers.least()?;
     if serves(candidates, 0, low, high) {
         Some(Chime {
             low,

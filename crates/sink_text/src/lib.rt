@@ -6,9 +6,6 @@ ghost use Rattle.sink_text.specs.Writing.{WritesAll, WritesFront};
 
 use feed_link::{Failed, Sink};
 
-#[cfg(test)]
-mod tests;
-
 /// Writes all of a text, in as many writes as the sink makes of it.
 ///
 /// `Failed` comes with the first write that fails, and that one isn't tried again: the sink then holds a front of the text.

@@ -1,11 +1,12 @@
 -- Scaffolding: the sources that are fit, as they come out of what is kept of the feeds.
-use Rattle.std.specs.Prelude.{◌≡◌, ◌≢◌, ℕ, ◌^◌, ◌≤◌, ◌<◌, Option, None, Some, List, All, length, pos, ◌≤ℤ◌, if◌then◌else◌}
+use Rattle.std.specs.Prelude.{◌≡◌, ℕ, ◌-◌, ◌^◌, ◌≤◌, ◌<◌, nat_le, Option, None, Some, List, All, filter, length, pos, ◌≤ℤ◌, if◌then◌else◌}
 use Rattle.std.specs.List.{filter_map, enumerate_from}
 use Rattle.std.specs.Option.{option_map}
 use Rattle.clock_filter.specs.Bounds.{AreLawful, IsMeasured}
 use Rattle.clock_filter.specs.Distance.{distance_of, is_fit_at}
 use Rattle.clock_filter.specs.Figures.{figures_of}
 use Rattle.clock_filter.specs.Held.{StandsFor, held}
+use Rattle.select_core.specs.Sweeping.{others, with_candidate}
 use Rattle.select_core.specs.declared.chime.Candidate.{Candidate}
 use Rattle.system_fold.specs.declared.feed.Feed.{Feed}
 use Rattle.system_fold.specs.declared.source.Source.{Source}
@@ -42,6 +43,15 @@ pub record AreFit (cut now : ℕ) (seen : List Feed) (fit : List Source) : Type 
   pub all : All (IsFit now) fit
   pub few : length fit ≤ length seen
 
--- none of these is of a feed
-abbrev pub IsNew : ℕ → List Candidate → Type 0
-IsNew feed candidates = All (λ c. c.feed ≢ feed) candidates
+-- the candidates of the feeds from a number on
+abbrev pub from_feed : ℕ → List Candidate → List Candidate
+from_feed first candidates = filter (λ c. nat_le first c.feed) candidates
+
+-- from each number on there are no more candidates than there are feeds
+pub record AreFew (feeds : ℕ) (candidates : List Candidate) : Type 0 where
+  pub upward : (first : ℕ) → length (from_feed first candidates) ≤ feeds - first
+
+-- the candidates with that of a feed, where it has one, and without it where it has none
+abbrev pub with_some : ℕ → Option Candidate → List Candidate → List Candidate
+with_some feed None candidates = others feed candidates
+with_some feed (Some c) candidates = with_candidate c candidates

@@ -3,8 +3,9 @@ ghost use Rattle.std.specs.Prelude.{◌≡◌, ◌≤◌, ◌<◌, ◌^◌, ◌+
 ghost use Rattle.std.specs.List.{cons_option};
 ghost use Rattle.std.specs.Option.{option_map};
 ghost use Rattle.arrayvec.specs.ArrayVec.{array_vec_len};
+ghost use Rattle.select_core.specs.Sweeping.{others};
 ghost use Rattle.system_fold.specs.Fit as fit;
-ghost use Rattle.system_fold.specs.Fit.{AreFit, IsFit, IsNew, IsSound, fit_feeds};
+ghost use Rattle.system_fold.specs.Fit.{AreFew, AreFit, IsFit, IsSound, fit_feeds, with_some};
 ghost use Rattle.system_fold.specs.Selecting as selecting;
 
 use crate::feed::Feed;
@@ -59,15 +60,16 @@ pub fn fit_sources(feeds: &[Feed], cut: u64, now: Local) -> ArrayVec<Source, 16>
     fit
 }
 
-// Lets the candidate of a source stand, if there is one.
-fn stand_some(sweep: &mut Sweep, source: &Option<Source>, now: Local)
+// Lets the candidate of a feed stand, where the feed is fit, and none of it where it isn't.
+fn stand(sweep: &mut Sweep, number: u32, source: &Option<Source>, now: Local)
+    requires feed { IfSome source.now (λ s. s.feed ≡ number) }
     requires fit { IfSome source.now (IsFit now) }
-    requires new { IfSome source.now (λ s. IsNew s.feed sweep.old) }
-    requires room { length sweep.old < 16 }
-    ensures { sweep.new ≡ sweep.old ++ cons_option (option_map (selecting.candidate_of now) source.now) [] }
+    requires room { length (others number sweep.old) < 16 }
+    ensures { sweep.new ≡ with_some number (option_map (selecting.candidate_of now) source.now) sweep.old }
 {
-    if let Some(source) = source {
-        sweep.push(candidate_of(source, now));
+    match source {
+        Some(source) => sweep.put(candidate_of(source, now)),
+        None => sweep.remove(number),
     }
 }
 
@@ -82,14 +84,15 @@ pub fn find_fit(
 )
     requires few { length feeds.now ≤ 16 }
     requires sound { All (IsSound now) feeds.now }
+    requires standing { AreFew (length feeds.now) sweep.old }
     ensures fit { AreFit cut now feeds.now fit.new.items }
     ensures sweep { sweep.new ≡ map (selecting.candidate_of now) fit.new.items }
 {
     fit.clear();
-    sweep.clear();
     for (index, feed) in feeds.iter().enumerate() {
-        let source = fit_source(index as u32, feed, cut, now);
-        stand_some(sweep, &source, now);
+        let number = index as u32;
+        let source = fit_source(number, feed, cut, now);
+        stand(sweep, number, &source, now);
         push_some(fit, source);
     }
 }

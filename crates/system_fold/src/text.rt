@@ -4,11 +4,25 @@ ghost use Rattle.journal_entry.specs.Writing.{AddsFields, HasRoom, written};
 ghost use Rattle.system_fold.specs.PageText.{page_fields, page_line};
 
 use clock_page::Page;
-use journal_entry::{LINE_ROOM, TextWriter};
+use journal_entry::{ENTRY_ROOM, LINE_ROOM, TextWriter};
 
-/// Writes the line of a page at the front of `out`, without a line feed, and leaves the rest as it was. The answer is the
+/// Writes the line of a page at the beginning of `out`, without a line feed, and leaves the rest as it was. The answer is the
 /// number of bytes written, at most 173.
-pub fn page_text(p: &Page, out: &mut [u8; LINE_ROOM]) -> usize
+#[tactic(auto, using(std::proofs::lemmas::Slice::overwrites))]
+pub fn page_text(p: &Page, out: &mut [u8; ENTRY_ROOM]) -> usize
+    ensures text { take result out.new ≡ page_line p.now }
+    ensures rest { drop result out.new ≡ drop result out.old }
+    ensures length { result ≡ length (page_line p.now) }
+    ensures most { result ≤ 173 }
+{
+    let mut line = [0; LINE_ROOM];
+    let length = write_page(p, &mut line);
+    out[..length].copy_from_slice(&line[..length]);
+    length
+}
+
+/// Writes the line of a page as `page_text` does, in the room of a line.
+pub fn write_page(p: &Page, out: &mut [u8; LINE_ROOM]) -> usize
     ensures text { take result out.new ≡ page_line p.now }
     ensures rest { drop result out.new ≡ drop result out.old }
     ensures length { result ≡ length (page_line p.now) }

@@ -13,7 +13,7 @@ use clock_page::Page;
 use feed_link::{Failed, Sink};
 use journal_entry::LINE_ROOM;
 use sink_text::write_all;
-use system_fold::page_text;
+use system_fold::write_page;
 
 // Writes the line of a page at the front of `line`. The answer is its number of bytes.
 #[tactic(auto, unfolding(crate::specs::Text::page_text))]
@@ -21,7 +21,7 @@ fn write_page_line(page: &Page, line: &mut Line) -> usize
     ensures text { take result line.new ≡ page_text page.now }
     ensures within { result ≤ LINE_ROOM }
 {
-    let end = page_text(page, line);
+    let end = write_page(page, line);
     line[end] = b'\n';
     end + 1
 }

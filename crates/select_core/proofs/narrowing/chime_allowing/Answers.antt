@@ -5,4 +5,4 @@ use Rattle.select_core.proofs.narrowing.chime_allowing.Goals as goal
 
 pub returns-then-serves-clause-narrow : goal.returns-then-serves-clause-narrow
 returns-then-serves-clause-narrow c =
-    chime-narrow c.args.candidates.now c.args.allowed c.in_ok-low.low c.in_ok-high.high c.requires.kept.measured (sym c.serves.ensures ∙ c.if-serves.true) c.in_ok-low.ensures c.in_ok-high.ensures
+    chime-narrow c.args.candidates.now c.args.allowed c.in_ok-low.low c.in_ok-high.high c.requires.measured (sym c.serves.ensures ∙ c.if-serves.true) c.in_ok-low.ensures c.in_ok-high.ensures

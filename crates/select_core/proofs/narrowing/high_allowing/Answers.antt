@@ -4,4 +4,4 @@ use Rattle.select_core.proofs.SweepLaws.{edge-high}
 use Rattle.select_core.proofs.narrowing.high_allowing.Goals as goal
 
 pub returns : goal.returns
-returns c = c.edge.ensures ∙ edge-high c.args.candidates.now c.args.ends.now c.args.allowed c.requires.kept c.requires.allowed
+returns c = c.edge.ensures ∙ edge-high c.args.candidates.now c.args.lowers.now c.args.uppers.now c.args.allowed c.requires.measured c.requires.ends c.requires.allowed

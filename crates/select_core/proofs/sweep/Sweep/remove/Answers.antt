@@ -1,26 +1,20 @@
 -- What the search leaves open of `sweep::Sweep::remove`.
-use Rattle.std.proofs.Common.{◌<◌, ◌∙◌, sym, ap, subst, length, get_or}
-use Rattle.std.specs.Prelude.{List, All, ◌≢◌}
+use Rattle.std.proofs.Common.{◌∙◌, subst}
 use Rattle.select_core.specs.KeptSweep.{IsStanding}
-use Rattle.select_core.specs.Sweeping.{others}
-use Rattle.select_core.specs.declared.chime.Candidate.{Candidate}
-use Rattle.select_core.proofs.StandingLaws.{others-all, others-remove, standing-remove}
+use Rattle.select_core.proofs.StandingLaws.{above-place, below-place, differ-all, feeds-differ, others-all, others-remove}
 use Rattle.select_core.proofs.sweep.Sweep.remove.Goals as goal
 
-pub invariant_of-self : goal.invariant_of-self
-invariant_of-self c =
-    let below = subst (λ (l : List Candidate). c.in-Some.place < length l) c.as_slice.ensures.value c.in-Some.ensures.some.0 in
-    subst IsStanding (sym c.remove.ensures.items) (standing-remove c.self.inside.standing.items c.in-Some.place c.self.invariant below)
+pub returns-then-has_at : goal.returns-then-has_at
+returns-then-has_at c =
+    let cs = c.args.self.now in
+    let there = c.has_at.ensures.there c.if-has_at.true in
+    c.take_out.ensures ∙ others-remove c.args.feed cs c.place_of-place.result there.0 there.1 (feeds-differ cs (subst IsStanding c.self.view_is c.self.invariant.0).feeds)
 
-pub returns-in-Some : goal.returns-in-Some
-returns-in-Some c =
-    let cs = c.self.inside.standing.items in
-    let place = c.in-Some.place in
-    let below = subst (λ (l : List Candidate). place < length l) c.as_slice.ensures.value c.in-Some.ensures.some.0 in
-    let there = λ (d : Candidate). ap (λ (l : List Candidate). (get_or l place d).feed) (sym c.as_slice.ensures.value) ∙ c.in-Some.ensures.some.1 d in
-    c.remove.ensures.items ∙ others-remove c.args.feed cs place below there c.self.invariant.feeds ∙ ap (others c.args.feed) c.self.view_is
-
-pub returns-in_default : goal.returns-in_default
-returns-in_default c =
-    let same = c.as_slice.ensures.value ∙ c.self.view_is in
-    others-all c.args.feed c.args.self.now (subst (λ (l : List Candidate). All (λ x. x.feed ≢ c.args.feed) l) same c.in_default.ensures.none)
+pub returns-else-has_at : goal.returns-else-has_at
+returns-else-has_at c =
+    let cs = c.args.self.now in
+    let feed = c.args.feed in
+    let place = c.place_of-place.result in
+    let before = below-place feed cs place c.place_of-place.ensures.point c.place_of-place.ensures.within in
+    let after = above-place feed cs place c.place_of-place.ensures.point (subst IsStanding c.self.view_is c.self.invariant.0) (c.has_at.ensures.not_there c.if-has_at.false) in
+    others-all feed cs (differ-all feed cs place c.place_of-place.ensures.within before after)

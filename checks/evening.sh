@@ -1,0 +1,119 @@
+#!/bin/sh
+# Follows docs/FIRST_EVENING.md from its first line on, in a Debian of its own in which nothing is installed but what debootstrap puts there: its commands,
+# as they stand in the page, one after the other. A receiver in software stands in the place of gpiomon, which has no pin here, and writes as libgpiod 1 does. It
+# takes a quarter of an hour, most of it waiting for minutes, and 500 MB of disk, and isn't in the gate. Needs root, debootstrap and the network of Debian's packages;
+# DEBIAN names a folder with a bare Debian, which is copied. RADIO_NTPD names the program where it isn't the one of this folder.
+#
+#     checks/evening.sh
+set -u
+cd "$(dirname "$0")/.." || exit 1
+name=evening
+export LC_ALL=C
+PATH="$PATH:/usr/sbin:/sbin"
+program=${RADIO_NTPD:-crates/radio_ntpd/out/radio_ntpd}
+[ -x "$program" ] || { echo "$name: there is no built program $program" >&2; exit 1; }
+work=$(mktemp -d) || exit 1
+host="$work/host"
+home=/root/radio_ntpd
+keeper=
+bad=0
+finish() {
+    if [ -n "$keeper" ]; then
+        kill "$keeper" 2> "$work/none"
+        wait "$keeper"
+    fi
+    umount "$host/proc" 2> "$work/none"
+    rm -rf --one-file-system "$work"
+}
+trap finish EXIT
+trap 'exit 1' INT TERM
+wrong() {
+    echo "$name: $*" >&2
+    bad=1
+}
+
+if [ -n "${DEBIAN:-}" ]; then
+    cp -a "$DEBIAN" "$host"
+else
+    debootstrap --variant=minbase bookworm "$host" > "$work/made" 2>&1 || { tail -n 3 "$work/made" >&2; exit 1; }
+fi
+mount -t proc proc "$host/proc" || exit 1
+
+# The folder as it is unpacked, with the built program in it.
+mkdir -p "$host$home/crates/radio_ntpd/out"
+git archive HEAD -- radio_ntpd radio_keeper keeper feeders tools packaging docs crates.txt | tar -x -C "$host$home"
+install -m 755 "$program" "$host$home/crates/radio_ntpd/out/radio_ntpd"
+# What the page doesn't install: root is there already, and apt is to ask nothing.
+printf '#!/bin/sh\nexec "$@"\n' > "$host/usr/local/bin/sudo"
+echo 'APT::Get::Assume-Yes "true";' > "$host/etc/apt/apt.conf.d/90yes"
+mkdir -p "$host/opt/checks" "$host/opt/bench"
+cp checks/receiver.py "$host/opt/checks/"
+cp bench/*.py "$host/opt/bench/"
+cat > "$host/usr/local/bin/gpiomon" <<'SH'
+#!/bin/sh
+[ "$*" = 'gpiochip0 17' ] || { echo "gpiomon: what is $*?" >&2; exit 1; }
+exec python3 -u -c '
+import subprocess, sys
+with subprocess.Popen([sys.executable, "/opt/checks/receiver.py", "dcf", "--edges", "--jitter", "3000"], stdout=subprocess.PIPE, text=True) as receiver:
+    for line in receiver.stdout:
+        at, edge, *_ = line.split()
+        print(f"event: {edge.upper():>7} EDGE offset: 17 timestamp: [{at:>16}]", flush=True)
+'
+SH
+chmod +x "$host/usr/local/bin/sudo" "$host/usr/local/bin/gpiomon"
+
+# The indented command of a step of the page, by its number.
+step() {
+    awk -v step="**$1." 'index($0, step) == 1 { found = 1 } /^\*\*[0-9]/ && index($0, step) != 1 { found = 0 } /^## / { found = 0 } found && /^    / { sub(/^    /, ""); print }' docs/FIRST_EVENING.md
+}
+# Runs a step there. `told` is its exit status, and what it writes is in "$work/step.N".
+run() {
+    said=$(step "$1")
+    [ -n "$said" ] || wrong "step $1 has no command"
+    chroot "$host" sh -c "cd $home && $said" > "$work/step.$1" 2>&1
+    told=$?
+    echo "$name: step $1 ends with $told: $(tail -n 1 "$work/step.$1")"
+}
+has() {
+    grep -q -e "$2" "$work/step.$1" || wrong "step $1 doesn't say '$2': $(tail -n 3 "$work/step.$1")"
+}
+
+chroot "$host" apt-get update > "$work/updated" 2>&1
+run 1
+[ $told = 0 ] || wrong "packages: $(tail -n 2 "$work/step.1")"
+run 2
+has 2 'RISING EDGE offset: 17'
+run 3
+[ "$(grep -c . "$host$home/first.log")" -gt 250 ] || wrong 'five minutes have too few marks'
+run 4
+has 4 ' verdict '
+has 4 '^status 0$'
+run 5
+run 6
+run 7
+has 7 '^nothing to mend$'
+[ $told = 0 ] || wrong "the check ends with $told"
+chroot "$host" sh -c "cd $home && exec $(step 8)" > "$work/step.8" 2>&1 &
+keeper=$!
+# Four to five minutes after the first minute mark there is a time.
+turns=0
+until chroot "$host" sh -c "cd $home && ./radio_keeper status" > "$work/step.9" 2>&1; do
+    turns=$((turns + 1))
+    [ $turns -lt 84 ] || { wrong "no time after seven minutes: $(head -n 3 "$work/step.9"; tail -n 3 "$work/step.8")"; break; }
+    sleep 5
+done
+has 9 '^OK: time from DCF, stratum 1'
+chroot "$host" apt-get install chrony > "$work/chrony" 2>&1
+run 10
+has 10 'System clock wrong by'
+wrong_by=$(sed -n 's/.*System clock wrong by \(-\{0,1\}[0-9.]*\) seconds.*/\1/p' "$work/step.10")
+python3 -c "import sys; sys.exit(abs(float(sys.argv[1])) > 0.02)" "${wrong_by:-9}" || wrong "the client sees the host's clock off by $wrong_by s"
+kill -INT "$keeper"
+wait "$keeper"
+told=$?
+keeper=
+[ $told = 0 ] || wrong "^C ends the keeper with $told: $(tail -n 2 "$work/step.8")"
+chroot "$host" sh -c "cd $home && ./radio_keeper install && ./radio_keeper install --do" > "$work/installed" 2>&1 || wrong "it can't be installed: $(tail -n 2 "$work/installed")"
+[ "$(chroot "$host" radio_keeper --version)" = "$(./radio_keeper --version)" ] || wrong 'what was installed is another version'
+[ "$bad" = 0 ] && echo "$name: the ten commands lead to a client that sees the host's clock off by $wrong_by s"
+exit "$bad"

@@ -1,0 +1,175 @@
+"""What the checks of the keeper share: a station of receivers in software, a keeper of it, and clients that ask it."""
+
+import json
+import os
+import pathlib
+import random
+import shutil
+import signal
+import socket
+import struct
+import subprocess
+import sys
+import tempfile
+import time
+
+TOP = pathlib.Path(__file__).resolve().parent.parent
+PLANS = ("dcf", "msf", "wwvb")
+EPOCH = 2208988800
+WAIT = 30.0  # for what has to come, on a busy machine, in seconds
+
+
+class Wrong(Exception):
+    """Something isn't as it should be."""
+
+
+def program() -> str:
+    """The built program: RADIO_NTPD, else the one of this checkout."""
+    return os.environ.get("RADIO_NTPD") or str(TOP / "crates/radio_ntpd/out/radio_ntpd")
+
+
+def base_now() -> float:
+    """What the host's clock is ahead of the monotonic one (s), by the shortest of some readings."""
+    readings = []
+    for _ in range(200):
+        before, clock, behind = time.monotonic(), time.time(), time.monotonic()
+        readings.append((behind - before, clock - (before + behind) / 2))
+    return min(readings)[1]
+
+
+def free_port() -> int:
+    """Ports from 32768 on may be taken by any socket that asks for none; so one below them."""
+    while True:
+        port = random.randrange(20000, 32000)
+        with socket.socket(socket.AF_INET, socket.SOCK_DGRAM) as trial:
+            try:
+                trial.bind(("0.0.0.0", port))
+                return port
+            except OSError:
+                pass
+
+
+def is_free(port: int) -> bool:
+    with socket.socket(socket.AF_INET, socket.SOCK_DGRAM) as trial:
+        try:
+            trial.bind(("0.0.0.0", port))
+            return True
+        except OSError:
+            return False
+
+
+def ask(port: int, wait: float = 1.0) -> tuple[int, int, str, float] | None:
+    """Leap indicator, stratum, reference ID's letters and root dispersion (s) of an answer; None where none comes."""
+    with socket.socket(socket.AF_INET, socket.SOCK_DGRAM) as client:
+        client.settimeout(wait)
+        client.connect(("127.0.0.1", port))
+        try:
+            client.send(bytes([0x23, 0, 6, 0xEC]) + bytes(36) + struct.pack(">Q", 1))
+            answer = client.recv(100)
+        except OSError:
+            return None
+    return answer[0] >> 6, answer[1], answer[12:16].rstrip(b"\0").decode("latin-1"), struct.unpack(">I", answer[8:12])[0] / 65536
+
+
+def parent_of(process: int) -> tuple[int, str]:
+    """The parent of a process and its state; (0, Z) where it is gone."""
+    try:
+        words = pathlib.Path(f"/proc/{process}/stat").read_text().rpartition(")")[2].split()
+    except OSError:
+        return 0, "Z"
+    return int(words[1]), words[0]
+
+
+def descendants(process: int) -> list[int]:
+    """The processes that this one has started, and those that these have."""
+    parents = {int(one.name): parent_of(int(one.name))[0] for one in pathlib.Path("/proc").glob("[0-9]*")}
+    found = [process]
+    for one in found:
+        found += [child for child, parent in parents.items() if parent == one]
+    return found[1:]
+
+
+def receiver(plan: str, base: float, history: float = 15, more: str = "") -> str:
+    """The command of a receiver in software."""
+    return f"exec {sys.executable} -B {TOP}/checks/receiver.py {plan} --base {base!r} --history {history} {more}"
+
+
+class Kept:
+    """A keeper of a station in a folder of its own. `radios` are the tables of its file, plan and keys."""
+
+    def __init__(self, radios: list[tuple[str, str]], top: str = "", station: str = "") -> None:
+        self.port = free_port()
+        self.folder = pathlib.Path(tempfile.mkdtemp(prefix="kept."))
+        rows = "".join(f'[[radio]]\nplan = "{plan}"\nlog = "x"\n' for plan, _ in radios)
+        (self.folder / "station.toml").write_text(f"{station}\n{rows}[[link]]\nport = {self.port}\n")
+        tables = "".join(f"[[radio]]\n{keys}\n" for _, keys in radios)
+        (self.folder / "keeper.toml").write_text(f'station = "station.toml"\n{top}\n{tables}')
+        self.process: subprocess.Popen | None = None
+        self.clients: list[Asking] = []
+
+    def __enter__(self) -> "Kept":
+        return self
+
+    def __exit__(self, *_: object) -> None:
+        """Nothing of it stays, whatever happened."""
+        for client in self.clients:
+            client.process.kill()
+            client.process.wait()
+        self.kill()
+        shutil.rmtree(self.folder)
+
+    def client(self, base: float, rate: float = 200) -> "Asking":
+        """A client that asks its link."""
+        self.clients.append(Asking(self.port, base, rate))
+        return self.clients[-1]
+
+    def start(self) -> None:
+        words = [str(TOP / "radio_keeper"), "run", "--config", str(self.folder / "keeper.toml")]
+        self.said_at = (self.folder / "said").stat().st_size if (self.folder / "said").exists() else 0
+        with open(self.folder / "said", "ab") as said:
+            self.process = subprocess.Popen(words, stdin=subprocess.DEVNULL, stdout=said, stderr=said, env={**os.environ, "RADIO_NTPD": program()})
+
+    def text(self) -> str:
+        """What it has said since it was started last."""
+        return (self.folder / "said").read_bytes()[self.said_at :].decode()
+
+    def waits(self, what: str, seconds: float = WAIT, times: int = 1) -> None:
+        """Waits until it has said this so many times."""
+        end = time.monotonic() + seconds
+        while self.text().count(what) < times:
+            if self.process.poll() is not None:
+                raise Wrong(f"the keeper has ended with {self.process.returncode}: {self.text()}")
+            if time.monotonic() > end:
+                raise Wrong(f"the keeper doesn't say {what!r} within {seconds} s: {self.text()}")
+            time.sleep(0.02)
+
+    def state(self) -> dict:
+        return json.loads((self.folder / "state/state.json").read_text())
+
+    def journals(self) -> list[pathlib.Path]:
+        return sorted((self.folder / "state/journals").glob("*.journal"))
+
+    def stop(self, wait: float = 60) -> int:
+        """SIGTERM, and its exit status."""
+        self.process.send_signal(signal.SIGTERM)
+        try:
+            return self.process.wait(wait)
+        except subprocess.TimeoutExpired as error:
+            raise Wrong(f"the keeper doesn't end within {wait} s: {self.text()}") from error
+
+    def kill(self) -> None:
+        if self.process and self.process.poll() is None:
+            self.process.kill()
+            self.process.wait()
+
+
+class Asking:
+    """A client beside: `report` ends it and gives what it met."""
+
+    def __init__(self, port: int, base: float, rate: float = 200, seconds: float = 100_000) -> None:
+        words = [sys.executable, "-B", TOP / "checks/kept_client.py", str(port), str(seconds), str(rate), repr(base)]
+        self.process = subprocess.Popen(words, stdout=subprocess.PIPE)
+
+    def report(self) -> dict:
+        self.process.send_signal(signal.SIGTERM)
+        return json.loads(self.process.communicate(timeout=30)[0])

@@ -1,0 +1,43 @@
+"""What the checks of the keeper see in its journals and logs, by the program's own commands."""
+
+import pathlib
+import subprocess
+
+from kept import PLANS, Kept, Wrong, program
+
+
+def due(holds: bool, what: str) -> int:
+    if not holds:
+        raise Wrong(what)
+    return 1
+
+
+def whole(journal: pathlib.Path) -> int:
+    """`migrate` takes a journal whole, by the station that the run had."""
+    text = journal.read_text()
+    looked = due(text.endswith("\nstatus 0\n"), f"{journal} ends with {text[-60:]!r}")
+    lines = [line for line in text.splitlines(True) if line.startswith("j2 ")]
+    page = [line for line in text.splitlines(True) if line.startswith("page ")]
+    bare = journal.with_suffix(".bare")
+    bare.write_text("".join(lines))
+    words = [program(), "migrate", "--station", journal.parent.parent.parent / "station.toml", "--journal", bare]
+    done = subprocess.run(words, stdout=subprocess.PIPE, timeout=20)
+    looked += due(done.stdout.decode() == "".join([*lines, *page, "status 0\n"]), f"migrate says something else of {journal}")
+    return looked + due(journal.with_suffix(".own").exists(), f"no counts stand beside {journal}")
+
+
+def as_decoded(kept: Kept) -> int:
+    """Minute by minute, the last journal has what `decode` says of the logs that are kept."""
+    looked = 0
+    lag = [round(float(line.split(" us late")[0].split()[-1])) for line in kept.text().splitlines() if " us late" in line][-1]
+    journal = kept.journals()[-1].read_text().splitlines()
+    for feed, plan in enumerate(PLANS):
+        log = next((kept.folder / "state/logs").glob(f"{feed}-{plan}.*.log"))
+        done = subprocess.run([program(), "decode", "--plan", plan, "--log", log], stdout=subprocess.PIPE, timeout=20)
+        decoded = [line.split()[1:] for line in done.stdout.decode().splitlines() if line.startswith("0 ")]
+        told = [line.split()[4:] for line in journal if line.startswith("j2 ") and line.split()[3] == str(feed)]
+        looked += due(len(told) >= 10, f"the last journal has {len(told)} minutes of {plan}")
+        # The first minute of a run is alone; the ones before it are those that the run wasn't given.
+        moved = [[str(int(at) - lag), *words] for at, *words in decoded[-len(told) + 1 :]]
+        looked += due(moved == told[1:], f"the minutes of {plan} aren't those that decode writes: {moved[:2]} .. {told[1:3]}")
+    return looked

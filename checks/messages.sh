@@ -1,0 +1,177 @@
+#!/bin/sh
+# Looks at what the program says on standard error, a row for each message of docs/STANDARD_ERROR.md, and that standard output and the
+# exit status stay what they are. The program has to be built.
+#
+#     checks/messages.sh
+set -u
+cd "$(dirname "$0")/.." || exit 1
+program=$PWD/crates/radio_ntpd/out/radio_ntpd
+work=$(mktemp -d) || exit 1
+trap 'rm -rf "$work"' EXIT
+bad=0
+messages=0
+
+wrong() {
+    echo "messages: $1" >&2
+    bad=1
+}
+
+# The arguments end with the status $1 and the last line $2, and standard error has the text $3; with an empty $3 it is empty.
+says() {
+    status=$1 last=$2 text=$3
+    shift 3
+    timeout 20 "$program" "$@" > "$work/out" 2> "$work/said" < /dev/null
+    told=$?
+    messages=$((messages + 1))
+    [ "$told:$(tail -n 1 "$work/out")" = "$status:$last" ] ||
+        wrong "'$*' ends with $told and '$(tail -n 1 "$work/out")', not with $status and '$last'"
+    if [ -z "$text" ]; then
+        [ ! -s "$work/said" ] || wrong "'$*' says '$(head -n 1 "$work/said")'"
+    else
+        grep -qF -- "$text" "$work/said" || wrong "'$*' says '$(head -n 1 "$work/said")', not '$text'"
+    fi
+}
+
+# Arguments that ask for no command: what is wrong, and the five command lines.
+usage() {
+    says 1 'status 1 usage' "$@"
+    [ "$(grep -c '^radio_ntpd [a-z]* --' "$work/said")" = 5 ] || wrong 'there are not five command lines'
+}
+
+# A station file that is refused.
+station() {
+    printf "$1" > "$work/station"
+    says 3 "status 3 station $2" "radio_ntpd: the station file ($work/station): $3" \
+        replay --station "$work/station" --script examples/exchange.script
+}
+
+# Nothing is said where nothing is wrong.
+says 0 'status 0' '' decode --plan dcf --log examples/dcf77-hour.log
+says 0 'status 0' '' drill --seed 7
+
+# The help is one screen, and the version names the kit.
+for word in --help -h help; do
+    usage 'SEED      0 to 4294967295' "$word"
+    [ "$(wc -l < "$work/said")" -le 24 ] || wrong 'the help has more than 24 lines'
+    [ "$(awk 'length > 80' "$work/said" | wc -l)" = 0 ] || wrong 'the help has lines of more than 80 characters'
+done
+usage 'SEED      0 to 4294967295'
+says 1 'status 1 usage' 'radio_ntpd 0.3.0' --version
+says 1 'status 1 usage' 'rattle-kit-' --version
+
+# The pages, the keeper and the program say the same version, and README the kit's line.
+for page in "README.md:Version 0.3.0" "CHANGELOG.md:## 0.3.0" "docs/radio_ntpd.8:version 0.3.0" 'keeper/__init__.py:VERSION = "0.3.0"'; do
+    grep -qF "${page#*:}" "${page%%:*}" || wrong "${page%%:*} does not have '${page#*:}'"
+done
+kit=$("$program" --version 2>&1 > /dev/null | sed -n 's/^proved and built with //p')
+grep -qF "$kit" README.md || wrong "README.md does not have '$kit'"
+
+# The arguments.
+usage 'radio_ntpd: unknown option --staton' serve --staton examples/station.toml
+usage 'radio_ntpd: --station has no value' serve --station
+usage 'radio_ntpd: no command' --seed 7
+usage 'radio_ntpd: unknown command server' server
+usage 'radio_ntpd: two commands, serve and decode' serve decode
+usage 'radio_ntpd: --seed is given twice' drill --seed 7 --seed=8
+usage 'radio_ntpd: drill has no option --log' drill --seed 7 --log a
+usage 'radio_ntpd: decode needs --log' decode --plan dcf
+usage 'radio_ntpd: --plan wants dcf, msf or wwvb' decode --plan DCF77 --log a
+usage 'radio_ntpd: --seed wants a whole number from 0 to 4294967295' drill --seed 07
+usage 'radio_ntpd: --limit wants a whole number from 1 to 4194304' drill --seed 7 --limit 0
+usage 'radio_ntpd: --during wants a whole number from 0 to 1000000' serve --station a --during 1000001
+usage 'radio_ntpd: an argument is not UTF-8' decode --plan dcf --log "$(printf 'no\377utf8')"
+
+# Openings.
+says 2 'status 2 open feed 0' 'radio_ntpd: cannot open feed 0 (nosuch): there is no such file' decode --plan dcf --log nosuch
+says 2 'status 2 open station' 'radio_ntpd: cannot open the station file (nosuch): there is no such file' serve --station nosuch
+printf 'leap_file = "nosuch.list"\n[[radio]]\nplan = "dcf"\nlog = "examples/dcf77-hour.log"\n' > "$work/station"
+says 2 'status 2 open feed 1' 'radio_ntpd: cannot open feed 1 (nosuch.list): there is no such file' serve --station "$work/station"
+port=$(python3 -B -c 'import socket; s = socket.socket(socket.AF_INET, socket.SOCK_DGRAM); s.bind(("127.0.0.1", 0)); print(s.getsockname()[1])')
+printf '[[link]]\nport = %s\n[[link]]\nport = %s\n' "$port" "$port" > "$work/station"
+says 2 'status 2 open link 1' "radio_ntpd: cannot open link 1 (port $port): another program or link has the port" serve --station "$work/station"
+# The rights that a process lacks are seen in a name space of its own, where there is one.
+printf '[[link]]\nport = 123\n' > "$work/station"
+if [ "$(cat /proc/sys/net/ipv4/ip_unprivileged_port_start)" -gt 123 ] && unshare -r true 2> /dev/null; then
+    unshare -r "$program" serve --station "$work/station" > "$work/out" 2> "$work/said"
+    messages=$((messages + 1))
+    grep -qF 'cannot open link 0 (port 123): a port below 1024 needs a right' "$work/said" || wrong 'port 123 is not named'
+fi
+
+# Station files.
+station 'bound =' toml 'it is not TOML'
+station 'boundd = 1\n' 'unknown boundd' 'there is no key boundd'
+station '[[radio]]\nplan = "dcf"\n' 'missing radio.0.log' 'the key radio.0.log is missing'
+station '[[radio]]\nplan = "jjy"\nlog = "a"\n' 'range radio.0.plan' 'radio.0.plan wants "dcf", "msf" or "wwvb"'
+station 'bound = 0\n' 'range bound' 'bound wants whole milliseconds, 1 to 16000'
+station 'radio = 3\n' 'range radio' 'radio wants a table [[radio]] for each radio'
+station "$(for id in 1 2 3 4 5 6 7 8 9; do printf '[[key]]\\nid = %s\\nsecret = "a"\\n' "$id"; done)" 'many key 9' 'key counts 9, and there may be 8'
+
+# Reads, lines, a full journal, an output that takes no more, files that are too long.
+says 4 'status 4 read feed 0' 'radio_ntpd: cannot read feed 0 (/): it is a folder' decode --plan dcf --log /
+printf '1000000 100000\n2.5 100000\n' > "$work/log"
+says 5 'status 5 line 0 2' "radio_ntpd: line 2 of feed 0 ($work/log) is bad: a line is START WIDTH" decode --plan dcf --log "$work/log"
+printf '3644697600 36\nodd\n' > "$work/list"
+printf 'leap_file = "%s"\n' "$work/list" > "$work/station"
+says 5 'status 5 line 0 2' "radio_ntpd: line 2 of feed 0 ($work/list) is bad: a row is" serve --station "$work/station"
+printf 'odd\n' > "$work/script"
+says 5 'status 5 script 1' "radio_ntpd: line 1 of the script ($work/script) is bad" replay --station examples/station.toml --script "$work/script"
+says 5 'status 5 journal 1' "radio_ntpd: line 1 of the journal ($work/script) is bad" migrate --station examples/station.toml --journal "$work/script"
+says 6 'status 6 full 3' 'radio_ntpd: there were more entries than a journal may have: 3' drill --seed 7 --limit 3
+if [ -e /dev/full ]; then
+    "$program" decode --plan dcf --log examples/dcf77-hour.log > /dev/full 2> "$work/said"
+    told=$?
+    messages=$((messages + 1))
+    [ "$told:$(cat "$work/said")" = '8:radio_ntpd: standard output took no more: it is closed, or its disk is full' ] ||
+        wrong "a full disk says '$(cat "$work/said")'"
+fi
+"$program" decode --plan dcf --log examples/dcf77-hour.log 2> "$work/said" >&-
+[ $? = 8 ] || wrong 'a closed output does not end with 8'
+messages=$((messages + 1))
+grep -q '^radio_ntpd: standard output took no more' "$work/said" || wrong "a closed output says '$(cat "$work/said")'"
+head -c 65537 /dev/zero | tr '\0' '\n' > "$work/long"
+says 10 'status 10 long station' "radio_ntpd: the station file ($work/long) has more than 65536 bytes" serve --station "$work/long"
+
+# Memory that runs out, at the least limit at which the program can begin at all. The sentence of status 7 is in the tests of
+# crates/standard_error: no host fails a call of a link when it is asked to.
+limit=48
+while [ "$limit" -lt 1000 ]; do
+    (ulimit -d "$limit" && exec "$program" replay --station examples/station.toml --script examples/exchange.script) \
+        > "$work/out" 2> "$work/said"
+    told=$?
+    [ "$told" = 127 ] || [ "$told" = 139 ] || break
+    limit=$((limit + 4))
+done
+messages=$((messages + 1))
+[ "$told:$(cat "$work/said")" = '9:radio_ntpd: no memory was found to say more' ] ||
+    wrong "want of memory ends with $told and says '$(cat "$work/said")'"
+
+# A log that gives no minute.
+says 0 'status 0' 'radio_ntpd: the log gave no minute' decode --plan msf --log examples/dcf77-hour.log
+says 0 'status 0' 'radio_ntpd: the log gave no minute' decode --plan dcf --log /dev/null
+
+# A closed standard error changes nothing, nor does one that takes nothing.
+for to in '&-' /dev/full; do
+    eval "\"\$program\" decode --plan dcf > \"\$work/out\" 2>$to"
+    told=$?
+    messages=$((messages + 1))
+    [ "$told:$(cat "$work/out")" = '1:status 1 usage' ] || wrong "with standard error $to it ends with $told: $(cat "$work/out")"
+done
+
+# The standard streams stay held: with a closed output, number 1 of a server is the root folder, which can't be written to.
+printf '[[link]]\nport = %s\n' "$port" > "$work/station"
+"$program" serve --station "$work/station" --during 2 >&- 2> "$work/said" < /dev/null &
+server=$!
+waited=0
+while [ ! -e "/proc/$server/fd/3" ] && [ "$waited" -lt 50 ]; do
+    sleep 0.1
+    waited=$((waited + 1))
+done
+messages=$((messages + 1))
+held=$(readlink "/proc/$server/fd/1")
+[ "$held" = / ] || wrong "number 1 of a server with a closed output is '$held'"
+wait "$server"
+told=$?
+[ "$told" = 8 ] || wrong "a server with a closed output ends with $told"
+
+echo "messages: $messages"
+exit "$bad"

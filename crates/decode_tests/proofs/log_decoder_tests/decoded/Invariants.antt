@@ -1,0 +1,10 @@
+-- What stays true in the loops of `log_decoder_tests::decoded`.
+use Rattle.std.proofs.Common.{length}
+use Rattle.log_decoder.specs.Decoding.{IsReady}
+use Rattle.decode_tests.proofs.log_decoder_tests.decoded.Given as goal
+
+abbrev pub invariant-rest : goal.invariant-rest
+invariant-rest g l = IsReady (λ b. (goal.Receiver-dyn g (b.vtable, b.value)).least_start b.value) l.decoder
+
+abbrev pub decreases-rest : goal.decreases-rest
+decreases-rest g l = length l.rest

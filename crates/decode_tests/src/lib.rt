@@ -1,0 +1,26 @@
+//! Tests of decoding, from the pulses of a log to its minutes, and of the making of logs. They stand in a crate of their own, so that none of
+//! the crates that they test is proved once more with them.
+#![tactic(auto)]
+
+#[cfg(test)]
+mod counting_tests;
+#[cfg(test)]
+mod drill_day_tests;
+#[cfg(test)]
+mod frame_tests;
+#[cfg(test)]
+mod leap_tests;
+#[cfg(test)]
+mod log_decoder_tests;
+#[cfg(test)]
+mod minute_pair_tests;
+#[cfg(test)]
+mod pulse_log_tests;
+#[cfg(test)]
+mod pulse_maker_tests;
+#[cfg(test)]
+mod radio_receiver_tests;
+#[cfg(test)]
+mod second_marks_tests;
+#[cfg(test)]
+mod shared;

@@ -1,0 +1,170 @@
+//! Logs of DCF77 in which every expected value is from outside: the frames by PTB's table of 1 January 2026, 13:00 and 13:01,
+//! whose seconds since 1900 are 3976257600 and 3976257660.
+ghost use Rattle.std.specs.Prelude.{◌≡◌, ◌≤◌};
+ghost use Rattle.log_decoder.specs.Decoding.{IsReady};
+
+use crate::shared::{NOON, NOON_1};
+use journal_entry::{ENTRY_ROOM, Entry, write_entry};
+use log_decoder::{LogDecoder, Step};
+use pulse_log::BadLine;
+use radio_receiver::{BoxedReceiver, DcfReceiver, Receiver};
+use std::alloc::Global;
+use std::test::Fail;
+
+// The lines of a frame that starts at this microsecond.
+fn add_frame(text: &mut String, ones: &[usize], start: u64) -> Result<(), Fail> {
+    for place in 0..59usize {
+        let at = start.saturating_add(1_000_000u64.saturating_mul(place as u64));
+        let width = if ones.contains(&place) {
+            200_000
+        } else {
+            100_000
+        };
+        writeln!(text, "{at} {width}")?;
+    }
+    Ok(())
+}
+
+fn two_frames(alloc: Global) -> Result<String, Fail> {
+    let mut text = String::from_str(alloc, "0 100000\n")?;
+    add_frame(&mut text, &NOON, 2_000_000)?;
+    add_frame(&mut text, &NOON_1, 62_000_000)?;
+    text.push_str("122000000 100000\n")?;
+    Ok(text)
+}
+
+// Adds the line of an entry to a text.
+fn add_line(text: &mut Vec<u8>, entry: &Entry) -> Result<(), Fail> {
+    let mut line = [0; ENTRY_ROOM];
+    let length = write_entry(entry, &mut line);
+    text.extend_from_slice(&line[..length])?;
+    text.push(b'\n')?;
+    Ok(())
+}
+
+// The lines of the entries of a log, and its bad line.
+fn decoded(
+    decoder: LogDecoder<BoxedReceiver>,
+    bytes: &[u8],
+    text: &mut Vec<u8>,
+) -> Result<Result<(), BadLine>, Fail>
+    requires { IsReady (λ b. least_start b) decoder }
+{
+    let mut decoder = decoder;
+    let mut rest = bytes;
+    'rest: while !rest.is_empty() {
+        let Step { count, found } = decoder.take(rest);
+        match found {
+            Ok(Some(entry)) => add_line(text, &entry)?,
+            Ok(None) => {}
+            Err(bad) => return Ok(Err(bad)),
+        }
+        rest = rest.split_at(count).1;
+    }
+    Ok(decoder.finish())
+}
+
+// A receiver that has heard nothing, with a path delay.
+fn fitted(receiver: BoxedReceiver, delay_us: u32) -> BoxedReceiver
+    requires blank { least_start receiver ≡ 0 }
+    requires delay { delay_us ≤ 100000 }
+    ensures { least_start result ≡ 0 }
+{
+    let mut receiver = receiver;
+    receiver.fit(delay_us);
+    receiver
+}
+
+// The text of a log of DCF77 for a feed, with a path delay, and its bad line.
+fn text_of(
+    alloc: Global,
+    feed: u32,
+    delay_us: u32,
+    bytes: &[u8],
+) -> Result<(Vec<u8>, Result<(), BadLine>), Fail>
+    requires { delay_us ≤ 100000 }
+{
+    let receiver = fitted(Box::new(alloc, DcfReceiver::new())?, delay_us);
+    let mut text = Vec::new(alloc);
+    let end = decoded(LogDecoder::new(feed, receiver), bytes, &mut text)?;
+    Ok((text, end))
+}
+
+#[test]
+fn each_minute_is_an_entry_of_the_feed_less_the_delay(rt: HostRuntime) -> Result<(), Fail> {
+    let log = two_frames(rt.alloc())?;
+    let (text, end) = text_of(rt.alloc(), 3, 2_500, log.as_bytes())?;
+    assert_eq!(rt; end, Ok(()));
+    assert_eq!(rt;
+        text.as_slice(),
+        b"3 61997500 lone 3976257600\n3 121997500 verdict 3976257660 0\n".as_slice()
+    );
+    Ok(())
+}
+
+#[test]
+fn a_bad_line_ends_the_log(rt: HostRuntime) -> Result<(), Fail> {
+    let table = [
+        ("0 100000\n0 100000\n5 100000\n", Err(BadLine { line: 2 })),
+        ("0 100000\n7 100000", Err(BadLine { line: 2 })),
+        ("0 100000\n7 100000\n", Ok(())),
+        ("", Ok(())),
+    ];
+    for (log, want) in table {
+        let (text, end) = text_of(rt.alloc(), 0, 0, log.as_bytes())?;
+        assert_eq!(rt; (text.len(), end), (0, want));
+    }
+    Ok(())
+}
+
+// The lines of the entries of feed 3, by a receiver whose type is known, and the bad line.
+fn decoded_direct<R: Receiver>(
+    receiver: Box<R>,
+    bytes: &[u8],
+    text: &mut Vec<u8>,
+) -> Result<Result<(), BadLine>, Fail>
+    requires { R.least_start receiver.value ≡ 0 }
+{
+    let mut decoder = LogDecoder::direct(3, Box::into_inner(receiver));
+    let mut rest = bytes;
+    'rest: while !rest.is_empty() {
+        let Step { count, found } = decoder.take_direct(rest);
+        match found {
+            Ok(Some(entry)) => add_line(text, &entry)?,
+            Ok(None) => {}
+            Err(bad) => return Ok(Err(bad)),
+        }
+        rest = rest.split_at(count).1;
+    }
+    Ok(decoder.finish_direct())
+}
+
+#[test]
+fn a_receiver_of_a_known_type_gives_the_same_entries(rt: HostRuntime) -> Result<(), Fail> {
+    let log = two_frames(rt.alloc())?;
+    let mut text = Vec::new(rt.alloc());
+    let receiver = Box::new(rt.alloc(), DcfReceiver::new())?;
+    assert_eq!(rt;
+        decoded_direct(receiver, log.as_bytes(), &mut text)?,
+        Ok(())
+    );
+    assert_eq!(rt;
+        text.as_slice(),
+        b"3 62000000 lone 3976257600\n3 122000000 verdict 3976257660 0\n".as_slice()
+    );
+    for (log, want) in [
+        ("0 100000\n0 100000\n5 100000\n", Err(BadLine { line: 2 })),
+        ("0 100000\n7 100000", Err(BadLine { line: 2 })),
+        ("0 100000\n7 100000\n", Ok(())),
+    ] {
+        let mut text = Vec::new(rt.alloc());
+        let receiver = Box::new(rt.alloc(), DcfReceiver::new())?;
+        assert_eq!(rt;
+            decoded_direct(receiver, log.as_bytes(), &mut text)?,
+            want,
+            "in {log}"
+        );
+        assert!(rt; text.is_empty());
+    }
+    Ok(())
+}

@@ -1,0 +1,247 @@
+//! Which receivers of a rack are used: of each plan the first ones, in the order of the radios, and for each swap the next one.
+ghost use Rattle.std.specs.Prelude.{◌≡◌, IfOk, false};
+ghost use Rattle.feed_link.specs.MemoryOutside.{is_gate_out};
+ghost use Rattle.radio_receiver.specs.Histories.{History};
+
+use crate::runs::{outside_of, same};
+use crate::test_station::{file, one};
+use feed_link::{FakeOpen, Gate, MemoryOutside, MemorySink, OpenGate};
+use radio_engine::{Status, run_station};
+use radio_receiver::{DcfReceiver, MsfReceiver, Receiver, WwvbReceiver};
+use receiver_rack::put_in_rack;
+use script_player::BoxedReceiver;
+use std::alloc::{AllocError, Global};
+use std::sync::atomic::{AtomicU64, Ordering};
+use std::sync::{Arc, Wait};
+use std::test::Fail;
+use std::thread::Threads;
+use tick_units::{Heard, Plan, Reduction};
+
+const REPLAY: [&str; 5] = ["replay", "--station", "s", "--script", "p"];
+
+// What the four receivers of a plan add for each reduction that they hear: a count of four hexadecimal digits has room for each of them.
+const STEPS: [u64; 4] = [1, 0x1_0000, 0x1_0000_0000, 0x1_0000_0000_0000];
+
+// A receiver round a receiver, which adds its step to a count that others share wherever it hears.
+#[derive(Drop)]
+struct NotingReceiver<T> {
+    inner: T,
+    step: u64,
+    heard: Arc<AtomicU64, Global>,
+}
+
+impl<T: Receiver> NotingReceiver<T> {
+    // A receiver round this one, which stands for what that one stands for.
+    fn new(inner: T, step: u64, heard: Arc<AtomicU64, Global>) -> NotingReceiver<T>
+        ensures stands { (h : History) → T.stands_for inner h → ⟦<NotingReceiver<T> as Receiver>⟧.stands_for result h }
+        ensures least { ⟦<NotingReceiver<T> as Receiver>⟧.least_start result ≡ T.least_start inner }
+    {
+        NotingReceiver { inner, step, heard }
+    }
+}
+
+impl<T: Receiver> Receiver for NotingReceiver<T> {
+    ghost stands_for = { λ noting h. T.stands_for noting.inner h };
+
+    ghost least_start = { λ noting. T.least_start noting.inner };
+
+    fn plan(&self) -> Plan {
+        self.inner.plan()
+    }
+
+    fn fit(&mut self, delay_us: u32) {
+        self.inner.fit(delay_us);
+    }
+
+    fn hear(&mut self, reduction: Reduction) -> Option<Heard> {
+        self.heard.fetch_add(self.step, Ordering::SeqCst);
+        self.inner.hear(reduction)
+    }
+
+    fn blank(&self) -> bool {
+        self.inner.blank()
+    }
+}
+
+// How often the four receivers of each plan have heard.
+#[derive(Drop)]
+struct Counts {
+    dcf: Arc<AtomicU64, Global>,
+    msf: Arc<AtomicU64, Global>,
+    wwvb: Arc<AtomicU64, Global>,
+}
+
+// Runs the words with four receivers of each plan, each of which notes where it hears.
+fn run_noting<R: Threads + Wait + Sync, G: Gate + Drop>(
+    rt: &R,
+    alloc: Global,
+    words: &[&str],
+    heard: &Counts,
+    outside: &mut MemoryOutside<G>,
+    out: &mut MemorySink,
+) -> Result<Status, AllocError>
+    requires { is_gate_out outside.old ≡ false }
+{
+    let mut rack: Vec<BoxedReceiver> = Vec::new(alloc);
+    let share = Arc::try_clone(&heard.dcf)?;
+    put_in_rack(
+        &mut rack,
+        Box::new(
+            alloc,
+            NotingReceiver::new(DcfReceiver::new(), STEPS[0], share),
+        )?,
+        Plan::Dcf,
+    )?;
+    let share = Arc::try_clone(&heard.msf)?;
+    put_in_rack(
+        &mut rack,
+        Box::new(
+            alloc,
+            NotingReceiver::new(MsfReceiver::new(), STEPS[0], share),
+        )?,
+        Plan::Msf,
+    )?;
+    let share = Arc::try_clone(&heard.wwvb)?;
+    put_in_rack(
+        &mut rack,
+        Box::new(
+            alloc,
+            NotingReceiver::new(WwvbReceiver::new(), STEPS[0], share),
+        )?,
+        Plan::Wwvb,
+    )?;
+    let share = Arc::try_clone(&heard.dcf)?;
+    put_in_rack(
+        &mut rack,
+        Box::new(
+            alloc,
+            NotingReceiver::new(DcfReceiver::new(), STEPS[1], share),
+        )?,
+        Plan::Dcf,
+    )?;
+    let share = Arc::try_clone(&heard.msf)?;
+    put_in_rack(
+        &mut rack,
+        Box::new(
+            alloc,
+            NotingReceiver::new(MsfReceiver::new(), STEPS[1], share),
+        )?,
+        Plan::Msf,
+    )?;
+    let share = Arc::try_clone(&heard.wwvb)?;
+    put_in_rack(
+        &mut rack,
+        Box::new(
+            alloc,
+            NotingReceiver::new(WwvbReceiver::new(), STEPS[1], share),
+        )?,
+        Plan::Wwvb,
+    )?;
+    let share = Arc::try_clone(&heard.dcf)?;
+    put_in_rack(
+        &mut rack,
+        Box::new(
+            alloc,
+            NotingReceiver::new(DcfReceiver::new(), STEPS[2], share),
+        )?,
+        Plan::Dcf,
+    )?;
+    let share = Arc::try_clone(&heard.msf)?;
+    put_in_rack(
+        &mut rack,
+        Box::new(
+            alloc,
+            NotingReceiver::new(MsfReceiver::new(), STEPS[2], share),
+        )?,
+        Plan::Msf,
+    )?;
+    let share = Arc::try_clone(&heard.wwvb)?;
+    put_in_rack(
+        &mut rack,
+        Box::new(
+            alloc,
+            NotingReceiver::new(WwvbReceiver::new(), STEPS[2], share),
+        )?,
+        Plan::Wwvb,
+    )?;
+    let share = Arc::try_clone(&heard.dcf)?;
+    put_in_rack(
+        &mut rack,
+        Box::new(
+            alloc,
+            NotingReceiver::new(DcfReceiver::new(), STEPS[3], share),
+        )?,
+        Plan::Dcf,
+    )?;
+    let share = Arc::try_clone(&heard.msf)?;
+    put_in_rack(
+        &mut rack,
+        Box::new(
+            alloc,
+            NotingReceiver::new(MsfReceiver::new(), STEPS[3], share),
+        )?,
+        Plan::Msf,
+    )?;
+    let share = Arc::try_clone(&heard.wwvb)?;
+    put_in_rack(
+        &mut rack,
+        Box::new(
+            alloc,
+            NotingReceiver::new(WwvbReceiver::new(), STEPS[3], share),
+        )?,
+        Plan::Wwvb,
+    )?;
+    Ok(run_station(rt, alloc, words, rack, outside, out))
+}
+
+// Radio 0 is the first of DCF77, radio 1 that of MSF, radio 2 the second of DCF77.
+const RADIOS: &str =
+    "[[radio]]\nplan = \"dcf\"\nlog = \"a\"\n[[radio]]\nplan = \"msf\"\nlog = \"b\"\n\
+[[radio]]\nplan = \"dcf\"\nlog = \"c\"\n";
+
+// A number of pulses of a radio, a second apart.
+fn pulses(script: &mut String, radio: u32, from: u64, count: u64) -> Result<(), AllocError> {
+    for number in 0..count {
+        let at = from.saturating_add(number).saturating_mul(1_000_000);
+        writeln!(script, "pulse {radio} {at} 100000")?;
+    }
+    Ok(())
+}
+
+// Each radio hears some pulses, then radio 2 is swapped and hears some more, then radio 0, then radio 1.
+fn swapped(alloc: Global) -> Result<MemoryOutside<OpenGate>, FakeOpen>
+    ensures { IfOk result (λ outside. is_gate_out outside ≡ false) }
+{
+    let mut script = String::new(alloc);
+    pulses(&mut script, 0, 1, 3)?;
+    pulses(&mut script, 1, 1, 1)?;
+    pulses(&mut script, 2, 1, 2)?;
+    script.push_str("swap 2\n")?;
+    pulses(&mut script, 2, 10, 4)?;
+    script.push_str("swap 0\n")?;
+    pulses(&mut script, 0, 10, 5)?;
+    script.push_str("swap 1\n")?;
+    pulses(&mut script, 1, 10, 6)?;
+    let mut files = one(alloc, file(alloc, "s", RADIOS, 0)?)?;
+    files.push(file(alloc, "p", script.as_str(), 0)?)?;
+    outside_of(alloc, files, 0)
+}
+
+// The third and the fourth of DCF77 come by the swaps, the first one asked for first; of MSF two are left, and of WWVB all.
+#[test]
+fn receivers_are_used_in_the_order_of_the_rack(rt: HostRuntime) -> Result<(), Fail> {
+    let alloc = rt.alloc();
+    let heard = Counts {
+        dcf: Arc::new(alloc, AtomicU64::new(0))?,
+        msf: Arc::new(alloc, AtomicU64::new(0))?,
+        wwvb: Arc::new(alloc, AtomicU64::new(0))?,
+    };
+    let mut outside = swapped(alloc)?;
+    let mut out = MemorySink::new(alloc, Vec::new(alloc));
+    let status = run_noting(&rt, alloc, &REPLAY, &heard, &mut outside, &mut out)?;
+    same(&rt, status, Status::Done);
+    same(&rt, heard.dcf.load(Ordering::SeqCst), 0x0005_0004_0002_0003);
+    same(&rt, heard.msf.load(Ordering::SeqCst), 0x0006_0001);
+    same(&rt, heard.wwvb.load(Ordering::SeqCst), 0);
+    Ok(())
+}

@@ -1,7 +1,0 @@
--- What the search leaves open of `link_tests::a_link_that_is_out_does_not_stand_in_its_place`.
-use Rattle.std.proofs.Common.{refl}
-use Rattle.feed_link.proofs.OpeningLaws.{out_after}
-use Rattle.feed_link.proofs.link_tests.a_link_that_is_out_does_not_stand_in_its_place.Goals as goal
-
-pub give_back_link-requires : goal.give_back_link-requires
-give_back_link-requires g c = out_after _ _ _ _ _ _ c.in_ok-net.ensures.opened c.in_ok-net.ensures.number refl

@@ -1,6 +1,0 @@
--- What the search leaves open of `link_tests::visit`.
-use Rattle.feed_link.proofs.OpeningLaws.{out_after}
-use Rattle.feed_link.proofs.link_tests.visit.Goals as goal
-
-pub give_back_link-requires : goal.give_back_link-requires
-give_back_link-requires c = out_after _ _ _ _ _ _ c.in_ok-net.ensures.opened c.in_ok-net.ensures.number c.hear-heard.ensures.number

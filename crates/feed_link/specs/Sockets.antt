@@ -1,0 +1,102 @@
+-- What a socket of datagrams gives and takes, and what a link makes of it. The rules of the calls are those of Rust's `recv_from`
+-- and `send_to`: https://doc.rust-lang.org/std/net/struct.UdpSocket.html
+use Rattle.std.specs.Prelude.{◌≡◌, ◌==◌, ◌<◌, ◌⊎◌, ℕ, max, min, ◌+◌, ◌-◌, ◌^◌, Bool, true, false, IsTrue, Option, None, Some, is_none, MatchOption, Result, MatchResult, List, [], ◌∷◌, ◌++◌, length, take, if◌then◌else◌}
+use Rattle.std.specs.List.{list_all}
+use Rattle.std.specs.Net.Addr.{ipv4_bits, IsIpv4OfBits}
+use Rattle.std.specs.Net.Socket.{v4_ip, v4_port, socket_ip, socket_port}
+use Rattle.std.specs.declared.net.ipv4_addr.Ipv4Addr.{Ipv4Addr}
+use Rattle.std.specs.declared.net.ip_addr.IpAddr.TheVariants as Ip
+use Rattle.std.specs.declared.net.socket_addr.SocketAddr.{SocketAddr}
+use Rattle.std.specs.declared.net.socket_addr.SocketAddr.TheVariants.{V4, V6}
+use Rattle.feed_link.specs.Told.{Adds}
+use Rattle.feed_link.specs.declared.outside.Address.{Address}
+use Rattle.feed_link.specs.declared.link.Hearing.{Hearing}
+use Rattle.feed_link.specs.declared.link.Hearing.TheVariants.{Datagram, Quiet, End}
+
+-- what one call of a socket did: it gave a datagram with its sender, or none; it took these bytes for a receiver, or none
+pub data Passed : Type 0 where
+  Gave : SocketAddr → List ℕ → Passed
+  GaveNone : Passed
+  Took : SocketAddr → List ℕ → Passed
+  TookNone : SocketAddr → Passed
+
+-- a call to receive
+abbrev pub Receives : {E : Type 0} → Option (List Passed) → Option (List Passed) → Result (ℕ × SocketAddr) E → List ℕ → Type 0
+Receives before now result piece = MatchResult result
+    (λ r. Adds before now (Gave r.1 (take r.0 piece) ∷ []))
+    (λ _. Adds before now (GaveNone ∷ []))
+
+-- a call to transmit
+abbrev pub Transmits : {E : Type 0} → Option (List Passed) → Option (List Passed) → Result ℕ E → SocketAddr → List ℕ → Type 0
+Transmits before now result to bytes = MatchResult result
+    (λ n. Adds before now (Took to (take n bytes) ∷ []))
+    (λ _. Adds before now (TookNone to ∷ []))
+
+-- the sender, where it can be answered: it has an IPv4 address and a port
+abbrev pub address_of : SocketAddr → Option Address
+address_of (V4 from) = if v4_port from == 0 then None else Some (record { ip = ipv4_bits (v4_ip from); port = v4_port from })
+address_of (V6 from) = None
+
+-- the socket's address of a receiver
+pub record IsFor (to : Address) (at : SocketAddr) : Type 0 where
+  pub ip : Ipv4Addr
+  pub bits : IsIpv4OfBits ip to.ip
+  pub host : socket_ip at ≡ Ip.V4 ip
+  pub port : socket_port at ≡ to.port
+
+-- a call that gave nothing that can be answered
+abbrev pub is_passed_over : Passed → Bool
+is_passed_over (Gave from bytes) = is_none (address_of from)
+is_passed_over GaveNone = true
+is_passed_over (Took to bytes) = false
+is_passed_over (TookNone to) = false
+
+-- a call that took nothing
+abbrev pub is_in_vain : Passed → Bool
+is_in_vain (Gave from bytes) = false
+is_in_vain GaveNone = false
+is_in_vain (Took to bytes) = false
+is_in_vain (TookNone to) = true
+
+-- a number of calls, each of which is so
+pub record Repeats (test : Passed → Bool) (before now : Option (List Passed)) : Type 0 where
+  pub calls : List Passed
+  pub all : IsTrue (list_all test calls)
+  pub added : Adds before now calls
+
+-- after calls that are passed over, a datagram that can be answered: its sender and how many of the piece's bytes it has
+pub record Gives (before now : Option (List Passed)) (from : Address) (count : ℕ) (piece : List ℕ) : Type 0 where
+  pub between : Option (List Passed)
+  pub over : Repeats is_passed_over before between
+  pub at : SocketAddr
+  pub sender : address_of at ≡ Some from
+  pub last : Adds between now (Gave at (take count piece) ∷ [])
+
+-- after calls that are passed over, nothing for a while
+pub record GivesNone (before now : Option (List Passed)) : Type 0 where
+  pub between : Option (List Passed)
+  pub over : Repeats is_passed_over before between
+  pub last : Adds between now (GaveNone ∷ [])
+
+-- what a link hears is what its socket gave; a link of a socket never ends
+abbrev pub GivesHearing : Option (List Passed) → Option (List Passed) → Hearing → List ℕ → Type 0
+GivesHearing before now (Datagram arrival) piece = Gives before now arrival.from arrival.length piece
+GivesHearing before now Quiet piece = GivesNone before now
+GivesHearing before now End piece = ⊥
+
+-- What a link sends its socket took whole, or it took nothing, so that the datagram is lost, as any may be on its way. Where the
+-- sending failed, the socket took nothing, or less than the whole.
+pub record Posts {T E : Type 0} (before now : Option (List Passed)) (result : Result T E) (to : Address) (bytes : List ℕ) : Type 0 where
+  pub at : SocketAddr
+  pub for : IsFor to at
+  pub between : Option (List Passed)
+  pub vain : Repeats is_in_vain before between
+  pub last : MatchResult result
+      (λ _. Adds between now (Took at bytes ∷ []) ⊎ Adds between now (TookNone at ∷ []))
+      (λ _. Adds between now [] ⊎ ((count : ℕ) × (count < length bytes) × Adds between now (Took at (take count bytes) ∷ [])))
+
+-- The moment at which a counter stands that was at `start` this number of microseconds ago, where it can be read. No moment is
+-- below the latest one, and none is above 2^50 - 1.
+abbrev pub moment_of : ℕ → ℕ → Option ℕ → ℕ
+moment_of start latest None = latest
+moment_of start latest (Some counted) = max latest (min (start + counted) (2 ^ 50 - 1))

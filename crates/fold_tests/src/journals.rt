@@ -1,0 +1,196 @@
+//! Journals and settings of tests.
+ghost use Rattle.std.specs.Prelude.{◌≡◌, ◌≤◌, ◌<◌, ◌^◌, true, length};
+ghost use Rattle.journal_entry.specs.Lawful.{IsLawfulKind, IsLawfulVerdict, IsLawfulWhat, IsTold};
+ghost use Rattle.tick_units.specs.Samples as samples;
+ghost use Rattle.system_fold.specs.Settings.{AreLawful, IsJournal, IsKept};
+
+use clock_page::Page;
+use feed_link::Address;
+use journal_entry::{ENTRY_ROOM, Entry, What, read_entry};
+use std::test::Fail;
+use system_fold::{Settings, SourceKind, page_by_steps, page_from_scratch, page_text};
+use tick_units::{END_OF_TOLD, Kind, Plan, Sample, Span, is_told};
+
+pub const DCF: SourceKind = SourceKind::Radio(Plan::Dcf);
+
+pub const MSF: SourceKind = SourceKind::Radio(Plan::Msf);
+
+pub const WWVB: SourceKind = SourceKind::Radio(Plan::Wwvb);
+
+pub const SERVER: SourceKind = SourceKind::Server(Address {
+    ip: 0x7f00_0001,
+    port: 123,
+});
+
+pub const LEAP: SourceKind = SourceKind::Leap;
+
+fn may_be_told(second: u64) -> bool
+    ensures { result ≡ true → IsTold second }
+{
+    is_told(second)
+}
+
+fn is_lawful_verdict(second: u64, leap_at: u64) -> bool
+    ensures { result ≡ true → IsLawfulVerdict second leap_at }
+{
+    if leap_at == 0 {
+        return may_be_told(second);
+    }
+    if !may_be_told(leap_at) {
+        return false;
+    }
+    may_be_told(second)
+}
+
+fn is_lawful_kind(kind: &Kind) -> bool
+    ensures { result ≡ true → IsLawfulKind kind.now }
+{
+    match kind {
+        Kind::Verdict { second, leap_at } => is_lawful_verdict(*second, *leap_at),
+        _ => true,
+    }
+}
+
+fn is_length(span: Span) -> bool
+    ensures { result ≡ true → samples.IsLength span }
+{
+    let units = span.get();
+    0 <= units && units < 1 << 66
+}
+
+fn is_lawful_sample(sample: &Sample) -> bool
+    ensures { result ≡ true → samples.IsLawful sample.now }
+{
+    if !is_length(sample.offset) {
+        return false;
+    }
+    if !is_length(sample.delay) {
+        return false;
+    }
+    is_length(sample.dispersion)
+}
+
+fn is_lawful_what(what: &What) -> bool
+    ensures { result ≡ true → IsLawfulWhat what.now }
+{
+    match what {
+        What::Heard(kind) => is_lawful_kind(kind),
+        What::Sample(sample) => is_lawful_sample(sample),
+        What::Declined(_) => true,
+        What::Notice(leap_at) => *leap_at < END_OF_TOLD,
+    }
+}
+
+fn is_kept(feeds: u32, e: &Entry) -> bool
+    ensures lawful { result ≡ true → IsKept feeds e.now }
+{
+    let _moment = e.at.get();
+    if e.feed >= feeds {
+        return false;
+    }
+    is_lawful_what(&e.what)
+}
+
+fn is_journal(settings: &Settings, journal: &[Entry]) -> bool
+    ensures { result ≡ true → IsJournal settings.now journal.now }
+{
+    for e in journal {
+        if !is_kept(settings.count(), e) {
+            return false;
+        }
+    }
+    true
+}
+
+// Whether the bound is one of so many milliseconds.
+fn is_bound(settings: &Settings, milliseconds: u64) -> bool
+    ensures { result ≡ true → AreLawful settings.now }
+{
+    if milliseconds < 1 || milliseconds > 16_000 {
+        return false;
+    }
+    Settings::new(milliseconds as u32).bound() == settings.bound()
+}
+
+fn are_lawful(settings: &Settings) -> bool
+    ensures { result ≡ true → AreLawful settings.now }
+{
+    is_bound(
+        settings,
+        settings.bound().saturating_mul(1000).div_ceil(1 << 32),
+    )
+}
+
+/// The page of a journal, where it is one of lawful entries: by steps and from scratch, which come to the same.
+pub fn page_after(settings: &Settings, journal: &[Entry]) -> Result<Page, Fail> {
+    if !are_lawful(settings) {
+        return Err("no lawful settings")?;
+    }
+    if !is_journal(settings, journal) {
+        return Err("no lawful journal")?;
+    }
+    if journal.len() > 1 << 22 {
+        return Err("too long")?;
+    }
+    let page = page_by_steps(settings, journal);
+    if page_from_scratch(settings, journal) != page {
+        return Err("the two pages differ")?;
+    }
+    Ok(page)
+}
+
+/// The line of a page.
+pub fn line_of(rt: &HostRuntime, page: &Page) -> Result<String, Fail> {
+    let mut out = [0; ENTRY_ROOM];
+    let length = page_text(page, &mut out);
+    Ok(String::from_utf8(out[..length].to_vec(rt.alloc())?)?)
+}
+
+/// Settings with feeds of these kinds.
+pub fn settings_of(bound_ms: u32, kinds: &[SourceKind]) -> Result<Settings, Fail>
+    requires least { 1 ≤ bound_ms }
+    requires most { bound_ms ≤ 16000 }
+{
+    let mut settings = Settings::new(bound_ms);
+    for kind in kinds {
+        if settings.count() >= 16 {
+            return Err("too many feeds")?;
+        }
+        settings.add(*kind);
+    }
+    Ok(settings)
+}
+
+/// The entries of these texts.
+pub fn journal_of(rt: &HostRuntime, texts: &[&str]) -> Result<Vec<Entry>, Fail> {
+    let mut journal = Vec::new(rt.alloc());
+    for text in texts {
+        journal.push(read_entry(text.as_bytes()).ok_or("no entry")?)?;
+    }
+    Ok(journal)
+}
+
+/// The line of the page of the entries of these texts.
+pub fn text_after(rt: &HostRuntime, settings: &Settings, texts: &[&str]) -> Result<String, Fail> {
+    let journal = journal_of(rt, texts)?;
+    let page = page_after(settings, &journal)?;
+    line_of(rt, &page)
+}
+
+/// A journal, and the line of its page, which was worked out from the rules by another program.
+pub struct Odd<'a> {
+    pub why: &'a str,
+    pub kinds: &'a [SourceKind],
+    pub entries: &'a [&'a str],
+    pub line: &'a str,
+}
+
+/// The page of an odd journal has its line.
+pub fn is_the_page(rt: &HostRuntime, odd: &Odd<'_>) -> Result<(), Fail> {
+    let settings = settings_of(1000, odd.kinds)?;
+    let text = text_after(rt, &settings, odd.entries)?;
+    if text.as_str() != odd.line {
+        return Err(odd.why)?;
+    }
+    Ok(())
+}

@@ -1,0 +1,14 @@
+//! Tests of units, and of links and outsides: the fakes in memory, files and sockets. They use public items alone. They stand in a crate of
+//! their own, so that the crates that nearly all others stand on are not proved once more with them.
+#![tactic(auto)]
+
+#[cfg(test)]
+mod memory_tests;
+#[cfg(test)]
+mod planned_tests;
+#[cfg(test)]
+mod real_tests;
+#[cfg(test)]
+mod udp_tests;
+#[cfg(test)]
+mod unit_tests;

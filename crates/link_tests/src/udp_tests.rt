@@ -1,0 +1,289 @@
+// Sockets as links: over a socket that is interrupted, silent or fails, and over the host's own.
+ghost use Rattle.std.specs.Prelude.{◌≡◌};
+
+use crate::memory_tests::same;
+use feed_link::{
+    Address, Counter, DatagramSocket, Failed, Hearing, HostOutside, Link, Outside, Refusal, UdpLink,
+};
+use std::io::{self, ErrorKind};
+use std::net::{IpAddr, Ipv4Addr, SocketAddr, UdpSocket};
+use std::test::Fail;
+use std::thread;
+use std::time::Duration;
+use tick_units::Local;
+
+fn moment(microseconds: u32) -> Local {
+    Local::new(u64::from(microseconds)).unwrap()
+}
+
+fn loopback(port: u16) -> SocketAddr {
+    SocketAddr::new(IpAddr::V4(Ipv4Addr::LOCALHOST), port)
+}
+
+// A socket whose first calls fail so, as many as are stated; then it gives a datagram from a port, and takes all that is sent.
+#[derive(Drop)]
+struct Shaky {
+    kind: ErrorKind,
+    calls: u8,
+    port: u16,
+    /// How many bytes fewer it takes than are given.
+    short: usize,
+}
+
+impl Shaky {
+    fn fails(&mut self) -> bool {
+        if self.calls == 0 {
+            return false;
+        }
+        self.calls -= 1;
+        true
+    }
+}
+
+impl DatagramSocket for Shaky {
+    fn receive(&mut self, piece: &mut [u8]) -> io::Result<(usize, SocketAddr)> {
+        if self.fails() {
+            return Err(io::Error::from(self.kind));
+        }
+        let port = self.port;
+        self.port = 7;
+        Ok((piece.len().min(3), loopback(port)))
+    }
+
+    fn transmit(&mut self, _: SocketAddr, bytes: &[u8]) -> io::Result<usize> {
+        if self.fails() {
+            return Err(io::Error::from(self.kind));
+        }
+        Ok(bytes.len().saturating_sub(self.short))
+    }
+}
+
+// What a link hears over a socket whose first calls fail: the sender's port, or 0 where nothing came.
+fn heard(rt: &HostRuntime, socket: Shaky) -> Result<u16, Failed> {
+    let mut link = UdpLink::new(socket, Counter::new(rt), moment(5));
+    let mut piece = [0u8; 1024];
+    match link.hear(&mut piece)? {
+        Hearing::Datagram(arrival) => Ok(arrival.from.port),
+        _ => Ok(0),
+    }
+}
+
+fn sent(rt: &HostRuntime, socket: Shaky) -> Result<(), Failed> {
+    let mut link = UdpLink::new(socket, Counter::new(rt), moment(5));
+    let to = Address {
+        ip: 0x7f00_0001,
+        port: 9,
+    };
+    link.send(to, b"a")
+}
+
+fn failing(kind: ErrorKind, calls: u8, port: u16) -> Shaky {
+    Shaky {
+        kind,
+        calls,
+        port,
+        short: 0,
+    }
+}
+
+#[test]
+fn silence_is_quiet_and_an_error_of_the_socket_is_a_fault(rt: HostRuntime) {
+    let table = [
+        (ErrorKind::WouldBlock, Ok(0), Err(Failed)),
+        (ErrorKind::TimedOut, Ok(0), Err(Failed)),
+        (ErrorKind::NotConnected, Err(Failed), Err(Failed)),
+        (ErrorKind::OutOfMemory, Err(Failed), Err(Failed)),
+    ];
+    for (kind, hears, sends) in table {
+        same(&rt, heard(&rt, failing(kind, 1, 123)), hears);
+        same(&rt, sent(&rt, failing(kind, 1, 123)), sends);
+    }
+}
+
+#[test]
+fn a_call_is_made_again_that_was_interrupted_or_told_of_another_datagram(rt: HostRuntime) {
+    let table = [
+        ErrorKind::Interrupted,
+        ErrorKind::ConnectionRefused,
+        ErrorKind::ConnectionReset,
+        ErrorKind::HostUnreachable,
+        ErrorKind::NetworkUnreachable,
+    ];
+    for kind in table {
+        same(&rt, heard(&rt, failing(kind, 3, 123)), Ok(123));
+        same(&rt, sent(&rt, failing(kind, 3, 123)), Ok(()));
+    }
+}
+
+#[test]
+fn a_datagram_without_a_way_is_lost_and_no_fault(rt: HostRuntime) {
+    let table = [
+        ErrorKind::NetworkDown,
+        ErrorKind::PermissionDenied,
+        ErrorKind::InvalidInput,
+    ];
+    for kind in table {
+        same(&rt, sent(&rt, failing(kind, 1, 123)), Ok(()));
+        same(&rt, heard(&rt, failing(kind, 1, 123)), Err(Failed));
+    }
+}
+
+#[test]
+fn a_sender_without_a_port_is_not_heard(rt: HostRuntime) {
+    same(&rt, heard(&rt, failing(ErrorKind::Other, 0, 0)), Ok(7));
+    same(&rt, heard(&rt, failing(ErrorKind::Other, 0, 9)), Ok(9));
+}
+
+#[test]
+fn a_datagram_that_is_taken_in_part_is_a_fault(rt: HostRuntime) {
+    let mut socket = failing(ErrorKind::Other, 0, 123);
+    socket.short = 1;
+    same(&rt, sent(&rt, socket), Err(Failed));
+}
+
+// A socket on which a datagram comes after 20 ms.
+#[derive(Drop)]
+struct Late<'a> {
+    rt: &'a HostRuntime,
+}
+
+impl DatagramSocket for Late<'_> {
+    fn receive(&mut self, piece: &mut [u8]) -> io::Result<(usize, SocketAddr)> {
+        thread::sleep(self.rt, Duration::from_millis(20));
+        Ok((piece.len().min(3), loopback(123)))
+    }
+
+    fn transmit(&mut self, _: SocketAddr, bytes: &[u8]) -> io::Result<usize> {
+        Ok(bytes.len())
+    }
+}
+
+#[test]
+fn a_datagram_has_the_moment_at_which_it_came(rt: HostRuntime) -> Result<(), Fail> {
+    let mut link = UdpLink::new(Late { rt: &rt }, Counter::new(&rt), moment(5));
+    let mut piece = [0u8; 1024];
+    let before = link.moment().get();
+    match link.hear(&mut piece)? {
+        Hearing::Datagram(arrival) => {
+            let waited = arrival.at.get().saturating_sub(before);
+            assert!(rt; waited >= 20_000);
+        }
+        _ => assert!(rt; false),
+    }
+    Ok(())
+}
+
+#[test]
+fn moments_are_of_single_microseconds(rt: HostRuntime) {
+    let mut link = UdpLink::new(
+        failing(ErrorKind::Other, 0, 123),
+        Counter::new(&rt),
+        moment(0),
+    );
+    let mut is_odd = false;
+    for _ in 0..100_000 {
+        is_odd = is_odd || link.moment().get() % 1_000 != 0;
+    }
+    assert!(rt; is_odd);
+}
+
+#[test]
+fn a_host_says_why_it_refused(rt: HostRuntime) {
+    let table = [
+        (ErrorKind::NotFound, Refusal::NotThere),
+        (ErrorKind::PermissionDenied, Refusal::NoRight),
+        (ErrorKind::AddrInUse, Refusal::Taken),
+        (ErrorKind::IsADirectory, Refusal::Other),
+    ];
+    for (kind, refusal) in table {
+        same(&rt, Refusal::of(kind), refusal);
+    }
+    let mut outside = HostOutside::new(&rt);
+    same(&rt, outside.refusal(), None);
+    assert!(rt; outside.open_log("nosuch").is_err());
+    same(&rt, outside.refusal(), Some(Refusal::NotThere));
+}
+
+// The link of a free port, and a client's socket that waits for at most two seconds.
+#[test]
+fn a_link_of_the_host_hears_and_answers(rt: HostRuntime) -> Result<(), Fail> {
+    let mut outside = HostOutside::new(&rt);
+    let mut server = UdpSocket::bind(&rt, loopback(0))?;
+    server.set_read_timeout(Some(Duration::from_secs(2)))?;
+    let port = server.local_addr()?.port();
+    let Ok(mut link) = outside.open_link(0, moment(50)) else {
+        return Err("the link was not opened")?;
+    };
+    let first = link.moment();
+    assert!(rt; first.get() >= 50);
+    let to = Address {
+        ip: 0x7f00_0001,
+        port,
+    };
+    same(&rt, link.send(to, b"abc"), Ok(()));
+    let mut piece = [0u8; 1024];
+    let (length, from) = server.receive(&mut piece)?;
+    same(&rt, &piece[..length], b"abc".as_slice());
+    let long = [7u8; 1100];
+    same(&rt, server.transmit(from, &long)?, 1100);
+    match link.hear(&mut piece)? {
+        Hearing::Datagram(arrival) => {
+            same(&rt, (arrival.from, arrival.length), (to, 1024));
+            same(&rt, piece.as_slice(), &long[..1024]);
+            assert!(rt; arrival.at.get() >= first.get());
+            assert!(rt; link.moment().get() >= arrival.at.get());
+        }
+        _ => assert!(rt; false),
+    }
+
+    // It is bound to all addresses of the host.
+    let other = SocketAddr::new(IpAddr::V4(Ipv4Addr::new(127, 0, 0, 2)), from.port());
+    same(&rt, server.transmit(other, b"xy")?, 2);
+    match link.hear(&mut piece)? {
+        Hearing::Datagram(arrival) => same(&rt, (arrival.from, arrival.length), (to, 2)),
+        _ => assert!(rt; false),
+    }
+    outside.give_back_link(link);
+    Ok(())
+}
+
+#[test]
+fn two_seconds_of_silence_are_quiet_also_behind_a_dead_server(rt: HostRuntime) -> Result<(), Fail> {
+    let mut outside = HostOutside::new(&rt);
+    let Ok(mut link) = outside.open_link(0, moment(0)) else {
+        return Err("the link was not opened")?;
+    };
+    let to = Address {
+        ip: 0x7f00_0001,
+        port: 9,
+    };
+    same(&rt, link.send(to, b"abc"), Ok(()));
+    let mut piece = [0u8; 1024];
+    let before = link.moment().get();
+    let heard = link.hear(&mut piece)?;
+    assert!(rt; matches!(&heard, Hearing::Quiet));
+    let waited = link.moment().get().saturating_sub(before);
+    assert!(rt; waited >= 1_900_000 && waited < 20_000_000);
+    outside.give_back_link(link);
+
+    // The moments of a later link count from its own start on, by the same counter.
+    let Ok(mut later) = outside.open_link(0, moment(7_000_000)) else {
+        return Err("the second link was not opened")?;
+    };
+    let first = later.moment().get();
+    assert!(rt; first >= 8_900_000 && first < 27_000_000);
+    outside.give_back_link(later);
+    Ok(())
+}
+
+#[test]
+fn a_port_that_is_taken_cannot_be_opened(rt: HostRuntime) -> Result<(), Fail> {
+    let mut outside = HostOutside::new(&rt);
+    let taken = UdpSocket::bind(&rt, loopback(0))?;
+    let port = taken.local_addr()?.port();
+    assert!(rt; outside.open_link(port, moment(0)).is_err());
+    same(&rt, outside.refusal(), Some(Refusal::Taken));
+    let gate = outside.gate();
+    outside.give_back_gate(gate);
+    Ok(())
+}

@@ -1,0 +1,24 @@
+//! Tests of packets: headers and digests, who is answered, replies, exchanges with a server, and the page that replies are made of. They
+//! stand in a crate of their own, so that none of it is proved once more with them.
+#![tactic(auto)]
+
+#[cfg(test)]
+mod clock_page_tests;
+#[cfg(test)]
+mod kiss_code_tests;
+#[cfg(test)]
+mod kiss_gate_tests;
+#[cfg(test)]
+mod ntp_packet_tests;
+#[cfg(test)]
+mod packet_auth_tests;
+#[cfg(test)]
+mod poll_core_tests;
+#[cfg(test)]
+mod poll_figure_tests;
+#[cfg(test)]
+mod reply_core_tests;
+#[cfg(test)]
+mod sealed_reply_tests;
+#[cfg(test)]
+mod shared;

@@ -1,0 +1,186 @@
+//! Datagrams with and without a digest. The digests are those of Python's `hashlib` and of `openssl dgst -md5`.
+ghost use Rattle.std.specs.Prelude.{◌≡◌, ◌∷◌, [], codes};
+ghost use Rattle.packet_auth.specs.Keys.{keys_of};
+
+use crate::shared::{BY_LONGWAVE, REQUEST, same};
+use packet_auth::{KeyRing, SEALED_LENGTH};
+
+// MD5 of `another client has this secret!!`, which has 32 bytes, and the request.
+const OF_ANOTHER: [u8; 16] = [
+    0x7d, 0xf7, 0xa5, 0x3a, 0x80, 0x55, 0x68, 0xf5, 0xf0, 0x59, 0x93, 0x65, 0xb9, 0xbb, 0x88, 0x21,
+];
+
+// MD5 of `~` and the request.
+const OF_ONE_BYTE: [u8; 16] = [
+    0x5a, 0xc8, 0x36, 0xae, 0xed, 0x24, 0x72, 0x9b, 0x2e, 0x5f, 0x19, 0x40, 0x00, 0xaa, 0x3d, 0xfe,
+];
+
+// The request with an identifier and a digest behind it, on the wire.
+fn packet(id: [u8; 4], digest: [u8; 16]) -> [u8; SEALED_LENGTH] {
+    let mut bytes = [0; SEALED_LENGTH];
+    bytes[..48].copy_from_slice(&REQUEST);
+    bytes[48..52].copy_from_slice(&id);
+    bytes[52..].copy_from_slice(&digest);
+    bytes
+}
+
+// The ring of three clients.
+fn ring_of_three() -> KeyRing
+    ensures { keys_of result ≡ record { id = 0x01020304; secret = 126 ∷ [] } ∷ record { id = 7; secret = codes "another client has this secret!!" } ∷ record { id = 1; secret = codes "longwave" } ∷ [] }
+{
+    let mut ring = KeyRing::new();
+    ring.add(0x0102_0304, b"~");
+    ring.add(7, b"another client has this secret!!");
+    ring.add(1, b"longwave");
+    ring
+}
+
+#[test]
+fn a_request_with_the_digest_of_its_key(rt: HostRuntime) {
+    let ring = ring_of_three();
+    same(
+        &rt,
+        ring.authentic(&packet([0, 0, 0, 1], BY_LONGWAVE)),
+        Some(1),
+    );
+    same(
+        &rt,
+        ring.authentic(&packet([0, 0, 0, 7], OF_ANOTHER)),
+        Some(7),
+    );
+    same(
+        &rt,
+        ring.authentic(&packet([1, 2, 3, 4], OF_ONE_BYTE)),
+        Some(0x0102_0304),
+    );
+    same(
+        &rt,
+        KeyRing::new().authentic(&packet([0, 0, 0, 1], BY_LONGWAVE)),
+        None,
+    );
+}
+
+#[test]
+fn a_digest_under_another_identifier(rt: HostRuntime) {
+    let ring = ring_of_three();
+    for id in [
+        [0, 0, 0, 7],
+        [1, 0, 0, 0],
+        [0, 0, 0, 0],
+        [0, 0, 0, 2],
+        [0, 0, 1, 1],
+        [0xff, 0xff, 0xff, 0xff],
+    ] {
+        same(&rt, ring.authentic(&packet(id, BY_LONGWAVE)), None);
+    }
+    same(
+        &rt,
+        ring.authentic(&packet([4, 3, 2, 1], OF_ONE_BYTE)),
+        None,
+    );
+}
+
+#[test]
+fn one_wrong_bit_at_each_place(rt: HostRuntime) {
+    let ring = ring_of_three();
+    for bit in [0x80, 0x01] {
+        for place in 0..SEALED_LENGTH {
+            let mut changed = packet([0, 0, 0, 1], BY_LONGWAVE);
+            changed[place] ^= bit;
+            assert_eq!(rt; ring.authentic(&changed), None, "{bit} at {place}");
+        }
+    }
+}
+
+// MD5 of `longwave` alone, of it and the first 47 bytes, and of the request and then `longwave`.
+#[test]
+fn a_digest_of_something_else(rt: HostRuntime) {
+    let ring = ring_of_three();
+    for digest in [
+        [
+            0xd9, 0x22, 0x30, 0x86, 0xb2, 0x8d, 0xff, 0x87, 0xc4, 0xa9, 0x1c, 0x7a, 0x94, 0x2b,
+            0x29, 0xfe,
+        ],
+        [
+            0x38, 0x3d, 0xfe, 0x6d, 0x49, 0x9d, 0x43, 0x6f, 0x8a, 0x45, 0x95, 0x35, 0x2c, 0xcd,
+            0x82, 0xd0,
+        ],
+        [
+            0x96, 0xdb, 0x01, 0x5a, 0xac, 0x73, 0xd2, 0x70, 0x22, 0x4a, 0x06, 0xf1, 0x7e, 0xa8,
+            0x7f, 0x43,
+        ],
+        [0; 16],
+    ] {
+        same(&rt, ring.authentic(&packet([0, 0, 0, 1], digest)), None);
+    }
+}
+
+// Of these lengths 52 is that of a crypto-NAK, and 72 and 88 those of packets with longer digests.
+#[test]
+fn another_length(rt: HostRuntime) {
+    let ring = ring_of_three();
+    let mut longer = [0; 88];
+    longer[..SEALED_LENGTH].copy_from_slice(&packet([0, 0, 0, 1], BY_LONGWAVE));
+    for length in [0, 47, 48, 52, 67, 69, 72, 88] {
+        assert_eq!(rt; ring.authentic(&longer[..length]), None, "{length} bytes");
+    }
+}
+
+#[test]
+fn a_seal_is_that_of_the_key_that_was_asked_for(rt: HostRuntime) {
+    let ring = ring_of_three();
+    for (id, bytes, digest) in [
+        (1, [0, 0, 0, 1], BY_LONGWAVE),
+        (7, [0, 0, 0, 7], OF_ANOTHER),
+    ] {
+        let mut out = [0xaa; SEALED_LENGTH];
+        ring.seal(id, &REQUEST, &mut out);
+        assert_eq!(rt; out, packet(bytes, digest), "key {id}");
+    }
+    let mut out = [0x55; SEALED_LENGTH];
+    ring.seal(0x0102_0304, &REQUEST, &mut out);
+    same(&rt, out, packet([1, 2, 3, 4], OF_ONE_BYTE));
+}
+
+// A ring is a value: what is added to a copy isn't in it.
+#[test]
+fn a_copy_of_a_ring(rt: HostRuntime) {
+    let empty = KeyRing::new();
+    let mut copy = empty;
+    copy.add(1, b"longwave");
+    same(
+        &rt,
+        copy.authentic(&packet([0, 0, 0, 1], BY_LONGWAVE)),
+        Some(1),
+    );
+    same(
+        &rt,
+        empty.authentic(&packet([0, 0, 0, 1], BY_LONGWAVE)),
+        None,
+    );
+}
+
+#[test]
+fn eight_keys(rt: HostRuntime) {
+    let mut ring = ring_of_three();
+    ring.add(2, b"two");
+    ring.add(3, b"three");
+    ring.add(4, b"four");
+    ring.add(5, b"five");
+    ring.add(6, b"longwave");
+    same(
+        &rt,
+        ring.authentic(&packet([0, 0, 0, 6], BY_LONGWAVE)),
+        Some(6),
+    );
+    same(
+        &rt,
+        ring.authentic(&packet([0, 0, 0, 1], BY_LONGWAVE)),
+        Some(1),
+    );
+    same(
+        &rt,
+        ring.authentic(&packet([0, 0, 0, 2], BY_LONGWAVE)),
+        None,
+    );
+}

@@ -1,0 +1,18 @@
+//! Tests of the code plans, and of what they stand on: civil minutes, what the frames share, and the frames of DCF77, MSF and WWVB. They
+//! stand in a crate of their own, so that none of the crates that they test is proved once more with them.
+#![tactic(auto)]
+
+#[cfg(test)]
+mod civil_frame_tests;
+#[cfg(test)]
+mod civil_minute_tests;
+#[cfg(test)]
+mod frame_rules_tests;
+#[cfg(test)]
+mod plan_dcf_tests;
+#[cfg(test)]
+mod plan_msf_tests;
+#[cfg(test)]
+mod plan_wwvb_tests;
+#[cfg(test)]
+mod shared;

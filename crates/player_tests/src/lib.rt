@@ -1,0 +1,12 @@
+//! Tests of recorded scripts: what their lines give, one after the other. They stand in a crate of their own, so that what plays scripts is
+//! not proved once more with them.
+#![tactic(auto)]
+
+#[cfg(test)]
+mod script_client_tests;
+#[cfg(test)]
+mod script_leap_tests;
+#[cfg(test)]
+mod script_tests;
+#[cfg(test)]
+mod shared;

@@ -1,0 +1,141 @@
+//! What is wrong in the arguments.
+
+use crate::arguments::{Argument, value_of};
+use crate::commands::{OPTIONS, Shape, shape_of, wanted};
+use std::fmt;
+
+/// The first fault of the arguments.
+#[derive(Clone, Copy, Debug, PartialEq, Eq)]
+pub enum Fault<'a> {
+    UnknownOption(&'a str),
+    NoValue(&'a str),
+    NoCommand,
+    UnknownCommand(&'a str),
+    TwoCommands(&'a str, &'a str),
+    Twice(&'static str),
+    Foreign {
+        command: &'static str,
+        option: &'static str,
+    },
+    Missing {
+        command: &'static str,
+        option: &'static str,
+    },
+    Wants {
+        option: &'static str,
+        wants: &'static str,
+    },
+}
+
+// The first option that there is not, or that has no value.
+fn bad_option<'a>(arguments: &[Argument<'a>]) -> Option<Fault<'a>> {
+    for argument in arguments {
+        match *argument {
+            Argument::Unknown(name) => return Some(Fault::UnknownOption(name)),
+            Argument::Bare(name) => return Some(Fault::NoValue(name)),
+            Argument::Command(_) | Argument::Option { .. } => {}
+        }
+    }
+    None
+}
+
+// The one command.
+fn command<'a>(arguments: &[Argument<'a>]) -> Result<Shape, Fault<'a>> {
+    let mut word = None;
+    for argument in arguments {
+        if let Argument::Command(next) = *argument {
+            if let Some(first) = word {
+                return Err(Fault::TwoCommands(first, next));
+            }
+            word = Some(next);
+        }
+    }
+    let Some(word) = word else {
+        return Err(Fault::NoCommand);
+    };
+    shape_of(word).ok_or(Fault::UnknownCommand(word))
+}
+
+// How often an option was given, up to twice.
+fn is_given_twice(arguments: &[Argument<'_>], option: &str) -> bool {
+    let mut is_given = false;
+    for argument in arguments {
+        if let Argument::Option { name, .. } = *argument {
+            if name == option {
+                if is_given {
+                    return true;
+                }
+                is_given = true;
+            }
+        }
+    }
+    false
+}
+
+// What is wrong with an option of a command.
+fn option_fault<'a>(
+    arguments: &[Argument<'a>],
+    shape: Shape,
+    option: &'static str,
+) -> Option<Fault<'a>> {
+    let value = value_of(arguments, option)?;
+    if is_given_twice(arguments, option) {
+        return Some(Fault::Twice(option));
+    }
+    if !shape.has(option) {
+        return Some(Fault::Foreign {
+            command: shape.word,
+            option,
+        });
+    }
+    let wants = wanted(option, value)?;
+    Some(Fault::Wants { option, wants })
+}
+
+// The first option that a command needs and has not.
+fn missing<'a>(arguments: &[Argument<'a>], shape: Shape) -> Option<Fault<'a>> {
+    for option in shape.needs {
+        if value_of(arguments, option).is_none() {
+            return Some(Fault::Missing {
+                command: shape.word,
+                option,
+            });
+        }
+    }
+    None
+}
+
+/// The first fault of the arguments, where one can be told.
+pub fn fault_of<'a>(arguments: &[Argument<'a>]) -> Option<Fault<'a>> {
+    if let Some(fault) = bad_option(arguments) {
+        return Some(fault);
+    }
+    let shape = match command(arguments) {
+        Ok(shape) => shape,
+        Err(fault) => return Some(fault),
+    };
+    for option in &OPTIONS {
+        if let Some(fault) = option_fault(arguments, shape, option) {
+            return Some(fault);
+        }
+    }
+    missing(arguments, shape)
+}
+
+impl fmt::Display for Fault<'_> {
+    fn fmt<W: fmt::Write>(&self, f: &mut fmt::Formatter<W>) -> fmt::Result {
+        match *self {
+            Fault::UnknownOption(name) => write!(f, "unknown option {name}"),
+            Fault::NoValue(name) => write!(f, "--{name} has no value"),
+            Fault::NoCommand => write!(f, "no command"),
+            Fault::UnknownCommand(word) => write!(f, "unknown command {word}"),
+            Fault::TwoCommands(first, second) => { write!(f, "two commands, {first} and {second}") }
+            Fault::Twice(option) => write!(f, "--{option} is given twice"),
+            Fault::Foreign { command, option } => {
+                write!(f, "{command} has no option --{option}")
+            }
+            Fault::Missing { command, option } => write!(f, "{command} needs --{option}"),
+            Fault::Wants { option, wants } => write!(f, "--{option} wants {wants}"),
+        }
+    }
+}

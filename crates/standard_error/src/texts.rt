@@ -1,0 +1,235 @@
+//! The texts, in one table. `docs/STANDARD_ERROR.md` has the same.
+
+/// The whole help: one screen.
+pub const HELP: &str = "radio_ntpd: a stratum 1 NTP server; its reference clocks are longwave radios
+
+serve    answers NTP clients from radios and from other servers
+decode   prints what each minute of a radio's log says
+replay   plays a script of pulses, answers and requests against a station
+drill    makes up a day of three radios and runs on it
+migrate  writes a journal anew, in version 2 of its lines
+
+radio_ntpd serve --station FILE [--during HEARINGS] [--after HEARINGS]
+                 [--limit ENTRIES]
+radio_ntpd decode --plan PLAN --log FILE
+radio_ntpd replay --station FILE --script FILE [--limit ENTRIES]
+radio_ntpd drill --seed SEED [--limit ENTRIES]
+radio_ntpd migrate --station FILE --journal FILE
+
+PLAN      dcf, msf or wwvb
+HEARINGS  0 to 1000000 datagrams or silences of 2 s; by default 16 and 0
+ENTRIES   1 to 4194304, the most of a journal; by default 1048576
+SEED      0 to 4294967295
+
+The exit status, which the last line of the output says too: 0 done, 1 usage,
+2 open, 3 station, 4 read, 5 line, 6 full, 7 link, 8 write, 9 memory, 10 long.
+See man radio_ntpd and docs/OPERATING.md.
+";
+
+/// The command lines.
+pub const COMMAND_LINES: &str =
+    "radio_ntpd serve --station FILE [--during HEARINGS] [--after HEARINGS]
+                 [--limit ENTRIES]
+radio_ntpd decode --plan PLAN --log FILE
+radio_ntpd replay --station FILE --script FILE [--limit ENTRIES]
+radio_ntpd drill --seed SEED [--limit ENTRIES]
+radio_ntpd migrate --station FILE --journal FILE
+radio_ntpd --help
+";
+
+/// The program's version, and the kit that it is proved and built with.
+pub const VERSION: &str = "radio_ntpd 0.3.0
+proved and built with rattle-kit-13f logic dac8208d650f15bf
+";
+
+/// Where a log gave no minute.
+pub const NO_MINUTE: &str =
+    "the log gave no minute: it has no marks of this plan, or its widths are not in microseconds";
+
+/// Where the output takes no more.
+pub const NO_OUTPUT: &str = "standard output took no more: it is closed, or its disk is full";
+
+/// Where no memory is found.
+pub const NO_MEMORY: &str = "no memory was found, and nothing was done";
+
+/// Where no memory is found for what is to be said.
+pub const NO_MEMORY_LINE: &str = "radio_ntpd: no memory was found to say more\n";
+
+/// Where the station file is no TOML.
+pub const NO_TOML: &str =
+    "it is not TOML, or not UTF-8: a quote is not closed, or a value is missing";
+
+/// Why a read fails.
+pub const NOT_READ: &str = "it is a folder, or its disk failed";
+
+/// Why a link fails.
+pub const LINK_FAILED: &str = "a hearing or a sending of it; the rest went on";
+
+/// Where a journal is full.
+pub const FULL: &str = "there were more entries than a journal may have";
+
+/// What a line of a log looks like.
+pub const LOG_LINE: &str =
+    "a line is START WIDTH in whole microseconds, one space between them, and starts rise";
+
+/// What a row of a leap second file looks like.
+pub const LEAP_LINE: &str =
+    "a row is the second since 1900 at which a month begins and TAI less UTC from then on";
+
+/// What a line of a script looks like.
+pub const SCRIPT_LINE: &str =
+    "docs/FORMATS.md has the lines of a script, and which feed may have which";
+
+/// What a line of a journal looks like.
+pub const JOURNAL_LINE: &str =
+    "docs/FORMATS.md has the lines of a journal; it may be of another station, or cut off";
+
+/// What a key of a station file wants.
+pub struct Range {
+    /// The table in which the key stands, or nothing.
+    pub table: &'static str,
+    pub name: &'static str,
+    pub wants: &'static str,
+}
+
+/// What each key of a station file wants.
+pub const RANGES: [Range; 20] = [
+    Range {
+        table: "",
+        name: "bound",
+        wants: "whole milliseconds, 1 to 16000",
+    },
+    Range {
+        table: "",
+        name: "start",
+        wants: "whole microseconds, 0 to 562949953421312",
+    },
+    Range {
+        table: "",
+        name: "gap",
+        wants: "whole microseconds, 0 to 60000000",
+    },
+    Range {
+        table: "",
+        name: "clients",
+        wants: "a whole number, 1 to 65536",
+    },
+    Range {
+        table: "",
+        name: "leap_file",
+        wants: "the name of a file, in quotes",
+    },
+    Range {
+        table: "",
+        name: "radio",
+        wants: "a table [[radio]] for each radio",
+    },
+    Range {
+        table: "",
+        name: "server",
+        wants: "a table [[server]] for each server",
+    },
+    Range {
+        table: "",
+        name: "link",
+        wants: "a table [[link]] for each port",
+    },
+    Range {
+        table: "",
+        name: "key",
+        wants: "a table [[key]] for each key",
+    },
+    Range {
+        table: "",
+        name: "deny",
+        wants: "a table [[deny]] for each net",
+    },
+    Range {
+        table: "radio",
+        name: "plan",
+        wants: "\"dcf\", \"msf\" or \"wwvb\", in quotes",
+    },
+    Range {
+        table: "radio",
+        name: "log",
+        wants: "the name of a file, in quotes",
+    },
+    Range {
+        table: "radio",
+        name: "delay",
+        wants: "whole microseconds, 0 to 100000",
+    },
+    Range {
+        table: "server",
+        name: "address",
+        wants: "an address as \"192.0.2.1\", in quotes",
+    },
+    Range {
+        table: "server",
+        name: "port",
+        wants: "a whole number, 1 to 65535",
+    },
+    Range {
+        table: "server",
+        name: "polls",
+        wants: "a whole number, 0 to 100000",
+    },
+    Range {
+        table: "link",
+        name: "port",
+        wants: "a whole number, 1 to 65535",
+    },
+    Range {
+        table: "key",
+        name: "id",
+        wants: "a whole number, 1 to 4294967295, that no key before it has",
+    },
+    Range {
+        table: "key",
+        name: "secret",
+        wants: "1 to 32 visible characters of ASCII, in quotes",
+    },
+    Range {
+        table: "deny",
+        name: "net",
+        wants: "a net as \"198.51.100.0/24\", in quotes",
+    },
+];
+
+/// How many there may be of each.
+pub const MOST: [(&str, &str); 4] = [
+    (
+        "radio",
+        "16 radios, servers and leap second files together, and 4 radios of a plan",
+    ),
+    ("link", "8"),
+    ("key", "8"),
+    ("deny", "16"),
+];
+
+impl Range {
+    // Whether it is that of this key.
+    fn is_of(&self, table: &str, name: &str) -> bool {
+        self.table.as_bytes() == table.as_bytes() && self.name.as_bytes() == name.as_bytes()
+    }
+}
+
+/// What the key of this name wants, in this table or in none.
+pub fn range_of(table: &str, name: &str) -> Option<&'static str> {
+    for range in &RANGES {
+        if range.is_of(table, name) {
+            return Some(range.wants);
+        }
+    }
+    None
+}
+
+/// How many there may be of what a key names.
+pub fn most_of(key: &str) -> Option<&'static str> {
+    for (name, most) in &MOST {
+        if *name == key {
+            return Some(*most);
+        }
+    }
+    None
+}

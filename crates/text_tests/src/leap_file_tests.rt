@@ -1,0 +1,236 @@
+//! Leap second files, line by line.
+use crate::shared::same;
+use leap_file::{BadLeap, LeapReader};
+
+// What a file tells of: how many leap seconds, the last of them, and the first bad line.
+#[derive(Clone, Copy, Debug, PartialEq, Eq)]
+struct Told {
+    count: u32,
+    last: Option<u64>,
+    bad: Option<u64>,
+}
+
+impl Told {
+    fn add(&mut self, answer: Result<Option<u64>, BadLeap>) {
+        match answer {
+            Ok(Some(second)) => {
+                self.count = self.count.saturating_add(1);
+                self.last = Some(second);
+            }
+            Ok(None) => {}
+            Err(bad) => self.bad = Some(bad.line),
+        }
+    }
+}
+
+// The bytes of a file, whose end isn't read.
+fn begun(reader: &mut LeapReader, file: &[u8]) -> Told {
+    let mut told = Told {
+        count: 0,
+        last: None,
+        bad: None,
+    };
+    for byte in file {
+        told.add(reader.take(*byte));
+    }
+    told
+}
+
+// The whole file.
+fn read(file: &[u8]) -> Told {
+    let mut reader = LeapReader::new();
+    let mut told = begun(&mut reader, file);
+    told.add(reader.finish());
+    told
+}
+
+// A file without a bad line that tells of so many leap seconds.
+fn good(count: u32, last: Option<u64>) -> Told {
+    Told {
+        count,
+        last,
+        bad: None,
+    }
+}
+
+// A file that tells of no leap second before its bad line.
+fn bad(line: u64) -> Told {
+    Told {
+        count: 0,
+        last: None,
+        bad: Some(line),
+    }
+}
+
+#[test]
+fn the_first_row_tells_of_no_leap_second(rt: HostRuntime) {
+    same(&rt, read(b"3644697600\t36\t# 1 Jul 2015\n"), good(0, None));
+    same(
+        &rt,
+        read(b"# list\n3644697600\t36\t# 1 Jul 2015\n3692217600\t37\t# 1 Jan 2017\n"),
+        good(1, Some(3692217600)),
+    );
+}
+
+#[test]
+fn files_without_rows(rt: HostRuntime) {
+    for file in [
+        b"".as_slice(),
+        b"# a remark",
+        b"#",
+        b"\n",
+        b"\n\n\n",
+        b" \t \n\t",
+        b"\r\n",
+        b"\r",
+        b"# a\r\n#\xff\x00\r\n  \r\n",
+    ] {
+        same(&rt, read(file), good(0, None));
+    }
+}
+
+// Two rows, of which the second is written in another way each time; the last has no line feed.
+#[test]
+fn one_row_in_many_forms(rt: HostRuntime) {
+    for file in [
+        b"3644697600 36\n3692217600 37\n".as_slice(),
+        b"3644697600\t36\n3692217600\t37\n",
+        b"3644697600 \t 36 \t\n3692217600 \t 37 \t\n",
+        b"3644697600 36 #\n3692217600 37 # any \xff # bytes\r at all\n",
+        b"3644697600 36\r\n3692217600 37\r\n",
+        b"3644697600 36\t# x\r\n\r\n3692217600 37 \r\n",
+        b"3644697600 036\n3692217600 037\n",
+        b"3644697600 36\n# between\n \n\n3692217600 37\n",
+        b"3644697600 36\n3692217600 37",
+        b"3644697600 36\n3692217600 37\r",
+        b"3644697600 36\n3692217600 37 # 1 Jan 2017",
+    ] {
+        same(&rt, read(file), good(1, Some(3692217600)));
+    }
+}
+
+// 1900-01-01 and 1900-02-01, 1972-01-01 and 1972-07-01, 2099-12-01 and 2100-01-01, by Python's datetime; the greatest difference.
+#[test]
+fn the_first_and_the_last_months(rt: HostRuntime) {
+    same(&rt, read(b"0 0\n0002678400 001\n"), good(1, Some(2678400)));
+    same(
+        &rt,
+        read(b"2272060800 10\n2287785600 11\n"),
+        good(1, Some(2287785600)),
+    );
+    same(
+        &rt,
+        read(b"6308755200 254\n6311433600 255\n"),
+        good(1, Some(6311433600)),
+    );
+}
+
+// Each is bad in its second line.
+#[test]
+fn lines_of_no_form(rt: HostRuntime) {
+    for file in [
+        // No digit, a byte before the digits, or one that is none of them.
+        b"3644697600 36\nx\n".as_slice(),
+        b"3644697600 36\n 3692217600 37\n",
+        b"3644697600 36\n\t# remark\n",
+        b"3644697600 36\n+3692217600 37\n",
+        b"3644697600 36\n-1 37\n",
+        b"3644697600 36\n3692217600. 37\n",
+        b"3644697600 36\n3692217600 3x\n",
+        b"3644697600 36\n3692217600 +37\n",
+        b"3644697600 36\n3692217600,37\n",
+        // The bytes next to the digits: `/` and `:`.
+        b"3644697600 36\n369221760/ 37\n",
+        b"3644697600 36\n369221760: 37\n",
+        // 11 digits, or four.
+        b"3644697600 36\n03692217600 37\n",
+        b"3644697600 36\n3692217600 0037\n",
+        // One number, or three.
+        b"3644697600 36\n3692217600\n",
+        b"3644697600 36\n3692217600 \n",
+        b"3644697600 36\n3692217600 # 37\n",
+        b"3644697600 36\n3692217600# 37\n",
+        b"3644697600 36\n3692217600 37 1\n",
+        // A remark without a blank before it.
+        b"3644697600 36\n3692217600 37# 1 Jan 2017\n",
+        b"3644697600 36\n3692217600 37#\n",
+        // A carriage return that ends no line, and other white space.
+        b"3644697600 36\n3692217600\r 37\n",
+        b"3644697600 36\n3692217600 37\r\r\n",
+        b"3644697600 36\n\r\r\n",
+        b"3644697600 36\n3692217600\x0b37\n",
+        b"3644697600 36\n\x0c\n",
+        b"3644697600 36\n\x00\n",
+    ] {
+        same(&rt, read(file), bad(2));
+    }
+}
+
+#[test]
+fn rows_that_may_not_stand(rt: HostRuntime) {
+    // 2100-01-03, 2100-02-01, and the greatest number of ten digits.
+    same(&rt, read(b"6311606400 37\n"), bad(1));
+    same(&rt, read(b"6314112000 37\n"), bad(1));
+    same(&rt, read(b"9999999999 37\n"), bad(1));
+    // A second after a month's begin, and 2017-01-02.
+    same(&rt, read(b"3692217601 37\n"), bad(1));
+    same(&rt, read(b"3692304000 37\n"), bad(1));
+    // The same second, and an earlier one.
+    same(&rt, read(b"3644697600 36\n3644697600 37\n"), bad(2));
+    same(&rt, read(b"3644697600 36\n3550089600 37\n"), bad(2));
+    // Above 255, also where it is one more.
+    same(&rt, read(b"3644697600 256\n"), bad(1));
+    same(&rt, read(b"3644697600 999\n"), bad(1));
+    same(&rt, read(b"3644697600 255\n3692217600 256\n"), bad(2));
+    // The same difference, two more, and one less.
+    same(&rt, read(b"3644697600 36\n3692217600 36\n"), bad(2));
+    same(
+        &rt,
+        read(b"# list\n3644697600\t36\t# 1 Jul 2015\n3692217600\t38\t# 1 Jan 2017\n"),
+        bad(3),
+    );
+    same(&rt, read(b"3644697600 36\n3692217600 35\n"), bad(2));
+}
+
+#[test]
+fn the_first_bad_line_is_told_from_then_on(rt: HostRuntime) {
+    let file = b"# list\n2272060800 10\n2287785600 11\nx\n2303683200 12\n2335219200 13";
+    let mut reader = LeapReader::new();
+    let told = begun(&mut reader, file);
+    same(
+        &rt,
+        told,
+        Told {
+            count: 1,
+            last: Some(2287785600),
+            bad: Some(4),
+        },
+    );
+    same(&rt, reader.finish(), Err(BadLeap { line: 4 }));
+    same(&rt, reader.take(b'#'), Err(BadLeap { line: 4 }));
+    same(&rt, reader.take(b'\n'), Err(BadLeap { line: 4 }));
+    same(&rt, reader.finish(), Err(BadLeap { line: 4 }));
+}
+
+// A line that isn't finished is no row and isn't bad, unless the file ends there.
+#[test]
+fn files_that_end_in_mid_line(rt: HostRuntime) {
+    let mut reader = LeapReader::new();
+    same(
+        &rt,
+        begun(&mut reader, b"3644697600 36\n3692217600 37"),
+        good(0, None),
+    );
+    same(&rt, reader.finish(), Ok(Some(3692217600)));
+
+    for file in [
+        b"3644697600 36\n36922176".as_slice(),
+        b"3644697600 36\n3692217600 ",
+        b"3644697600 36\n3692217600 3",
+        b"3644697600 36\nx",
+    ] {
+        let mut reader = LeapReader::new();
+        same(&rt, begun(&mut reader, file), good(0, None));
+        same(&rt, reader.finish(), Err(BadLeap { line: 2 }));
+    }
+}

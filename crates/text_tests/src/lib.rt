@@ -1,0 +1,26 @@
+//! Tests of what reads and writes texts: numbers, lines, the list of leap seconds, scripts, the words of a command line, files and sinks, and
+//! the entries of a journal. They stand in a crate of their own, so that none of the crates that they test is proved once more with them.
+#![tactic(auto)]
+
+#[cfg(test)]
+mod command_words_tests;
+#[cfg(test)]
+mod decimal_text_tests;
+#[cfg(test)]
+mod file_reader_tests;
+#[cfg(test)]
+mod journal_entry_tests;
+#[cfg(test)]
+mod leap_file_tests;
+#[cfg(test)]
+mod leap_list_tests;
+#[cfg(test)]
+mod line_cutter_tests;
+#[cfg(test)]
+mod numbered_tests;
+#[cfg(test)]
+mod script_line_tests;
+#[cfg(test)]
+mod shared;
+#[cfg(test)]
+mod sink_text_tests;

@@ -1,0 +1,91 @@
+#!/usr/bin/env python3
+"""How edges_to_log.py and serial_edges.py end: in one sentence and with a status of their own.
+
+    feeders/test_feeder_ends.py
+"""
+
+import os
+import pathlib
+import shutil
+import signal
+import subprocess
+import sys
+import unittest
+
+HERE = pathlib.Path(__file__).resolve().parent
+sys.path.insert(0, str(HERE))
+
+from test_feeders import ours, ran  # noqa: E402
+
+
+class Ends(unittest.TestCase):
+    """How a feeder ends, in one sentence and with a status of its own."""
+
+    def test_an_error_of_gpiomon_on_the_input(self):
+        """As both versions print it, where standard error goes into the pipe."""
+        for error in ("gpiomon: error waiting for events: No such file or directory", "gpiomon: cannot find GPIO chip character device 'rising 1.5'"):
+            with self.subTest(error=error):
+                self.assertEqual(ran(text=f"{error}\n"), ("", f"{error}\n", 1))
+
+    def test_a_command(self):
+        text = ours(10**6, True) + ours(1_100_000, False)
+        for script, status, said in (("", 0, ""), ("exit 3", 3, "sh ended with 3\n"), ("kill -9 $$", 137, "sh ended with 137\n")):
+            with self.subTest(script=script):
+                self.assertEqual(ran("--low", "--", "sh", "-c", f"printf '%s' '{text}'; {script}"), ("", said, status))
+                self.assertEqual(ran("sh", "-c", f"printf '%s' '{text}'; {script}"), ("1000000 100000\n", said, status))
+
+    def test_no_command(self):
+        self.assertEqual(ran("./nosuch"), ("", "./nosuch: No such file or directory\n", 127))
+
+    def test_gpiomon_itself(self):
+        """It has no chip here; of which version it is doesn't matter."""
+        if not shutil.which("gpiomon"):
+            self.skipTest("gpiomon isn't installed")
+        written, said, status = ran("gpiomon", "nosuch", "1")
+        self.assertEqual((written, status), ("", 1))
+        self.assertRegex(said, r"^gpiomon: .*\ngpiomon ended with 1\n$")
+
+    def test_a_command_ends_with_its_feeder(self):
+        # A test that a shell put into the background has SIGINT ignored, and what it starts would too.
+        self.addCleanup(signal.signal, signal.SIGINT, signal.signal(signal.SIGINT, signal.default_int_handler))
+        for ending in (signal.SIGTERM, signal.SIGINT):
+            with self.subTest(ending=ending):
+                words = [HERE / "edges_to_log.py", "sh", "-c", "echo 1.0 rising; echo 1.1 falling; echo $$ >&2; exec sleep 60"]
+                feeder = subprocess.Popen(words, stdout=subprocess.PIPE, stderr=subprocess.PIPE, text=True)
+                self.addCleanup(feeder.stdout.close)
+                self.addCleanup(feeder.stderr.close)
+                command = int(feeder.stderr.readline())
+                self.assertEqual(feeder.stdout.readline(), "1000000 100000\n")
+                feeder.send_signal(ending)
+                self.assertEqual(feeder.wait(20), 0)
+                self.assertRaises(ProcessLookupError, os.kill, command, 0)
+
+    def test_a_signal_where_the_reader_has_ended(self):
+        """The reduction that just ended has nowhere to go."""
+        feeder = subprocess.Popen([HERE / "edges_to_log.py"], stdin=subprocess.PIPE, stdout=subprocess.PIPE, stderr=subprocess.PIPE, bufsize=0)
+        self.addCleanup(feeder.stdin.close)
+        self.addCleanup(feeder.stderr.close)
+        feeder.stdin.write(b"x\n")
+        self.assertEqual(feeder.stderr.readline(), b"no edge: x\n")
+        feeder.stdout.close()
+        feeder.stdin.write(b"1.0 rising\n1.1 falling\n")
+        feeder.send_signal(signal.SIGTERM)
+        self.assertIn(feeder.wait(20), (0, 1))
+        self.assertEqual(feeder.stderr.read(), b"")
+
+    def test_no_serial_port(self):
+        for device, said in (("/nosuch", "No such file or directory"), ("/dev/null", "it is no serial port with modem lines")):
+            with self.subTest(device=device):
+                self.assertEqual(ran(device, program="serial_edges.py"), ("", f"{device}: {said}\n", 1))
+
+    def test_a_terminal_without_modem_lines(self):
+        ours, theirs = os.openpty()
+        self.addCleanup(os.close, ours)
+        self.addCleanup(os.close, theirs)
+        name = os.ttyname(theirs)
+        self.assertEqual(ran(name, program="serial_edges.py"), ("", f"{name}: it is no serial port with modem lines\n", 1))
+
+
+if __name__ == "__main__":
+    sys.dont_write_bytecode = True
+    unittest.main()

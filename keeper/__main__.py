@@ -1,0 +1,86 @@
+"""`./radio_keeper COMMAND`: finds the command's module and ends with what it says. No traceback reaches a person."""
+
+import importlib
+import os
+import sys
+
+from keeper import VERSION
+from keeper.words import DONE, HOST, INTERRUPTED, USAGE, Fault, sentence
+
+COMMANDS = {
+    "run": "keeps the station's server running",
+    "status": "says how the station is",
+    "watch": "the same, redrawn until it is interrupted",
+    "check": "looks at both files, the host and the receivers before a start",
+    "install": "installs the keeper as a service",
+    "calibrate": "says which delay to set for a radio",
+}
+# `watch` is a way of `status`.
+MODULES = {"watch": "status"}
+
+
+def usage() -> str:
+    lines = [f"  {name:<10} {what}" for name, what in COMMANDS.items()]
+    return "\n".join(["usage: radio_keeper COMMAND [ARGUMENT...]", "", *lines, "", "radio_keeper COMMAND --help lists the arguments of each; so has man radio_keeper."])
+
+
+def dispatch(words: list[str]) -> int:
+    """The exit status of these words. Raises what the commands raise."""
+    if words[:1] in (["--help"], ["-h"]):
+        print(usage())
+        return DONE
+    if words[:1] == ["--version"]:
+        print(f"radio_keeper {VERSION}")
+        return DONE
+    if not words or words[0] not in COMMANDS:
+        said = f"there is no command {words[0]!r}" if words else "which command?"
+        print(f"{usage()}\n\nradio_keeper: {said}", file=sys.stderr)
+        return USAGE
+    command, *rest = words
+    module = importlib.import_module(f"keeper.{MODULES.get(command, command)}")
+    return module.main(rest, command) if command in MODULES else module.main(rest)
+
+
+def main(words: list[str]) -> int:
+    """The exit status of these words; what goes wrong is one sentence on standard error."""
+    name = " ".join(["radio_keeper", *words[:1]])
+    try:
+        told = dispatch(words)
+        sys.stdout.flush()
+        return told
+    except Fault as fault:
+        print(f"{name}: {fault}", file=sys.stderr)
+        return fault.status
+    except BrokenPipeError:
+        # Whoever read what we print has ended.
+        drop_output()
+        return HOST
+    except OSError as error:
+        print(f"{name}: {sentence(error)}", file=sys.stderr)
+        drop_output()
+        return HOST
+    except KeyboardInterrupt:
+        return INTERRUPTED
+
+
+def drop_output() -> None:
+    """What still stands in the buffer of standard output has nowhere to go."""
+    try:
+        os.dup2(os.open(os.devnull, os.O_WRONLY), sys.stdout.fileno())
+    except OSError:
+        pass  # it is no file, so nothing is written at the end
+
+
+def open_standard() -> None:
+    """Standard streams that were closed from the start go nowhere; else a pipe of ours would get their numbers."""
+    while (opened := os.open(os.devnull, os.O_RDWR)) <= 2:
+        os.set_inheritable(opened, True)
+    os.close(opened)
+    for name, number in (("stdout", 1), ("stderr", 2)):
+        if getattr(sys, name) is None:
+            setattr(sys, name, open(number, "w", encoding="utf-8", closefd=False))
+
+
+if __name__ == "__main__":
+    open_standard()
+    sys.exit(main(sys.argv[1:]))

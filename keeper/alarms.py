@@ -1,0 +1,122 @@
+"""Alarms: a command of the operator's at each change of state. One runs at a time, for a bounded time, and holds nothing up."""
+
+import collections
+import os
+import signal
+import subprocess
+import sys
+
+from keeper.state import Alarm, State
+
+LOST = 15.0  # a change of run is no loss: so long nobody may have heard the time, in seconds
+QUEUE = 20  # alarms that wait; of more the oldest is dropped
+KEPT = 20  # alarms that the state keeps
+GRACE = 2.0  # between SIGTERM and SIGKILL, in seconds
+BAD_CAUSES = {"died": "ended by itself", "silent": "didn't answer any more", "link": "had a link that failed"}
+
+
+class Alarms:
+    """`command` is what the shell runs, empty for none; `unheard` after how many seconds without a verdict a radio counts as unheard;
+    `limit` how many seconds a command may run; `folder` where the state is."""
+
+    def __init__(self, command: str, unheard: float = 3600.0, limit: float = 30.0, folder: str = "") -> None:
+        self.command, self.unheard, self.limit, self.folder = command, unheard, limit, folder
+        self.waiting: collections.deque[dict[str, str]] = collections.deque(maxlen=QUEUE)
+        self.child: subprocess.Popen[bytes] | None = None
+        self.end = 0.0
+        self.has_time: bool | None = None
+        self.time_at = 0.0
+        self.silent: set[int] = set()
+        self.run = 0
+
+    def judge(self, state: State, now: float) -> None:
+        """Raises what changed since the last call (`now` in Unix s)."""
+        self._judge_time(state, now)
+        for radio in state.radios:
+            self._judge_radio(state, radio, now)
+        if state.run.number != self.run:
+            self.run = state.run.number
+            if state.run.cause in BAD_CAUSES:
+                said = f" ({state.run.last_status})" if state.run.last_status else ""
+                self.raise_alarm(state, "run-died", f"the run before {BAD_CAUSES[state.run.cause]}{said}; run {self.run} follows", now)
+
+    def _judge_time(self, state: State, now: float) -> None:
+        good = [one for one in state.links if one.leap != 3 and now - one.answered_at < LOST]
+        if good:
+            self.time_at = now
+            if not self.has_time:
+                self.raise_alarm(state, "time-gained", f"clients get the time, from {good[0].reference_id}", now)
+            self.has_time = True
+        elif self.has_time and now - self.time_at >= LOST:
+            self.has_time = False
+            silent = all(now - one.answered_at >= LOST for one in state.links)
+            self.raise_alarm(state, "time-lost", "no link answers" if silent else "clients get no time", now)
+
+    def _judge_radio(self, state: State, radio, now: float) -> None:
+        since = max(radio.minute_at, state.keeper_since)
+        if now - since >= self.unheard:
+            if radio.number not in self.silent:
+                self.silent.add(radio.number)
+                self.raise_alarm(state, "radio-unheard", f"radio {radio.number} ({radio.name or radio.plan}) has had no verdict for {now - since:.0f} s", now, radio.number)
+        elif radio.number in self.silent and radio.minute_at > state.keeper_since:
+            self.silent.discard(radio.number)
+            self.raise_alarm(state, "radio-heard", f"radio {radio.number} ({radio.name or radio.plan}) is heard again", now, radio.number)
+
+    def raise_alarm(self, state: State, event: str, text: str, now: float, radio: int | None = None) -> None:
+        """Puts an alarm into the state, says it on standard error, and has the command run."""
+        state.alarms.append(Alarm(event, now, text))
+        del state.alarms[:-KEPT]
+        print(f"alarm {event}: {text}", file=sys.stderr, flush=True)
+        if self.command:
+            self.waiting.append(self._environment(state, event, text, now, radio))
+
+    def _environment(self, state: State, event: str, text: str, now: float, radio: int | None) -> dict[str, str]:
+        link = state.links[0] if state.links else None
+        told = {
+            "RADIO_EVENT": event, "RADIO_TEXT": text, "RADIO_AT": f"{now:.0f}", "RADIO_NUMBER": "" if radio is None else str(radio),
+            "RADIO_RUN": str(state.run.number), "RADIO_STATION": state.station, "RADIO_STATE": os.path.join(self.folder, "state.json") if self.folder else "",
+            "RADIO_LEAP": str(link.leap) if link else "", "RADIO_STRATUM": str(link.stratum) if link else "",
+            "RADIO_REFERENCE": link.reference_id if link else "", "RADIO_ROOT_DISPERSION": f"{link.root_dispersion:.6f}" if link else "",
+        }
+        return {**os.environ, **told}
+
+    def turn(self, now: float) -> None:
+        """Ends a command that takes too long and starts the next one (`now` in monotonic s). Call it once a second or more often."""
+        if self.child is not None:
+            if self.child.poll() is None:
+                if now >= self.end + GRACE:
+                    self._signal(signal.SIGKILL)
+                elif now >= self.end:
+                    self._signal(signal.SIGTERM)
+                return
+            if self.child.returncode:
+                print(f"the alarm's command ended with {self.child.returncode}", file=sys.stderr, flush=True)
+            self.child = None
+        if self.waiting:
+            self._start(self.waiting.popleft(), now)
+
+    def _start(self, environment: dict[str, str], now: float) -> None:
+        self.end = now + self.limit
+        try:
+            # A session of its own: what the command starts is ended with it.
+            self.child = subprocess.Popen(["/bin/sh", "-c", self.command], env=environment, stdin=subprocess.DEVNULL, start_new_session=True)
+        except OSError as error:
+            print(f"the alarm's command can't be started: {error.strerror}", file=sys.stderr, flush=True)
+
+    def _signal(self, number: int) -> None:
+        try:
+            os.killpg(self.child.pid, number)
+        except ProcessLookupError:
+            pass
+
+    def close(self) -> None:
+        """Ends a command that still runs; what waits isn't run any more."""
+        self.waiting.clear()
+        if self.child is not None and self.child.poll() is None:
+            self._signal(signal.SIGTERM)
+            try:
+                self.child.wait(GRACE)
+            except subprocess.TimeoutExpired:
+                self._signal(signal.SIGKILL)
+                self.child.wait()
+        self.child = None

@@ -1,0 +1,159 @@
+"""`check`: both files, the host, and some seconds of each receiver, before a start. It changes nothing."""
+
+import os
+import select
+import time
+
+from keeper import config, hosts
+from keeper.children import Guard
+from keeper.faces import STATE
+from keeper.hosts import Finding, Level
+from keeper.marks import Look, look
+from keeper.rules import PLANS
+from keeper.source import Ended, source_of
+from keeper.state import StateError, load
+from keeper.text import length
+from keeper.verdict import STALE
+from keeper.words import DONE, NOT_WELL, Fault, Parser
+
+SECONDS = 10
+MOST = 1 << 20  # bytes that are looked at of a radio; a source that writes more writes noise
+DOCUMENT = "radio_ntpd.toml(5) has the range of each key"
+
+
+def parser() -> Parser:
+    words = Parser(prog="radio_keeper check", description="Looks at both files, the host and the receivers. Changes nothing.")
+    words.add_argument("--config", metavar="FILE", help="the keeper's file (keeper.toml here or in /etc/radio_ntpd)")
+    words.add_argument("--seconds", type=int, default=SECONDS, help=f"how long each receiver is read, 0 to 600; 0 leaves that out ({SECONDS})")
+    return words
+
+
+def main(given: list[str]) -> int:
+    words = parser()
+    asked = words.parse_args(given)
+    if not 0 <= asked.seconds <= 600:
+        words.error("--seconds is 0 to 600")
+    settings = config.load(asked.config or config.default())
+    found = [tell((Level.WELL, f"{settings.path}: every key is known and in range"))]
+    found += [tell(one) for one in judge_station(settings)]
+    running = keeper_runs(settings)
+    found += [tell(one) for one in hosts.look(settings, running)]
+    if running and asked.seconds:
+        tell((Level.NOTE, "a keeper runs and reads the receivers: `radio_keeper status` says how they are"))
+    elif asked.seconds:
+        for place, radio in enumerate(settings.radios):
+            found += [tell(one) for one in hear(settings, place, asked.seconds)]
+    bad = sum(level == Level.BAD for level, _ in found)
+    print(f"{bad} to mend" if bad else "nothing to mend")
+    return NOT_WELL if bad else DONE
+
+
+def tell(finding: Finding) -> Finding:
+    level, text = finding
+    print(f"{level.value:<5} {text}", flush=True)
+    return finding
+
+
+def keeper_runs(settings: config.Settings) -> bool:
+    """Whether a keeper renews the state of this station's folder."""
+    try:
+        return time.time() - load(os.path.join(settings.folder, STATE)).written < STALE
+    except StateError:
+        return False
+
+
+def judge_station(settings: config.Settings) -> list[Finding]:
+    """What the program itself says of the station file, and what it can't know."""
+    try:
+        config.judge(settings)
+    except Fault as fault:
+        return [(Level.BAD, explained(str(fault)))]
+    found = [(Level.WELL, f"{settings.station}: the program takes it")]
+    if not settings.radios and not settings.servers:
+        found.append((Level.NOTE, "the station has no radio and no server: it will never have a time"))
+    if settings.bound < 0.94:
+        found.append((Level.NOTE, f"with a bound of {settings.bound * 1e3:.0f} ms there is no time before the fifth minute after a first start"))
+    if settings.servers and settings.radios and not settings.pace:
+        found.append((Level.NOTE, "servers beside a radio without pacing outvote it after minutes: set `pace`"))
+    if settings.leap_file and not os.path.exists(settings.leap_file):
+        found.append((Level.BAD, f"leap_file {settings.leap_file}: it isn't there"))
+    mode = os.stat(settings.station).st_mode
+    if settings.text.get("key") and mode & 0o077:
+        found.append((Level.NOTE, f"{settings.station} has keys and can be read by others: chmod 600 it"))
+    return found
+
+
+def explained(text: str) -> str:
+    """A refusal of the program with what to do about it."""
+    for word, advice in (
+        ("station toml", "it is no TOML 1.0: a quote that isn't closed, a value that is missing"), ("station unknown", "a key that a station doesn't have: look for a slip of the pen"),
+        ("station missing", "write the key"), ("station range", DOCUMENT), ("station many", "there are more than a station may have"),
+    ):
+        if word in text:
+            return f"{text}; {advice}"
+    return text
+
+
+def hear(settings: config.Settings, place: int, seconds: int) -> list[Finding]:
+    """Some seconds of a radio's source, and what they look like."""
+    radio = settings.radios[place]
+    name = f"radio {place} ({radio.name or radio.plan})"
+    print(f"      {name} is read for {seconds} s ..", flush=True)
+    guard = Guard()
+    try:
+        text, ended = listen(source_of(radio.kind, radio.value, guard), seconds)
+    except OSError as error:
+        return [(Level.BAD, f"{name}: its source can't be begun: {error.strerror}")]
+    finally:
+        guard.close()
+    seen = look(text.split(b"\n")[:-1], seconds, time.monotonic(), time.time())
+    found = [(Level.BAD, f"{name}: its source ended: {ended}")] if ended else []
+    return found + [(level, f"{name}: {said}") for level, said in judge_marks(seen, radio.plan)]
+
+
+def listen(source, seconds: float) -> tuple[bytes, str]:
+    """What a source writes within a number of seconds, and how it ended, if it did. Raises OSError."""
+    text, ended, end = b"", "", time.monotonic() + seconds
+    source.begin()
+    try:
+        while (left := end - time.monotonic()) > 0 and len(text) < MOST:
+            select.select([source.descriptor] if source.descriptor >= 0 else [], [], [], min(left, 0.2))
+            text += source.read()
+    except Ended as error:
+        ended = str(error)
+    finally:
+        source.end()
+    return text, ended
+
+
+def judge_marks(seen: Look, plan: str) -> list[Finding]:
+    """Sentences on what was heard of a radio of this plan."""
+    if seen.edges and not seen.widths:
+        return [(Level.BAD, "its lines are edges: put `| feeders/edges_to_log.py` after the command")]
+    if not seen.widths:
+        return [(Level.BAD, "nothing was received: no carrier, no power, another line, or no right to it" if not seen.lines else f"{seen.others} lines were no start and width")]
+    found: list[Finding] = []
+    if seen.others:
+        found.append((Level.NOTE, f"{seen.others} lines were no start and width"))
+    if not seen.unit:
+        found.append((Level.BAD, "its starts are of no clock of this host: a log has microseconds of the monotonic clock"))
+    elif seen.clock != "monotonic":
+        found.append((Level.BAD, f"its starts are {seen.unit} of the real-time clock: a log has microseconds of the monotonic clock"))
+    elif seen.unit != "microseconds":
+        found.append((Level.BAD, f"its starts are {seen.unit}: a log has microseconds"))
+    return found + _judge_widths(seen, plan)
+
+
+def _judge_widths(seen: Look, plan: str) -> list[Finding]:
+    what = f"{seen.rate:.1f} marks a second, widths {length(min(seen.widths) / 1e6)} to {length(max(seen.widths) / 1e6)}"
+    if seen.rate > 3:
+        return [(Level.BAD, f"{what}: noise, or another signal")]
+    if seen.inverted is None:
+        return [(Level.NOTE, f"{what}: too few or too unsteady to say more; read it for longer with --seconds 60")]
+    found = []
+    if seen.inverted:
+        found.append((Level.BAD, f"{what}: its output is the other way round: give edges_to_log.py `--low`, or take it away"))
+    looks = " or ".join(PLANS[one] for one in seen.plans) or "no plan that is known"
+    if plan in seen.plans:
+        return found or [(Level.WELL, f"{what}: marks of {looks}")]
+    return found + [(Level.BAD if seen.plans else Level.NOTE, f"{what}: marks of {looks}, and the station says {PLANS.get(plan, plan)}")]

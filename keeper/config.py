@@ -1,0 +1,209 @@
+"""The keeper's file, `keeper.toml`, and the station file that it names. A key that isn't known, is missing or out of range is refused by name."""
+
+import os
+import re
+import subprocess
+import tomllib
+from dataclasses import dataclass, field
+
+from keeper.words import REFUSED, Fault, sentence
+
+HOUR = 3600
+# Without pacing servers are asked at the start of a run alone, so what they said is at most this old, in seconds.
+UNPACED_CYCLE = 300
+KINDS = ("command", "fifo", "file")
+JUDGED = 20.0  # how long the program may take to judge a station file, in seconds
+MOST = 65536  # bytes of a station file
+
+
+@dataclass(frozen=True)
+class Radio:
+    """A radio's source: `kind` is `command`, `fifo` or `file`, and `value` the command or the name. `stall` and `delay` are seconds."""
+
+    kind: str
+    value: str
+    name: str
+    stall: float
+    plan: str
+    delay: float
+
+
+@dataclass(frozen=True)
+class Alarms:
+    """`command` is empty for none; `unheard` and `limit` are seconds."""
+
+    command: str = ""
+    unheard: float = 3600.0
+    limit: float = 30.0
+
+
+@dataclass(frozen=True)
+class Settings:
+    """What both files say. `text` is the station's TOML as it was read; `cycle`, `pace`, `bound` and `gap` are seconds."""
+
+    path: str
+    station: str
+    text: dict
+    program: str
+    folder: str
+    cycle: float
+    days: int
+    pace: float
+    radios: list[Radio]
+    links: list[int]
+    servers: list[tuple[str, int]]
+    denied: list[str]
+    gap: float
+    bound: float
+    leap_file: str | None
+    alarms: Alarms = field(default_factory=Alarms)
+
+
+# Each key: its types and its least and greatest value.
+TOP = {
+    "station": (str,), "program": (str,), "state": (str,), "cycle": (int, 2, 86400 * 7), "days": (int, 1, 3650),
+    "pace": (int, 0, 1024), "alarms": (dict,), "radio": (list,),
+}
+ALARMS = {"command": (str,), "unheard": (int, 60, 86400 * 30), "limit": (int, 1, 3600)}
+RADIO = {"command": (str,), "fifo": (str,), "file": (str,), "name": (str,), "stall": (int, 2, 86400)}
+
+
+def default() -> str:
+    """The keeper's file where none is named: in the working folder, else the installed one."""
+    return "keeper.toml" if os.path.exists("keeper.toml") else "/etc/radio_ntpd/keeper.toml"
+
+
+def line_of(text: str, key: str, table: str = "", place: int = 0) -> str:
+    """` (line N)` for a key of the top, of a table, or of the table at a place of an array; nothing where it isn't found."""
+    now, seen = "", {}
+    for number, line in enumerate(text.splitlines(), 1):
+        head = re.match(r"\s*\[\[?\s*([\w.-]+)\s*\]\]?", line)
+        if head:
+            now = head[1]
+            seen[now] = seen.get(now, -1) + 1
+            if key == now and not table:
+                return f" (line {number})"
+        elif now == table and seen.get(now, 0) == place and re.match(rf"\s*[\"']?{re.escape(key)}[\"']?\s*[=.]", line):
+            return f" (line {number})"
+    return ""
+
+
+def read(path: str) -> tuple[dict, str]:
+    """A TOML file and its text. Raises Fault."""
+    try:
+        with open(path, "rb") as file:
+            text = file.read(MOST + 1).decode("utf-8")
+    except OSError as error:
+        raise Fault(sentence(error), REFUSED) from error
+    except UnicodeDecodeError as error:
+        raise Fault(f"{path}: it isn't UTF-8", REFUSED) from error
+    if len(text.encode()) > MOST:
+        raise Fault(f"{path}: it has more than {MOST} bytes", REFUSED)
+    try:
+        return tomllib.loads(text), text
+    except (tomllib.TOMLDecodeError, RecursionError) as error:
+        raise Fault(f"{path}: it is no TOML: {error}", REFUSED) from error
+
+
+class Keys:
+    """The keys of one table of the keeper's file, judged one by one; `where` is what a fault puts before a key."""
+
+    def __init__(self, path: str, text: str, values: dict, known: dict, table: str = "", place: int | None = None) -> None:
+        self.path, self.text, self.values, self.table, self.place = path, text, values, table, place
+        self.where = table if place is None else f"{table}.{place}"
+        for key in values:
+            if key not in known:
+                self.refuse(key, "a key that isn't known")
+        for key, (kind, *limits) in known.items():
+            if key in values:
+                self._judge(key, values[key], kind, limits)
+
+    def refuse(self, key: str, why: str) -> None:
+        line = line_of(self.text, key, self.table, self.place or 0)
+        raise Fault(f"{self.path}: {self.where + '.' if self.where else ''}{key}: {why}{line}", REFUSED)
+
+    def _judge(self, key: str, value: object, kind: type, limits: list[int]) -> None:
+        if type(value) is not kind:
+            names = {str: "a string", int: "a whole number", dict: "a table", list: "an array of tables"}
+            self.refuse(key, f"it isn't {names[kind]}")
+        if limits and not limits[0] <= value <= limits[1]:
+            self.refuse(key, f"{value} isn't within {limits[0]} to {limits[1]}")
+        if kind is str and (not value.strip() or "\0" in value):
+            self.refuse(key, "it is empty")
+
+    def must(self, key: str) -> object:
+        if key not in self.values:
+            self.refuse(key, "it is missing")
+        return self.values[key]
+
+
+def built_program() -> str:
+    """The program where none is named: by RADIO_NTPD, else beside this package."""
+    top = os.path.dirname(os.path.dirname(os.path.abspath(__file__)))
+    places = [os.environ.get("RADIO_NTPD", ""), os.path.join(top, "bin", "radio_ntpd"), os.path.join(top, "crates/radio_ntpd/out/radio_ntpd")]
+    return next((one for one in places if one and os.path.isfile(one)), places[-1])
+
+
+def _table(values: dict, key: str) -> list[dict]:
+    """The tables of an array of the station; what is none is left for the program to refuse."""
+    found = values.get(key, [])
+    return [one for one in found if isinstance(one, dict)] if isinstance(found, list) else []
+
+
+def _number(values: dict, key: str, default: float) -> float:
+    return values[key] if type(values.get(key)) is int else default
+
+
+def load(path: str) -> Settings:
+    """Both files. Raises Fault for the first thing that isn't right; whether the station itself is valid `judge` asks the program."""
+    values, text = read(path)
+    base = os.path.dirname(os.path.abspath(path))
+    top = Keys(path, text, values, TOP)
+    alarms = Keys(path, text, values.get("alarms", {}), ALARMS, "alarms").values
+    station_path = os.path.join(base, top.must("station"))
+    station, _ = read(station_path)
+    tables = _table(station, "radio")
+    radios = [_radio(path, text, one, place, tables) for place, one in enumerate(values.get("radio", []))]
+    if len(radios) != len(tables):
+        raise Fault(f"{path}: radio: {len(radios)} are here and {len(tables)} in {station_path}{line_of(text, 'radio')}", REFUSED)
+    servers = [(one["address"], one["port"]) for one in _table(station, "server") if isinstance(one.get("address"), str) and type(one.get("port")) is int]
+    pace = values.get("pace", 16)
+    return Settings(
+        path=os.path.abspath(path), station=station_path, text=station,
+        program=os.path.join(base, values["program"]) if "program" in values else built_program(),
+        folder=os.path.join(base, values.get("state", "state")),
+        cycle=values.get("cycle", UNPACED_CYCLE if servers and not pace else HOUR), days=values.get("days", 30), pace=pace,
+        radios=radios, links=[one["port"] for one in _table(station, "link") if type(one.get("port")) is int], servers=servers,
+        denied=[one["net"] for one in _table(station, "deny") if isinstance(one.get("net"), str)],
+        gap=_number(station, "gap", 0) / 1e6, bound=_number(station, "bound", 1000) / 1e3,
+        leap_file=station["leap_file"] if isinstance(station.get("leap_file"), str) else None, alarms=Alarms(**alarms),
+    )
+
+
+def _radio(path: str, text: str, values: object, place: int, tables: list[dict]) -> Radio:
+    if not isinstance(values, dict):
+        raise Fault(f"{path}: radio.{place}: it is no table", REFUSED)
+    keys = Keys(path, text, values, RADIO, "radio", place)
+    named = [kind for kind in KINDS if kind in values]
+    if len(named) != 1:
+        keys.refuse(named[1] if named else "command", "one of command, fifo and file must stand there, and no more than one")
+    table = tables[place] if place < len(tables) else {}
+    plan = table.get("plan") if isinstance(table.get("plan"), str) else ""
+    value = values[named[0]]
+    if named[0] != "command":
+        value = os.path.join(os.path.dirname(os.path.abspath(path)), value)
+    return Radio(named[0], value, values.get("name", plan), values.get("stall", 60), plan, _number(table, "delay", 0) / 1e6)
+
+
+def judge(settings: Settings) -> None:
+    """Asks the program itself whether the station is valid. Raises Fault with its word."""
+    words = [settings.program, "replay", "--station", settings.station, "--script", "/dev/null"]
+    try:
+        done = subprocess.run(words, stdin=subprocess.DEVNULL, stdout=subprocess.PIPE, stderr=subprocess.DEVNULL, timeout=JUDGED)
+    except OSError as error:
+        raise Fault(f"the program {settings.program} can't be run: {error.strerror}") from error
+    except subprocess.TimeoutExpired as error:
+        raise Fault(f"the program {settings.program} doesn't judge the station within {JUDGED:.0f} s") from error
+    last = done.stdout.decode("ascii", "replace").splitlines()[-1:] or [f"it ends with {done.returncode}"]
+    if done.returncode != 0:
+        raise Fault(f"{settings.station}: the program refuses it: {last[0]}", REFUSED)

@@ -1,0 +1,116 @@
+"""Where a server's counter stands: how late it began, as its own answers say while it has no time."""
+
+import select
+import socket
+import time
+from dataclasses import dataclass
+
+from keeper.ntp import Answer, answer, request
+
+LEAST = 10  # exchanges at least
+AIM = 20.0  # within which the lag is to be known, in microseconds
+SOME = 1000.0  # what will do on a busy machine or under a flood, in microseconds
+ENOUGH = 0.05  # how long it is tried to know it as well as is aimed at, in seconds
+LONGEST = 2.0  # how long it is tried to know it as well as will do, in seconds
+SPIN = 300_000  # for so long each second answer is waited for without sleeping, in nanoseconds
+AGAIN = 0.002  # an answer that hasn't come by then is waited for beside the next ones, in seconds
+CLOSED = 0.0002  # how often a port that isn't open yet is asked, in seconds
+
+
+@dataclass(frozen=True)
+class Reading:
+    """How far a counter is behind the host's monotonic clock, and within what that is known, both in microseconds."""
+
+    lag: float
+    bound: float
+
+
+@dataclass(frozen=True)
+class Exchange:
+    """A request's and its answer's moments on the monotonic clock (us), and what the answer says."""
+
+    left: float
+    came: float
+    said: Answer
+
+
+def reading_of(exchanges: list[Exchange]) -> Reading | None:
+    """What these exchanges say together; None where no answer reports a counter. A request can't be heard before it was sent, and an
+    answer can't come before it was sent: so each bounds the lag from both sides, and the closest bounds count."""
+    good = [one for one in exchanges if one.said.reports_counter()]
+    if not good:
+        return None
+    least = max(one.left - one.said.receive * 1e6 for one in good)
+    most = min(one.came - one.said.transmit * 1e6 for one in good)
+    return Reading((least + most) / 2, max(most - least, 0.0) / 2)
+
+
+def open_client(port: int, address: str) -> socket.socket:
+    """A socket that asks a link from an address of the loopback, and never waits."""
+    client = socket.socket(socket.AF_INET, socket.SOCK_DGRAM | socket.SOCK_CLOEXEC)
+    try:
+        client.bind((address, 0))
+        client.connect(("127.0.0.1", port))
+        client.setblocking(False)
+    except OSError:
+        client.close()
+        raise
+    return client
+
+
+class Counter:
+    """Reads the counter of a server that has just been started, step by step. `asked` counts the requests that were heard or may be."""
+
+    def __init__(self, port: int, address: str) -> None:
+        self.client = open_client(port, address)
+        self.began = time.monotonic()
+        self.sent: dict[int, float] = {}
+        self.exchanges: list[Exchange] = []
+        self.asked = 0
+
+    def step(self) -> bool:
+        """One request, and the answers that come soon; whether the lag is known as well as it can be. A server that isn't there yet is
+        asked again."""
+        try:
+            left = time.monotonic_ns()
+            self.client.send(request(left))
+            self.sent[left % 2**64] = left / 1e3
+            self.asked += 1
+            self._receive(left)
+        except ConnectionRefusedError:
+            self.sent.clear()
+            self.asked = 0
+            time.sleep(CLOSED)
+        return self._is_enough()
+
+    def _receive(self, began: int) -> None:
+        """Waits for one answer (`began`: monotonic ns). One that is waited for without sleeping is seen at once, which bounds the lag
+        from above; one that is slept for leaves the server this processor, so that it receives at once, which bounds it from below."""
+        end, spun = began + int(AGAIN * 1e9), began + SPIN * (self.asked % 2)
+        while (now := time.monotonic_ns()) < end:
+            try:
+                datagram = self.client.recv(1024)
+            except BlockingIOError:
+                if now > spun:
+                    select.select([self.client], [], [], (end - now) / 1e9)
+                continue
+            came = time.monotonic_ns()
+            said = answer(datagram)
+            left = self.sent.pop(said.origin, None) if said else None
+            if left is not None:
+                self.exchanges.append(Exchange(left, came / 1e3, said))
+                return
+
+    def _is_enough(self) -> bool:
+        if not self.exchanges:
+            return False
+        if not self.exchanges[-1].said.reports_counter():
+            return True
+        took, bound = time.monotonic() - self.began, self.reading().bound
+        return took > LONGEST or bound <= SOME and took > ENOUGH or bound <= AIM and len(self.exchanges) >= LEAST
+
+    def reading(self) -> Reading | None:
+        return reading_of(self.exchanges)
+
+    def close(self) -> None:
+        self.client.close()

@@ -1,0 +1,164 @@
+"""All that goes on beside the runs of one station: feeds, relays, journals, alarms, and the state that says how they are."""
+
+import os
+import time
+
+from keeper import faces, facts
+from keeper.alarms import Alarms
+from keeper.children import Guard
+from keeper.config import Settings
+from keeper.decoder import Decoder
+from keeper.feed import Feed
+from keeper.hearings import Hearings
+from keeper.journal import read_journal
+from keeper.journals import Journals, failed_links, heard, status_of
+from keeper.loop import Loop
+from keeper.notify import Notify
+from keeper.ntp import own_addresses
+from keeper.pacing import Pacing
+from keeper.pulse_log import PulseLog
+from keeper.readback import last_pulses
+from keeper.runs import Run
+from keeper.say import say
+
+
+class Crew:
+    """`use` takes settings over, at the beginning and at a reload. It raises OSError."""
+
+    def __init__(self, loop: Loop, guard: Guard) -> None:
+        self.loop, self.guard = loop, guard
+        self.notify = Notify()
+        self.feeds: list[Feed] = []
+        self.pacing: Pacing | None = None
+        self.alarms: Alarms | None = None
+        self.settings: Settings | None = None
+        self.refused = ""  # why a file was refused at the last reload
+        self.failing = False
+
+    def use(self, settings: Settings) -> None:
+        """What these settings leave as it is goes on; a radio's last minutes stay at hand."""
+        os.makedirs(settings.folder, exist_ok=True)
+        before = self.state if self.settings else facts.last_state(os.path.join(settings.folder, faces.STATE))
+        state = facts.new_state(settings, before)
+        if self.settings:
+            facts.go_on(state, self.state)
+        self.addresses = own_addresses(settings.denied, settings.gap)
+        self.hearings = Hearings(settings.cycle)
+        waiting = self.journals.waiting if self.settings else []
+        self.journals = Journals(os.path.join(settings.folder, "journals"), settings.days, say)
+        self.journals.begin()
+        self.journals.waiting = waiting
+        if self.alarms is None or settings.alarms != self.settings.alarms:
+            self._use_alarms(settings)
+        self._use_feeds(settings, state)
+        self._use_relays(settings)
+        self.settings, self.state = settings, state
+
+    def _use_alarms(self, settings: Settings) -> None:
+        if self.alarms:
+            self.alarms.close()
+        self.alarms = Alarms(settings.alarms.command, settings.alarms.unheard, settings.alarms.limit, settings.folder)
+
+    def _use_feeds(self, settings: Settings, state) -> None:
+        old, self.feeds = self.feeds, []
+        for place, radio in enumerate(settings.radios):
+            if place < len(old) and old[place].radio == radio and self.settings.program == settings.program:
+                self.feeds.append(old[place])
+                state.radios[place] = old[place].state
+                continue
+            log = PulseLog(os.path.join(settings.folder, "logs"), place, radio.plan, settings.days, say)
+            decoder = Decoder(settings.program, radio.plan, lambda line: None)
+            self.feeds.append(Feed(self.loop, self.guard, radio, state.radios[place], log, decoder, say))
+            self.feeds[-1].recall(last_pulses(log, time.monotonic_ns() // 1000, time.time()))
+        for feed in old:
+            if feed not in self.feeds:
+                feed.close()
+
+    def _use_relays(self, settings: Settings) -> None:
+        wanted = (settings.servers, settings.pace) if settings.servers and settings.pace else None
+        if self.pacing and (self.pacing.servers, self.pacing.pace) != wanted:
+            self.pacing.close()
+            self.pacing = None
+        if wanted and not self.pacing:
+            self.pacing = Pacing(self.guard, self.loop, settings.pace, settings.servers)
+
+    def turn(self, most: float) -> None:
+        """One round of all that goes on beside a run, of at most so many seconds."""
+        self.loop.turn(most)
+        now = time.monotonic()
+        for feed in self.feeds:
+            feed.turn(now)
+        self.alarms.turn(now)
+        self.notify.turn(now)
+
+    def note_begin(self, run: Run) -> None:
+        """A run serves."""
+        run_state, reading = self.state.run, run.reading
+        run_state.number, run_state.since, run_state.cause, run_state.pid = run.number, run.since, run.cause, run.server.child.pid
+        run_state.lag, run_state.lag_bound = (reading.lag / 1e6, reading.bound / 1e6) if reading else (0.0, 0.0)
+        counter = f"its counter began {reading.lag:.0f} us late, known within {reading.bound:.0f} us" if reading else "where its counter stands isn't known"
+        say(f"run {run.number} ({run.cause}) serves after {run.age() * 1000:.0f} ms; {counter}")
+        if run.number == 1:
+            self.notify.ready()
+
+    def note_end(self, run: Run, text: bytes) -> None:
+        """A run has ended and has printed this."""
+        run_state, status, seconds = self.state.run, status_of(text), max(run.ended - run.began, 0.001)
+        run_state.last_status, run_state.last_journal = status, self.journals.keep(run.since, text, run.own)
+        if run.why != "cycle" or status != "status 0":
+            say(f"run {run.number} ended ({run.why}) after {seconds:.0f} s: {status or f'no status line, it ended with {run.exit_status}'}")
+        counts = heard(text)
+        others = [max(0, count - own) for count, own in zip(counts, run.own)]
+        facts.note_requests(self.state, counts, run.own, seconds)
+        if others and run.why != "silent":
+            self.hearings.learn(max(others), seconds, False)
+        if failed_links(text) and run_state.number != run.number and run_state.cause == "silent":
+            run_state.cause = "link"
+        if run_state.last_journal and (self.state.servers or self.state.leap_file):
+            self._read(run_state.last_journal, run)
+
+    def _read(self, name: str, run: Run) -> None:
+        shift = time.time() - time.monotonic() + (run.reading.lag / 1e6 if run.reading else 0.0)
+        try:
+            read_journal(os.path.join(self.journals.folder, name), self.state, shift)
+        except OSError:
+            pass  # it waits for room on the disk, which is said where it was tried to write it
+
+    def refuse(self, text: str) -> None:
+        """A file was refused at a reload; the run goes on."""
+        self.refused = text
+        say(f"not reloaded: {text}")
+        self.alarms.raise_alarm(self.state, "file-refused", text, time.time())
+
+    def renew(self, run: Run | None) -> None:
+        """Writes the state for others to read."""
+        now = time.time()
+        if run:
+            facts.note_links(self.state, run.watch)
+        facts.note_servers(self.state, self.pacing)
+        for feed in self.feeds:
+            feed.reception.renew(now)
+        self.state.notes = [one for one in (self.journals.note, self.refused and f"not reloaded: {self.refused}") if one]
+        self.alarms.judge(self.state, now)
+        self.notify.status(self._sentence())
+        try:
+            faces.renew(self.state, self.settings.folder, now)
+            self.failing = False
+        except OSError as error:
+            if not self.failing:
+                say(f"the state can't be written: {error.strerror}")
+            self.failing = True
+
+    def _sentence(self) -> str:
+        good = [one for one in self.state.links if one.leap != 3]
+        time_text = f"time from {good[0].reference_id}, root dispersion {good[0].root_dispersion * 1000:.1f} ms" if good else "no time"
+        return f"run {self.state.run.number}: {time_text}"
+
+    def close(self) -> None:
+        """Ends all of it; nothing stays."""
+        for feed in self.feeds:
+            feed.close()
+        if self.pacing:
+            self.pacing.close()
+        if self.alarms:
+            self.alarms.close()

@@ -1,0 +1,68 @@
+"""`decode` beside a radio, so that one sees live what its log comes to. It never holds the keeper up, and starts again by itself."""
+
+import os
+import subprocess
+from collections.abc import Callable
+
+PAUSE = 10.0  # between two starts, in seconds
+MOST = 4096  # what is read of its output in one go, in bytes
+
+
+class Decoder:
+    """One `decode --plan PLAN` of this program; `tell` gets each line of its output."""
+
+    def __init__(self, program: str, plan: str, tell: Callable[[str], None]) -> None:
+        self.words = [program, "decode", "--plan", plan, "--log", "/dev/stdin"]
+        self.tell = tell
+        self.child: subprocess.Popen[bytes] | None = None
+        self.due = 0.0
+        self.half = b""
+
+    def _start(self, now: float) -> None:
+        self.due = now + PAUSE
+        self.half = b""
+        try:
+            self.child = subprocess.Popen(self.words, stdin=subprocess.PIPE, stdout=subprocess.PIPE, stderr=subprocess.DEVNULL, bufsize=0)
+        except OSError:
+            return
+        os.set_blocking(self.child.stdin.fileno(), False)
+        os.set_blocking(self.child.stdout.fileno(), False)
+
+    def give(self, lines: bytes, now: float) -> None:
+        """Whole lines of the log, at this moment of the monotonic clock (s). Where it can't take them it is started anew, later."""
+        if self.child is None:
+            if now < self.due:
+                return
+            self._start(now)
+        if self.child is None:
+            return
+        try:
+            # A half of a line would corrupt what follows, so a pipe that takes less than all is as bad as one that takes nothing.
+            if os.write(self.child.stdin.fileno(), lines) < len(lines):
+                self.close()
+        except OSError:
+            self.close()
+
+    def turn(self) -> None:
+        """Reads what there is. Call it once a second or more often."""
+        while self.child is not None:
+            try:
+                piece = os.read(self.child.stdout.fileno(), MOST)
+            except BlockingIOError:
+                return
+            if not piece:
+                self.close()
+                return
+            *lines, self.half = (self.half + piece).split(b"\n")
+            for line in lines:
+                self.tell(line.decode("ascii", "replace"))
+
+    def close(self) -> None:
+        """Ends it; it is started again by the next `give` after the pause."""
+        child, self.child = self.child, None
+        if child is None:
+            return
+        child.stdin.close()
+        child.stdout.close()
+        child.kill()  # it keeps nothing that could be lost
+        child.wait()

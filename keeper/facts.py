@@ -1,0 +1,93 @@
+"""Puts into the state what the keeper knows of its runs, its links and its feeds."""
+
+import os
+import time
+
+from keeper.config import Settings
+from keeper.journal import expiry
+from keeper.ntp import unix_of
+from keeper.pacing import Pacing
+from keeper.state import DRIFT, LeapFileState, LinkState, RadioState, ServerState, State, StateError, load
+from keeper.watch import Watch, Watched
+
+
+def new_state(settings: Settings, before: State | None) -> State:
+    """A state for these settings. Pictures of the day are taken over from the one before, where a radio or a server is still there."""
+    state = State(keeper_since=time.time(), keeper_pid=os.getpid())
+    state.station, state.bound, state.cycle = settings.station, settings.bound, settings.cycle
+    state.links = [LinkState(port=port) for port in settings.links]
+    state.radios = [RadioState(number=place, plan=one.plan, name=one.name, delay=one.delay) for place, one in enumerate(settings.radios)]
+    first = len(state.radios)
+    state.servers = [ServerState(number=first + place, address=address, port=port) for place, (address, port) in enumerate(settings.servers)]
+    if settings.leap_file:
+        state.leap_file = LeapFileState(number=first + len(state.servers), path=settings.leap_file, expires=expiry(settings.leap_file))
+    if before:
+        _take_over(state, before)
+    return state
+
+
+def _take_over(state: State, before: State) -> None:
+    radios = {(one.number, one.plan): one for one in before.radios}
+    for radio in state.radios:
+        old = radios.get((radio.number, radio.plan))
+        if old:
+            radio.reception, radio.offsets, radio.minute, radio.minute_at = old.reception, old.offsets, old.minute, old.minute_at
+    servers = {(one.address, one.port): one for one in before.servers}
+    for server in state.servers:
+        old = servers.get((server.address, server.port))
+        if old:
+            server.offsets, server.sample_at, server.answered_at = old.offsets, old.sample_at, old.answered_at
+    state.alarms = before.alarms
+
+
+def go_on(state: State, before: State) -> None:
+    """The keeper goes on with other files: what counts from its beginning does too."""
+    state.keeper_since, state.run = before.keeper_since, before.run
+    requests = {link.port: link.requests for link in before.links}
+    for link in state.links:
+        link.requests = requests.get(link.port, 0)
+
+
+def last_state(path: str) -> State | None:
+    """What a keeper before this one has written, where it can be read."""
+    try:
+        return load(path)
+    except StateError:
+        return None
+
+
+def note_link(link: LinkState, watched: Watched, bound: float, unix: float) -> None:
+    """What a link's last answer says (`unix`: now)."""
+    # Monotonic moments are turned into Unix seconds by the host's clock as it stands.
+    shift = time.time() - time.monotonic()
+    if watched.asked_at:
+        link.asked_at = watched.asked_at + shift
+    if watched.answered_at:
+        link.answered_at = watched.answered_at + shift
+    said = watched.last
+    if said is None:
+        return
+    link.leap, link.stratum, link.reference_id = said.leap, said.stratum, said.reference_id
+    link.root_delay, link.root_dispersion = said.root_delay, said.root_dispersion
+    link.reference_time = unix_of(said.reference, unix)
+    has_time = said.has_time()
+    link.until = watched.came_unix + max(0.0, bound - said.root_dispersion) / DRIFT if has_time else 0.0
+    link.offset = watched.offset if has_time else 0.0
+
+
+def note_links(state: State, watch: Watch) -> None:
+    for link, watched in zip(state.links, watch.links):
+        note_link(link, watched, state.bound, time.time())
+
+
+def note_servers(state: State, pacing: Pacing | None) -> None:
+    if pacing:
+        for server, answered in zip(state.servers, pacing.answered):
+            server.answered_at = max(server.answered_at, answered)
+
+
+def note_requests(state: State, heard: list[int], own: list[int], seconds: float) -> None:
+    """Clients' requests of a run that has ended."""
+    for link, count, ours in zip(state.links, heard, own):
+        link.requests += max(0, count - ours)
+        link.requests_per_second = max(0, count - ours) / max(seconds, 1.0)

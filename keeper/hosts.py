@@ -1,0 +1,125 @@
+"""Looks at the host before a start: ports, sources, the clock, the folder. Each look gives findings, which are sentences with a level."""
+
+import errno
+import os
+import shlex
+import shutil
+import socket
+import stat
+import time
+from enum import Enum
+
+from keeper.config import Radio, Settings
+
+CLOCKS = "/sys/devices/system/clocksource/clocksource0"
+GOOD_CLOCKS = ("tsc", "arch_sys_counter", "kvm-clock", "hyperv_clocksource_tsc_page", "xen", "riscv_clocksource", "stp", "timer")
+WRAPPERS = ("exec", "stdbuf", "nice", "env")  # the program that is looked for stands after one of them and its options
+BUILT_IN = ("cd", "while", "for", "if", "do", "done", "then", "fi", "read", "umask", "ulimit", "trap", ":", ".", "(", "{", "}")
+READS = 200  # of the clock, to see how long one takes
+
+
+class Level(Enum):
+    """How a finding is meant."""
+
+    WELL = "well"
+    NOTE = "note"
+    BAD = "BAD"
+
+
+Finding = tuple[Level, str]
+
+
+def look_at_port(port: int) -> Finding:
+    """Whether a link could have this port now."""
+    with socket.socket(socket.AF_INET, socket.SOCK_DGRAM) as trial:
+        try:
+            trial.bind(("0.0.0.0", port))
+        except OSError as error:
+            if error.errno == errno.EADDRINUSE:
+                return Level.BAD, f"port {port} is taken: `ss -ulpn 'sport = {port}'` says by whom; chronyd gives port 123 back with `port 0` in its file"
+            if error.errno in (errno.EACCES, errno.EPERM):
+                return Level.NOTE, f"port {port} needs a right that you don't have; the installed service has it (CAP_NET_BIND_SERVICE)"
+            return Level.BAD, f"port {port} can't be had: {error.strerror}"
+    return Level.WELL, f"port {port} is free"
+
+
+def look_at_source(radio: Radio, place: int) -> Finding:
+    """Whether a radio's source is there; it isn't opened."""
+    name = f"radio {place} ({radio.name or radio.plan})"
+    if radio.kind == "command":
+        return _look_at_command(name, radio.value)
+    try:
+        mode = os.stat(radio.value).st_mode
+    except OSError as error:
+        return Level.BAD, f"{name}: {radio.value}: {error.strerror}"
+    if radio.kind == "fifo" and not stat.S_ISFIFO(mode):
+        return Level.BAD, f"{name}: {radio.value} is no FIFO: `mkfifo {radio.value}` makes one"
+    if radio.kind == "file" and not stat.S_ISREG(mode):
+        return Level.BAD, f"{name}: {radio.value} is no file"
+    if not os.access(radio.value, os.R_OK):
+        return Level.BAD, f"{name}: {radio.value} may not be read by you"
+    return Level.WELL, f"{name}: {radio.value} is there"
+
+
+def _look_at_command(name: str, command: str) -> Finding:
+    missing = []
+    for part in command.replace("||", "|").replace("&&", "|").replace(";", "|").split("|"):
+        program = _program_of(part)
+        if program and shutil.which(program) is None:
+            missing.append(program)
+    if missing:
+        return Level.BAD, f"{name}: there is no program {', '.join(missing)}" + ("; `apt install gpiod` has it" if "gpiomon" in missing else "")
+    return Level.WELL, f"{name}: the programs of its command are there"
+
+
+def _program_of(part: str) -> str | None:
+    """The program that a simple command begins, or None where only the shell itself knows."""
+    try:
+        words = shlex.split(part)
+    except ValueError:
+        return None
+    program = next((word for word in words if "=" not in word and word not in WRAPPERS and not word.startswith("-")), None)
+    if program is None or program in BUILT_IN or any(one in program for one in "$*?<>&()`"):
+        return None
+    return program
+
+
+def look_at_clock(folder: str = CLOCKS) -> list[Finding]:
+    """Which counter the kernel reads, and how long one reading takes."""
+    try:
+        with open(os.path.join(folder, "current_clocksource"), encoding="ascii") as file:
+            name = file.read().strip()
+    except OSError:
+        return [(Level.NOTE, "the kernel doesn't say which clock source it has")]
+    began = time.monotonic_ns()
+    for _ in range(READS):
+        time.monotonic_ns()
+    took = (time.monotonic_ns() - began) / READS / 1e3
+    found = [(Level.WELL, f"the clock source is {name}; a reading takes {took:.2f} us")]
+    if not name.startswith(GOOD_CLOCKS):
+        found = [(Level.NOTE, f"the clock source is {name}, which is slow or coarse ({took:.2f} us a reading); `cat {folder}/available_clocksource` lists others")]
+    return found
+
+
+def look_at_folder(folder: str) -> Finding:
+    """Whether the keeper could write into its folder, or make it."""
+    there = folder
+    while not os.path.exists(there):
+        there = os.path.dirname(there) or "/"
+    if not os.path.isdir(there):
+        return Level.BAD, f"{folder} can't be a folder: {there} is none"
+    if not os.access(there, os.W_OK | os.X_OK):
+        return Level.NOTE, f"you may not write into {there}; the service's user has to"
+    free = shutil.disk_usage(there).free
+    if free < 1 << 28:
+        return Level.NOTE, f"{there} has {free >> 20} MB left; a radio's logs and journals of a month take about 20 MB"
+    return Level.WELL, f"{folder} can be written, {free >> 20} MB are free"
+
+
+def look(settings: Settings, running: bool) -> list[Finding]:
+    """All of it. Where a keeper is running its ports are taken by itself."""
+    found = [(Level.WELL, f"port {port} is served by the keeper that runs") for port in settings.links] if running else [look_at_port(port) for port in settings.links]
+    if not settings.links:
+        found.append((Level.NOTE, "the station has no [[link]]: nobody is answered"))
+    found += [look_at_source(radio, place) for place, radio in enumerate(settings.radios)]
+    return found + look_at_clock() + [look_at_folder(settings.folder)]

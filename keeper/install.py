@@ -1,0 +1,122 @@
+"""`install`: the keeper as a service. Without `--do` it only says what it would do."""
+
+import os
+import pathlib
+
+from keeper.config import built_program
+from keeper.steps import Step, command, groups_for, has_user, is_of_group, keep_file, put_file, put_folder, put_link, remove
+from keeper.words import DONE, Fault, Parser
+
+USER = "radio_ntpd"
+GROUPS = ("gpio", "dialout")
+HOME = "/var/lib/radio_ntpd"
+SETTINGS = "/etc/radio_ntpd"
+PAGES = {"radio_ntpd.8": "man8", "radio_keeper.1": "man1", "radio_ntpd.toml.5": "man5"}
+TOP = pathlib.Path(__file__).resolve().parent.parent
+
+
+def parser() -> Parser:
+    words = Parser(prog="radio_keeper install", description="Installs program, keeper, pages and unit. Says what it would do; --do does it.")
+    words.add_argument("--do", action="store_true", help="do it")
+    words.add_argument("--remove", action="store_true", help=f"take it all away again, but for {SETTINGS} and {HOME}")
+    words.add_argument("--root", default="/", metavar="DIR", help="put the files below DIR, and make no user and start nothing: for packages")
+    words.add_argument("--prefix", default="/usr/local", help="where programs and pages go (/usr/local)")
+    words.add_argument("--program", metavar="FILE", help="the built program, where it isn't in this folder")
+    return words
+
+
+class Places:
+    """Where each part goes."""
+
+    def __init__(self, root: str, prefix: str) -> None:
+        self.root, self.prefix = root, prefix.rstrip("/")
+        self.library = self.below(f"{self.prefix}/lib/radio_ntpd")
+        self.unit = self.below("/lib/systemd/system/radio_ntpd.service" if self.prefix == "/usr" else "/etc/systemd/system/radio_ntpd.service")
+        self.links = {
+            self.below(f"{self.prefix}/sbin/radio_ntpd"): "../lib/radio_ntpd/bin/radio_ntpd",
+            self.below(f"{self.prefix}/bin/radio_keeper"): "../lib/radio_ntpd/radio_keeper",
+        }
+        self.pages = {name: self.below(f"{self.prefix}/share/man/{section}/{name}") for name, section in PAGES.items()}
+        self.settings = self.below(SETTINGS)
+
+    def below(self, path: str) -> str:
+        return os.path.join(self.root, path.lstrip("/"))
+
+
+def scripts(folder: str) -> list[str]:
+    """The files of a folder of the sources that are installed: no tests, no hidden ones."""
+    return sorted(one.name for one in (TOP / folder).iterdir() if one.is_file() and not one.name.startswith((".", "test_")))
+
+
+def adapted(path: pathlib.Path, prefix: str) -> bytes:
+    """A file of the sources with the prefix put in."""
+    return path.read_bytes().replace(b"@PREFIX@", prefix.encode())
+
+
+def steps(places: Places, program: str) -> list[Step]:
+    """Files alone, in their order."""
+    found = [put_file(pathlib.Path(program).read_bytes(), f"{places.library}/bin/radio_ntpd", 0o755), put_file((TOP / "radio_keeper").read_bytes(), f"{places.library}/radio_keeper", 0o755)]
+    found += [put_folder(str(TOP / folder), f"{places.library}/{folder}", scripts(folder)) for folder in ("keeper", "feeders", "tools")]
+    found += [put_link(target, path) for path, target in places.links.items()]
+    found += [put_file((TOP / "docs" / name).read_bytes(), path, 0o644) for name, path in places.pages.items()]
+    found.append(put_file(adapted(TOP / "packaging/radio_ntpd.service", places.prefix), places.unit, 0o644))
+    found.append(keep_file(adapted(TOP / "packaging/keeper.toml", places.prefix), f"{places.settings}/keeper.toml", 0o644))
+    found.append(keep_file((TOP / "packaging/station.toml").read_bytes(), f"{places.settings}/station.toml", 0o640))
+    return found
+
+
+def host_steps(places: Places) -> list[Step]:
+    """The user and its groups, and what systemd has to know; not done below another root."""
+    groups = groups_for(USER, GROUPS)
+    station = f"{places.settings}/station.toml"
+    found = [Step(f"make the system user {USER}", lambda: not has_user(USER), lambda: command("useradd", "--system", "--user-group", "--home-dir", HOME, "--shell", "/usr/sbin/nologin", USER))]
+    found += [Step(f"put {USER} into the group {one}, whose devices it then may read", lambda: True, lambda one=one: command("usermod", "-aG", one, USER)) for one in groups]
+    found.append(Step(f"let the group {USER} read {station}, which may have keys", lambda: not is_of_group(station, USER), lambda: command("chgrp", USER, station)))
+    if os.path.isdir("/run/systemd/system"):
+        found.append(Step("have systemd read its units anew", lambda: True, lambda: command("systemctl", "daemon-reload")))
+    return found
+
+
+def removing(places: Places, here: bool) -> list[Step]:
+    """All of it again, but for what is the operator's: settings, journals, logs, the user that owns them."""
+    found = []
+    if here and os.path.isdir("/run/systemd/system"):
+        found.append(Step("stop the service", lambda: os.path.exists(places.unit), lambda: command("systemctl", "disable", "--now", "radio_ntpd")))
+    found += [remove(path) for path in (places.unit, *places.links, *places.pages.values(), places.library)]
+    if here and os.path.isdir("/run/systemd/system"):
+        found.append(Step("have systemd read its units anew", lambda: True, lambda: command("systemctl", "daemon-reload")))
+    return found
+
+
+def main(given: list[str]) -> int:
+    asked = parser().parse_args(given)
+    if not asked.prefix.startswith("/"):
+        raise Fault("--prefix is no whole path")
+    here = os.path.realpath(asked.root) == "/"
+    if asked.do and here and os.geteuid() != 0:
+        raise Fault("only root can do that; without --do it says what it would do")
+    places = Places(os.path.abspath(asked.root), asked.prefix)
+    if asked.remove:
+        todo = removing(places, here)
+    else:
+        program = asked.program or built_program()
+        if not os.access(program, os.X_OK):
+            raise Fault(f"there is no built program {program}: build it, or name it with --program")
+        todo = steps(places, program) + (host_steps(places) if here else [])
+    for step in todo:
+        if step.needed():
+            print(f"{'' if asked.do else 'would '}{step.text}", flush=True)
+            if asked.do:
+                step.do()
+    if not asked.remove:
+        print(next_words(places, asked.do))
+    return DONE
+
+
+def next_words(places: Places, done: bool) -> str:
+    if not done:
+        return "nothing was done; --do does it"
+    return (
+        f"next: set {places.settings}/keeper.toml and station.toml, then `radio_keeper check`,"
+        " then `systemctl enable --now radio_ntpd`, then `radio_keeper status`"
+    )

@@ -1,0 +1,227 @@
+"""Keeps a station served: one run of the server after the other, until the end is asked for."""
+
+import fcntl
+import os
+import time
+
+from keeper import config
+from keeper.children import Guard
+from keeper.crew import Crew
+from keeper.loop import Loop, Signals
+from keeper.runs import Run
+from keeper.say import say
+from keeper.server import Server
+from keeper.words import DONE, NOT_WELL, Fault, sentence
+
+RENEWED = 10.0  # how often the state is written, in seconds
+TURN = 0.1  # the longest turn of the loop, in seconds
+PAUSES = (1.0, 60.0)  # the first and the longest pause after a run that didn't begin, in seconds
+SHORT, DEATHS = 10.0, 3  # a run that dies so soon (s), so often in a row, is followed by a pause
+STANDBY = 1.0  # how long after a run's beginning the next server is started, in seconds
+
+
+class Keeper:
+    """`begin` raises OSError; `serve` gives the exit status; `close` leaves nothing behind, whatever happened."""
+
+    def __init__(self, settings: config.Settings) -> None:
+        self.settings = settings
+        self.guard = Guard()
+        self.loop = Loop()
+        self.signals = Signals(self.loop)
+        self.crew = Crew(self.loop, self.guard)
+        self.run: Run | None = None
+        self.standby: Server | None = None
+        self.next: config.Settings | None = None  # what a reload has read
+        self.lock = -1
+        self.number = self.deaths = 0
+        self.stopping = False
+        self.status = DONE
+
+    def begin(self) -> None:
+        self._lock(self.settings.folder)
+        self.crew.use(self.settings)
+        self.loop.every(RENEWED, lambda: self.crew.renew(self.run))
+        self.loop.every(RENEWED, self.guard.look)
+        self.loop.every(RENEWED, lambda: self.crew.journals.try_again())
+
+    def _lock(self, folder: str) -> None:
+        """Raises Fault where another keeper has this folder. The host gives the lock back when the keeper ends, however that is."""
+        os.makedirs(folder, exist_ok=True)
+        descriptor = os.open(folder, os.O_RDONLY | os.O_DIRECTORY | os.O_CLOEXEC)
+        try:
+            fcntl.flock(descriptor, fcntl.LOCK_EX | fcntl.LOCK_NB)
+        except BlockingIOError as error:
+            os.close(descriptor)
+            raise Fault(f"another keeper has {folder}") from error
+        self.lock = descriptor
+
+    def serve(self) -> int:
+        """Runs, one after the other."""
+        cause = "start"
+        while True:
+            self._start_run(cause)
+            if self.run is None:
+                break
+            cause = self._keep_run(self.run)
+            self._end_run(self.run, cause)
+            # A program that dies again and again isn't started without a pause.
+            self.deaths = self.deaths + 1 if cause == "died" and self.run.age() < SHORT else 0
+            if self.deaths > DEATHS:
+                self._rest(min(PAUSES[1], PAUSES[0] * 2 ** (self.deaths - DEATHS - 1)))
+            if self.stopping:
+                break
+        self.crew.notify.stopping()
+        if self.run:
+            self._finish(self.run)
+        self.crew.state.keeper_pid = 0  # it was stopped, and hasn't died
+        self.crew.renew(None)
+        return self.status
+
+    def _stand_by(self) -> None:
+        """A server that waits for its station, for as many hearings as the next run needs."""
+        count = self.crew.hearings.count
+        if self.standby and (self.standby.status() is not None or self.standby.during * 2 < count):
+            self.standby.close()
+            self.standby = None
+        if not self.standby:
+            try:
+                self.standby = Server(self.guard, self.settings.program, len(self.crew.feeds), count)
+            except OSError as error:
+                say(f"the program {self.settings.program} can't be started: {error.strerror}")
+
+    def _start_run(self, cause: str) -> None:
+        """Begins a run, and tries again after a pause where it doesn't begin. `self.run` is None where the end was asked for."""
+        before, self.run, pause = self.run, None, PAUSES[0]
+        while not self.stopping and self.run is None:
+            self._stand_by()
+            server, self.standby = self.standby, None
+            if server:
+                self._try_run(server, cause)
+            if before:
+                self._finish(before)
+                before = None
+            if self.run is None:
+                self._rest(pause)
+                pause = min(pause * 2, PAUSES[1])
+        if before:
+            self._finish(before)
+
+    def _try_run(self, server: Server, cause: str) -> None:
+        self.number += 1
+        run = Run(self.settings, self.loop, server, self.crew.feeds, self.crew.pacing, self.crew.addresses, self.number, cause)
+        if run.begin():
+            self.run = run
+            self.crew.note_begin(run)
+            return
+        run.leave()
+        say(f"run {run.number} doesn't begin: {run.give_up()}")
+
+    def _rest(self, seconds: float) -> None:
+        """Waits so long, or until the end is asked for or a reload brings other files."""
+        end = time.monotonic() + seconds
+        while time.monotonic() < end and not self.stopping:
+            self._turn(TURN)
+            if self.signals.take_reload() and self._reload():
+                self._use_next()
+                return
+
+    def _turn(self, most: float) -> None:
+        self.crew.turn(most)
+        if self.signals.ends() and not self.stopping:
+            self.stopping = True
+            say("the end was asked for")
+
+    def _keep_run(self, run: Run) -> str:
+        """Goes on until the run has to end; says why."""
+        while True:
+            self._turn(min(TURN, run.watch.wait(time.monotonic())))
+            now = time.monotonic()
+            run.watch.turn(now)
+            if run.watch.take_changed():
+                if run.is_first_time():
+                    say(f"run {run.number} has the time after {run.watch.first_time_after(run.began) * 1000:.0f} ms")
+                self.crew.renew(run)
+            cause = self._why_end(run, now)
+            if cause:
+                return cause
+            if not self.standby and now - run.began > STANDBY:
+                self._stand_by()
+
+    def _why_end(self, run: Run, now: float) -> str:
+        if self.stopping:
+            return "stop"
+        if run.server.status() is not None:
+            return "died"
+        if run.watch.deaf():
+            return "silent"
+        if self.crew.pacing and self.crew.pacing.has_died():
+            return "link"
+        if self.signals.take_reload() and self._reload():
+            return "reload"
+        return "cycle" if now - run.began >= self.settings.cycle else ""
+
+    def _reload(self) -> bool:
+        """Whether the files, read anew, are good. Else that is said, and all goes on as it was."""
+        self.crew.notify.reloading()
+        try:
+            settings = config.load(self.settings.path)
+            config.judge(settings)
+        except Fault as fault:
+            self.crew.refuse(str(fault))
+            self.crew.notify.ready()
+            return False
+        self.next, self.crew.refused = settings, ""
+        return True
+
+    def _use_next(self) -> None:
+        """Goes over to what a reload has read."""
+        settings, self.next = self.next, None
+        if settings is None:
+            return
+        try:
+            self.crew.use(settings)
+            self.settings = settings
+        except OSError as error:
+            self.crew.refuse(sentence(error))
+        if self.standby:
+            self.standby.close()
+            self.standby = None
+        self.crew.notify.ready()
+
+    def _end_run(self, run: Run, why: str) -> None:
+        """Ends a run so that its ports are free. Its journal is taken when the next one serves."""
+        run.why, run.ended = why, time.monotonic()
+        run.leave()
+        self._use_next()
+        try:
+            if why == "link" and self.crew.pacing:
+                say("the relays have ended; they are started again")
+                self.crew.pacing.renew()
+        except OSError as error:
+            say(sentence(error))
+        if not self.stopping:
+            self._stand_by()
+        if why != "died" and not run.drain(self._meanwhile):
+            say(f"run {run.number} is ended at once: its journal is lost")
+            self.status = NOT_WELL
+            run.server.child.end(0)
+        elif why == "silent" and run.was_used_up():
+            self.crew.hearings.learn(0, 1.0, True)
+
+    def _meanwhile(self) -> bool:
+        """What goes on while a run is drained; False where the end was asked for twice."""
+        self._turn(0)
+        return self.signals.ends() < 2
+
+    def _finish(self, run: Run) -> None:
+        self.crew.note_end(run, run.finish())
+        self.crew.renew(self.run)
+
+    def close(self) -> None:
+        for server in (self.standby, self.run.server if self.run else None):
+            if server:
+                server.close()
+        self.crew.close()
+        self.guard.close()
+        if self.lock >= 0:
+            os.close(self.lock)

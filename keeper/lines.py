@@ -1,0 +1,95 @@
+"""Lines of a pulse log as they come from a source: whole ones alone, their form and their order checked."""
+
+import re
+from dataclasses import dataclass
+
+FORM = re.compile(rb"(0|[1-9][0-9]{0,15}) ([1-9][0-9]{0,6})")
+WIDEST = 2_000_000  # the greatest width of a log, in microseconds
+LONGEST = 32  # a line that reaches this many bytes is bad
+AHEAD = 1_000_000  # a start so far ahead of the host's clock isn't of that clock, in microseconds
+MINUTES = 15  # what is older than this isn't handed on
+OLDEST = MINUTES * 60_000_000  # in microseconds
+HISTORY = 2_000_000  # for so long after its first bytes a source may say what was said or is too old, in microseconds
+
+
+@dataclass(frozen=True)
+class Pulse:
+    """A reduction of the carrier: its start on the host's monotonic clock and its width, in microseconds."""
+
+    start: int
+    width: int
+
+    def line(self, lag: int = 0) -> bytes:
+        """The line of a log whose counter began `lag` microseconds late."""
+        return b"%d %d\n" % (max(0, self.start - lag), self.width)
+
+
+def reading(line: bytes) -> Pulse | str:
+    """The pulse of a line without its line feed, or why it is bad."""
+    found = FORM.fullmatch(line)
+    if not found:
+        return "it isn't a start and a width"
+    start, width = int(found[1]), int(found[2])
+    if width > WIDEST:
+        return "its width is above 2 s"
+    if start >= 2**50:
+        return "its start is out of range"
+    return Pulse(start, width)
+
+
+class Lines:
+    """Takes the bytes of one radio's source and gives its pulses. `bad` counts lines left out; `last_bad` says the last and why."""
+
+    def __init__(self) -> None:
+        self.half = b""
+        self.spilt = False  # the line that goes on is longer than a line may be
+        self.last = -1
+        self.history: int | None = None  # until when what is old isn't bad; None before the source's first bytes
+        self.bad = 0
+        self.last_bad = ""
+
+    def begin(self) -> None:
+        """The source begins anew. Half a line that it left is bad."""
+        if self.half or self.spilt:
+            self._refuse(self.half, "it was cut off")
+        self.half, self.spilt, self.history = b"", False, None
+
+    def take(self, piece: bytes, now: int) -> list[Pulse]:
+        """The pulses that these bytes end, at this microsecond of the host's clock."""
+        if self.history is None:
+            self.history = now + HISTORY
+        *lines, self.half = (self.half + piece).split(b"\n")
+        pulses = []
+        for line in lines:
+            if self.spilt:
+                self.spilt = False
+                continue
+            pulse = self._judge(line, now)
+            if pulse:
+                pulses.append(pulse)
+        if len(self.half) >= LONGEST:
+            if not self.spilt:
+                self._refuse(self.half, "it is too long")
+            self.half, self.spilt = b"", True
+        return pulses
+
+    def _judge(self, line: bytes, now: int) -> Pulse | None:
+        pulse = reading(line)
+        if isinstance(pulse, str):
+            self._refuse(line, pulse)
+        elif pulse.start > now + AHEAD:
+            self._refuse(line, f"its start is {(pulse.start - now) / 1e6:.0f} s ahead of the host's monotonic clock")
+        elif pulse.start <= self.last:
+            if now > self.history:
+                self._refuse(line, "its start isn't after the one before")
+        elif pulse.start < now - OLDEST:
+            if now > self.history:
+                self._refuse(line, f"its start is {(now - pulse.start) / 1e6:.0f} s old")
+        else:
+            self.last = pulse.start
+            return pulse
+        return None
+
+    def _refuse(self, line: bytes, why: str) -> None:
+        self.bad += 1
+        self.last_bad = f"{line[:LONGEST].decode('ascii', 'backslashreplace')!r}: {why}"

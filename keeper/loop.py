@@ -1,0 +1,79 @@
+"""One thread's loop: what can be read is read, and what is due is done."""
+
+import heapq
+import itertools
+import os
+import selectors
+import signal
+import time
+from collections.abc import Callable
+
+Call = Callable[[], None]
+
+
+class Loop:
+    """Calls back as file descriptors can be read and as moments of the monotonic clock (s) come."""
+
+    def __init__(self) -> None:
+        self.selector = selectors.DefaultSelector()
+        self.due: list[tuple[float, int, float, Call]] = []
+        self.numbers = itertools.count()
+
+    def reads(self, descriptor: int, call: Call) -> None:
+        self.selector.register(descriptor, selectors.EVENT_READ, call)
+
+    def forget(self, descriptor: int) -> None:
+        """Takes a descriptor out, before it is closed."""
+        try:
+            self.selector.unregister(descriptor)
+        except KeyError:
+            pass
+
+    def every(self, seconds: float, call: Call) -> None:
+        """Calls now and then again after each so many seconds."""
+        heapq.heappush(self.due, (time.monotonic(), next(self.numbers), seconds, call))
+
+    def turn(self, most: float) -> None:
+        """One round: waits at most so many seconds for something to do, and does it."""
+        wait = max(0.0, min(most, self.due[0][0] - time.monotonic())) if self.due else most
+        for key, _ in self.selector.select(wait):
+            # A call before it may have taken this one out.
+            if self.selector.get_map().get(key.fd) is key:
+                key.data()
+        self._do_due()
+
+    def _do_due(self) -> None:
+        now = time.monotonic()
+        while self.due and self.due[0][0] <= now:
+            _, number, seconds, call = heapq.heappop(self.due)
+            heapq.heappush(self.due, (now + seconds, number, seconds, call))
+            call()
+
+    def close(self) -> None:
+        self.selector.close()
+
+
+class Signals:
+    """Which signals came, counted; each one wakes the loop."""
+
+    WATCHED = (signal.SIGTERM, signal.SIGINT, signal.SIGHUP)
+
+    def __init__(self, loop: Loop) -> None:
+        self.came = {number: 0 for number in self.WATCHED}
+        self.woken, self.wakes = os.pipe2(os.O_NONBLOCK | os.O_CLOEXEC)
+        loop.reads(self.woken, lambda: os.read(self.woken, 4096))
+        signal.set_wakeup_fd(self.wakes, warn_on_full_buffer=False)
+        for number in self.WATCHED:
+            signal.signal(number, self._note)
+
+    def _note(self, number: int, _frame: object) -> None:
+        self.came[number] += 1
+
+    def ends(self) -> int:
+        """How often the end was asked for."""
+        return self.came[signal.SIGTERM] + self.came[signal.SIGINT]
+
+    def take_reload(self) -> bool:
+        """Whether SIGHUP came since the last call."""
+        came, self.came[signal.SIGHUP] = self.came[signal.SIGHUP], 0
+        return came > 0

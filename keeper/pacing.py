@@ -1,0 +1,100 @@
+"""The keeper's side of the relays: their process, kept alive, and where they are."""
+
+import os
+import subprocess
+import sys
+import time
+
+from keeper.children import Child, Guard
+from keeper.loop import Loop
+
+PAUSES = (1.0, 60.0)  # the first and the longest pause before relays that died are started again, in seconds
+READY = 5.0  # within which the relays say where they are, in seconds
+
+
+class Pacing:
+    """Relays for these servers. `relays` are their addresses and ports; `answered` says when each gave an answer (Unix s, 0.0 for never)."""
+
+    def __init__(self, guard: Guard, loop: Loop, pace: float, servers: list[tuple[str, int]]) -> None:
+        self.guard, self.loop, self.pace, self.servers = guard, loop, pace, servers
+        self.answered = [0.0] * len(servers)
+        self.relays: list[tuple[str, int]] = []
+        self.child: Child | None = None
+        self.half = b""
+        self.pause, self.due = PAUSES[0], 0.0
+        self._start()
+
+    def _start(self) -> None:
+        """Raises OSError."""
+        top = os.path.dirname(os.path.dirname(os.path.abspath(__file__)))
+        words = [sys.executable, "-P", "-m", "keeper.relay", str(self.pace), *(f"{address}:{port}" for address, port in self.servers)]
+        environment = {**os.environ, "PYTHONPATH": top, "PYTHONDONTWRITEBYTECODE": "1"}
+        self.child = Child(self.guard, words, stdin=subprocess.PIPE, stdout=subprocess.PIPE, env=environment, bufsize=0)
+        os.set_blocking(self.child.process.stdin.fileno(), False)
+        line = self._first_line()
+        self.relays = [(one.rpartition(":")[0], int(one.rpartition(":")[2])) for one in line.split()[1:]]
+        if len(self.relays) != len(self.servers):
+            self.close()
+            raise OSError(0, "the relays of the servers don't start")
+        out = self.child.process.stdout.fileno()
+        os.set_blocking(out, False)
+        self.loop.reads(out, self._receive)
+
+    def _first_line(self) -> str:
+        out = self.child.process.stdout
+        os.set_blocking(out.fileno(), False)
+        line, end = b"", time.monotonic() + READY
+        while not line.endswith(b"\n") and time.monotonic() < end and self.child.status() is None:
+            line += out.read(1024) or b""
+            time.sleep(0.005)
+        return line.decode("ascii", "replace")
+
+    def _receive(self) -> None:
+        try:
+            piece = os.read(self.child.process.stdout.fileno(), 4096)
+        except BlockingIOError:
+            return
+        if not piece:
+            self.loop.forget(self.child.process.stdout.fileno())
+            return
+        *lines, self.half = (self.half + piece).split(b"\n")
+        for line in lines:
+            words = line.split()
+            if len(words) == 2 and words[0] == b"answered" and int(words[1]) < len(self.answered):
+                self.answered[int(words[1])] = time.time()
+
+    def _say(self, word: bytes) -> None:
+        try:
+            if self.child:
+                os.write(self.child.process.stdin.fileno(), word + b"\n")
+        except OSError:
+            pass  # it has died: `has_died` says so
+
+    def go(self) -> None:
+        """A run begins."""
+        self._say(b"go")
+
+    def hold(self) -> None:
+        """A run ends, or its counter isn't known yet."""
+        self._say(b"hold")
+
+    def has_died(self) -> bool:
+        """Whether the relays have died, and may be started again by now."""
+        return (self.child is None or self.child.status() is not None) and time.monotonic() >= self.due
+
+    def renew(self) -> None:
+        """Starts relays in the place of those that died, at other ports: the run has to be a new one. Raises OSError."""
+        now = time.monotonic()
+        # Relays that lived for a while begin with the short pause again.
+        self.pause = min(self.pause * 2, PAUSES[1]) if now - self.due < 2 * PAUSES[1] else PAUSES[0]
+        self.due = now + self.pause
+        self.close()
+        self._start()
+
+    def close(self) -> None:
+        if self.child:
+            self.loop.forget(self.child.process.stdout.fileno())
+            self.child.process.stdin.close()
+            self.child.process.stdout.close()
+            self.child.end()
+            self.child = None

@@ -1,0 +1,141 @@
+"""Dated logs of a radio's pulses: one for each day of UTC and each boot, compressed when the day is over, and kept so many days."""
+
+import datetime
+import gzip
+import os
+import re
+import shutil
+import threading
+from collections.abc import Callable
+
+NAME = re.compile(r"(\d+)-([a-z]+)\.(\d{8})\.([0-9a-f]{8})\.log(\.gz)?")
+PARTS = ".part"
+
+
+def boot_id() -> str:
+    """The beginning of this boot's identifier, since the counter begins anew with each boot."""
+    try:
+        with open("/proc/sys/kernel/random/boot_id", encoding="ascii") as file:
+            return file.read().replace("-", "")[:8]
+    except OSError:
+        return "00000000"
+
+
+def day_of(unix: float) -> str:
+    """The day of UTC of a moment (Unix s)."""
+    return datetime.datetime.fromtimestamp(unix, datetime.timezone.utc).strftime("%Y%m%d")
+
+
+def _whole_end(path: str) -> int:
+    """Makes a log that was cut off in a line end with its last whole line; the start of that line, -1 where there is none."""
+    with open(path, "rb+") as file:
+        size = file.seek(0, os.SEEK_END)
+        file.seek(max(0, size - 4096))
+        text = file.read()
+        end = text.rfind(b"\n") + 1
+        if end != len(text):
+            file.truncate(size - len(text) + end)
+        last = text[:end].split(b"\n")[-2:-1]
+        return int(last[0].split()[0]) if last and last[0].split() else -1
+
+
+class PulseLog:
+    """The log of one radio in a folder. `say` gets a sentence where the host refuses something."""
+
+    def __init__(self, folder: str, number: int, plan: str, days: int, say: Callable[[str], None], boot: str | None = None) -> None:
+        self.folder, self.number, self.plan, self.days, self.say = folder, number, plan, days, say
+        self.boot = boot or boot_id()
+        self.day, self.descriptor, self.last = "", -1, -1
+        self.failing = False
+        self.worker: threading.Thread | None = None
+
+    def path(self, day: str) -> str:
+        return os.path.join(self.folder, f"{self.number}-{self.plan}.{day}.{self.boot}.log")
+
+    def write(self, start: int, line: bytes, unix: float) -> None:
+        """Adds a pulse's line. What can't be written is left out, and said once until it can be again."""
+        try:
+            if day_of(unix) != self.day:
+                self._turn_over(day_of(unix))
+            if start > self.last:
+                self._add(start, line)
+            self.failing = False
+        except (OSError, ValueError) as error:
+            if not self.failing:
+                self.say(f"the log of radio {self.number} can't be written: {getattr(error, 'strerror', None) or error}")
+            self.failing = True
+
+    def _add(self, start: int, line: bytes) -> None:
+        if self.descriptor < 0:
+            self._open()
+            if start <= self.last:
+                return
+        wrote = os.write(self.descriptor, line)
+        if wrote < len(line):
+            # A full disk: half a line would spoil the log.
+            os.ftruncate(self.descriptor, os.lseek(self.descriptor, 0, os.SEEK_END) - wrote)
+            raise OSError(28, "No space left on device")
+        self.last = start
+
+    def _open(self) -> None:
+        path = self.path(self.day)
+        if os.path.exists(path):
+            self.last = max(self.last, _whole_end(path))
+        self.descriptor = os.open(path, os.O_WRONLY | os.O_APPEND | os.O_CREAT | os.O_CLOEXEC, 0o640)
+
+    def _turn_over(self, day: str) -> None:
+        """Another day has begun: its log is opened with its first pulse, and the older ones are compressed beside."""
+        self.close()
+        self.day = day
+        os.makedirs(self.folder, exist_ok=True)
+        self.join()
+        self.worker = threading.Thread(target=self._tidy, args=(day,), daemon=True)
+        self.worker.start()
+
+    def _tidy(self, today: str) -> None:
+        oldest = day_of(datetime.datetime.strptime(today, "%Y%m%d").replace(tzinfo=datetime.timezone.utc).timestamp() - self.days * 86400)
+        for name in sorted(os.listdir(self.folder)):
+            found = NAME.fullmatch(name.removesuffix(PARTS))
+            if not found or int(found[1]) != self.number:
+                continue
+            path = os.path.join(self.folder, name)
+            try:
+                if name.endswith(PARTS) or found[3] < oldest:
+                    os.unlink(path)
+                elif not found[5] and (found[3] != today or found[4] != self.boot):
+                    compress(path)
+            except OSError as error:
+                self.say(f"{path} can't be kept: {error.strerror}")
+
+    def join(self) -> None:
+        """Waits for what is compressed beside."""
+        if self.worker:
+            self.worker.join()
+            self.worker = None
+
+    def close(self) -> None:
+        if self.descriptor >= 0:
+            os.close(self.descriptor)
+            self.descriptor = -1
+
+
+def compress(path: str) -> None:
+    """Puts PATH.gz in the place of a file, whole or not at all. Raises OSError."""
+    part = path + ".gz" + PARTS
+    try:
+        with open(path, "rb") as file, gzip.open(part, "wb") as out:
+            shutil.copyfileobj(file, out, 65536)
+        os.replace(part, path + ".gz")
+    except OSError:
+        if os.path.exists(part):
+            os.unlink(part)
+        raise
+    os.unlink(path)
+
+
+def drop_old(folder: str, pattern: re.Pattern[str], before: str) -> None:
+    """Removes the files of a folder whose name has this form and whose first group, a day, is before this one."""
+    for name in os.listdir(folder):
+        found = pattern.fullmatch(name)
+        if found and found[1] < before:
+            os.unlink(os.path.join(folder, name))

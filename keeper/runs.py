@@ -1,0 +1,131 @@
+"""One run of the server: begun warm, with its counter known, and ended whole."""
+
+import time
+from collections.abc import Callable
+
+from keeper.config import Settings
+from keeper.counter import Counter, Reading
+from keeper.drain import Drain
+from keeper.feed import Feed
+from keeper.journals import status_of
+from keeper.loop import Loop
+from keeper.pacing import Pacing
+from keeper.server import Server
+from keeper.station import polls_for, text_for
+from keeper.watch import Watch
+
+BEGIN = 5.0  # within which a run's first link has to answer, in seconds
+END = 90.0  # within which a run has to end when it is drained, in seconds
+TURN = 0.01  # how often the loop goes round meanwhile, in seconds
+POLLS = 20.0  # what pollers that aren't paced may take to end by themselves, in seconds
+
+
+class Run:
+    """`cause` is why it began, a word of the state's; `since` when (Unix s)."""
+
+    def __init__(self, settings: Settings, loop: Loop, server: Server, feeds: list[Feed], pacing: Pacing | None, addresses: list[str], number: int, cause: str) -> None:
+        self.settings, self.loop, self.server, self.feeds, self.pacing, self.addresses = settings, loop, server, feeds, pacing, addresses
+        self.number, self.cause = number, cause
+        self.since = time.time()
+        self.began = time.monotonic()
+        self.reading: Reading | None = None
+        self.watch = Watch(loop, settings.links, addresses, server.child.pid, settings.gap == 0)
+        self.own = [0] * len(settings.links)
+        self.had_time = False
+        self.why, self.ended = "", 0.0  # why it ended, and when (monotonic s)
+        self.exit_status: int | None = None  # negative for a signal
+
+    def age(self) -> float:
+        """Seconds since it began."""
+        return time.monotonic() - self.began
+
+    def is_first_time(self) -> bool:
+        """Whether it has a time by now, and this wasn't asked before."""
+        before, self.had_time = self.had_time, self.watch.first_time is not None
+        return self.had_time and not before
+
+    def begin(self) -> bool:
+        """Whether it serves. Else the server has ended, or doesn't answer in time."""
+        relays = self.pacing.relays if self.pacing else None
+        text = text_for(self.settings.text, self.server.names, self.server.start, relays, polls_for(self.settings.cycle, self.settings.pace))
+        try:
+            self.server.give_station(text)
+        except OSError:
+            return False
+        if self.settings.links and not self._read_counter():
+            return False
+        lag = round(self.reading.lag) if self.reading else 0
+        for feed, outlet in zip(self.feeds, self.server.outlets):
+            outlet.lag = lag
+            feed.give_to(outlet)
+        if self.pacing:
+            self.pacing.go()
+        self.watch.began = time.monotonic()
+        return True
+
+    def _read_counter(self) -> bool:
+        counter = Counter(self.settings.links[0], self.addresses[0])
+        end = time.monotonic() + BEGIN
+        try:
+            while not counter.step():
+                if self.server.status() is not None or time.monotonic() > end:
+                    return False
+        finally:
+            counter.close()
+        self.own[0] += counter.asked
+        self.reading = counter.reading()
+        return True
+
+    def leave(self) -> None:
+        """Its feeds end, each at the end of a line, and nobody asks its links for the keeper any more."""
+        for feed in self.feeds:
+            feed.leave()
+        self.server.close_feeds()
+        if self.pacing:
+            self.pacing.hold()
+        self.watch.close()
+        for place, link in enumerate(self.watch.links):
+            self.own[place] += link.asked
+
+    def drain(self, meanwhile: Callable[[], bool]) -> bool:
+        """Uses up what the run has left, until its ports are free or it has ended. `meanwhile` is called every ten milliseconds, and
+        says whether to go on. False where it had to be given up: the server is then ended at once, and its journal is lost."""
+        drain = Drain(self.server.child.pid, self.settings.links, self.addresses, bool(self.settings.servers))
+        began = turned = time.monotonic()
+        try:
+            while self.server.status() is None and not drain.is_free():
+                drain.step()
+                now = time.monotonic()
+                if now - turned > TURN:
+                    turned = now
+                    for watched, link in zip(self.watch.links, drain.links):
+                        watched.answered_at = max(watched.answered_at, link.answered_at)
+                    if not meanwhile() or now - began > END:
+                        return False
+            return True
+        finally:
+            drain.close()
+            for place, sent in enumerate(drain.sent()):
+                self.own[place] += sent
+
+    def give_up(self) -> str:
+        """Ends a run that didn't begin; says why it didn't."""
+        if self.server.status() is None:
+            self.server.child.end(0)
+            why = f"nobody answers on port {self.settings.links[0]} within {BEGIN:.0f} s"
+        else:
+            why = status_of(self.server.text()) or f"the program ended with {self.server.status()}"
+        self.server.close()
+        return why
+
+    def was_used_up(self) -> bool:
+        """Whether others used up the hearings of a link: it has been drained, and few of them were the keeper's own."""
+        return any(own < self.server.during / 2 for own in self.own)
+
+    def finish(self) -> bytes:
+        """What it has printed. It has ended, or ends within seconds since its ports are free."""
+        if not self.server.child.wait(POLLS):
+            self.server.child.end(0)
+        text, self.exit_status = self.server.text(), self.server.status()
+        self.server.close()
+        return text

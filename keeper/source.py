@@ -1,0 +1,151 @@
+"""Where a radio's log comes from: a command, a FIFO, or a file that grows. Each gives the bytes that there are, and never waits."""
+
+import os
+import stat
+import subprocess
+
+from keeper.children import Child, Guard
+
+MOST = 65536  # what is read in one go, in bytes
+# How much of the end of a file that grows is read at first: more than the minutes that are handed on, in bytes.
+TAIL = 65536
+
+
+class Ended(Exception):
+    """A source has ended: the text says how."""
+
+
+class Command:
+    """What a command of the shell writes to its standard output. Its standard error is the keeper's."""
+
+    can_restart = True
+
+    def __init__(self, guard: Guard, command: str) -> None:
+        self.guard, self.command = guard, command
+        self.child: Child | None = None
+        self.descriptor = -1
+
+    def begin(self) -> None:
+        """Raises OSError."""
+        self.child = Child(self.guard, ["/bin/sh", "-c", self.command], stdin=subprocess.DEVNULL, stdout=subprocess.PIPE, bufsize=0)
+        self.descriptor = self.child.process.stdout.fileno()
+        os.set_blocking(self.descriptor, False)
+
+    def read(self) -> bytes:
+        """What there is, b"" for nothing now. Raises Ended."""
+        try:
+            piece = os.read(self.descriptor, MOST)
+        except BlockingIOError:
+            return b""
+        if not piece:
+            self.child.wait(0.1)
+            raise Ended(f"its command ended with {self.child.status()}")
+        return piece
+
+    def rest(self) -> None:
+        """It has ended or is silent: nothing of it is kept until it begins again."""
+        self.end()
+
+    def end(self) -> None:
+        if self.child:
+            self.child.process.stdout.close()
+            self.child.end()
+            self.child, self.descriptor = None, -1
+
+
+class Fifo:
+    """A FIFO into which something else writes. It isn't opened anew when it is silent, since that would end its writer."""
+
+    can_restart = False
+
+    def __init__(self, name: str) -> None:
+        self.name = name
+        self.descriptor = -1
+
+    def begin(self) -> None:
+        """Raises OSError. The old opening is given back after the new one was made, so that a writer always has a reader."""
+        opened = os.open(self.name, os.O_RDONLY | os.O_NONBLOCK | os.O_CLOEXEC)
+        self.end()
+        self.descriptor = opened
+        if not stat.S_ISFIFO(os.fstat(opened).st_mode):
+            self.end()
+            raise OSError(0, "it is no FIFO", self.name)
+
+    def read(self) -> bytes:
+        """What there is, b"" for nothing now. Raises Ended where a writer was there and has gone."""
+        try:
+            piece = os.read(self.descriptor, MOST)
+        except BlockingIOError:
+            return b""
+        if not piece:
+            raise Ended("its FIFO's last writer has gone")
+        return piece
+
+    def rest(self) -> None:
+        """It stays open: the next writer may be there already."""
+
+    def end(self) -> None:
+        if self.descriptor >= 0:
+            os.close(self.descriptor)
+            self.descriptor = -1
+
+
+class Growing:
+    """A file that something else appends to. One that is replaced or made shorter is read from its beginning."""
+
+    can_restart = True
+
+    def __init__(self, name: str) -> None:
+        self.name = name
+        self.file = self.place = -1
+        # It can always be read, so it isn't waited for: it is looked at.
+        self.descriptor = -1
+        self.skips = False
+
+    def begin(self) -> None:
+        """Raises OSError."""
+        self.file = os.open(self.name, os.O_RDONLY | os.O_NONBLOCK | os.O_CLOEXEC)
+        if not stat.S_ISREG(os.fstat(self.file).st_mode):
+            self.end()
+            raise OSError(0, "it is no file", self.name)
+        self.place = max(0, os.fstat(self.file).st_size - TAIL)
+        self.skips = self.place > 0
+
+    def read(self) -> bytes:
+        """What was added, b"" for nothing now. Raises Ended where the file is another one by now."""
+        piece = os.pread(self.file, MOST, self.place)
+        if not piece:
+            self._look()
+            return b""
+        self.place += len(piece)
+        if self.skips:
+            # It began in the middle of a line.
+            self.skips = False
+            piece = piece.partition(b"\n")[2]
+        return piece
+
+    def _look(self) -> None:
+        here = os.fstat(self.file)
+        try:
+            there = os.stat(self.name)
+        except FileNotFoundError as error:
+            raise Ended("its file was taken away") from error
+        if (there.st_dev, there.st_ino) != (here.st_dev, here.st_ino):
+            raise Ended("its file was replaced")
+        if here.st_size < self.place:
+            raise Ended("its file was made shorter")
+
+    def rest(self) -> None:
+        self.end()
+
+    def end(self) -> None:
+        if self.file >= 0:
+            os.close(self.file)
+            self.file = -1
+
+
+def source_of(kind: str, value: str, guard: Guard) -> Command | Fifo | Growing:
+    """The source of a radio, by the key of the keeper's file that names it."""
+    if kind == "command":
+        return Command(guard, value)
+    return Fifo(value) if kind == "fifo" else Growing(value)

@@ -1,0 +1,101 @@
+"""`status` and `watch`: the state of a station for a person, for a program, for Nagios."""
+
+import json
+import os
+import sys
+import time
+import tomllib
+
+from keeper import faces, metrics, text
+from keeper.state import State, StateError, load
+from keeper.verdict import Level, judge, worst
+from keeper.words import DONE, REFUSED, UNKNOWN, Fault, Parser
+
+FOLDER = "/var/lib/radio_ntpd"
+FILES = ("keeper.toml", "/etc/radio_ntpd/keeper.toml")
+CLEAR = "\033[H\033[2J"
+
+
+def parser(command: str) -> Parser:
+    words = Parser(prog=f"radio_keeper {command}", description="Says how the station is, from the file that the keeper renews every ten seconds.")
+    words.add_argument("--config", metavar="FILE", help="the keeper's file, which names that folder (keeper.toml here or in /etc/radio_ntpd)")
+    words.add_argument("--folder", help="where the keeper's state is, in place of what its file says")
+    if command == "status":
+        form = words.add_mutually_exclusive_group()
+        form.add_argument("--json", action="store_true", help="the whole state as JSON")
+        form.add_argument("--nagios", action="store_true", help="one line, and the exit status 0, 1, 2 or 3 of a Nagios plugin")
+        form.add_argument("--prometheus", action="store_true", help="what the node exporter reads")
+    else:
+        words.add_argument("--every", type=float, default=2.0, metavar="SECONDS", help="how often it is redrawn, 0.2 to 3600 (2)")
+    return words
+
+
+def main(given: list[str], command: str = "status") -> int:
+    words = parser(command)
+    asked = words.parse_args(given)
+    path = os.path.join(asked.folder or folder_of(asked.config), faces.STATE)
+    if command == "watch":
+        if not 0.2 <= asked.every <= 3600:
+            words.error("--every is 0.2 to 3600 seconds")
+        return watch(path, asked.every)
+    if asked.nagios:
+        return nagios(path)
+    state = found(path)
+    now = time.time()
+    if asked.json:
+        print(json.dumps(state, default=vars, indent=1))
+    elif asked.prometheus:
+        sys.stdout.write(metrics.render(state, now))
+    else:
+        sys.stdout.write(text.render(state, now, takes_blocks()))
+        return min(int(worst(judge(state, now))), int(Level.CRITICAL))
+    return DONE
+
+
+def folder_of(config: str | None) -> str:
+    """The folder that a keeper's file names. The station file isn't read, so that nobody has to see its keys to see the state."""
+    path = config or next((one for one in FILES if os.path.exists(one)), None)
+    if path is None:
+        return FOLDER
+    try:
+        with open(path, "rb") as file:
+            named = tomllib.load(file).get("state", "state")
+    except tomllib.TOMLDecodeError as error:
+        raise Fault(f"{path} is no TOML: {error}", REFUSED) from error
+    return os.path.join(os.path.dirname(os.path.abspath(path)), str(named))
+
+
+def found(path: str) -> State:
+    """The state; a Fault where there is none."""
+    try:
+        return load(path)
+    except StateError as error:
+        raise Fault(f"{error}; does the keeper run, and are --config and --folder right?") from error
+
+
+def nagios(path: str) -> int:
+    """One line on standard output, whatever is wrong."""
+    try:
+        line, level = text.nagios(load(path), time.time())
+    except StateError as error:
+        line, level = f"RADIO_NTPD UNKNOWN: {str(error).replace('|', '/')}", Level(UNKNOWN)
+    print(line)
+    return int(level)
+
+
+def takes_blocks() -> bool:
+    """Whether the terminal takes more than ASCII."""
+    return (sys.stdout.encoding or "").lower().replace("-", "") == "utf8"
+
+
+def watch(path: str, every: float) -> int:
+    """Draws the state until it is interrupted."""
+    clear = CLEAR if sys.stdout.isatty() else ""
+    while True:
+        try:
+            said = text.render(load(path), time.time(), takes_blocks())
+        except StateError as error:
+            said = f"{error}\n"
+        sys.stdout.write(clear + said)
+        sys.stdout.flush()
+        time.sleep(every)

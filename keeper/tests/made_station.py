@@ -1,0 +1,61 @@
+"""A made-up station with three radios, two servers and a day behind it, for pictures and for a browser. Nothing of it was measured."""
+
+import math
+import random
+
+from keeper.state import Alarm, LeapFileState, LinkState, Quarter, RadioState, RunState, ServerState, Slot, State
+
+
+def quarters(now: float, draw: random.Random, good) -> list[Quarter]:
+    """The reception of a day; `good` gives the chance of a good minute, by the hours before now."""
+    found = []
+    for place in range(96):
+        at = now // 900 * 900 - (95 - place) * 900
+        closed = 15 if place < 95 else int((now - at) // 60)
+        refused = sum(draw.random() > good((95 - place) / 4) for _ in range(closed))
+        lone = min(draw.randint(0, refused), closed - refused)
+        by_rule = {"2": refused - refused // 3, "1": refused // 3}
+        found.append(Quarter(at, closed - refused - lone, lone, 0, {rule: count for rule, count in by_rule.items() if count}))
+    return found
+
+
+def slots(now: float, draw: random.Random, offset: float, jitter: float, gap: range = range(0)) -> list[Slot]:
+    """Offsets of a day around one (s), with a scatter (s) and a slow swing."""
+    found = []
+    for place in range(288):
+        if place not in gap:
+            middle = offset + 0.001 * math.sin(place / 45) + draw.gauss(0, jitter / 3)
+            found.append(Slot(now // 300 * 300 - (287 - place) * 300, middle - abs(draw.gauss(0, jitter)), middle, middle + abs(draw.gauss(0, jitter))))
+    return found
+
+
+def radio(now: float, number: int, plan: str, name: str, spread: float, offset: float, good, gap: range = range(0)) -> RadioState:
+    draw = random.Random(number)
+    reception = quarters(now, draw, good)
+    hour = reception[-4:]
+    return RadioState(
+        number=number, plan=plan, name=name, source="running", restarts=number // 2, pulses=84000 - 900 * number, bad_lines=number, pulse_at=now - 0.4,
+        verdicts_hour=sum(one.verdict for one in hour), minutes_hour=sum(one.verdict + one.lone + sum(one.refused.values()) for one in hour),
+        minute=now // 60 * 60, minute_at=now - now % 60, spread=spread, reception=reception, offsets=slots(now, draw, offset, spread / 2, gap),
+    )
+
+
+def made_station(now: float) -> State:
+    """All of it, as it would stand now (Unix s)."""
+    radios = [
+        radio(now, 0, "dcf", "roof", 0.0021, 0.0006, lambda hours: 0.995 if hours > 3 else 0.93),
+        radio(now, 1, "msf", "attic", 0.0044, -0.0031, lambda hours: 0.97 if 6 < hours < 18 else 0.86),
+        radio(now, 2, "wwvb", "", 0.0078, 0.0048, lambda hours: 0.93 if 8 < hours < 17 else 0.35, range(180, 204)),
+    ]
+    draw = random.Random(9)
+    servers = [
+        ServerState(3, "192.0.2.17", 123, 56, {}, now - 41, now - 41, 0.00042, 0.0123, 1, slots(now, draw, 0.0004, 0.0004)),
+        ServerState(4, "198.51.100.4", 123, 55, {"6": 1}, now - 17, now - 17, -0.0011, 0.0241, 2, slots(now, draw, -0.0011, 0.0007)),
+    ]
+    return State(
+        written=now, keeper_since=now - 279_000, keeper_pid=1, station="/etc/radio_ntpd/station.toml", bound=0.5,
+        run=RunState(78, now - 1203, "cycle", 4242, 0.00131, 5e-6, "status 0", "20260101T114500Z.journal"),
+        links=[LinkState(123, now - 1, now - 1, 0, 1, "DCF", 0.0, 0.00541, now - now % 60, now + 32_900, 991_234, 3.4, 0.0007)],
+        radios=radios, servers=servers, leap_file=LeapFileState(5, "/usr/share/zoneinfo/leap-seconds.list", 27, 1483228800.0, now + 150 * 86400),
+        alarms=[Alarm("radio-unheard", now - 24_000, "radio 2 (wwvb) has had no verdict for 3600 s"), Alarm("radio-heard", now - 22_800, "radio 2 (wwvb) is heard again")],
+    )

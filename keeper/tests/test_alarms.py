@@ -1,0 +1,165 @@
+"""Which changes raise an alarm, and how its command is run."""
+
+import contextlib
+import io
+import os
+import tempfile
+import time
+import unittest
+
+from keeper.alarms import Alarms
+from keeper.state import LinkState, RadioState, RunState, State
+
+
+def station(**fields) -> State:
+    return State(keeper_since=1000.0, links=[LinkState(port=123)], radios=[RadioState(number=0, plan="dcf", name="roof")], **fields)
+
+
+class Quiet(unittest.TestCase):
+    def setUp(self):
+        self.said = io.StringIO()
+        held = contextlib.redirect_stderr(self.said)
+        held.__enter__()
+        self.addCleanup(held.__exit__, None, None, None)
+
+    def events(self, state):
+        return [one.event for one in state.alarms]
+
+
+class Changes(Quiet):
+    def setUp(self):
+        super().setUp()
+        self.state = station()
+        self.alarms = Alarms("", unheard=600.0)
+
+    def at(self, now, leap=None, minute_at=None):
+        if leap is not None:
+            self.state.links[0].leap, self.state.links[0].answered_at = leap, now
+        if minute_at is not None:
+            self.state.radios[0].minute_at = minute_at
+        self.alarms.judge(self.state, now)
+        return self.events(self.state)
+
+    def test_time_gained_and_lost(self):
+        self.assertEqual(self.at(1001, leap=3), [])
+        self.assertEqual(self.at(1002, leap=0), ["time-gained"])
+        self.assertEqual(self.at(1003, leap=0), ["time-gained"])
+        self.assertEqual(self.at(1010, leap=3), ["time-gained"], "a change of run is no loss")
+        self.assertEqual(self.at(1017, leap=3), ["time-gained"])
+        self.assertEqual(self.at(1018, leap=3), ["time-gained", "time-lost"])
+        self.assertIn("no time", self.state.alarms[-1].text)
+        self.assertEqual(self.at(1050, leap=3), ["time-gained", "time-lost"])
+        self.assertEqual(self.at(1051, leap=1), ["time-gained", "time-lost", "time-gained"])
+        self.assertIn("alarm time-lost: clients get no time", self.said.getvalue())
+
+    def test_a_link_that_falls_silent(self):
+        self.at(1002, leap=0)
+        self.assertEqual(self.at(1016), ["time-gained"])
+        self.assertEqual(self.at(1018), ["time-gained"], "it was good at 1016")
+        self.assertEqual(self.at(1040), ["time-gained", "time-lost"])
+        self.assertIn("no link answers", self.state.alarms[-1].text)
+
+    def test_a_radio_unheard_and_heard(self):
+        self.assertEqual(self.at(1599), [])
+        self.assertEqual(self.at(1600), ["radio-unheard"])
+        self.assertIn("radio 0 (roof)", self.state.alarms[-1].text)
+        self.assertEqual(self.at(1700), ["radio-unheard"])
+        self.assertEqual(self.at(1701, minute_at=1701.0), ["radio-unheard", "radio-heard"])
+        self.assertEqual(self.at(2300), ["radio-unheard", "radio-heard"])
+        self.assertEqual(self.at(2301), ["radio-unheard", "radio-heard", "radio-unheard"])
+
+    def test_runs(self):
+        for number, cause, due in ((1, "start", 0), (2, "cycle", 0), (3, "died", 1), (3, "died", 1), (4, "silent", 2), (5, "reload", 2), (6, "link", 3)):
+            self.state.run = RunState(number=number, cause=cause, last_status="status 9 memory")
+            self.alarms.judge(self.state, 1100.0)
+            self.assertEqual(self.events(self.state), ["run-died"] * due)
+        self.assertIn("status 9 memory", self.state.alarms[0].text)
+
+    def test_the_state_keeps_twenty(self):
+        for number in range(50):
+            self.alarms.raise_alarm(self.state, "file-refused", f"number {number}", 1.0)
+        self.assertEqual([one.text for one in self.state.alarms], [f"number {number}" for number in range(30, 50)])
+
+
+class Commands(Quiet):
+    def setUp(self):
+        super().setUp()
+        folder = tempfile.TemporaryDirectory()
+        self.addCleanup(folder.cleanup)
+        self.folder = folder.name
+        self.out = os.path.join(self.folder, "out")
+
+    def alarms(self, command, **words):
+        alarms = Alarms(command, folder=self.folder, **words)
+        self.addCleanup(alarms.close)
+        return alarms
+
+    def turn_until(self, alarms, over, most=5.0):
+        end = time.monotonic() + most
+        while not over() and time.monotonic() < end:
+            alarms.turn(time.monotonic())
+            time.sleep(0.01)
+        self.assertTrue(over())
+
+    def lines(self):
+        with contextlib.suppress(FileNotFoundError), open(self.out, encoding="utf-8") as file:
+            return file.read().splitlines()
+        return []
+
+    def test_its_environment(self):
+        alarms = self.alarms(f'echo "$RADIO_EVENT/$RADIO_TEXT/$RADIO_AT/$RADIO_NUMBER/$RADIO_RUN/$RADIO_LEAP/$RADIO_REFERENCE/$RADIO_STATE" >> {self.out}')
+        state = station(run=RunState(number=4))
+        state.links[0].leap, state.links[0].reference_id = 0, "DCF"
+        alarms.raise_alarm(state, "radio-unheard", "a; b & $(c)", 99.7, 0)
+        self.turn_until(alarms, lambda: self.lines())
+        self.assertEqual(self.lines(), [f"radio-unheard/a; b & $(c)/100/0/4/0/DCF/{self.folder}/state.json"])
+
+    def test_one_at_a_time_in_order(self):
+        alarms = self.alarms(f'echo "begin $RADIO_TEXT" >> {self.out}; sleep 0.1; echo "end $RADIO_TEXT" >> {self.out}')
+        for text in "abc":
+            alarms.raise_alarm(State(), "time-lost", text, 1.0)
+        self.turn_until(alarms, lambda: len(self.lines()) == 6)
+        self.assertEqual(self.lines(), [f"{word} {text}" for text in "abc" for word in ("begin", "end")])
+
+    def test_one_that_hangs_is_ended_with_its_children(self):
+        alarms = self.alarms(f"trap '' TERM; sleep 60 & echo $! > {self.out}; while :; do sleep 1; done", limit=0.2)
+        alarms.raise_alarm(State(), "time-lost", "a", 1.0)
+        self.turn_until(alarms, lambda: self.lines())
+        self.turn_until(alarms, lambda: alarms.child is None)
+        end = time.monotonic() + 2
+        while not _gone(self.lines()[0]) and time.monotonic() < end:
+            time.sleep(0.02)
+        self.assertTrue(_gone(self.lines()[0]), "what the command started goes on")
+
+    def test_a_queue_that_is_full_drops_the_oldest(self):
+        alarms = self.alarms("true")
+        for number in range(30):
+            alarms.raise_alarm(State(), "time-lost", str(number), 1.0)
+        self.assertEqual([one["RADIO_TEXT"] for one in alarms.waiting], [str(number) for number in range(10, 30)])
+
+    def test_a_command_that_fails_is_told(self):
+        alarms = self.alarms("exit 3")
+        alarms.raise_alarm(State(), "time-lost", "a", 1.0)
+        self.turn_until(alarms, lambda: "ended with 3" in self.said.getvalue())
+
+    def test_the_end(self):
+        alarms = self.alarms("sleep 60")
+        alarms.raise_alarm(State(), "time-lost", "a", 1.0)
+        alarms.turn(time.monotonic())
+        pid = alarms.child.pid
+        alarms.close()
+        with self.assertRaises(ProcessLookupError):
+            os.kill(pid, 0)
+
+
+def _gone(pid: str) -> bool:
+    """Whether a process has ended; it may stand in the table until somebody asks how."""
+    try:
+        with open(f"/proc/{pid}/stat", encoding="ascii") as file:
+            return file.read().split(") ")[1][0] == "Z"
+    except FileNotFoundError:
+        return True
+
+
+if __name__ == "__main__":
+    unittest.main()

@@ -1,0 +1,244 @@
+"""What goes on beside the runs: relays, the guard of the children, and feeds whose sources end, stall and write noise."""
+
+import os
+import pathlib
+import signal
+import socket
+import subprocess
+import sys
+import tempfile
+import time
+import unittest
+
+from keeper.children import Child, Guard
+from keeper.config import Radio
+from keeper.feed import Feed
+from keeper.loop import Loop
+from keeper.outlet import Outlet, pipe
+from keeper.pacing import Pacing
+from keeper.pulse_log import PulseLog
+from keeper.relay import BURST, WAIT, Relay
+from keeper.state import RadioState
+
+TOP = pathlib.Path(__file__).parent.parent.parent
+TIME = b"\x24\1" + bytes(46)
+RATE = b"\xe4\0" + bytes(10) + b"RATE" + bytes(32)
+
+
+def bound(test):
+    one = socket.socket(socket.AF_INET, socket.SOCK_DGRAM)
+    test.addCleanup(one.close)
+    one.bind(("127.0.0.1", 0))
+    one.settimeout(0.2)
+    return one
+
+
+class Relays(unittest.TestCase):
+    def setUp(self):
+        self.server, self.poller = bound(self), bound(self)
+        self.relay = Relay(0, self.server.getsockname(), 64)
+        self.addCleanup(self.relay.near.close)
+        self.addCleanup(self.relay.drop)
+
+    def exchange(self, now, reply=TIME):
+        """Whether an exchange at this moment goes through."""
+        self.poller.sendto(b"request".ljust(48), self.relay.near.getsockname())
+        time.sleep(0.01)
+        self.relay.request(now)
+        try:
+            datagram, who = self.server.recvfrom(100)
+        except TimeoutError:
+            return False
+        self.assertEqual(datagram, b"request".ljust(48))
+        self.server.sendto(reply, who)
+        time.sleep(0.01)
+        self.assertTrue(self.relay.answer(now + 0.02))
+        answer, who = self.poller.recvfrom(100)
+        self.assertEqual((answer, who), (reply, self.relay.near.getsockname()))
+        return True
+
+    def test_the_first_go_through_and_then_one_in_so_many_seconds(self):
+        self.relay.go(1000.0)
+        for place in range(BURST):
+            self.assertTrue(self.exchange(1000.0 + place))
+        last = 1000.0 + BURST - 1
+        self.assertEqual([self.exchange(last + after) for after in (1, 30, 63.9, 64, 66, 127.9, 128)], [False, False, False, True, False, False, True])
+
+    def test_what_is_held_back_goes_when_the_run_begins(self):
+        self.poller.sendto(b"early".ljust(48), self.relay.near.getsockname())
+        time.sleep(0.01)
+        self.relay.request(1000.0)
+        with self.assertRaises(TimeoutError):
+            self.server.recvfrom(100)
+        self.relay.go(1000.5)
+        self.assertEqual(self.server.recvfrom(100)[0], b"early".ljust(48))
+        self.relay.hold()
+        self.assertFalse(self.exchange(2000.0))
+
+    def test_a_late_answer_is_dropped(self):
+        self.relay.go(1000.0)
+        self.poller.sendto(b"request".ljust(48), self.relay.near.getsockname())
+        time.sleep(0.01)
+        self.relay.request(1000.0)
+        _, who = self.server.recvfrom(100)
+        self.server.sendto(TIME, who)
+        time.sleep(0.01)
+        self.assertFalse(self.relay.answer(1000.0 + WAIT + 0.1))
+        with self.assertRaises(TimeoutError):
+            self.poller.recvfrom(100)
+
+    def test_a_server_that_asks_for_a_pause_gets_one(self):
+        self.relay.go(1000.0)
+        self.assertTrue(self.exchange(1000.0, RATE))
+        self.assertEqual([self.exchange(1000.0 + after) for after in (1, 63.9)], [False, False])
+        self.assertEqual([self.exchange(1064.0 + after) for after in (0, 64, 127.9, 128)], [True, False, False, True])
+
+    def test_a_stranger_is_not_heard(self):
+        self.relay.go(1000.0)
+        self.poller.sendto(b"request".ljust(48), self.relay.near.getsockname())
+        time.sleep(0.01)
+        self.relay.request(1000.0)
+        _, who = self.server.recvfrom(100)
+        bound(self).sendto(TIME, who)
+        time.sleep(0.01)
+        self.assertFalse(self.relay.answer(1000.1))
+        with self.assertRaises(TimeoutError):
+            self.poller.recvfrom(100)
+
+
+class Processes(unittest.TestCase):
+    def setUp(self):
+        self.guard = Guard()
+        self.addCleanup(self.guard.close)
+        self.loop = Loop()
+        self.addCleanup(self.loop.close)
+
+    def test_relays_are_a_process_that_comes_again(self):
+        server, poller = bound(self), bound(self)
+        pacing = Pacing(self.guard, self.loop, 64, [server.getsockname()])
+        self.addCleanup(pacing.close)
+        pacing.go()
+        poller.sendto(b"request".ljust(48), pacing.relays[0])
+        server.settimeout(5)
+        _, who = server.recvfrom(100)
+        server.sendto(TIME, who)
+        poller.settimeout(5)
+        self.assertEqual(poller.recvfrom(100), (TIME, pacing.relays[0]))
+        end = time.monotonic() + 5
+        while not pacing.answered[0] and time.monotonic() < end:
+            self.loop.turn(0.1)
+        self.assertGreater(pacing.answered[0], time.time() - 10)
+        os.kill(pacing.child.pid, signal.SIGKILL)
+        self.assertTrue(pacing.child.wait(5) and pacing.has_died())
+        pacing.renew()
+        self.assertFalse(pacing.has_died())
+
+    def test_the_guard_ends_what_a_killed_keeper_leaves(self):
+        """A child that takes no SIGTERM, with a child of its own, of a parent that is killed."""
+        program = """
+import sys, time
+from keeper.children import Child, Guard
+guard = Guard()
+child = Child(guard, ["/bin/sh", "-c", "trap '' TERM; sleep 67 & echo $!; wait"], stdout=sys.stdout)
+print(child.pid, guard.pid, flush=True)
+time.sleep(60)
+"""
+        parent = subprocess.Popen([sys.executable, "-B", "-c", program], cwd=TOP, stdout=subprocess.PIPE)
+        self.addCleanup(parent.stdout.close)
+        numbers = [int(one) for _ in range(2) for one in parent.stdout.readline().split()]
+        self.assertEqual(len(numbers), 3)
+        parent.kill()
+        parent.wait()
+        end = time.monotonic() + 8
+        while any(alive(one) for one in numbers) and time.monotonic() < end:
+            time.sleep(0.05)
+        self.assertEqual([one for one in numbers if alive(one)], [])
+
+    def test_a_guard_that_is_killed_has_a_follower(self):
+        first = self.guard.pid
+        child = Child(self.guard, ["/bin/sleep", "30"])
+        os.kill(first, signal.SIGKILL)
+        time.sleep(0.1)
+        self.guard.look()
+        self.assertNotEqual(self.guard.pid, first)
+        child.end()
+        self.assertEqual(self.guard.groups, set())
+
+
+def alive(process):
+    try:
+        return pathlib.Path(f"/proc/{process}/stat").read_text().rpartition(")")[2].split()[0] != "Z"
+    except FileNotFoundError:
+        return False
+
+
+class Feeds(unittest.TestCase):
+    def setUp(self):
+        folder = tempfile.TemporaryDirectory()
+        self.addCleanup(folder.cleanup)
+        self.folder = pathlib.Path(folder.name)
+        self.guard = Guard()
+        self.addCleanup(self.guard.close)
+        self.loop = Loop()
+        self.addCleanup(self.loop.close)
+        self.said = []
+
+    def feed(self, command, stall=60.0):
+        state = RadioState(plan="dcf")
+        log = PulseLog(str(self.folder), 0, "dcf", 3, self.said.append, "b0070000")
+        feed = Feed(self.loop, self.guard, Radio("command", command, "dcf", stall, "dcf", 0.0), state, log, None, self.said.append)
+        self.addCleanup(log.join)
+        self.addCleanup(feed.close)
+        return feed
+
+    def turn(self, feed, seconds, until=lambda: False):
+        end = time.monotonic() + seconds
+        while time.monotonic() < end and not until():
+            self.loop.turn(0.02)
+            feed.turn(time.monotonic())
+
+    def server(self, feed):
+        taken, given = pipe()
+        self.addCleanup(os.close, taken)
+        os.set_blocking(taken, False)
+        feed.give_to(Outlet(given))
+        return taken
+
+    def test_a_source_that_dies_in_a_line_is_started_again_and_the_pipe_stays_open(self):
+        now = time.monotonic_ns() // 1000
+        feed = self.feed(f"if mkdir {self.folder}/once 2> /dev/null; then echo {now - 500} 7; printf '{now} 7'; else echo {now - 500} 7; echo {now + 9} 8; exec sleep 60; fi")
+        taken = self.server(feed)
+        self.turn(feed, 8, lambda: feed.state.pulses == 2)
+        self.assertEqual(os.read(taken, 100), f"{now - 500} 7\n{now + 9} 8\n".encode())
+        self.assertEqual((feed.state.restarts, feed.lines.bad, feed.state.source), (1, 1, "running"))
+        self.assertEqual(self.said[0], "radio 0: its command ended with 0; it is started again in 1 s")
+        self.assertIn("1 bad line left out; the last: ", self.said[1])
+
+    def test_a_source_that_writes_noise(self):
+        now = time.monotonic_ns() // 1000
+        feed = self.feed(f"head -c 300000 /dev/urandom; echo; echo {now} 7; exec sleep 60")
+        taken = self.server(feed)
+        self.turn(feed, 8, lambda: feed.state.pulses == 1)
+        self.assertEqual(os.read(taken, 1000), f"{now} 7\n".encode())
+        self.assertGreater(feed.lines.bad, 100)
+        self.assertEqual(len(self.said), 1)
+
+    def test_a_source_that_stalls(self):
+        feed = self.feed("exec sleep 60", stall=0.3)
+        self.turn(feed, 3, lambda: feed.state.source == "waiting")
+        self.assertEqual(self.said, ["radio 0: no pulse for 0 s; it is started again in 1 s"])
+        self.turn(feed, 5, lambda: feed.state.restarts == 2)
+        self.assertEqual(self.said[1:], ["radio 0: no pulse for 0 s; it is started again in 2 s"])
+
+    def test_a_new_server_gets_the_last_minutes_first(self):
+        now = time.monotonic_ns() // 1000
+        feed = self.feed(f"echo {now - 100} 7; echo {now - 50} 7; sleep 1; echo {now + 1} 9; exec sleep 60")
+        self.turn(feed, 5, lambda: feed.state.pulses == 2)
+        taken = self.server(feed)
+        self.turn(feed, 5, lambda: feed.state.pulses == 3)
+        self.assertEqual(os.read(taken, 100), f"{now - 100} 7\n{now - 50} 7\n{now + 1} 9\n".encode())
+        self.assertEqual((self.folder / os.listdir(self.folder)[0]).read_bytes(), f"{now - 100} 7\n{now - 50} 7\n{now + 1} 9\n".encode())
+
+
+if __name__ == "__main__":
+    unittest.main()

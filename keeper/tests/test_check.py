@@ -1,0 +1,146 @@
+"""`check` over made-up hosts, files and receivers."""
+
+import contextlib
+import io
+import os
+import socket
+import sys
+import tempfile
+import unittest
+
+from keeper import check, hosts
+from keeper.config import Radio
+from keeper.hosts import Level
+from keeper.marks import Look
+from keeper.tests.test_marks import log, seen, upside_down
+from keeper.words import REFUSED, Fault
+
+STATION = 'bound = 1000\n\n[[radio]]\nplan = "dcf"\nlog = "x"\n\n[[link]]\nport = {port}\n'
+KEEPER = 'station = "station.toml"\nprogram = "program"\n\n[[radio]]\ncommand = "{command}"\n'
+# Marks of 0.1 s on each second of the monotonic clock, twenty of them at once.
+MARKS = "import time; now = time.monotonic_ns() // 1000; print(*(f'{{now - 1000000 * k}} {width}' for k in range(9, -1, -1)), sep='\\n', flush=True); time.sleep(30)"
+
+
+def free_port() -> int:
+    with socket.socket(socket.AF_INET, socket.SOCK_DGRAM) as one:
+        one.bind(("127.0.0.1", 0))
+        return one.getsockname()[1]
+
+
+class Folder(unittest.TestCase):
+    def setUp(self):
+        folder = tempfile.TemporaryDirectory()
+        self.addCleanup(folder.cleanup)
+        self.folder = folder.name
+
+    def write(self, name: str, text: str, mode: int = 0o644) -> str:
+        path = os.path.join(self.folder, name)
+        with open(path, "w", encoding="utf-8") as file:
+            file.write(text)
+        os.chmod(path, mode)
+        return path
+
+
+class Whole(Folder):
+    def run_check(self, *words, command="true", says="status 0", ends=0, port=None):
+        self.write("station.toml", STATION.format(port=port or free_port()))
+        self.write("keeper.toml", KEEPER.format(command=command))
+        self.write("program", f"#!/bin/sh\necho '{says}'\nexit {ends}\n", 0o755)
+        out = io.StringIO()
+        with contextlib.redirect_stdout(out):
+            told = check.main(["--config", os.path.join(self.folder, "keeper.toml"), *words])
+        return told, out.getvalue()
+
+    def test_all_is_well(self):
+        script = self.write("marks.py", MARKS.format(width=100000))
+        told, said = self.run_check("--seconds", "4", command=f"{sys.executable} {script}")
+        self.assertEqual(told, 0, said)
+        self.assertIn("the program takes it", said)
+        self.assertNotIn("BAD", said)
+        self.assertTrue(said.endswith("nothing to mend\n"))
+
+    def test_the_receiver_is_heard(self):
+        script = self.write("marks.py", MARKS.format(width=900000))
+        told, said = self.run_check("--seconds", "7", command=f"{sys.executable} {script}")
+        self.assertEqual(told, 1)
+        self.assertIn("the other way round", said)
+
+    def test_a_source_that_ends(self):
+        told, said = self.run_check("--seconds", "3", command="echo noise; exit 3")
+        self.assertEqual(told, 1)
+        self.assertIn("its command ended with 3", said)
+        self.assertIn("1 lines were no start and width", said)
+
+    def test_the_program_refuses_the_station(self):
+        told, said = self.run_check("--seconds", "0", says="status 3 station range radio.0.delay", ends=3)
+        self.assertEqual(told, 1)
+        self.assertRegex(said, r"BAD +\S+station.toml: the program refuses it: status 3 station range radio.0.delay; radio_ntpd.toml\(5\)")
+
+    def test_a_key_that_is_not_known(self):
+        with self.assertRaises(Fault) as raised:
+            self.run_check(command='true"\nspeed = "3')
+        self.assertEqual(raised.exception.status, REFUSED)
+        self.assertIn("speed", str(raised.exception))
+
+    def test_a_port_that_is_taken(self):
+        with socket.socket(socket.AF_INET, socket.SOCK_DGRAM) as other:
+            other.bind(("0.0.0.0", 0))
+            told, said = self.run_check("--seconds", "0", port=other.getsockname()[1])
+        self.assertEqual(told, 1)
+        self.assertIn("is taken", said)
+
+
+class Hosts(Folder):
+    def source(self, kind, value):
+        return hosts.look_at_source(Radio(kind, value, "roof", 60.0, "dcf", 0.0), 0)
+
+    def test_sources(self):
+        file = self.write("a.log", "")
+        fifo = os.path.join(self.folder, "fifo")
+        os.mkfifo(fifo)
+        for kind, value, level, said in (
+            ("file", file, Level.WELL, "is there"), ("file", fifo, Level.BAD, "is no file"), ("fifo", fifo, Level.WELL, "is there"), ("fifo", file, Level.BAD, "mkfifo"),
+            ("file", file + "x", Level.BAD, "No such file"), ("command", "stdbuf -oL cat x | sh -c y", Level.WELL, "are there"),
+            ("command", "stdbuf -oL nosuchprogram --chip 0 | cat", Level.BAD, "no program nosuchprogram"), ("command", "A=1 $X/foo | exec sh", Level.WELL, ""),
+        ):
+            with self.subTest(kind=kind, value=value):
+                told, text = self.source(kind, value)
+                self.assertEqual(told, level, text)
+                self.assertIn(said, text)
+
+    def test_clock_sources(self):
+        for name, level in (("tsc", Level.WELL), ("arch_sys_counter", Level.WELL), ("hpet", Level.NOTE), ("jiffies", Level.NOTE)):
+            self.write("current_clocksource", name + "\n")
+            ((told, text),) = hosts.look_at_clock(self.folder)
+            self.assertEqual(told, level)
+            self.assertIn(name, text)
+        self.assertEqual(hosts.look_at_clock(self.folder + "/x")[0][0], Level.NOTE)
+
+    def test_folders(self):
+        self.assertEqual(hosts.look_at_folder(os.path.join(self.folder, "a", "b"))[0], Level.WELL)
+        self.assertFalse(os.path.exists(os.path.join(self.folder, "a")))
+        self.assertEqual(hosts.look_at_folder(os.path.join(self.write("f", ""), "b"))[0], Level.BAD)
+
+
+class Sentences(unittest.TestCase):
+    def says(self, look, plan, level, words):
+        found = check.judge_marks(look, plan)
+        self.assertEqual(found[-1][0], level, found)
+        self.assertIn(words, " ".join(text for _, text in found))
+
+    def test_each(self):
+        marks = log("dcf77")[20:30]
+        self.says(seen(marks), "dcf", Level.WELL, "marks of DCF77")
+        self.says(seen(marks), "wwvb", Level.BAD, "the station says WWVB")
+        self.says(seen(log("wwvb")[20:30]), "dcf", Level.BAD, "marks of WWVB, and the station says DCF77")
+        self.says(seen(upside_down(log("dcf77"))[20:30]), "dcf", Level.BAD, "the other way round")
+        self.says(seen(marks, 1e-3), "dcf", Level.WELL, "its starts are milliseconds")
+        self.says(Look(lines=3, edges=3), "dcf", Level.BAD, "edges_to_log.py")
+        self.says(Look(), "dcf", Level.BAD, "nothing was received")
+        self.says(Look(lines=2, others=2), "dcf", Level.BAD, "2 lines were no start and width")
+        self.says(seen([(second * 137_000, 20_000) for second in range(70)]), "dcf", Level.BAD, "noise")
+        self.says(seen(marks[:3]), "dcf", Level.NOTE, "too few")
+
+
+if __name__ == "__main__":
+    unittest.main()

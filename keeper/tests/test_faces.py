@@ -1,0 +1,256 @@
+"""What is shown of a state: sentences, text, metrics, the page."""
+
+import contextlib
+import html.parser
+import io
+import json
+import os
+import re
+import tempfile
+import time
+import unittest
+
+from keeper import faces, metrics, page, pictures, relay, rules, status, text
+from keeper.state import Alarm, LeapFileState, LinkState, Quarter, RadioState, RunState, ServerState, Slot, State, save
+from keeper.verdict import Level, judge, span, summary, worst
+
+NOW = 1767269100.0  # 2026-01-01 12:05:00 UTC
+
+
+def a_good_station(now: float = NOW) -> State:
+    """A station of which all is well."""
+    quarters = [Quarter((now // 900 - 95 + place) * 900, 14, 0, 0, {"2": 1}) for place in range(96)]
+    slots = [Slot((now // 300 - 287 + place) * 300, -0.002, 0.001, 0.003) for place in range(288)]
+    return State(
+        written=now, keeper_since=now - 90000, keeper_pid=1, station="/etc/radio_ntpd/station.toml", bound=0.5,
+        run=RunState(number=7, since=now - 600, cause="cycle", lag=0.0013, lag_bound=5e-6, last_status="status 0"),
+        links=[LinkState(123, now - 1, now - 1, 0, 1, "DCF", 0.0, 0.0054, now - 40, now + 32900, 991, 3.4)],
+        radios=[RadioState(0, "dcf", "roof", "running", pulses=9, pulse_at=now - 1, verdicts_hour=58, minutes_hour=60, minute=now, minute_at=now, spread=0.0021, reception=quarters, offsets=slots)],
+        servers=[ServerState(1, "192.0.2.17", 123, 56, {"6": 2}, now - 60, now - 60, 0.0004, 0.012, 1, slots[:100])],
+        leap_file=LeapFileState(2, "/l", 27, 1483228800.0, now + 100 * 86400),
+    )
+
+
+class Sentences(unittest.TestCase):
+    def says(self, level, words, **changes):
+        state = a_good_station()
+        for name, value in changes.items():
+            owner, _, field = name.rpartition("__")
+            setattr({"": state, "link": state.links[0], "radio": state.radios[0], "server": state.servers[0], "leap": state.leap_file}[owner], field, value)
+        found = judge(state, NOW)
+        self.assertEqual(worst(found), level, found)
+        self.assertIn(words, summary(state, NOW))
+
+    def test_each(self):
+        self.says(Level.OK, "time from DCF, stratum 1, root dispersion 5.4 ms")
+        self.says(Level.CRITICAL, "no keeper runs: its state is 61 s old", written=NOW - 61)
+        self.says(Level.CRITICAL, "the keeper was stopped 5 s ago", written=NOW - 5, keeper_pid=0)
+        self.says(Level.CRITICAL, "port 123 doesn't answer", link__answered_at=NOW - 16)
+        self.says(Level.CRITICAL, "port 123 has no time (INIT)", link__leap=3, link__reference_id="INIT")
+        self.says(Level.CRITICAL, "port 123 has no time yet: a radio needs four verdicts", link__leap=3, keeper_since=NOW - 599)
+        self.says(Level.WARNING, "the root dispersion is 250 ms of 500 ms", link__root_dispersion=0.25)
+        self.says(Level.OK, "root dispersion 249.0 ms", link__root_dispersion=0.249)
+        self.says(Level.WARNING, "DCF77 roof: its source is waiting", radio__source="waiting")
+        self.says(Level.WARNING, "DCF77 roof: no verdict for 1 h", radio__minute_at=NOW - 3601)
+        self.says(Level.WARNING, "DCF77 roof: no verdict for ever", radio__minute_at=0.0)
+        self.says(Level.WARNING, "server 192.0.2.17 has given no sample for 2 h", server__sample_at=NOW - 7201, server__answered_at=0.0)
+        self.says(Level.WARNING, "the leap second file expires in 29 d", leap__expires=NOW + 29 * 86400)
+        self.says(Level.WARNING, "the leap second file has expired", leap__expires=NOW - 1)
+        self.says(Level.WARNING, "the run before ended by itself, 10 min ago", alarms=[Alarm("run-died", NOW - 600, "the run before ended by itself")])
+        self.says(Level.OK, "time from", alarms=[Alarm("run-died", NOW - 3601, "x"), Alarm("time-lost", NOW - 5, "y")])
+        self.says(Level.WARNING, "the disk / is full", notes=["the disk | is\nfull"])
+        self.says(Level.OK, "nothing is served", links=[])
+
+    def test_the_worst_comes_first(self):
+        state = a_good_station()
+        state.radios[0].source, state.links[0].leap = "stalled", 3
+        self.assertEqual([level for level, _ in judge(state, NOW)], [Level.CRITICAL, Level.WARNING])
+
+    def test_spans(self):
+        for seconds, said in ((0.4, "0 s"), (119.4, "119 s"), (120, "2 min"), (150, "2 min 30 s"), (3599, "59 min 59 s"), (3600, "1 h"), (90000, "1 d 1 h"), (-5, "0 s")):
+            self.assertEqual(span(seconds), said)
+
+
+class Text(unittest.TestCase):
+    def test_all_facts_are_there(self):
+        said = text.render(a_good_station(), NOW)
+        for due in (
+            "OK: time from DCF", "bound 500 ms, kept for 1 d 1 h", "run 7, 10 min old, since the last one was over", "ended with 'status 0'", "began 1.3 ms late (known within 5 us)",
+            "123   none  1        DCF77 (radio)  5.4 ms           9 h 8 min  3.4         1 s ago", "58 of 60", "12:05 UTC, 0 s ago", "2.1 ms", "[" + "█" * 24 + "]",
+            "refused 96 by rule 2 Width: a width is in no class", "192.0.2.17:123", "declined 2 as Bogus", "expires 2026-04-11", "2017-01-01",
+        ):
+            self.assertIn(due, said)
+
+    def test_reference_ids(self):
+        state = a_good_station()
+        for name, due in (
+            ("MSF", "MSF (radio)"), ("INIT", "no time yet"), ("PPS", "PPS"), ("127.45.66.1", "the server 192.0.2.17"), ("127.45.66.2", "the server 127.45.66.2"),
+            ("127.45.66.x", "the server 127.45.66.x"), ("10.0.0.1", "the server 10.0.0.1"),
+        ):
+            self.assertEqual(rules.reference(name, state), due)
+
+    def test_the_relays_have_these_addresses(self):
+        self.assertEqual(rules.RELAYS, relay.OWN)
+
+    def test_ascii_alone(self):
+        self.assertTrue(text.render(a_good_station(), NOW, unicode=False).isascii())
+
+    def test_a_state_without_anything(self):
+        self.assertIn("CRITICAL: no keeper runs", text.render(State(), NOW))
+        self.assertIn("nothing is served", text.render(State(written=NOW, keeper_pid=1), NOW))
+
+    def test_hours(self):
+        quarters = [Quarter(NOW // 900 * 900 - 900, 15), Quarter(NOW // 900 * 900, 0, 0, 0, {"1": 3}), Quarter(NOW // 900 * 900 - 23 * 3600 - 4 * 900, 15)]
+        self.assertEqual(text.hours(quarters, NOW, text.DIGITS), "." * 23 + "2")
+        self.assertEqual(text.hours([Quarter(NOW // 900 * 900, 0, 0, 0, {"1": 3})], NOW), "." * 23 + "_")
+
+    def test_nagios(self):
+        line, level = text.nagios(a_good_station(), NOW)
+        self.assertEqual(level, Level.OK)
+        self.assertEqual(line, "RADIO_NTPD OK: time from DCF, stratum 1, root dispersion 5.4 ms | root_dispersion_123=0.005400s;;0.5 verdicts_0=58;;;0;60")
+
+
+class Metrics(unittest.TestCase):
+    def test_its_form(self):
+        """Each family in one block with its HELP and TYPE, by the text format of Prometheus; counters end in `_total`, units are base units."""
+        name, seen, kind = None, set(), None
+        for line in metrics.render(a_good_station(), NOW).splitlines():
+            if line.startswith("# HELP "):
+                name = line.split(" ")[2]
+                self.assertNotIn(name, seen)
+                seen.add(name)
+            elif line.startswith("# TYPE "):
+                _, _, told, kind = line.split(" ")
+                self.assertEqual(told, name)
+                self.assertEqual(name.endswith("_total"), kind == "counter", name)
+            else:
+                self.assertRegex(line, r'\A' + name + r'(\{[a-z]+="[^"\n]*"(,[a-z]+="[^"\n]*")*\})? -?[0-9.e-]+\Z')
+        self.assertGreater(len(seen), 25)
+        self.assertFalse([one for one in seen if re.search(r"_(ms|us|milliseconds|percent)\b", one)])
+
+    def test_values(self):
+        said = metrics.render(a_good_station(), NOW)
+        for due in (
+            "radio_ntpd_status 0", 'radio_ntpd_link_synchronized{port="123"} 1', 'radio_ntpd_link_root_dispersion_seconds{port="123"} 0.0054',
+            'radio_ntpd_radio_last_verdict_timestamp_seconds{radio="0",plan="dcf"} 1767269100', 'radio_ntpd_radio_day_refused_frames{radio="0",plan="dcf",rule="2"} 96',
+            'radio_ntpd_server_offset_seconds{server="192.0.2.17:123"} 0.0004',
+        ):
+            self.assertIn(due + "\n", said)
+
+    def test_labels_are_escaped(self):
+        state = a_good_station()
+        state.radios[0].plan = 'a"b\\c\nd'
+        self.assertIn('plan="a\\"b\\\\c\\nd"', metrics.render(state, NOW))
+
+
+class Reader(html.parser.HTMLParser):
+    """Looks whether each element ends, and what would be fetched."""
+
+    EMPTY = {"meta"}
+
+    def __init__(self):
+        super().__init__()
+        self.open, self.fetched, self.words = [], [], []
+
+    def handle_starttag(self, tag, attrs):
+        if tag not in self.EMPTY:
+            self.open.append(tag)
+        self.fetched += [value for name, value in attrs if name in ("src", "href", "data", "action")]
+
+    def handle_startendtag(self, tag, attrs):
+        pass
+
+    def handle_endtag(self, tag):
+        assert self.open.pop() == tag, f"</{tag}> ends another element"
+
+    def handle_data(self, data):
+        if self.open and self.open[-1] not in ("style", "script"):
+            self.words.append(data)
+
+
+class Page(unittest.TestCase):
+    def read(self, state):
+        reader = Reader()
+        reader.feed(page.render(state, NOW))
+        reader.close()
+        self.assertEqual(reader.open, [])
+        self.assertEqual(reader.fetched, [])
+        return " ".join(reader.words)
+
+    def test_facts_and_form(self):
+        said = self.read(a_good_station())
+        for due in ("Time from DCF77 (radio)", "58 of 60", "5.4 ms", "9 h 8 min", "2.1 ms", "Server 192.0.2.17", "12:00 UTC: 14 verdicts, 1 refused by Width", "06:00", "declined as Bogus"):
+            self.assertIn(due, said)
+        self.assertNotRegex(page.render(a_good_station(), NOW), r"url\(|@import|https?:")
+
+    def test_what_others_named_is_escaped(self):
+        state = a_good_station()
+        state.radios[0].name = state.station = state.links[0].reference_id = state.notes = ["<script>alert(1)</script>"]
+        state.radios[0].name, state.station = "<b>&", "</style>"
+        state.links[0].reference_id = "<i>"
+        self.assertIn("<b>&", self.read(state))
+        self.assertNotIn("<script>alert", page.render(state, NOW))
+
+    def test_a_state_without_anything(self):
+        self.assertIn("No keeper runs", self.read(State()))
+        self.assertIn("Nothing is served", self.read(State(written=NOW, keeper_pid=1, radios=[RadioState(source="running")], keeper_since=NOW)))
+
+    def test_a_round_scale(self):
+        for least, greatest, due in ((-0.0021, 0.0093, (-0.005, 0.01, 0.005)), (0.0, 0.004, (0.0, 0.004, 0.001)), (1.0, 1.0, None), (-3.2, 0.9, (-4.0, 2.0, 2.0))):
+            low, high, step = pictures.nice_range(least, greatest)
+            self.assertTrue(low <= least and greatest <= high + 1e-9 and (high - low) / step <= 6)
+            for told, value in zip((low, high, step), due or ()):
+                self.assertAlmostEqual(told, value)
+
+    def test_a_gap_is_no_line(self):
+        slots = [Slot(NOW - 9000), Slot(NOW - 8700), Slot(NOW - 3000)]
+        self.assertEqual([len(piece) for piece in pictures._pieces(slots)], [2, 1])
+
+
+class Files(unittest.TestCase):
+    def setUp(self):
+        folder = tempfile.TemporaryDirectory()
+        self.addCleanup(folder.cleanup)
+        self.folder = folder.name
+
+    def run_status(self, *words):
+        out = io.StringIO()
+        with contextlib.redirect_stdout(out):
+            told = status.main([*words, "--folder", self.folder])
+        return told, out.getvalue()
+
+    def test_all_is_renewed(self):
+        faces.renew(a_good_station(), self.folder, NOW)
+        self.assertEqual(sorted(os.listdir(self.folder)), ["radio_ntpd.prom", "state.json", "status.html"])
+
+    def test_status_in_each_form(self):
+        now = time.time()
+        save(a_good_station(now), os.path.join(self.folder, "state.json"))
+        told, said = self.run_status()
+        self.assertEqual((told, said.split(":")[0]), (0, "OK"))
+        self.assertEqual(json.loads(self.run_status("--json")[1])["run"]["number"], 7)
+        self.assertIn("radio_ntpd_runs_total 7\n", self.run_status("--prometheus")[1])
+        self.assertEqual(self.run_status("--nagios")[0], 0)
+        save(a_good_station(now - 100), os.path.join(self.folder, "state.json"))
+        told, said = self.run_status("--nagios")
+        self.assertEqual(told, 2)
+        self.assertRegex(said, r"\ARADIO_NTPD CRITICAL: no keeper runs[^\n]*\n\Z")
+        self.assertEqual(self.run_status()[0], 2)
+
+    def test_no_state(self):
+        told, said = self.run_status("--nagios")
+        self.assertEqual(told, 3)
+        self.assertRegex(said, r"\ARADIO_NTPD UNKNOWN: [^\n|]*\n\Z")
+        with self.assertRaisesRegex(Exception, "does the keeper run"):
+            self.run_status()
+
+    def test_the_folder_of_a_file(self):
+        path = os.path.join(self.folder, "keeper.toml")
+        for said, due in (("", f"{self.folder}/state"), ('state = "s"', f"{self.folder}/s"), ('state = "/x"', "/x")):
+            with open(path, "w", encoding="utf-8") as file:
+                file.write(said)
+            self.assertEqual(status.folder_of(path), due)
+
+
+if __name__ == "__main__":
+    unittest.main()

@@ -1,0 +1,143 @@
+"""The keeper's file and the station's text: what is taken, what is refused and how, and what a run gets."""
+
+import os
+import pathlib
+import tempfile
+import tomllib
+import unittest
+from unittest import mock
+
+from keeper import config, station
+from keeper.words import REFUSED, Fault
+
+FAKE = pathlib.Path(__file__).with_name("fake_program.py")
+STATION = '''bound = 500
+gap = 2000000
+[[radio]]
+plan = "dcf"
+log = "a.log"
+delay = 1400
+[[radio]]
+plan = "msf"
+log = "b.log"
+[[server]]
+address = "192.0.2.7"
+port = 4123
+polls = 3
+[[link]]
+port = 12300
+[[deny]]
+net = "198.51.100.0/24"
+'''
+KEEPER = '''station = "station.toml"
+[[radio]]
+command = "true"
+[[radio]]
+fifo = "msf.fifo"
+name = "attic"
+stall = 30
+'''
+
+
+class Folder(unittest.TestCase):
+    def setUp(self):
+        folder = tempfile.TemporaryDirectory()
+        self.addCleanup(folder.cleanup)
+        self.folder = pathlib.Path(folder.name)
+        (self.folder / "station.toml").write_text(STATION)
+
+    def load(self, text):
+        path = self.folder / "keeper.toml"
+        path.write_text(text)
+        return config.load(str(path))
+
+    def refused(self, text):
+        with self.assertRaises(Fault) as caught:
+            self.load(text)
+        self.assertEqual(caught.exception.status, REFUSED)
+        return str(caught.exception).removeprefix(f"{self.folder}/keeper.toml: ")
+
+
+class Config(Folder):
+    def test_what_is_left_out_has_its_default(self):
+        settings = self.load(KEEPER)
+        self.assertEqual((settings.cycle, settings.days, settings.pace), (3600, 30, 16))
+        self.assertEqual((settings.bound, settings.gap, settings.links), (0.5, 2.0, [12300]))
+        self.assertEqual((settings.servers, settings.denied), ([("192.0.2.7", 4123)], ["198.51.100.0/24"]))
+        self.assertEqual(settings.folder, str(self.folder / "state"))
+        first, second = settings.radios
+        self.assertEqual((first.kind, first.value, first.name, first.stall, first.plan, first.delay), ("command", "true", "dcf", 60, "dcf", 0.0014))
+        self.assertEqual((second.kind, second.value, second.name, second.stall), ("fifo", str(self.folder / "msf.fifo"), "attic", 30))
+
+    def test_servers_without_pacing_shorten_the_cycle(self):
+        self.assertEqual(self.load("pace = 0\n" + KEEPER).cycle, 300)
+        self.assertEqual(self.load("pace = 0\ncycle = 900\n" + KEEPER).cycle, 900)
+
+    def test_what_is_refused_is_named_with_its_line(self):
+        rows = (
+            ("cicle = 5\n" + KEEPER, "cicle: a key that isn't known (line 1)"),
+            (KEEPER + 'low = "x"\n', "radio.1.low: a key that isn't known (line 8)"),
+            (KEEPER.replace('command = "true"\n', ""), "radio.0.command: one of command, fifo and file must stand there, and no more than one"),
+            (KEEPER.replace('name = "attic"', 'file = "x"'), "radio.1.file: one of command, fifo and file must stand there, and no more than one (line 6)"),
+            (KEEPER.replace('station = "station.toml"\n', ""), "station: it is missing"),
+            ("cycle = 1\n" + KEEPER, "cycle: 1 isn't within 2 to 604800 (line 1)"),
+            ('cycle = "5"\n' + KEEPER, "cycle: it isn't a whole number (line 1)"),
+            ("days = true\n" + KEEPER, "days: it isn't a whole number (line 1)"),
+            (KEEPER.replace('"true"', '""'), "radio.0.command: it is empty (line 3)"),
+            (KEEPER + "[alarms]\nunheard = 5\n", "alarms.unheard: 5 isn't within 60 to 2592000 (line 9)"),
+            ("radio = 3\nstation = 'station.toml'\n", "radio: it isn't an array of tables (line 1)"),
+            (KEEPER + '[[radio]]\ncommand = "true"\n', f"radio: 3 are here and 2 in {self.folder}/station.toml (line 2)"),
+            ("cycle = \n", "it is no TOML: Invalid value (at line 1, column 9)"),
+        )
+        for text, why in rows:
+            with self.subTest(why=why):
+                self.assertEqual(self.refused(text), why)
+
+    def test_files_that_are_not_there(self):
+        with self.assertRaises(Fault) as caught:
+            config.load(str(self.folder / "nosuch.toml"))
+        self.assertEqual(str(caught.exception), f"{self.folder}/nosuch.toml: No such file or directory")
+        self.assertIn("other.toml: No such file or directory", self.refused(KEEPER.replace("station.toml", "other.toml")))
+
+    def test_the_program_judges_the_station(self):
+        settings = self.load(f'program = "{FAKE}"\n' + KEEPER)
+        config.judge(settings)
+        with mock.patch.dict(os.environ, FAKE_FAULT="unknown boundd"), self.assertRaises(Fault) as caught:
+            config.judge(settings)
+        self.assertEqual(str(caught.exception), f"{self.folder}/station.toml: the program refuses it: status 3 station unknown boundd")
+
+    def test_a_program_that_is_not_there(self):
+        with self.assertRaises(Fault) as caught:
+            config.judge(self.load('program = "nosuch"\n' + KEEPER))
+        self.assertIn("can't be run: No such file or directory", str(caught.exception))
+
+
+class Text(unittest.TestCase):
+    def test_a_run_gets_its_logs_and_its_start_and_nothing_else_changes(self):
+        values = tomllib.loads(STATION)
+        made = tomllib.loads(station.text_for(values, ["/dev/fd/5", "/dev/fd/7"], 123456))
+        due = tomllib.loads(STATION)
+        due["start"] = 123456
+        due["radio"][0]["log"], due["radio"][1]["log"] = "/dev/fd/5", "/dev/fd/7"
+        self.assertEqual(made, due)
+        self.assertEqual(values, tomllib.loads(STATION))
+
+    def test_relays_stand_in_the_place_of_servers(self):
+        made = tomllib.loads(station.text_for(tomllib.loads(STATION), ["a", "b"], 0, [("127.45.66.1", 40000)], 99))
+        self.assertEqual(made["server"], [{"address": "127.45.66.1", "port": 40000, "polls": 99}])
+
+    def test_what_the_program_would_refuse_stays(self):
+        for text in ('leap = 1\n', 'radio = 3\n', 'bound = 1.5\nflag = true\nat = 2026-01-02\nlist = [1, "a"]\n', '[link]\nport = 3\n', 'a = "\\u0001\\"\\\\é\\n\\u007f"\n'):
+            with self.subTest(text=text):
+                self.assertEqual(tomllib.loads(station.text_of(tomllib.loads(text))), tomllib.loads(text))
+
+    def test_polls_last_a_cycle(self):
+        """An hour of polls of two seconds, of which 56 are answered at once."""
+        polls = station.polls_for(3600, 64)
+        self.assertGreaterEqual((polls - 57) * 2, 3600)
+        self.assertLess(polls, 1900)
+        self.assertEqual(station.polls_for(10**7, 64), 100_000)
+
+
+if __name__ == "__main__":
+    unittest.main()

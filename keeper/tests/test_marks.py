@@ -1,0 +1,86 @@
+"""What receivers look like: the examples' logs, which no code of the keeper made, ten seconds at a time."""
+
+import pathlib
+import random
+import unittest
+
+from keeper.marks import Look, look, unit_of
+
+RADIOS = pathlib.Path(__file__).parent.parent.parent / "examples" / "radios"
+UNIX = 1.7e9
+
+
+def log(plan: str) -> list[tuple[int, int]]:
+    return [tuple(map(int, line.split())) for line in (RADIOS / f"{plan}.log").read_text().splitlines()]
+
+
+def upside_down(marks):
+    """The marks of a receiver whose output is the other way round: the gaps."""
+    return [(start + width, later - start - width) for (start, width), (later, _) in zip(marks, marks[1:])]
+
+
+def pieces(marks, seconds=10):
+    """So many seconds from each seventh second on."""
+    for first in range(10, 500, 7):
+        yield [one for one in marks if first * 1_000_000 <= one[0] < (first + seconds) * 1_000_000]
+
+
+def seen(marks, scale=1.0, seconds=10) -> Look:
+    lines = [b"%d %d" % (start * scale, width * scale) for start, width in marks]
+    return look(lines, seconds, marks[-1][0] / 1e6 + 1, UNIX)
+
+
+class Marks(unittest.TestCase):
+    PLANS = {"dcf77": "dcf", "msf": "msf", "wwvb": "wwvb"}
+
+    def test_each_plan_and_polarity_in_ten_seconds(self):
+        for name, plan in self.PLANS.items():
+            for turned in (False, True):
+                marks = upside_down(log(name)) if turned else log(name)
+                for piece in pieces(marks):
+                    with self.subTest(plan=plan, turned=turned, first=piece[0]):
+                        told = seen(piece)
+                        self.assertEqual(told.inverted, turned)
+                        self.assertIn(plan, told.plans)
+                        self.assertEqual("wwvb" in told.plans, plan == "wwvb")
+
+    def test_jitter_does_not_change_it(self):
+        chance = random.Random(4)
+        for name, plan in self.PLANS.items():
+            marks = [(start + chance.randint(-8000, 8000), width + chance.randint(-8000, 8000)) for start, width in log(name)]
+            for piece in pieces(marks, 30):
+                told = seen(sorted(piece), seconds=30)
+                self.assertFalse(told.inverted)
+                self.assertIn(plan, told.plans)
+
+    def test_msf_shows_itself_in_a_minute(self):
+        for piece in pieces(log("msf"), 60):
+            self.assertEqual(seen(piece, seconds=60).plans, ["msf"])
+
+    def test_units(self):
+        for scale, unit in ((1e-6, "seconds"), (1e-3, "milliseconds"), (1.0, "microseconds"), (1e3, "nanoseconds")):
+            for clock, monotonic, unix in (("monotonic", 86400.0, UNIX), ("real-time", UNIX, 86400.0)):
+                self.assertEqual(unit_of(int(86400 * 1e6 * scale), monotonic, unix), (unit, clock))
+        self.assertEqual(unit_of(3600 * 10**6, 86400.0, UNIX), ("", ""))
+
+    def test_milliseconds_are_scaled_before_they_are_judged(self):
+        for piece in pieces(log("dcf77")):
+            told = seen(piece, 1e-3)
+            self.assertEqual((told.unit, told.inverted), ("milliseconds", False))
+            self.assertIn("dcf", told.plans)
+
+    def test_edges_noise_and_nothing(self):
+        told = look([b"12.5\trising\tgpiochip0 17", b"event:  RISING EDGE offset: 17 timestamp: [ 12.5]", b"Error: busy", b""], 10, 20.0, UNIX)
+        self.assertEqual((told.lines, told.edges, told.others, told.widths), (4, 2, 2, []))
+        chance = random.Random(2)
+        noise = sorted((chance.randrange(10**7), chance.randrange(5_000, 60_000)) for _ in range(60))
+        self.assertIsNone(seen(noise).inverted)
+        self.assertEqual(seen(noise).rate, 6.0)
+        self.assertEqual(look([], 10, 20.0, UNIX), Look())
+
+    def test_history_is_left_out(self):
+        self.assertAlmostEqual(seen(log("dcf77")).rate, 1.0, delta=0.11)
+
+
+if __name__ == "__main__":
+    unittest.main()

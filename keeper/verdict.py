@@ -1,0 +1,105 @@
+"""How well a station is: sentences on its state, each with a level. Every face says these, so that all say the same."""
+
+from enum import IntEnum
+
+from keeper.rules import PLANS
+from keeper.state import RadioState, State
+
+STALE = 60.0  # a state that is older was left by a keeper that has ended, in seconds
+SILENT = 15.0  # a link that hasn't answered for so long is silent, in seconds
+NEW = 600.0  # a keeper so young may still wait for its first minutes, in seconds
+UNHEARD = 3600.0  # a radio without a verdict for so long is unheard, in seconds
+OLD_SAMPLE = 7200.0  # a server without a sample for so long isn't heard, in seconds
+DIED = 3600.0  # so long a run that died is told of, in seconds
+EXPIRES = 30 * 86400.0  # so long before its end a leap second file is told of, in seconds
+WIDE = 0.5  # the part of the bound from which on a root dispersion is told of
+
+
+class Level(IntEnum):
+    """The exit statuses of Nagios' plugins."""
+
+    OK = 0
+    WARNING = 1
+    CRITICAL = 2
+    UNKNOWN = 3
+
+
+def judge(state: State, now: float) -> list[tuple[Level, str]]:
+    """What isn't well, the worst first; nothing where all is well. `now` in Unix s."""
+    if now - state.written > STALE:
+        return [(Level.CRITICAL, f"no keeper runs: its state is {span(now - state.written)} old")]
+    if not state.keeper_pid:
+        return [(Level.CRITICAL, f"the keeper was stopped {span(now - state.written)} ago")]
+    found = _links(state, now)
+    for radio in state.radios:
+        found += [(Level.WARNING, one) for one in _radio(state, radio, now)]
+    for server in state.servers:
+        if now - max(server.sample_at, server.answered_at, state.keeper_since) > OLD_SAMPLE:
+            found.append((Level.WARNING, f"server {server.address} has given no sample for {_since(server.sample_at, now)}"))
+    leap = state.leap_file
+    if leap is not None and leap.expires and leap.expires - now < EXPIRES:
+        found.append((Level.WARNING, "the leap second file has expired" if leap.expires < now else f"the leap second file expires in {span(leap.expires - now)}"))
+    found += [(Level.WARNING, f"{one.text}, {span(now - one.at)} ago") for one in state.alarms[-3:] if one.event == "run-died" and now - one.at < DIED]
+    found += [(Level.WARNING, one) for one in state.notes]
+    return sorted(found, key=lambda one: -one[0])
+
+
+def _links(state: State, now: float) -> list[tuple[Level, str]]:
+    found = []
+    for link in state.links:
+        if now - link.answered_at > SILENT:
+            found.append((Level.CRITICAL, f"port {link.port} doesn't answer"))
+        elif link.leap == 3:
+            why = "yet: a radio needs four verdicts" if now - state.keeper_since < NEW else f"({link.reference_id})"
+            found.append((Level.CRITICAL, f"port {link.port} has no time {why}"))
+        elif link.root_dispersion >= WIDE * state.bound:
+            found.append((Level.WARNING, f"port {link.port}: the root dispersion is {link.root_dispersion * 1e3:.0f} ms of {state.bound * 1e3:.0f} ms"))
+    return found
+
+
+def _radio(state: State, radio: RadioState, now: float) -> list[str]:
+    name = title(radio)
+    if radio.source != "running":
+        return [f"{name}: its source is {radio.source}"]
+    if now - max(radio.minute_at, state.keeper_since) > UNHEARD:
+        return [f"{name}: no verdict for {_since(radio.minute_at, now)}"]
+    return []
+
+
+def worst(found: list[tuple[Level, str]]) -> Level:
+    return max((level for level, _ in found), default=Level.OK)
+
+
+def summary(state: State, now: float) -> str:
+    """All in one line, without line breaks or bars, as Nagios wants it."""
+    found = judge(state, now)
+    good = [one for one in state.links if one.leap != 3]
+    if found:
+        said = "; ".join(text for _, text in found)
+    elif good:
+        said = f"time from {good[0].reference_id}, stratum {good[0].stratum}, root dispersion {good[0].root_dispersion * 1e3:.1f} ms"
+    else:
+        said = "nothing is served"
+    return " ".join(said.replace("|", "/").split())
+
+
+def title(radio: RadioState) -> str:
+    """A radio's name for people."""
+    plan = PLANS.get(radio.plan, radio.plan)
+    return f"{plan} {radio.name}" if radio.name and radio.name != radio.plan else f"{plan} (radio {radio.number})"
+
+
+def _since(at: float, now: float) -> str:
+    return span(now - at) if at else "ever"
+
+
+def span(seconds: float) -> str:
+    """A length of time in two units at most, for people."""
+    whole = max(0, round(seconds))
+    if whole < 120:
+        return f"{whole} s"
+    for unit, size, lower, small in (("d", 86400, "h", 3600), ("h", 3600, "min", 60), ("min", 60, "s", 1)):
+        if whole >= size * (2 if unit == "min" else 1):
+            count, rest = divmod(whole, size)
+            return f"{count} {unit} {rest // small} {lower}" if rest // small else f"{count} {unit}"
+    return f"{whole} s"

@@ -1,0 +1,37 @@
+"""The command line of the keeper: its words, and how a command ends when it can't be done."""
+
+import argparse
+import sys
+from typing import NoReturn
+
+DONE = 0
+NOT_WELL = 1  # what was asked for was done, and something isn't well
+CRITICAL = 2  # `status --nagios` alone: nobody gets the time
+UNKNOWN = 3  # `status --nagios` alone: nothing is known
+USAGE = 64  # the arguments aren't valid; nothing was done
+HOST = 71  # the host refused something: a file, a port, a process
+REFUSED = 78  # the keeper's file or the station file is refused
+INTERRUPTED = 130  # by SIGINT, as a shell says it
+
+
+class Fault(Exception):
+    """A command can't be done: one sentence for the person who gave it, and the exit status."""
+
+    def __init__(self, text: str, status: int = HOST):
+        super().__init__(text)
+        self.status = status
+
+
+class Parser(argparse.ArgumentParser):
+    """An ArgumentParser that ends with our exit status where the arguments are not valid."""
+
+    def error(self, message: str) -> NoReturn:
+        self.print_usage(sys.stderr)
+        print(f"{self.prog}: {message}", file=sys.stderr)
+        sys.exit(USAGE)
+
+
+def sentence(error: OSError) -> str:
+    """What the host says of a call that failed, with the file's name where there is one."""
+    what = error.strerror or str(error)
+    return f"{error.filename}: {what}" if error.filename is not None else what

@@ -1,0 +1,174 @@
+"""Reads the definitions of specs/: which there are, where each stands, and which others it names.
+
+A definition is a text that starts at the beginning of a line with its declaration (`pub`, `abbrev`, `record`, `data` ..) and goes
+on up to the next declaration. Names are looked up by the imports of their file. Rust's own types (`specs.declared`) and the names of
+the toolchain's library are told apart from definitions of this repository. What a tactic or a field's projection names isn't seen.
+"""
+
+import re
+from dataclasses import dataclass, field
+from pathlib import Path
+
+DECLARATION = re.compile(r"^((?:pub|abbrev|unfoldable|opaque|record|data|type)\s+)+(\S+)")
+PLAIN = re.compile(r"^(\S+)\s*:\s")
+USE = re.compile(r"^(pub )?use (Rattle|mathlib|lib)\.(\S+?)(?:\.\{(.*)\})?(?: as (\S+))?$")
+# The parts of a text that may be names: what stands between blanks and brackets.
+WORD = re.compile(r"[^\s(){},;\[\]λ→]+")
+
+
+@dataclass(frozen=True, order=True)
+class Name:
+    """A definition: its crate, its file in the crate's specs/ without the ending, and its name there."""
+
+    crate: str
+    file: str
+    name: str
+
+
+@dataclass
+class Definition:
+    """A definition's lines, comments before it among them, and the names that they use."""
+
+    name: Name
+    first: int
+    lines: list[str] = field(default_factory=list)
+    comment: list[str] = field(default_factory=list)
+    uses: set[Name] = field(default_factory=set)
+    types: set[str] = field(default_factory=set)
+
+
+@dataclass
+class File:
+    """A file of specs/: what it imports by plain names and by names of modules, its definitions, and which of them make what."""
+
+    imports: dict[str, tuple[str, str]] = field(default_factory=dict)
+    modules: dict[str, str] = field(default_factory=dict)
+    passed_on: list[str] = field(default_factory=list)
+    definitions: dict[str, Definition] = field(default_factory=dict)
+    makers: dict[str, str] = field(default_factory=dict)
+
+
+def read_use(file: File, line: str) -> None:
+    """Takes an import. A name under `as` stands for the name before it."""
+    found = USE.match(line.strip())
+    if not found:
+        return
+    public, root, module, names, alias = found.groups()
+    if root != "Rattle":
+        return
+    if names is None:
+        file.modules[alias or module.rpartition(".")[2]] = module
+        if public:
+            file.passed_on.append(module)
+        return
+    for one in names.split(","):
+        name, _, other = one.strip().partition(" as ")
+        file.imports[(other or name).strip()] = module, name.strip()
+
+
+def read_file(path: Path, crate: str) -> File:
+    """Reads one file of specs/."""
+    file, comment, now = File(), [], None
+    short = path.stem
+    for number, line in enumerate(path.read_text(encoding="utf-8").splitlines(), 1):
+        if line.startswith(("use ", "pub use ")):
+            read_use(file, line)
+            comment, now = [], None
+        elif line.startswith("--"):
+            comment.append(line)
+            now = None
+        elif not line.strip():
+            comment = comment if now is None and comment and not comment[-1].startswith("-- ----") else []
+            now = None
+        else:
+            found = DECLARATION.match(line) or (None if line[0].isspace() else PLAIN.match(line))
+            if found and not line.startswith(("pub mod", "mod ")):
+                name = found.group(2) if found.re is DECLARATION else found.group(1)
+                now = Definition(Name(crate, short, name), number, comment=comment)
+                file.definitions[name] = now
+                comment = []
+            elif not line[0].isspace():
+                # A clause of a definition that was declared before.
+                now = file.definitions.get(line.split()[0], now)
+            if now:
+                now.lines.append(line)
+                made = re.match(r"\s+(?:pub )?(\S+)\s*:", line)
+                if made:
+                    file.makers.setdefault(made.group(1), now.name.name)
+    return file
+
+
+def rust_type(module: str, name: str) -> str:
+    """Returns the Rust type that a module of `declared` stands for, or that a name there is; a variant stands for its type."""
+    parts = module.removesuffix(".TheVariants").split(".")
+    return ".".join(parts if parts[-1][0].isupper() else [*parts, name])
+
+
+class Specs:
+    """All definitions of a checkout."""
+
+    def __init__(self, top: Path):
+        self.top = top
+        self.files = {
+            (path.parent.parent.name, path.stem): read_file(path, path.parent.parent.name)
+            for path in sorted(top.glob("crates/*/specs/*.antt"))
+        }
+        for file in self.files.values():
+            for definition in file.definitions.values():
+                self.look_up(file, definition)
+
+    def find(self, module: str, name: str, depth: int = 4) -> Name | None:
+        """Returns the definition that a name of a module stands for; modules are written as `crate.specs.File`."""
+        parts = module.split(".")
+        if len(parts) < 3 or parts[1] != "specs":
+            return None
+        file = self.files.get((parts[0], parts[2]))
+        if file is None:
+            return None
+        if len(parts) > 3 and parts[3] in file.definitions:
+            return file.definitions[parts[3]].name
+        if name in file.definitions:
+            return file.definitions[name].name
+        if name in file.makers:
+            return file.definitions[file.makers[name]].name
+        if name in file.imports and depth:
+            return self.find(*file.imports[name], depth - 1)
+        return None
+
+    def look_up(self, file: File, definition: Definition) -> None:
+        """Notes which definitions and which of Rust's types the lines of a definition name."""
+        text = "\n".join(line for line in definition.lines if not line.lstrip().startswith("--"))
+        for word in WORD.findall(text):
+            head, dot, rest = word.partition(".")
+            if head in file.definitions:
+                definition.uses.add(file.definitions[head].name)
+            elif head in file.imports:
+                module, name = file.imports[head]
+                if ".declared." in f".{module}.":
+                    definition.types.add(rust_type(module, name))
+                elif found := self.find(module, name):
+                    definition.uses.add(found)
+            elif dot and head in file.modules:
+                module = file.modules[head]
+                if ".declared." in f".{module}.":
+                    definition.types.add(rust_type(module, rest.split(".")[0]))
+                elif found := self.find(module, rest.split(".")[0]):
+                    definition.uses.add(found)
+            elif word in file.makers and file.makers[word] != definition.name.name:
+                definition.uses.add(file.definitions[file.makers[word]].name)
+        definition.uses.discard(definition.name)
+
+    def definition(self, name: Name) -> Definition:
+        """Returns the definition of a name."""
+        return self.files[name.crate, name.file].definitions[name.name]
+
+    def closure(self, start: list[Name]) -> dict[Name, Definition]:
+        """Returns these definitions and all that they lead to, in the order in which they are met."""
+        met: dict[Name, Definition] = {}
+        waiting = list(start)
+        while waiting:
+            name = waiting.pop(0)
+            if name not in met:
+                met[name] = self.definition(name)
+                waiting += sorted(met[name].uses)
+        return met

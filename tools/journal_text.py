@@ -1,0 +1,190 @@
+"""Journals as `serve`, `replay`, `migrate` or `decode` writes them, read for looking at: entries, offsets, the names of feeds."""
+
+import collections
+import ipaddress
+import pathlib
+import statistics
+import sys
+import tomllib
+from typing import NamedTuple
+
+UNIT = 2**32  # units of an offset in a second
+UNIX_EPOCH = 2_208_988_800  # in seconds since 1900-01-01 00:00 UTC
+KINDS = ("verdict", "lone", "differs", "refused", "sample", "declined", "notice")
+PLANS = {"dcf": "DCF77", "msf": "MSF", "wwvb": "WWVB"}
+
+
+class Entry(NamedTuple):
+    """An entry: its feed, its moment in microseconds of the host's counter, its kind, what else it says, and the rate after it, if it says that."""
+
+    feed: int
+    at: int
+    kind: str
+    fields: list[str]
+    rate: int | None
+
+
+class Station(NamedTuple):
+    """What a station file says of the feeds: their kinds (a plan, `server` or `leap`), what a picture calls them, and the bound in ms."""
+
+    kinds: list[str]
+    names: list[str]
+    bound: int
+
+
+class Run(NamedTuple):
+    """The entries of a journal that have a place in time, and the line through its offsets: seconds at `middle`, and seconds a second."""
+
+    entries: list[Entry]
+    middle: int
+    level: float
+    rate: float
+
+
+def read_entry(line: str) -> Entry | None:
+    """An entry of either version, or None where the line is none."""
+    fields = line.split()
+    rate = None
+    try:
+        if fields[:1] == ["j2"] and fields[1].isdigit():
+            rate = int(fields[2])
+            fields = fields[3:]
+        if not fields[0].isdigit() or not fields[1].isdigit() or fields[2] not in KINDS:
+            return None
+        entry = Entry(int(fields[0]), int(fields[1]), fields[2], fields[3:], rate)
+        offset_of(entry)
+    except (ValueError, IndexError):
+        return None
+    return entry
+
+
+def offset_of(entry: Entry) -> float | None:
+    """By how many seconds UTC, counted from 1970, is ahead of the host's counter by an entry, or None where it doesn't say."""
+    if entry.kind == "verdict":
+        return int(entry.fields[0]) - UNIX_EPOCH - entry.at / 1e6
+    if entry.kind == "sample":
+        return int(entry.fields[0]) / UNIT - UNIX_EPOCH
+    return None
+
+
+def with_offsets(entries: list[Entry]) -> list[tuple[Entry, float]]:
+    """The entries that say an offset, with it."""
+    return [(entry, offset) for entry in entries if (offset := offset_of(entry)) is not None]
+
+
+def line_through(points: list[tuple[float, float]]) -> tuple[float, float]:
+    """The level and the slope of a line that outliers don't bend, at the moment 0: medians of the first and of the last third."""
+    points = sorted(points)
+    third = max(1, len(points) // 3)
+    early, late = points[:third], points[-third:]
+    apart = statistics.median(at for at, _ in late) - statistics.median(at for at, _ in early)
+    rise = statistics.median(value for _, value in late) - statistics.median(value for _, value in early)
+    slope = rise / apart if apart > 0 else 0.0
+    return statistics.median(value - slope * at for at, value in points), slope
+
+
+def run_of(entries: list[Entry]) -> Run | None:
+    """A journal's entries with the line through their offsets; None where no entry says one."""
+    given = with_offsets(entries)
+    if not given:
+        return None
+    middle = given[len(given) // 2][0].at
+    base = given[0][1]
+    level, rate = line_through([((entry.at - middle) / 1e6, offset - base) for entry, offset in given])
+    return Run(entries, middle, base + level, rate)
+
+
+def due(run: Run, at: int) -> float:
+    """The offset that a run's line has at a moment, in seconds."""
+    return run.level + run.rate * (at - run.middle) / 1e6
+
+
+def unix_of(run: Run, at: int) -> float:
+    """Which UTC a moment of a run was, in seconds since 1970."""
+    return at / 1e6 + due(run, at)
+
+
+def read_journal(name: str) -> list[Entry]:
+    """The entries of a journal in its order; other lines are passed over."""
+    with open(name, encoding="ascii", errors="replace") as file:
+        return [entry for entry in map(read_entry, file) if entry]
+
+
+def number_names(names: list[str]) -> list[str]:
+    """Names that are given apart: where one stands twice the feed's number goes with it."""
+    counts = collections.Counter(names)
+    return [f"{name} (feed {feed})" if counts[name] > 1 else name for feed, name in enumerate(names)]
+
+
+def read_station(name: str) -> Station:
+    """What a station file says of its feeds: the radios, the servers, the leap second file."""
+    table = tomllib.loads(pathlib.Path(name).read_text(encoding="utf-8"))
+    radios, servers = table.get("radio", []), table.get("server", [])
+    kinds = [str(radio.get("plan")) for radio in radios] + ["server"] * len(servers)
+    names = [PLANS.get(kind, kind) for kind in kinds[: len(radios)]] + [f"{server.get('address')}:{server.get('port')}" for server in servers]
+    if "leap_file" in table:
+        kinds.append("leap")
+        names.append("leap second file")
+    return Station(kinds, number_names(names), int(table.get("bound", 1000)))
+
+
+def station_of(entries: list[Entry]) -> Station:
+    """What the entries themselves say of the feeds: a server has samples with its address, and which plan a radio has isn't known."""
+    kinds, names = [], []
+    for feed in range(max((entry.feed for entry in entries), default=-1) + 1):
+        samples = [entry for entry in entries if entry.feed == feed and entry.kind == "sample"]
+        server = samples or any(entry.feed == feed and entry.kind == "declined" for entry in entries)
+        kinds.append("server" if server else "dcf")
+        names.append(f"server {ipaddress.ip_address(int(samples[-1].fields[4], 16))}" if samples else f"{'server' if server else 'radio'} {feed}")
+    return Station(kinds, number_names(names), 1000)
+
+
+def name_of(station: Station, feed: int) -> str:
+    return station.names[feed] if feed < len(station.names) else f"feed {feed}"
+
+
+def page_model():
+    """The program that works a page out from entries (docs/PAGE.md), or None where it isn't beside this folder."""
+    folder = str(pathlib.Path(__file__).resolve().parent.parent / "bench")
+    sys.path.insert(0, folder)
+    try:
+        import page_model as model
+    except ImportError:
+        return None
+    finally:
+        sys.path.remove(folder)
+    return model
+
+
+class Moment(NamedTuple):
+    """What a client was given at a moment: the UTC in seconds since 1970, whether it had time, and the root dispersion in seconds."""
+
+    unix: float
+    has_time: bool
+    dispersion: float
+
+
+def reported_each_minute(run: Run, station: Station) -> list[Moment]:
+    """What clients were given at each minute of a run, by the pages of its entries up to there."""
+    model = page_model()
+    if model is None:
+        raise OSError("bench/page_model.py, which works pages out, isn't beside tools/")
+    moments: list[Moment] = []
+    recent: dict[int, collections.deque] = collections.defaultdict(lambda: collections.deque(maxlen=9))
+    entries = sorted((entry for entry in run.entries if entry.feed < len(station.kinds)), key=lambda entry: entry.at)
+    # A sample counts among the last eight of its feed; what isn't one gives no time.
+    telling = [entry for entry in entries if entry.kind in ("verdict", "sample", "notice")]
+    place, fields = 0, model.page([], station.kinds, station.bound).split()
+    for at in range(entries[0].at, entries[-1].at + 1, 60_000_000):
+        new = place
+        while new < len(telling) and telling[new].at <= at:
+            entry = telling[new]
+            recent[entry.feed].append(model.parse(f"{entry.feed} {entry.at} {entry.kind} {' '.join(entry.fields)}"))
+            new += 1
+        if new > place:
+            held = sorted((one for feed in recent.values() for one in feed), key=lambda one: one["at"])
+            place, fields = new, model.page(held, station.kinds, station.bound).split()
+        has_time = fields[2] == "1" and at < int(fields[7])
+        dispersion = int(fields[9]) / 65536 + 15e-6 * (at - int(fields[6])) / 1e6 if fields[2] == "1" else 16.0
+        moments.append(Moment(unix_of(run, at), has_time, dispersion))
+    return moments

@@ -1,0 +1,49 @@
+#!/usr/bin/env python3
+"""Prints how much a reader has to believe for a definition: all definitions that it leads to, by names.
+
+    tools/measure_closure.py [CRATE.FILE.NAME ..] [--list]
+
+Without a name it measures the headline's record (radio_engine.Headline.IsServed). A row has the definitions, their lines with and
+without comments, the files that they stand in, and Rust's own types that they name. With --list the lines by file follow.
+"""
+
+import sys
+from collections import Counter
+from pathlib import Path
+
+from antt_names import Definition, Name, Specs
+
+HEADLINE = "radio_engine.Headline.IsServed"
+
+
+def lines_of(definition: Definition) -> tuple[int, int]:
+    """Returns a definition's lines with the comment before it, and without any comment."""
+    bare = [line for line in definition.lines if not line.lstrip().startswith("--")]
+    return len(definition.comment) + len(definition.lines), len(bare)
+
+
+def main() -> int:
+    """Measures each name that is given."""
+    words = [word for word in sys.argv[1:] if word != "--list"] or [HEADLINE]
+    specs = Specs(Path(__file__).resolve().parent.parent)
+    print(f"{'definition':44}{'definitions':>12}{'lines':>8}{'bare':>8}{'files':>8}{'types':>8}")
+    for word in words:
+        try:
+            met = specs.closure([Name(*word.split("."))])
+        except (KeyError, TypeError):
+            print(f"measure_closure: no definition {word}: write CRATE.FILE.NAME", file=sys.stderr)
+            return 1
+        counts = [lines_of(definition) for definition in met.values()]
+        files = Counter()
+        for one, (whole, _) in zip(met, counts):
+            files[one.crate, one.file] += whole
+        types = set().union(*(definition.types for definition in met.values()))
+        print(f"{word:44}{len(met):12}{sum(c[0] for c in counts):8}{sum(c[1] for c in counts):8}{len(files):8}{len(types):8}")
+        if "--list" in sys.argv:
+            for (crate, file), lines in sorted(files.items(), key=lambda item: -item[1]):
+                print(f"    {crate}/specs/{file}.antt {lines}")
+    return 0
+
+
+if __name__ == "__main__":
+    sys.exit(main())

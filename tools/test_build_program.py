@@ -1,0 +1,134 @@
+#!/usr/bin/env python3
+"""Tests of tools/build_program.py over a toolchain that does nothing: python3 -B tools/test_build_program.py"""
+
+import os
+import shutil
+import signal
+import subprocess
+import sys
+import tempfile
+import time
+import unittest
+from pathlib import Path
+
+HERE = Path(__file__).resolve().parent
+sys.path.insert(0, str(HERE))
+
+import build_program  # noqa: E402
+import crate_graph  # noqa: E402
+
+CRATES = """# a comment
+low:
+left: low
+right: low itoa
+radio_ntpd: left right   # the program
+some_tests: radio_ntpd
+"""
+# Notes when it begins and ends, in the order of the lines of one file; `slow` and `broken` name crates.
+TOOLCHAIN = """#!/bin/sh
+name=$(basename "$PWD")
+echo "begin $name $*" >> "$NOTES"
+case " $SLOW " in *" $name "*) sleep 30 & wait $! ;; *) sleep 0.2 ;; esac
+case " $BROKEN " in *" $name "*) echo "fn $name::f: not proved"; exit 1 ;; esac
+echo "end $name" >> "$NOTES"
+if [ "$1" = run ]; then mkdir -p out; : > out/radio_ntpd; echo "status 1 usage"; exit 1; fi
+"""
+
+
+class Builds(unittest.TestCase):
+    def setUp(self):
+        self.room = Path(tempfile.mkdtemp())
+        self.addCleanup(shutil.rmtree, self.room)
+        top = self.room / "top"
+        for name in ("low", "left", "right", "radio_ntpd", "some_tests"):
+            (top / "crates" / name / "src").mkdir(parents=True)
+            (top / "crates" / name / "src" / "lib.rt").write_text("//! A crate.\n" * (40 if name == "right" else 2))
+        (top / "crates.txt").write_text(CRATES)
+        (top / "HANDLES").write_text("Handles allowed: none.\n")
+        (top / "tools").mkdir()
+        for name in ("build_program.py", "crate_graph.py"):
+            shutil.copyfile(HERE / name, top / "tools" / name)
+        self.words = [sys.executable, "-B", str(top / "tools" / "build_program.py")]
+        (self.room / "bin").mkdir()
+        rt = self.room / "bin" / "rt"
+        rt.write_text(TOOLCHAIN)
+        rt.chmod(0o755)
+        self.notes = self.room / "notes"
+        self.notes.write_text("")
+        self.about = {
+            **os.environ,
+            "PATH": f"{self.room}/bin:{os.environ['PATH']}",
+            "NOTES": str(self.notes),
+            "XDG_CACHE_HOME": str(self.room / "cache"),
+        }
+
+    def run_build(self, **more):
+        return subprocess.run(self.words, env={**self.about, **more}, capture_output=True, text=True, timeout=60)
+
+    def noted(self, kind):
+        return [line.split()[1] for line in self.notes.read_text().splitlines() if line.startswith(kind)]
+
+    def test_each_crate_comes_after_its_libraries_and_tests_are_left_out(self):
+        done = self.run_build()
+        self.assertEqual(done.returncode, 0, done.stderr)
+        self.assertEqual(sorted(self.noted("end")), ["left", "low", "radio_ntpd", "right"])
+        lines = self.notes.read_text().splitlines()
+        at = lines.index
+        begin = {line.split()[1]: number for number, line in enumerate(lines) if line.startswith("begin")}
+        for above, below in (("left", "low"), ("right", "low"), ("radio_ntpd", "left"), ("radio_ntpd", "right")):
+            self.assertLess(at(f"end {below}"), begin[above])
+        self.assertIn("(4 of 4)", done.stderr.splitlines()[-1])
+
+    def test_the_longest_chain_comes_first(self):
+        top = self.room / "top"
+        build = build_program.Build(top, self.room, crate_graph.read_crates(top), 2)
+        self.assertEqual(build.next_crate(), "low")
+        build.done.add("low")
+        self.assertEqual(build.next_crate(), "right")
+
+    def test_a_crate_that_is_not_proved_is_named_with_its_last_lines(self):
+        done = self.run_build(BROKEN="right")
+        self.assertEqual(done.returncode, 70)
+        self.assertIn("right is not proved", done.stderr)
+        self.assertIn("fn right::f: not proved", done.stderr)
+        self.assertNotIn("radio_ntpd", self.noted("begin"))
+
+    def test_without_a_toolchain_it_says_so(self):
+        (self.room / "bin" / "rt").unlink()
+        done = subprocess.run(self.words, env={**self.about, "PATH": f"{self.room}/bin"}, capture_output=True, text=True, timeout=60)
+        self.assertEqual(done.returncode, 69)
+        self.assertEqual(len(done.stderr.splitlines()), 1)
+        self.assertIn("`rt` is not on PATH", done.stderr)
+
+    def start_slow(self):
+        child = subprocess.Popen(self.words, env={**self.about, "SLOW": "left right"}, stderr=subprocess.PIPE, text=True)
+        self.addCleanup(child.stderr.close)
+        limit = time.monotonic() + 20
+        while "left" not in self.noted("begin") and "right" not in self.noted("begin"):
+            self.assertLess(time.monotonic(), limit)
+            time.sleep(0.05)
+        return child
+
+    def test_a_stopped_build_keeps_what_is_done_and_leaves_no_child(self):
+        for number in (signal.SIGINT, signal.SIGTERM):
+            self.notes.write_text("")
+            child = self.start_slow()
+            child.send_signal(number)
+            said = child.stderr.read()
+            self.assertEqual(child.wait(20), 130)
+            self.assertIn("what is proved is kept", said)
+            left = subprocess.run(["pgrep", "-f", f"{self.room}/bin/rt"], capture_output=True, text=True)
+            self.assertEqual(left.stdout, "")
+
+    def test_a_second_build_waits_and_says_so(self):
+        first = self.start_slow()
+        second = subprocess.Popen(self.words, env=self.about, stderr=subprocess.PIPE, text=True)
+        self.addCleanup(second.stderr.close)
+        self.assertIn("waiting for it", second.stderr.readline())
+        first.send_signal(signal.SIGTERM)
+        first.wait(20)
+        self.assertEqual(second.wait(20), 0)
+
+
+if __name__ == "__main__":
+    unittest.main()
