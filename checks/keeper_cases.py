@@ -11,7 +11,7 @@ import time
 
 from kept import PLANS, TOP, WAIT, Kept, Wrong, ask, base_now, descendants, is_free, parent_of, receiver
 from kept_bounds import CHANGE, FLOODED, GONE, KILLED, LATE, NOTHING, SLOW, WARM, bound, tried
-from kept_journals import as_decoded, due, whole
+from kept_journals import as_decoded, as_steadied, due, whole
 
 FLOOD = 2_000_000
 
@@ -156,10 +156,10 @@ fi 2> /dev/null
 
 
 def sources(base: float) -> int:
-    """What a source does to the run and to the other radio: nothing."""
-    with Kept([command("dcf", base), ("msf", 'command = "exec sh source"\nstall = 2')]) as kept:
+    """What a source does to the run and to the other radio: nothing. Its marks are steadied all the while."""
+    with Kept([command("dcf", base), ("msf", 'command = "exec sh source"\nstall = 2\nsteady = true')]) as kept:
         source = kept.folder / "source"
-        source.write_text(BROKEN.format(folder=kept.folder, receiver=receiver("msf", base).removeprefix("exec ")))
+        source.write_text(BROKEN.format(folder=kept.folder, receiver=receiver("msf", base, 15, "--jitter 8000").removeprefix("exec ")))
         text = (kept.folder / "keeper.toml").read_text()
         (kept.folder / "keeper.toml").write_text(text.replace("sh source", f"sh {source}"))
         kept.start()
@@ -175,7 +175,8 @@ def sources(base: float) -> int:
         looked += due(journal.endswith("status 0\n"), f"what a source did to the run: {journal[-80:]!r}")
         radio = kept.state()["radios"][1]
         looked += due(radio["bad_lines"] > 50 and radio["restarts"] == 3 and radio["source"] == "running", f"its state says {radio}")
-        return looked
+        looked += due(0 < 4 * radio["spread_given"] < radio["spread"], f"its marks aren't steadied: {radio}")
+        return looked + as_steadied(kept, 1, "msf")
 
 
 def full_disk(base: float) -> int:
