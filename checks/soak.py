@@ -20,10 +20,10 @@ SILENT, UNTIMED = 0.25, 0.5
 WHOLE = 2**32
 
 
-def serve_time(base: float) -> None:
+def serve_time(base: float, port: int) -> None:
     """A server of stratum 1 on the receiver's clock; its port is its first line. It ends with its parent."""
     with socket.socket(socket.AF_INET, socket.SOCK_DGRAM) as link:
-        link.bind(("127.0.0.1", 0))
+        link.bind(("127.0.0.1", port))
         print(link.getsockname()[1], flush=True)
         link.settimeout(5)
         parent = os.getppid()
@@ -37,8 +37,9 @@ def serve_time(base: float) -> None:
             link.sendto(head + datagram[40:48] + struct.pack(">QQ", now % 2**64, round((time.monotonic() + base + EPOCH) * WHOLE) % 2**64), who)
 
 
-def server(base: float) -> tuple[subprocess.Popen, int]:
-    words = [sys.executable, "-B", __file__, "--serve", repr(base)]
+def server(base: float, port: int = 0) -> tuple[subprocess.Popen, int]:
+    """Such a server and its port, which is a free one where none is given."""
+    words = [sys.executable, "-B", __file__, "--serve", repr(base), str(port)]
     process = subprocess.Popen(words, stdout=subprocess.PIPE)
     return process, int(process.stdout.readline())
 
@@ -119,7 +120,7 @@ def soak(hours: float, cycle: int, killed: int, base: float) -> int:
 
 if __name__ == "__main__":
     if sys.argv[1:2] == ["--serve"]:
-        serve_time(float(sys.argv[2]))
+        serve_time(float(sys.argv[2]), int(sys.argv[3]))
         sys.exit(0)
     signal.signal(signal.SIGTERM, lambda *_: sys.exit(143))
     parser = argparse.ArgumentParser(description="Keeps a station and kills its parts in turn.")
