@@ -74,8 +74,22 @@ impl Sweep {
         }
     }
 
-    // The place of a feed's candidate: after those of lesser feeds.
+    // The place of a feed's candidate, after those of lesser feeds. Where each of these feeds has one, it is the feed's number.
     fn place_of(&self, feed: u32) -> usize
+        ensures within { result ≤ length self.now }
+        ensures point { IsPartitionPoint (λ (x : Candidate). nat_lt x.feed feed ≡ true) (λ (x : Candidate). nat_lt x.feed feed ≡ false) self.now result }
+    {
+        // Looked at for what the list keeps: its order.
+        let _order = &self.standing;
+        if self.has_at(feed as usize, feed) {
+            feed as usize
+        } else {
+            self.search(feed)
+        }
+    }
+
+    // The place of a feed's candidate, by a search.
+    fn search(&self, feed: u32) -> usize
         ensures within { result ≤ length self.now }
         ensures point { IsPartitionPoint (λ (x : Candidate). nat_lt x.feed feed ≡ true) (λ (x : Candidate). nat_lt x.feed feed ≡ false) self.now result }
     {
@@ -99,8 +113,8 @@ impl Sweep {
         ensures { self.new ≡ slice_set self.old place c }
     {
         let before = self.standing.as_slice()[place];
-        self.lowers.replace(before.lower(), c.lower());
-        self.uppers.replace(before.upper(), c.upper());
+        self.lowers.replace(place, before.lower(), c.lower());
+        self.uppers.replace(place, before.upper(), c.upper());
         set_at(&mut self.standing, place, c);
     }
 
@@ -113,8 +127,8 @@ impl Sweep {
         requires measured { IsTrue (is_measured c) }
         ensures { self.new ≡ insert self.old place c }
     {
-        self.lowers.insert(c.lower());
-        self.uppers.insert(c.upper());
+        self.lowers.insert(place, c.lower());
+        self.uppers.insert(place, c.upper());
         self.standing.insert(place, c);
     }
 
@@ -123,9 +137,11 @@ impl Sweep {
         requires { place < length self.old }
         ensures { self.new ≡ remove self.old place }
     {
+        // Looked at for what it says of every list: that it has at most 16 items.
+        let _few = self.standing.len();
         let c = self.standing.remove(place);
-        self.lowers.remove(c.lower());
-        self.uppers.remove(c.upper());
+        self.lowers.remove(place, c.lower());
+        self.uppers.remove(place, c.upper());
     }
 
     /// The interval that enough of the candidates agree on, as `select` gives it of them in any order.
