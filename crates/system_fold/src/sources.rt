@@ -42,7 +42,7 @@ impl Sources {
     }
 
     /// Adds a source after the others.
-    #[tactic(auto, using(std::proofs::lemmas::List::take_more_set, std::proofs::lemmas::List::length-take-le))]
+    #[tactic(auto, using(std::proofs::lemmas::List::take_more_set))]
     pub fn push(&mut self, source: &Source)
         requires { length self.old < 16 }
         ensures { self.new ≡ self.old ++ source.now ∷ [] }
@@ -52,7 +52,6 @@ impl Sources {
     }
 
     /// The sources, in their order.
-    #[tactic(auto, using(std::proofs::lemmas::List::length-take-le))]
     pub fn as_slice(&self) -> &[Source]
         ensures value { result.now ≡ self.now }
         ensures few { length result.now ≤ 16 }
