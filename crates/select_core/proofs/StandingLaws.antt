@@ -200,19 +200,6 @@ feeds-partitioned cs feed order = λ i j d up below passed. by_order i j d up be
         is-less (get_or cs i d).feed feed (omega arith)
     by_order i j d up below passed (inr (inr more)) = absurd (omega arith)
 
--- a candidate of a feed stands at the feed's place
-pub point-there : (cs : List Candidate) (feed i : ℕ) → i < length cs → ((d : Candidate) → (get_or cs i d).feed ≡ feed) → AllPairs (λ x y. x.feed < y.feed) cs
-    → IsPartitionPoint (λ x. nat_lt x.feed feed ≡ true) (λ x. nat_lt x.feed feed ≡ false) cs i
-point-there cs feed i below there order = (
-  λ k d within less. is-less (get_or cs k d).feed feed (let up = order k i d less below in omega (arith, there d)),
-  λ k d past within. not-less (get_or cs k d).feed feed (by_order k d past within (cases_order i k)),
-)
-  where
-    by_order : (k : ℕ) (d : Candidate) → i ≤ k → k < length cs → (i ≡ k) ⊎ ((i < k) ⊎ (k < i)) → feed ≤ (get_or cs k d).feed
-    by_order k d past within (inl same) = subst (λ (n : ℕ). feed ≤ (get_or cs n d).feed) same (omega (arith, there d))
-    by_order k d past within (inr (inl less)) = let up = order i k d less within in omega (arith, there d)
-    by_order k d past within (inr (inr more)) = absurd (omega arith)
-
 pub differ-all : (feed : ℕ) (cs : List Candidate) (i : ℕ) → i ≤ length cs → ((k : ℕ) (d : Candidate) → k < i → (get_or cs k d).feed < feed) → ((k : ℕ) (d : Candidate) → i ≤ k → k < length cs → feed < (get_or cs k d).feed)
     → All (λ c. c.feed ≢ feed) cs
 differ-all feed cs i within less more = λ k d below. by_order k d below (cases_order k i)

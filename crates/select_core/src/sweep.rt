@@ -54,6 +54,24 @@ impl Sweep {
     {
         // Looked at for what the list keeps: its order.
         let _order = &self.standing;
+        // Where each lesser feed has a candidate, that of a feed stands at the feed's number.
+        let number = c.feed as usize;
+        if self.has_at(number, c.feed) {
+            self.exchange(number, c);
+        } else {
+            self.put_in_place(c);
+        }
+    }
+
+    // The same, by a search of the place.
+    #[inline(never)]
+    fn put_in_place(&mut self, c: Candidate)
+        requires room { length (others c.feed self.old) < 16 }
+        requires measured { IsTrue (is_measured c) }
+        ensures { self.new ≡ with_candidate c self.old }
+    {
+        // Looked at for what the list keeps: its order.
+        let _order = &self.standing;
         let place = self.place_of(c.feed);
         if self.has_at(place, c.feed) {
             self.exchange(place, c);
@@ -74,22 +92,8 @@ impl Sweep {
         }
     }
 
-    // The place of a feed's candidate, after those of lesser feeds. Where each of these feeds has one, it is the feed's number.
+    // The place of a feed's candidate: after those of lesser feeds.
     fn place_of(&self, feed: u32) -> usize
-        ensures within { result ≤ length self.now }
-        ensures point { IsPartitionPoint (λ (x : Candidate). nat_lt x.feed feed ≡ true) (λ (x : Candidate). nat_lt x.feed feed ≡ false) self.now result }
-    {
-        // Looked at for what the list keeps: its order.
-        let _order = &self.standing;
-        if self.has_at(feed as usize, feed) {
-            feed as usize
-        } else {
-            self.search(feed)
-        }
-    }
-
-    // The place of a feed's candidate, by a search.
-    fn search(&self, feed: u32) -> usize
         ensures within { result ≤ length self.now }
         ensures point { IsPartitionPoint (λ (x : Candidate). nat_lt x.feed feed ≡ true) (λ (x : Candidate). nat_lt x.feed feed ≡ false) self.now result }
     {

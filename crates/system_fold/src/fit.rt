@@ -3,7 +3,7 @@ ghost use Rattle.std.specs.Prelude.{◌≡◌, ◌≤◌, ◌<◌, ◌^◌, ◌+
 ghost use Rattle.std.specs.List.{cons_option};
 ghost use Rattle.std.specs.Option.{option_map};
 ghost use Rattle.select_core.specs.Sweeping.{others};
-ghost use Rattle.system_fold.specs.Fit as fit;
+ghost use Rattle.system_fold.specs.Fit as fits;
 ghost use Rattle.system_fold.specs.Fit.{AreFew, AreFit, IsFit, IsSound, fit_feeds, with_some};
 ghost use Rattle.system_fold.specs.Selecting as selecting;
 
@@ -17,7 +17,7 @@ use tick_units::Local;
 // The feed of a number, where its samples from the cut on make it fit.
 fn fit_source(number: u32, feed: &Feed, cut: u64, now: Local) -> Option<Source>
     requires { IsSound now feed.now }
-    ensures value { result ≡ fit.fit_source cut now (number, feed.now) }
+    ensures value { result ≡ fits.fit_source cut now (number, feed.now) }
     ensures feed { IfSome result (λ s. s.feed ≡ number) }
     ensures fit { IfSome result (IsFit now) }
 {
@@ -59,15 +59,27 @@ pub fn fit_sources(feeds: &[Feed], cut: u64, now: Local) -> Sources
     fit
 }
 
-// Lets the candidate of a feed stand, where the feed is fit, and none of it where it isn't.
-fn stand(sweep: &mut Sweep, number: u32, source: &Option<Source>, now: Local)
-    requires feed { IfSome source.now (λ s. s.feed ≡ number) }
-    requires fit { IfSome source.now (IsFit now) }
+// Looks at a feed: where it is fit, its source is added and its candidate stands, and where it isn't, none stands.
+fn look_at(
+    number: u32,
+    feed: &Feed,
+    cut: u64,
+    now: Local,
+    fit: &mut Sources,
+    sweep: &mut Sweep,
+)
+    requires sound { IsSound now feed.now }
+    requires few { length fit.old < 16 }
     requires room { length (others number sweep.old) < 16 }
-    ensures { sweep.new ≡ with_some number (option_map (selecting.candidate_of now) source.now) sweep.old }
+    ensures source { IfSome (fits.fit_source cut now (number, feed.now)) (IsFit now) }
+    ensures fit { fit.new ≡ fit.old ++ cons_option (fits.fit_source cut now (number, feed.now)) [] }
+    ensures sweep { sweep.new ≡ with_some number (option_map (selecting.candidate_of now) (fits.fit_source cut now (number, feed.now))) sweep.old }
 {
-    match source {
-        Some(source) => sweep.put(candidate_of(source, now)),
+    match fit_source(number, feed, cut, now) {
+        Some(source) => {
+            fit.push(&source);
+            sweep.put(candidate_of(&source, now));
+        }
         None => sweep.remove(number),
     }
 }
@@ -89,9 +101,6 @@ pub fn find_fit(
 {
     fit.clear();
     for (index, feed) in feeds.iter().enumerate() {
-        let number = index as u32;
-        let source = fit_source(number, feed, cut, now);
-        push_some(fit, &source);
-        stand(sweep, number, &source, now);
+        look_at(index as u32, feed, cut, now, fit, sweep);
     }
 }
