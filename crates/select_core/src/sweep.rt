@@ -54,6 +54,24 @@ impl Sweep {
     {
         // Looked at for what the list keeps: its order.
         let _order = &self.standing;
+        // Where each lesser feed has a candidate, that of a feed stands at the feed's number.
+        let number = c.feed as usize;
+        if self.has_at(number, c.feed) {
+            self.exchange(number, c);
+        } else {
+            self.put_in_place(c);
+        }
+    }
+
+    // The same, by a search of the place.
+    #[inline(never)]
+    fn put_in_place(&mut self, c: Candidate)
+        requires room { length (others c.feed self.old) < 16 }
+        requires measured { IsTrue (is_measured c) }
+        ensures { self.new ≡ with_candidate c self.old }
+    {
+        // Looked at for what the list keeps: its order.
+        let _order = &self.standing;
         let place = self.place_of(c.feed);
         if self.has_at(place, c.feed) {
             self.exchange(place, c);
@@ -99,8 +117,8 @@ impl Sweep {
         ensures { self.new ≡ slice_set self.old place c }
     {
         let before = self.standing.as_slice()[place];
-        self.lowers.replace(before.lower(), c.lower());
-        self.uppers.replace(before.upper(), c.upper());
+        self.lowers.replace(place, before.lower(), c.lower());
+        self.uppers.replace(place, before.upper(), c.upper());
         set_at(&mut self.standing, place, c);
     }
 
@@ -113,8 +131,8 @@ impl Sweep {
         requires measured { IsTrue (is_measured c) }
         ensures { self.new ≡ insert self.old place c }
     {
-        self.lowers.insert(c.lower());
-        self.uppers.insert(c.upper());
+        self.lowers.insert(place, c.lower());
+        self.uppers.insert(place, c.upper());
         self.standing.insert(place, c);
     }
 
@@ -123,9 +141,11 @@ impl Sweep {
         requires { place < length self.old }
         ensures { self.new ≡ remove self.old place }
     {
+        // Looked at for what it says of every list: that it has at most 16 items.
+        let _few = self.standing.len();
         let c = self.standing.remove(place);
-        self.lowers.remove(c.lower());
-        self.uppers.remove(c.upper());
+        self.lowers.remove(place, c.lower());
+        self.uppers.remove(place, c.upper());
     }
 
     /// The interval that enough of the candidates agree on, as `select` gives it of them in any order.

@@ -2,7 +2,7 @@
 use Rattle.std.proofs.Common.{◌≡◌, ℕ, ◌+◌, ◌≤◌, ◌<◌, ◌^◌, true, List, [], ◌∷◌, ◌++◌, refl, sym, ap, ◌∙◌, arith, subst, length, take, get_or, pos, ◌≤ℤ◌}
 use Rattle.std.specs.Prelude.{All, IfSome, Option, None, Some}
 use Rattle.std.specs.List.{filter_map, cons_option, enumerate_from}
-use Rattle.std.proofs.lemmas.List.{append-nil, take_more, length-take-le}
+use Rattle.std.proofs.lemmas.List.{append-nil, length-append, take_more, length-take-le}
 use Rattle.std.proofs.lemmas.List.Elements.{All-append, All-cons, All-nil, filter_map-append}
 use Rattle.clock_filter.specs.Figures.{figures_of}
 use Rattle.clock_filter.specs.Held.{held}
@@ -69,3 +69,8 @@ fit-push cut now feeds i feed fit new o below here before is sound same longer =
 
 pub fit-none : (cut now : ℕ) (fit : List Source) → fit ≡ [] → AreFit cut now [] fit
 fit-none cut now fit none = subst (AreFit cut now []) (sym none) (record { value = refl; all = All-nil (IsFit now); few = omega arith })
+
+-- with one source more, where there is one, a list is longer by one at most
+pub one-longer : (fit new : List Source) (o : Option Source) → new ≡ fit ++ cons_option o [] → length new ≤ length fit + 1
+one-longer fit new None same = omega (arith, ap length (same ∙ append-nil fit))
+one-longer fit new (Some s) same = omega (arith, ap length same, length-append fit (s ∷ []))

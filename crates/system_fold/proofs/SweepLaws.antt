@@ -25,7 +25,7 @@ use Rattle.system_fold.specs.declared.source.Source.{Source}
 use Rattle.system_fold.proofs.StandingLaws.{feeds-length}
 
 -- a fit source has the number of its feed
-fit-number : (cut now number : ℕ) (feed : Feed) → IfSome (fit_source cut now (number, feed)) (λ s. s.feed ≡ number)
+pub fit-number : (cut now number : ℕ) (feed : Feed) → IfSome (fit_source cut now (number, feed)) (λ s. s.feed ≡ number)
 fit-number cut now number feed = by_figures (figures_of (held cut feed.filter))
   where
     by_test : (b : Bool) (figures : Figures) → IfSome (cond b (Some (record { feed = number; kind = feed.kind; figures = figures })) None) (λ (s : Source). s.feed ≡ number)

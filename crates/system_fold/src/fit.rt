@@ -2,23 +2,22 @@
 ghost use Rattle.std.specs.Prelude.{◌≡◌, ◌≤◌, ◌<◌, ◌^◌, ◌+◌, ◌++◌, [], List, All, length, map, pos, ◌≤ℤ◌, unsigned_abs, IfSome};
 ghost use Rattle.std.specs.List.{cons_option};
 ghost use Rattle.std.specs.Option.{option_map};
-ghost use Rattle.arrayvec.specs.ArrayVec.{array_vec_len};
 ghost use Rattle.select_core.specs.Sweeping.{others};
-ghost use Rattle.system_fold.specs.Fit as fit;
+ghost use Rattle.system_fold.specs.Fit as fits;
 ghost use Rattle.system_fold.specs.Fit.{AreFew, AreFit, IsFit, IsSound, fit_feeds, with_some};
 ghost use Rattle.system_fold.specs.Selecting as selecting;
 
 use crate::feed::Feed;
 use crate::selecting::candidate_of;
 use crate::source::Source;
-use arrayvec::ArrayVec;
+use crate::sources::Sources;
 use select_core::Sweep;
 use tick_units::Local;
 
 // The feed of a number, where its samples from the cut on make it fit.
 fn fit_source(number: u32, feed: &Feed, cut: u64, now: Local) -> Option<Source>
     requires { IsSound now feed.now }
-    ensures value { result ≡ fit.fit_source cut now (number, feed.now) }
+    ensures value { result ≡ fits.fit_source cut now (number, feed.now) }
     ensures feed { IfSome result (λ s. s.feed ≡ number) }
     ensures fit { IfSome result (IsFit now) }
 {
@@ -34,11 +33,11 @@ fn fit_source(number: u32, feed: &Feed, cut: u64, now: Local) -> Option<Source>
     }
 }
 
-/// Adds a source, if there is one.
-pub fn push_some(sources: &mut ArrayVec<Source, 16>, source: Option<Source>)
-    requires { array_vec_len sources.old < 16 }
-    ensures items { sources.new.items ≡ sources.old.items ++ cons_option source [] }
-    ensures len { array_vec_len sources.new ≤ array_vec_len sources.old + 1 }
+// Adds a source, if there is one.
+fn push_some(sources: &mut Sources, source: &Option<Source>)
+    requires { length sources.old < 16 }
+    ensures items { sources.new ≡ sources.old ++ cons_option source.now [] }
+    ensures len { length sources.new ≤ length sources.old + 1 }
 {
     if let Some(source) = source {
         sources.push(source);
@@ -46,29 +45,41 @@ pub fn push_some(sources: &mut ArrayVec<Source, 16>, source: Option<Source>)
 }
 
 /// The feeds that are fit, in the order of their numbers.
-pub fn fit_sources(feeds: &[Feed], cut: u64, now: Local) -> ArrayVec<Source, 16>
+pub fn fit_sources(feeds: &[Feed], cut: u64, now: Local) -> Sources
     requires few { length feeds.now ≤ 16 }
     requires sound { All (IsSound now) feeds.now }
-    ensures value { result.items ≡ fit_feeds cut now feeds.now }
-    ensures fit { All (IsFit now) result.items }
-    ensures few { length result.items ≤ 16 }
+    ensures value { result ≡ fit_feeds cut now feeds.now }
+    ensures fit { All (IsFit now) result }
+    ensures few { length result ≤ 16 }
 {
-    let mut fit = ArrayVec::new();
+    let mut fit = Sources::new();
     for (number, feed) in feeds.iter().enumerate() {
-        push_some(&mut fit, fit_source(number as u32, feed, cut, now));
+        push_some(&mut fit, &fit_source(number as u32, feed, cut, now));
     }
     fit
 }
 
-// Lets the candidate of a feed stand, where the feed is fit, and none of it where it isn't.
-fn stand(sweep: &mut Sweep, number: u32, source: &Option<Source>, now: Local)
-    requires feed { IfSome source.now (λ s. s.feed ≡ number) }
-    requires fit { IfSome source.now (IsFit now) }
+// Looks at a feed: where it is fit, its source is added and its candidate stands, and where it isn't, none stands.
+fn look_at(
+    number: u32,
+    feed: &Feed,
+    cut: u64,
+    now: Local,
+    fit: &mut Sources,
+    sweep: &mut Sweep,
+)
+    requires sound { IsSound now feed.now }
+    requires few { length fit.old < 16 }
     requires room { length (others number sweep.old) < 16 }
-    ensures { sweep.new ≡ with_some number (option_map (selecting.candidate_of now) source.now) sweep.old }
+    ensures source { IfSome (fits.fit_source cut now (number, feed.now)) (IsFit now) }
+    ensures fit { fit.new ≡ fit.old ++ cons_option (fits.fit_source cut now (number, feed.now)) [] }
+    ensures sweep { sweep.new ≡ with_some number (option_map (selecting.candidate_of now) (fits.fit_source cut now (number, feed.now))) sweep.old }
 {
-    match source {
-        Some(source) => sweep.put(candidate_of(source, now)),
+    match fit_source(number, feed, cut, now) {
+        Some(source) => {
+            fit.push(&source);
+            sweep.put(candidate_of(&source, now));
+        }
         None => sweep.remove(number),
     }
 }
@@ -79,20 +90,17 @@ pub fn find_fit(
     feeds: &[Feed],
     cut: u64,
     now: Local,
-    fit: &mut ArrayVec<Source, 16>,
+    fit: &mut Sources,
     sweep: &mut Sweep,
 )
     requires few { length feeds.now ≤ 16 }
     requires sound { All (IsSound now) feeds.now }
     requires standing { AreFew (length feeds.now) sweep.old }
-    ensures fit { AreFit cut now feeds.now fit.new.items }
-    ensures sweep { sweep.new ≡ map (selecting.candidate_of now) fit.new.items }
+    ensures fit { AreFit cut now feeds.now fit.new }
+    ensures sweep { sweep.new ≡ map (selecting.candidate_of now) fit.new }
 {
     fit.clear();
     for (index, feed) in feeds.iter().enumerate() {
-        let number = index as u32;
-        let source = fit_source(number, feed, cut, now);
-        stand(sweep, number, &source, now);
-        push_some(fit, source);
+        look_at(index as u32, feed, cut, now, fit, sweep);
     }
 }

@@ -12,7 +12,7 @@ use crate::fit::find_fit;
 use crate::inputs::PageInputs;
 use crate::leaps::Leaps;
 use crate::page::page_within;
-use crate::source::Source;
+use crate::sources::Sources;
 use crate::{Settings, SourceKind};
 use arrayvec::ArrayVec;
 use clock_page::Page;
@@ -29,7 +29,7 @@ pub struct FoldState {
     feeds: ArrayVec<Feed, 16>,
     leaps: Leaps,
     length: u64,
-    fit: ArrayVec<Source, 16>,
+    fit: Sources,
     sweep: Sweep,
 }
 
@@ -40,7 +40,7 @@ impl Model for FoldState {
 
     ghost view = { kept_by };
 
-    ghost invariant = { λ s. IsFold (kept_by s) s.fit.items s.sweep };
+    ghost invariant = { λ s. IsFold (kept_by s) s.fit s.sweep };
 }
 
 // Of each feed what it is, and no sample.
@@ -55,8 +55,17 @@ fn blank_feeds(kinds: &[SourceKind]) -> ArrayVec<Feed, 16>
     feeds
 }
 
-// Works out what the samples of each feed say from a cut on, where that isn't known.
-fn look_from(feeds: &mut [Feed], cut: u64)
+// Works out what the samples of each feed say from a cut on, where it isn't the one from which they were looked at before.
+fn look_from(feeds: &mut [Feed], before: u64, cut: u64)
+    ensures { feeds.new ≡ feeds.old }
+{
+    if cut != before {
+        look_all_from(feeds, cut);
+    }
+}
+
+// Works out what the samples of each feed say from a cut on.
+fn look_all_from(feeds: &mut [Feed], cut: u64)
     ensures { feeds.new ≡ feeds.old }
 {
     for feed in feeds {
@@ -65,14 +74,14 @@ fn look_from(feeds: &mut [Feed], cut: u64)
 }
 
 // Of the feed that an entry is of, takes the sample that it is, if it is one.
-fn take_sample(feeds: &mut [Feed], e: &Entry, cut: u64)
+fn take_sample(feeds: &mut [Feed], e: &Entry, before: u64, cut: u64)
     requires feed { e.now.feed < length feeds.old }
     requires what { IsLawfulWhat e.now.what }
     ensures { (settings : SettingsFields) (journal : List Entry) → feeds.old ≡ feeds_of settings journal →
         feeds.new ≡ feeds_of settings (journal ++ e.now ∷ []) }
 {
     feeds[e.feed as usize].take(e);
-    look_from(feeds, cut);
+    look_from(feeds, before, cut);
 }
 
 impl FoldState {
@@ -86,7 +95,7 @@ impl FoldState {
             feeds: blank_feeds(settings.sources()),
             leaps: Leaps::new(),
             length: 0,
-            fit: ArrayVec::new(),
+            fit: Sources::new(),
             sweep: Sweep::new(),
         }
     }
@@ -98,8 +107,9 @@ impl FoldState {
         ensures { (settings : SettingsFields) (journal : List Entry) → StandsForJournal self.old settings journal →
             StandsForJournal self.new settings (journal ++ e.now ∷ []) }
     {
+        let before = self.leaps.cut;
         self.leaps.step(e);
-        take_sample(self.feeds.as_mut_slice(), e, self.leaps.cut);
+        take_sample(self.feeds.as_mut_slice(), e, before, self.leaps.cut);
         self.length += 1;
         find_fit(
             self.feeds.as_slice(),

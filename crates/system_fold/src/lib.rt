@@ -12,6 +12,7 @@ mod plain;
 mod selecting;
 mod settings;
 mod source;
+mod sources;
 mod text;
 mod whole;
 mod words;

@@ -6,6 +6,6 @@ use Rattle.system_fold.proofs.fit.find_fit.Given as goal
 
 abbrev pub invariant-loop-index : goal.invariant-loop-index
 invariant-loop-index l = record {
-  sources : AreFit l.cut l.now (take l.index l.feeds) l.fit.items;
-  standing : l.sweep ≡ map (candidate_of l.now) l.fit.items ++ from_feed l.index l.fn.sweep;
+  sources : AreFit l.cut l.now (take l.index l.feeds) l.fit;
+  standing : l.sweep ≡ map (candidate_of l.now) l.fit ++ from_feed l.index l.fn.sweep;
 }

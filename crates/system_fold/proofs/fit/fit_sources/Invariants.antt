@@ -4,4 +4,4 @@ use Rattle.system_fold.specs.Fit.{AreFit}
 use Rattle.system_fold.proofs.fit.fit_sources.Given as goal
 
 abbrev pub invariant-loop-number : goal.invariant-loop-number
-invariant-loop-number l = AreFit l.cut l.now (take l.number l.feeds) l.fit.items
+invariant-loop-number l = AreFit l.cut l.now (take l.number l.feeds) l.fit

@@ -8,13 +8,13 @@ use Rattle.select_core.specs.declared.chime.Candidate.{Candidate}
 use Rattle.select_core.proofs.StandingLaws.{ends-insert, length-points, standing-insert}
 use Rattle.select_core.proofs.sweep.Sweep.add.Goals as goal
 
-pub insert-requires : goal.insert-requires
-insert-requires c =
+pub insert-requires-clause-room : goal.insert-requires-clause-room
+insert-requires-clause-room c =
     let room = c.requires.room in
     omega (arith, length-points lower c.self.inside.standing.items c.self.inside.lowers c.self.invariant.1.lowers, ap length c.self.view_is)
 
-pub insert-requires-2 : goal.insert-requires-2
-insert-requires-2 c =
+pub insert-requires-2-clause-room : goal.insert-requires-2-clause-room
+insert-requires-2-clause-room c =
     let room = c.requires.room in
     omega (arith, length-points upper c.self.inside.standing.items c.self.inside.uppers c.self.invariant.1.uppers, ap length c.self.view_is)
 

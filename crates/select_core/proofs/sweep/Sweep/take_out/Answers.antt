@@ -8,13 +8,13 @@ use Rattle.select_core.specs.declared.chime.Candidate.{Candidate}
 use Rattle.select_core.proofs.StandingLaws.{ends-remove, has-end, standing-remove}
 use Rattle.select_core.proofs.sweep.Sweep.take_out.Goals as goal
 
-pub remove-requires : goal.remove-requires
-remove-requires c =
+pub remove-requires-clause-there : goal.remove-requires-clause-there
+remove-requires-clause-there c =
     let below = subst (λ (l : List Candidate). c.args.place < length l) (sym c.self.view_is) c.requires in
     subst (Contains c.self.inside.lowers) (sym c.lower.ensures) (has-end lower c.self.inside.standing.items c.self.inside.lowers c.args.place c.remove-c.result c.self.invariant.1.lowers below c.remove-c.ensures.value)
 
-pub remove-requires-2 : goal.remove-requires-2
-remove-requires-2 c =
+pub remove-requires-2-clause-there : goal.remove-requires-2-clause-there
+remove-requires-2-clause-there c =
     let below = subst (λ (l : List Candidate). c.args.place < length l) (sym c.self.view_is) c.requires in
     subst (Contains c.self.inside.uppers) (sym c.upper.ensures) (has-end upper c.self.inside.standing.items c.self.inside.uppers c.args.place c.remove-c.result c.self.invariant.1.uppers below c.remove-c.ensures.value)
 

@@ -28,7 +28,7 @@ invariant_of-self c = record {
   settings = c.self.invariant.settings;
   journal = c.self.invariant.journal ++ c.args.e.now ∷ [];
   stands = stands-step (kept_by c.self.inside) _ c.take_sample.new.feeds c.step.new.self c.args.e.now refl (record { lawful = subst (λ (f : FoldFields). IsLawful (length f.feeds) c.args.e.now) (sym c.self.view_is) c.requires.lawful; moment = c.step.ensures.moment }) (λ settings journal same. c.take_sample.ensures settings journal (c.as_mut_slice.ensures.value ∙ same)) c.step.ensures.leaps c.self.invariant.settings c.self.invariant.journal c.self.invariant.stands;
-  sources = subst (λ (fs : List Feed). AreFit c.step.new.self.cut c.step.new.self.latest fs c.find_fit.new.fit.items) c.as_slice.ensures.value c.find_fit.ensures.fit;
+  sources = subst (λ (fs : List Feed). AreFit c.step.new.self.cut c.step.new.self.latest fs c.find_fit.new.fit) c.as_slice.ensures.value c.find_fit.ensures.fit;
   candidates = c.find_fit.ensures.sweep;
 }
 
