@@ -10,6 +10,7 @@ are taken on their tests. A part stands between one of these comments of the pag
     clause PATH FUNCTION CLAUSE       a clause of source, by its path below crates/; then its names
     read CRATE.FILE ..                the definitions of these files that are to be read
     taken CRATE.FILE.NAME ..          definitions that are taken on their tests, and how much they lead to
+    beside CRATE.FILE.NAME ..         definitions that the headline does not lead to, and how much they lead to besides
     counts                            a table of all of it
 
 The names of a quote that were linked since the last heading are not linked again. Of a record that is quoted all fields have to be
@@ -24,6 +25,7 @@ from pathlib import Path
 
 from antt_names import Name, Specs
 from quoted_lines import (
+    Links,
     Missing,
     chosen_lines,
     clause_lines,
@@ -34,7 +36,6 @@ from quoted_lines import (
     link_to,
     names_of_clause,
     names_of_lines,
-    place_of,
     wrapped,
 )
 from reading_list import ReadingList, Size, size_of
@@ -43,7 +44,7 @@ HEADLINE = "radio_engine.Headline.IsServed"
 PAGE = "docs/HEADLINE.md"
 TOP = Path(__file__).resolve().parent.parent
 
-PART = re.compile(r"<!-- (quote|clause|read|taken|counts)((?: \S+)*) -->")
+PART = re.compile(r"<!-- (quote|clause|read|taken|beside|counts)((?: \S+)*) -->")
 END = "<!-- end -->"
 LINK = re.compile(r"\[`(\w+)`\]\(\.\./crates/(\w+)/specs/(\w+)\.antt(?:#L\d+)?\)")
 HEADING = re.compile(r"(?m)^#+ ")
@@ -56,9 +57,9 @@ class Maker:
     def __init__(self, specs: Specs, text: str, start: str = HEADLINE):
         """Takes the page as it is. It raises Missing where a file of which something is to be read is not listed there."""
         self.specs = specs
-        # The lines that were quoted of each definition, and the names that were linked since the last heading.
+        # The lines that were quoted of each definition, and what was linked since the last heading.
         self.quoted: dict[Name, set[str]] = {}
-        self.linked: set[Name | str] = set()
+        self.linked: set[tuple[str, Name | str]] = set()
         asked = [(kind, words.split()) for kind, words in PART.findall(text)]
         taken = [find_definition(specs, word).name for kind, words in asked if kind == "taken" for word in words]
         self.list = ReadingList(specs, find_definition(specs, start).name, taken)
@@ -69,14 +70,18 @@ class Maker:
 
     def make(self, kind: str, words: list[str]) -> list[str]:
         """Returns the lines of a part. It raises Missing."""
-        make = {"quote": self.quote, "clause": self.clause, "read": self.read, "taken": self.take, "counts": self.count}
+        make = {"quote": self.quote, "clause": self.clause, "read": self.read, "taken": self.take, "beside": self.measure, "counts": self.count}
         return make[kind](words)
 
-    def new_links(self, names: list[Name | str]) -> list[str]:
-        """Returns links to those of the names that have none since the last heading."""
-        new = [one for one in names if one not in self.linked]
-        self.linked.update(new)
-        return [link_to(self.specs, one) for one in new]
+    def new_links(self, names: Links) -> list[str]:
+        """Returns links of those of the names that have none since the last heading."""
+        new = {word: one for word, one in names.items() if (word, one) not in self.linked}
+        self.linked.update(new.items())
+        return [link_to(self.specs, word, one) for word, one in new.items()]
+
+    def links(self, names: list[Name]) -> str:
+        """Returns links to definitions by their names."""
+        return ", ".join(link_to(self.specs, one.name, one) for one in names)
 
     def quote(self, words: list[str]) -> list[str]:
         """Quotes a definition, or parts of it. The head of a record stands where it is quoted first."""
@@ -109,15 +114,18 @@ class Maker:
             own = self.list.of_file(crate, file)
             if not own:
                 raise Missing(f"nothing of {word} is to be read")
-            links = ", ".join(link_to(self.specs, one.name) for one in own)
-            lines += wrapped(f"- `{crate}` `{file}`, {size_of(own).lines} lines: {links}", "  ")
+            lines += wrapped(f"- `{crate}` `{file}`, {size_of(own).lines} lines: {self.links([one.name for one in own])}", "  ")
         return lines
 
     def take(self, words: list[str]) -> list[str]:
         """Lists definitions that are taken on their tests, and how much they lead to."""
         names = [find_definition(self.specs, word).name for word in words]
-        links = ", ".join(link_to(self.specs, name) for name in names)
-        return wrapped(f"{links}: {size_of(self.list.led_to(names))}.")
+        return wrapped(f"{self.links(names)}: {size_of(self.list.led_to(names, self.list.to_read))}.")
+
+    def measure(self, words: list[str]) -> list[str]:
+        """Lists definitions beside the headline, and how much they lead to that it does not."""
+        names = [find_definition(self.specs, word).name for word in words]
+        return wrapped(f"{self.links(names)}: {size_of(self.list.led_to(names, self.list.whole))} more.")
 
     def count(self, words: list[str]) -> list[str]:
         """Makes the table of all of it."""
@@ -148,7 +156,7 @@ def place_links(specs: Specs, text: str) -> str:
 
     def place(found: re.Match[str]) -> str:
         name, crate, file = found.groups()
-        return f"[`{name}`]({place_of(Name(crate, file, name), find_definition(specs, f'{crate}.{file}.{name}').first)})"
+        return link_to(specs, name, find_definition(specs, f"{crate}.{file}.{name}").name)
 
     return LINK.sub(place, text)
 

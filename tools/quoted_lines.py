@@ -11,6 +11,8 @@ from antt_names import FIELD, WORD, Definition, File, Name, Specs, bound_in, rea
 from rattle_source import end_of_group
 
 WIDTH = 140
+# The words of a text that stand for a definition, or for a type of Rust by its name.
+Links = dict[str, Name | str]
 
 
 class Missing(Exception):
@@ -67,11 +69,6 @@ def left_out(definition: Definition, lines: list[str]) -> str:
     return f"{sum(text[0] in lines for text in all_of_it)} of its {len(all_of_it)} equations. "
 
 
-def place_of(name: Name, line: int) -> str:
-    """Returns the link to a line of a definition's file."""
-    return f"../crates/{name.crate}/specs/{name.file}.antt#L{line}"
-
-
 def place_of_type(top: Path, kind: str) -> str:
     """Returns the link to a type of Rust, which is named CRATE.specs.declared.MODULE.TYPE. It raises Missing."""
     crate, name = kind.split(".")[0], kind.split(".")[-1]
@@ -83,32 +80,39 @@ def place_of_type(top: Path, kind: str) -> str:
     raise Missing(f"no type {kind}")
 
 
-def link_to(specs: Specs, one: Name | str) -> str:
-    """Returns the link to a definition or to a type of Rust, by its name."""
+def place_of(specs: Specs, one: Name | str) -> str:
+    """Returns the link to a definition's line, or to a type of Rust. It raises Missing."""
     if isinstance(one, Name):
-        return f"[`{one.name}`]({place_of(one, specs.definition(one).first)})"
-    return f"[`{one.split('.')[-1]}`]({place_of_type(specs.top, one)})"
+        return f"../crates/{one.crate}/specs/{one.file}.antt#L{specs.definition(one).first}"
+    return place_of_type(specs.top, one)
 
 
-def names_in(specs: Specs, file: File, own: Name, lines: list[str], bound: set[str]) -> list[Name | str]:
-    """Returns the definitions and the types of Rust that lines name, each once, as they come. What is bound there is none."""
-    seen = Definition(own, 0)
-    found: list[Name | str] = []
+def link_to(specs: Specs, word: str, one: Name | str) -> str:
+    """Returns a link to a definition or to a type of Rust, from a word that stands for it or for a constructor of it."""
+    return f"[`{word}`]({place_of(specs, one)})"
+
+
+def names_in(specs: Specs, file: File, own: Name, lines: list[str], bound: set[str]) -> Links:
+    """Returns the words of lines that stand for a definition or a type of Rust, as they come, each with what it stands for. What is
+    bound there stands for none."""
+    found: Links = {}
     for word in WORD.findall("\n".join(lines)):
-        if word.partition(".")[0] in bound:
-            continue
-        specs.look_up_word(file, seen, word)
-        found += [one for one in (*seen.uses, *sorted(seen.types)) if one != own and one not in found]
+        head = word.partition(".")[0]
+        if head not in bound:
+            seen = Definition(own, 0)
+            specs.look_up_word(file, seen, word)
+            for one in (seen.uses | seen.types) - {own}:
+                found[head if head in file.imports or head in file.definitions else word] = one
     return found
 
 
-def names_of_lines(specs: Specs, definition: Definition, lines: list[str]) -> list[Name | str]:
+def names_of_lines(specs: Specs, definition: Definition, lines: list[str]) -> Links:
     """Returns what quoted lines of a definition name."""
     file = specs.files[definition.name.crate, definition.name.file]
-    found: list[Name | str] = []
+    found: Links = {}
     for clause in definition.clauses():
         own = [line for line in clause.splitlines() if line in lines]
-        found += [one for one in names_in(specs, file, definition.name, own, bound_in(definition, clause)) if one not in found]
+        found |= names_in(specs, file, definition.name, own, bound_in(definition, clause))
     return found
 
 
@@ -124,7 +128,7 @@ def clause_lines(top: Path, path: str, function: str, clause: str) -> list[str]:
     return textwrap.dedent(" " * indent + text[start:end]).splitlines()
 
 
-def names_of_clause(specs: Specs, path: str, lines: list[str]) -> list[Name | str]:
+def names_of_clause(specs: Specs, path: str, lines: list[str]) -> Links:
     """Returns what a quoted clause names, by the ghost imports of its file."""
     file = File()
     for line in (specs.top / "crates" / path).read_text(encoding="utf-8").splitlines():

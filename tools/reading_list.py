@@ -50,9 +50,9 @@ class ReadingList:
         own = [one for name, one in self.to_read.items() if (name.crate, name.file) == (crate, file)]
         return sorted(own, key=lambda one: one.first)
 
-    def led_to(self, names: list[Name]) -> list[Definition]:
-        """Returns what these names lead to, and they themselves, less what is to be read."""
-        return [one for name, one in self.specs.closure(names).items() if name not in self.to_read]
+    def led_to(self, names: list[Name], less: dict[Name, Definition]) -> list[Definition]:
+        """Returns what these names lead to, and they themselves, less some definitions."""
+        return [one for name, one in self.specs.closure(names).items() if name not in less]
 
     def sizes(self) -> dict[str, Size]:
         """Measures what is to be read, what is taken on its tests, and both."""

@@ -80,9 +80,13 @@ class Made(unittest.TestCase):
             ("low/src/deep/end.rt", "//! Ends.\n/// An end.\npub enum End {\n    Count,\n}\n"),
             ("high/src/run.rt", RUN),
         ):
-            file = self.top / "crates" / path
-            file.parent.mkdir(parents=True, exist_ok=True)
-            file.write_text(text, encoding="utf-8")
+            self.put(path, text)
+
+    def put(self, path, text):
+        """Writes a file of a crate."""
+        file = self.top / "crates" / path
+        file.parent.mkdir(parents=True, exist_ok=True)
+        file.write_text(text, encoding="utf-8")
 
     def make(self, text, lists=LISTS):
         """Returns what is made of a text before the lists of what is to be read, and what made it."""
@@ -120,7 +124,7 @@ class Made(unittest.TestCase):
 
     def test_equations_are_quoted_by_their_constructors(self):
         made, _ = self.make("<!-- quote low.Low.count_of Torn -->\n<!-- end -->\n")
-        self.assertIn("```\ncount_of (Torn n) = table n\n```\n\n1 of its 2 equations. Names: [`Turn`]", made)
+        self.assertIn("```\ncount_of (Torn n) = table n\n```\n\n1 of its 2 equations. Names: [`Torn`](../crates/low/specs/Low.antt#L2), [`table`]", made)
         self.refused("no Gone in count_of", "<!-- quote low.Low.count_of Gone -->\n<!-- end -->\n")
 
     def test_names_are_linked_again_after_a_heading(self):
@@ -145,6 +149,12 @@ class Made(unittest.TestCase):
         self.assertIn("[`count_of`](../crates/low/specs/Low.antt#L8): 2 definitions, 8 lines in 1 files.", made)
         sizes = {what: (size.definitions, size.lines) for what, size in maker.sizes().items()}
         self.assertEqual(sizes, {"quoted": (0, 0), "to read": (3, 13), "taken on their tests": (2, 8), "all": (5, 21)})
+
+    def test_what_stands_beside_the_headline_is_measured(self):
+        self.put("high/specs/Run.antt", "use Rattle.high.specs.Head.{IsServed}\nabbrev pub Runs : Type 0\nRuns = IsServed\n")
+        made, maker = self.make("<!-- beside high.Run.Runs -->\n<!-- end -->\n")
+        self.assertIn("[`Runs`](../crates/high/specs/Run.antt#L2): 1 definitions, 2 lines in 1 files more.", made)
+        self.assertEqual(maker.sizes()["all"].definitions, 5)
 
     def test_links_get_their_lines(self):
         made, _ = self.make("See [`table`](../crates/low/specs/Low.antt) and [`Turn`](../crates/low/specs/Low.antt#L99).\n")
