@@ -4,7 +4,7 @@
     tools/headline.py [--write]
 
 Without --write it says whether the page is what it would make. It prints how many lines of definitions are quoted, are to be read, and
-are taken on their tests. A part stands between one of these comments of the page and `<!-- end -->`:
+are taken on their tests. A part stands between one of these comments, as `<!--counts-->`, and `<!--end-->`:
 
     quote CRATE.FILE.NAME [PART ..]   the definition, or of it these fields, or the equations of these constructors; then its names
     clause PATH FUNCTION CLAUSE       a clause of source, by its path below crates/; then its names
@@ -44,8 +44,8 @@ HEADLINE = "radio_engine.Headline.IsServed"
 PAGE = "docs/HEADLINE.md"
 TOP = Path(__file__).resolve().parent.parent
 
-PART = re.compile(r"<!-- (quote|clause|read|taken|beside|counts)((?: \S+)*) -->")
-END = "<!-- end -->"
+PART = re.compile(r"<!--(quote|clause|read|taken|beside|counts)((?: [\w./]+)*)-->")
+END = "<!--end-->"
 LINK = re.compile(r"\[`(\w+)`\]\(\.\./crates/(\w+)/specs/(\w+)\.antt(?:#L\d+)?\)")
 HEADING = re.compile(r"(?m)^#+ ")
 TESTS = re.compile(r"(?ms)^Tests: (.*?)(?:\n\n|\Z)")
@@ -142,6 +142,9 @@ def parts_of(text: str) -> Iterator[tuple[str, list[str], str]]:
     """Gives each part of a page by its kind and its words, with the text before it, its comment included; and last the text after them
     all, as a part of no kind. It raises Missing."""
     at = 0
+    for found in re.finditer(r"<!--(?!end-->).*", text):
+        if not PART.fullmatch(found.group()):
+            raise Missing(f"no part is called {found.group()}")
     for found in PART.finditer(text):
         end = text.find(END, found.end())
         if end < 0 or PART.search(text, found.end(), end):

@@ -68,7 +68,7 @@ pub fn serve(turns: u8) -> u8
 #[test]
 fn it_is_served() {}
 """
-LISTS = "<!-- read high.Head low.Low -->\n<!-- end -->\n"
+LISTS = "<!--read high.Head low.Low-->\n<!--end-->\n"
 
 
 class Made(unittest.TestCase):
@@ -91,7 +91,7 @@ class Made(unittest.TestCase):
     def make(self, text, lists=LISTS):
         """Returns what is made of a text before the lists of what is to be read, and what made it."""
         made, maker = made_page(Specs(self.top), text + lists, "high.Head.IsServed")
-        return made.removesuffix(made[made.index("<!-- read") :] if lists is LISTS else ""), maker
+        return made.removesuffix(made[made.index("<!--read") :] if lists is LISTS else ""), maker
 
     def refused(self, why, text, lists=LISTS):
         """The page is refused, for a reason that begins so."""
@@ -100,59 +100,59 @@ class Made(unittest.TestCase):
         self.assertTrue(str(raised.exception).startswith(why), raised.exception)
 
     def test_a_record_is_quoted_without_its_comments_and_with_its_names(self):
-        made, _ = self.make("Said.\n<!-- quote high.Head.IsServed -->\nold\n<!-- end -->\n")
+        made, _ = self.make("Said.\n<!--quote high.Head.IsServed-->\nold\n<!--end-->\n")
         quote = "```\npub record IsServed (turns : List Turn) : Type 0 where\n  pub count : Nat\n  pub few : count_of turns\n      = count\n  pub end : is_whole End\n```\n"
         names = (
             "Names: [`Turn`](../crates/low/specs/Low.antt#L2), [`count_of`](../crates/low/specs/Low.antt#L8),\n"
             "[`is_whole`](../crates/high/specs/Head.antt#L15), [`End`](../crates/low/src/deep/end.rt#L3).\n"
         )
-        self.assertEqual(made, f"Said.\n<!-- quote high.Head.IsServed -->\n\n{quote}\n{names}\n<!-- end -->\n")
+        self.assertEqual(made, f"Said.\n<!--quote high.Head.IsServed-->\n\n{quote}\n{names}\n<!--end-->\n")
 
     def test_what_is_made_is_what_is_made_of_it(self):
-        once, _ = self.make("<!-- quote high.Head.IsServed -->\n<!-- end -->\n\n# Then\n\n<!-- counts -->\n<!-- end -->\n")
+        once, _ = self.make("<!--quote high.Head.IsServed-->\n<!--end-->\n\n# Then\n\n<!--counts-->\n<!--end-->\n")
         self.assertEqual(self.make(once)[0], once)
 
     def test_parts_of_a_record_have_its_head_once(self):
-        text = "<!-- quote high.Head.IsServed few -->\n<!-- end -->\n<!-- quote high.Head.IsServed count end -->\n<!-- end -->\n"
+        text = "<!--quote high.Head.IsServed few-->\n<!--end-->\n<!--quote high.Head.IsServed count end-->\n<!--end-->\n"
         made, _ = self.make(text)
         self.assertEqual(made.count("pub record IsServed"), 1)
         self.assertIn("  pub few : count_of turns\n      = count\n```", made)
         self.assertIn("```\n  pub count : Nat\n  pub end : is_whole End\n```", made)
 
     def test_no_field_is_left_out(self):
-        self.refused("end of IsServed is not quoted", "<!-- quote high.Head.IsServed count few -->\n<!-- end -->\n")
+        self.refused("end of IsServed is not quoted", "<!--quote high.Head.IsServed count few-->\n<!--end-->\n")
 
     def test_equations_are_quoted_by_their_constructors(self):
-        made, _ = self.make("<!-- quote low.Low.count_of Torn -->\n<!-- end -->\n")
+        made, _ = self.make("<!--quote low.Low.count_of Torn-->\n<!--end-->\n")
         self.assertIn("```\ncount_of (Torn n) = table n\n```\n\n1 of its 2 equations. Names: [`Torn`](../crates/low/specs/Low.antt#L2), [`table`]", made)
-        self.refused("no Gone in count_of", "<!-- quote low.Low.count_of Gone -->\n<!-- end -->\n")
+        self.refused("no Gone in count_of", "<!--quote low.Low.count_of Gone-->\n<!--end-->\n")
 
     def test_names_are_linked_again_after_a_heading(self):
-        quote = "<!-- quote low.Low.count_of Torn -->\n<!-- end -->\n"
+        quote = "<!--quote low.Low.count_of Torn-->\n<!--end-->\n"
         self.assertEqual(self.make(quote + quote)[0].count("[`table`]"), 1)
         self.assertEqual(self.make(quote + "\n## Then\n\n" + quote)[0].count("[`table`]"), 2)
 
     def test_a_clause_is_quoted(self):
-        made, _ = self.make("<!-- clause high/src/run.rt serve served -->\n<!-- end -->\n")
+        made, _ = self.make("<!--clause high/src/run.rt serve served-->\n<!--end-->\n")
         self.assertIn("```\nensures served { (n : Nat) -> IsServed { n }\n    result }\n```\n\nNames: [`IsServed`](../crates/high/specs/Head.antt#L8).", made)
-        self.refused("no clause gone of serve", "<!-- clause high/src/run.rt serve gone -->\n<!-- end -->\n")
-        self.refused("a clause has", "<!-- clause high/src/run.rt -->\n<!-- end -->\n")
+        self.refused("no clause gone of serve", "<!--clause high/src/run.rt serve gone-->\n<!--end-->\n")
+        self.refused("a clause has", "<!--clause high/src/run.rt-->\n<!--end-->\n")
 
     def test_all_that_is_to_be_read_is_listed(self):
         made, _ = self.make("", LISTS + "\n")
         self.assertIn("- `low` `Low`, 12 lines: [`Turn`](../crates/low/specs/Low.antt#L2), [`count_of`]", made)
-        self.refused("no list of low.Low", "", "<!-- read high.Head -->\n<!-- end -->\n")
-        self.refused("nothing of low.Gone", "", "<!-- read high.Head low.Low low.Gone -->\n<!-- end -->\n")
+        self.refused("no list of low.Low", "", "<!--read high.Head-->\n<!--end-->\n")
+        self.refused("nothing of low.Gone", "", "<!--read high.Head low.Low low.Gone-->\n<!--end-->\n")
 
     def test_what_is_taken_is_not_to_be_read(self):
-        made, maker = self.make("<!-- taken low.Low.count_of -->\n<!-- end -->\n")
+        made, maker = self.make("<!--taken low.Low.count_of-->\n<!--end-->\n")
         self.assertIn("[`count_of`](../crates/low/specs/Low.antt#L8): 2 definitions, 8 lines in 1 files.", made)
         sizes = {what: (size.definitions, size.lines) for what, size in maker.sizes().items()}
         self.assertEqual(sizes, {"quoted": (0, 0), "to read": (3, 13), "taken on their tests": (2, 8), "all": (5, 21)})
 
     def test_what_stands_beside_the_headline_is_measured(self):
         self.put("high/specs/Run.antt", "use Rattle.high.specs.Head.{IsServed}\nabbrev pub Runs : Type 0\nRuns = IsServed\n")
-        made, maker = self.make("<!-- beside high.Run.Runs -->\n<!-- end -->\n")
+        made, maker = self.make("<!--beside high.Run.Runs-->\n<!--end-->\n")
         self.assertIn("[`Runs`](../crates/high/specs/Run.antt#L2): 1 definitions, 2 lines in 1 files more.", made)
         self.assertEqual(maker.sizes()["all"].definitions, 5)
 
@@ -166,10 +166,13 @@ class Made(unittest.TestCase):
         self.refused("no test serve", "Tests: `it_is_served`,\n`serve`.\n\n")
 
     def test_a_part_has_an_end(self):
-        self.refused("no end of <!-- counts -->", "<!-- counts -->\n")
+        self.refused("no end of <!--counts-->", "<!--counts-->\n")
+
+    def test_a_part_has_a_kind(self):
+        self.refused("no part is called <!--count-->", "<!--count-->\n<!--end-->\n")
 
     def test_a_definition_that_is_not_there_is_refused(self):
-        self.refused("no definition low.Low", "<!-- quote low.Low -->\n<!-- end -->\n")
+        self.refused("no definition low.Low", "<!--quote low.Low-->\n<!--end-->\n")
 
 
 class ThePage(unittest.TestCase):
