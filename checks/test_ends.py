@@ -48,6 +48,8 @@ CASES = [
     ("checks/torture.py", "", 2),
     ("checks/receiver.py", "", 2),
     ("checks/pacing.py", "x", 2),
+    ("tools/headline.py", "--nosuch", 2),
+    ("tools/headline.py", "--help", 0),
     ("tools/measure_closure.py", "nonsense", 1),
     ("tools/measure_shape.py", "--help", 0),
     ("tools/measure_shape.py", "--list nonsense", 2),

@@ -2,7 +2,8 @@
 
 A definition is a text that starts at the beginning of a line with its declaration (`pub`, `abbrev`, `record`, `data` ..) and goes
 on up to the next declaration. Names are looked up by the imports of their file. Rust's own types (`specs.declared`) and the names of
-the toolchain's library are told apart from definitions of this repository. What a tactic or a field's projection names isn't seen.
+the toolchain's library are told apart from definitions of this repository. A name that a clause binds, as a parameter, a field or a
+variable, stands for no definition there. What a tactic or a field's projection names isn't seen.
 """
 
 import re
@@ -14,6 +15,10 @@ PLAIN = re.compile(r"^(\S+)\s*:\s")
 USE = re.compile(r"^(pub )?use (Rattle|mathlib|lib)\.(\S+?)(?:\.\{(.*)\})?(?: as (\S+))?$")
 # The parts of a text that may be names: what stands between blanks and brackets.
 WORD = re.compile(r"[^\s(){},;\[\]λ→]+")
+FIELD = re.compile(r"\s+(?:pub )?(\S+)\s*:")
+# What binds names: those before a colon in brackets, those of a function, that of a `let`, and the left side of an equation.
+BOUND = re.compile(r"[({]((?:[^\s(){}:]+ )+): |λ ([^.]*)\. |\blet (\S+) =")
+LEFT = re.compile(r"\S+ ([^:=\n]*?) =(?: |$)", re.MULTILINE)
 
 
 @dataclass(frozen=True, order=True)
@@ -36,10 +41,36 @@ class Definition:
     uses: set[Name] = field(default_factory=set)
     types: set[str] = field(default_factory=set)
 
+    def is_of(self, kind: str) -> bool:
+        """Says whether it is a `record` or a `data`."""
+        return kind in self.lines[0].split()[:2]
+
+    def clauses(self) -> list[str]:
+        """Returns its declaration and its equations, each a text, without comments."""
+        found: list[str] = []
+        for line in self.lines:
+            if line.lstrip().startswith("--"):
+                continue
+            if line[0].isspace() and found:
+                found[-1] += "\n" + line
+            else:
+                found.append(line)
+        return found
+
+
+def bound_in(definition: Definition, clause: str) -> set[str]:
+    """Returns the names that a clause binds. A name on the left side of an equation that begins with a capital is a constructor."""
+    bound = {name for found in BOUND.findall(clause) for part in found for name in part.split()}
+    if definition.is_of("record"):
+        bound.update(found.group(1) for line in clause.splitlines()[1:] if (found := FIELD.match(line)))
+    elif not definition.is_of("data") and (found := LEFT.match(clause)):
+        bound.update(word for word in WORD.findall(found.group(1)) if not word[0].isupper())
+    return bound
+
 
 @dataclass
 class File:
-    """A file of specs/: what it imports by plain names and by names of modules, its definitions, and which of them make what."""
+    """A file of specs/: what it imports by plain names and by names of modules, its definitions, and which constructor is of which."""
 
     imports: dict[str, tuple[str, str]] = field(default_factory=dict)
     modules: dict[str, str] = field(default_factory=dict)
@@ -92,7 +123,7 @@ def read_file(path: Path, crate: str) -> File:
                 now = file.definitions.get(line.split()[0], now)
             if now:
                 now.lines.append(line)
-                made = re.match(r"\s+(?:pub )?(\S+)\s*:", line)
+                made = FIELD.match(line) if now.is_of("data") else None
                 if made:
                     file.makers.setdefault(made.group(1), now.name.name)
     return file
@@ -136,27 +167,32 @@ class Specs:
         return None
 
     def look_up(self, file: File, definition: Definition) -> None:
-        """Notes which definitions and which of Rust's types the lines of a definition name."""
-        text = "\n".join(line for line in definition.lines if not line.lstrip().startswith("--"))
-        for word in WORD.findall(text):
-            head, dot, rest = word.partition(".")
-            if head in file.definitions:
-                definition.uses.add(file.definitions[head].name)
-            elif head in file.imports:
-                module, name = file.imports[head]
-                if ".declared." in f".{module}.":
-                    definition.types.add(rust_type(module, name))
-                elif found := self.find(module, name):
-                    definition.uses.add(found)
-            elif dot and head in file.modules:
-                module = file.modules[head]
-                if ".declared." in f".{module}.":
-                    definition.types.add(rust_type(module, rest.split(".")[0]))
-                elif found := self.find(module, rest.split(".")[0]):
-                    definition.uses.add(found)
-            elif word in file.makers and file.makers[word] != definition.name.name:
-                definition.uses.add(file.definitions[file.makers[word]].name)
+        """Notes which definitions and which of Rust's types the clauses of a definition name."""
+        for clause in definition.clauses():
+            bound = bound_in(definition, clause)
+            for word in WORD.findall(clause):
+                if word.partition(".")[0] not in bound:
+                    self.look_up_word(file, definition, word)
         definition.uses.discard(definition.name)
+
+    def look_up_word(self, file: File, definition: Definition, word: str) -> None:
+        """Notes what a word of a definition names."""
+        head, dot, rest = word.partition(".")
+        if head in file.definitions:
+            definition.uses.add(file.definitions[head].name)
+            return
+        if head in file.imports:
+            module, name = file.imports[head]
+        elif dot and head in file.modules:
+            module, name = file.modules[head], rest.split(".")[0]
+        else:
+            if word in file.makers:
+                definition.uses.add(file.definitions[file.makers[word]].name)
+            return
+        if ".declared." in f".{module}.":
+            definition.types.add(rust_type(module, name))
+        elif found := self.find(module, name):
+            definition.uses.add(found)
 
     def definition(self, name: Name) -> Definition:
         """Returns the definition of a name."""
