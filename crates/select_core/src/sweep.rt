@@ -117,9 +117,10 @@ impl Sweep {
         requires measured { IsTrue (is_measured c.now) }
         ensures { self.new ≡ slice_set self.old place c.now }
     {
-        let before = self.standing.as_slice()[place];
-        self.lowers.replace(place, before.lower(), c.lower());
-        self.uppers.replace(place, before.upper(), c.upper());
+        let lower = self.standing.as_slice()[place].lower();
+        self.lowers.replace(place, lower, c.lower());
+        let upper = self.standing.as_slice()[place].upper();
+        self.uppers.replace(place, upper, c.upper());
         set_at(&mut self.standing, place, c);
     }
 
