@@ -57,7 +57,7 @@ impl Sweep {
         // Where each lesser feed has a candidate, that of a feed stands at the feed's number.
         let number = c.feed as usize;
         if self.has_at(number, c.feed) {
-            self.exchange(number, c);
+            self.exchange(number, &c);
         } else {
             self.put_in_place(c);
         }
@@ -74,7 +74,7 @@ impl Sweep {
         let _order = &self.standing;
         let place = self.place_of(c.feed);
         if self.has_at(place, c.feed) {
-            self.exchange(place, c);
+            self.exchange(place, &c);
         } else {
             self.add(place, c);
         }
@@ -110,15 +110,17 @@ impl Sweep {
     }
 
     // Puts a candidate in place of that of its feed.
-    fn exchange(&mut self, place: usize, c: Candidate)
+    #[inline(always)]
+    fn exchange(&mut self, place: usize, c: &Candidate)
         requires place { place < length self.old }
-        requires feed { (d : Candidate) → (slice_index_or self.old place d).feed ≡ c.feed }
-        requires measured { IsTrue (is_measured c) }
-        ensures { self.new ≡ slice_set self.old place c }
+        requires feed { (d : Candidate) → (slice_index_or self.old place d).feed ≡ c.now.feed }
+        requires measured { IsTrue (is_measured c.now) }
+        ensures { self.new ≡ slice_set self.old place c.now }
     {
-        let before = self.standing.as_slice()[place];
-        self.lowers.replace(place, before.lower(), c.lower());
-        self.uppers.replace(place, before.upper(), c.upper());
+        let lower = self.standing.as_slice()[place].lower();
+        self.lowers.replace(place, lower, c.lower());
+        let upper = self.standing.as_slice()[place].upper();
+        self.uppers.replace(place, upper, c.upper());
         set_at(&mut self.standing, place, c);
     }
 
@@ -162,9 +164,13 @@ impl Sweep {
 }
 
 // Puts a candidate at a place.
-fn set_at(standing: &mut ArrayVec<Candidate, 16>, place: usize, c: Candidate)
+fn set_at(standing: &mut ArrayVec<Candidate, 16>, place: usize, c: &Candidate)
     requires { place < array_vec_len standing.old }
-    ensures { standing.new.items ≡ slice_set standing.old.items place c }
+    ensures { standing.new.items ≡ slice_set standing.old.items place c.now }
 {
-    standing[place] = c;
+    standing[place] = Candidate {
+        feed: c.feed,
+        offset: c.offset,
+        distance: c.distance,
+    };
 }

@@ -60,14 +60,7 @@ pub fn fit_sources(feeds: &[Feed], cut: u64, now: Local) -> Sources
 }
 
 // Looks at a feed: where it is fit, its source is added and its candidate stands, and where it isn't, none stands.
-fn look_at(
-    number: u32,
-    feed: &Feed,
-    cut: u64,
-    now: Local,
-    fit: &mut Sources,
-    sweep: &mut Sweep,
-)
+fn look_at(number: u32, feed: &Feed, cut: u64, now: Local, fit: &mut Sources, sweep: &mut Sweep)
     requires sound { IsSound now feed.now }
     requires few { length fit.old < 16 }
     requires room { length (others number sweep.old) < 16 }
@@ -86,13 +79,7 @@ fn look_at(
 
 /// Finds the feeds that are fit, in the order of their numbers, as `fit_sources` does, and lets them, and no others, stand in
 /// the sweep, with the distances that they have now.
-pub fn find_fit(
-    feeds: &[Feed],
-    cut: u64,
-    now: Local,
-    fit: &mut Sources,
-    sweep: &mut Sweep,
-)
+pub fn find_fit(feeds: &[Feed], cut: u64, now: Local, fit: &mut Sources, sweep: &mut Sweep)
     requires few { length feeds.now ≤ 16 }
     requires sound { All (IsSound now) feeds.now }
     requires standing { AreFew (length feeds.now) sweep.old }
