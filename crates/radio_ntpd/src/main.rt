@@ -180,6 +180,9 @@ fn run_words<R: Threads + Wait + Sync, O: Outside, K: Sink>(
     }
 }
 
+// The receivers of each plan.
+const OF_A_PLAN: usize = 4;
+
 // Runs the words with four receivers of each plan, where there is memory for them.
 fn run<R: Threads + Wait + Sync, O: Outside, K: Sink>(
     rt: &R,
@@ -195,17 +198,10 @@ fn run<R: Threads + Wait + Sync, O: Outside, K: Sink>(
 {
     let texts = texts_of(alloc, words)?;
     let mut rack: Vec<Box<dyn Receiver + Send>> = Vec::new(alloc);
-    put_in_rack(&mut rack, Box::new(alloc, DcfReceiver::new())?, Plan::Dcf)?;
-    put_in_rack(&mut rack, Box::new(alloc, MsfReceiver::new())?, Plan::Msf)?;
-    put_in_rack(&mut rack, Box::new(alloc, WwvbReceiver::new())?, Plan::Wwvb)?;
-    put_in_rack(&mut rack, Box::new(alloc, DcfReceiver::new())?, Plan::Dcf)?;
-    put_in_rack(&mut rack, Box::new(alloc, MsfReceiver::new())?, Plan::Msf)?;
-    put_in_rack(&mut rack, Box::new(alloc, WwvbReceiver::new())?, Plan::Wwvb)?;
-    put_in_rack(&mut rack, Box::new(alloc, DcfReceiver::new())?, Plan::Dcf)?;
-    put_in_rack(&mut rack, Box::new(alloc, MsfReceiver::new())?, Plan::Msf)?;
-    put_in_rack(&mut rack, Box::new(alloc, WwvbReceiver::new())?, Plan::Wwvb)?;
-    put_in_rack(&mut rack, Box::new(alloc, DcfReceiver::new())?, Plan::Dcf)?;
-    put_in_rack(&mut rack, Box::new(alloc, MsfReceiver::new())?, Plan::Msf)?;
-    put_in_rack(&mut rack, Box::new(alloc, WwvbReceiver::new())?, Plan::Wwvb)?;
+    for _ in 0..OF_A_PLAN {
+        put_in_rack(&mut rack, Box::new(alloc, DcfReceiver::new())?, Plan::Dcf)?;
+        put_in_rack(&mut rack, Box::new(alloc, MsfReceiver::new())?, Plan::Msf)?;
+        put_in_rack(&mut rack, Box::new(alloc, WwvbReceiver::new())?, Plan::Wwvb)?;
+    }
     Ok(run_station(rt, alloc, texts.as_slice(), rack, outside, out))
 }
