@@ -2,7 +2,7 @@
 //! worked by hand from RFC 5905, section 8, and clients whose answers are those of RFC 5905, section 7.3.
 ghost use Rattle.std.specs.Prelude.{◌≡◌, ◌<◌, ◌≤◌, IfOk};
 ghost use Rattle.radio_receiver.specs.Histories.{blank_of};
-ghost use Rattle.station_crew.specs.Served.{AreBlank};
+ghost use Rattle.crew_work.specs.Served.{AreBlank};
 ghost use Rattle.tick_units.specs.declared.marks.Plan.TheVariants.{Dcf};
 
 use feed_link::{Address, Gate, HoldGate, LinkEvent, MemoryLink, MemorySource, OpenGate, Planned};

@@ -1,29 +1,25 @@
 //! `drill`: a day of three radios is made up in memory and served, and what became of it is told.
 ghost use Rattle.std.specs.Prelude.{◌≡◌, ◌<◌, ◌≤◌, ◌⊎◌, IfOk, false};
-ghost use Rattle.radio_engine.specs.DrillScaffold.{HasDayGear, HasDrilled};
-ghost use Rattle.radio_engine.specs.Drilling.{Drills};
-ghost use Rattle.radio_engine.specs.Run.{Lacks};
+ghost use Rattle.station_report.specs.DrillScaffold.{HasDayGear, HasDrilled};
+ghost use Rattle.station_report.specs.Drilling.{Drills};
+ghost use Rattle.file_commands.specs.Unopened.{Lacks};
 ghost use Rattle.receiver_rack.specs.Racks.{IsRack};
 ghost use Rattle.station_config.specs.Station.{one_of_each};
-ghost use Rattle.station_crew.specs.Served.{AreBlank};
+ghost use Rattle.crew_work.specs.Served.{AreBlank};
 
-mod text;
-
-use crate::ending::Ending;
-use crate::ending::status::Status;
-use crate::ending::writing::finish;
-use crate::serve::{Done, Kit, Orders, serve_gated};
+use crate::serve::{Kit, serve_gated};
 use drill_day::make_logs;
 use feed_link::{Outside, Sink, SureSource};
+use file_commands::{Ending, Status, finish};
 use radio_receiver::{BoxedReceiver, Receiver};
 use receiver_rack::fit_radios;
 use station_config::Station;
 use station_crew::{Budget, Ended};
 use station_gear::Gear;
+use station_report::{Done, Orders, finish_drilled};
 use std::alloc::{AllocError, Global};
 use std::sync::Wait;
 use std::thread::Threads;
-use text::finish_drilled;
 
 // No link is served.
 const NO_HEARING: Budget = Budget {

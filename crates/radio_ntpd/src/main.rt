@@ -7,11 +7,11 @@ ghost use Rattle.std.specs.IoError.{error_kind};
 ghost use Rattle.std.specs.Process.{exit_status};
 ghost use Rattle.std.specs.String.{string_bytes};
 ghost use Rattle.std.specs.Vec.Iter.{into_iter_items};
-ghost use Rattle.radio_engine.specs.Endings.{number_of, status_of, status_line};
+ghost use Rattle.file_commands.specs.Endings.{number_of, status_of, status_line};
 ghost use Rattle.radio_engine.specs.Run.{IsRun};
-ghost use Rattle.radio_engine.specs.Writing.{Answers};
-ghost use Rattle.radio_engine.specs.declared.ending.Ending.TheVariants.{NoMemory};
-ghost use Rattle.radio_engine.specs.declared.ending.status.Status.{Status};
+ghost use Rattle.file_commands.specs.Writing.{Answers};
+ghost use Rattle.file_commands.specs.declared.ending.Ending.TheVariants.{NoMemory};
+ghost use Rattle.file_commands.specs.declared.ending.status.Status.{Status};
 
 mod report;
 

@@ -22,13 +22,13 @@ use Rattle.page_cell.specs.Views.{new_claim}
 use Rattle.page_cell.specs.declared.view.Claim.{Claim}
 use Rattle.radio_receiver.specs.Histories.{History}
 use Rattle.station_config.specs.Station.{RadioFields, ServerFields}
-use Rattle.station_crew.proofs.ListLaws.{all_right, below_or, each_map, last_same, map_both, pairs_at, pairs_length, snoc_view, some_of}
+use Rattle.crew_work.proofs.ListLaws.{all_right, below_or, each_map, last_same, map_both, pairs_at, pairs_length, snoc_view, some_of}
 use Rattle.station_crew.proofs.PassLaws.{feeds_length, leap_at, poller_at, radio_at}
-use Rattle.station_crew.specs.Due.{HasDue}
+use Rattle.crew_work.specs.Due.{HasDue}
 use Rattle.station_crew.specs.Jobs.{IsManned, LeapRan, MayHear, MayNotice, MayPoll, PollRan, RadioRan}
 use Rattle.station_crew.specs.Leaving.{file_of, leap_pass, log_of, passes_of, poll_pass, radio_pass, server_link, server_of}
-use Rattle.station_crew.specs.Lists.{Both, Each, Pairs}
-use Rattle.station_crew.specs.Served.{AreBlank, AsksServer, HearsRadio, IsBlank, LeapServed, NoticesLeaps, RadiosServed, ServersServed}
+use Rattle.crew_work.specs.Lists.{Both, Each, Pairs}
+use Rattle.crew_work.specs.Served.{AreBlank, AsksServer, HearsRadio, IsBlank, LeapServed, NoticesLeaps, RadiosServed, ServersServed}
 use Rattle.station_crew.specs.declared.jobs.LeapJob.{LeapJob}
 use Rattle.station_crew.specs.declared.jobs.PollJob.{PollJob}
 use Rattle.station_crew.specs.declared.jobs.RadioJob.{RadioJob}

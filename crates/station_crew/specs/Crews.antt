@@ -10,7 +10,7 @@ use Rattle.radio_receiver.specs.Histories.{History}
 use Rattle.station_config.specs.Station.{StationFields, gate_of}
 use Rattle.station_crew.specs.Jobs.{IsManned, RadioRan, PollRan, LeapRan}
 use Rattle.station_crew.specs.Leaving.{file_of, link_of, log_of, number_of, passes_of, serve_pass, server_link, server_of}
-use Rattle.station_crew.specs.Lists.{Both, Each, Pairs}
+use Rattle.crew_work.specs.Lists.{Both, Each, Pairs}
 use Rattle.station_crew.specs.Telling.{HasServedTwice}
 use Rattle.station_crew.specs.declared.crew.Crew.{Crew}
 use Rattle.station_crew.specs.declared.crew.Left.{Left}

@@ -4,14 +4,14 @@ ghost use Rattle.std.specs.List.{range_with_len};
 ghost use Rattle.station_crew.specs.Crews.{CrewRan, HasRoomFor, HasRoomToLeave};
 ghost use Rattle.station_crew.specs.Jobs.{HasServed, HasServedAgain, LeapRan, MayHear, MayNotice, MayPoll, PollRan, RadioRan};
 ghost use Rattle.station_crew.specs.Leaving.{number_of};
-ghost use Rattle.station_crew.specs.Lists.{Both, Each, Every, Pairs};
+ghost use Rattle.crew_work.specs.Lists.{Both, Each, Every, Pairs};
 ghost use Rattle.station_crew.specs.Telling.{WasTold};
 
 use crate::jobs::{LeapJob, PollJob, RadioJob, ServeJob};
 use crate::leaving::{leave_leap, leave_pollers, leave_radios, leave_responders};
 use crate::phases::{run_first, run_second};
 use crate::telling::tell_responders;
-use crate::work::{Budget, LinkWork};
+use crew_work::{Budget, LinkWork};
 use feed_link::{Gate, Link, Source};
 use feed_workers::{LogWork, PollWork};
 use page_cell::{FeedPass, PageCell, ReadPass};

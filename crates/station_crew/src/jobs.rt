@@ -1,6 +1,6 @@
 // Workers, and what each has done.
 
-use crate::work::LinkWork;
+use crew_work::LinkWork;
 use feed_workers::{LeapWorker, LogWork, PollWork, PollWorker, WorkerOf};
 use responder::Responder;
 

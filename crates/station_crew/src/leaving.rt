@@ -4,7 +4,7 @@ ghost use Rattle.std.specs.Option.{option_to_list};
 ghost use Rattle.station_crew.specs.Leaving.{file_of, leap_pass, link_of, log_of, poll_pass, radio_pass, serve_pass, server_link};
 
 use crate::jobs::{LeapJob, PollJob, RadioJob, ServeJob};
-use crate::work::LinkWork;
+use crew_work::LinkWork;
 use feed_link::{Link, Source};
 use feed_workers::{LogWork, PollWork};
 use page_cell::{FeedPass, ReadPass};

@@ -8,10 +8,10 @@ ghost use Rattle.station_config.specs.Station.{IsStation, gate_of};
 ghost use Rattle.station_config.specs.KeptStation.{server_fields};
 ghost use Rattle.station_crew.specs.Jobs.{IsManned};
 ghost use Rattle.station_crew.specs.Leaving.{file_of, leap_pass, link_of, log_of, number_of, poll_pass, radio_pass, serve_pass, server_link, server_of};
-ghost use Rattle.station_crew.specs.Lists.{Pairs};
+ghost use Rattle.crew_work.specs.Lists.{Pairs};
 
 use crate::jobs::{LeapJob, PollJob, RadioJob, ServeJob};
-use crate::work::LinkWork;
+use crew_work::LinkWork;
 use feed_link::{Link, Source};
 use feed_workers::{LeapWorker, LogEnd, LogWork, PollEnd, PollWork, PollWorker, RadioWorker};
 use kiss_gate::ClientGate;

@@ -8,12 +8,12 @@ ghost use Rattle.station_config.specs.Station.{IsStation, gate_of, leap_feed, se
 ghost use Rattle.station_crew.specs.Crews.{CrewManned, HasRoom, HasRoomFor, IsNewReader};
 ghost use Rattle.station_crew.specs.Leaving.{passes_of, serve_pass};
 ghost use Rattle.station_gear.specs.Opens.{IsWhole};
-ghost use Rattle.station_crew.specs.Served.{AreBlank, IsJournalOf, LeapServed, LinksServed, RadiosServed, ServersServed};
+ghost use Rattle.crew_work.specs.Served.{AreBlank, IsJournalOf, LeapServed, LinksServed, RadiosServed, ServersServed};
 
 use crate::crew::{Crew, Left, run_crew};
 use crate::jobs::ServeJob;
 use crate::manning::{man_leap, man_pollers, man_radios, man_responders};
-use crate::work::{Budget, LinkWork};
+use crew_work::{Budget, LinkWork};
 use feed_link::{Gate, Link, Source};
 use feed_workers::{LogWork, PollWork};
 use kiss_gate::ClientGate;

@@ -1,7 +1,7 @@
 // The workers side by side.
 ghost use Rattle.std.specs.Prelude.{◌≡◌, All, IfSome, length};
 ghost use Rattle.station_crew.specs.Jobs.{HasServed, HasServedAgain, LeapRan, MayHear, MayNotice, MayPoll, PollRan, RadioRan};
-ghost use Rattle.station_crew.specs.Lists.{Both, Each, Every};
+ghost use Rattle.crew_work.specs.Lists.{Both, Each, Every};
 
 use crate::jobs::{LeapJob, PollJob, RadioJob, ServeJob};
 use feed_link::{Gate, Link, Source};

@@ -3,11 +3,11 @@ ghost use Rattle.std.specs.Prelude.{◌≡◌, ◌<◌, ◌≤◌, ◌^◌, ◌+
 ghost use Rattle.station_config.specs.Station.{gate_of, leap_feed, settings_of};
 ghost use Rattle.station_crew.specs.Crews.{HasRoom, HasRoomFor, HasRoomForGear, HasRoomToLeave};
 ghost use Rattle.station_gear.specs.Opens.{IsWhole};
-ghost use Rattle.station_crew.specs.Served.{AreBlank, IsJournalOf, LeapServed, LinksServed, RadiosServed, ServersServed};
+ghost use Rattle.crew_work.specs.Served.{AreBlank, IsJournalOf, LeapServed, LinksServed, RadiosServed, ServersServed};
 
 use crate::crew::{Crew, Left};
 use crate::named::{Ended, Room, run_named};
-use crate::work::Budget;
+use crew_work::Budget;
 use feed_link::{Gate, Link, Source};
 use kiss_gate::{ClientGate, GateOpen};
 use page_cell::PageCell;

@@ -5,7 +5,7 @@ use Rattle.std.specs.Prelude.{All, vec_len}
 use Rattle.std.specs.Option.{option_to_list}
 use Rattle.std.proofs.lemmas.List.Elements.{All-append, All-map}
 use Rattle.page_cell.specs.Passes.{Known}
-use Rattle.station_crew.proofs.ListLaws.{at-most-one, both_keeps, each_keeps, pairs_at, pairs_keep, pairs_length}
+use Rattle.crew_work.proofs.ListLaws.{at-most-one, both_keeps, each_keeps, pairs_at, pairs_keep, pairs_length}
 use Rattle.station_crew.specs.Jobs.{HasServed, LeapRan, MayNotice, PollRan, RadioRan}
 use Rattle.station_crew.specs.Leaving.{leap_pass, link_of, log_of, poll_pass, radio_pass, serve_pass, server_link}
 use Rattle.station_crew.specs.Telling.{WasTold}

@@ -3,9 +3,9 @@ use Rattle.std.proofs.Common.{rules, ◌≡◌, length, map, sym, ap, ◌∙◌,
 use Rattle.std.specs.Prelude.{IfSome, vec_len}
 use Rattle.std.specs.Option.{option_to_list}
 use Rattle.std.proofs.lemmas.List.{length-map}
-use Rattle.station_crew.proofs.ListLaws.{length-option-map, none_left, pairs_keep, pairs_length, three_taken}
+use Rattle.crew_work.proofs.ListLaws.{length-option-map, none_left, pairs_keep, pairs_length, three_taken}
 use Rattle.station_crew.specs.Leaving.{file_of, leap_pass, link_of, log_of, poll_pass, radio_pass, serve_pass, server_link}
-use Rattle.station_crew.specs.Served.{IsBlank}
+use Rattle.crew_work.specs.Served.{IsBlank}
 use Rattle.station_crew.proofs.named.man_crew.Goals as goal
 
 pub man_radios-requires-clause-blank : goal.man_radios-requires-clause-blank

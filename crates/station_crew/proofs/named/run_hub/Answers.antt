@@ -11,11 +11,11 @@ use Rattle.page_cell.specs.Views.{new_claim}
 use Rattle.station_config.specs.Station.{gate_of, kind_of_radio, kind_of_server, leap_feeds}
 use Rattle.station_crew.proofs.FeedLaws.{leap_served, may_hear, may_notice, may_poll, radios_served, seen_all, servers_served}
 use Rattle.station_crew.proofs.LinkLaws.{links_served}
-use Rattle.station_crew.proofs.ListLaws.{both_keeps, each_keeps, leap_feeds-length, length-is-some}
+use Rattle.crew_work.proofs.ListLaws.{both_keeps, each_keeps, leap_feeds-length, length-is-some}
 use Rattle.station_crew.specs.Crews.{IsNewReader}
 use Rattle.station_crew.specs.Jobs.{LeapRan, MayNotice, PollRan, RadioRan}
 use Rattle.station_crew.specs.Leaving.{file_of, leap_pass, link_of, log_of, passes_of, poll_pass, radio_pass, serve_pass, server_link}
-use Rattle.station_crew.specs.Served.{LeapServed, LinksServed, RadiosServed, ServersServed}
+use Rattle.crew_work.specs.Served.{LeapServed, LinksServed, RadiosServed, ServersServed}
 use Rattle.station_crew.specs.Telling.{HasSeenAll, HasServedTwice}
 use Rattle.system_fold.specs.Settings.{IsJournal, IsKept, SettingsFields}
 use Rattle.verdict_journal.specs.Journals.{HasRead}
