@@ -159,7 +159,7 @@ fn receivers_of(
 ) -> Result<Vec<BoxedReceiver>, Fail>
     requires stands { stands_for receiver (blank_of Dcf) }
     requires least { least_start receiver ≡ 0 }
-    ensures { IfOk result (λ v. AreBlank (λ b h. stands_for b h) (λ b. least_start b) station.now.radios v.items) }
+    ensures { IfOk result (λ v. AreBlank stands_for least_start station.now.radios v.items) }
 {
     let mut receivers = Vec::new(alloc);
     if station.radios() == 0 {

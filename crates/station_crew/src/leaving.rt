@@ -8,11 +8,10 @@ use crew_work::LinkWork;
 use feed_link::{Link, Source};
 use feed_workers::{LogWork, PollWork};
 use page_cell::{FeedPass, ReadPass};
-use radio_receiver::BoxedReceiver;
 
 /// The radios' workers give back.
 pub fn leave_radios<L: Source + Drop>(
-    jobs: Vec<RadioJob<L, BoxedReceiver>>,
+    jobs: Vec<RadioJob<L>>,
     logs: &mut Vec<L>,
     works: &mut Vec<LogWork>,
     feeds: &mut Vec<FeedPass>,

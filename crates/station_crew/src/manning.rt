@@ -46,10 +46,10 @@ fn man_radio<L: Source + Drop>(
     receiver: BoxedReceiver,
     log: L,
     pass: FeedPass,
-) -> RadioJob<L, BoxedReceiver>
+) -> RadioJob<L>
     requires { least_start receiver ≡ 0 }
     ensures is { (result.worker.log ≡ log) × (result.worker.pass ≡ pass) }
-    ensures manned { IsManned (λ b h. stands_for b h) (λ b. least_start b) receiver result }
+    ensures manned { IsManned stands_for least_start receiver result }
 {
     RadioJob {
         worker: RadioWorker::new(receiver, log, pass),
@@ -62,7 +62,7 @@ pub fn man_radios<L: Source + Drop>(
     receivers: Vec<BoxedReceiver>,
     logs: Vec<L>,
     feeds: &mut Vec<FeedPass>,
-    jobs: &mut Vec<RadioJob<L, BoxedReceiver>>,
+    jobs: &mut Vec<RadioJob<L>>,
 )
     requires blank { All (λ b. least_start b ≡ 0) receivers.items }
     requires receivers { vec_len receivers ≡ vec_len logs }
@@ -71,7 +71,7 @@ pub fn man_radios<L: Source + Drop>(
     requires room { vec_len logs ≤ vec_capacity jobs.old }
     ensures logs { map log_of jobs.new.items ≡ logs.items }
     ensures feeds { map radio_pass jobs.new.items ++ feeds.new.items ≡ feeds.old.items }
-    ensures manned { Pairs (λ b j. IsManned (λ b h. stands_for b h) (λ b. least_start b) b j) receivers.items jobs.new.items }
+    ensures manned { Pairs (IsManned stands_for least_start) receivers.items jobs.new.items }
 {
     let mut receivers = receivers;
     for log in logs {
