@@ -45,14 +45,14 @@ impl<R: Receiver> Taker for LogDecoder<R> {
 
     ghost says = { log_says };
 
-    ghost holds = { λ decoder plan. IsDecodedBy (λ r h. R.stands_for r h) decoder plan };
+    ghost holds = { λ decoder plan. IsDecodedBy R.stands_for decoder plan };
 
-    ghost is_ready = { λ decoder. IsReady (λ r. R.least_start r) decoder };
+    ghost is_ready = { λ decoder. IsReady R.least_start decoder };
 
     ghost room = { λ decoder. 2 ^ 64 };
 
     fn take(&mut self, bytes: &[u8], line: &mut Line) -> Took {
-        let step = self.take_direct(bytes);
+        let step = self.take(bytes);
         Took {
             count: step.count,
             gives: give_found(step.found, line),
@@ -60,7 +60,7 @@ impl<R: Receiver> Taker for LogDecoder<R> {
     }
 
     fn at_end(&self) -> Reach {
-        match self.finish_direct() {
+        match self.finish() {
             Ok(()) => Reach::AtEnd(FileEnd::Whole),
             Err(bad) => Reach::AtBadLine(bad.line),
         }
@@ -76,7 +76,7 @@ fn decode_with<S: Source, R: Receiver, K: Sink>(log: &mut S, receiver: R, out: &
     ensures decodes { (plan : Plan) → R.stands_for receiver (blank_of plan) →
         Decodes plan (S.state log.old) (S.state log.new) (K.state out.old) (K.state out.new) result }
 {
-    let mut decoder = LogDecoder::direct(0, receiver);
+    let mut decoder = LogDecoder::new(0, receiver);
     match read_lines(log, &mut decoder, LIMIT, out) {
         Ok(reach) => finish(ending_at(Subject::Feed(0), reach), out),
         Err(Failed) => Status::WriteFault,

@@ -49,10 +49,10 @@ fn play_whole<S: Source, K: Sink>(
     limit: u32,
     out: &mut K,
 ) -> Status
-    requires ready { IsReady (λ b. least_start b) replayer.old.player }
+    requires ready { IsReady least_start replayer.old.player }
     requires none { replayer.old.lines ≡ 0 }
     ensures number { S.opening script.new ≡ S.opening script.old }
-    ensures replays { (station : StationFields) → IsPlayedBy (λ b h. stands_for b h) replayer.old station limit [] [] None →
+    ensures replays { (station : StationFields) → IsPlayedBy stands_for replayer.old station limit [] [] None →
         RunsThrough (script_of limit station) (S.state script.old) (S.state script.new) (K.state out.old) (K.state out.new) result }
 {
     match read_lines(script, replayer, LIMIT, out) {
@@ -72,9 +72,9 @@ fn play<S: Source, K: Sink>(
     limit: u32,
     out: &mut K,
 ) -> Status
-    requires { IsReady (λ b. least_start b) player }
+    requires { IsReady least_start player }
     ensures number { S.opening script.new ≡ S.opening script.old }
-    ensures replays { (station : StationFields) → HasPlayed (λ b h. stands_for b h) player station limit [] →
+    ensures replays { (station : StationFields) → HasPlayed stands_for player station limit [] →
         RunsThrough (script_of limit station) (S.state script.old) (S.state script.new) (K.state out.old) (K.state out.new) result }
 {
     let mut replayer = Replayer::new(player);
@@ -89,9 +89,9 @@ fn open_and_play<O: Outside, K: Sink>(
     outside: &mut O,
     out: &mut K,
 ) -> Status
-    requires { IsReady (λ b. least_start b) player }
+    requires { IsReady least_start player }
     ensures gate { O.gate_out outside.new ≡ O.gate_out outside.old }
-    ensures tried { (station : StationFields) → HasPlayed (λ b h. stands_for b h) player station limit [] →
+    ensures tried { (station : StationFields) → HasPlayed stands_for player station limit [] →
         TriesFile Subject.Script (script_of limit station) name.now (O.state outside.old) (O.state outside.new) (K.state out.old) (K.state out.new) result }
 {
     let Ok(mut script) = outside.open_log(name) else {
@@ -110,10 +110,10 @@ fn prepare(
     rack: Vec<BoxedReceiver>,
     limit: u32,
 ) -> Result<Player<BoxedReceiver>, Obstacle>
-    requires rack { IsRack (λ b h. stands_for b h) rack.items }
+    requires rack { IsRack stands_for rack.items }
     requires most { limit ≤ 2 ^ 22 }
-    ensures ready { IfOk result (λ p. IsReady (λ b. least_start b) p) }
-    ensures judged { MatchResult result (λ player. (end ≡ Whole) × ((of : StationFields) × Says text.now of × HasPlayed (λ b h. stands_for b h) player of limit []))
+    ensures ready { IfOk result (IsReady least_start) }
+    ensures judged { MatchResult result (λ player. (end ≡ Whole) × ((of : StationFields) × Says text.now of × HasPlayed stands_for player of limit []))
         (λ obstacle. IsObstacle end text.now obstacle) }
 {
     let station = match judge(alloc, end, text) {
@@ -136,7 +136,7 @@ pub fn run_replay<O: Outside, K: Sink>(
     outside: &mut O,
     out: &mut K,
 ) -> Status
-    requires rack { IsRack (λ b h. stands_for b h) rack.items }
+    requires rack { IsRack stands_for rack.items }
     requires most { limit ≤ 2 ^ 22 }
     ensures gate { O.gate_out outside.new ≡ O.gate_out outside.old }
     ensures runs { Lacks (O.state outside.old) (O.state outside.new) (K.state out.old) (K.state out.new) result

@@ -33,11 +33,11 @@ fn play_text(
     text: &[u8],
     line: &mut Line,
 ) -> Result<usize, NotLawful>
-    requires ready { IsReady (λ b. least_start b) player.old }
-    ensures ready { IsReady (λ b. least_start b) player.new }
+    requires ready { IsReady least_start player.old }
+    ensures ready { IsReady least_start player.new }
     ensures fits { MatchResult result (λ length. length ≤ LINE_ROOM) (λ _. Unit {0}) }
-    ensures plays { (station : StationFields) (limit : ℕ) (before : List Played) → HasPlayed (λ b h. stands_for b h) player.old station limit before →
-        PlaysNext (λ b h. stands_for b h) player.new station limit before text.now line.new result }
+    ensures plays { (station : StationFields) (limit : ℕ) (before : List Played) → HasPlayed stands_for player.old station limit before →
+        PlaysNext stands_for player.new station limit before text.now line.new result }
 {
     let Some(script_line) = read_line(text) else {
         return Err(NotLawful);
@@ -51,11 +51,11 @@ fn play_text(
 impl Replayer<BoxedReceiver> {
     // It has taken nothing.
     pub fn new(player: Player<BoxedReceiver>) -> Replayer<BoxedReceiver>
-        requires { IsReady (λ b. least_start b) player }
-        ensures ready { IsReady (λ b. least_start b) result.player }
+        requires { IsReady least_start player }
+        ensures ready { IsReady least_start result.player }
         ensures none { result.lines ≡ 0 }
-        ensures played { (station : StationFields) (limit : ℕ) → HasPlayed (λ b h. stands_for b h) player station limit [] →
-            IsPlayedBy (λ b h. stands_for b h) result station limit [] [] None }
+        ensures played { (station : StationFields) (limit : ℕ) → HasPlayed stands_for player station limit [] →
+            IsPlayedBy stands_for result station limit [] [] None }
     {
         Replayer {
             cutter: LineCutter::new(TOO_LONG),
@@ -66,14 +66,14 @@ impl Replayer<BoxedReceiver> {
 
     // Plays the line that has ended.
     fn play_line(&mut self, line: &mut Line) -> Gives
-        requires ready { IsReady (λ b. least_start b) self.old.player }
+        requires ready { IsReady least_start self.old.player }
         requires room { self.old.lines < 2 ^ 64 - 1 }
-        ensures ready { IsReady (λ b. least_start b) self.new.player }
+        ensures ready { IsReady least_start self.new.player }
         ensures cutter { self.new.cutter ≡ self.old.cutter }
         ensures fits { Fits result }
         ensures lines { self.new.lines ≤ self.old.lines + 1 }
-        ensures plays { (station : StationFields) (limit : ℕ) (before : List Played) → HasPlayed (λ b h. stands_for b h) self.old.player station limit before →
-            IsPlayedLine (λ b h. stands_for b h) self.old.lines self.new.lines self.new.player station limit before (line_in self.old.cutter) line.new result }
+        ensures plays { (station : StationFields) (limit : ℕ) (before : List Played) → HasPlayed stands_for self.old.player station limit before →
+            IsPlayedLine stands_for self.old.lines self.new.lines self.new.player station limit before (line_in self.old.cutter) line.new result }
     {
         match play_text(&mut self.player, self.cutter.line(), line) {
             Ok(length) => {
