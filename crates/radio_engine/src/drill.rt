@@ -46,8 +46,8 @@ fn day_kit<T: Drop>(
     seed: u32,
     rack: Vec<BoxedReceiver>,
 ) -> Result<Kit<SureSource, T>, AllocError>
-    requires { IsRack (λ b h. stands_for b h) rack.items }
-    ensures receivers { IfOk result (λ kit. AreBlank (λ b h. stands_for b h) (λ b. least_start b) station.now.radios kit.receivers.items) }
+    requires { IsRack stands_for rack.items }
+    ensures receivers { IfOk result (λ kit. AreBlank stands_for least_start station.now.radios kit.receivers.items) }
     ensures gear { IfOk result (λ kit. HasDayGear seed kit.gear) }
 {
     Ok(Kit {
@@ -68,7 +68,7 @@ fn serve_day<R: Threads + Wait + Sync, O: Outside>(
 ) -> Result<Done, AllocError>
     requires limit { (0 < orders.limit) × (orders.limit ≤ 4194304) }
     requires station { station.now ≡ one_of_each }
-    requires blank { AreBlank (λ b h. stands_for b h) (λ b. least_start b) station.now.radios kit.receivers.items }
+    requires blank { AreBlank stands_for least_start station.now.radios kit.receivers.items }
     requires gear { HasDayGear seed kit.gear }
     requires gate { O.gate_out outside.old ≡ false }
     ensures same { O.state outside.new ≡ O.state outside.old }
@@ -109,7 +109,7 @@ fn drill<R: Threads + Wait + Sync, O: Outside>(
 ) -> Result<Done, AllocError>
     requires limit { (0 < limit) × (limit ≤ 4194304) }
     requires station { station.now ≡ one_of_each }
-    requires rack { IsRack (λ b h. stands_for b h) rack.items }
+    requires rack { IsRack stands_for rack.items }
     requires gate { O.gate_out outside.old ≡ false }
     ensures same { O.state outside.new ≡ O.state outside.old }
     ensures gate { O.gate_out outside.new ≡ O.gate_out outside.old }
@@ -134,7 +134,7 @@ pub fn run_drill<R: Threads + Wait + Sync, O: Outside, K: Sink>(
     out: &mut K,
 ) -> Status
     requires limit { (0 < limit) × (limit ≤ 4194304) }
-    requires rack { IsRack (λ b h. stands_for b h) rack.items }
+    requires rack { IsRack stands_for rack.items }
     requires gate { O.gate_out outside.old ≡ false }
     ensures gate { O.gate_out outside.new ≡ O.gate_out outside.old }
     ensures runs { Lacks (O.state outside.old) (O.state outside.new) (K.state out.old) (K.state out.new) result

@@ -46,7 +46,7 @@ pub fn run_station<R: Threads + Wait + Sync, O: Outside, K: Sink>(
     outside: &mut O,
     out: &mut K,
 ) -> Status
-    requires rack { IsRack (λ b h. stands_for b h) rack.items }
+    requires rack { IsRack stands_for rack.items }
     requires gate { O.gate_out outside.old ≡ false }
     ensures gate { O.gate_out outside.new ≡ O.gate_out outside.old }
 

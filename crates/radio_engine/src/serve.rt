@@ -48,8 +48,8 @@ fn make_kit<L: Drop, T: Drop>(
     station: &Station,
     rack: Vec<BoxedReceiver>,
 ) -> Result<Kit<L, T>, AllocError>
-    requires { IsRack (λ b h. stands_for b h) rack.items }
-    ensures receivers { IfOk result (λ kit. AreBlank (λ b h. stands_for b h) (λ b. least_start b) station.now.radios kit.receivers.items) }
+    requires { IsRack stands_for rack.items }
+    ensures receivers { IfOk result (λ kit. AreBlank stands_for least_start station.now.radios kit.receivers.items) }
     ensures gear { IfOk result (λ kit. IsEmptyFor station.now kit.gear) }
 {
     Ok(Kit {
@@ -68,7 +68,7 @@ pub fn serve_gated<R: Threads + Wait + Sync, O: Outside, L: Source + Drop, T: Li
     outside: &mut O,
 ) -> Result<Ended<L, T>, Gear<L, T>>
     requires limit { (0 < orders.limit) × (orders.limit ≤ 4194304) }
-    requires blank { AreBlank (λ b h. stands_for b h) (λ b. least_start b) station.now.radios kit.receivers.items }
+    requires blank { AreBlank stands_for least_start station.now.radios kit.receivers.items }
     requires gear { IsWhole station.now kit.gear }
     requires gate { O.gate_out outside.old ≡ false }
     ensures same { O.state outside.new ≡ O.state outside.old }
@@ -103,7 +103,7 @@ fn serve_open<R: Threads + Wait + Sync, O: Outside>(
     outside: &mut O,
 ) -> Result<Done, Ending>
     requires limit { (0 < orders.limit) × (orders.limit ≤ 4194304) }
-    requires blank { AreBlank (λ b h. stands_for b h) (λ b. least_start b) station.now.radios kit.receivers.items }
+    requires blank { AreBlank stands_for least_start station.now.radios kit.receivers.items }
     requires gear { IsWhole station.now kit.gear }
     requires gate { O.gate_out outside.old ≡ false }
     requires out { AreOut (O.state outside.old).openings (numbers_of (λ log. O.Log.opening log) (λ net. O.Net.opening net) kit.gear) }
@@ -148,7 +148,7 @@ fn open_and_serve<R: Threads + Wait + Sync, O: Outside>(
     outside: &mut O,
 ) -> Result<Done, Ending>
     requires limit { (0 < orders.limit) × (orders.limit ≤ 4194304) }
-    requires blank { AreBlank (λ b h. stands_for b h) (λ b. least_start b) station.now.radios kit.receivers.items }
+    requires blank { AreBlank stands_for least_start station.now.radios kit.receivers.items }
     requires gear { IsEmptyFor station.now kit.gear }
     requires gate { O.gate_out outside.old ≡ false }
     ensures gate { O.gate_out outside.new ≡ O.gate_out outside.old }
@@ -174,7 +174,7 @@ fn serve<R: Threads + Wait + Sync, O: Outside>(
     outside: &mut O,
 ) -> Result<Done, Ending>
     requires limit { (0 < orders.limit) × (orders.limit ≤ 4194304) }
-    requires rack { IsRack (λ b h. stands_for b h) rack.items }
+    requires rack { IsRack stands_for rack.items }
     requires gate { O.gate_out outside.old ≡ false }
     ensures gate { O.gate_out outside.new ≡ O.gate_out outside.old }
     ensures tried { TriesServe station.now orders (O.state outside.old) (O.state outside.new) result }
@@ -196,7 +196,7 @@ pub fn run_serve<R: Threads + Wait + Sync, O: Outside, K: Sink>(
     out: &mut K,
 ) -> Status
     requires limit { (0 < orders.limit) × (orders.limit ≤ 4194304) }
-    requires rack { IsRack (λ b h. stands_for b h) rack.items }
+    requires rack { IsRack stands_for rack.items }
     requires gate { O.gate_out outside.old ≡ false }
     ensures gate { O.gate_out outside.new ≡ O.gate_out outside.old }
     ensures runs { Lacks (O.state outside.old) (O.state outside.new) (K.state out.old) (K.state out.new) result
