@@ -134,7 +134,11 @@ fn a_receiver_of_a_known_type_gives_the_same_entries(rt: HostRuntime) -> Result<
     ] {
         let mut text = Vec::new(rt.alloc());
         let decoder = LogDecoder::new(3, DcfReceiver::new());
-        assert_eq!(rt; decoded(decoder, log.as_bytes(), &mut text)?, want, "in {log}");
+        assert_eq!(rt;
+            decoded(decoder, log.as_bytes(), &mut text)?,
+            want,
+            "in {log}"
+        );
         assert!(rt; text.is_empty());
     }
     Ok(())

@@ -42,11 +42,7 @@ const UNSERVED: Served = Served {
 };
 
 // A radio's worker.
-fn man_radio<L: Source + Drop>(
-    receiver: BoxedReceiver,
-    log: L,
-    pass: FeedPass,
-) -> RadioJob<L>
+fn man_radio<L: Source + Drop>(receiver: BoxedReceiver, log: L, pass: FeedPass) -> RadioJob<L>
     requires { least_start receiver ≡ 0 }
     ensures is { (result.worker.log ≡ log) × (result.worker.pass ≡ pass) }
     ensures manned { IsManned stands_for least_start receiver result }
