@@ -34,6 +34,10 @@ for tree in before after; do
     echo "decode_loop: tick_units feed_link file_reader sink_text pulse_log journal_entry radio_receiver log_decoder" >> "$work/$tree/crates.txt"
     cp "$top/HANDLES" "$work/$tree/"
     cp -r "$work/loop" "$work/$tree/crates/decode_loop"
+    if [ "$tree" = before ]; then
+        # Until boxed receivers were receivers, decoders had calls of their own for a receiver of a known type.
+        sed -i 's/LogDecoder::new(/LogDecoder::direct(/; s/self\.take(bytes)/self.take_direct(bytes)/; s/self\.finish()/self.finish_direct()/' "$work/before/crates/decode_loop/src/main.rt"
+    fi
     (cd "$work/$tree/crates/decode_loop" && rt run > "$work/build.log" 2>&1) || { cat "$work/build.log" >&2; exit 1; }
     cp "$work/$tree/crates/decode_loop/out/decode_loop" "$work/$tree.program"
 done

@@ -89,10 +89,10 @@ trait Taker {
 impl<R: Receiver> Taker for LogDecoder<R> {
     ghost use Rattle.log_decoder.specs.Decoding.{IsReady};
 
-    ghost is_ready = { λ decoder. IsReady (λ r. R.least_start r) decoder };
+    ghost is_ready = { λ decoder. IsReady R.least_start decoder };
 
     fn take(&mut self, bytes: &[u8], line: &mut Line) -> Took {
-        let step = self.take_direct(bytes);
+        let step = self.take(bytes);
         Took {
             count: step.count,
             gives: give_found(step.found, line),
@@ -100,7 +100,7 @@ impl<R: Receiver> Taker for LogDecoder<R> {
     }
 
     fn at_end(&self) -> Reach {
-        match self.finish_direct() {
+        match self.finish() {
             Ok(()) => Reach::AtEnd(FileEnd::Whole),
             Err(bad) => Reach::AtBadLine(bad.line),
         }
@@ -152,7 +152,7 @@ fn read_lines<S: Source, T: Taker, K: Sink>(
 fn decode_with<S: Source, R: Receiver, K: Sink>(log: &mut S, receiver: R, out: &mut K)
     requires { R.least_start receiver ≡ 0 }
 {
-    let mut decoder = LogDecoder::direct(0, receiver);
+    let mut decoder = LogDecoder::new(0, receiver);
     let text: &str = match read_lines(log, &mut decoder, 1 << 30, out) {
         Ok(Reach::AtEnd(FileEnd::Whole)) => "status 0\n",
         Ok(Reach::AtBadLine(_)) => "status 4\n",

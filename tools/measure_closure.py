@@ -3,7 +3,7 @@
 
     tools/measure_closure.py [CRATE.FILE.NAME ..] [--list]
 
-Without a name it measures the headline's record (radio_engine.Headline.IsServed). A row has the definitions, their lines with and
+Without a name it measures the headline's record (station_report.Headline.IsServed). A row has the definitions, their lines with and
 without comments, the files that they stand in, and Rust's own types that they name. With --list the lines by file follow.
 """
 
@@ -13,7 +13,7 @@ from pathlib import Path
 
 from antt_names import Definition, Name, Specs
 
-HEADLINE = "radio_engine.Headline.IsServed"
+HEADLINE = "station_report.Headline.IsServed"
 
 
 def lines_of(definition: Definition) -> tuple[int, int]:

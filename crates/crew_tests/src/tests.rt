@@ -2,7 +2,7 @@
 //! worked by hand from RFC 5905, section 8, and clients whose answers are those of RFC 5905, section 7.3.
 ghost use Rattle.std.specs.Prelude.{◌≡◌, ◌<◌, ◌≤◌, IfOk};
 ghost use Rattle.radio_receiver.specs.Histories.{blank_of};
-ghost use Rattle.station_crew.specs.Served.{AreBlank};
+ghost use Rattle.crew_work.specs.Served.{AreBlank};
 ghost use Rattle.tick_units.specs.declared.marks.Plan.TheVariants.{Dcf};
 
 use feed_link::{Address, Gate, HoldGate, LinkEvent, MemoryLink, MemorySource, OpenGate, Planned};
@@ -159,7 +159,7 @@ fn receivers_of(
 ) -> Result<Vec<BoxedReceiver>, Fail>
     requires stands { stands_for receiver (blank_of Dcf) }
     requires least { least_start receiver ≡ 0 }
-    ensures { IfOk result (λ v. AreBlank (λ b h. stands_for b h) (λ b. least_start b) station.now.radios v.items) }
+    ensures { IfOk result (λ v. AreBlank stands_for least_start station.now.radios v.items) }
 {
     let mut receivers = Vec::new(alloc);
     if station.radios() == 0 {

@@ -43,12 +43,12 @@ fn add_line(text: &mut Vec<u8>, entry: &Entry) -> Result<(), Fail> {
 }
 
 // The lines of the entries of a log, and its bad line.
-fn decoded(
-    decoder: LogDecoder<BoxedReceiver>,
+fn decoded<R: Receiver>(
+    decoder: LogDecoder<R>,
     bytes: &[u8],
     text: &mut Vec<u8>,
 ) -> Result<Result<(), BadLine>, Fail>
-    requires { IsReady (λ b. least_start b) decoder }
+    requires { IsReady R.least_start decoder }
 {
     let mut decoder = decoder;
     let mut rest = bytes;
@@ -117,37 +117,12 @@ fn a_bad_line_ends_the_log(rt: HostRuntime) -> Result<(), Fail> {
     Ok(())
 }
 
-// The lines of the entries of feed 3, by a receiver whose type is known, and the bad line.
-fn decoded_direct<R: Receiver>(
-    receiver: Box<R>,
-    bytes: &[u8],
-    text: &mut Vec<u8>,
-) -> Result<Result<(), BadLine>, Fail>
-    requires { R.least_start receiver.value ≡ 0 }
-{
-    let mut decoder = LogDecoder::direct(3, Box::into_inner(receiver));
-    let mut rest = bytes;
-    'rest: while !rest.is_empty() {
-        let Step { count, found } = decoder.take_direct(rest);
-        match found {
-            Ok(Some(entry)) => add_line(text, &entry)?,
-            Ok(None) => {}
-            Err(bad) => return Ok(Err(bad)),
-        }
-        rest = rest.split_at(count).1;
-    }
-    Ok(decoder.finish_direct())
-}
-
 #[test]
 fn a_receiver_of_a_known_type_gives_the_same_entries(rt: HostRuntime) -> Result<(), Fail> {
     let log = two_frames(rt.alloc())?;
     let mut text = Vec::new(rt.alloc());
-    let receiver = Box::new(rt.alloc(), DcfReceiver::new())?;
-    assert_eq!(rt;
-        decoded_direct(receiver, log.as_bytes(), &mut text)?,
-        Ok(())
-    );
+    let decoder = LogDecoder::new(3, DcfReceiver::new());
+    assert_eq!(rt; decoded(decoder, log.as_bytes(), &mut text)?, Ok(()));
     assert_eq!(rt;
         text.as_slice(),
         b"3 62000000 lone 3976257600\n3 122000000 verdict 3976257660 0\n".as_slice()
@@ -158,9 +133,9 @@ fn a_receiver_of_a_known_type_gives_the_same_entries(rt: HostRuntime) -> Result<
         ("0 100000\n7 100000\n", Ok(())),
     ] {
         let mut text = Vec::new(rt.alloc());
-        let receiver = Box::new(rt.alloc(), DcfReceiver::new())?;
+        let decoder = LogDecoder::new(3, DcfReceiver::new());
         assert_eq!(rt;
-            decoded_direct(receiver, log.as_bytes(), &mut text)?,
+            decoded(decoder, log.as_bytes(), &mut text)?,
             want,
             "in {log}"
         );

@@ -22,10 +22,10 @@ use verdict_journal::{Hub, HubName};
 // The most bytes of a log.
 const LIMIT: usize = 1 << 30;
 
-/// The worker of a radio, with a receiver of type `B`.
+/// The worker of a radio, with a receiver of type `R`.
 #[derive(Drop)]
-pub struct WorkerOf<L: Drop, B: Drop> {
-    pub(crate) decoder: LogDecoder<B>,
+pub struct WorkerOf<L: Drop, R: Drop> {
+    pub(crate) decoder: LogDecoder<R>,
     pub(crate) log: L,
     pub(crate) pass: FeedPass,
 }
@@ -51,16 +51,16 @@ fn take_line<N: HubName, R: Wait, G: Gate>(
     full: &mut bool,
 ) -> Took
     requires some { 0 < length bytes.now }
-    requires ready { IsReady (λ b. least_start b) decoder.old }
+    requires ready { IsReady least_start decoder.old }
     requires pass { IsOfFeed N.table (length N.settings.sources) (feed_of decoder.old) pass.old }
     ensures some { 0 < result.count }
     ensures within { result.count ≤ length bytes.now }
-    ensures ready { IsReady (λ b. least_start b) decoder.new }
+    ensures ready { IsReady least_start decoder.new }
     ensures feed { feed_of decoder.new ≡ feed_of decoder.old }
     ensures pass { IsOfFeed N.table (length N.settings.sources) (feed_of decoder.old) pass.new }
     ensures heard { (plan : Plan) (delay : ℕ) (start : Claim) (before : List ℕ) →
-        HasHeard (λ b h. stands_for b h) decoder.old plan delay start (claim_of pass.old.view) N.limit full.old before None →
-        HasHeard (λ b h. stands_for b h) decoder.new plan delay start (claim_of pass.new.view) N.limit full.new (before ++ take result.count bytes.now) result.bad }
+        HasHeard stands_for decoder.old plan delay start (claim_of pass.old.view) N.limit full.old before None →
+        HasHeard stands_for decoder.new plan delay start (claim_of pass.new.view) N.limit full.new (before ++ take result.count bytes.now) result.bad }
 {
     let Step { count, found } = decoder.take(bytes);
     match found {
@@ -86,14 +86,14 @@ fn hear_piece<N: HubName, R: Wait, G: Gate>(
     piece: &[u8],
     full: &mut bool,
 ) -> Option<u64>
-    requires ready { IsReady (λ b. least_start b) decoder.old }
+    requires ready { IsReady least_start decoder.old }
     requires pass { IsOfFeed N.table (length N.settings.sources) (feed_of decoder.old) pass.old }
-    ensures ready { IsReady (λ b. least_start b) decoder.new }
+    ensures ready { IsReady least_start decoder.new }
     ensures feed { feed_of decoder.new ≡ feed_of decoder.old }
     ensures pass { IsOfFeed N.table (length N.settings.sources) (feed_of decoder.old) pass.new }
     ensures heard { (plan : Plan) (delay : ℕ) (start : Claim) (bytes : List ℕ) →
-        HasHeard (λ b h. stands_for b h) decoder.old plan delay start (claim_of pass.old.view) N.limit full.old bytes None →
-        HearsPiece (λ b h. stands_for b h) decoder.new plan delay start (claim_of pass.new.view) N.limit full.new (bytes ++ piece.now) result }
+        HasHeard stands_for decoder.old plan delay start (claim_of pass.old.view) N.limit full.old bytes None →
+        HearsPiece stands_for decoder.new plan delay start (claim_of pass.new.view) N.limit full.new (bytes ++ piece.now) result }
 {
     let mut rest = piece;
     'rest: while !rest.is_empty() {
@@ -108,7 +108,7 @@ fn hear_piece<N: HubName, R: Wait, G: Gate>(
 
 // How a log ends that was read to its end.
 fn at_end(decoder: &LogDecoder<BoxedReceiver>) -> LogEnd
-    ensures { (feed : ℕ) (plan : Plan) (delay : ℕ) (bytes : List ℕ) → HasDecoded (λ b h. stands_for b h) decoder.now feed plan delay bytes → EndsAt result (bad_at_end bytes) }
+    ensures { (feed : ℕ) (plan : Plan) (delay : ℕ) (bytes : List ℕ) → HasDecoded stands_for decoder.now feed plan delay bytes → EndsAt result (bad_at_end bytes) }
 {
     match decoder.finish() {
         Ok(()) => LogEnd::Whole,
@@ -126,13 +126,13 @@ pub fn read_log<L: Source, N: HubName, R: Wait, G: Gate>(
     pass: &mut FeedPass,
     limit: usize,
 ) -> LogWork
-    requires ready { IsReady (λ b. least_start b) decoder.old }
+    requires ready { IsReady least_start decoder.old }
     requires pass { IsOfFeed N.table (length N.settings.sources) (feed_of decoder.old) pass.old }
     ensures log { L.opening log.new ≡ L.opening log.old }
-    ensures ready { IsReady (λ b. least_start b) decoder.new }
+    ensures ready { IsReady least_start decoder.new }
     ensures feed { feed_of decoder.new ≡ feed_of decoder.old }
     ensures pass { IsOfFeed N.table (length N.settings.sources) (feed_of decoder.old) pass.new }
-    ensures runs { (plan : Plan) (delay : ℕ) → HasDecoded (λ b h. stands_for b h) decoder.old (claim_of pass.old.view).number plan delay [] →
+    ensures runs { (plan : Plan) (delay : ℕ) → HasDecoded stands_for decoder.old (claim_of pass.old.view).number plan delay [] →
         RunsLog plan delay limit (L.state log.old) (L.state log.new) (claim_of pass.old.view) (claim_of pass.new.view) N.limit result }
 {
     let mut full = false;
@@ -174,13 +174,13 @@ pub fn read_log<L: Source, N: HubName, R: Wait, G: Gate>(
 
 impl<L: Source + Drop> WorkerOf<L, BoxedReceiver> {
     /// A worker over a log, with a receiver that has heard nothing and the pass of its feed.
-    pub fn new(receiver: BoxedReceiver, log: L, pass: FeedPass) -> WorkerOf<L, BoxedReceiver>
+    pub fn new(receiver: BoxedReceiver, log: L, pass: FeedPass) -> RadioWorker<L>
         requires { least_start receiver ≡ 0 }
         ensures is { (result.log ≡ log) × (result.pass ≡ pass) }
-        ensures ready { IsReady (λ b. least_start b) result.decoder }
+        ensures ready { IsReady least_start result.decoder }
         ensures feed { feed_of result.decoder ≡ (claim_of pass.view).number }
         ensures start { (plan : Plan) (delay : ℕ) → stands_for receiver (record { plan = plan; delay = delay; reductions = [] }) →
-            HasDecoded (λ b h. stands_for b h) result.decoder (claim_of pass.view).number plan delay [] }
+            HasDecoded stands_for result.decoder (claim_of pass.view).number plan delay [] }
     {
         let decoder = LogDecoder::new(pass.number(), receiver);
         WorkerOf { decoder, log, pass }
@@ -189,11 +189,11 @@ impl<L: Source + Drop> WorkerOf<L, BoxedReceiver> {
     /// Reads the log to its end, to its first bad line, to its first fault or to 2^30 bytes, and keeps each entry that is due where there
     /// is room. A worker that has decoded nothing yet keeps the entries of all that it reads.
     pub fn run<N: HubName, R: Wait, G: Gate>(&mut self, rt: &R, hub: &Hub<N>, gate: &G) -> LogWork
-        requires ready { IsReady (λ b. least_start b) self.old.decoder }
+        requires ready { IsReady least_start self.old.decoder }
         requires pass { IsOfFeed N.table (length N.settings.sources) (feed_of self.old.decoder) self.old.pass }
         ensures log { L.opening self.new.log ≡ L.opening self.old.log }
         ensures pass { IsOfFeed N.table (length N.settings.sources) (feed_of self.old.decoder) self.new.pass }
-        ensures runs { (plan : Plan) (delay : ℕ) → HasDecoded (λ b h. stands_for b h) self.old.decoder (claim_of self.old.pass.view).number plan delay [] →
+        ensures runs { (plan : Plan) (delay : ℕ) → HasDecoded stands_for self.old.decoder (claim_of self.old.pass.view).number plan delay [] →
             RunsLog plan delay most_of_a_log (L.state self.old.log) (L.state self.new.log) (claim_of self.old.pass.view) (claim_of self.new.pass.view) N.limit result }
     {
         let WorkerOf { decoder, log, pass } = self;

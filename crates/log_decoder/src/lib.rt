@@ -2,6 +2,5 @@
 #![tactic(auto)]
 
 mod decoder;
-mod direct;
 
 pub use decoder::{LogDecoder, Step};

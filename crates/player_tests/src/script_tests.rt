@@ -50,7 +50,7 @@ fn play_with(
     limit: u32,
     script: &str,
 ) -> Result<Played, Fail>
-    requires rack { IsRack (λ b h. stands_for b h) rack.items }
+    requires rack { IsRack stands_for rack.items }
     requires limit { limit ≤ 2 ^ 22 }
 {
     let Ok(station) = read_station(alloc, station.as_bytes()) else {
@@ -71,7 +71,7 @@ fn play_lines(
     player: &mut Player<BoxedReceiver>,
     script: &str,
 ) -> Result<Vec<u8>, Fail>
-    requires { IsReady (λ b. least_start b) player.old }
+    requires { IsReady least_start player.old }
 {
     let mut text = Vec::new(alloc);
     let mut number = 0u32;

@@ -1,23 +1,2 @@
--- Lemmas that several proofs of this crate use.
-pub mod CauseLaws
-pub mod CountLaws
-pub mod CountingLaws
-pub mod DecodingLaws
-pub mod DrillLaws
-pub mod EachLaws
-pub mod GoodLogLaws
-pub mod GoodStationLaws
-pub mod JournalTextLaws
-pub mod LineFileLaws
-pub mod LineTakingLaws
-pub mod MovingLaws
-pub mod OpeningLaws
-pub mod PlayingLaws
-pub mod ReachLaws
+-- Lemmas that several proofs of this crate, or of those above it, use.
 pub mod RunLaws
-pub mod RunOfLaws
-pub mod ScriptLaws
-pub mod ServingLaws
-pub mod StationFileLaws
-pub mod TakingLaws
-pub mod WritingLaws

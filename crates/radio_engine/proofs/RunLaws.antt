@@ -6,19 +6,20 @@ use Rattle.command_words.specs.Commands.Asked.{decode, drill, migrate, replay, s
 use Rattle.feed_link.specs.Faults.{Rose}
 use Rattle.feed_link.specs.Told.{SinkState}
 use Rattle.feed_link.specs.Openings.{Opening, OutsideState, log_visit, visited}
-use Rattle.radio_engine.specs.Run.{Lacks, Runs, IsComplete, IsFaultless, IsRun}
-use Rattle.radio_engine.specs.Writing.{Answers}
-use Rattle.radio_engine.specs.declared.ending.status.Status.{Status}
-use Rattle.radio_engine.specs.declared.ending.status.Status.TheVariants.{Done, Memory}
-use Rattle.radio_engine.proofs.GoodLogLaws.{log_done, rose_by_one}
-use Rattle.radio_engine.proofs.GoodStationLaws.{station_done}
-use Rattle.radio_engine.proofs.LineFileLaws.{IsReadable, against_done, one_way}
-use Rattle.radio_engine.proofs.ScriptLaws.{script_readable}
-use Rattle.radio_engine.proofs.MovingLaws.{one_line, short_line}
-use Rattle.radio_engine.specs.Migrating.{journal_of}
-use Rattle.radio_engine.specs.Replaying.{script_of}
+use Rattle.file_commands.specs.Unopened.{Lacks}
+use Rattle.radio_engine.specs.Run.{Runs, IsComplete, IsFaultless, IsRun}
+use Rattle.file_commands.specs.Writing.{Answers}
+use Rattle.file_commands.specs.declared.ending.status.Status.{Status}
+use Rattle.file_commands.specs.declared.ending.status.Status.TheVariants.{Done, Memory}
+use Rattle.file_commands.proofs.GoodLogLaws.{log_done, rose_by_one}
+use Rattle.station_report.proofs.GoodStationLaws.{station_done}
+use Rattle.file_commands.proofs.LineFileLaws.{IsReadable, against_done, one_way}
+use Rattle.file_commands.proofs.ScriptLaws.{script_readable}
+use Rattle.file_commands.proofs.MovingLaws.{one_line, short_line}
+use Rattle.file_commands.specs.Migrating.{journal_of}
+use Rattle.file_commands.specs.Replaying.{script_of}
 use Rattle.station_config.specs.Station.{settings_of}
-use Rattle.radio_engine.specs.declared.ending.subject.Subject.TheVariants.{Journal, Script}
+use Rattle.file_commands.specs.declared.ending.subject.Subject.TheVariants.{Journal, Script}
 use Rattle.station_config.specs.Station.{StationFields}
 
 -- where no write failed, the status is the one that was due

@@ -1,29 +1,8 @@
--- What a reader has to believe, in this order: Run (what the program does), Headline (what a station that was served has done, in six
--- records), Endings (statuses and status lines), Writing (what is written, and what a failed write leaves), Reading (why a reading ended),
--- Opening, Text, Decoding, StationFile, LineFiles (what it is to run through a file of lines), Script, Replaying, Migrating, Serving (what
--- is opened to serve a station, what keeps it from being served, and when nothing has a fault), Drilling (what a drill does). The other
--- files are scaffolding of private functions.
+-- What a reader has to believe: Run (what the program does). It stands on station_report (Headline, Serving, Drilling) and on file_commands
+-- (how a command ends, and the commands that run through files). Ended is scaffolding of private functions.
 pub mod Run
-pub mod Endings
-pub mod Writing
-pub mod Reading
-pub mod Opening
-pub mod Text
-pub mod Decoding
-pub mod StationFile
-pub mod LineFiles
-pub mod Script
-pub mod Replaying
-pub mod Migrating
-pub mod Headline
-pub mod Serving
-pub mod Drilling
-pub mod Crewing
-pub mod DrillScaffold
-pub mod Keeping
-pub mod Taking
-pub mod LogTaking
-pub mod LineTaking
-pub mod Playing
-pub mod Moving
-pub mod JournalTaking
+pub mod Ended
+pub use Rattle.file_commands.specs.Endings
+pub use Rattle.file_commands.specs.Writing
+pub use Rattle.file_commands.specs.Unopened
+pub use Rattle.station_report.specs.Headline

@@ -5,30 +5,14 @@ use Rattle.command_words.specs.Commands.Asked.{decode, drill, migrate, replay, s
 use Rattle.feed_link.specs.Faults.{Rose}
 use Rattle.feed_link.specs.Told.{SinkState}
 use Rattle.feed_link.specs.Openings.{OutsideState}
-use Rattle.radio_engine.specs.Decoding.{RunsDecode, HasGoodLog}
-use Rattle.radio_engine.specs.Drilling.{Drills}
-use Rattle.radio_engine.specs.Endings.{status_of, status_line}
-use Rattle.radio_engine.specs.Migrating.{RunsMigrate, HasGoodJournal}
-use Rattle.radio_engine.specs.Replaying.{RunsReplay, HasGoodScript}
-use Rattle.radio_engine.specs.Serving.{RunsServe, HasGoodStation}
-use Rattle.radio_engine.specs.Writing.{Answers}
-use Rattle.radio_engine.specs.declared.ending.Ending.{Ending}
-use Rattle.radio_engine.specs.declared.ending.Ending.TheVariants.{WrongWords, NoMemory}
-use Rattle.radio_engine.specs.declared.ending.status.Status.{Status}
-use Rattle.radio_engine.specs.declared.ending.status.Status.TheVariants.{Done, Memory}
-
--- nothing is opened, and the status line alone is written
-pub record EndsUnopened (ending : Ending) (outside outside_now : OutsideState) (out out_now : SinkState) (result : Status) : Type 0 where
-  pub unchanged : outside_now ≡ outside
-  pub written : Answers (status_of ending) result out out_now (status_line ending)
-
--- words that ask for nothing
-abbrev pub Refuses : OutsideState → OutsideState → SinkState → SinkState → Status → Type 0
-Refuses = EndsUnopened WrongWords
-
--- no memory was found, before anything was opened
-abbrev pub Lacks : OutsideState → OutsideState → SinkState → SinkState → Status → Type 0
-Lacks = EndsUnopened NoMemory
+use Rattle.file_commands.specs.Decoding.{RunsDecode, HasGoodLog}
+use Rattle.station_report.specs.Drilling.{Drills}
+use Rattle.file_commands.specs.Migrating.{RunsMigrate, HasGoodJournal}
+use Rattle.file_commands.specs.Replaying.{RunsReplay, HasGoodScript}
+use Rattle.station_report.specs.Serving.{RunsServe, HasGoodStation}
+use Rattle.file_commands.specs.Unopened.{Refuses, Lacks}
+use Rattle.file_commands.specs.declared.ending.status.Status.{Status}
+use Rattle.file_commands.specs.declared.ending.status.Status.TheVariants.{Done, Memory}
 
 -- what becomes of a command, once its memory is found
 abbrev pub Runs : Asked → OutsideState → OutsideState → SinkState → SinkState → Status → Type 0

@@ -1,29 +1,25 @@
 //! `drill`: a day of three radios is made up in memory and served, and what became of it is told.
 ghost use Rattle.std.specs.Prelude.{◌≡◌, ◌<◌, ◌≤◌, ◌⊎◌, IfOk, false};
-ghost use Rattle.radio_engine.specs.DrillScaffold.{HasDayGear, HasDrilled};
-ghost use Rattle.radio_engine.specs.Drilling.{Drills};
-ghost use Rattle.radio_engine.specs.Run.{Lacks};
+ghost use Rattle.station_report.specs.DrillScaffold.{HasDayGear, HasDrilled};
+ghost use Rattle.station_report.specs.Drilling.{Drills};
+ghost use Rattle.file_commands.specs.Unopened.{Lacks};
 ghost use Rattle.receiver_rack.specs.Racks.{IsRack};
 ghost use Rattle.station_config.specs.Station.{one_of_each};
-ghost use Rattle.station_crew.specs.Served.{AreBlank};
+ghost use Rattle.crew_work.specs.Served.{AreBlank};
 
-mod text;
-
-use crate::ending::Ending;
-use crate::ending::status::Status;
-use crate::ending::writing::finish;
-use crate::serve::{Done, Kit, Orders, serve_gated};
+use crate::serve::{Kit, serve_gated};
 use drill_day::make_logs;
 use feed_link::{Outside, Sink, SureSource};
+use file_commands::{Ending, Status, finish};
 use radio_receiver::{BoxedReceiver, Receiver};
 use receiver_rack::fit_radios;
 use station_config::Station;
 use station_crew::{Budget, Ended};
 use station_gear::Gear;
+use station_report::{Done, Orders, finish_drilled};
 use std::alloc::{AllocError, Global};
 use std::sync::Wait;
 use std::thread::Threads;
-use text::finish_drilled;
 
 // No link is served.
 const NO_HEARING: Budget = Budget {
@@ -50,8 +46,8 @@ fn day_kit<T: Drop>(
     seed: u32,
     rack: Vec<BoxedReceiver>,
 ) -> Result<Kit<SureSource, T>, AllocError>
-    requires { IsRack (λ b h. stands_for b h) rack.items }
-    ensures receivers { IfOk result (λ kit. AreBlank (λ b h. stands_for b h) (λ b. least_start b) station.now.radios kit.receivers.items) }
+    requires { IsRack stands_for rack.items }
+    ensures receivers { IfOk result (λ kit. AreBlank stands_for least_start station.now.radios kit.receivers.items) }
     ensures gear { IfOk result (λ kit. HasDayGear seed kit.gear) }
 {
     Ok(Kit {
@@ -72,7 +68,7 @@ fn serve_day<R: Threads + Wait + Sync, O: Outside>(
 ) -> Result<Done, AllocError>
     requires limit { (0 < orders.limit) × (orders.limit ≤ 4194304) }
     requires station { station.now ≡ one_of_each }
-    requires blank { AreBlank (λ b h. stands_for b h) (λ b. least_start b) station.now.radios kit.receivers.items }
+    requires blank { AreBlank stands_for least_start station.now.radios kit.receivers.items }
     requires gear { HasDayGear seed kit.gear }
     requires gate { O.gate_out outside.old ≡ false }
     ensures same { O.state outside.new ≡ O.state outside.old }
@@ -113,7 +109,7 @@ fn drill<R: Threads + Wait + Sync, O: Outside>(
 ) -> Result<Done, AllocError>
     requires limit { (0 < limit) × (limit ≤ 4194304) }
     requires station { station.now ≡ one_of_each }
-    requires rack { IsRack (λ b h. stands_for b h) rack.items }
+    requires rack { IsRack stands_for rack.items }
     requires gate { O.gate_out outside.old ≡ false }
     ensures same { O.state outside.new ≡ O.state outside.old }
     ensures gate { O.gate_out outside.new ≡ O.gate_out outside.old }
@@ -138,7 +134,7 @@ pub fn run_drill<R: Threads + Wait + Sync, O: Outside, K: Sink>(
     out: &mut K,
 ) -> Status
     requires limit { (0 < limit) × (limit ≤ 4194304) }
-    requires rack { IsRack (λ b h. stands_for b h) rack.items }
+    requires rack { IsRack stands_for rack.items }
     requires gate { O.gate_out outside.old ≡ false }
     ensures gate { O.gate_out outside.new ≡ O.gate_out outside.old }
     ensures runs { Lacks (O.state outside.old) (O.state outside.new) (K.state out.old) (K.state out.new) result

@@ -2,24 +2,21 @@
 ghost use Rattle.std.specs.Prelude.{◌≡◌, ◌⊎◌, false, map};
 ghost use Rattle.command_words.specs.Commands.{Asked, AskFor};
 ghost use Rattle.feed_link.specs.Faults.{Rose};
-ghost use Rattle.radio_engine.specs.Endings.{status_of, status_line};
-ghost use Rattle.radio_engine.specs.Run.{Refuses, Lacks, Runs, IsComplete, IsFaultless};
-ghost use Rattle.radio_engine.specs.Writing.{Answers};
-ghost use Rattle.radio_engine.specs.declared.ending.Ending.TheVariants.{NoMemory};
+ghost use Rattle.file_commands.specs.Endings.{status_of, status_line};
+ghost use Rattle.radio_engine.specs.Run.{Runs, IsComplete, IsFaultless};
+ghost use Rattle.file_commands.specs.Unopened.{Refuses, Lacks};
+ghost use Rattle.file_commands.specs.Writing.{Answers};
+ghost use Rattle.file_commands.specs.declared.ending.Ending.TheVariants.{NoMemory};
 ghost use Rattle.receiver_rack.specs.Racks.{IsRack};
 
-use crate::decode::open_and_decode;
 use crate::drill::run_drill;
-use crate::ending::Ending;
-use crate::ending::status::Status;
-use crate::ending::writing::finish;
-use crate::migrate::run_migrate;
-use crate::replay::run_replay;
-use crate::serve::{Orders, run_serve};
+use crate::serve::run_serve;
 use command_words::{Command, WordsFault, read_words};
 use feed_link::{Outside, Sink};
+use file_commands::{Ending, Status, finish, open_and_decode, run_migrate, run_replay};
 use radio_receiver::Receiver;
 use station_crew::Budget;
+use station_report::Orders;
 use std::alloc::Global;
 use std::sync::Wait;
 use std::thread::Threads;
@@ -49,7 +46,7 @@ pub fn run_station<R: Threads + Wait + Sync, O: Outside, K: Sink>(
     outside: &mut O,
     out: &mut K,
 ) -> Status
-    requires rack { IsRack (λ b h. stands_for b h) rack.items }
+    requires rack { IsRack stands_for rack.items }
     requires gate { O.gate_out outside.old ≡ false }
     ensures gate { O.gate_out outside.new ≡ O.gate_out outside.old }
 

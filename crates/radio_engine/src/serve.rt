@@ -1,66 +1,35 @@
 //! `serve`: a station is served, and then its journal is written, what became of its links, and the page of the journal.
 ghost use Rattle.std.specs.Prelude.{◌≡◌, ◌<◌, ◌≤◌, ◌⊎◌, [], All, IfOk, MatchResult, false, true, length, vec_len};
-ghost use Rattle.radio_engine.specs.Crewing.{EndsAll, GivesServed, GivesUnused, TriesServe, subject_of};
-ghost use Rattle.radio_engine.specs.Run.{Lacks};
+ghost use Rattle.radio_engine.specs.Ended.{EndsAll};
+ghost use Rattle.station_report.specs.Crewing.{GivesServed, GivesUnused, TriesServe, subject_of};
+ghost use Rattle.file_commands.specs.Unopened.{Lacks};
 ghost use Rattle.feed_link.specs.ManyOut.{AreOut};
-ghost use Rattle.radio_engine.specs.Serving.{RunsServe};
+ghost use Rattle.station_report.specs.Serving.{RunsServe};
 ghost use Rattle.receiver_rack.specs.Racks.{IsRack};
-ghost use Rattle.station_config.specs.Station.{IsStation, leap_feed};
-ghost use Rattle.station_crew.specs.Served.{AreBlank};
+ghost use Rattle.station_config.specs.Station.{IsStation};
+ghost use Rattle.crew_work.specs.Served.{AreBlank};
 ghost use Rattle.station_gear.specs.Gears.{IsEmptyFor, numbers_of};
 ghost use Rattle.station_gear.specs.Opens.{IsWhole};
 
-pub mod cause;
-pub mod text;
-
-use crate::ending::Ending;
-use crate::ending::status::Status;
-use crate::ending::subject::Subject;
-use crate::ending::writing::finish;
-use crate::station_file::obstacle::finish_at;
-use crate::station_file::{self, judge, open_station};
 use feed_link::{Link, Outside, Sink, Source};
-use feed_workers::{LogWork, PollWork};
+use file_commands::{
+    Ending, STATION_LIMIT, Status, Subject, finish, finish_at, judge, open_station,
+};
 use radio_receiver::{BoxedReceiver, Receiver};
 use receiver_rack::fit_radios;
 use station_config::Station;
-use station_crew::{Budget, Ended, LinkWork, serve_station};
+use station_crew::{Ended, serve_station};
 use station_gear::{Gear, Missing, give_back_gear, open_gear};
+use station_report::{Done, Orders, finish_served, leap_feed};
 use std::alloc::{AllocError, Global};
 use std::sync::Wait;
 use std::thread::Threads;
-use text::finish_served;
-use verdict_journal::Journal;
-
-// How a station is to be served: how many entries its journal may have, and how many hearings its links have in each phase.
-#[derive(Clone, Copy)]
-pub struct Orders {
-    pub limit: u32,
-    pub budget: Budget,
-}
-
-// What the workers of a station have left once its logs and links are given back.
-#[derive(Drop)]
-pub struct Done {
-    pub journal: Journal,
-    pub radios: Vec<LogWork>,
-    pub servers: Vec<PollWork>,
-    pub leap: Option<LogWork>,
-    pub links: Vec<LinkWork>,
-}
 
 // What a station is served with: the receivers of its radios, and its logs and links or room for them.
 #[derive(Drop)]
 pub struct Kit<L: Drop, T: Drop> {
     pub receivers: Vec<BoxedReceiver>,
     pub gear: Gear<L, T>,
-}
-
-// The number of the leap second file's feed, which stands behind the servers.
-pub(crate) fn leap_feed(station: &Station) -> u32
-    ensures { result ≡ leap_feed station.now }
-{
-    (station.radios() + station.servers()) as u32
 }
 
 // What stands for a missing log or link in the status line.
@@ -79,8 +48,8 @@ fn make_kit<L: Drop, T: Drop>(
     station: &Station,
     rack: Vec<BoxedReceiver>,
 ) -> Result<Kit<L, T>, AllocError>
-    requires { IsRack (λ b h. stands_for b h) rack.items }
-    ensures receivers { IfOk result (λ kit. AreBlank (λ b h. stands_for b h) (λ b. least_start b) station.now.radios kit.receivers.items) }
+    requires { IsRack stands_for rack.items }
+    ensures receivers { IfOk result (λ kit. AreBlank stands_for least_start station.now.radios kit.receivers.items) }
     ensures gear { IfOk result (λ kit. IsEmptyFor station.now kit.gear) }
 {
     Ok(Kit {
@@ -99,7 +68,7 @@ pub fn serve_gated<R: Threads + Wait + Sync, O: Outside, L: Source + Drop, T: Li
     outside: &mut O,
 ) -> Result<Ended<L, T>, Gear<L, T>>
     requires limit { (0 < orders.limit) × (orders.limit ≤ 4194304) }
-    requires blank { AreBlank (λ b h. stands_for b h) (λ b. least_start b) station.now.radios kit.receivers.items }
+    requires blank { AreBlank stands_for least_start station.now.radios kit.receivers.items }
     requires gear { IsWhole station.now kit.gear }
     requires gate { O.gate_out outside.old ≡ false }
     ensures same { O.state outside.new ≡ O.state outside.old }
@@ -134,7 +103,7 @@ fn serve_open<R: Threads + Wait + Sync, O: Outside>(
     outside: &mut O,
 ) -> Result<Done, Ending>
     requires limit { (0 < orders.limit) × (orders.limit ≤ 4194304) }
-    requires blank { AreBlank (λ b h. stands_for b h) (λ b. least_start b) station.now.radios kit.receivers.items }
+    requires blank { AreBlank stands_for least_start station.now.radios kit.receivers.items }
     requires gear { IsWhole station.now kit.gear }
     requires gate { O.gate_out outside.old ≡ false }
     requires out { AreOut (O.state outside.old).openings (numbers_of (λ log. O.Log.opening log) (λ net. O.Net.opening net) kit.gear) }
@@ -179,7 +148,7 @@ fn open_and_serve<R: Threads + Wait + Sync, O: Outside>(
     outside: &mut O,
 ) -> Result<Done, Ending>
     requires limit { (0 < orders.limit) × (orders.limit ≤ 4194304) }
-    requires blank { AreBlank (λ b h. stands_for b h) (λ b. least_start b) station.now.radios kit.receivers.items }
+    requires blank { AreBlank stands_for least_start station.now.radios kit.receivers.items }
     requires gear { IsEmptyFor station.now kit.gear }
     requires gate { O.gate_out outside.old ≡ false }
     ensures gate { O.gate_out outside.new ≡ O.gate_out outside.old }
@@ -205,7 +174,7 @@ fn serve<R: Threads + Wait + Sync, O: Outside>(
     outside: &mut O,
 ) -> Result<Done, Ending>
     requires limit { (0 < orders.limit) × (orders.limit ≤ 4194304) }
-    requires rack { IsRack (λ b h. stands_for b h) rack.items }
+    requires rack { IsRack stands_for rack.items }
     requires gate { O.gate_out outside.old ≡ false }
     ensures gate { O.gate_out outside.new ≡ O.gate_out outside.old }
     ensures tried { TriesServe station.now orders (O.state outside.old) (O.state outside.new) result }
@@ -227,13 +196,13 @@ pub fn run_serve<R: Threads + Wait + Sync, O: Outside, K: Sink>(
     out: &mut K,
 ) -> Status
     requires limit { (0 < orders.limit) × (orders.limit ≤ 4194304) }
-    requires rack { IsRack (λ b h. stands_for b h) rack.items }
+    requires rack { IsRack stands_for rack.items }
     requires gate { O.gate_out outside.old ≡ false }
     ensures gate { O.gate_out outside.new ≡ O.gate_out outside.old }
     ensures runs { Lacks (O.state outside.old) (O.state outside.new) (K.state out.old) (K.state out.new) result
         ⊎ RunsServe name.now orders.budget.during orders.budget.after orders.limit (O.state outside.old) (O.state outside.new) (K.state out.old) (K.state out.new) result }
 {
-    let Ok(mut text) = Vec::with_capacity(alloc, station_file::LIMIT) else {
+    let Ok(mut text) = Vec::with_capacity(alloc, STATION_LIMIT) else {
         return finish(Ending::NoMemory, out);
     };
     let Ok(end) = open_station(name, &mut text, outside) else {

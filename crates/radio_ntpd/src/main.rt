@@ -7,11 +7,11 @@ ghost use Rattle.std.specs.IoError.{error_kind};
 ghost use Rattle.std.specs.Process.{exit_status};
 ghost use Rattle.std.specs.String.{string_bytes};
 ghost use Rattle.std.specs.Vec.Iter.{into_iter_items};
-ghost use Rattle.radio_engine.specs.Endings.{number_of, status_of, status_line};
+ghost use Rattle.file_commands.specs.Endings.{number_of, status_of, status_line};
 ghost use Rattle.radio_engine.specs.Run.{IsRun};
-ghost use Rattle.radio_engine.specs.Writing.{Answers};
-ghost use Rattle.radio_engine.specs.declared.ending.Ending.TheVariants.{NoMemory};
-ghost use Rattle.radio_engine.specs.declared.ending.status.Status.{Status};
+ghost use Rattle.file_commands.specs.Writing.{Answers};
+ghost use Rattle.file_commands.specs.declared.ending.Ending.TheVariants.{NoMemory};
+ghost use Rattle.file_commands.specs.declared.ending.status.Status.{Status};
 
 mod report;
 
@@ -180,6 +180,9 @@ fn run_words<R: Threads + Wait + Sync, O: Outside, K: Sink>(
     }
 }
 
+// The receivers of each plan.
+const OF_A_PLAN: usize = 4;
+
 // Runs the words with four receivers of each plan, where there is memory for them.
 fn run<R: Threads + Wait + Sync, O: Outside, K: Sink>(
     rt: &R,
@@ -195,17 +198,10 @@ fn run<R: Threads + Wait + Sync, O: Outside, K: Sink>(
 {
     let texts = texts_of(alloc, words)?;
     let mut rack: Vec<Box<dyn Receiver + Send>> = Vec::new(alloc);
-    put_in_rack(&mut rack, Box::new(alloc, DcfReceiver::new())?, Plan::Dcf)?;
-    put_in_rack(&mut rack, Box::new(alloc, MsfReceiver::new())?, Plan::Msf)?;
-    put_in_rack(&mut rack, Box::new(alloc, WwvbReceiver::new())?, Plan::Wwvb)?;
-    put_in_rack(&mut rack, Box::new(alloc, DcfReceiver::new())?, Plan::Dcf)?;
-    put_in_rack(&mut rack, Box::new(alloc, MsfReceiver::new())?, Plan::Msf)?;
-    put_in_rack(&mut rack, Box::new(alloc, WwvbReceiver::new())?, Plan::Wwvb)?;
-    put_in_rack(&mut rack, Box::new(alloc, DcfReceiver::new())?, Plan::Dcf)?;
-    put_in_rack(&mut rack, Box::new(alloc, MsfReceiver::new())?, Plan::Msf)?;
-    put_in_rack(&mut rack, Box::new(alloc, WwvbReceiver::new())?, Plan::Wwvb)?;
-    put_in_rack(&mut rack, Box::new(alloc, DcfReceiver::new())?, Plan::Dcf)?;
-    put_in_rack(&mut rack, Box::new(alloc, MsfReceiver::new())?, Plan::Msf)?;
-    put_in_rack(&mut rack, Box::new(alloc, WwvbReceiver::new())?, Plan::Wwvb)?;
+    for _ in 0..OF_A_PLAN {
+        put_in_rack(&mut rack, Box::new(alloc, DcfReceiver::new())?, Plan::Dcf)?;
+        put_in_rack(&mut rack, Box::new(alloc, MsfReceiver::new())?, Plan::Msf)?;
+        put_in_rack(&mut rack, Box::new(alloc, WwvbReceiver::new())?, Plan::Wwvb)?;
+    }
     Ok(run_station(rt, alloc, texts.as_slice(), rack, outside, out))
 }

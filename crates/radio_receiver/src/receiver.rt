@@ -44,5 +44,27 @@ pub trait Receiver: Drop {
         ensures least { result ≡ (least_start self.now == 0) };
 }
 
-/// A receiver of any plan, which can be sent to another thread.
+/// A receiver of any plan, which can be sent to another thread. It is a receiver itself, which stands for what the one inside stands for.
 pub type BoxedReceiver = Box<dyn Receiver + Send>;
+
+impl Receiver for BoxedReceiver {
+    ghost stands_for = { λ boxed h. (Receiver-box boxed).stands_for boxed.value h };
+
+    ghost least_start = { λ boxed. (Receiver-box boxed).least_start boxed.value };
+
+    fn plan(&self) -> Plan {
+        (**self).plan()
+    }
+
+    fn fit(&mut self, delay_us: u32) {
+        (**self).fit(delay_us);
+    }
+
+    fn hear(&mut self, reduction: Reduction) -> Option<Heard> {
+        (**self).hear(reduction)
+    }
+
+    fn blank(&self) -> bool {
+        (**self).blank()
+    }
+}

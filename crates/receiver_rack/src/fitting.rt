@@ -39,8 +39,8 @@ fn add(
     ensures length { vec_len receivers.new ≡ vec_len receivers.old + 1 }
     ensures room { vec_capacity receivers.new ≡ vec_capacity receivers.old }
     ensures added { (radios : List RadioFields) (fields : RadioFields) → fields.plan ≡ plan → fields.delay ≡ delay_us →
-        HasFitted (λ b h. stands_for b h) receivers.old.items spares.old.items radios →
-        HasFitted (λ b h. stands_for b h) receivers.new.items spares.new.items (radios ++ fields ∷ []) }
+        HasFitted stands_for receivers.old.items spares.old.items radios →
+        HasFitted stands_for receivers.new.items spares.new.items (radios ++ fields ∷ []) }
 {
     let receiver = take_of(spares, plan).unwrap();
     receivers.push_reserved(fit(receiver, delay_us));
@@ -56,9 +56,9 @@ pub fn fit_radios(
     station: &Station,
     rack: Vec<BoxedReceiver>,
 ) -> Result<Vec<BoxedReceiver>, AllocError>
-    requires { IsRack (λ b h. stands_for b h) rack.items }
+    requires { IsRack stands_for rack.items }
     ensures blank { IfOk result (λ receivers. All (λ b. least_start b ≡ 0) receivers.items) }
-    ensures fitted { IfOk result (λ receivers. AreOf (λ b h. stands_for b h) receivers.items (map silent station.now.radios)) }
+    ensures fitted { IfOk result (λ receivers. AreOf stands_for receivers.items (map silent station.now.radios)) }
 {
     let mut spares = four_of_each(alloc, rack)?;
     let count = station.radios();

@@ -65,10 +65,10 @@ impl Player<BoxedReceiver> {
         rack: Vec<BoxedReceiver>,
         limit: u32,
     ) -> Result<Player<BoxedReceiver>, AllocError>
-        requires rack { IsRack (λ b h. stands_for b h) rack.items }
+        requires rack { IsRack stands_for rack.items }
         requires limit { limit ≤ 2 ^ 22 }
-        ensures played { IfOk result (λ player. HasPlayed (λ b h. stands_for b h) player station.now limit []) }
-        ensures ready { IfOk result (λ player. IsReady (λ b. least_start b) player) }
+        ensures played { IfOk result (λ player. HasPlayed stands_for player station.now limit []) }
+        ensures ready { IfOk result (IsReady least_start) }
     {
         let radios = Radios::new(alloc, station, rack)?;
         let mut servers = Servers::new(alloc, station.radios() as u32);
@@ -98,10 +98,10 @@ impl Player<BoxedReceiver> {
     /// A line that may not stand there, which changes nothing.
     pub fn play(&mut self, line: &ScriptLine<'_>) -> Result<Outcome, NotLawful>
         requires line { IsLine line.now }
-        requires ready { IsReady (λ b. least_start b) self.old }
-        ensures ready { IsReady (λ b. least_start b) self.new }
-        ensures plays { (station : StationFields) (limit : ℕ) (before : List Played) → HasPlayed (λ b h. stands_for b h) self.old station limit before →
-            Plays (λ b h. stands_for b h) self.new station limit before line.now result }
+        requires ready { IsReady least_start self.old }
+        ensures ready { IsReady least_start self.new }
+        ensures plays { (station : StationFields) (limit : ℕ) (before : List Played) → HasPlayed stands_for self.old station limit before →
+            Plays stands_for self.new station limit before line.now result }
     {
         match line {
             ScriptLine::Pulse { feed, reduction } => self.hear(*feed, *reduction),
@@ -120,10 +120,10 @@ impl Player<BoxedReceiver> {
 
     // A pulse for a radio.
     fn hear(&mut self, feed: u32, reduction: Reduction) -> Result<Outcome, NotLawful>
-        requires { IsReady (λ b. least_start b) self.old }
-        ensures ready { IsReady (λ b. least_start b) self.new }
-        ensures plays { (station : StationFields) (limit : ℕ) (before : List Played) → HasPlayed (λ b h. stands_for b h) self.old station limit before →
-            Plays (λ b h. stands_for b h) self.new station limit before (lines.Pulse feed reduction) result }
+        requires { IsReady least_start self.old }
+        ensures ready { IsReady least_start self.new }
+        ensures plays { (station : StationFields) (limit : ℕ) (before : List Played) → HasPlayed stands_for self.old station limit before →
+            Plays stands_for self.new station limit before (lines.Pulse feed reduction) result }
     {
         match self.radios.hear(feed, reduction)? {
             Some(entry) => Ok(self.journal.take(&entry)),
@@ -133,10 +133,10 @@ impl Player<BoxedReceiver> {
 
     // A server is asked.
     fn ask(&mut self, feed: u32, at: Local) -> Result<Outcome, NotLawful>
-        requires { IsReady (λ b. least_start b) self.old }
-        ensures ready { IsReady (λ b. least_start b) self.new }
-        ensures plays { (station : StationFields) (limit : ℕ) (before : List Played) → HasPlayed (λ b h. stands_for b h) self.old station limit before →
-            Plays (λ b h. stands_for b h) self.new station limit before (lines.Ask feed at) result }
+        requires { IsReady least_start self.old }
+        ensures ready { IsReady least_start self.new }
+        ensures plays { (station : StationFields) (limit : ℕ) (before : List Played) → HasPlayed stands_for self.old station limit before →
+            Plays stands_for self.new station limit before (lines.Ask feed at) result }
     {
         let request = self.servers.ask(feed, at)?;
         Ok(Outcome::Asked(request))
@@ -149,10 +149,10 @@ impl Player<BoxedReceiver> {
         at: Local,
         datagram: &Datagram<'_>,
     ) -> Result<Outcome, NotLawful>
-        requires { IsReady (λ b. least_start b) self.old }
-        ensures ready { IsReady (λ b. least_start b) self.new }
-        ensures plays { (station : StationFields) (limit : ℕ) (before : List Played) → HasPlayed (λ b h. stands_for b h) self.old station limit before →
-            Plays (λ b h. stands_for b h) self.new station limit before (lines.Answer feed at datagram.now) result }
+        requires { IsReady least_start self.old }
+        ensures ready { IsReady least_start self.new }
+        ensures plays { (station : StationFields) (limit : ℕ) (before : List Played) → HasPlayed stands_for self.old station limit before →
+            Plays stands_for self.new station limit before (lines.Answer feed at datagram.now) result }
     {
         let mut room = [0; 1024];
         let length = datagram.write(&mut room);
@@ -162,10 +162,10 @@ impl Player<BoxedReceiver> {
 
     // A radio gets another receiver.
     fn swap(&mut self, feed: u32) -> Result<Outcome, NotLawful>
-        requires { IsReady (λ b. least_start b) self.old }
-        ensures ready { IsReady (λ b. least_start b) self.new }
-        ensures plays { (station : StationFields) (limit : ℕ) (before : List Played) → HasPlayed (λ b h. stands_for b h) self.old station limit before →
-            Plays (λ b h. stands_for b h) self.new station limit before (lines.Swap feed) result }
+        requires { IsReady least_start self.old }
+        ensures ready { IsReady least_start self.new }
+        ensures plays { (station : StationFields) (limit : ℕ) (before : List Played) → HasPlayed stands_for self.old station limit before →
+            Plays stands_for self.new station limit before (lines.Swap feed) result }
     {
         self.radios.swap(feed)?;
         Ok(Outcome::Nothing)
@@ -174,10 +174,10 @@ impl Player<BoxedReceiver> {
     // The leap second file tells of a leap second.
     fn tell(&mut self, feed: u32, at: Local, leap_at: u64) -> Result<Outcome, NotLawful>
         requires told { leap_at < end_of_told }
-        requires ready { IsReady (λ b. least_start b) self.old }
-        ensures ready { IsReady (λ b. least_start b) self.new }
-        ensures plays { (station : StationFields) (limit : ℕ) (before : List Played) → HasPlayed (λ b h. stands_for b h) self.old station limit before →
-            Plays (λ b h. stands_for b h) self.new station limit before (lines.Leap feed at leap_at) result }
+        requires ready { IsReady least_start self.old }
+        ensures ready { IsReady least_start self.new }
+        ensures plays { (station : StationFields) (limit : ℕ) (before : List Played) → HasPlayed stands_for self.old station limit before →
+            Plays stands_for self.new station limit before (lines.Leap feed at leap_at) result }
     {
         let entry = self.leap.tell(feed, at, leap_at)?;
         Ok(self.journal.take(&entry))
@@ -192,10 +192,10 @@ impl Player<BoxedReceiver> {
         datagram: &Datagram<'_>,
     ) -> Outcome
         requires moments { arrived ≤ sent }
-        requires ready { IsReady (λ b. least_start b) self.old }
-        ensures ready { IsReady (λ b. least_start b) self.new }
-        ensures given { (station : StationFields) (limit : ℕ) (before : List Played) → HasPlayed (λ b h. stands_for b h) self.old station limit before →
-            HasGiven (λ b h. stands_for b h) self.new station limit before (lines.Request connection arrived sent datagram.now) result }
+        requires ready { IsReady least_start self.old }
+        ensures ready { IsReady least_start self.new }
+        ensures given { (station : StationFields) (limit : ℕ) (before : List Played) → HasPlayed stands_for self.old station limit before →
+            HasGiven stands_for self.new station limit before (lines.Request connection arrived sent datagram.now) result }
     {
         let mut room = [0; 1024];
         let length = datagram.write(&mut room);
@@ -215,10 +215,10 @@ impl Player<BoxedReceiver> {
         sent: Local,
     ) -> Outcome
         requires moments { arrived ≤ sent }
-        requires ready { IsReady (λ b. least_start b) self.old }
-        ensures ready { IsReady (λ b. least_start b) self.new }
-        ensures given { (station : StationFields) (limit : ℕ) (before : List Played) → HasPlayed (λ b h. stands_for b h) self.old station limit before →
-            HasGiven (λ b h. stands_for b h) self.new station limit before (lines.Request connection arrived sent request.now.datagram.now) result }
+        requires ready { IsReady least_start self.old }
+        ensures ready { IsReady least_start self.new }
+        ensures given { (station : StationFields) (limit : ℕ) (before : List Played) → HasPlayed stands_for self.old station limit before →
+            HasGiven stands_for self.new station limit before (lines.Request connection arrived sent request.now.datagram.now) result }
     {
         let page = self.page();
         let judged = self.clients.judge(sender_of(connection), arrived);
@@ -230,7 +230,7 @@ impl Player<BoxedReceiver> {
 
     /// The page of the entries kept so far.
     pub fn page(&self) -> Page
-        ensures { (station : StationFields) (limit : ℕ) (before : List Played) → HasPlayed (λ b h. stands_for b h) self.now station limit before →
+        ensures { (station : StationFields) (limit : ℕ) (before : List Played) → HasPlayed stands_for self.now station limit before →
             result ≡ page_after station limit (lines_of before) }
     {
         self.journal.page()
@@ -238,7 +238,7 @@ impl Player<BoxedReceiver> {
 
     /// Whether an entry was due while as many were kept as may be.
     pub fn is_full(&self) -> bool
-        ensures { (station : StationFields) (limit : ℕ) (before : List Played) → HasPlayed (λ b h. stands_for b h) self.now station limit before →
+        ensures { (station : StationFields) (limit : ℕ) (before : List Played) → HasPlayed stands_for self.now station limit before →
             result ≡ replay.is_full station limit (lines_of before) }
     {
         self.journal.is_full()

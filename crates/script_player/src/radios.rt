@@ -47,9 +47,9 @@ impl Radios<BoxedReceiver> {
         station: &Station,
         rack: Vec<BoxedReceiver>,
     ) -> Result<Radios<BoxedReceiver>, AllocError>
-        requires { IsRack (λ b h. stands_for b h) rack.items }
-        ensures ready { IfOk result (λ radios. AreReady (λ b. least_start b) radios) }
-        ensures played { IfOk result (λ radios. HasRadios (λ b h. stands_for b h) radios station.now []) }
+        requires { IsRack stands_for rack.items }
+        ensures ready { IfOk result (λ radios. AreReady least_start radios) }
+        ensures played { IfOk result (λ radios. HasRadios stands_for radios station.now []) }
     {
         let count = station.radios();
         let mut radios = Radios {
@@ -65,12 +65,12 @@ impl Radios<BoxedReceiver> {
 
     // One radio more, with this plan and this delay.
     fn add(&mut self, plan: Plan, delay_us: u32) -> Result<(), AllocError>
-        requires ready { AreReady (λ b. least_start b) self.old }
+        requires ready { AreReady least_start self.old }
         requires left { 1 ≤ left_of plan self.old.left.items }
         requires delay { delay_us ≤ 100000 }
-        ensures ready { AreReady (λ b. least_start b) self.new }
-        ensures added { (station : StationFields) (fields : RadioFields) → fields.plan ≡ plan → fields.delay ≡ delay_us → HasRadios (λ b h. stands_for b h) self.old station [] →
-            OnOk result (HasRadios (λ b h. stands_for b h) self.new (with_radio station fields) []) }
+        ensures ready { AreReady least_start self.new }
+        ensures added { (station : StationFields) (fields : RadioFields) → fields.plan ≡ plan → fields.delay ≡ delay_us → HasRadios stands_for self.old station [] →
+            OnOk result (HasRadios stands_for self.new (with_radio station fields) []) }
     {
         let receiver = take_of(&mut self.left, plan).unwrap();
         self.fitted.push(Radio::new(receiver, plan, delay_us))?;
@@ -79,12 +79,12 @@ impl Radios<BoxedReceiver> {
 
     // A pulse for a radio: the entry that it is due.
     pub fn hear(&mut self, feed: u32, reduction: Reduction) -> Result<Option<Entry>, NotLawful>
-        requires { AreReady (λ b. least_start b) self.old }
-        ensures ready { AreReady (λ b. least_start b) self.new }
+        requires { AreReady least_start self.old }
+        ensures ready { AreReady least_start self.new }
         ensures count { vec_len self.new.fitted ≡ vec_len self.old.fitted }
-        ensures heard { (station : StationFields) (lines : List ScriptLine) → HasRadios (λ b h. stands_for b h) self.old station lines →
-            Gives (may_hear (radio_of station feed) feed reduction lines) (HasHeardPulse (λ b h. stands_for b h) self.new station lines feed reduction)
-            (HasRadios (λ b h. stands_for b h) self.new station lines) result }
+        ensures heard { (station : StationFields) (lines : List ScriptLine) → HasRadios stands_for self.old station lines →
+            Gives (may_hear (radio_of station feed) feed reduction lines) (HasHeardPulse stands_for self.new station lines feed reduction)
+            (HasRadios stands_for self.new station lines) result }
         ensures lawful { IfOk result (λ entry. IfSome entry (λ e. IsLawful (vec_len self.old.fitted) e)) }
     {
         let place = feed as usize;
@@ -100,12 +100,12 @@ impl Radios<BoxedReceiver> {
 
     // A radio's receiver is dropped, and the next of its plan is fitted in its place.
     pub fn swap(&mut self, feed: u32) -> Result<(), NotLawful>
-        requires { AreReady (λ b. least_start b) self.old }
-        ensures ready { AreReady (λ b. least_start b) self.new }
+        requires { AreReady least_start self.old }
+        ensures ready { AreReady least_start self.new }
         ensures count { vec_len self.new.fitted ≡ vec_len self.old.fitted }
-        ensures swapped { (station : StationFields) (lines : List ScriptLine) → HasRadios (λ b h. stands_for b h) self.old station lines →
-            Gives (may_swap station (radio_of station feed) lines) (λ _. HasRadios (λ b h. stands_for b h) self.new station (lines ++ Swap feed ∷ []))
-            (HasRadios (λ b h. stands_for b h) self.new station lines) result }
+        ensures swapped { (station : StationFields) (lines : List ScriptLine) → HasRadios stands_for self.old station lines →
+            Gives (may_swap station (radio_of station feed) lines) (λ _. HasRadios stands_for self.new station (lines ++ Swap feed ∷ []))
+            (HasRadios stands_for self.new station lines) result }
     {
         let place = feed as usize;
         if place >= self.fitted.len() {

@@ -20,15 +20,16 @@ use Rattle.page_cell.specs.Claims.{IsTrueOf, of_feed}
 use Rattle.page_cell.specs.Passes.{Known, claim_of}
 use Rattle.page_cell.specs.Views.{new_claim}
 use Rattle.page_cell.specs.declared.view.Claim.{Claim}
+use Rattle.radio_receiver.specs.Boxes.{Boxed}
 use Rattle.radio_receiver.specs.Histories.{History}
 use Rattle.station_config.specs.Station.{RadioFields, ServerFields}
-use Rattle.station_crew.proofs.ListLaws.{all_right, below_or, each_map, last_same, map_both, pairs_at, pairs_length, snoc_view, some_of}
+use Rattle.crew_work.proofs.ListLaws.{all_right, below_or, each_map, last_same, map_both, pairs_at, pairs_length, snoc_view, some_of}
 use Rattle.station_crew.proofs.PassLaws.{feeds_length, leap_at, poller_at, radio_at}
-use Rattle.station_crew.specs.Due.{HasDue}
+use Rattle.crew_work.specs.Due.{HasDue}
 use Rattle.station_crew.specs.Jobs.{IsManned, LeapRan, MayHear, MayNotice, MayPoll, PollRan, RadioRan}
 use Rattle.station_crew.specs.Leaving.{file_of, leap_pass, log_of, passes_of, poll_pass, radio_pass, server_link, server_of}
-use Rattle.station_crew.specs.Lists.{Both, Each, Pairs}
-use Rattle.station_crew.specs.Served.{AreBlank, AsksServer, HearsRadio, IsBlank, LeapServed, NoticesLeaps, RadiosServed, ServersServed}
+use Rattle.crew_work.specs.Lists.{Both, Each, Pairs}
+use Rattle.crew_work.specs.Served.{AreBlank, AsksServer, HearsRadio, IsBlank, LeapServed, NoticesLeaps, RadiosServed, ServersServed}
 use Rattle.station_crew.specs.declared.jobs.LeapJob.{LeapJob}
 use Rattle.station_crew.specs.declared.jobs.PollJob.{PollJob}
 use Rattle.station_crew.specs.declared.jobs.RadioJob.{RadioJob}
@@ -47,7 +48,7 @@ due_of start after limit f full due j number own k t le = record {
   lost = (λ e. ((k.lost e).0, let s = (k.lost e).1 in let p = prefix_length after.seen j t.seen in omega (arith, s, p, le)));
 }
 
-hears_radio : {L B : Type 0} (stands : B → History → Type 0) (state : L → SourceState) (opening : L → ℕ) (limit : ℕ) (radio : RadioFields) (a b : RadioJob L B) (j : List Entry) (f : ℕ)
+hears_radio : {L X : Type 0} {F : X → Type 0} (stands : Boxed X F → History → Type 0) (state : L → SourceState) (opening : L → ℕ) (limit : ℕ) (radio : RadioFields) (a b : RadioJob L X F) (j : List Entry) (f : ℕ)
     → claim_of a.worker.pass.view ≡ new_claim f → HasDecoded stands a.worker.decoder (claim_of a.worker.pass.view).number radio.plan radio.delay []
     → RadioRan stands state opening limit a b → IsTrueOf j (claim_of b.worker.pass.view) → length j ≤ limit → HearsRadio radio f limit j (state a.worker.log) (state b.worker.log) b.work
 hears_radio stands state opening limit radio a b j f is start r t le =
@@ -93,33 +94,33 @@ claim_at feeds k i d e lt =
     let ltk : i < k = omega (arith, n, lt, length-map feeds (λ (f : Known). claim_of f.view), length-map-range_with_len new_claim 0 k) in
     sym (get_or-map (λ (f : Known). claim_of f.view) feeds i d (claim_of d.view) lt) ∙ ap (λ l. get_or l i (claim_of d.view)) e ∙ get_or-map-range_with_len new_claim 0 k i i (claim_of d.view) ltk (omega arith)
 
-module _ {L B T : Type 0} where
-  radio_claim : (radios : List (RadioJob L B)) (pollers : List (PollJob T)) (leap : Option (LeapJob L)) (k i : ℕ) (d : RadioJob L B) → map (λ f. claim_of f.view) (passes_of radios pollers leap) ≡ map new_claim (range_with_len 0 k) → i < length radios
+module _ {L T X : Type 0} {F : X → Type 0} where
+  radio_claim : (radios : List (RadioJob L X F)) (pollers : List (PollJob T)) (leap : Option (LeapJob L)) (k i : ℕ) (d : RadioJob L X F) → map (λ f. claim_of f.view) (passes_of radios pollers leap) ≡ map new_claim (range_with_len 0 k) → i < length radios
       → claim_of (get_or radios i d).worker.pass.view ≡ new_claim i
   radio_claim radios pollers leap k i d e lt = ap (λ (f : Known). claim_of f.view) (sym (radio_at radios pollers leap i d lt)) ∙ claim_at (passes_of radios pollers leap) k i (radio_pass d) e (omega (arith, lt, feeds_length radios pollers leap))
 
-  poller_claim : (radios : List (RadioJob L B)) (pollers : List (PollJob T)) (leap : Option (LeapJob L)) (k i : ℕ) (d : PollJob T) → map (λ f. claim_of f.view) (passes_of radios pollers leap) ≡ map new_claim (range_with_len 0 k) → i < length pollers
+  poller_claim : (radios : List (RadioJob L X F)) (pollers : List (PollJob T)) (leap : Option (LeapJob L)) (k i : ℕ) (d : PollJob T) → map (λ f. claim_of f.view) (passes_of radios pollers leap) ≡ map new_claim (range_with_len 0 k) → i < length pollers
       → claim_of (get_or pollers i d).worker.pass.view ≡ new_claim (length radios + i)
   poller_claim radios pollers leap k i d e lt = ap (λ (f : Known). claim_of f.view) (sym (poller_at radios pollers leap i d lt)) ∙ claim_at (passes_of radios pollers leap) k (length radios + i) (poll_pass d) e (omega (arith, lt, feeds_length radios pollers leap))
 
-  leap_claim : (radios : List (RadioJob L B)) (pollers : List (PollJob T)) (job : LeapJob L) (k : ℕ) → map (λ f. claim_of f.view) (passes_of radios pollers (Some job)) ≡ map new_claim (range_with_len 0 k)
+  leap_claim : (radios : List (RadioJob L X F)) (pollers : List (PollJob T)) (job : LeapJob L) (k : ℕ) → map (λ f. claim_of f.view) (passes_of radios pollers (Some job)) ≡ map new_claim (range_with_len 0 k)
       → claim_of job.worker.pass.view ≡ new_claim (length radios + length pollers)
   leap_claim radios pollers job k e = ap (λ (f : Known). claim_of f.view) (sym (leap_at radios pollers job (leap_pass job))) ∙ claim_at (passes_of radios pollers (Some job)) k (length radios + length pollers) (leap_pass job) e (omega (arith, feeds_length radios pollers (Some job)))
 
-  module _ (stands : B → History → Type 0) (least : B → ℕ) (log_state : L → SourceState) (log_opening : L → ℕ) (state : T → LinkState) (opening : T → ℕ) (limit k : ℕ) (j : List Entry)
-      (cs bs : List (RadioJob L B)) (ps qs : List (PollJob T)) (l m : Option (LeapJob L)) (claims : map (λ f. claim_of f.view) (passes_of cs ps l) ≡ map new_claim (range_with_len 0 k))
+  module _ {stands : Boxed X F → History → Type 0} (log_state : L → SourceState) (log_opening : L → ℕ) (state : T → LinkState) (opening : T → ℕ) (limit k : ℕ) (j : List Entry)
+      (cs bs : List (RadioJob L X F)) (ps qs : List (PollJob T)) (l m : Option (LeapJob L)) (claims : map (λ f. claim_of f.view) (passes_of cs ps l) ≡ map new_claim (range_with_len 0 k))
       (ran : Each (RadioRan stands log_state log_opening limit) cs bs) (same : length bs ≡ length cs) (polled : Each (PollRan state opening limit) ps qs) (same' : length qs ≡ length ps)
       (noticed : Both (LeapRan log_state log_opening limit) l m) (all : All (λ f. IsTrueOf j (claim_of f.view)) (passes_of bs qs m)) where
-    true_radio : (i : ℕ) (d : RadioJob L B) → i < length bs → IsTrueOf j (claim_of (get_or bs i d).worker.pass.view)
+    true_radio : (i : ℕ) (d : RadioJob L X F) → i < length bs → IsTrueOf j (claim_of (get_or bs i d).worker.pass.view)
     true_radio i d lt = subst (λ (f : Known). IsTrueOf j (claim_of f.view)) (radio_at bs qs m i d lt) (all i (radio_pass d) (omega (arith, lt, feeds_length bs qs m)))
 
     true_poller : (i : ℕ) (d : PollJob T) → i < length qs → IsTrueOf j (claim_of (get_or qs i d).worker.pass.view)
     true_poller i d lt = subst (λ (f : Known). IsTrueOf j (claim_of f.view)) (poller_at bs qs m i d lt) (all (length bs + i) (poll_pass d) (omega (arith, lt, feeds_length bs qs m)))
 
-    pub radios_served : (radios : List RadioFields) (receivers : List B) → AreBlank stands least radios receivers → Pairs (IsManned stands least) receivers cs → length j ≤ limit
+    pub radios_served : (least : Boxed X F → ℕ) (radios : List RadioFields) (receivers : List (Boxed X F)) → AreBlank stands least radios receivers → Pairs (IsManned stands least) receivers cs → length j ≤ limit
         → RadiosServed log_state log_opening radios limit j (map log_of cs) (map log_of bs) (map (λ x. x.work) bs)
-    radios_served radios receivers blank manned le = record {
-      openings = map_both log_opening log_of bs ∙ each_map (λ (x : RadioJob L B). log_opening x.worker.log) (RadioRan stands log_state log_opening limit) (λ a b r. r.log) cs bs ran same ∙ sym (map_both log_opening log_of cs);
+    radios_served least radios receivers blank manned le = record {
+      openings = map_both log_opening log_of bs ∙ each_map (λ (x : RadioJob L X F). log_opening x.worker.log) (RadioRan stands log_state log_opening limit) (λ a b r. r.log) cs bs ran same ∙ sym (map_both log_opening log_of cs);
       count = length-map bs (λ x. x.work) ∙ same ∙ sym (length-map cs log_of);
       at = (λ i radio a b work lt'.
           let lt : i < length cs = omega (arith, lt', length-map cs log_of) in
@@ -234,14 +235,14 @@ module _ {L B T : Type 0} where
             let kept = All-head (IsKept k) e [] (all_right (IsKept k) front (e ∷ []) (subst (All (IsKept k)) is lawful)) in
             placed front e is kept.lawful.feed (below_or e.feed (length bs))
 
-module _ {L B T : Type 0} (stands : B → History → Type 0) (least : B → ℕ) (table : TableId) (k : ℕ) (cs : List (RadioJob L B)) (ps : List (PollJob T)) (l : Option (LeapJob L))
+module _ {L T X : Type 0} {F : X → Type 0} (table : TableId) (k : ℕ) (cs : List (RadioJob L X F)) (ps : List (PollJob T)) (l : Option (LeapJob L))
     (claims : map (λ f. claim_of f.view) (passes_of cs ps l) ≡ map new_claim (range_with_len 0 k)) (tables : All (λ f. f.table ≡ table) (passes_of cs ps l)) where
   feed_count : length cs + length ps + length (option_to_list l) ≡ k
   feed_count = let e = ap length claims in omega (arith, e, feeds_length cs ps l, length-map (passes_of cs ps l) (λ (f : Known). claim_of f.view), length-map-range_with_len new_claim 0 k)
 
   -- a radio's worker that was manned may run
-  pub may_hear : (receivers : List B) → Pairs (IsManned stands least) receivers cs → All (MayHear least table k) cs
-  may_hear receivers manned = λ i d lt.
+  pub may_hear : (stands : Boxed X F → History → Type 0) (least : Boxed X F → ℕ) (receivers : List (Boxed X F)) → Pairs (IsManned stands least) receivers cs → All (MayHear least table k) cs
+  may_hear stands least receivers manned = λ i d lt.
       let e = some_of receivers i (omega (arith, lt, pairs_length (IsManned stands least) receivers cs manned)) in
       let h = pairs_at (IsManned stands least) receivers cs i e d manned (omega (arith, lt, pairs_length (IsManned stands least) receivers cs manned)) in
       let number = ap (λ (c : Claim). c.number) (radio_claim cs ps l k i d claims lt) in

@@ -22,14 +22,14 @@ use Rattle.responder.specs.Turns.{Turn, Reading, readings_of, IsRead, AreTurns, 
 use Rattle.responder.specs.declared.served.End.{End}
 use Rattle.responder.specs.declared.served.End.TheVariants.{Count, LinkEnd, LinkFault}
 use Rattle.responder.specs.declared.served.Served.{Served}
-use Rattle.station_crew.proofs.ListLaws.{all_right, each_map, map_both, some_of}
+use Rattle.crew_work.proofs.ListLaws.{all_right, each_map, map_both, some_of}
 use Rattle.station_crew.specs.Crews.{IsNewReader}
 use Rattle.station_crew.specs.Leaving.{link_of, serve_pass}
-use Rattle.station_crew.specs.Lists.{Each}
-use Rattle.station_crew.specs.Served.{HasSecond, IsReadOf, LinksServed, ServesLink, ServesPhase}
+use Rattle.crew_work.specs.Lists.{Each}
+use Rattle.crew_work.specs.Served.{HasSecond, IsReadOf, LinksServed, ServesLink, ServesPhase}
 use Rattle.station_crew.specs.Telling.{HasSeenAll, HasServedTwice}
 use Rattle.station_crew.specs.declared.jobs.ServeJob.{ServeJob}
-use Rattle.station_crew.specs.declared.work.LinkWork.{LinkWork}
+use Rattle.crew_work.specs.declared.work.LinkWork.{LinkWork}
 use Rattle.system_fold.specs.Settings.{SettingsFields}
 use Rattle.verdict_journal.specs.Journals.{HasRead}
 

@@ -4,20 +4,20 @@ use Rattle.std.specs.Prelude.{Option, Some, get_or}
 use Rattle.std.specs.Option.{option_to_list}
 use Rattle.std.proofs.lemmas.List.{length-map, get_or_append_left, get_or-append_right}
 use Rattle.page_cell.specs.Passes.{Known}
-use Rattle.station_crew.proofs.ListLaws.{left_at, right_at}
+use Rattle.crew_work.proofs.ListLaws.{left_at, right_at}
 use Rattle.station_crew.specs.Leaving.{leap_pass, passes_of, poll_pass, radio_pass}
 use Rattle.station_crew.specs.declared.jobs.LeapJob.{LeapJob}
 use Rattle.station_crew.specs.declared.jobs.PollJob.{PollJob}
 use Rattle.station_crew.specs.declared.jobs.RadioJob.{RadioJob}
 
-module _ {L B T : Type 0} (radios : List (RadioJob L B)) (pollers : List (PollJob T)) where
+module _ {L T X : Type 0} {F : X → Type 0} (radios : List (RadioJob L X F)) (pollers : List (PollJob T)) where
   others_length : length (map radio_pass radios ++ map poll_pass pollers) ≡ length radios + length pollers
   others_length = length-append (map radio_pass radios) (map poll_pass pollers) ∙ (omega (arith, length-map radios radio_pass, length-map pollers poll_pass))
 
   pub feeds_length : (leap : Option (LeapJob L)) → length (passes_of radios pollers leap) ≡ length radios + length pollers + length (option_to_list leap)
   feeds_length leap = length-append (map radio_pass radios ++ map poll_pass pollers) (map leap_pass (option_to_list leap)) ∙ (omega (arith, others_length, length-map (option_to_list leap) leap_pass))
 
-  pub radio_at : (leap : Option (LeapJob L)) (i : ℕ) (d : RadioJob L B) → i < length radios → get_or (passes_of radios pollers leap) i (radio_pass d) ≡ radio_pass (get_or radios i d)
+  pub radio_at : (leap : Option (LeapJob L)) (i : ℕ) (d : RadioJob L X F) → i < length radios → get_or (passes_of radios pollers leap) i (radio_pass d) ≡ radio_pass (get_or radios i d)
   radio_at leap i d lt =
       get_or_append_left (map radio_pass radios ++ map poll_pass pollers) (map leap_pass (option_to_list leap)) (radio_pass d) i (omega (arith, lt, others_length)) ∙ left_at radio_pass poll_pass radios pollers i d lt
 

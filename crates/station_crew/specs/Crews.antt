@@ -6,11 +6,12 @@ use Rattle.feed_link.specs.Told.{SourceState, LinkState}
 use Rattle.kiss_gate.specs.Gates.{Gate}
 use Rattle.packet_auth.specs.Keys.{keys_of}
 use Rattle.page_cell.specs.Passes.{KnownReader}
+use Rattle.radio_receiver.specs.Boxes.{Boxed}
 use Rattle.radio_receiver.specs.Histories.{History}
 use Rattle.station_config.specs.Station.{StationFields, gate_of}
 use Rattle.station_crew.specs.Jobs.{IsManned, RadioRan, PollRan, LeapRan}
 use Rattle.station_crew.specs.Leaving.{file_of, link_of, log_of, number_of, passes_of, serve_pass, server_link, server_of}
-use Rattle.station_crew.specs.Lists.{Both, Each, Pairs}
+use Rattle.crew_work.specs.Lists.{Both, Each, Pairs}
 use Rattle.station_crew.specs.Telling.{HasServedTwice}
 use Rattle.station_crew.specs.declared.crew.Crew.{Crew}
 use Rattle.station_crew.specs.declared.crew.Left.{Left}
@@ -29,7 +30,7 @@ pub record IsNewReader (table : TableId) (r : KnownReader) : Type 0 where
   pub untorn : r.view.watch.torn ≡ 0
 
 -- room for the workers of so many radios, servers and links
-pub record HasRoomFor {L T B : Type 0} (of_radios of_servers of_links : ℕ) (crew : Crew L T B) : Type 0 where
+pub record HasRoomFor {L T X : Type 0} {F : X → Type 0} (of_radios of_servers of_links : ℕ) (crew : Crew L T X F) : Type 0 where
   pub no_radios : crew.radios.items ≡ []
   pub no_pollers : crew.pollers.items ≡ []
   pub no_leap : crew.leap ≡ None
@@ -64,7 +65,7 @@ pub record HasRoomToLeave {L T : Type 0} (of_radios of_servers of_links : ℕ) (
   pub readers : of_links ≤ vec_capacity left.readers
 
 -- room for all of it, and for the responders of the second phase; and this gate once for each link
-pub record HasRoom {L T B : Type 0} (gate : Gate) (of_radios of_servers of_links : ℕ) (room : Room L T B) : Type 0 where
+pub record HasRoom {L T X : Type 0} {F : X → Type 0} (gate : Gate) (of_radios of_servers of_links : ℕ) (room : Room L T X F) : Type 0 where
   pub crew : HasRoomFor of_radios of_servers of_links room.crew
   pub none_told : room.told.items ≡ []
   pub told : of_links ≤ vec_capacity room.told
@@ -73,7 +74,7 @@ pub record HasRoom {L T B : Type 0} (gate : Gate) (of_radios of_servers of_links
   pub alike : All (λ g. g ≡ gate) room.gates.items
 
 -- each worker has its receiver, its log or its link, and its server, in the station's order, and the leap second file's begins at the station's first moment; the responders are numbered from 0, and have the station's keys and a gate of its own each
-pub record CrewManned {L T B : Type 0} (stands : B → History → Type 0) (least : B → ℕ) (station : StationFields) (receivers : List B) (gear : Gear L T) (crew : Crew L T B) : Type 0 where
+pub record CrewManned {L T X : Type 0} {F : X → Type 0} (stands : Boxed X F → History → Type 0) (least : Boxed X F → ℕ) (station : StationFields) (receivers : List (Boxed X F)) (gear : Gear L T) (crew : Crew L T X F) : Type 0 where
   pub receivers_are : Pairs (IsManned stands least) receivers crew.radios.items
   pub logs : map log_of crew.radios.items ≡ gear.logs.items
   pub servers : map server_link crew.pollers.items ≡ gear.servers.items
@@ -87,9 +88,9 @@ pub record CrewManned {L T B : Type 0} (stands : B → History → Type 0) (leas
   pub gated : All (λ j. j.responder.clients ≡ gate_of station) crew.responders.items
 
 -- both phases were run, and this is what the workers left
-pub record CrewRan {L T B : Type 0} (stands : B → History → Type 0) (log_state : L → SourceState) (log_opening : L → ℕ) (state : T → LinkState) (opening : T → ℕ)
-    (limit during after : ℕ) (crew : Crew L T B) (left : Left L T) : Type 0 where
-  pub radios : List (RadioJob L B)
+pub record CrewRan {L T X : Type 0} {F : X → Type 0} (stands : Boxed X F → History → Type 0) (log_state : L → SourceState) (log_opening : L → ℕ) (state : T → LinkState) (opening : T → ℕ)
+    (limit during after : ℕ) (crew : Crew L T X F) (left : Left L T) : Type 0 where
+  pub radios : List (RadioJob L X F)
   pub pollers : List (PollJob T)
   pub leap : Option (LeapJob L)
   pub responders : List (ServeJob T)

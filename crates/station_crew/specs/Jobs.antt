@@ -9,6 +9,7 @@ use Rattle.feed_workers.specs.Polling.{RunsPolls}
 use Rattle.log_decoder.specs.Decoding.{HasDecoded, IsReady, feed_of}
 use Rattle.packet_auth.specs.Keys.{keys_of}
 use Rattle.page_cell.specs.Passes.{claim_of}
+use Rattle.radio_receiver.specs.Boxes.{Boxed}
 use Rattle.radio_receiver.specs.Histories.{History}
 use Rattle.responder.specs.Serving.{IsSame, Serves}
 use Rattle.responder.specs.declared.served.End.TheVariants.{Count}
@@ -20,14 +21,14 @@ use Rattle.station_crew.specs.declared.jobs.ServeJob.{ServeJob}
 use Rattle.tick_units.specs.declared.marks.Plan.{Plan}
 
 -- a radio's worker that decodes the log of its pass's feed, and has decoded nothing yet: what its receiver stands for is what it begins with
-pub record IsManned {L B : Type 0} (stands : B → History → Type 0) (least : B → ℕ) (receiver : B) (j : RadioJob L B) : Type 0 where
+pub record IsManned {L X : Type 0} {F : X → Type 0} (stands : Boxed X F → History → Type 0) (least : Boxed X F → ℕ) (receiver : Boxed X F) (j : RadioJob L X F) : Type 0 where
   pub ready : IsReady least j.worker.decoder
   pub feed : feed_of j.worker.decoder ≡ (claim_of j.worker.pass.view).number
   pub start : (plan : Plan) (delay : ℕ) → stands receiver (record { plan = plan; delay = delay; reductions = [] })
       → HasDecoded stands j.worker.decoder (claim_of j.worker.pass.view).number plan delay []
 
 -- a radio's worker with a pass of this cell, for one of so many sources
-pub record MayHear {L B : Type 0} (least : B → ℕ) (table : TableId) (sources : ℕ) (j : RadioJob L B) : Type 0 where
+pub record MayHear {L X : Type 0} {F : X → Type 0} (least : Boxed X F → ℕ) (table : TableId) (sources : ℕ) (j : RadioJob L X F) : Type 0 where
   pub ready : IsReady least j.worker.decoder
   pub pass : IsOfFeed table sources (feed_of j.worker.decoder) j.worker.pass
   pub feed : feed_of j.worker.decoder ≡ (claim_of j.worker.pass.view).number
@@ -41,7 +42,7 @@ pub record MayNotice {L : Type 0} (table : TableId) (sources : ℕ) (j : LeapJob
   pub pass : IsOfFeed table sources (claim_of j.worker.pass.view).number j.worker.pass
 
 -- a radio's worker has run
-pub record RadioRan {L B : Type 0} (stands : B → History → Type 0) (state : L → SourceState) (opening : L → ℕ) (limit : ℕ) (a b : RadioJob L B) : Type 0 where
+pub record RadioRan {L X : Type 0} {F : X → Type 0} (stands : Boxed X F → History → Type 0) (state : L → SourceState) (opening : L → ℕ) (limit : ℕ) (a b : RadioJob L X F) : Type 0 where
   pub log : opening b.worker.log ≡ opening a.worker.log
   pub table : b.worker.pass.table ≡ a.worker.pass.table
   pub feed : (claim_of b.worker.pass.view).number ≡ (claim_of a.worker.pass.view).number

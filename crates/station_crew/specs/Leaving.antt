@@ -8,10 +8,10 @@ use Rattle.station_crew.specs.declared.jobs.PollJob.{PollJob}
 use Rattle.station_crew.specs.declared.jobs.RadioJob.{RadioJob}
 use Rattle.station_crew.specs.declared.jobs.ServeJob.{ServeJob}
 
-abbrev pub log_of : {L B : Type 0} → RadioJob L B → L
+abbrev pub log_of : {L X : Type 0} {F : X → Type 0} → RadioJob L X F → L
 log_of j = j.worker.log
 
-abbrev pub radio_pass : {L B : Type 0} → RadioJob L B → Known
+abbrev pub radio_pass : {L X : Type 0} {F : X → Type 0} → RadioJob L X F → Known
 radio_pass j = j.worker.pass
 
 abbrev pub server_link : {T : Type 0} → PollJob T → T
@@ -30,7 +30,7 @@ abbrev pub leap_pass : {L : Type 0} → LeapJob L → Known
 leap_pass j = j.worker.pass
 
 -- the passes of all feeds, by their numbers
-abbrev pub passes_of : {L B T : Type 0} → List (RadioJob L B) → List (PollJob T) → Option (LeapJob L) → List Known
+abbrev pub passes_of : {L T X : Type 0} {F : X → Type 0} → List (RadioJob L X F) → List (PollJob T) → Option (LeapJob L) → List Known
 passes_of radios pollers leap = map radio_pass radios ++ map poll_pass pollers ++ map leap_pass (option_to_list leap)
 
 abbrev pub link_of : {T : Type 0} → ServeJob T → T

@@ -4,18 +4,18 @@ ghost use Rattle.std.specs.List.{range_with_len};
 ghost use Rattle.station_crew.specs.Crews.{CrewRan, HasRoomFor, HasRoomToLeave};
 ghost use Rattle.station_crew.specs.Jobs.{HasServed, HasServedAgain, LeapRan, MayHear, MayNotice, MayPoll, PollRan, RadioRan};
 ghost use Rattle.station_crew.specs.Leaving.{number_of};
-ghost use Rattle.station_crew.specs.Lists.{Both, Each, Every, Pairs};
+ghost use Rattle.crew_work.specs.Lists.{Both, Each, Every, Pairs};
 ghost use Rattle.station_crew.specs.Telling.{WasTold};
 
 use crate::jobs::{LeapJob, PollJob, RadioJob, ServeJob};
 use crate::leaving::{leave_leap, leave_pollers, leave_radios, leave_responders};
 use crate::phases::{run_first, run_second};
 use crate::telling::tell_responders;
-use crate::work::{Budget, LinkWork};
+use crew_work::{Budget, LinkWork};
 use feed_link::{Gate, Link, Source};
 use feed_workers::{LogWork, PollWork};
 use page_cell::{FeedPass, PageCell, ReadPass};
-use radio_receiver::{BoxedReceiver, Receiver};
+use radio_receiver::Receiver;
 use station_gear::Gear;
 use std::sync::Wait;
 use std::thread::Threads;
@@ -23,8 +23,8 @@ use verdict_journal::{Hub, HubName};
 
 /// The workers of a station, each in the station's order.
 #[derive(Drop)]
-pub struct Crew<L: Drop, T: Drop, B: Drop> {
-    pub radios: Vec<RadioJob<L, B>>,
+pub struct Crew<L: Drop, T: Drop> {
+    pub radios: Vec<RadioJob<L>>,
     pub pollers: Vec<PollJob<T>>,
     pub leap: Option<LeapJob<L>>,
     pub responders: Vec<ServeJob<T>>,
@@ -49,12 +49,12 @@ fn begin<
     L: Source + Drop,
     T: Link + Drop,
     G: Gate,
->(rt: &R, hub: &Hub<N>, gate: &G, budget: u64, crew: &mut Crew<L, T, BoxedReceiver>)
-    requires radios { Every (λ j. MayHear (λ b. least_start b) N.table (length N.settings.sources) j) crew.old.radios.items }
+>(rt: &R, hub: &Hub<N>, gate: &G, budget: u64, crew: &mut Crew<L, T>)
+    requires radios { Every (MayHear least_start N.table (length N.settings.sources)) crew.old.radios.items }
     requires pollers { Every (λ j. MayPoll N.table (length N.settings.sources) j) crew.old.pollers.items }
     requires leap { IfSome crew.old.leap (λ j. MayNotice N.table (length N.settings.sources) j) }
     requires responders { Every (λ j. j.responder.pass.table ≡ N.table) crew.old.responders.items }
-    ensures radios { Each (RadioRan (λ b h. stands_for b h) L.state L.opening N.limit) crew.old.radios.items crew.new.radios.items }
+    ensures radios { Each (RadioRan stands_for L.state L.opening N.limit) crew.old.radios.items crew.new.radios.items }
     ensures pollers { Each (PollRan T.state T.opening N.limit) crew.old.pollers.items crew.new.pollers.items }
     ensures leap { Both (LeapRan L.state L.opening N.limit) crew.old.leap crew.new.leap }
     ensures responders { Each (HasServed T.state T.opening budget) crew.old.responders.items crew.new.responders.items }
@@ -125,18 +125,18 @@ pub fn run_crew<
     hub: &Hub<N>,
     gate: &G,
     budget: Budget,
-    crew: Crew<L, T, BoxedReceiver>,
+    crew: Crew<L, T>,
     told: Vec<ServeJob<T>>,
     left: Left<L, T>,
 ) -> Left<L, T>
-    requires radios { Every (λ j. MayHear (λ b. least_start b) N.table (length N.settings.sources) j) crew.radios.items }
+    requires radios { Every (MayHear least_start N.table (length N.settings.sources)) crew.radios.items }
     requires pollers { Every (λ j. MayPoll N.table (length N.settings.sources) j) crew.pollers.items }
     requires leap { IfSome crew.leap (λ j. MayNotice N.table (length N.settings.sources) j) }
     requires responders { Every (λ j. j.responder.pass.table ≡ N.table) crew.responders.items }
     requires few { vec_len crew.responders ≤ 8 }
     requires told { (told.items ≡ []) × (vec_len crew.responders ≤ vec_capacity told) }
     requires left { HasRoomToLeave (vec_len crew.radios) (vec_len crew.pollers) (vec_len crew.responders) left }
-    ensures { CrewRan (λ b h. stands_for b h) L.state L.opening T.state T.opening N.limit budget.during budget.after crew result }
+    ensures { CrewRan stands_for L.state L.opening T.state T.opening N.limit budget.during budget.after crew result }
 {
     let mut crew = crew;
     let mut told = told;

@@ -1,13 +1,13 @@
 // Workers, and what each has done.
 
-use crate::work::LinkWork;
-use feed_workers::{LeapWorker, LogWork, PollWork, PollWorker, WorkerOf};
+use crew_work::LinkWork;
+use feed_workers::{LeapWorker, LogWork, PollWork, PollWorker, RadioWorker};
 use responder::Responder;
 
 /// A radio's worker, and what it did.
 #[derive(Drop)]
-pub struct RadioJob<L: Drop, B: Drop> {
-    pub worker: WorkerOf<L, B>,
+pub struct RadioJob<L: Drop> {
+    pub worker: RadioWorker<L>,
     pub work: LogWork,
 }
 

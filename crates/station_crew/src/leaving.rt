@@ -4,15 +4,14 @@ ghost use Rattle.std.specs.Option.{option_to_list};
 ghost use Rattle.station_crew.specs.Leaving.{file_of, leap_pass, link_of, log_of, poll_pass, radio_pass, serve_pass, server_link};
 
 use crate::jobs::{LeapJob, PollJob, RadioJob, ServeJob};
-use crate::work::LinkWork;
+use crew_work::LinkWork;
 use feed_link::{Link, Source};
 use feed_workers::{LogWork, PollWork};
 use page_cell::{FeedPass, ReadPass};
-use radio_receiver::BoxedReceiver;
 
 /// The radios' workers give back.
 pub fn leave_radios<L: Source + Drop>(
-    jobs: Vec<RadioJob<L, BoxedReceiver>>,
+    jobs: Vec<RadioJob<L>>,
     logs: &mut Vec<L>,
     works: &mut Vec<LogWork>,
     feeds: &mut Vec<FeedPass>,

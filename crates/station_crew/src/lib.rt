@@ -10,8 +10,7 @@ mod named;
 mod phases;
 mod station;
 mod telling;
-mod work;
 
+pub use crew_work::{Budget, LinkWork};
 pub use named::Ended;
 pub use station::serve_station;
-pub use work::{Budget, LinkWork};

@@ -8,10 +8,10 @@ ghost use Rattle.station_config.specs.Station.{IsStation, gate_of};
 ghost use Rattle.station_config.specs.KeptStation.{server_fields};
 ghost use Rattle.station_crew.specs.Jobs.{IsManned};
 ghost use Rattle.station_crew.specs.Leaving.{file_of, leap_pass, link_of, log_of, number_of, poll_pass, radio_pass, serve_pass, server_link, server_of};
-ghost use Rattle.station_crew.specs.Lists.{Pairs};
+ghost use Rattle.crew_work.specs.Lists.{Pairs};
 
 use crate::jobs::{LeapJob, PollJob, RadioJob, ServeJob};
-use crate::work::LinkWork;
+use crew_work::LinkWork;
 use feed_link::{Link, Source};
 use feed_workers::{LeapWorker, LogEnd, LogWork, PollEnd, PollWork, PollWorker, RadioWorker};
 use kiss_gate::ClientGate;
@@ -42,14 +42,10 @@ const UNSERVED: Served = Served {
 };
 
 // A radio's worker.
-fn man_radio<L: Source + Drop>(
-    receiver: BoxedReceiver,
-    log: L,
-    pass: FeedPass,
-) -> RadioJob<L, BoxedReceiver>
+fn man_radio<L: Source + Drop>(receiver: BoxedReceiver, log: L, pass: FeedPass) -> RadioJob<L>
     requires { least_start receiver ≡ 0 }
     ensures is { (result.worker.log ≡ log) × (result.worker.pass ≡ pass) }
-    ensures manned { IsManned (λ b h. stands_for b h) (λ b. least_start b) receiver result }
+    ensures manned { IsManned stands_for least_start receiver result }
 {
     RadioJob {
         worker: RadioWorker::new(receiver, log, pass),
@@ -62,7 +58,7 @@ pub fn man_radios<L: Source + Drop>(
     receivers: Vec<BoxedReceiver>,
     logs: Vec<L>,
     feeds: &mut Vec<FeedPass>,
-    jobs: &mut Vec<RadioJob<L, BoxedReceiver>>,
+    jobs: &mut Vec<RadioJob<L>>,
 )
     requires blank { All (λ b. least_start b ≡ 0) receivers.items }
     requires receivers { vec_len receivers ≡ vec_len logs }
@@ -71,7 +67,7 @@ pub fn man_radios<L: Source + Drop>(
     requires room { vec_len logs ≤ vec_capacity jobs.old }
     ensures logs { map log_of jobs.new.items ≡ logs.items }
     ensures feeds { map radio_pass jobs.new.items ++ feeds.new.items ≡ feeds.old.items }
-    ensures manned { Pairs (λ b j. IsManned (λ b h. stands_for b h) (λ b. least_start b) b j) receivers.items jobs.new.items }
+    ensures manned { Pairs (IsManned stands_for least_start) receivers.items jobs.new.items }
 {
     let mut receivers = receivers;
     for log in logs {

@@ -8,12 +8,12 @@ ghost use Rattle.station_config.specs.Station.{IsStation, gate_of, leap_feed, se
 ghost use Rattle.station_crew.specs.Crews.{CrewManned, HasRoom, HasRoomFor, IsNewReader};
 ghost use Rattle.station_crew.specs.Leaving.{passes_of, serve_pass};
 ghost use Rattle.station_gear.specs.Opens.{IsWhole};
-ghost use Rattle.station_crew.specs.Served.{AreBlank, IsJournalOf, LeapServed, LinksServed, RadiosServed, ServersServed};
+ghost use Rattle.crew_work.specs.Served.{AreBlank, IsJournalOf, LeapServed, LinksServed, RadiosServed, ServersServed};
 
 use crate::crew::{Crew, Left, run_crew};
 use crate::jobs::ServeJob;
 use crate::manning::{man_leap, man_pollers, man_radios, man_responders};
-use crate::work::{Budget, LinkWork};
+use crew_work::{Budget, LinkWork};
 use feed_link::{Gate, Link, Source};
 use feed_workers::{LogWork, PollWork};
 use kiss_gate::ClientGate;
@@ -39,8 +39,8 @@ pub struct Ended<L: Drop, T: Drop> {
 
 /// Room for the workers of a station, and for what they leave; and a gate of clients for each link.
 #[derive(Drop)]
-pub struct Room<L: Drop, T: Drop, B: Drop> {
-    pub crew: Crew<L, T, B>,
+pub struct Room<L: Drop, T: Drop> {
+    pub crew: Crew<L, T>,
     pub told: Vec<ServeJob<T>>,
     pub left: Left<L, T>,
     pub gates: Vec<ClientGate>,
@@ -60,17 +60,17 @@ fn man_crew<L: Source + Drop, T: Link + Drop>(
     receivers: Vec<BoxedReceiver>,
     gear: Gear<L, T>,
     gates: Vec<ClientGate>,
-    crew: Crew<L, T, BoxedReceiver>,
-) -> Crew<L, T, BoxedReceiver>
+    crew: Crew<L, T>,
+) -> Crew<L, T>
     requires station { IsStation station.now }
-    requires blank { AreBlank (λ b h. stands_for b h) (λ b. least_start b) station.now.radios receivers.items }
+    requires blank { AreBlank stands_for least_start station.now.radios receivers.items }
     requires gear { IsWhole station.now gear }
     requires feeds { vec_len passes.feeds ≡ vec_len gear.logs + vec_len gear.servers + length (option_to_list gear.leap) }
     requires readers { vec_len passes.readers ≡ vec_len gear.links }
     requires gates { vec_len gates ≡ vec_len gear.links }
     requires alike { All (λ gate. gate ≡ gate_of station.now) gates.items }
     requires room { HasRoomFor (vec_len gear.logs) (vec_len gear.servers) (vec_len gear.links) crew }
-    ensures manned { CrewManned (λ b h. stands_for b h) (λ b. least_start b) station.now receivers.items gear result }
+    ensures manned { CrewManned stands_for least_start station.now receivers.items gear result }
     ensures feeds { passes_of result.radios.items result.pollers.items result.leap ≡ passes.feeds.items }
     ensures readers { map serve_pass result.responders.items ≡ passes.readers.items }
 {
@@ -107,11 +107,11 @@ fn run_hub<
     budget: Budget,
     receivers: Vec<BoxedReceiver>,
     gear: Gear<L, T>,
-    room: Room<L, T, BoxedReceiver>,
+    room: Room<L, T>,
 ) -> Ended<L, T>
     requires station { IsStation station.now }
     requires settings { settings_of station.now ≡ N.settings }
-    requires blank { AreBlank (λ b h. stands_for b h) (λ b. least_start b) station.now.radios receivers.items }
+    requires blank { AreBlank stands_for least_start station.now.radios receivers.items }
     requires gear { IsWhole station.now gear }
     requires claims { map (λ f. claim_of f.view) parts.feeds.items ≡ map new_claim (range_with_len 0 (length N.settings.sources)) }
     requires feeds { All (λ f. f.table ≡ N.table) parts.feeds.items }
@@ -173,13 +173,13 @@ pub fn run_named<
     parts: CellParts,
     receivers: Vec<BoxedReceiver>,
     gear: Gear<L, T>,
-    room: Room<L, T, BoxedReceiver>,
+    room: Room<L, T>,
 ) -> Result<Ended<L, T>, Gear<L, T>>
     requires cell { (parts.cell.table ≡ N.table) × (parts.baton.table ≡ N.table) }
     requires settings { (key_of parts.baton.view ≡ settings_of station.now) × (settings_of station.now ≡ N.settings) }
     requires fresh { parts.baton.view.list ≡ [] }
     requires limit { (limit ≡ N.limit) × (0 < limit) × (limit ≤ 4194304) }
-    requires blank { AreBlank (λ b h. stands_for b h) (λ b. least_start b) station.now.radios receivers.items }
+    requires blank { AreBlank stands_for least_start station.now.radios receivers.items }
     requires gear { IsWhole station.now gear }
     requires claims { map (λ f. claim_of f.view) parts.feeds.items ≡ map new_claim (range_with_len 0 (length N.settings.sources)) }
     requires feeds { All (λ f. f.table ≡ N.table) parts.feeds.items }

@@ -1,11 +1,11 @@
 // The workers side by side.
 ghost use Rattle.std.specs.Prelude.{◌≡◌, All, IfSome, length};
 ghost use Rattle.station_crew.specs.Jobs.{HasServed, HasServedAgain, LeapRan, MayHear, MayNotice, MayPoll, PollRan, RadioRan};
-ghost use Rattle.station_crew.specs.Lists.{Both, Each, Every};
+ghost use Rattle.crew_work.specs.Lists.{Both, Each, Every};
 
 use crate::jobs::{LeapJob, PollJob, RadioJob, ServeJob};
 use feed_link::{Gate, Link, Source};
-use radio_receiver::{BoxedReceiver, Receiver};
+use radio_receiver::Receiver;
 use responder::End;
 use std::sync::Wait;
 use std::thread;
@@ -21,10 +21,10 @@ fn run_radio<N: HubName, R: Wait, L: Source + Drop, G: Gate>(
     rt: &R,
     hub: &Hub<N>,
     gate: &G,
-    radio: &mut RadioJob<L, BoxedReceiver>,
+    radio: &mut RadioJob<L>,
 )
-    requires { MayHear (λ b. least_start b) N.table (length N.settings.sources) radio.old }
-    ensures { RadioRan (λ b h. stands_for b h) L.state L.opening N.limit radio.old radio.new }
+    requires { MayHear least_start N.table (length N.settings.sources) radio.old }
+    ensures { RadioRan stands_for L.state L.opening N.limit radio.old radio.new }
 {
     radio.work = radio.worker.run(rt, hub, gate);
 }
@@ -33,18 +33,18 @@ fn run_radios<N: HubName + Send + Sync, R: Threads + Wait + Sync, L: Source + Dr
     rt: &R,
     hub: &Hub<N>,
     gate: &G,
-    jobs: &mut [RadioJob<L, BoxedReceiver>],
+    jobs: &mut [RadioJob<L>],
 )
-    requires { All (λ j. MayHear (λ b. least_start b) N.table (length N.settings.sources) j) jobs.old }
-    ensures { Each (RadioRan (λ b h. stands_for b h) L.state L.opening N.limit) jobs.old jobs.new }
+    requires { All (MayHear least_start N.table (length N.settings.sources)) jobs.old }
+    ensures { Each (RadioRan stands_for L.state L.opening N.limit) jobs.old jobs.new }
 {
     thread::for_each_mut(
         rt,
         jobs,
         FEEDS,
-        &|_i: usize, job: &mut RadioJob<L, BoxedReceiver>|
-            requires { MayHear (λ b. least_start b) N.table (length N.settings.sources) job.old }
-            ensures { RadioRan (λ b h. stands_for b h) L.state L.opening N.limit job.old job.new }
+        &|_i: usize, job: &mut RadioJob<L>|
+            requires { MayHear least_start N.table (length N.settings.sources) job.old }
+            ensures { RadioRan stands_for L.state L.opening N.limit job.old job.new }
         { run_radio(rt, hub, gate, job) },
     );
 }
@@ -205,22 +205,22 @@ fn run_feeds<
     rt: &R,
     hub: &Hub<N>,
     gate: &G,
-    radios: &mut [RadioJob<L, BoxedReceiver>],
+    radios: &mut [RadioJob<L>],
     pollers: &mut [PollJob<T>],
     leap: &mut Option<LeapJob<L>>,
 )
-    requires radios { Every (λ j. MayHear (λ b. least_start b) N.table (length N.settings.sources) j) radios.old }
+    requires radios { Every (MayHear least_start N.table (length N.settings.sources)) radios.old }
     requires pollers { Every (λ j. MayPoll N.table (length N.settings.sources) j) pollers.old }
     requires leap { IfSome leap.old (λ j. MayNotice N.table (length N.settings.sources) j) }
-    ensures radios { Each (RadioRan (λ b h. stands_for b h) L.state L.opening N.limit) radios.old radios.new }
+    ensures radios { Each (RadioRan stands_for L.state L.opening N.limit) radios.old radios.new }
     ensures pollers { Each (PollRan T.state T.opening N.limit) pollers.old pollers.new }
     ensures leap { Both (LeapRan L.state L.opening N.limit) leap.old leap.new }
 {
     join_mut(
         rt,
         &mut ||
-            requires { Every (λ j. MayHear (λ b. least_start b) N.table (length N.settings.sources) j) radios.now }
-            ensures { Each (RadioRan (λ b h. stands_for b h) L.state L.opening N.limit) radios.entry.now radios.exit.now }
+            requires { Every (MayHear least_start N.table (length N.settings.sources)) radios.now }
+            ensures { Each (RadioRan stands_for L.state L.opening N.limit) radios.entry.now radios.exit.now }
         { run_radios(rt, hub, gate, radios) },
         &mut ||
             requires pollers { Every (λ j. MayPoll N.table (length N.settings.sources) j) pollers.now }
@@ -243,16 +243,16 @@ pub fn run_first<
     hub: &Hub<N>,
     gate: &G,
     budget: u64,
-    radios: &mut [RadioJob<L, BoxedReceiver>],
+    radios: &mut [RadioJob<L>],
     pollers: &mut [PollJob<T>],
     leap: &mut Option<LeapJob<L>>,
     responders: &mut [ServeJob<T>],
 )
-    requires radios { Every (λ j. MayHear (λ b. least_start b) N.table (length N.settings.sources) j) radios.old }
+    requires radios { Every (MayHear least_start N.table (length N.settings.sources)) radios.old }
     requires pollers { Every (λ j. MayPoll N.table (length N.settings.sources) j) pollers.old }
     requires leap { IfSome leap.old (λ j. MayNotice N.table (length N.settings.sources) j) }
     requires responders { Every (λ j. j.responder.pass.table ≡ N.table) responders.old }
-    ensures radios { Each (RadioRan (λ b h. stands_for b h) L.state L.opening N.limit) radios.old radios.new }
+    ensures radios { Each (RadioRan stands_for L.state L.opening N.limit) radios.old radios.new }
     ensures pollers { Each (PollRan T.state T.opening N.limit) pollers.old pollers.new }
     ensures leap { Both (LeapRan L.state L.opening N.limit) leap.old leap.new }
     ensures responders { Each (HasServed T.state T.opening budget) responders.old responders.new }
@@ -260,10 +260,10 @@ pub fn run_first<
     join_mut(
         rt,
         &mut ||
-            requires radios { Every (λ j. MayHear (λ b. least_start b) N.table (length N.settings.sources) j) radios.now }
+            requires radios { Every (MayHear least_start N.table (length N.settings.sources)) radios.now }
             requires pollers { Every (λ j. MayPoll N.table (length N.settings.sources) j) pollers.now }
             requires leap { IfSome leap.now (λ j. MayNotice N.table (length N.settings.sources) j) }
-            ensures radios { Each (RadioRan (λ b h. stands_for b h) L.state L.opening N.limit) radios.entry.now radios.exit.now }
+            ensures radios { Each (RadioRan stands_for L.state L.opening N.limit) radios.entry.now radios.exit.now }
             ensures pollers { Each (PollRan T.state T.opening N.limit) pollers.entry.now pollers.exit.now }
             ensures leap { Both (LeapRan L.state L.opening N.limit) leap.entry.now leap.exit.now }
         { run_feeds(rt, hub, gate, radios, pollers, leap) },

@@ -3,11 +3,11 @@ ghost use Rattle.std.specs.Prelude.{◌≡◌, ◌<◌, ◌≤◌, ◌^◌, ◌+
 ghost use Rattle.station_config.specs.Station.{gate_of, leap_feed, settings_of};
 ghost use Rattle.station_crew.specs.Crews.{HasRoom, HasRoomFor, HasRoomForGear, HasRoomToLeave};
 ghost use Rattle.station_gear.specs.Opens.{IsWhole};
-ghost use Rattle.station_crew.specs.Served.{AreBlank, IsJournalOf, LeapServed, LinksServed, RadiosServed, ServersServed};
+ghost use Rattle.crew_work.specs.Served.{AreBlank, IsJournalOf, LeapServed, LinksServed, RadiosServed, ServersServed};
 
 use crate::crew::{Crew, Left};
 use crate::named::{Ended, Room, run_named};
-use crate::work::Budget;
+use crew_work::Budget;
 use feed_link::{Gate, Link, Source};
 use kiss_gate::{ClientGate, GateOpen};
 use page_cell::PageCell;
@@ -28,10 +28,7 @@ struct Counts {
 }
 
 // Room for the workers.
-fn make_crew<L: Drop, T: Drop, B: Drop>(
-    alloc: Global,
-    counts: Counts,
-) -> Result<Crew<L, T, B>, AllocError>
+fn make_crew<L: Drop, T: Drop>(alloc: Global, counts: Counts) -> Result<Crew<L, T>, AllocError>
     ensures { IfOk result (HasRoomFor counts.radios counts.servers counts.links) }
 {
     Ok(Crew {
@@ -93,11 +90,11 @@ fn open_gates(alloc: Global, station: &Station, count: usize) -> Result<Vec<Clie
 }
 
 // Room for all, and the gates.
-fn make_room<L: Drop, T: Drop, B: Drop>(
+fn make_room<L: Drop, T: Drop>(
     alloc: Global,
     station: &Station,
     counts: Counts,
-) -> Result<Room<L, T, B>, AllocError>
+) -> Result<Room<L, T>, AllocError>
     requires { counts.radios + counts.servers < 2 ^ 63 }
     ensures { IfOk result (HasRoom (gate_of station.now) counts.radios counts.servers counts.links) }
 {
@@ -127,7 +124,7 @@ pub fn serve_station<R: Threads + Wait + Sync, L: Source + Drop, T: Link + Drop,
     gear: Gear<L, T>,
 ) -> Result<Ended<L, T>, Gear<L, T>>
     requires limit { (0 < limit) × (limit ≤ 4194304) }
-    requires blank { AreBlank (λ b h. stands_for b h) (λ b. least_start b) station.now.radios receivers.items }
+    requires blank { AreBlank stands_for least_start station.now.radios receivers.items }
     requires gear { IsWhole station.now gear }
     ensures journal { IfOk result (λ e. IsJournalOf (settings_of station.now) limit e.journal) }
     ensures radios { IfOk result (λ e. RadiosServed L.state L.opening station.now.radios limit e.journal.entries gear.logs.items e.gear.logs.items e.radios.items) }

@@ -3,7 +3,7 @@ ghost use Rattle.std.specs.Prelude.{◌≡◌, ◌≤◌, ◌+◌, [], All, leng
 ghost use Rattle.std.specs.List.{range_with_len};
 ghost use Rattle.page_cell.specs.Passes.{claim_of};
 ghost use Rattle.station_crew.specs.Leaving.{number_of};
-ghost use Rattle.station_crew.specs.Lists.{Pairs};
+ghost use Rattle.crew_work.specs.Lists.{Pairs};
 ghost use Rattle.station_crew.specs.Telling.{HasLearnt, HasSeenAll, WasTold};
 
 use crate::jobs::ServeJob;

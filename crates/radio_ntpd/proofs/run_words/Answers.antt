@@ -1,9 +1,9 @@
 -- Where no memory is found before the command begins, nothing was opened.
 use Rattle.std.proofs.Common.{subst}
 use Rattle.feed_link.specs.Told.{SinkState}
-use Rattle.radio_engine.specs.Endings.{status_of, status_line}
-use Rattle.radio_engine.specs.Writing.{Answers}
-use Rattle.radio_engine.specs.declared.ending.Ending.TheVariants.{NoMemory}
+use Rattle.file_commands.specs.Endings.{status_of, status_line}
+use Rattle.file_commands.specs.Writing.{Answers}
+use Rattle.file_commands.specs.declared.ending.Ending.TheVariants.{NoMemory}
 use Rattle.radio_engine.proofs.RunLaws.{run_unbegun}
 use Rattle.radio_ntpd.proofs.run_words.Goals as goal
 

@@ -4,7 +4,7 @@ use Rattle.log_decoder.specs.Decoding.{IsReady}
 use Rattle.decode_tests.proofs.log_decoder_tests.decoded.Given as goal
 
 abbrev pub invariant-rest : goal.invariant-rest
-invariant-rest g l = IsReady (λ b. (goal.Receiver-dyn g (b.vtable, b.value)).least_start b.value) l.decoder
+invariant-rest g l = IsReady g.R.Receiver.least_start l.decoder
 
 abbrev pub decreases-rest : goal.decreases-rest
 decreases-rest g l = length l.rest

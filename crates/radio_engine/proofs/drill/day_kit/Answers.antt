@@ -1,5 +1,5 @@
 -- What the search leaves open of `drill::day_kit`.
-use Rattle.radio_engine.proofs.RunOfLaws.{blank_receivers}
+use Rattle.station_report.proofs.RunOfLaws.{blank_receivers}
 use Rattle.radio_engine.proofs.drill.day_kit.Goals as goal
 
 pub returns-clause-receivers : goal.returns-clause-receivers

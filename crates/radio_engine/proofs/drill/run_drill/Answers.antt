@@ -1,6 +1,6 @@
 -- What the search leaves open of `drill::run_drill`.
 use Rattle.std.proofs.Common.{inr}
-use Rattle.radio_engine.proofs.DrillLaws.{drills}
+use Rattle.station_report.proofs.DrillLaws.{drills}
 use Rattle.radio_engine.proofs.drill.run_drill.Goals as goal
 
 pub returns-in-Ok-drill-clause-runs : goal.returns-in-Ok-drill-clause-runs

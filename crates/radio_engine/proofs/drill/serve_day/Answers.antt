@@ -2,8 +2,8 @@
 use Rattle.std.proofs.Common.{subst}
 use Rattle.feed_link.specs.Memory.{sure_state}
 use Rattle.station_config.specs.Station.{StationFields}
-use Rattle.radio_engine.specs.Crewing.{LeavesAll}
-use Rattle.radio_engine.proofs.DrillLaws.{drilled}
+use Rattle.station_report.specs.Crewing.{LeavesAll}
+use Rattle.station_report.proofs.DrillLaws.{drilled}
 use Rattle.radio_engine.proofs.drill.serve_day.Goals as goal
 
 pub returns-in-Ok-clause-drilled : goal.returns-in-Ok-clause-drilled

@@ -1,7 +1,8 @@
 -- What the search leaves open of `run::run_station`.
 use Rattle.std.proofs.Common.{◌⊎◌, inr, refl, subst}
 use Rattle.command_words.specs.Commands.{Asked}
-use Rattle.radio_engine.specs.Run.{Lacks, Runs}
+use Rattle.file_commands.specs.Unopened.{Lacks}
+use Rattle.radio_engine.specs.Run.{Runs}
 use Rattle.radio_engine.proofs.RunLaws.{lacks_done, runs_done}
 use Rattle.radio_engine.proofs.run.run_station.Goals as goal
 

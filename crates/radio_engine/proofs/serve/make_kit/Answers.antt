@@ -1,5 +1,5 @@
 -- What the search leaves open of `serve::make_kit`.
-use Rattle.radio_engine.proofs.RunOfLaws.{blank_receivers}
+use Rattle.station_report.proofs.RunOfLaws.{blank_receivers}
 use Rattle.radio_engine.proofs.serve.make_kit.Goals as goal
 
 pub returns-clause-receivers : goal.returns-clause-receivers

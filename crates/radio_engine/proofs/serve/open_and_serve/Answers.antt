@@ -1,10 +1,10 @@
 -- What the search leaves open of `serve::open_and_serve`.
 use Rattle.std.proofs.Common.{◌≡◌, length, refl, rules, subst, sym}
 use Rattle.std.specs.Prelude.{None, Some, vec_len}
-use Rattle.radio_engine.specs.Crewing.{CannotServe}
-use Rattle.radio_engine.specs.declared.ending.Ending.TheVariants.{NotOpened}
+use Rattle.station_report.specs.Crewing.{CannotServe}
+use Rattle.file_commands.specs.declared.ending.Ending.TheVariants.{NotOpened}
 use Rattle.station_gear.proofs.GearLaws.{are_out}
-use Rattle.radio_engine.proofs.ServingLaws.{cannot_open, tries_serve}
+use Rattle.station_report.proofs.ServingLaws.{cannot_open, tries_serve}
 use Rattle.radio_engine.proofs.serve.open_and_serve.Goals as goal
 
 pub serve_open-requires-clause-out : goal.serve_open-requires-clause-out

@@ -1,5 +1,5 @@
 -- What the search leaves open of `serve::serve`.
-use Rattle.radio_engine.proofs.ServingLaws.{never_opened}
+use Rattle.station_report.proofs.ServingLaws.{never_opened}
 use Rattle.radio_engine.proofs.serve.serve.Goals as goal
 
 pub returns-in-Err-clause-tried : goal.returns-in-Err-clause-tried

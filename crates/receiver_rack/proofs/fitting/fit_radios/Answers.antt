@@ -13,7 +13,7 @@ pub loop-place-init : goal.loop-place-init
 loop-place-init g c =
     let none = c.in_ok-receivers.ensures.items in
     record {
-      fitted = starts (λ b h. (goal.Receiver-dyn g (b.vtable, b.value)).stands_for b.value h) _ _ c.args.station.now.radios none c.in_ok-spares.ensures.four;
+      fitted = starts _ _ _ c.args.station.now.radios none c.in_ok-spares.ensures.four;
       receivers = subst (All (λ b. (goal.Receiver-dyn g (b.vtable, b.value)).least_start b.value ≡ 0)) (sym none) (All-nil _);
       spares = c.in_ok-spares.ensures.ready;
       bounds = c.radios-count.ensures.bounds;
@@ -29,7 +29,7 @@ pub add-requires-clause-left : goal.add-requires-clause-left
 add-requires-clause-left g c =
     let some : c.radio.result ≡ Some c.unwrap-row.result = search rules in
     let at : slice_get c.args.station.now.radios c.loop-place.place ≡ Some (radio_given c.unwrap-row.result) = sym c.radio.ensures ∙ ap (option_map radio_given) some in
-    some-left (λ b h. (goal.Receiver-dyn g (b.vtable, b.value)).stands_for b.value h) c.loop-place.receivers.items c.loop-place.spares.items c.args.station.now c.loop-place.place (radio_given c.unwrap-row.result) c.loop-place.invariant.bounds at c.loop-place.invariant.fitted
+    some-left _ c.loop-place.receivers.items c.loop-place.spares.items c.args.station.now c.loop-place.place (radio_given c.unwrap-row.result) c.loop-place.invariant.bounds at c.loop-place.invariant.fitted
 
 pub add-requires-clause-delay : goal.add-requires-clause-delay
 add-requires-clause-delay g c =
@@ -43,7 +43,7 @@ loop-place-preserved g c =
     let fields = radio_given c.unwrap-row.result in
     let at : slice_get c.args.station.now.radios c.loop-place.place ≡ Some fields = sym c.radio.ensures ∙ ap (option_map radio_given) some in
     record {
-      fitted = goes-on (λ b h. (goal.Receiver-dyn g (b.vtable, b.value)).stands_for b.value h) c.add.new.receivers.items c.add.new.spares.items c.args.station.now.radios c.loop-place.place fields at (c.add.ensures.added _ fields refl refl c.loop-place.invariant.fitted);
+      fitted = goes-on _ c.add.new.receivers.items c.add.new.spares.items c.args.station.now.radios c.loop-place.place fields at (c.add.ensures.added _ fields refl refl c.loop-place.invariant.fitted);
       receivers = c.add.ensures.receivers;
       spares = c.add.ensures.spares;
       bounds = c.loop-place.invariant.bounds;
@@ -53,4 +53,4 @@ loop-place-preserved g c =
     }
 
 pub returns-clause-fitted : goal.returns-clause-fitted
-returns-clause-fitted g c = all-fitted (λ b h. (goal.Receiver-dyn g (b.vtable, b.value)).stands_for b.value h) c.loop-place.receivers.items c.loop-place.spares.items c.args.station.now.radios c.loop-place.place (omega (arith, c.loop-place.invariant.count)) c.loop-place.invariant.fitted
+returns-clause-fitted g c = all-fitted _ c.loop-place.receivers.items c.loop-place.spares.items c.args.station.now.radios c.loop-place.place (omega (arith, c.loop-place.invariant.count)) c.loop-place.invariant.fitted

@@ -5,7 +5,7 @@ use Rattle.std.specs.Prelude.{All, vec_len}
 use Rattle.std.specs.Option.{option_to_list}
 use Rattle.std.proofs.lemmas.List.Elements.{All-append, All-map}
 use Rattle.page_cell.specs.Passes.{Known}
-use Rattle.station_crew.proofs.ListLaws.{at-most-one, both_keeps, each_keeps, pairs_at, pairs_keep, pairs_length}
+use Rattle.crew_work.proofs.ListLaws.{at-most-one, both_keeps, each_keeps, pairs_at, pairs_keep, pairs_length}
 use Rattle.station_crew.specs.Jobs.{HasServed, LeapRan, MayNotice, PollRan, RadioRan}
 use Rattle.station_crew.specs.Leaving.{leap_pass, link_of, log_of, poll_pass, radio_pass, serve_pass, server_link}
 use Rattle.station_crew.specs.Telling.{WasTold}
@@ -20,7 +20,7 @@ tell_crew-requires-clause-feeds g c κs within =
     let P : Known → Type 0 = λ f. f.table ≡ N in
     let leap = c.begin.new.crew.leap in
     let is = c.leave_leap-file.ensures.feeds ∙ ap (λ l. l ++ map leap_pass (option_to_list leap)) (c.leave_pollers.ensures.feeds ∙ ap (λ l. l ++ map poll_pass qs) (c.leave_radios.ensures.feeds ∙ ap (λ l. l ++ map radio_pass bs) c.requires.left.no_feeds)) in
-    let one = each_keeps (λ x. x.worker.pass.table ≡ N) (RadioRan (λ b h. (goal.Receiver-dyn g (b.vtable, b.value)).stands_for b.value h) g.L.Source.state g.L.Source.opening g.N.HubName.limit) (λ a b r h. r.table ∙ h) c.args.crew.radios.items bs e.radios (search rules) (λ i d lt. (c.requires.radios.all i d lt).pass.table_is) in
+    let one = each_keeps (λ x. x.worker.pass.table ≡ N) (RadioRan _ g.L.Source.state g.L.Source.opening g.N.HubName.limit) (λ a b r h. r.table ∙ h) c.args.crew.radios.items bs e.radios (search rules) (λ i d lt. (c.requires.radios.all i d lt).pass.table_is) in
     let two = each_keeps (λ x. x.worker.pass.table ≡ N) (PollRan g.T.Link.state g.T.Link.opening g.N.HubName.limit) (λ a b r h. r.table ∙ h) c.args.crew.pollers.items qs e.pollers (search rules) (λ i d lt. (c.requires.pollers.all i d lt).pass.table_is) in
     let three = both_keeps (λ x. x.worker.pass.table ≡ N) (MayNotice N (length g.N.HubName.settings.sources)) (LeapRan g.L.Source.state g.L.Source.opening g.N.HubName.limit) (λ a b r h. r.table ∙ h.pass.table_is) c.args.crew.leap leap e.leap c.requires.leap in
     subst (λ t. All (λ (f : Known). f.table ≡ t) c.leave_leap-file.new.feeds.items) (sym c.cell.ensures)

@@ -3,7 +3,7 @@ use Rattle.std.proofs.Common.{rules, ◌≡◌, ◌∙◌, ◌<◌, [], ◌∷�
 use Rattle.std.specs.Prelude.{Some, slice_get, vec_len}
 use Rattle.std.proofs.lemmas.List.{map-append}
 use Rattle.station_config.specs.Station.{ServerFields}
-use Rattle.station_crew.proofs.ListLaws.{first_removed, moved, take_one_more, told_whole}
+use Rattle.crew_work.proofs.ListLaws.{first_removed, moved, take_one_more, told_whole}
 use Rattle.station_crew.specs.Leaving.{poll_pass, server_link, server_of}
 use Rattle.station_crew.proofs.manning.man_pollers.Goals as goal
 

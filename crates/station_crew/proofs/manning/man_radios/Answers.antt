@@ -4,14 +4,14 @@ use Rattle.std.specs.Vec.Iter.{into_iter_items}
 use Rattle.std.proofs.lemmas.List.{nil_from_length}
 use Rattle.station_crew.specs.Jobs.{IsManned}
 use Rattle.station_crew.specs.Leaving.{log_of, radio_pass}
-use Rattle.station_crew.proofs.ListLaws.{all_rest, first_removed, front_none, front_more, front_whole, moved}
+use Rattle.crew_work.proofs.ListLaws.{all_rest, first_removed, front_none, front_more, front_whole, moved}
 use Rattle.station_crew.proofs.manning.man_radios.Goals as goal
 
 pub loop-log-init : goal.loop-log-init
 loop-log-init g c = record {
   logs = search rules;
   passes = search rules;
-  manned = front_none (IsManned (λ b h. (goal.Receiver-dyn g (b.vtable, b.value)).stands_for b.value h) (λ b. (goal.Receiver-dyn g (b.vtable, b.value)).least_start b.value)) c.args.receivers.items c.args.jobs.now.items c.requires.none;
+  manned = front_none _ c.args.receivers.items c.args.jobs.now.items c.requires.none;
   blank = search rules;
   size = search rules;
   receivers = search rules;
@@ -30,7 +30,7 @@ loop-log-preserved g c =
     record {
       logs = moved log_of c.loop-log.jobs.items c.push_reserved.new.self.items c.man_radio.result _ _ _ _ pushed c.in-Some.ensures.steps.0 c.man_radio.ensures.is.0 i.logs;
       passes = moved radio_pass c.loop-log.jobs.items c.push_reserved.new.self.items c.man_radio.result _ _ _ _ pushed passed c.man_radio.ensures.is.1 i.passes;
-      manned = front_more (IsManned (λ b h. (goal.Receiver-dyn g (b.vtable, b.value)).stands_for b.value h) (λ b. (goal.Receiver-dyn g (b.vtable, b.value)).least_start b.value)) _ _ _ _ _ _ _ split pushed i.manned c.man_radio.ensures.manned;
+      manned = front_more _ _ _ _ _ _ _ _ split pushed i.manned c.man_radio.ensures.manned;
       blank = all_rest (λ b. (goal.Receiver-dyn g (b.vtable, b.value)).least_start b.value ≡ 0) _ _ _ split i.blank;
       size = search rules;
       receivers = search rules;
@@ -42,4 +42,4 @@ pub returns-clause-manned : goal.returns-clause-manned
 returns-clause-manned g c =
     let some : into_iter_items c.loop-log.log-iterator ≡ [] = nil_from_length _ (c.loop-log.invariant.size ∙ c.in-None.ensures.steps.0) in
     let none : c.loop-log.receivers.items ≡ [] = nil_from_length _ (search rules) in
-    front_whole (IsManned (λ b h. (goal.Receiver-dyn g (b.vtable, b.value)).stands_for b.value h) (λ b. (goal.Receiver-dyn g (b.vtable, b.value)).least_start b.value)) _ _ _ none c.loop-log.invariant.manned
+    front_whole _ _ _ _ none c.loop-log.invariant.manned

@@ -4,7 +4,7 @@ use Rattle.std.specs.Prelude.{All, vec_capacity, vec_len}
 use Rattle.std.specs.Vec.Iter.{into_iter_items, into_iter_len}
 use Rattle.station_crew.specs.Jobs.{IsManned}
 use Rattle.station_crew.specs.Leaving.{log_of, radio_pass}
-use Rattle.station_crew.specs.Lists.{PairsFront}
+use Rattle.crew_work.specs.Lists.{PairsFront}
 use Rattle.station_crew.proofs.manning.man_radios.Given as goal
 
 abbrev pub invariant-loop-log : goal.invariant-loop-log

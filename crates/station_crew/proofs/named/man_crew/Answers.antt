@@ -3,19 +3,19 @@ use Rattle.std.proofs.Common.{rules, ◌≡◌, length, map, sym, ap, ◌∙◌,
 use Rattle.std.specs.Prelude.{IfSome, vec_len}
 use Rattle.std.specs.Option.{option_to_list}
 use Rattle.std.proofs.lemmas.List.{length-map}
-use Rattle.station_crew.proofs.ListLaws.{length-option-map, none_left, pairs_keep, pairs_length, three_taken}
+use Rattle.crew_work.proofs.ListLaws.{length-option-map, none_left, pairs_keep, pairs_length, three_taken}
 use Rattle.station_crew.specs.Leaving.{file_of, leap_pass, link_of, log_of, poll_pass, radio_pass, serve_pass, server_link}
-use Rattle.station_crew.specs.Served.{IsBlank}
+use Rattle.crew_work.specs.Served.{IsBlank}
 use Rattle.station_crew.proofs.named.man_crew.Goals as goal
 
 pub man_radios-requires-clause-blank : goal.man_radios-requires-clause-blank
 man_radios-requires-clause-blank g c κs within =
-    pairs_keep (λ r. Unit {0}) (λ b. (goal.Receiver-dyn g (b.vtable, b.value)).least_start b.value ≡ 0) (IsBlank (λ b h. (goal.Receiver-dyn g (b.vtable, b.value)).stands_for b.value h) (λ b. (goal.Receiver-dyn g (b.vtable, b.value)).least_start b.value)) (λ r b h _. h.least_start) c.args.station.now.radios c.args.receivers.items c.requires.blank (λ i d lt. tt)
+    pairs_keep (λ r. Unit {0}) (λ b. (goal.Receiver-dyn g (b.vtable, b.value)).least_start b.value ≡ 0) (IsBlank _ _) (λ r b h _. h.least_start) c.args.station.now.radios c.args.receivers.items c.requires.blank (λ i d lt. tt)
 
 pub man_radios-requires-clause-receivers : goal.man_radios-requires-clause-receivers
 man_radios-requires-clause-receivers g c κs within =
     let one : vec_len c.args.receivers ≡ length c.args.receivers.items = search rules in
-    one ∙ pairs_length (IsBlank (λ b h. (goal.Receiver-dyn g (b.vtable, b.value)).stands_for b.value h) (λ b. (goal.Receiver-dyn g (b.vtable, b.value)).least_start b.value)) c.args.station.now.radios c.args.receivers.items c.requires.blank ∙ sym c.requires.gear.logs
+    one ∙ pairs_length _ c.args.station.now.radios c.args.receivers.items c.requires.blank ∙ sym c.requires.gear.logs
 
 pub man_pollers-requires-clause-feeds : goal.man_pollers-requires-clause-feeds
 man_pollers-requires-clause-feeds g c =

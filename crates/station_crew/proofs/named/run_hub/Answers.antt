@@ -11,11 +11,11 @@ use Rattle.page_cell.specs.Views.{new_claim}
 use Rattle.station_config.specs.Station.{gate_of, kind_of_radio, kind_of_server, leap_feeds}
 use Rattle.station_crew.proofs.FeedLaws.{leap_served, may_hear, may_notice, may_poll, radios_served, seen_all, servers_served}
 use Rattle.station_crew.proofs.LinkLaws.{links_served}
-use Rattle.station_crew.proofs.ListLaws.{both_keeps, each_keeps, leap_feeds-length, length-is-some}
+use Rattle.crew_work.proofs.ListLaws.{both_keeps, each_keeps, leap_feeds-length, length-is-some}
 use Rattle.station_crew.specs.Crews.{IsNewReader}
 use Rattle.station_crew.specs.Jobs.{LeapRan, MayNotice, PollRan, RadioRan}
 use Rattle.station_crew.specs.Leaving.{file_of, leap_pass, link_of, log_of, passes_of, poll_pass, radio_pass, serve_pass, server_link}
-use Rattle.station_crew.specs.Served.{LeapServed, LinksServed, RadiosServed, ServersServed}
+use Rattle.crew_work.specs.Served.{LeapServed, LinksServed, RadiosServed, ServersServed}
 use Rattle.station_crew.specs.Telling.{HasSeenAll, HasServedTwice}
 use Rattle.system_fold.specs.Settings.{IsJournal, IsKept, SettingsFields}
 use Rattle.verdict_journal.specs.Journals.{HasRead}
@@ -54,7 +54,7 @@ run_crew-gear-requires-clause-radios g c κs within =
     let is = c.man_crew-crew.ensures.feeds in
     let claims = ap (λ l. map (λ (f : Known). claim_of f.view) l) is ∙ c.requires.claims in
     let tables = subst (All (λ (f : Known). f.table ≡ N.table)) (sym is) c.requires.feeds in
-    record { all = may_hear (λ b h. (goal.Receiver-dyn g (b.vtable, b.value)).stands_for b.value h) (λ b. (goal.Receiver-dyn g (b.vtable, b.value)).least_start b.value) N.table (length N.settings.sources) crew.radios.items crew.pollers.items crew.leap claims tables c.args.receivers.items c.man_crew-crew.ensures.manned.receivers_are }
+    record { all = may_hear N.table (length N.settings.sources) crew.radios.items crew.pollers.items crew.leap claims tables _ _ c.args.receivers.items c.man_crew-crew.ensures.manned.receivers_are }
 
 pub run_crew-gear-requires-clause-pollers : goal.run_crew-gear-requires-clause-pollers
 run_crew-gear-requires-clause-pollers g c κs within =
@@ -63,7 +63,7 @@ run_crew-gear-requires-clause-pollers g c κs within =
     let is = c.man_crew-crew.ensures.feeds in
     let claims = ap (λ l. map (λ (f : Known). claim_of f.view) l) is ∙ c.requires.claims in
     let tables = subst (All (λ (f : Known). f.table ≡ N.table)) (sym is) c.requires.feeds in
-    record { all = may_poll (λ b h. (goal.Receiver-dyn g (b.vtable, b.value)).stands_for b.value h) (λ b. (goal.Receiver-dyn g (b.vtable, b.value)).least_start b.value) N.table (length N.settings.sources) crew.radios.items crew.pollers.items crew.leap claims tables }
+    record { all = may_poll N.table (length N.settings.sources) crew.radios.items crew.pollers.items crew.leap claims tables }
 
 pub run_crew-gear-requires-clause-leap : goal.run_crew-gear-requires-clause-leap
 run_crew-gear-requires-clause-leap g c κs within =
@@ -72,7 +72,7 @@ run_crew-gear-requires-clause-leap g c κs within =
     let is = c.man_crew-crew.ensures.feeds in
     let claims = ap (λ l. map (λ (f : Known). claim_of f.view) l) is ∙ c.requires.claims in
     let tables = subst (All (λ (f : Known). f.table ≡ N.table)) (sym is) c.requires.feeds in
-    may_notice (λ b h. (goal.Receiver-dyn g (b.vtable, b.value)).stands_for b.value h) (λ b. (goal.Receiver-dyn g (b.vtable, b.value)).least_start b.value) N.table (length N.settings.sources) crew.radios.items crew.pollers.items crew.leap claims tables
+    may_notice N.table (length N.settings.sources) crew.radios.items crew.pollers.items crew.leap claims tables
 
 pub run_crew-gear-requires-clause-responders : goal.run_crew-gear-requires-clause-responders
 run_crew-gear-requires-clause-responders g c κs within =
@@ -99,11 +99,11 @@ close-requires-clause-feeds g c =
     let is = c.man_crew-crew.ensures.feeds in
     let claims = ap (λ l. map (λ (f : Known). claim_of f.view) l) is ∙ c.requires.claims in
     let tables = subst (All (λ (f : Known). f.table ≡ N.table)) (sym is) c.requires.feeds in
-    let hear = may_hear (λ b h. (goal.Receiver-dyn g (b.vtable, b.value)).stands_for b.value h) (λ b. (goal.Receiver-dyn g (b.vtable, b.value)).least_start b.value) N.table (length N.settings.sources) crew.radios.items crew.pollers.items crew.leap claims tables c.args.receivers.items c.man_crew-crew.ensures.manned.receivers_are in
-    let poll = may_poll (λ b h. (goal.Receiver-dyn g (b.vtable, b.value)).stands_for b.value h) (λ b. (goal.Receiver-dyn g (b.vtable, b.value)).least_start b.value) N.table (length N.settings.sources) crew.radios.items crew.pollers.items crew.leap claims tables in
-    let one = each_keeps (λ x. x.worker.pass.table ≡ N.table) (RadioRan (λ b h. (goal.Receiver-dyn g (b.vtable, b.value)).stands_for b.value h) g.L.Source.state g.L.Source.opening N.limit) (λ a b z h. z.table ∙ h) crew.radios.items r.radios r.radios_ran r.radio_count (λ i d lt. (hear i d lt).pass.table_is) in
+    let hear = may_hear N.table (length N.settings.sources) crew.radios.items crew.pollers.items crew.leap claims tables _ _ c.args.receivers.items c.man_crew-crew.ensures.manned.receivers_are in
+    let poll = may_poll N.table (length N.settings.sources) crew.radios.items crew.pollers.items crew.leap claims tables in
+    let one = each_keeps (λ x. x.worker.pass.table ≡ N.table) (RadioRan _ g.L.Source.state g.L.Source.opening N.limit) (λ a b z h. z.table ∙ h) crew.radios.items r.radios r.radios_ran r.radio_count (λ i d lt. (hear i d lt).pass.table_is) in
     let two = each_keeps (λ x. x.worker.pass.table ≡ N.table) (PollRan g.T.Link.state g.T.Link.opening N.limit) (λ a b z h. z.table ∙ h) crew.pollers.items r.pollers r.pollers_ran r.poller_count (λ i d lt. (poll i d lt).pass.table_is) in
-    let notice = may_notice (λ b h. (goal.Receiver-dyn g (b.vtable, b.value)).stands_for b.value h) (λ b. (goal.Receiver-dyn g (b.vtable, b.value)).least_start b.value) N.table (length N.settings.sources) crew.radios.items crew.pollers.items crew.leap claims tables in
+    let notice = may_notice N.table (length N.settings.sources) crew.radios.items crew.pollers.items crew.leap claims tables in
     let three = both_keeps (λ x. x.worker.pass.table ≡ N.table) (MayNotice N.table (length N.settings.sources)) (LeapRan g.L.Source.state g.L.Source.opening N.limit) (λ a b z h. z.table ∙ h.pass.table_is) crew.leap r.leap r.leap_ran notice in
     subst (All P) (sym r.feeds)
     (All-append P (map radio_pass r.radios ++ map poll_pass r.pollers) (map leap_pass (option_to_list r.leap)) (All-append P (map radio_pass r.radios) (map poll_pass r.pollers) (All-map P radio_pass r.radios one) (All-map P poll_pass r.pollers two)) (All-map P leap_pass (option_to_list r.leap) three))
@@ -136,7 +136,7 @@ returns-clause-radios g c =
     let j = c.close.result.entries in
     let claims = ap (λ l. map (λ (f : Known). claim_of f.view) l) c.man_crew-crew.ensures.feeds ∙ c.requires.claims in
     let all = subst (All (λ (f : Known). IsTrueOf j (claim_of f.view))) r.feeds c.close.ensures.feeds in
-    let told = radios_served (λ b h. (goal.Receiver-dyn g (b.vtable, b.value)).stands_for b.value h) (λ b. (goal.Receiver-dyn g (b.vtable, b.value)).least_start b.value) g.L.Source.state g.L.Source.opening g.T.Link.state g.T.Link.opening N.limit (length N.settings.sources) j crew.radios.items r.radios crew.pollers.items r.pollers crew.leap r.leap claims r.radios_ran r.radio_count r.pollers_ran r.poller_count r.leap_ran all c.args.station.now.radios c.args.receivers.items c.requires.blank m.receivers_are c.close.ensures.within in
+    let told = radios_served g.L.Source.state g.L.Source.opening g.T.Link.state g.T.Link.opening N.limit (length N.settings.sources) j crew.radios.items r.radios crew.pollers.items r.pollers crew.leap r.leap claims r.radios_ran r.radio_count r.pollers_ran r.poller_count r.leap_ran all _ c.args.station.now.radios c.args.receivers.items c.requires.blank m.receivers_are c.close.ensures.within in
     subst (λ l. RadiosServed g.L.Source.state g.L.Source.opening c.args.station.now.radios N.limit j l c.run_crew-gear.result.gear.logs.items c.run_crew-gear.result.radios.items) m.logs
     (subst (λ l. RadiosServed g.L.Source.state g.L.Source.opening c.args.station.now.radios N.limit j (map log_of crew.radios.items) l c.run_crew-gear.result.radios.items) (sym r.logs)
     (subst (λ l. RadiosServed g.L.Source.state g.L.Source.opening c.args.station.now.radios N.limit j (map log_of crew.radios.items) (map log_of r.radios) l) (sym r.log_works) told))
@@ -153,7 +153,7 @@ returns-clause-servers g c =
     let all = subst (All (λ (f : Known). IsTrueOf j (claim_of f.view))) r.feeds c.close.ensures.feeds in
     let one : vec_len c.args.gear.logs ≡ length c.args.gear.logs.items = search rules in
     let first : length crew.radios.items ≡ length of.radios = sym (length-map crew.radios.items log_of) ∙ ap length m.logs ∙ sym one ∙ c.requires.gear.logs in
-    let told = servers_served (λ b h. (goal.Receiver-dyn g (b.vtable, b.value)).stands_for b.value h) (λ b. (goal.Receiver-dyn g (b.vtable, b.value)).least_start b.value) g.L.Source.state g.L.Source.opening g.T.Link.state g.T.Link.opening N.limit (length N.settings.sources) j crew.radios.items r.radios crew.pollers.items r.pollers crew.leap r.leap claims r.radios_ran r.radio_count r.pollers_ran r.poller_count r.leap_ran all of.servers m.asked c.close.ensures.within in
+    let told = servers_served g.L.Source.state g.L.Source.opening g.T.Link.state g.T.Link.opening N.limit (length N.settings.sources) j crew.radios.items r.radios crew.pollers.items r.pollers crew.leap r.leap claims r.radios_ran r.radio_count r.pollers_ran r.poller_count r.leap_ran all of.servers m.asked c.close.ensures.within in
     subst (λ n. ServersServed g.T.Link.state g.T.Link.opening of.servers n N.limit j c.args.gear.servers.items c.run_crew-gear.result.gear.servers.items c.run_crew-gear.result.servers.items) first
     (subst (λ l. ServersServed g.T.Link.state g.T.Link.opening of.servers (length crew.radios.items) N.limit j l c.run_crew-gear.result.gear.servers.items c.run_crew-gear.result.servers.items) m.servers
     (subst (λ l. ServersServed g.T.Link.state g.T.Link.opening of.servers (length crew.radios.items) N.limit j (map server_link crew.pollers.items) l c.run_crew-gear.result.servers.items) (sym r.servers)
@@ -174,7 +174,7 @@ returns-clause-leap g c =
     let two : vec_len c.args.gear.servers ≡ length c.args.gear.servers.items = search rules in
     let radios : length crew.radios.items ≡ length of.radios = sym (length-map crew.radios.items log_of) ∙ ap length m.logs ∙ sym one ∙ c.requires.gear.logs in
     let servers : length crew.pollers.items ≡ length of.servers = sym (length-map crew.pollers.items server_link) ∙ ap length m.servers ∙ sym two ∙ c.requires.gear.servers in
-    let told = leap_served (λ b h. (goal.Receiver-dyn g (b.vtable, b.value)).stands_for b.value h) (λ b. (goal.Receiver-dyn g (b.vtable, b.value)).least_start b.value) g.L.Source.state g.L.Source.opening g.T.Link.state g.T.Link.opening N.limit (length N.settings.sources) j crew.radios.items r.radios crew.pollers.items r.pollers crew.leap r.leap claims r.radios_ran r.radio_count r.pollers_ran r.poller_count r.leap_ran all start m.begins c.close.ensures.within in
+    let told = leap_served g.L.Source.state g.L.Source.opening g.T.Link.state g.T.Link.opening N.limit (length N.settings.sources) j crew.radios.items r.radios crew.pollers.items r.pollers crew.leap r.leap claims r.radios_ran r.radio_count r.pollers_ran r.poller_count r.leap_ran all start m.begins c.close.ensures.within in
     let first : length crew.radios.items + length crew.pollers.items ≡ length of.radios + length of.servers = ap (λ n. n + length crew.pollers.items) radios ∙ ap (λ n. length of.radios + n) servers in
     subst (λ n. LeapServed g.L.Source.state g.L.Source.opening start n N.limit j c.args.gear.leap c.run_crew-gear.result.gear.leap c.run_crew-gear.result.leap) first
     (subst (λ o. LeapServed g.L.Source.state g.L.Source.opening start (length crew.radios.items + length crew.pollers.items) N.limit j o c.run_crew-gear.result.gear.leap c.run_crew-gear.result.leap) m.file
@@ -193,7 +193,7 @@ returns-clause-links g c =
     let lawful = subst (λ (s : SettingsFields). All (IsKept (length s.sources)) j) c.close.ensures.settings c.close.ensures.lawful in
     let read = subst (All (λ (r : KnownReader). HasRead N.settings j r.view)) r.readers (subst (λ (s : SettingsFields). All (λ (r : KnownReader). HasRead s j r.view) c.run_crew-gear.result.readers.items) c.close.ensures.settings c.close.ensures.readers) in
     let new = subst (All (IsNewReader N.table)) (sym c.man_crew-crew.ensures.readers) c.requires.readers in
-    let bound : (x : KnownReader) → HasSeenAll (passes_of r.radios r.pollers r.leap) x → length j ≤ x.view.seen = λ x seen. seen_all (λ b h. (goal.Receiver-dyn g (b.vtable, b.value)).stands_for b.value h) (λ b. (goal.Receiver-dyn g (b.vtable, b.value)).least_start b.value) g.L.Source.state g.L.Source.opening g.T.Link.state g.T.Link.opening N.limit (length N.settings.sources) j crew.radios.items r.radios crew.pollers.items r.pollers crew.leap r.leap claims r.radios_ran r.radio_count r.pollers_ran r.poller_count r.leap_ran all lawful x.view.seen seen in
+    let bound : (x : KnownReader) → HasSeenAll (passes_of r.radios r.pollers r.leap) x → length j ≤ x.view.seen = λ x seen. seen_all g.L.Source.state g.L.Source.opening g.T.Link.state g.T.Link.opening N.limit (length N.settings.sources) j crew.radios.items r.radios crew.pollers.items r.pollers crew.leap r.leap claims r.radios_ran r.radio_count r.pollers_ran r.poller_count r.leap_ran all lawful x.view.seen seen in
     let told = links_served g.T.Link.state g.T.Link.opening c.args.station.now.keys (gate_of c.args.station.now) N.settings j c.args.budget.during c.args.budget.after N.table (passes_of r.radios r.pollers r.leap) crew.responders.items r.responders r.served r.responder_count new m.unserved m.keyed m.gated read bound in
     subst (λ l. LinksServed g.T.Link.state g.T.Link.opening c.args.station.now.keys (gate_of c.args.station.now) N.settings j c.args.budget.during c.args.budget.after l c.run_crew-gear.result.gear.links.items c.run_crew-gear.result.links.items) m.links
     (subst (λ l. LinksServed g.T.Link.state g.T.Link.opening c.args.station.now.keys (gate_of c.args.station.now) N.settings j c.args.budget.during c.args.budget.after (map link_of crew.responders.items) l c.run_crew-gear.result.links.items) (sym r.links)

@@ -1,7 +1,7 @@
 -- What the search leaves open of `telling::tell_all`.
 use Rattle.std.proofs.Common.{rules, ◌<◌, ◌≤◌, slice_index_or, length, ◌∙◌, subst}
 use Rattle.page_cell.specs.Passes.{Known, claim_of}
-use Rattle.station_crew.proofs.ListLaws.{told_more, told_all, same_set}
+use Rattle.crew_work.proofs.ListLaws.{told_more, told_all, same_set}
 use Rattle.station_crew.proofs.telling.tell_all.Goals as goal
 
 pub loop-i-preserved : goal.loop-i-preserved

@@ -5,9 +5,9 @@ use Rattle.std.specs.List.{range_with_len}
 use Rattle.std.specs.Vec.Iter.{into_iter_items}
 use Rattle.std.proofs.lemmas.List.{nil_from_length}
 use Rattle.station_crew.specs.Leaving.{number_of}
-use Rattle.station_crew.specs.Lists.{Pairs}
+use Rattle.crew_work.specs.Lists.{Pairs}
 use Rattle.station_crew.specs.Telling.{WasTold}
-use Rattle.station_crew.proofs.ListLaws.{all_rest, front_none, front_more, front_whole, numbered_more}
+use Rattle.crew_work.proofs.ListLaws.{all_rest, front_none, front_more, front_whole, numbered_more}
 use Rattle.station_crew.proofs.telling.tell_responders.Goals as goal
 
 pub loop-job-init : goal.loop-job-init

@@ -4,7 +4,7 @@ use Rattle.std.specs.Prelude.{All, vec_capacity, vec_len}
 use Rattle.std.specs.List.{range_with_len}
 use Rattle.std.specs.Vec.Iter.{into_iter_items, into_iter_len}
 use Rattle.station_crew.specs.Leaving.{number_of}
-use Rattle.station_crew.specs.Lists.{PairsFront}
+use Rattle.crew_work.specs.Lists.{PairsFront}
 use Rattle.station_crew.specs.Telling.{WasTold}
 use Rattle.station_crew.proofs.telling.tell_responders.Given as goal
 

@@ -9,12 +9,12 @@ use Rattle.script_player.proofs.player.Player+BoxedReceiver.answer.Goals as goal
 pub returns-in_err-entry-clause-plays : goal.returns-in_err-entry-clause-plays
 returns-in_err-entry-clause-plays g c station limit before h =
     let p = err_from_is_err_and c.from_residual.result c.from_residual.ensures.1 in
-    rw p.1 (still-servers (λ b h. (goal.Receiver-dyn g (b.vtable, b.value)).stands_for b.value h) c.args.self.now _ station limit before _ refl refl refl refl refl (c.in_err-entry.ensures.answered station (lines_of before) h.servers) h)
+    rw p.1 (still-servers _ c.args.self.now _ station limit before _ refl refl refl refl refl (c.in_err-entry.ensures.answered station (lines_of before) h.servers) h)
 
 pub returns-clause-plays : goal.returns-clause-plays
 returns-clause-plays g c station limit before h =
     let e : take c.write-length.result c.write-length.new.out ≡ c.args.datagram.now = c.write-length.ensures.bytes in
     let answered : HasAnswered c.answer.new.self station (lines_of before) c.args.feed c.args.at (take c.write-length.result c.write-length.new.out) c.in_ok-entry.entry = (c.in_ok-entry.ensures.answered station (lines_of before) h.servers).1 in
-    answers-server (λ b h. (goal.Receiver-dyn g (b.vtable, b.value)).stands_for b.value h) c.args.self.now _ station limit before c.args.feed c.args.at c.args.datagram.now c.in_ok-entry.entry c.take.result
+    answers-server _ c.args.self.now _ station limit before c.args.feed c.args.at c.args.datagram.now c.in_ok-entry.entry c.take.result
     ((c.in_ok-entry.ensures.answered station (lines_of before) h.servers).0, subst (λ d. HasAnswered c.answer.new.self station (lines_of before) c.args.feed c.args.at d c.in_ok-entry.entry) e answered)
     refl refl refl refl c.take.ensures.kept c.take.ensures.outcome h

@@ -5,5 +5,5 @@ use Rattle.script_player.proofs.player.Player+BoxedReceiver.judge_and_reply.Goal
 
 pub returns-clause-given : goal.returns-clause-given
 returns-clause-given g c station limit before h =
-    judges-request (λ b h. (goal.Receiver-dyn g (b.vtable, b.value)).stands_for b.value h) c.args.self.now _ station limit before c.args.connection c.args.arrived c.args.sent c.args.request.now.datagram.now c.sender_of.result c.judge-judged.result c.reply.result c.page-page.result
+    judges-request _ c.args.self.now _ station limit before c.args.connection c.args.arrived c.args.sent c.args.request.now.datagram.now c.sender_of.result c.judge-judged.result c.reply.result c.page-page.result
     refl refl refl refl refl c.sender_of.ensures c.judge-judged.ensures.judged c.judge-judged.ensures.table c.reply.ensures.replied (c.page-page.ensures station limit before h) h

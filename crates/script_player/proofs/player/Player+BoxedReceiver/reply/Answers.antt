@@ -17,5 +17,5 @@ pub returns-in-Err-clause-given : goal.returns-in-Err-clause-given
 returns-in-Err-clause-given g c station limit before h =
     let e : take c.write-length.result c.write-length.new.out ≡ c.args.datagram.now = c.write-length.ensures.bytes in
     let dropped : request_of (take c.write-length.result c.write-length.new.out) ≡ Err c.in-Err.why = c.in-Err.ensures.dropped in
-    drops-request (λ b h. (goal.Receiver-dyn g (b.vtable, b.value)).stands_for b.value h) c.args.self.now station limit before c.args.connection c.args.arrived c.args.sent c.args.datagram.now c.in-Err.why
+    drops-request _ c.args.self.now station limit before c.args.connection c.args.arrived c.args.sent c.args.datagram.now c.in-Err.why
     (subst (λ d. request_of d ≡ Err c.in-Err.why) e dropped) h

@@ -8,8 +8,8 @@ use Rattle.script_player.proofs.player.Player+BoxedReceiver.swap.Goals as goal
 pub returns-in_err-swap-clause-plays : goal.returns-in_err-swap-clause-plays
 returns-in_err-swap-clause-plays g c station limit before h =
     let p = err_from_is_err_and c.from_residual.result c.from_residual.ensures.1 in
-    rw p.1 (still (λ b h. (goal.Receiver-dyn g (b.vtable, b.value)).stands_for b.value h) c.args.self.now _ station limit before _ refl refl refl refl refl (c.in_err-swap.ensures.swapped station (lines_of before) h.radios) h)
+    rw p.1 (still _ c.args.self.now _ station limit before _ refl refl refl refl refl (c.in_err-swap.ensures.swapped station (lines_of before) h.radios) h)
 
 pub returns-clause-plays : goal.returns-clause-plays
 returns-clause-plays g c station limit before h =
-    swaps-radio (λ b h. (goal.Receiver-dyn g (b.vtable, b.value)).stands_for b.value h) c.args.self.now _ station limit before c.args.feed (c.in_ok-swap.ensures.swapped station (lines_of before) h.radios) refl refl refl refl refl h
+    swaps-radio _ c.args.self.now _ station limit before c.args.feed (c.in_ok-swap.ensures.swapped station (lines_of before) h.radios) refl refl refl refl refl h

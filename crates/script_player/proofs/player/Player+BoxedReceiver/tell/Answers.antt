@@ -8,9 +8,9 @@ use Rattle.script_player.proofs.player.Player+BoxedReceiver.tell.Goals as goal
 pub returns-in_err-entry-clause-plays : goal.returns-in_err-entry-clause-plays
 returns-in_err-entry-clause-plays g c station limit before h =
     let p = err_from_is_err_and c.from_residual.result c.from_residual.ensures.1 in
-    rw p.1 (still-leap (λ b h. (goal.Receiver-dyn g (b.vtable, b.value)).stands_for b.value h) c.args.self.now _ station limit before _ refl refl refl refl refl (c.in_err-entry.ensures.told station (lines_of before) h.leap) h)
+    rw p.1 (still-leap _ c.args.self.now _ station limit before _ refl refl refl refl refl (c.in_err-entry.ensures.told station (lines_of before) h.leap) h)
 
 pub returns-clause-plays : goal.returns-clause-plays
 returns-clause-plays g c station limit before h =
-    tells-leap (λ b h. (goal.Receiver-dyn g (b.vtable, b.value)).stands_for b.value h) c.args.self.now _ station limit before c.args.feed c.args.at c.args.leap_at c.in_ok-entry.entry c.take.result
+    tells-leap _ c.args.self.now _ station limit before c.args.feed c.args.at c.args.leap_at c.in_ok-entry.entry c.take.result
     (c.in_ok-entry.ensures.told station (lines_of before) h.leap) refl refl refl refl c.take.ensures.kept c.take.ensures.outcome h

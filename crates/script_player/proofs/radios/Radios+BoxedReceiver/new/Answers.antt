@@ -13,7 +13,7 @@ use Rattle.script_player.proofs.radios.Radios+BoxedReceiver.new.Goals as goal
 pub loop-place-init : goal.loop-place-init
 loop-place-init g c =
     let none = c.in_ok-with_capacity.ensures.items in (
-      starts (λ b h. (goal.Receiver-dyn g (b.vtable, b.value)).stands_for b.value h) _ c.args.station.now none c.in_ok-four_of_each.ensures.four,
+      starts _ _ c.args.station.now none c.in_ok-four_of_each.ensures.four,
       record { fitted = subst (All (λ r. (goal.Receiver-dyn g (r.receiver.vtable, r.receiver.value)).least_start r.receiver.value ≤ r.least)) (sym none) (All-nil _); left = c.in_ok-four_of_each.ensures.ready },
       c.radios-count.ensures.bounds,
       c.radios-count.ensures.value,
@@ -26,7 +26,7 @@ pub add-requires-clause-left : goal.add-requires-clause-left
 add-requires-clause-left g c =
     let some : c.radio.result ≡ Some c.unwrap-row.result = search rules in
     let at : slice_get c.args.station.now.radios c.loop-place.place ≡ Some (radio_given c.unwrap-row.result) = sym c.radio.ensures ∙ ap (option_map radio_given) some in
-    some-left (λ b h. (goal.Receiver-dyn g (b.vtable, b.value)).stands_for b.value h) c.loop-place.radios c.args.station.now c.loop-place.place (radio_given c.unwrap-row.result) c.loop-place.invariant.2 at c.loop-place.invariant.0
+    some-left _ c.loop-place.radios c.args.station.now c.loop-place.place (radio_given c.unwrap-row.result) c.loop-place.invariant.2 at c.loop-place.invariant.0
 
 pub add-requires-clause-delay : goal.add-requires-clause-delay
 add-requires-clause-delay g c =
@@ -39,11 +39,11 @@ loop-place-preserved g c =
     let some : c.radio.result ≡ Some c.unwrap-row.result = search rules in
     let fields = radio_given c.unwrap-row.result in
     let at : slice_get c.args.station.now.radios c.loop-place.place ≡ Some fields = sym c.radio.ensures ∙ ap (option_map radio_given) some in (
-      goes-on (λ b h. (goal.Receiver-dyn g (b.vtable, b.value)).stands_for b.value h) c.add.new.self c.args.station.now c.loop-place.place fields at (c.in_ok-add.ensures.added (first_radios c.loop-place.place c.args.station.now) fields refl refl c.loop-place.invariant.0),
+      goes-on _ c.add.new.self c.args.station.now c.loop-place.place fields at (c.in_ok-add.ensures.added (first_radios c.loop-place.place c.args.station.now) fields refl refl c.loop-place.invariant.0),
       c.in_ok-add.ensures.ready,
       c.loop-place.invariant.2,
       c.loop-place.invariant.3,
     )
 
 pub returns-clause-played : goal.returns-clause-played
-returns-clause-played g c = all-radios (λ b h. (goal.Receiver-dyn g (b.vtable, b.value)).stands_for b.value h) c.loop-place.radios c.args.station.now c.loop-place.place (omega (arith, c.loop-place.invariant.3)) c.loop-place.invariant.0
+returns-clause-played g c = all-radios _ c.loop-place.radios c.args.station.now c.loop-place.place (omega (arith, c.loop-place.invariant.3)) c.loop-place.invariant.0

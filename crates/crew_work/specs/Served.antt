@@ -1,0 +1,136 @@
+-- What the radios, the servers, the leap second file and the links of a station leave, by its journal. All of it is this project's own.
+use Rattle.std.specs.Prelude.{◌≡◌, ◌≢◌, ℕ, ◌+◌, ◌*◌, ◌<◌, ◌≤◌, Bool, Option, List, [], ◌++◌, All, Some, None, length, map, slice_index_or, take}
+use Rattle.std.specs.List.{flat_map, sum_by}
+use Rattle.feed_link.specs.Told.{SourceState, LinkState, NetEvent, Adds}
+use Rattle.feed_workers.specs.Leaps.{EndsLeap, due_leap, most_of_a_list}
+use Rattle.feed_workers.specs.Logs.{EndsLog, most_of_a_log}
+use Rattle.feed_workers.specs.Polling.{EndsPolls}
+use Rattle.feed_workers.specs.Polls.{due_link}
+use Rattle.feed_workers.specs.declared.work.LogWork.{LogWork}
+use Rattle.feed_workers.specs.declared.work.PollWork.{PollWork}
+use Rattle.kiss_gate.specs.Gates.{Gate}
+use Rattle.packet_auth.specs.Keys.{KeyFields}
+use Rattle.journal_entry.specs.declared.entry.Entry.{Entry}
+use Rattle.log_decoder.specs.Due.{due_log}
+use Rattle.radio_receiver.specs.Histories.{History}
+use Rattle.responder.specs.Serving.{EndsBy}
+use Rattle.responder.specs.Turns.{Turn, Reading, events_of, readings_of, AreTurns, answered_of, dropped_of, torn_of, kissed_of, unkept_of, Rises}
+use Rattle.responder.specs.declared.served.End.TheVariants.{Count}
+use Rattle.responder.specs.declared.served.Served.{Served}
+use Rattle.station_config.specs.Station.{RadioFields, ServerFields}
+use Rattle.crew_work.specs.Due.{HasDue}
+use Rattle.crew_work.specs.Lists.{Pairs}
+use Rattle.crew_work.specs.declared.work.LinkWork.{LinkWork}
+use Rattle.system_fold.specs.Page.{page_of}
+use Rattle.system_fold.specs.Settings.{IsJournal, SettingsFields}
+use Rattle.verdict_journal.specs.Journals.{State}
+
+-- a receiver of a radio's plan and delay that has heard nothing
+pub record IsBlank {B : Type 0} (stands : B → History → Type 0) (least : B → ℕ) (radio : RadioFields) (receiver : B) : Type 0 where
+  pub stands_for : stands receiver (record { plan = radio.plan; delay = radio.delay; reductions = [] })
+  pub least_start : least receiver ≡ 0
+
+-- one such receiver for each radio, in order
+abbrev pub AreBlank : {B : Type 0} → (B → History → Type 0) → (B → ℕ) → List RadioFields → List B → Type 0
+AreBlank stands least radios receivers = Pairs (IsBlank stands least) radios receivers
+
+-- the journal has these settings and this limit, is within it, and each of its entries is lawful
+pub record IsJournalOf (settings : SettingsFields) (limit : ℕ) (journal : State) : Type 0 where
+  pub settings_are : journal.settings ≡ settings
+  pub limit_is : journal.limit ≡ limit
+  pub within : length journal.entries ≤ limit
+  pub lawful : IsJournal settings journal.entries
+
+-- these bytes were read of a radio's log, and the journal has the entries that are due for them
+pub record HearsRadio (radio : RadioFields) (feed limit : ℕ) (journal : List Entry) (log log_now : SourceState) (work : LogWork) : Type 0 where
+  pub bytes : List ℕ
+  pub ends : EndsLog most_of_a_log log log_now bytes work.end
+  pub due : HasDue limit journal feed work.full (due_log feed radio.plan radio.delay bytes)
+
+-- a server's link has these events more, which are those of its polls, and the journal has the entries that are due for them
+pub record AsksServer (server : ServerFields) (feed limit : ℕ) (journal : List Entry) (link link_now : LinkState) (work : PollWork) : Type 0 where
+  pub events : List NetEvent
+  pub told : Adds link.events link_now.events events
+  pub ends : EndsPolls server.address server.polls link.faults link_now.faults events work.end
+  pub due : HasDue limit journal feed work.full (due_link feed server.address events)
+
+-- these bytes were read of a leap second file, perhaps to its end, and the journal has the entries that are due for them at the station's first moment
+pub record NoticesLeaps (start feed limit : ℕ) (journal : List Entry) (file file_now : SourceState) (work : LogWork) : Type 0 where
+  pub bytes : List ℕ
+  pub whole : Bool
+  pub ends : EndsLeap most_of_a_list file file_now bytes whole work.end
+  pub due : HasDue limit journal feed work.full (due_leap feed start whole bytes)
+
+-- a page that was read is that of the first so many entries of the journal
+pub record IsReadOf (settings : SettingsFields) (journal : List Entry) (reading : Reading) : Type 0 where
+  pub within : reading.length ≤ length journal
+  pub page : reading.page ≡ page_of settings (take reading.length journal)
+
+-- what was told of a phase is what its turns come to
+pub record CountsTurns (served : Served) (turns : List Turn) : Type 0 where
+  pub answered : served.answered ≡ sum_by answered_of turns
+  pub dropped : served.dropped ≡ sum_by dropped_of turns
+  pub again : served.again ≡ sum_by torn_of turns
+  pub kissed : served.kissed ≡ sum_by kissed_of turns
+  pub unkept : served.unkept ≡ sum_by unkept_of turns
+
+-- these turns were taken in a phase of at most so many hearings, by which the link came from one state to the other
+pub record ServesPhase (budget : ℕ) (link link_now : LinkState) (served : Served) (turns : List Turn) : Type 0 where
+  pub events : Adds link.events link_now.events (flat_map events_of turns)
+  pub most : length turns ≤ budget
+  pub ends : EndsBy budget link.faults link_now.faults turns served.end
+  pub counts : CountsTurns served turns
+
+-- A link's second phase: where the first one made as many hearings as it was asked for, these turns; else there was none, and the
+-- link is as the first one left it
+pub record HasSecond (budget : ℕ) (link link_now : LinkState) (work : LinkWork) (turns : List Turn) : Type 0 where
+  pub served : work.first.end ≡ Count → (served : Served) × (work.second ≡ Some served) × ServesPhase budget link link_now served turns
+  pub not : work.first.end ≢ Count → (work.second ≡ None) × (link_now ≡ link) × (turns ≡ [])
+
+-- The turns of a link in both phases. Each request is judged by the gate as the turns before it left it, from this one on, also from phase to
+-- phase; its reply is the one by the code and from the page that was read in its turn, sealed by one of the keys exactly where the datagram
+-- is authentic by it. Each page that was read is that of a beginning of the journal, and these beginnings never shorten. In the second phase
+-- each is the whole journal, and no datagram is left unread for; of those that were in the first phase four times as many are no more than
+-- there are entries
+pub record ServesLink (keys : List KeyFields) (gate : Gate) (settings : SettingsFields) (journal : List Entry) (during after : ℕ) (link link_now : LinkState) (work : LinkWork) : Type 0 where
+  pub first : List Turn
+  pub second : List Turn
+  pub between : LinkState
+  pub first_phase : ServesPhase during link between work.first first
+  pub second_phase : HasSecond after between link_now work second
+  pub gate_now : Gate
+  pub lawful : AreTurns keys gate (first ++ second) gate_now
+  pub pages : All (IsReadOf settings journal) (flat_map readings_of (first ++ second))
+  pub last : ℕ
+  pub rising : Rises 0 (flat_map readings_of (first ++ second)) last
+  pub whole : All (λ reading. reading.length ≡ length journal) (flat_map readings_of second)
+  pub none_again : sum_by torn_of second ≡ 0
+  pub few_again : 4 * sum_by torn_of first ≤ length journal
+
+-- the radios are the first feeds, in order: what was done with the log of each, which is still that of its opening
+pub record RadiosServed {L : Type 0} (state : L → SourceState) (opening : L → ℕ) (radios : List RadioFields) (limit : ℕ) (journal : List Entry) (logs logs_now : List L) (works : List LogWork) : Type 0 where
+  pub openings : map opening logs_now ≡ map opening logs
+  pub count : length works ≡ length logs
+  pub at : (i : ℕ) (radio : RadioFields) (a b : L) (work : LogWork) → i < length logs →
+      HearsRadio (slice_index_or radios i radio) i limit journal (state (slice_index_or logs i a)) (state (slice_index_or logs_now i b)) (slice_index_or works i work)
+
+-- the servers are the feeds behind them
+pub record ServersServed {T : Type 0} (state : T → LinkState) (opening : T → ℕ) (servers : List ServerFields) (first limit : ℕ) (journal : List Entry) (links links_now : List T) (works : List PollWork) : Type 0 where
+  pub openings : map opening links_now ≡ map opening links
+  pub count : length works ≡ length links
+  pub at : (i : ℕ) (server : ServerFields) (a b : T) (work : PollWork) → i < length links →
+      AsksServer (slice_index_or servers i server) (first + i) limit journal (state (slice_index_or links i a)) (state (slice_index_or links_now i b)) (slice_index_or works i work)
+
+-- the leap second file is the feed behind them, where there is one: what was done with it, which is still that of its opening
+abbrev pub LeapServed : {L : Type 0} → (L → SourceState) → (L → ℕ) → (start feed limit : ℕ) → List Entry → Option L → Option L → Option LogWork → Type 0
+LeapServed state opening start feed limit journal None None None = Unit {0}
+LeapServed state opening start feed limit journal (Some file) (Some file_now) (Some work) =
+    (opening file_now ≡ opening file) × NoticesLeaps start feed limit journal (state file) (state file_now) work
+LeapServed state opening start feed limit journal _ _ _ = ⊥
+
+-- each link that the station serves on
+pub record LinksServed {T : Type 0} (state : T → LinkState) (opening : T → ℕ) (keys : List KeyFields) (gate : Gate) (settings : SettingsFields) (journal : List Entry) (during after : ℕ) (links links_now : List T) (works : List LinkWork) : Type 0 where
+  pub openings : map opening links_now ≡ map opening links
+  pub count : length works ≡ length links
+  pub at : (i : ℕ) (a b : T) (work : LinkWork) → i < length links →
+      ServesLink keys gate settings journal during after (state (slice_index_or links i a)) (state (slice_index_or links_now i b)) (slice_index_or works i work)

@@ -1,0 +1,99 @@
+-- A log without a fault is decoded whole.
+use Rattle.std.proofs.Common.{◌≡◌, ℕ, Option, Some, None, List, [], ◌++◌, length, refl, ap, sym, ◌∙◌, subst, inl, inr, arith, append_assoc}
+use Rattle.std.specs.Prelude.{IsSome}
+use Rattle.std.proofs.lemmas.List.{append-nil, length-append}
+use Rattle.std.proofs.lemmas.Bool.{false≢true}
+use Rattle.feed_link.specs.Faults.{Rose, RoseByOne}
+use Rattle.feed_link.specs.Told.{SourceState, SinkState, Takes, NoneLeft}
+use Rattle.feed_link.specs.Openings.{OutsideState}
+use Rattle.pulse_log.proofs.LogLaws.{bad_stays}
+use Rattle.tick_units.specs.Log.{bad_line, bad_at_end, or_unfinished, lines_of}
+use Rattle.tick_units.specs.declared.marks.Plan.{Plan}
+use Rattle.file_commands.specs.Decoding.{Decodes, IsGoodLog, HasGoodLog, RunsDecode, most_of_a_log}
+use Rattle.file_commands.specs.Endings.{status_of, ending_at}
+use Rattle.file_reader.specs.Ends.{HasReadFront, EndsReading}
+use Rattle.file_reader.specs.declared.reader.FileEnd.{FileEnd}
+use Rattle.file_reader.specs.declared.reader.FileEnd.TheVariants.{Whole, Fault, TooLong}
+use Rattle.file_commands.specs.Reading.{ReadsLines}
+use Rattle.file_commands.specs.declared.ending.status.Status.{Status}
+use Rattle.file_commands.specs.declared.ending.status.Status.TheVariants.{Done}
+use Rattle.file_commands.specs.declared.ending.subject.Subject.TheVariants.{Feed}
+use Rattle.file_commands.specs.declared.reading.Reach.{Reach}
+use Rattle.file_commands.specs.declared.reading.Reach.TheVariants.{AtEnd, AtBadLine}
+use Rattle.file_commands.proofs.OpeningLaws.{one_opened, one_failed}
+
+-- the bytes read of a file that told its bytes are a front of them
+pub front_of : (left left_now : Option (List ℕ)) (text bytes : List ℕ) → left ≡ Some text → IsSome left_now → Takes left left_now bytes → (rest : List ℕ) × (left_now ≡ Some rest) × (text ≡ bytes ++ rest)
+front_of left None text bytes told tells takes = absurd (false≢true tells)
+front_of None (Some rest) text bytes told tells takes = absurd takes
+front_of (Some left) (Some rest) text bytes told tells takes = let e : left ≡ text = cc in (rest, refl, sym e ∙ takes)
+
+pub none_left : (left_now : Option (List ℕ)) (rest : List ℕ) → left_now ≡ Some rest → NoneLeft left_now → rest ≡ []
+none_left left_now rest e h = subst NoneLeft e h
+
+pub rose_by_one : (before now : ℕ) → RoseByOne before now → Rose before now
+rose_by_one before now e = omega arith
+
+good_line : (bytes : List ℕ) (o : Option ℕ) → bad_line bytes ≡ o → or_unfinished o (lines_of bytes) ≡ None → bad_line bytes ≡ None
+good_line bytes None is e = is
+good_line bytes (Some n) is e = cc
+
+-- a front of a log without a bad line has none
+no_bad_front : (bytes extra rest text : List ℕ) (n : ℕ) → text ≡ (bytes ++ extra) ++ rest → bad_at_end text ≡ None → bad_line bytes ≡ Some n → ⊥
+no_bad_front bytes extra rest text n e good is =
+    let stays = bad_stays bytes (extra ++ rest) n is in
+    let whole : bad_line text ≡ Some n = ap bad_line (e ∙ append_assoc bytes extra rest) ∙ stays.0 in
+    let wrong : ◌≡◌ {A = Option ℕ} None (Some n) = sym (good_line text (bad_line text) refl good) ∙ whole in
+    cc
+
+pub whole_text : (bytes extra rest text : List ℕ) → text ≡ (bytes ++ extra) ++ rest → extra ≡ [] → rest ≡ [] → text ≡ bytes
+whole_text bytes extra rest text e none nothing =
+    e ∙ ap (λ (x : List ℕ). (bytes ++ x) ++ rest) none ∙ ap (λ (r : List ℕ). (bytes ++ []) ++ r) nothing ∙ append-nil (bytes ++ []) ∙ append-nil bytes
+
+-- such a log is read to its end
+module _ (opened back : SourceState) (good : IsGoodLog opened back) (bytes : List ℕ) where
+  -- a reading that ended so took a front of the text
+  pub front_by : (end : FileEnd) (read : EndsReading end most_of_a_log opened back bytes) → (rest : List ℕ) × (back.left ≡ Some rest) × (good.text ≡ (bytes ++ read.extra) ++ rest)
+  front_by end read = front_of opened.left back.left good.text (bytes ++ read.extra) good.told good.tells read.taken
+
+  front_so_far : HasReadFront most_of_a_log opened back bytes → (rest : List ℕ) × (back.left ≡ Some rest) × (good.text ≡ (bytes ++ []) ++ rest)
+  front_so_far read =
+      let front = front_of opened.left back.left good.text bytes good.told good.tells read.taken in
+      (front.0, front.1, front.2 ∙ ap (λ (b : List ℕ). b ++ front.0) (sym (append-nil bytes)))
+
+  pub good_reach : (reach : Reach) → ReadsLines reach most_of_a_log opened back bytes (bad_line bytes) → reach ≡ AtEnd Whole
+  good_reach (AtEnd Whole) h = refl
+  good_reach (AtEnd Fault) h = absurd (good.no_fault (rose_by_one opened.faults back.faults h.0.cause.1))
+  good_reach (AtEnd TooLong) h =
+      let front = front_by TooLong h.0 in
+      let size = h.0.cause.0 in
+      let one = h.0.cause.1 in
+      let most = good.most in
+      let len = ap length front.2 in
+      absurd (omega (arith, length-append (bytes ++ h.0.extra) front.0, length-append bytes h.0.extra))
+  good_reach (AtBadLine line) h =
+      let front = front_so_far h.0 in
+      elim h.1 [
+        | inl bad ↦ absurd (no_bad_front bytes [] front.0 good.text line front.2 good.lines bad)
+        | inr tail ↦ (let whole = whole_text bytes [] front.0 good.text front.2 refl (none_left back.left front.0 front.1 tail.0) in
+            let wrong : ◌≡◌ {A = Option ℕ} None (Some line) = sym good.lines ∙ ap bad_at_end whole ∙ tail.2 in
+            cc)
+      ]
+
+good_done : (plan : Plan) (opened back : SourceState) (out out_now : SinkState) (result : Status) →
+    Decodes plan opened back out out_now result → IsGoodLog opened back → (Rose out.faults out_now.faults → ⊥) → result ≡ Done
+good_done plan opened back out out_now result d good no_write = elim d [
+  | inr stopped ↦ absurd (no_write (rose_by_one out.faults out_now.faults (subst (λ (n : ℕ). RoseByOne n out_now.faults) stopped.lines.1 stopped.failed.3)))
+  | inl h ↦ elim h.written [
+    | inr failed ↦ absurd (no_write (rose_by_one out.faults out_now.faults (subst (λ (n : ℕ). RoseByOne n out_now.faults) h.lines.1 failed.1.3)))
+    | inl all ↦ all.0 ∙ ap (λ (r : Reach). status_of (ending_at (Feed 0) r)) (good_reach opened back good h.bytes h.due h.read)
+  ]
+]
+
+pub log_done : (plan : Plan) (name : List ℕ) (outside outside_now : OutsideState) (out out_now : SinkState) (result : Status) →
+    HasGoodLog name outside outside_now → (Rose out.faults out_now.faults → ⊥) → RunsDecode plan name outside outside_now out out_now result → result ≡ Done
+log_done plan name outside outside_now out out_now result p no_write did = elim did [
+  | inl not ↦ absurd (one_failed outside outside_now p.before p.were name p.opened p.back p.are not.opens)
+  | inr h ↦ (let same = one_opened outside outside_now p.before p.were name p.opened p.back p.are h.opened h.back h.opens in
+      good_done plan h.opened h.back out out_now result h.decodes (subst (λ (s : SourceState). IsGoodLog s h.back) (sym same.0) (subst (λ (s : SourceState). IsGoodLog p.opened s) (sym same.1) p.good)) no_write)
+]

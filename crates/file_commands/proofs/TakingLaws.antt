@@ -1,0 +1,73 @@
+-- How far the taking of a piece has come, and how it goes on.
+use Rattle.std.proofs.Common.{◌≡◌, ◌==◌, ◌≤◌, ℕ, true, length, arith, Option, None, Some, List, [], ◌∷◌, ◌++◌, take, drop, refl, ap, sym, ◌∙◌, subst, append_assoc}
+use Rattle.std.proofs.lemmas.List.{append-nil, take-append-drop}
+use Rattle.std.proofs.lemmas.Bool.{true≢false}
+use Rattle.std.proofs.lemmas.Bool.Decides.{nat_tests}
+use Rattle.feed_link.specs.Told.{SinkState}
+use Rattle.file_commands.specs.Taking.{Holds, Says, TakesAll, MeetsBad, Stops}
+use Rattle.sink_text.specs.Writing.{WritesAll, WritesFront}
+use Rattle.sink_text.proofs.WritingLaws.{writes_more}
+
+-- of all these bytes this rest is still to be taken; the text of those before it is written
+pub record IsTakenSoFar (holds : Holds) (start out : SinkState) (all rest : List ℕ) : Type 0 where
+  pub front : List ℕ
+  pub is : front ++ rest ≡ all
+  pub text : List ℕ
+  pub held : holds front text None
+  pub written : WritesAll start out text
+
+module _ (start out : SinkState) (all rest : List ℕ) (before : Holds) (h : IsTakenSoFar before start out all rest) where
+  cut_at : (count : ℕ) → (h.front ++ take count rest) ++ drop count rest ≡ all
+  cut_at count = append_assoc h.front (take count rest) (drop count rest) ∙ ap (λ (t : List ℕ). h.front ++ t) (take-append-drop count rest) ∙ h.is
+
+  -- so many bytes more, whose text is written
+  pub taken_on : (holds : Holds) (now : SinkState) (count : ℕ) (text : List ℕ) (bad : Option ℕ) →
+      holds (h.front ++ take count rest) (h.text ++ text) bad → bad ≡ None → WritesAll out now text → IsTakenSoFar holds start now all (drop count rest)
+  taken_on holds now count text bad held none written = record {
+    front = h.front ++ take count rest;
+    is = cut_at count;
+    text = h.text ++ text;
+    held = subst (λ (b : Option ℕ). holds (h.front ++ take count rest) (h.text ++ text) b) none held;
+    written = writes_more start out now h.text text h.written written;
+  }
+
+  pub taken_bad : (holds : Holds) (now : SinkState) (count number : ℕ) (text : List ℕ) (bad : Option ℕ) →
+      holds (h.front ++ take count rest) (h.text ++ text) bad → bad ≡ Some number → WritesAll out now text → MeetsBad holds number start now all
+  taken_bad holds now count number text bad held is written = record {
+    front = h.front ++ take count rest;
+    behind = drop count rest;
+    all = cut_at count;
+    text = h.text ++ text;
+    held = subst (λ (b : Option ℕ). holds (h.front ++ take count rest) (h.text ++ text) b) is held;
+    written = writes_more start out now h.text text h.written written;
+  }
+
+  rest_again : (count : ℕ) → take count rest ++ drop count rest ≡ rest
+  rest_again count = take-append-drop count rest
+
+  pub taken_stopped : (says : Says) → says h.front h.text → (now : SinkState) (most count : ℕ) → length rest ≤ most →
+      (text : List ℕ) → says (h.front ++ take count rest) (h.text ++ text) → WritesFront out now text → Stops says start now all most
+  taken_stopped says said now most count room text adds written = record {
+    earlier = h.front;
+    next = take count rest;
+    behind = drop count rest;
+    all = ap (λ (t : List ℕ). h.front ++ t) (rest_again count) ∙ h.is;
+    near = (let len = ap length (rest_again count) in omega arith);
+    text = h.text;
+    said = said;
+    between = out;
+    whole = h.written;
+    more = text;
+    adds = adds;
+    failed = written;
+  }
+
+-- nothing is left
+pub taken_whole : (holds : Holds) (start out : SinkState) (all rest : List ℕ) → IsTakenSoFar holds start out all rest → rest ≡ [] → TakesAll holds start out all
+taken_whole holds start out all rest h none =
+    let same : h.front ≡ all = sym (append-nil h.front) ∙ ap (λ (t : List ℕ). h.front ++ t) (sym none) ∙ h.is in
+    record { text = h.text; held = subst (λ (b : List ℕ). holds b h.text None) same h.held; written = h.written }
+
+pub none_of : (rest : List ℕ) → true ≡ (length rest == 0) → rest ≡ []
+none_of [] e = refl
+none_of (x ∷ rest) e = absurd (true≢false (e ∙ grind (arith, nat_tests)))

@@ -1,0 +1,85 @@
+-- What it is to decode a log: what is opened, the bytes read, why the reading ended, and what is written.
+use Rattle.std.specs.Prelude.{◌≡◌, ℕ, ◌⊎◌, ◌^◌, ◌≤◌, IsSome, Some, None, List, [], ◌++◌, ◌∷◌, length, map}
+use Rattle.feed_link.specs.Faults.{Rose}
+use Rattle.feed_link.specs.Told.{SourceState, SinkState}
+use Rattle.feed_link.specs.Openings.{Opening, OutsideState, Wanted, MakesOpenings, log_visit, visited}
+use Rattle.feed_link.specs.Openings.Wanted.{LogOf}
+use Rattle.file_reader.specs.Ends.{HasReadFront}
+use Rattle.tick_units.specs.declared.marks.Plan.{Plan}
+use Rattle.tick_units.specs.Log.{bad_line, bad_at_end}
+use Rattle.file_commands.specs.Endings.{status_of, status_line, ending_at}
+use Rattle.file_commands.specs.Opening.{CannotOpen}
+use Rattle.file_commands.specs.Reading.{ReadsLines}
+use Rattle.file_commands.specs.Text.{log_text}
+use Rattle.sink_text.specs.Writing.{WritesAll, WritesFront}
+use Rattle.file_commands.specs.Writing.{Answers}
+use Rattle.file_commands.specs.declared.ending.status.Status.{Status}
+use Rattle.file_commands.specs.declared.ending.status.Status.TheVariants.{WriteFault}
+use Rattle.file_commands.specs.declared.ending.subject.Subject.TheVariants.{Feed}
+use Rattle.file_commands.specs.declared.reading.Reach.{Reach}
+
+-- a log has at most 2^30 bytes
+abbrev pub most_of_a_log : ℕ
+most_of_a_log = 2 ^ 30
+
+-- the reading ended by itself: the lines of the answers are written, and then the status line, of which a write may fail
+pub record EndsByCause (plan : Plan) (file file_now : SourceState) (out out_now : SinkState) (result : Status) : Type 0 where
+  pub bytes : List ℕ
+  pub due : Reach
+  pub read : ReadsLines due most_of_a_log file file_now bytes (bad_line bytes)
+  pub between : SinkState
+  pub lines : WritesAll out between (log_text plan bytes)
+  pub written : Answers (status_of (ending_at (Feed 0) due)) result between out_now (status_line (ending_at (Feed 0) due))
+
+-- a write failed in the lines that the next bytes add, and nothing was read or written after it: the lines of those before them are
+-- written whole, and these came in one piece, which has at most 512
+pub record EndsByWriting (plan : Plan) (file file_now : SourceState) (out out_now : SinkState) (result : Status) : Type 0 where
+  pub earlier : List ℕ
+  pub next : List ℕ
+  pub read : HasReadFront most_of_a_log file file_now (earlier ++ next)
+  pub near : length next ≤ 512
+  pub between : SinkState
+  pub lines : WritesAll out between (log_text plan earlier)
+  pub more : List ℕ
+  pub adds : log_text plan (earlier ++ next) ≡ log_text plan earlier ++ more
+  pub failed : WritesFront between out_now more
+  pub answer : result ≡ WriteFault
+
+-- a log was decoded: what it and the sink told before and now, and the answer
+abbrev pub Decodes : Plan → SourceState → SourceState → SinkState → SinkState → Status → Type 0
+Decodes plan file file_now out out_now result = EndsByCause plan file file_now out out_now result ⊎ EndsByWriting plan file file_now out out_now result
+
+-- what a command to decode a log needs to open
+abbrev pub needed_by_decode : List ℕ → List Wanted
+needed_by_decode name = LogOf name ∷ []
+
+-- the log was opened once, decoded and given back
+pub record OpensAndDecodes (plan : Plan) (name : List ℕ) (outside outside_now : OutsideState) (out out_now : SinkState) (result : Status) : Type 0 where
+  pub opened : SourceState
+  pub back : SourceState
+  pub opens : MakesOpenings (needed_by_decode name) outside outside_now (log_visit name opened back ∷ []) None
+  pub decodes : Decodes plan opened back out out_now result
+
+-- what becomes of a command to decode a log
+abbrev pub RunsDecode : Plan → List ℕ → OutsideState → OutsideState → SinkState → SinkState → Status → Type 0
+RunsDecode plan name outside outside_now out out_now result =
+    CannotOpen (needed_by_decode name) [] (LogOf name) (Feed 0) outside outside_now out out_now result
+    ⊎ OpensAndDecodes plan name outside outside_now out out_now result
+
+-- a log that has no fault, and that told its bytes before and after
+pub record IsGoodLog (opened back : SourceState) : Type 0 where
+  pub text : List ℕ
+  pub told : opened.left ≡ Some text
+  pub tells : IsSome back.left
+  pub no_fault : Rose opened.faults back.faults → ⊥
+  pub lines : bad_at_end text ≡ None
+  pub most : length text ≤ most_of_a_log
+
+-- such a log was opened and given back
+pub record HasGoodLog (name : List ℕ) (outside outside_now : OutsideState) : Type 0 where
+  pub before : List Opening
+  pub opened : SourceState
+  pub back : SourceState
+  pub were : outside.openings ≡ Some before
+  pub are : outside_now.openings ≡ Some (before ++ map visited (log_visit name opened back ∷ []))
+  pub good : IsGoodLog opened back

@@ -1,0 +1,70 @@
+-- How a command ends: its status with the number of it, and the status line. The numbers and lines are this project's own.
+use Rattle.std.specs.Prelude.{ℕ, List, ◌++◌, codes, decimal}
+use Rattle.file_reader.specs.declared.reader.FileEnd.TheVariants as file
+use Rattle.file_commands.specs.declared.ending.Ending.{Ending}
+use Rattle.file_commands.specs.declared.ending.Ending.TheVariants.{Whole, WrongWords, NotOpened, NotRead, WrongLine, Full, NoMemory, LinkFailed, Long}
+use Rattle.file_commands.specs.declared.reading.Reach.{Reach}
+use Rattle.file_commands.specs.declared.reading.Reach.TheVariants.{AtEnd, AtBadLine}
+use Rattle.file_commands.specs.declared.ending.status.Status.{Status}
+use Rattle.file_commands.specs.declared.ending.status.Status.TheVariants.{Done, Usage, OpenFault, Station, ReadFault, BadLine, JournalFull, LinkFault, WriteFault, Memory, TooLong}
+use Rattle.file_commands.specs.declared.ending.subject.Subject.{Subject}
+use Rattle.file_commands.specs.declared.ending.subject.Subject.TheVariants as subject
+
+abbrev pub number_of : Status → ℕ
+number_of Done = 0
+number_of Usage = 1
+number_of OpenFault = 2
+number_of Station = 3
+number_of ReadFault = 4
+number_of BadLine = 5
+number_of JournalFull = 6
+number_of LinkFault = 7
+number_of WriteFault = 8
+number_of Memory = 9
+number_of TooLong = 10
+
+abbrev pub status_of : Ending → Status
+status_of Whole = Done
+status_of WrongWords = Usage
+status_of (NotOpened what) = OpenFault
+status_of (NotRead what) = ReadFault
+status_of (WrongLine what line) = BadLine
+status_of (Full limit) = JournalFull
+status_of (LinkFailed what) = LinkFault
+status_of NoMemory = Memory
+status_of (Long what) = TooLong
+
+-- what a status line calls a file or a link
+abbrev pub name_of : Subject → List ℕ
+name_of subject.Station = codes "station"
+name_of subject.Script = codes "script"
+name_of subject.Journal = codes "journal"
+name_of (subject.Feed number) = codes "feed " ++ decimal number
+name_of (subject.Link number) = codes "link " ++ decimal number
+
+-- where a line of it stands: a log's line is told by its feed
+abbrev pub place_of : Subject → List ℕ
+place_of (subject.Feed number) = codes "line " ++ decimal number
+place_of subject.Station = codes "station"
+place_of subject.Script = codes "script"
+place_of subject.Journal = codes "journal"
+place_of (subject.Link number) = codes "link " ++ decimal number
+
+-- the last line that is written
+abbrev pub status_line : Ending → List ℕ
+status_line Whole = codes "status 0\n"
+status_line WrongWords = codes "status 1 usage\n"
+status_line (NotOpened what) = codes "status 2 open " ++ name_of what ++ codes "\n"
+status_line (NotRead what) = codes "status 4 read " ++ name_of what ++ codes "\n"
+status_line (WrongLine what line) = codes "status 5 " ++ place_of what ++ codes " " ++ decimal line ++ codes "\n"
+status_line (Full limit) = codes "status 6 full " ++ decimal limit ++ codes "\n"
+status_line (LinkFailed what) = codes "status 7 " ++ name_of what ++ codes "\n"
+status_line NoMemory = codes "status 9 memory\n"
+status_line (Long what) = codes "status 10 long " ++ name_of what ++ codes "\n"
+
+-- how a command ends that has read a file so far
+abbrev pub ending_at : Subject → Reach → Ending
+ending_at what (AtEnd file.Whole) = Whole
+ending_at what (AtEnd file.Fault) = NotRead what
+ending_at what (AtEnd file.TooLong) = Long what
+ending_at what (AtBadLine line) = WrongLine what line

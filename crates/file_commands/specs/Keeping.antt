@@ -1,0 +1,38 @@
+-- Scaffolding: what private functions say of one opening alone.
+use Rattle.std.specs.Prelude.{ℕ, ◌⊎◌, None, Some, List, [], ◌∷◌, Result, MatchResult}
+use Rattle.feed_link.specs.Told.{SourceState, SinkState}
+use Rattle.feed_link.specs.Openings.{OutsideState, MakesOpenings, log_visit}
+use Rattle.feed_link.specs.Openings.Wanted.{LogOf}
+use Rattle.file_reader.specs.Ends.{EndsReading}
+use Rattle.file_reader.specs.declared.reader.FileEnd.{FileEnd}
+use Rattle.file_commands.specs.LineFiles.{LineFile, RunsThrough}
+use Rattle.file_commands.specs.Opening.{CannotOpen}
+use Rattle.file_commands.specs.StationFile.{most_of_a_station}
+use Rattle.file_commands.specs.declared.ending.status.Status.{Status}
+use Rattle.file_commands.specs.declared.ending.subject.Subject.{Subject}
+
+-- the station file was opened once, read and given back
+pub record OpensStation (name : List ℕ) (outside outside_now : OutsideState) (end : FileEnd) (bytes : List ℕ) : Type 0 where
+  pub opened : SourceState
+  pub back : SourceState
+  pub opens : MakesOpenings (LogOf name ∷ []) outside outside_now (log_visit name opened back ∷ []) None
+  pub read : EndsReading end most_of_a_station opened back bytes
+
+-- or it couldn't be opened
+abbrev pub TriesStation : {E : Type 0} → List ℕ → OutsideState → OutsideState → List ℕ → Result FileEnd E → Type 0
+TriesStation name outside outside_now bytes result = MatchResult result
+    (λ end. OpensStation name outside outside_now end bytes)
+    (λ _. MakesOpenings (LogOf name ∷ []) outside outside_now [] (Some (LogOf name)))
+
+-- a file of lines was opened once, run through and given back
+pub record RunsFile (f : LineFile) (name : List ℕ) (outside outside_now : OutsideState) (out out_now : SinkState) (result : Status) : Type 0 where
+  pub opened : SourceState
+  pub back : SourceState
+  pub opens : MakesOpenings (LogOf name ∷ []) outside outside_now (log_visit name opened back ∷ []) None
+  pub runs : RunsThrough f opened back out out_now result
+
+-- or it couldn't be opened
+abbrev pub TriesFile : Subject → LineFile → List ℕ → OutsideState → OutsideState → SinkState → SinkState → Status → Type 0
+TriesFile what f name outside outside_now out out_now result =
+    CannotOpen (LogOf name ∷ []) [] (LogOf name) what outside outside_now out out_now result
+    ⊎ RunsFile f name outside outside_now out out_now result

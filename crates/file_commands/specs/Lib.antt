@@ -1,0 +1,22 @@
+-- What a reader has to believe, in this order: Endings (statuses and status lines), Writing (what is written, and what a failed write
+-- leaves), Unopened (a command that opens nothing), Reading (why a reading ended), Opening, Text, Decoding, StationFile, LineFiles (what it
+-- is to run through a file of lines), Script, Replaying, Migrating. The other files are scaffolding of private functions.
+pub mod Endings
+pub mod Writing
+pub mod Unopened
+pub mod Reading
+pub mod Opening
+pub mod Text
+pub mod Decoding
+pub mod StationFile
+pub mod LineFiles
+pub mod Script
+pub mod Replaying
+pub mod Migrating
+pub mod Keeping
+pub mod Taking
+pub mod LogTaking
+pub mod LineTaking
+pub mod Playing
+pub mod Moving
+pub mod JournalTaking

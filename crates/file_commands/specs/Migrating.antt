@@ -1,0 +1,90 @@
+-- What it is to move a journal over: a file of lines of either form, which is read against a station and written in the second form.
+use Rattle.std.specs.Prelude.{◌≡◌, ℕ, ◌+◌, ◌<◌, ◌^◌, ◌==◌, List, [], ◌∷◌, ◌++◌, codes, length, map, if◌then◌else◌}
+use Rattle.std.specs.List.{flat_map}
+use Rattle.feed_link.specs.Told.{SinkState}
+use Rattle.feed_link.specs.Openings.{OutsideState}
+use Rattle.journal_entry.specs.Lawful.{IsLawful}
+use Rattle.journal_entry.specs.Lines.{IsLineText, entry_of, form_of}
+use Rattle.journal_entry.specs.Numbers.{numbered_text}
+use Rattle.journal_entry.specs.declared.entry.Entry.{Entry}
+use Rattle.journal_entry.specs.declared.line.JournalLine.{JournalLine}
+use Rattle.journal_entry.specs.declared.line.JournalLine.TheVariants.{Bare, Numbered}
+use Rattle.journal_entry.specs.declared.numbered.Numbered.{Numbered as NumberedEntry}
+use Rattle.line_cutter.specs.Items.{Saying}
+use Rattle.station_config.specs.Station.{StationFields, settings_of}
+use Rattle.system_fold.specs.Numbered.{numbered, numbered_behind}
+use Rattle.system_fold.specs.Page.{page_of}
+use Rattle.system_fold.specs.Settings.{SettingsFields}
+use Rattle.file_commands.specs.Endings.{ending_at}
+use Rattle.file_commands.specs.LineFiles.{LineFile, RunsAgainst, HasGoodFile}
+use Rattle.file_commands.specs.declared.ending.Ending.{Ending}
+use Rattle.file_commands.specs.declared.ending.Ending.TheVariants.{Full}
+use Rattle.file_commands.specs.declared.ending.status.Status.{Status}
+use Rattle.file_commands.specs.declared.ending.subject.Subject.TheVariants.{Journal}
+use Rattle.file_commands.specs.declared.reading.Reach.{Reach}
+use Rattle.file_commands.specs.declared.reading.Reach.TheVariants.{AtEnd, AtBadLine}
+
+-- a journal has at most 2^22 lines
+abbrev pub most_lines : ℕ
+most_lines = 4194304
+
+-- the entries that lines tell
+abbrev pub entries_of : List JournalLine → List Entry
+entries_of lines = map entry_of lines
+
+-- all lines have the form of the first
+abbrev pub HasFormOf : List JournalLine → JournalLine → Type 0
+HasFormOf [] line = Unit {0}
+HasFormOf (first ∷ more) line = form_of line ≡ form_of first
+
+-- a line tells this number and this rate, or tells none
+abbrev pub TellsNumber : JournalLine → NumberedEntry → Type 0
+TellsNumber (Bare e) n = Unit {0}
+TellsNumber (Numbered told) n = (told.length ≡ n.length) × (told.rate ≡ n.rate)
+
+-- those of its place: where its entry stands behind those before, and the rate of the page after it
+abbrev pub TellsItsPlace : SettingsFields → List Entry → JournalLine → Type 0
+TellsItsPlace settings before line = TellsNumber line (numbered_behind settings before (entry_of line))
+
+-- a line may stand behind the lines before it: there are not as many yet as there may be, it has their form, its entry is lawful for
+-- the station, and it tells its place where it tells one
+pub record MayStand (settings : SettingsFields) (before : List JournalLine) (line : JournalLine) : Type 0 where
+  pub room : length before < most_lines
+  pub form : HasFormOf before line
+  pub lawful : IsLawful (length settings.sources) (entry_of line)
+  pub place : TellsItsPlace settings (entries_of before) line
+
+abbrev pub says_line : SettingsFields → Saying JournalLine
+says_line settings before text line = IsLineText text line × MayStand settings before line
+
+-- a line is too long at its 300th byte; behind the last that there may be, at its first
+abbrev pub journal_line_limit : ℕ → ℕ
+journal_line_limit lines = if lines == most_lines then 1 else 300
+
+-- the lines of a journal in the second form
+abbrev pub journal_text : SettingsFields → List Entry → List ℕ
+journal_text settings entries = flat_map (λ n. numbered_text n ++ codes "\n") (numbered settings entries)
+
+-- how a command ends that has moved the lines so far: bytes behind the last line that there may be are told as a full journal
+abbrev pub migrate_ending : Reach → Ending
+migrate_ending (AtEnd end) = ending_at Journal (AtEnd end)
+migrate_ending (AtBadLine line) = if line == most_lines + 1 then Full most_lines else ending_at Journal (AtBadLine line)
+
+-- a journal of at most 2^30 bytes: what its lines give, and the page of their entries
+abbrev pub journal_of : StationFields → LineFile
+journal_of station = record {
+  Item = JournalLine;
+  says = says_line (settings_of station);
+  too_long = journal_line_limit;
+  most = 2 ^ 30;
+  text = λ lines. journal_text (settings_of station) (entries_of lines);
+  page = λ lines. page_of (settings_of station) (entries_of lines);
+  ending = λ reach lines. migrate_ending reach;
+}
+
+-- what becomes of a command to move a journal over, and when all that it opens has no fault
+abbrev pub RunsMigrate : List ℕ → List ℕ → OutsideState → OutsideState → SinkState → SinkState → Status → Type 0
+RunsMigrate name journal_name = RunsAgainst Journal journal_of name journal_name
+
+abbrev pub HasGoodJournal : List ℕ → List ℕ → OutsideState → OutsideState → Type 0
+HasGoodJournal name journal_name = HasGoodFile journal_of name journal_name

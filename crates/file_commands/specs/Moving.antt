@@ -1,0 +1,58 @@
+-- Scaffolding: what a mover of a journal's lines stands for.
+use Rattle.std.specs.Prelude.{◌≡◌, ℕ, Option, None, Some, List, [], ◌∷◌, ◌++◌, length, take, codes}
+use Rattle.clock_page.specs.Page.{PageFields}
+use Rattle.journal_entry.specs.Lines.{entry_of, form_of}
+use Rattle.journal_entry.specs.Numbers.{numbered_text}
+use Rattle.journal_entry.specs.declared.entry.Entry.{Entry}
+use Rattle.journal_entry.specs.declared.line.Form.{Form}
+use Rattle.journal_entry.specs.declared.line.JournalLine.{JournalLine}
+use Rattle.journal_entry.specs.declared.numbered.Numbered.{Numbered}
+use Rattle.system_fold.specs.KeptFold.{FoldFields, StandsForJournal}
+use Rattle.system_fold.specs.Numbered.{numbered_behind}
+use Rattle.system_fold.specs.Page.{page_of}
+use Rattle.system_fold.specs.Settings.{SettingsFields}
+use Rattle.file_commands.specs.Migrating.{MayStand, entries_of, says_line}
+
+-- the fold of the entries taken, the page after the last that was moved, the form of the lines, and the number of feeds
+pub record MoverFields : Type 0 where
+  pub fold : FoldFields
+  pub page : PageFields
+  pub form : Option Form
+  pub sources : ℕ
+
+-- the fold stands for some journal of so many feeds
+pub record IsMoving (fold : FoldFields) (sources : ℕ) : Type 0 where
+  pub settings : SettingsFields
+  pub journal : List Entry
+  pub stands : StandsForJournal fold settings journal
+  pub count : sources ≡ length settings.sources
+
+-- the form that is kept is that of the first line
+abbrev pub IsFormOf : Option Form → List JournalLine → Type 0
+IsFormOf None [] = Unit {0}
+IsFormOf None (line ∷ more) = ⊥
+IsFormOf (Some form) [] = ⊥
+IsFormOf (Some form) (line ∷ more) = form ≡ form_of line
+
+-- more lines may come behind these
+pub record GoesOn (m : MoverFields) (settings : SettingsFields) (lines : List JournalLine) : Type 0 where
+  pub fold : StandsForJournal m.fold settings (entries_of lines)
+  pub form : IsFormOf m.form lines
+  pub sources : m.sources ≡ length settings.sources
+
+-- these lines were moved, and this bad line was met: then the fold may have taken its entry, and no line comes behind it
+pub record HasMoved (m : MoverFields) (settings : SettingsFields) (lines : List JournalLine) (bad : Option ℕ) : Type 0 where
+  pub page : m.page ≡ page_of settings (entries_of lines)
+  pub going : bad ≡ None → GoesOn m settings lines
+
+-- what a mover answers to a line that is the next one
+abbrev pub MovesLine : MoverFields → SettingsFields → List JournalLine → JournalLine → ℕ → Option Numbered → Type 0
+MovesLine m settings before line number None = (MayStand settings before line → ⊥) × HasMoved m settings before (Some number)
+MovesLine m settings before line number (Some n) = MayStand settings before line
+    × HasMoved m settings (before ++ line ∷ []) None × (n ≡ numbered_behind settings (entries_of before) (entry_of line))
+
+-- and to its text: the text of the line in the second form
+abbrev pub MovesText : MoverFields → SettingsFields → List JournalLine → List ℕ → ℕ → List ℕ → Option ℕ → Type 0
+MovesText m settings before text number out None = ((line : JournalLine) → says_line settings before text line → ⊥) × HasMoved m settings before (Some number)
+MovesText m settings before text number out (Some size) = (line : JournalLine) × says_line settings before text line
+    × HasMoved m settings (before ++ line ∷ []) None × (take size out ≡ numbered_text (numbered_behind settings (entries_of before) (entry_of line)) ++ codes "\n")

@@ -1,0 +1,22 @@
+-- What it is to read a file of lines: which bytes were read, and why the reading ended.
+use Rattle.std.specs.Prelude.{◌≡◌, ℕ, ◌⊎◌, Option, None, Some, List}
+use Rattle.feed_link.specs.Told.{SourceState, NoneLeft}
+use Rattle.file_reader.specs.Ends.{HasReadFront, EndsReading}
+use Rattle.file_reader.specs.declared.reader.FileEnd.TheVariants.{Whole, Fault, TooLong}
+use Rattle.tick_units.specs.Log.{lines_of, or_unfinished}
+use Rattle.file_commands.specs.declared.reading.Reach.{Reach}
+use Rattle.file_commands.specs.declared.reading.Reach.TheVariants.{AtEnd, AtBadLine}
+
+-- the first bad line of a file that has ended, where this one is the first while more may come: an unfinished line is bad too
+abbrev pub bad_in_the_end : Option ℕ → List ℕ → Option ℕ
+bad_in_the_end bad bytes = or_unfinished bad (lines_of bytes)
+
+-- these bytes were read of a file of at most so many, this is their first bad line while more may come, and the reading ended so:
+-- at the end, where no line is bad; at a read that failed or at the limit, with no bad line so far; or at a bad line, which stands
+-- among the bytes or is the unfinished one at the end
+abbrev pub ReadsLines : Reach → ℕ → SourceState → SourceState → List ℕ → Option ℕ → Type 0
+ReadsLines (AtEnd Whole) limit file file_now bytes bad = EndsReading Whole limit file file_now bytes × (bad_in_the_end bad bytes ≡ None)
+ReadsLines (AtEnd Fault) limit file file_now bytes bad = EndsReading Fault limit file file_now bytes × (bad ≡ None)
+ReadsLines (AtEnd TooLong) limit file file_now bytes bad = EndsReading TooLong limit file file_now bytes × (bad ≡ None)
+ReadsLines (AtBadLine line) limit file file_now bytes bad = HasReadFront limit file file_now bytes
+    × ((bad ≡ Some line) ⊎ (NoneLeft file_now.left × (bad ≡ None) × (bad_in_the_end bad bytes ≡ Some line)))

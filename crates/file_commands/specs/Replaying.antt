@@ -1,0 +1,45 @@
+-- What it is to replay a script: a file of lines of scripts, which is played against a station.
+use Rattle.std.specs.Prelude.{ℕ, ◌^◌, Bool, true, false, List}
+use Rattle.feed_link.specs.Told.{SinkState}
+use Rattle.feed_link.specs.Openings.{OutsideState}
+use Rattle.file_reader.specs.declared.reader.FileEnd.TheVariants.{Whole, Fault, TooLong}
+use Rattle.script_player.specs.Replay.{Played, is_full, lines_of, page_after}
+use Rattle.script_player.specs.Texts.{replay_text}
+use Rattle.station_config.specs.Station.{StationFields}
+use Rattle.file_commands.specs.Endings.{ending_at}
+use Rattle.file_commands.specs.LineFiles.{LineFile, RunsAgainst, HasGoodFile}
+use Rattle.file_commands.specs.Script.{says_played, script_line_limit}
+use Rattle.file_commands.specs.declared.ending.Ending.{Ending}
+use Rattle.file_commands.specs.declared.ending.Ending.TheVariants.{Full}
+use Rattle.file_commands.specs.declared.ending.status.Status.{Status}
+use Rattle.file_commands.specs.declared.ending.subject.Subject.TheVariants.{Script}
+use Rattle.file_commands.specs.declared.reading.Reach.{Reach}
+use Rattle.file_commands.specs.declared.reading.Reach.TheVariants.{AtEnd, AtBadLine}
+
+-- how a command ends that has played a script so far, where entries were lost or not: of two causes the one with the least
+-- number is told
+abbrev pub replay_ending : Reach → Bool → ℕ → Ending
+replay_ending reach false limit = ending_at Script reach
+replay_ending (AtEnd Whole) true limit = Full limit
+replay_ending (AtEnd Fault) true limit = ending_at Script (AtEnd Fault)
+replay_ending (AtEnd TooLong) true limit = Full limit
+replay_ending (AtBadLine line) true limit = ending_at Script (AtBadLine line)
+
+-- a script of at most 2^26 bytes, played with at most so many entries: what its lines give, and the page of the entries kept
+abbrev pub script_of : ℕ → StationFields → LineFile
+script_of limit station = record {
+  Item = Played;
+  says = says_played station;
+  too_long = script_line_limit;
+  most = 2 ^ 26;
+  text = replay_text station limit;
+  page = λ played. page_after station limit (lines_of played);
+  ending = λ reach played. replay_ending reach (is_full station limit (lines_of played)) limit;
+}
+
+-- what becomes of a command to replay, and when all that it opens has no fault
+abbrev pub RunsReplay : List ℕ → List ℕ → ℕ → OutsideState → OutsideState → SinkState → SinkState → Status → Type 0
+RunsReplay name script_name limit = RunsAgainst Script (script_of limit) name script_name
+
+abbrev pub HasGoodScript : List ℕ → List ℕ → ℕ → OutsideState → OutsideState → Type 0
+HasGoodScript name script_name limit = HasGoodFile (script_of limit) name script_name

@@ -1,0 +1,109 @@
+-- Scaffolding: what the loops over the bytes of a file keep. Something stands for the bytes that it has taken, for the text that
+-- it has given for them, and for their first bad line.
+use Rattle.std.specs.Prelude.{◌≡◌, ℕ, ◌≤◌, Option, None, Some, List, [], ◌++◌, length, take, Result, MatchResult}
+use Rattle.feed_link.specs.Told.{SourceState, SinkState}
+use Rattle.file_reader.specs.declared.reader.FileEnd.TheVariants.{Whole, Fault, TooLong}
+use Rattle.file_reader.specs.Ends.{HasReadFront}
+use Rattle.journal_entry.specs.declared.writer.TheConstants.{LINE_ROOM}
+use Rattle.file_commands.specs.Reading.{ReadsLines}
+use Rattle.sink_text.specs.Writing.{WritesAll, WritesFront}
+use Rattle.file_commands.specs.declared.reading.Gives.{Gives}
+use Rattle.file_commands.specs.declared.reading.Gives.TheVariants.{Nothing, Text, Bad}
+use Rattle.file_commands.specs.declared.reading.Reach.{Reach}
+use Rattle.file_commands.specs.declared.reading.Reach.TheVariants.{AtEnd, AtBadLine}
+use Rattle.file_commands.specs.declared.reading.Taken.{Taken}
+use Rattle.file_commands.specs.declared.reading.Taken.TheVariants as taken
+
+abbrev pub Holds : Type 1
+Holds = List ℕ → List ℕ → Option ℕ → Type 0
+
+-- the text that bytes give which have no bad line
+abbrev pub Says : Type 1
+Says = List ℕ → List ℕ → Type 0
+
+-- the text that a front of bytes gives, in a line of this content, and the bad line that it has
+abbrev pub given : Gives → List ℕ → List ℕ
+given Nothing line = []
+given (Text length) line = take length line
+given (Bad number) line = []
+
+abbrev pub bad_of : Gives → Option ℕ
+bad_of Nothing = None
+bad_of (Text length) = None
+bad_of (Bad number) = Some number
+
+abbrev pub Fits : Gives → Type 0
+Fits Nothing = Unit {0}
+Fits (Text length) = length ≤ LINE_ROOM
+Fits (Bad number) = Unit {0}
+
+-- the text that bytes give was written, or a write of it failed; or they have a bad line, and give no text
+abbrev pub IsGiven : Taken → Gives → List ℕ → SinkState → SinkState → Type 0
+IsGiven taken.All gives line out out_now = (bad_of gives ≡ None) × WritesAll out out_now (given gives line)
+IsGiven (taken.Bad number) gives line out out_now = (bad_of gives ≡ Some number) × WritesAll out out_now (given gives line)
+IsGiven taken.Stopped gives line out out_now = (bad_of gives ≡ None) × WritesFront out out_now (given gives line)
+
+-- how far a reading came that came to the end of a file with this bad line, if any
+abbrev pub EndsAt : Reach → Option ℕ → Type 0
+EndsAt (AtEnd Whole) bad = bad ≡ None
+EndsAt (AtEnd Fault) bad = ⊥
+EndsAt (AtEnd TooLong) bad = ⊥
+EndsAt (AtBadLine line) bad = bad ≡ Some line
+
+-- all of a piece was taken, or its bytes up to a bad line, and the text of them is written since the start; or a write of it failed
+pub record TakesAll (holds : Holds) (start out : SinkState) (bytes : List ℕ) : Type 0 where
+  pub text : List ℕ
+  pub held : holds bytes text None
+  pub written : WritesAll start out text
+
+pub record MeetsBad (holds : Holds) (number : ℕ) (start out : SinkState) (bytes : List ℕ) : Type 0 where
+  pub front : List ℕ
+  pub behind : List ℕ
+  pub all : front ++ behind ≡ bytes
+  pub text : List ℕ
+  pub held : holds front text (Some number)
+  pub written : WritesAll start out text
+
+-- a write failed in the text that the next bytes add; the text of those before them is written whole, and at most so many bytes
+-- come behind these
+pub record Stops (says : Says) (start out : SinkState) (bytes : List ℕ) (most : ℕ) : Type 0 where
+  pub earlier : List ℕ
+  pub next : List ℕ
+  pub behind : List ℕ
+  pub all : earlier ++ (next ++ behind) ≡ bytes
+  pub near : length (next ++ behind) ≤ most
+  pub text : List ℕ
+  pub said : says earlier text
+  pub between : SinkState
+  pub whole : WritesAll start between text
+  pub more : List ℕ
+  pub adds : says (earlier ++ next) (text ++ more)
+  pub failed : WritesFront between out more
+
+abbrev pub TakesPiece : Holds → Says → Taken → SinkState → SinkState → List ℕ → ℕ → Type 0
+TakesPiece holds says taken.All start out bytes most = TakesAll holds start out bytes
+TakesPiece holds says (taken.Bad number) start out bytes most = MeetsBad holds number start out bytes
+TakesPiece holds says taken.Stopped start out bytes most = Stops says start out bytes most
+
+-- the reading ended by itself, with the text of the bytes taken written; bytes were read behind them only where they have
+-- a bad line
+pub record EndsItself (holds : Holds) (limit : ℕ) (file file_now : SourceState) (out out_now : SinkState) (reach : Reach) : Type 0 where
+  pub front : List ℕ
+  pub behind : List ℕ
+  pub text : List ℕ
+  pub bad : Option ℕ
+  pub held : holds front text bad
+  pub none_behind : bad ≡ None → behind ≡ []
+  pub read : ReadsLines reach limit file file_now (front ++ behind) bad
+  pub written : WritesAll out out_now text
+
+-- a write failed in the text of the bytes taken, of which those behind the text that stands came in one piece of 512 bytes
+pub record EndsStopped (says : Says) (limit : ℕ) (file file_now : SourceState) (out out_now : SinkState) : Type 0 where
+  pub bytes : List ℕ
+  pub read : HasReadFront limit file file_now bytes
+  pub stops : Stops says out out_now bytes 512
+
+abbrev pub EndsTaking : {E : Type 0} → Holds → Says → ℕ → SourceState → SourceState → SinkState → SinkState → Result Reach E → Type 0
+EndsTaking holds says limit file file_now out out_now result = MatchResult result
+    (λ reach. EndsItself holds limit file file_now out out_now reach)
+    (λ _. EndsStopped says limit file file_now out out_now)

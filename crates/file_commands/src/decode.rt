@@ -1,0 +1,114 @@
+//! `decode`: a log is decoded, and a line is written for each entry that it is due.
+ghost use Rattle.std.specs.Prelude.{◌≡◌};
+ghost use Rattle.file_commands.specs.Decoding.{Decodes, RunsDecode};
+ghost use Rattle.file_commands.specs.LogTaking.{IsFound};
+ghost use Rattle.radio_receiver.specs.Histories.{blank_of};
+ghost use Rattle.file_commands.specs.Taking.{Fits};
+ghost use Rattle.tick_units.specs.declared.marks.Plan.{Plan};
+
+use crate::ending::Ending;
+use crate::ending::status::Status;
+use crate::ending::subject::Subject;
+use crate::ending::writing::finish;
+use crate::lines::write_entry_line;
+use crate::reading::{Gives, Line, Reach, Taker, Took, ending_at, read_lines};
+use feed_link::{Failed, Outside, Sink, Source};
+use file_reader::FileEnd;
+use journal_entry::Entry;
+use log_decoder::LogDecoder;
+use pulse_log::BadLine;
+use radio_receiver::{DcfReceiver, MsfReceiver, Receiver, WwvbReceiver};
+use tick_units::Plan;
+
+// The most bytes of a log.
+const LIMIT: usize = 1 << 30;
+
+// What a decoder found: the line of an entry, which is then the front of `line`, nothing, or a bad line.
+fn give_found(found: Result<Option<Entry>, BadLine>, line: &mut Line) -> Gives
+    ensures fits { Fits result }
+    ensures gives { IsFound found result line.new }
+{
+    match found {
+        Ok(None) => Gives::Nothing,
+        Ok(Some(entry)) => Gives::Text(write_entry_line(&entry, line)),
+        Err(BadLine { line: number }) => Gives::Bad(number),
+    }
+}
+
+impl<R: Receiver> Taker for LogDecoder<R> {
+    ghost use Rattle.std.specs.Prelude.{◌^◌};
+    ghost use Rattle.log_decoder.specs.Decoding.{IsReady};
+    ghost use Rattle.file_commands.specs.LogTaking.{IsDecodedBy, log_says};
+    ghost use Rattle.tick_units.specs.declared.marks.Plan.{Plan};
+
+    ghost Case = { Plan };
+
+    ghost says = { log_says };
+
+    ghost holds = { λ decoder plan. IsDecodedBy R.stands_for decoder plan };
+
+    ghost is_ready = { λ decoder. IsReady R.least_start decoder };
+
+    ghost room = { λ decoder. 2 ^ 64 };
+
+    fn take(&mut self, bytes: &[u8], line: &mut Line) -> Took {
+        let step = self.take(bytes);
+        Took {
+            count: step.count,
+            gives: give_found(step.found, line),
+        }
+    }
+
+    fn at_end(&self) -> Reach {
+        match self.finish() {
+            Ok(()) => Reach::AtEnd(FileEnd::Whole),
+            Err(bad) => Reach::AtBadLine(bad.line),
+        }
+    }
+
+    ghost held_says = { λ decoder plan bytes text held. held.text_is };
+}
+
+// Decodes a log with a blank receiver: the lines of its entries and the status line are written.
+fn decode_with<S: Source, R: Receiver, K: Sink>(log: &mut S, receiver: R, out: &mut K) -> Status
+    requires { R.least_start receiver ≡ 0 }
+    ensures number { S.opening log.new ≡ S.opening log.old }
+    ensures decodes { (plan : Plan) → R.stands_for receiver (blank_of plan) →
+        Decodes plan (S.state log.old) (S.state log.new) (K.state out.old) (K.state out.new) result }
+{
+    let mut decoder = LogDecoder::new(0, receiver);
+    match read_lines(log, &mut decoder, LIMIT, out) {
+        Ok(reach) => finish(ending_at(Subject::Feed(0), reach), out),
+        Err(Failed) => Status::WriteFault,
+    }
+}
+
+// Decodes the log of a plan. Its receiver stands here and in no box, since a call through a box for each reduction is felt.
+fn decode<S: Source, K: Sink>(log: &mut S, plan: Plan, out: &mut K) -> Status
+    ensures number { S.opening log.new ≡ S.opening log.old }
+    ensures decodes { Decodes plan (S.state log.old) (S.state log.new) (K.state out.old) (K.state out.new) result }
+{
+    match plan {
+        Plan::Dcf => decode_with(log, DcfReceiver::new(), out),
+        Plan::Msf => decode_with(log, MsfReceiver::new(), out),
+        Plan::Wwvb => decode_with(log, WwvbReceiver::new(), out),
+    }
+}
+
+/// Opens a log, decodes it and gives it back: a line for each entry that it is due, and then the status line.
+pub fn open_and_decode<O: Outside, K: Sink>(
+    plan: Plan,
+    name: &str,
+    outside: &mut O,
+    out: &mut K,
+) -> Status
+    ensures gate { O.gate_out outside.new ≡ O.gate_out outside.old }
+    ensures runs { RunsDecode plan name.now (O.state outside.old) (O.state outside.new) (K.state out.old) (K.state out.new) result }
+{
+    let Ok(mut log) = outside.open_log(name) else {
+        return finish(Ending::NotOpened(Subject::Feed(0)), out);
+    };
+    let status = decode(&mut log, plan, out);
+    outside.give_back_log(log);
+    status
+}

@@ -1,0 +1,39 @@
+//! The line of a page, and the status line behind it.
+ghost use Rattle.std.specs.Prelude.{◌≡◌, ◌≤◌, ◌++◌, take};
+ghost use Rattle.journal_entry.specs.declared.writer.TheConstants.{LINE_ROOM};
+ghost use Rattle.file_commands.specs.Endings.{status_of, status_line};
+ghost use Rattle.file_commands.specs.Text.{page_text};
+ghost use Rattle.file_commands.specs.Writing.{Answers};
+
+use super::Ending;
+use super::status::Status;
+use super::writing::finish;
+use crate::reading::Line;
+use clock_page::Page;
+use feed_link::{Failed, Sink};
+use journal_entry::LINE_ROOM;
+use sink_text::write_all;
+use system_fold::write_page;
+
+// Writes the line of a page at the front of `line`. The answer is its number of bytes.
+#[tactic(auto, unfolding(crate::specs::Text::page_text))]
+fn write_page_line(page: &Page, line: &mut Line) -> usize
+    ensures text { take result line.new ≡ page_text page.now }
+    ensures within { result ≤ LINE_ROOM }
+{
+    let end = write_page(page, line);
+    line[end] = b'\n';
+    end + 1
+}
+
+/// Writes the line of a page, and then the status line. The answer is the status, or a write fault.
+pub fn finish_page<K: Sink>(page: &Page, ending: Ending, out: &mut K) -> Status
+    ensures { Answers (status_of ending) result (K.state out.old) (K.state out.new) (page_text page.now ++ status_line ending) }
+{
+    let mut line = [0; LINE_ROOM];
+    let length = write_page_line(page, &mut line);
+    match write_all(out, &line[..length]) {
+        Ok(()) => finish(ending, out),
+        Err(Failed) => Status::WriteFault,
+    }
+}

@@ -1,0 +1,41 @@
+//! The ways in which a command ends, and their numbers.
+
+ghost use Rattle.std.specs.Prelude.{◌≡◌};
+
+/// How a command ended. The program's exit status is its number.
+#[derive(Clone, Copy, Debug, PartialEq, Eq)]
+pub enum Status {
+    /// All was read to its end without a fault.
+    Done,
+    /// The words aren't lawful.
+    Usage,
+    /// The last opening failed.
+    OpenFault,
+    /// The station file is refused.
+    Station,
+    /// A read failed.
+    ReadFault,
+    /// A line isn't lawful.
+    BadLine,
+    /// An entry found the journal full.
+    JournalFull,
+    /// A link failed.
+    LinkFault,
+    /// A write failed. No status line tells it.
+    WriteFault,
+    /// No memory was found.
+    Memory,
+    /// A file is longer than its limit.
+    TooLong,
+}
+
+impl Status {
+    ghost use Rattle.file_commands.specs.Endings.{number_of};
+
+    /// Its number, 0 to 10 in the order above.
+    pub fn number(&self) -> u8
+        ensures { result ≡ number_of self.now }
+    {
+        *self as u8
+    }
+}

@@ -1,0 +1,116 @@
+//! `migrate`: a journal of either form is read against a station, line by line, and written in the second form.
+ghost use Rattle.std.specs.Prelude.{◌≡◌, ◌⊎◌, [], None, IfOk, MatchResult};
+ghost use Rattle.file_reader.specs.declared.reader.FileEnd.TheVariants.{Whole};
+ghost use Rattle.file_commands.specs.Keeping.{TriesFile};
+ghost use Rattle.file_commands.specs.LineFiles.{RunsThrough};
+ghost use Rattle.file_commands.specs.Migrating.{RunsMigrate, journal_of, migrate_ending};
+ghost use Rattle.file_commands.specs.JournalTaking.{IsEven, IsMovedBy};
+ghost use Rattle.file_commands.specs.Unopened.{Lacks};
+ghost use Rattle.file_commands.specs.StationFile.{IsObstacle};
+ghost use Rattle.station_config.specs.Faults.{Says};
+ghost use Rattle.station_config.specs.Station.{StationFields};
+
+mod lines;
+mod mover;
+
+use crate::ending::Ending;
+use crate::ending::page::finish_page;
+use crate::ending::status::Status;
+use crate::ending::subject::Subject;
+use crate::ending::writing::finish;
+use crate::reading::{Reach, ending_at, read_lines};
+use crate::station_file::obstacle::{Obstacle, finish_at};
+use crate::station_file::{STATION_LIMIT, judge, open_station};
+use feed_link::{Failed, Outside, Sink, Source};
+use file_reader::FileEnd;
+use lines::Mover;
+use mover::JournalMover;
+use std::alloc::Global;
+
+// The most bytes of a journal.
+const LIMIT: usize = 1 << 30;
+
+// The line behind the last that a journal may have, and how many it may have.
+const BEHIND: u64 = 4_194_305;
+
+const MOST: u32 = 4_194_304;
+
+// How a command ends that has moved the lines of a journal so far.
+fn migrate_ending(reach: Reach) -> Ending
+    ensures { result ≡ migrate_ending reach }
+{
+    match reach {
+        Reach::AtBadLine(BEHIND) => Ending::Full(MOST),
+        reach => ending_at(Subject::Journal, reach),
+    }
+}
+
+// Moves a journal to its end: its lines are written in the second form, then the page of their entries and the status line.
+fn move_whole<S: Source, K: Sink>(journal: &mut S, mover: &mut JournalMover, out: &mut K) -> Status
+    requires { IsEven mover.old }
+    ensures number { S.opening journal.new ≡ S.opening journal.old }
+    ensures runs { (of : StationFields) → IsMovedBy mover.old of [] [] None →
+        RunsThrough (journal_of of) (S.state journal.old) (S.state journal.new) (K.state out.old) (K.state out.new) result }
+{
+    match read_lines(journal, mover, LIMIT, out) {
+        Ok(reach) => finish_page(&mover.mover.page(), migrate_ending(reach), out),
+        Err(Failed) => Status::WriteFault,
+    }
+}
+
+// Opens a journal, moves it over and gives it back.
+fn open_and_move<O: Outside, K: Sink>(
+    name: &str,
+    mover: JournalMover,
+    outside: &mut O,
+    out: &mut K,
+) -> Status
+    requires { IsEven mover }
+    ensures gate { O.gate_out outside.new ≡ O.gate_out outside.old }
+    ensures tried { (of : StationFields) → IsMovedBy mover of [] [] None →
+        TriesFile Subject.Journal (journal_of of) name.now (O.state outside.old) (O.state outside.new) (K.state out.old) (K.state out.new) result }
+{
+    let mut mover = mover;
+    let Ok(mut journal) = outside.open_log(name) else {
+        return finish(Ending::NotOpened(Subject::Journal), out);
+    };
+    let status = move_whole(&mut journal, &mut mover, out);
+    outside.give_back_log(journal);
+    status
+}
+
+// The mover for a station file whose reading ended so, or what keeps it from being used.
+fn prepare(alloc: Global, end: FileEnd, text: &[u8]) -> Result<JournalMover, Obstacle>
+    ensures even { IfOk result IsEven }
+    ensures judged { MatchResult result (λ mover. (end ≡ Whole) × ((of : StationFields) × Says text.now of × IsMovedBy mover of [] [] None))
+        (λ obstacle. IsObstacle end text.now obstacle) }
+{
+    match judge(alloc, end, text) {
+        Ok(station) => Ok(JournalMover::new(Mover::new(station.settings()))),
+        Err(obstacle) => Err(obstacle),
+    }
+}
+
+/// Moves a journal of a station over to the second form. All memory is taken before the first line is written.
+pub fn run_migrate<O: Outside, K: Sink>(
+    alloc: Global,
+    station: &str,
+    journal: &str,
+    outside: &mut O,
+    out: &mut K,
+) -> Status
+    ensures gate { O.gate_out outside.new ≡ O.gate_out outside.old }
+    ensures runs { Lacks (O.state outside.old) (O.state outside.new) (K.state out.old) (K.state out.new) result
+        ⊎ RunsMigrate station.now journal.now (O.state outside.old) (O.state outside.new) (K.state out.old) (K.state out.new) result }
+{
+    let Ok(mut text) = Vec::with_capacity(alloc, STATION_LIMIT) else {
+        return finish(Ending::NoMemory, out);
+    };
+    let Ok(end) = open_station(station, &mut text, outside) else {
+        return finish(Ending::NotOpened(Subject::Station), out);
+    };
+    match prepare(alloc, end, text.as_slice()) {
+        Ok(mover) => open_and_move(journal, mover, outside, out),
+        Err(obstacle) => finish_at(&obstacle, out),
+    }
+}

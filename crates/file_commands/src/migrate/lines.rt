@@ -1,0 +1,109 @@
+//! What is kept of a journal while its lines are moved over, whatever its length.
+ghost use Rattle.std.specs.Prelude.{◌≡◌, ◌+◌, ◌<◌, ◌≤◌, ◌^◌, ◌↔◌, IsTrue, [], List, None, length};
+ghost use Rattle.journal_entry.specs.Lines.{entry_of};
+ghost use Rattle.journal_entry.specs.declared.line.JournalLine as journal;
+ghost use Rattle.file_commands.specs.Migrating.{TellsNumber};
+ghost use Rattle.system_fold.specs.Settings.{AreLawful, SettingsFields};
+
+use clock_page::Page;
+use journal_entry::{Entry, Form, JournalLine, Numbered, is_lawful};
+use std::marker::Model;
+use system_fold::{FoldState, Settings};
+
+// What is kept of the lines so far: the fold of their entries, the page after them, and their form.
+#[derive(Drop)]
+pub struct Mover {
+    fold: FoldState,
+    page: Page,
+    form: Option<Form>,
+    sources: u32,
+}
+
+impl Model for Mover {
+    ghost use Rattle.file_commands.specs.Moving.{IsMoving, MoverFields};
+
+    ghost Value = { MoverFields };
+
+    ghost view = { λ m. record { fold = m.fold; page = m.page; form = m.form; sources = m.sources } };
+
+    ghost invariant = { λ m. IsMoving m.fold m.sources };
+}
+
+// A line of the second form tells this number, rate and entry.
+fn tells(line: &JournalLine, numbered: &Numbered) -> bool
+    ensures { IsTrue result ↔ TellsNumber line.now numbered.now }
+{
+    match line {
+        JournalLine::Bare(_) => true,
+        JournalLine::Numbered(told) => told.length == numbered.length && told.rate == numbered.rate,
+    }
+}
+
+// An entry with its number, and the rate of the page after it.
+fn numbered_by(page: &Page, number: u64, entry: &Entry) -> Numbered
+    ensures { result ≡ record { length = number; rate = page.now.rate; entry = entry.now } }
+{
+    Numbered {
+        length: number,
+        rate: page.rate,
+        entry: *entry,
+    }
+}
+
+impl Mover {
+    ghost use Rattle.file_commands.specs.Moving.{HasMoved, IsFormOf, MovesLine};
+    ghost use Rattle.file_commands.specs.Migrating.{HasFormOf};
+
+    // It has moved nothing.
+    pub fn new(settings: &Settings) -> Mover
+        requires { AreLawful settings.now }
+        ensures moved { HasMoved result settings.now [] None }
+        ensures none { result.fold.length ≡ 0 }
+    {
+        let fold = FoldState::new(settings);
+        Mover {
+            page: fold.page(),
+            fold,
+            form: None,
+            sources: settings.count(),
+        }
+    }
+
+    // A line has the form of those before it.
+    fn has_form(&self, line: &JournalLine) -> bool
+        ensures { (before : List journal.JournalLine) → IsFormOf self.now.form before → (IsTrue result ↔ HasFormOf before line.now) }
+    {
+        match self.form {
+            Some(form) => line.form() == form,
+            None => true,
+        }
+    }
+
+    // Takes the line of this number: what it is in the second form, where it may stand here.
+    pub fn take(&mut self, line: &JournalLine, number: u64) -> Option<Numbered>
+        requires { self.old.fold.length < 2 ^ 22 }
+        ensures grown { self.new.fold.length ≤ self.old.fold.length + 1 }
+        ensures moves { (settings : SettingsFields) (before : List journal.JournalLine) → number ≡ length before + 1 → length before < 4194304 →
+            HasMoved self.old settings before None → MovesLine self.new settings before line.now number result }
+    {
+        if !self.has_form(line) || !is_lawful(line.entry(), self.sources) {
+            return None;
+        }
+        self.form = Some(line.form());
+        self.fold.step(line.entry());
+        let page = self.fold.page();
+        let numbered = numbered_by(&page, number, line.entry());
+        if !tells(line, &numbered) {
+            return None;
+        }
+        self.page = page;
+        Some(numbered)
+    }
+
+    // The page after the lines that were moved.
+    pub fn page(&self) -> Page
+        ensures { result ≡ self.now.page }
+    {
+        self.page
+    }
+}

@@ -1,0 +1,132 @@
+//! The lines of a journal are cut out of its bytes and moved over, one after the other.
+ghost use Rattle.std.specs.Prelude.{◌≡◌, ◌+◌, ◌<◌, ◌≤◌, ◌^◌, List, [], None, length, take, MatchOption};
+ghost use Rattle.journal_entry.specs.declared.line.JournalLine.{JournalLine};
+ghost use Rattle.journal_entry.specs.declared.writer.TheConstants.{LINE_ROOM};
+ghost use Rattle.line_cutter.specs.Cutting.{line_in};
+ghost use Rattle.file_commands.specs.JournalTaking.{IsEven, IsMovedBy, IsMovedLine};
+ghost use Rattle.file_commands.specs.Moving.{HasMoved, MovesText};
+ghost use Rattle.file_commands.specs.Taking.{Fits};
+ghost use Rattle.station_config.specs.Station.{StationFields, settings_of};
+ghost use Rattle.system_fold.specs.Settings.{SettingsFields};
+
+use crate::lines::write_numbered_line;
+use crate::migrate::lines::Mover;
+use crate::reading::{Gives, Line, Reach, Taker, Took};
+use file_reader::FileEnd;
+use journal_entry::{LINE_ROOM, read_line};
+use line_cutter::{Cut, LineCutter};
+
+// The most lines of a journal.
+const MOST: u64 = 4_194_304;
+
+// A line of a journal is too long at this byte.
+const TOO_LONG: usize = 300;
+
+// Moves the lines of a journal as its bytes come.
+#[derive(Drop)]
+pub struct JournalMover {
+    pub cutter: LineCutter,
+    pub mover: Mover,
+    pub lines: u64,
+}
+
+// Moves the line of this text, which is the one of this number: the line of it in the second form.
+fn move_text(mover: &mut Mover, text: &[u8], number: u64, line: &mut Line) -> Option<usize>
+    requires { mover.old.fold.length < 2 ^ 22 }
+    ensures grown { mover.new.fold.length ≤ mover.old.fold.length + 1 }
+    ensures fits { MatchOption result (Unit {0}) (λ size. size ≤ LINE_ROOM) }
+    ensures moves { (settings : SettingsFields) (before : List JournalLine) → number ≡ length before + 1 → length before < 4194304 →
+        HasMoved mover.old settings before None → MovesText mover.new settings before text.now number line.new result }
+{
+    let Some(read) = read_line(text) else {
+        return None;
+    };
+    let Some(numbered) = mover.take(&read, number) else {
+        return None;
+    };
+    Some(write_numbered_line(&numbered, line))
+}
+
+impl JournalMover {
+    // It has taken nothing.
+    pub fn new(mover: Mover) -> JournalMover
+        requires { mover.fold.length ≡ 0 }
+        ensures even { IsEven result }
+        ensures moved { (of : StationFields) → HasMoved mover (settings_of of) [] None → IsMovedBy result of [] [] None }
+    {
+        JournalMover {
+            cutter: LineCutter::new(TOO_LONG),
+            mover,
+            lines: 0,
+        }
+    }
+
+    // Moves the line that has ended.
+    fn move_line(&mut self, line: &mut Line) -> Gives
+        requires even { IsEven self.old }
+        requires room { self.old.lines < 4194304 }
+        ensures even { IsEven self.new }
+        ensures cutter { self.new.cutter ≡ self.old.cutter }
+        ensures fits { Fits result }
+        ensures moves { (of : StationFields) (before : List JournalLine) → self.old.lines ≡ length before → HasMoved self.old.mover (settings_of of) before None →
+            IsMovedLine self.old.lines self.new.lines self.new.mover of before (line_in self.old.cutter) line.new result }
+    {
+        let number = self.lines + 1;
+        self.lines = number;
+        match move_text(&mut self.mover, self.cutter.line(), number, line) {
+            Some(length) => Gives::Text(length),
+            None => Gives::Bad(number),
+        }
+    }
+}
+
+impl Taker for JournalMover {
+    ghost use Rattle.std.specs.Prelude.{◌^◌};
+    ghost use Rattle.file_commands.specs.JournalTaking.{IsEven, IsMovedBy, journal_says};
+    ghost use Rattle.station_config.specs.Station.{StationFields};
+
+    ghost Case = { StationFields };
+
+    ghost says = { journal_says };
+
+    ghost holds = { IsMovedBy };
+
+    ghost is_ready = { IsEven };
+
+    // Behind the most lines it takes no more.
+    ghost room = { λ mover. 2 ^ 64 };
+
+    fn take(&mut self, bytes: &[u8], line: &mut Line) -> Took {
+        if self.lines == MOST {
+            return Took {
+                count: 1,
+                gives: Gives::Bad(MOST + 1),
+            };
+        }
+        let taken = self.cutter.take(bytes);
+        match taken.cut {
+            Cut::More => Took {
+                count: taken.count,
+                gives: Gives::Nothing,
+            },
+            Cut::Line => Took {
+                count: taken.count,
+                gives: self.move_line(line),
+            },
+            Cut::TooLong => Took {
+                count: taken.count,
+                gives: Gives::Bad(self.lines + 1),
+            },
+        }
+    }
+
+    fn at_end(&self) -> Reach {
+        if self.cutter.has_tail() {
+            Reach::AtBadLine(self.lines + 1)
+        } else {
+            Reach::AtEnd(FileEnd::Whole)
+        }
+    }
+
+    ghost held_says = { λ mover of bytes text held. (held.items, held.said, held.text_is) };
+}

@@ -1,0 +1,155 @@
+//! `replay`: a script is played against a station, line by line.
+ghost use Rattle.std.specs.Prelude.{◌≡◌, ◌≤◌, ◌^◌, ◌⊎◌, [], None, IfOk, MatchResult};
+ghost use Rattle.file_reader.specs.declared.reader.FileEnd.TheVariants.{Whole};
+ghost use Rattle.file_commands.specs.Keeping.{TriesFile};
+ghost use Rattle.file_commands.specs.LineFiles.{RunsThrough};
+ghost use Rattle.file_commands.specs.Playing.{IsPlayedBy};
+ghost use Rattle.file_commands.specs.Replaying.{RunsReplay, replay_ending, script_of};
+ghost use Rattle.file_commands.specs.Unopened.{Lacks};
+ghost use Rattle.file_commands.specs.StationFile.{IsObstacle};
+ghost use Rattle.receiver_rack.specs.Racks.{IsRack};
+ghost use Rattle.script_player.specs.KeptPlayer.{HasPlayed, IsReady};
+ghost use Rattle.station_config.specs.Faults.{Says};
+ghost use Rattle.station_config.specs.Station.{StationFields};
+
+mod replayer;
+
+use crate::ending::Ending;
+use crate::ending::page::finish_page;
+use crate::ending::status::Status;
+use crate::ending::subject::Subject;
+use crate::ending::writing::finish;
+use crate::reading::{Reach, ending_at, read_lines};
+use crate::station_file::obstacle::{Obstacle, finish_at};
+use crate::station_file::{STATION_LIMIT, judge, open_station};
+use feed_link::{Failed, Outside, Sink, Source};
+use file_reader::FileEnd;
+use radio_receiver::Receiver;
+use replayer::Replayer;
+use script_player::{BoxedReceiver, Player};
+use std::alloc::{AllocError, Global};
+
+// The most bytes of a script.
+const LIMIT: usize = 1 << 26;
+
+// How a command ends that has played a script so far, where entries were lost or not.
+fn replay_ending(reach: Reach, lost: bool, limit: u32) -> Ending
+    ensures { result ≡ replay_ending reach lost limit }
+{
+    match reach {
+        Reach::AtEnd(FileEnd::Whole | FileEnd::TooLong) if lost => Ending::Full(limit),
+        reach => ending_at(Subject::Script, reach),
+    }
+}
+
+// Plays a script to its end: what its lines give is written, then the page of the entries kept and the status line.
+fn play_whole<S: Source, K: Sink>(
+    script: &mut S,
+    replayer: &mut Replayer<BoxedReceiver>,
+    limit: u32,
+    out: &mut K,
+) -> Status
+    requires ready { IsReady least_start replayer.old.player }
+    requires none { replayer.old.lines ≡ 0 }
+    ensures number { S.opening script.new ≡ S.opening script.old }
+    ensures replays { (station : StationFields) → IsPlayedBy stands_for replayer.old station limit [] [] None →
+        RunsThrough (script_of limit station) (S.state script.old) (S.state script.new) (K.state out.old) (K.state out.new) result }
+{
+    match read_lines(script, replayer, LIMIT, out) {
+        Ok(reach) => {
+            let page = replayer.player.page();
+            let ending = replay_ending(reach, replayer.player.is_full(), limit);
+            finish_page(&page, ending, out)
+        }
+        Err(Failed) => Status::WriteFault,
+    }
+}
+
+// Replays a script with a player that has played nothing yet.
+fn play<S: Source, K: Sink>(
+    script: &mut S,
+    player: Player<BoxedReceiver>,
+    limit: u32,
+    out: &mut K,
+) -> Status
+    requires { IsReady least_start player }
+    ensures number { S.opening script.new ≡ S.opening script.old }
+    ensures replays { (station : StationFields) → HasPlayed stands_for player station limit [] →
+        RunsThrough (script_of limit station) (S.state script.old) (S.state script.new) (K.state out.old) (K.state out.new) result }
+{
+    let mut replayer = Replayer::new(player);
+    play_whole(script, &mut replayer, limit, out)
+}
+
+// Opens a script, replays it and gives it back.
+fn open_and_play<O: Outside, K: Sink>(
+    name: &str,
+    player: Player<BoxedReceiver>,
+    limit: u32,
+    outside: &mut O,
+    out: &mut K,
+) -> Status
+    requires { IsReady least_start player }
+    ensures gate { O.gate_out outside.new ≡ O.gate_out outside.old }
+    ensures tried { (station : StationFields) → HasPlayed stands_for player station limit [] →
+        TriesFile Subject.Script (script_of limit station) name.now (O.state outside.old) (O.state outside.new) (K.state out.old) (K.state out.new) result }
+{
+    let Ok(mut script) = outside.open_log(name) else {
+        return finish(Ending::NotOpened(Subject::Script), out);
+    };
+    let status = play(&mut script, player, limit, out);
+    outside.give_back_log(script);
+    status
+}
+
+// The player of a station file whose reading ended so, or what keeps it from being played.
+fn prepare(
+    alloc: Global,
+    end: FileEnd,
+    text: &[u8],
+    rack: Vec<BoxedReceiver>,
+    limit: u32,
+) -> Result<Player<BoxedReceiver>, Obstacle>
+    requires rack { IsRack stands_for rack.items }
+    requires most { limit ≤ 2 ^ 22 }
+    ensures ready { IfOk result (IsReady least_start) }
+    ensures judged { MatchResult result (λ player. (end ≡ Whole) × ((of : StationFields) × Says text.now of × HasPlayed stands_for player of limit []))
+        (λ obstacle. IsObstacle end text.now obstacle) }
+{
+    let station = match judge(alloc, end, text) {
+        Ok(station) => station,
+        Err(obstacle) => return Err(obstacle),
+    };
+    match Player::new(alloc, &station, rack, limit) {
+        Ok(player) => Ok(player),
+        Err(_) => Err(Obstacle::Ends(Ending::NoMemory)),
+    }
+}
+
+/// Runs a script against a station, with at most so many entries. All memory is taken before the first line is written.
+pub fn run_replay<O: Outside, K: Sink>(
+    alloc: Global,
+    station: &str,
+    script: &str,
+    limit: u32,
+    rack: Vec<BoxedReceiver>,
+    outside: &mut O,
+    out: &mut K,
+) -> Status
+    requires rack { IsRack stands_for rack.items }
+    requires most { limit ≤ 2 ^ 22 }
+    ensures gate { O.gate_out outside.new ≡ O.gate_out outside.old }
+    ensures runs { Lacks (O.state outside.old) (O.state outside.new) (K.state out.old) (K.state out.new) result
+        ⊎ RunsReplay station.now script.now limit (O.state outside.old) (O.state outside.new) (K.state out.old) (K.state out.new) result }
+{
+    let Ok(mut text) = Vec::with_capacity(alloc, STATION_LIMIT) else {
+        return finish(Ending::NoMemory, out);
+    };
+    let Ok(end) = open_station(station, &mut text, outside) else {
+        return finish(Ending::NotOpened(Subject::Station), out);
+    };
+    match prepare(alloc, end, text.as_slice(), rack, limit) {
+        Ok(player) => open_and_play(script, player, limit, outside, out),
+        Err(obstacle) => finish_at(&obstacle, out),
+    }
+}

@@ -1,0 +1,130 @@
+//! The lines of a script are cut out of its bytes and played, one after the other.
+ghost use Rattle.std.specs.Prelude.{◌≡◌, ◌+◌, ◌-◌, ◌<◌, ◌≤◌, ◌^◌, ℕ, List, [], None, Some, length, take, MatchResult};
+ghost use Rattle.journal_entry.specs.declared.writer.TheConstants.{LINE_ROOM};
+ghost use Rattle.file_commands.specs.Playing.{IsPlayedBy, IsPlayedLine, PlaysNext};
+ghost use Rattle.file_commands.specs.Taking.{Fits};
+ghost use Rattle.line_cutter.specs.Cutting.{line_in};
+ghost use Rattle.script_player.specs.KeptPlayer.{HasPlayed, IsReady};
+ghost use Rattle.script_player.specs.Replay.{Played};
+ghost use Rattle.station_config.specs.Station.{StationFields};
+
+use crate::reading::{Gives, Line, Reach, Taker, Took};
+use file_reader::FileEnd;
+use journal_entry::LINE_ROOM;
+use line_cutter::{Cut, LineCutter};
+use radio_receiver::Receiver;
+use script_line::read_line;
+use script_player::{BoxedReceiver, NotLawful, Player, write_outcome};
+
+// A line of a script is too long at this byte.
+const TOO_LONG: usize = 4096;
+
+// Plays the lines of a script as its bytes come.
+#[derive(Drop)]
+pub struct Replayer<B: Drop> {
+    pub cutter: LineCutter,
+    pub player: Player<B>,
+    pub lines: u64,
+}
+
+// Plays the line of this text: what it gives, and the text of that.
+fn play_text(
+    player: &mut Player<BoxedReceiver>,
+    text: &[u8],
+    line: &mut Line,
+) -> Result<usize, NotLawful>
+    requires ready { IsReady least_start player.old }
+    ensures ready { IsReady least_start player.new }
+    ensures fits { MatchResult result (λ length. length ≤ LINE_ROOM) (λ _. Unit {0}) }
+    ensures plays { (station : StationFields) (limit : ℕ) (before : List Played) → HasPlayed stands_for player.old station limit before →
+        PlaysNext stands_for player.new station limit before text.now line.new result }
+{
+    let Some(script_line) = read_line(text) else {
+        return Err(NotLawful);
+    };
+    match player.play(&script_line) {
+        Ok(outcome) => Ok(write_outcome(&outcome, line)),
+        Err(NotLawful) => Err(NotLawful),
+    }
+}
+
+impl Replayer<BoxedReceiver> {
+    // It has taken nothing.
+    pub fn new(player: Player<BoxedReceiver>) -> Replayer<BoxedReceiver>
+        requires { IsReady least_start player }
+        ensures ready { IsReady least_start result.player }
+        ensures none { result.lines ≡ 0 }
+        ensures played { (station : StationFields) (limit : ℕ) → HasPlayed stands_for player station limit [] →
+            IsPlayedBy stands_for result station limit [] [] None }
+    {
+        Replayer {
+            cutter: LineCutter::new(TOO_LONG),
+            player,
+            lines: 0,
+        }
+    }
+
+    // Plays the line that has ended.
+    fn play_line(&mut self, line: &mut Line) -> Gives
+        requires ready { IsReady least_start self.old.player }
+        requires room { self.old.lines < 2 ^ 64 - 1 }
+        ensures ready { IsReady least_start self.new.player }
+        ensures cutter { self.new.cutter ≡ self.old.cutter }
+        ensures fits { Fits result }
+        ensures lines { self.new.lines ≤ self.old.lines + 1 }
+        ensures plays { (station : StationFields) (limit : ℕ) (before : List Played) → HasPlayed stands_for self.old.player station limit before →
+            IsPlayedLine stands_for self.old.lines self.new.lines self.new.player station limit before (line_in self.old.cutter) line.new result }
+    {
+        match play_text(&mut self.player, self.cutter.line(), line) {
+            Ok(length) => {
+                self.lines += 1;
+                Gives::Text(length)
+            }
+            Err(NotLawful) => Gives::Bad(self.lines + 1),
+        }
+    }
+}
+
+impl Taker for Replayer<BoxedReceiver> {
+    ghost use Rattle.std.specs.Prelude.{◌-◌, ◌^◌};
+    ghost use Rattle.file_commands.specs.Playing.{IsPlayedBy, ReplayCase, script_says};
+    ghost use Rattle.script_player.specs.KeptPlayer.{IsReady};
+
+    ghost Case = { ReplayCase };
+
+    ghost says = { λ of. script_says of.station of.limit };
+
+    ghost holds = { λ replayer of. IsPlayedBy (λ b h. (Receiver-box b).stands_for b.value h) replayer of.station of.limit };
+
+    ghost is_ready = { λ replayer. IsReady (λ b. (Receiver-box b).least_start b.value) replayer.player };
+
+    ghost room = { λ replayer. 2 ^ 64 - 1 - replayer.lines };
+
+    fn take(&mut self, bytes: &[u8], line: &mut Line) -> Took {
+        let taken = self.cutter.take(bytes);
+        match taken.cut {
+            Cut::More => Took {
+                count: taken.count,
+                gives: Gives::Nothing,
+            },
+            Cut::Line => Took {
+                count: taken.count,
+                gives: self.play_line(line),
+            },
+            Cut::TooLong => Took {
+                count: taken.count,
+                gives: Gives::Bad(self.lines + 1),
+            },
+        }
+    }
+
+    fn at_end(&self) -> Reach {
+        if self.cutter.has_tail() {
+            Reach::AtBadLine(self.lines + 1)
+        } else {
+            Reach::AtEnd(FileEnd::Whole)
+        }
+    }
+
+    ghost held_says = { λ replayer of bytes text held. (held.items, held.said, held.text_is) };
+}

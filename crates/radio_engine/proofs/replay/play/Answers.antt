@@ -1,5 +1,0 @@
--- What the search leaves open of `replay::play`.
-use Rattle.radio_engine.proofs.replay.play.Goals as goal
-
-pub returns-clause-replays : goal.returns-clause-replays
-returns-clause-replays g c = λ station h. c.play_whole.ensures.replays station (c.new-replayer.ensures.played station c.args.limit h)
