@@ -3,6 +3,16 @@
 -- sent on a serving link is the reply (RFC 5905) to one received there, made from the page of a beginning of that journal, never a shorter
 -- one than that link used before, or the kiss code that its sender gets, and authentic exactly where the one received is.
 -- Six records say it, and `IsServed` at the end has all of them.
+-- Read on in this order; each file names its source. docs/HEADLINE.md has examples, and what is trusted.
+--   what an object reports, and its faults    feed_link Told, Faults
+--   how far a file is read                    file_reader Ends; feed_workers Logs, Leaps
+--   how a server is polled                    feed_workers Polls, Polling
+--   a station, its journal and its page       station_config Station; system_fold Settings; clock_page Page
+--   which client passes                       kiss_gate Gates, Nets, Clients
+--   the turns of a link                       responder Turns, Serving
+--   texts and statuses                        sink_text Writing; file_commands Writing, Endings, Text; system_fold Numbered
+-- Taken on their tests: due_log (log_decoder Due), leap_seconds (leap_file Rows), page_of (system_fold Page),
+-- judge (poll_core Histories), reply_to (sealed_reply Replies).
 use Rattle.std.specs.Prelude.{◌≡◌, ◌≢◌, ◌⊎◌, ℕ, suc, ◌*◌, ◌<◌, ◌≤◌, min, nat_lt, Bool, Option, None, Some, IfSome, is_some, List, [], ◌∷◌, ◌++◌, All, length, slice_get, codes, decimal, if◌then◌else◌}
 use Rattle.std.specs.List.{flat_map, sum_by}
 use Rattle.std.specs.Option.{option_to_list}
