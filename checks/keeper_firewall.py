@@ -1,5 +1,6 @@
 """The check of checks/keeper_firewall.sh, in a network of its own."""
 
+import argparse
 import pathlib
 import re
 import statistics
@@ -58,6 +59,7 @@ def kept(name: str, top: str, reference: str, base: float) -> int:
 
 
 def main() -> int:
+    argparse.ArgumentParser(description="The check of checks/keeper_firewall.sh, which gives it a network of its own.").parse_args()
     base = base_now()
     process, _ = server(base, 123)
     try:

@@ -60,6 +60,9 @@ CASES = [
     ("checks/keeper_cases.py", "x", 2),
     ("checks/kept_client.py", "x", 2),
     ("checks/soak.py", "x", 2),
+    ("checks/keeper_firewall.py", "x", 2),
+    ("checks/texts.py", "x", 2),
+    ("checks/texts.py", "", 0),
 ]
 
 

@@ -4,9 +4,10 @@ of the source in the page. The ranges of a station's keys are compared with thos
 
     checks/texts.py
 
-Exit status: 0 where they agree, 1 where they don't; what differs is said on standard error.
+Exit status: 0 where they agree, 1 where they don't, 2 for an argument; what differs is said on standard error.
 """
 
+import argparse
 import re
 import sys
 from pathlib import Path
@@ -64,6 +65,7 @@ def ranges(formats: str) -> list[str]:
 
 
 def main() -> int:
+    argparse.ArgumentParser(description="Compares docs/STANDARD_ERROR.md with the texts of crates/standard_error.").parse_args()
     page = (TOP / "docs/STANDARD_ERROR.md").read_text(encoding="utf-8")
     spoken = [*literals("fault.rt"), *literals("message.rt"), *literals("commands.rt"), *constants()]
     said = "\n".join(spoken)

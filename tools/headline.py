@@ -40,7 +40,7 @@ from quoted_lines import (
 )
 from reading_list import ReadingList, Size, size_of
 
-HEADLINE = "radio_engine.Headline.IsServed"
+HEADLINE = "station_report.Headline.IsServed"
 PAGE = "docs/HEADLINE.md"
 TOP = Path(__file__).resolve().parent.parent
 
