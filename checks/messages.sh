@@ -1,11 +1,11 @@
 #!/bin/sh
 # Looks at what the program says on standard error, a row for each message of docs/STANDARD_ERROR.md, and that standard output and the
-# exit status stay what they are. The program has to be built.
+# exit status stay what they are. The program has to be built; RADIO_NTPD names it where it isn't the one of this folder.
 #
 #     checks/messages.sh
 set -u
 cd "$(dirname "$0")/.." || exit 1
-program=$PWD/crates/radio_ntpd/out/radio_ntpd
+program=${RADIO_NTPD:-$PWD/crates/radio_ntpd/out/radio_ntpd}
 work=$(mktemp -d) || exit 1
 trap 'rm -rf "$work"' EXIT
 bad=0
@@ -45,6 +45,9 @@ station() {
         replay --station "$work/station" --script examples/exchange.script
 }
 
+# The page and the source have the same sentences.
+python3 -B checks/texts.py || bad=1
+
 # Nothing is said where nothing is wrong.
 says 0 'status 0' '' decode --plan dcf --log examples/dcf77-hour.log
 says 0 'status 0' '' drill --seed 7
@@ -79,16 +82,35 @@ usage 'radio_ntpd: --plan wants dcf, msf or wwvb' decode --plan DCF77 --log a
 usage 'radio_ntpd: --seed wants a whole number from 0 to 4294967295' drill --seed 07
 usage 'radio_ntpd: --limit wants a whole number from 1 to 4194304' drill --seed 7 --limit 0
 usage 'radio_ntpd: --during wants a whole number from 0 to 1000000' serve --station a --during 1000001
+usage 'radio_ntpd: --after wants a whole number from 0 to 1000000' serve --station a --after +1
 usage 'radio_ntpd: an argument is not UTF-8' decode --plan dcf --log "$(printf 'no\377utf8')"
 
 # Openings.
 says 2 'status 2 open feed 0' 'radio_ntpd: cannot open feed 0 (nosuch): there is no such file' decode --plan dcf --log nosuch
 says 2 'status 2 open station' 'radio_ntpd: cannot open the station file (nosuch): there is no such file' serve --station nosuch
+says 2 'status 2 open script' 'radio_ntpd: cannot open the script (nosuch): there is no such file' replay --station examples/station.toml --script nosuch
+says 2 'status 2 open journal' 'radio_ntpd: cannot open the journal (nosuch): there is no such file' migrate --station examples/station.toml --journal nosuch
+long=$(printf '%0300d' 0)
+says 2 'status 2 open feed 0' "radio_ntpd: cannot open feed 0 ($long): the host refuses it" decode --plan dcf --log "$long"
 printf 'leap_file = "nosuch.list"\n[[radio]]\nplan = "dcf"\nlog = "examples/dcf77-hour.log"\n' > "$work/station"
 says 2 'status 2 open feed 1' 'radio_ntpd: cannot open feed 1 (nosuch.list): there is no such file' serve --station "$work/station"
 port=$(python3 -B -c 'import socket; s = socket.socket(socket.AF_INET, socket.SOCK_DGRAM); s.bind(("127.0.0.1", 0)); print(s.getsockname()[1])')
 printf '[[link]]\nport = %s\n[[link]]\nport = %s\n' "$port" "$port" > "$work/station"
 says 2 'status 2 open link 1' "radio_ntpd: cannot open link 1 (port $port): another program or link has the port" serve --station "$work/station"
+# Root may read every file, so it becomes nobody for this.
+mkdir "$work/open"
+: > "$work/open/secret"
+chmod 711 "$work"
+chmod 000 "$work/open/secret"
+as_nobody=
+[ "$(id -u)" != 0 ] || as_nobody='setpriv --reuid 65534 --regid 65534 --clear-groups'
+if [ -z "$as_nobody" ] || $as_nobody "$program" drill --seed 7 > /dev/null 2>&1; then
+    messages=$((messages + 1))
+    $as_nobody "$program" decode --plan dcf --log "$work/open/secret" > "$work/out" 2> "$work/said"
+    told=$?
+    [ "$told:$(cat "$work/said")" = "2:radio_ntpd: cannot open feed 0 ($work/open/secret): there is no right to read it" ] ||
+        wrong "a file that may not be read ends with $told and says '$(cat "$work/said")'"
+fi
 # The rights that a process lacks are seen in a name space of its own, where there is one.
 printf '[[link]]\nport = 123\n' > "$work/station"
 if [ "$(cat /proc/sys/net/ipv4/ip_unprivileged_port_start)" -gt 123 ] && unshare -r true 2> /dev/null; then
@@ -101,10 +123,38 @@ fi
 station 'bound =' toml 'it is not TOML'
 station 'boundd = 1\n' 'unknown boundd' 'there is no key boundd'
 station '[[radio]]\nplan = "dcf"\n' 'missing radio.0.log' 'the key radio.0.log is missing'
-station '[[radio]]\nplan = "jjy"\nlog = "a"\n' 'range radio.0.plan' 'radio.0.plan wants "dcf", "msf" or "wwvb"'
-station 'bound = 0\n' 'range bound' 'bound wants whole milliseconds, 1 to 16000'
-station 'radio = 3\n' 'range radio' 'radio wants a table [[radio]] for each radio'
-station "$(for id in 1 2 3 4 5 6 7 8 9; do printf '[[key]]\\nid = %s\\nsecret = "a"\\n' "$id"; done)" 'many key 9' 'key counts 9, and there may be 8'
+# What each key wants, and how many there may be of each array.
+while IFS='|' read -r text key wants; do
+    station "$text" "range $key" "$key wants $wants"
+done <<'ROWS'
+bound = 0\n|bound|whole milliseconds, 1 to 16000
+start = -1\n|start|whole microseconds, 0 to 562949953421312
+gap = 60000001\n|gap|whole microseconds, 0 to 60000000
+clients = 0\n|clients|a whole number, 1 to 65536
+leap_file = ""\n|leap_file|the name of a file, in quotes
+radio = 3\n|radio|a table [[radio]] for each radio
+server = 3\n|server|a table [[server]] for each server
+link = 3\n|link|a table [[link]] for each port
+key = 3\n|key|a table [[key]] for each key
+deny = 3\n|deny|a table [[deny]] for each net
+[[radio]]\nplan = "jjy"\nlog = "a"\n|radio.0.plan|"dcf", "msf" or "wwvb", in quotes
+[[radio]]\nplan = "dcf"\nlog = ""\n|radio.0.log|the name of a file, in quotes
+[[radio]]\nplan = "dcf"\nlog = "a"\ndelay = 100001\n|radio.0.delay|whole microseconds, 0 to 100000
+[[server]]\naddress = "ntp"\nport = 123\n|server.0.address|an address as "192.0.2.1", in quotes
+[[server]]\naddress = "127.0.0.1"\nport = 0\n|server.0.port|a whole number, 1 to 65535
+[[server]]\naddress = "127.0.0.1"\nport = 123\npolls = 100001\n|server.0.polls|a whole number, 0 to 100000
+[[link]]\nport = "123"\n|link.0.port|a whole number, 1 to 65535
+[[key]]\nid = 0\nsecret = "a"\n|key.0.id|a whole number, 1 to 4294967295, that no key before it has
+[[key]]\nid = 1\nsecret = "a b"\n|key.0.secret|1 to 32 visible characters of ASCII, in quotes
+[[deny]]\nnet = "192.0.2.0/33"\n|deny.0.net|a net as "198.51.100.0/24", in quotes
+ROWS
+many() {
+    station "$(count=$1; while [ "$count" -gt 0 ]; do printf '%s' "$2" | sed "s/@/$count/"; count=$((count - 1)); done)" "many $3 $1" "$3 counts $1, and there may be $4"
+}
+many 5 '[[radio]]\nplan = "dcf"\nlog = "a"\n' radio '16 radios, servers and leap second files together, and 4 radios of a plan'
+many 9 '[[link]]\nport = 123\n' link 8
+many 9 '[[key]]\nid = @\nsecret = "a"\n' key 8
+many 17 '[[deny]]\nnet = "192.0.2.0/24"\n' deny 16
 
 # Reads, lines, a full journal, an output that takes no more, files that are too long.
 says 4 'status 4 read feed 0' 'radio_ntpd: cannot read feed 0 (/): it is a folder' decode --plan dcf --log /
@@ -131,8 +181,13 @@ grep -q '^radio_ntpd: standard output took no more' "$work/said" || wrong "a clo
 head -c 65537 /dev/zero | tr '\0' '\n' > "$work/long"
 says 10 'status 10 long station' "radio_ntpd: the station file ($work/long) has more than 65536 bytes" serve --station "$work/long"
 
-# Memory that runs out, at the least limit at which the program can begin at all. The sentence of status 7 is in the tests of
-# crates/standard_error: no host fails a call of a link when it is asked to.
+# Memory that runs out: for the room of a large journal, and at the least limit at which the program can begin at all. The sentence of
+# status 7 is in the tests of crates/standard_error: no host fails a call of a link when it is asked to.
+(ulimit -d 100000 && exec "$program" drill --seed 7 --limit 4194304) > "$work/out" 2> "$work/said"
+told=$?
+messages=$((messages + 1))
+[ "$told:$(cat "$work/said")" = '9:radio_ntpd: no memory was found, and nothing was done' ] ||
+    wrong "a journal without room ends with $told and says '$(cat "$work/said")'"
 limit=48
 while [ "$limit" -lt 1000 ]; do
     (ulimit -d "$limit" && exec "$program" replay --station examples/station.toml --script examples/exchange.script) \
