@@ -70,7 +70,14 @@ class Maker:
 
     def make(self, kind: str, words: list[str]) -> list[str]:
         """Returns the lines of a part. It raises Missing."""
-        make = {"quote": self.quote, "clause": self.clause, "read": self.read, "taken": self.take, "beside": self.measure, "counts": self.count}
+        make = {
+            "quote": self.quote,
+            "clause": self.clause,
+            "read": self.read,
+            "taken": self.take,
+            "beside": self.measure,
+            "counts": self.count,
+        }
         return make[kind](words)
 
     def new_links(self, names: Links) -> list[str]:

@@ -101,7 +101,8 @@ class Made(unittest.TestCase):
 
     def test_a_record_is_quoted_without_its_comments_and_with_its_names(self):
         made, _ = self.make("Said.\n<!--quote high.Head.IsServed-->\nold\n<!--end-->\n")
-        quote = "```\npub record IsServed (turns : List Turn) : Type 0 where\n  pub count : Nat\n  pub few : count_of turns\n      = count\n  pub end : is_whole End\n```\n"
+        head = "pub record IsServed (turns : List Turn) : Type 0 where\n  pub count : Nat\n"
+        quote = f"```\n{head}  pub few : count_of turns\n      = count\n  pub end : is_whole End\n```\n"
         names = (
             "Names: [`Turn`](../crates/low/specs/Low.antt#L2), [`count_of`](../crates/low/specs/Low.antt#L8),\n"
             "[`is_whole`](../crates/high/specs/Head.antt#L15), [`End`](../crates/low/src/deep/end.rt#L3).\n"
@@ -124,7 +125,8 @@ class Made(unittest.TestCase):
 
     def test_equations_are_quoted_by_their_constructors(self):
         made, _ = self.make("<!--quote low.Low.count_of Torn-->\n<!--end-->\n")
-        self.assertIn("```\ncount_of (Torn n) = table n\n```\n\n1 of its 2 equations. Names: [`Torn`](../crates/low/specs/Low.antt#L2), [`table`]", made)
+        self.assertIn("```\ncount_of (Torn n) = table n\n```\n\n1 of its 2 equations. Names: ", made)
+        self.assertIn("Names: [`Torn`](../crates/low/specs/Low.antt#L2), [`table`]", made)
         self.refused("no Gone in count_of", "<!--quote low.Low.count_of Gone-->\n<!--end-->\n")
 
     def test_names_are_linked_again_after_a_heading(self):
@@ -134,7 +136,8 @@ class Made(unittest.TestCase):
 
     def test_a_clause_is_quoted(self):
         made, _ = self.make("<!--clause high/src/run.rt serve served-->\n<!--end-->\n")
-        self.assertIn("```\nensures served { (n : Nat) -> IsServed { n }\n    result }\n```\n\nNames: [`IsServed`](../crates/high/specs/Head.antt#L8).", made)
+        self.assertIn("```\nensures served { (n : Nat) -> IsServed { n }\n    result }\n```\n", made)
+        self.assertIn("Names: [`IsServed`](../crates/high/specs/Head.antt#L8).", made)
         self.refused("no clause gone of serve", "<!--clause high/src/run.rt serve gone-->\n<!--end-->\n")
         self.refused("a clause has", "<!--clause high/src/run.rt-->\n<!--end-->\n")
 
