@@ -10,8 +10,9 @@ import sys
 import time
 
 from kept import PLANS, TOP, WAIT, Kept, Wrong, ask, base_now, descendants, is_free, parent_of, receiver
-from kept_bounds import CHANGE, FLOODED, GONE, KILLED, LATE, NOTHING, SLOW, WARM, bound, tried
+from kept_bounds import CHANGE, FLOODED, GONE, KILLED, LATE, LONGEST_START, NOTHING, PYTHONS, SLOW, WARM, bound, tried
 from kept_journals import as_decoded, as_steadied, due, whole
+from kept_machine import python_start
 
 FLOOD = 2_000_000
 
@@ -67,7 +68,8 @@ def starts(base: float) -> int:
                 began = time.monotonic()
                 warm.start()
                 warm.waits("run 1 has the time")
-                looked += LATE.due(time.monotonic() - began, WARM * SLOW, "a warm start takes long")
+                took = time.monotonic() - began
+                looked += LATE.due(took, bound(WARM, PYTHONS * python_start(), LONGEST_START), "a warm start takes long")
                 said = ask(warm.port)
                 looked += due(said is not None and said[:3] == (0, 1, "MSF") and said[3] < 0.006, f"a warm start answers {said}")
                 looked += ended(warm, 0)

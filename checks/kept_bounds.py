@@ -21,8 +21,8 @@ KILLED = (0.250, 0.400)
 NOTHING = (0.0, 0.0)
 # A flood that uses up a run's hearings: it has to be noticed first, by three requests without an answer, beside two processors' worth of flood.
 FLOODED = 1.5
-# A start with the last minutes at hand, of which Python's own start is the most.
-WARM = 2.0
+# A start with the last minutes at hand, in which so many Pythons begin.
+WARM, PYTHONS, LONGEST_START = 2.0, 3, 20.0
 # After the keeper has ended its processes are killed ones that the host has yet to take away.
 GONE = 5.0
 
@@ -53,7 +53,7 @@ LATE = Late()
 
 
 def bound(usual: float, stalled: float, most: float = MOST) -> float:
-    """A bound on this machine, where a bare echo's worst answer took so long (all in seconds)."""
+    """A bound on this machine, where it stalled a part by so much at worst (all in seconds)."""
     return min(most, usual * SLOW + HANDED * stalled)
 
 

@@ -3,6 +3,8 @@
 import os
 import socket
 import struct
+import subprocess
+import sys
 import time
 
 # Of `work` on the machine on which the bounds were measured, in seconds of processor time.
@@ -24,6 +26,13 @@ def work() -> float:
 def slowness() -> float:
     """How many times slower this processor is than the usual one, 1 to 3."""
     return min(SLOWEST, max(1.0, work() / USUAL))
+
+
+def python_start() -> float:
+    """How long a Python that does nothing takes to begin and end here and now, in seconds."""
+    began = time.monotonic()
+    subprocess.run([sys.executable, "-c", "pass"], check=True)
+    return time.monotonic() - began
 
 
 class Echo:
