@@ -117,12 +117,23 @@ fn a_bad_line_ends_the_log(rt: HostRuntime) -> Result<(), Fail> {
     Ok(())
 }
 
+// The lines of the entries of feed 3, by a receiver whose type is known, and the bad line.
+fn decoded_by<R: Receiver>(
+    receiver: Box<R>,
+    bytes: &[u8],
+    text: &mut Vec<u8>,
+) -> Result<Result<(), BadLine>, Fail>
+    requires { R.least_start receiver.value ≡ 0 }
+{
+    decoded(LogDecoder::new(3, Box::into_inner(receiver)), bytes, text)
+}
+
 #[test]
 fn a_receiver_of_a_known_type_gives_the_same_entries(rt: HostRuntime) -> Result<(), Fail> {
     let log = two_frames(rt.alloc())?;
     let mut text = Vec::new(rt.alloc());
-    let decoder = LogDecoder::new(3, DcfReceiver::new());
-    assert_eq!(rt; decoded(decoder, log.as_bytes(), &mut text)?, Ok(()));
+    let receiver = Box::new(rt.alloc(), DcfReceiver::new())?;
+    assert_eq!(rt; decoded_by(receiver, log.as_bytes(), &mut text)?, Ok(()));
     assert_eq!(rt;
         text.as_slice(),
         b"3 62000000 lone 3976257600\n3 122000000 verdict 3976257660 0\n".as_slice()
@@ -133,9 +144,9 @@ fn a_receiver_of_a_known_type_gives_the_same_entries(rt: HostRuntime) -> Result<
         ("0 100000\n7 100000\n", Ok(())),
     ] {
         let mut text = Vec::new(rt.alloc());
-        let decoder = LogDecoder::new(3, DcfReceiver::new());
+        let receiver = Box::new(rt.alloc(), DcfReceiver::new())?;
         assert_eq!(rt;
-            decoded(decoder, log.as_bytes(), &mut text)?,
+            decoded_by(receiver, log.as_bytes(), &mut text)?,
             want,
             "in {log}"
         );
