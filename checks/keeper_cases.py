@@ -1,4 +1,5 @@
-"""The cases of checks/keeper.sh. Each is a function that raises Wrong, and gives the number of things that it has looked at."""
+"""The cases of checks/keeper.sh. Each is a function that raises Wrong, and gives the number of things that it has looked at. A bound on
+time that isn't kept is noted, and the case goes on: see kept_bounds.py, where the bounds and their reasons stand."""
 
 import argparse
 import os
@@ -9,14 +10,11 @@ import sys
 import time
 
 from kept import PLANS, TOP, WAIT, Kept, Wrong, ask, base_now, descendants, is_free, parent_of, receiver
-from kept_journals import as_decoded, due, whole
+from kept_bounds import CHANGE, FLOODED, GONE, KILLED, LATE, LONGEST_START, NOTHING, PYTHONS, SLOW, WARM, bound, tried
+from kept_journals import as_decoded, as_steadied, due, whole
+from kept_machine import python_start
 
-# What a change of run may cost a client on a machine that has a processor for it, in seconds. On one with other work it is more by so much.
-SILENT, UNTIMED = 0.050, 0.100
-BUSY = max(1, round(os.getloadavg()[0] / (os.cpu_count() or 1)))
 FLOOD = 2_000_000
-# What a flood may cost that uses up a run's hearings: it has to be noticed first.
-FLOODED = 1.5
 
 
 def command(plan: str, base: float, history: float = 15, more: str = "") -> tuple[str, str]:
@@ -39,15 +37,18 @@ def ended(kept: Kept, status: int) -> int:
     told = kept.stop()
     looked = due(told == status, f"it ends with {told}, not {status}: {kept.text()}")
     looked += due(is_free(kept.port), "its port isn't free at its end")
-    return looked + due(goes(processes, 0.5), "a process of it is left at its end")
+    return looked + due(goes(processes, GONE), "a process of it is left at its end")
 
 
-def good(kept: Kept, met: dict, silent: float, untimed: float) -> int:
-    """What a client met at its changes of run."""
-    looked = due(met["wrong"] == 0, f"a client got a wrong time: {met}; {kept.text()}")
-    looked += due(met["silent"] <= silent, f"a client got no answer for longer than {silent} s: {met}")
-    looked += due(met["untimed"] <= untimed, f"a client got no time for longer than {untimed} s: {met}")
-    return looked + due(met["answered"] > 0.9 * met["asked"], f"too many requests got no answer: {met}")
+def good(kept: Kept, met: dict, bounds: tuple[float, float], changes: int = 1) -> int:
+    """What a client met at so many changes of run. `bounds`: for how long it may be without an answer, and without the time (s)."""
+    silent, untimed = (bound(one, met["stalled"]) for one in bounds)
+    print(f"  a client met {met}", flush=True)
+    looked = due(met["wrong"] == 0, f"a client got a wrong time: {kept.text()}")
+    looked += LATE.due(met["silent"], silent, "a client got no answer for long")
+    looked += LATE.due(met["untimed"], untimed, "a client got no time for long")
+    lost = (met["asked"] - met["answered"]) / kept.RATE
+    return looked + LATE.due(lost, changes * silent, "a client got no answers for long in all")
 
 
 def starts(base: float) -> int:
@@ -67,7 +68,8 @@ def starts(base: float) -> int:
                 began = time.monotonic()
                 warm.start()
                 warm.waits("run 1 has the time")
-                looked += due(time.monotonic() - began < 2 * BUSY, "a warm start takes longer than two seconds")
+                took = time.monotonic() - began
+                looked += LATE.due(took, bound(WARM, PYTHONS * python_start(), LONGEST_START), "a warm start takes long")
                 said = ask(warm.port)
                 looked += due(said is not None and said[:3] == (0, 1, "MSF") and said[3] < 0.006, f"a warm start answers {said}")
                 looked += ended(warm, 0)
@@ -83,9 +85,7 @@ def changes(base: float) -> int:
         kept.waits("has the time")
         client = kept.client(base)
         kept.waits("has the time", 90, 11)
-        met = client.report()
-        print(f"  ten changes: {met}", flush=True)
-        looked = good(kept, met, SILENT * BUSY, UNTIMED * BUSY)
+        looked = good(kept, client.report(), CHANGE, 10)
         kept.client(base)
         time.sleep(0.5)
         looked += ended(kept, 0)
@@ -104,9 +104,7 @@ def killed(base: float) -> int:
             os.kill(kept.state()["run"]["pid"], signal.SIGKILL)
             kept.waits(f"run {run} has the time")
             time.sleep(1.5)
-        met = client.report()
-        print(f"  server killed: {met}", flush=True)
-        looked = good(kept, met, SILENT * BUSY, UNTIMED * BUSY)
+        looked = good(kept, client.report(), KILLED, 2)
         mine = descendants(kept.process.pid)
         kept.kill()
         looked += due(goes(mine), "a killed keeper leaves a process")
@@ -142,10 +140,10 @@ def flood(base: float) -> int:
         met = client.report()
         print(f"  flood of {sent} in {took:.1f} s, {runs} runs: {met}", flush=True)
         looked = due(met["wrong"] == 0, f"a client got a wrong time: {met}")
-        looked += due(met["silent"] < FLOODED * BUSY, f"a flood silences clients: {met}")
+        looked += LATE.due(met["silent"], bound(FLOODED, met["stalled"], 2 * FLOODED), f"a flood silences clients: {met}")
         looked += due(runs >= 2, "a flood uses up no run")
         said = ask(kept.port)
-        looked += due(said is not None and said[0] == 0, f"behind a flood clients hear {said}")
+        looked += due(said is not None and said[0] == 0, f"after a flood clients hear {said}")
         return looked + ended(kept, 0)
 
 
@@ -160,10 +158,10 @@ fi 2> /dev/null
 
 
 def sources(base: float) -> int:
-    """What a source does to the run and to the other radio: nothing."""
-    with Kept([command("dcf", base), ("msf", 'command = "exec sh source"\nstall = 2')]) as kept:
+    """What a source does to the run and to the other radio: nothing. Its marks are steadied all the while."""
+    with Kept([command("dcf", base), ("msf", 'command = "exec sh source"\nstall = 2\nsteady = true')]) as kept:
         source = kept.folder / "source"
-        source.write_text(BROKEN.format(folder=kept.folder, receiver=receiver("msf", base).removeprefix("exec ")))
+        source.write_text(BROKEN.format(folder=kept.folder, receiver=receiver("msf", base, 15, "--jitter 8000").removeprefix("exec ")))
         text = (kept.folder / "keeper.toml").read_text()
         (kept.folder / "keeper.toml").write_text(text.replace("sh source", f"sh {source}"))
         kept.start()
@@ -173,13 +171,14 @@ def sources(base: float) -> int:
         kept.waits("its command ended with 0; it is started again in 2 s")
         kept.waits("no pulse for 2 s; it is started again in 4 s")
         time.sleep(6)
-        looked = good(kept, client.report(), 0.0 if BUSY == 1 else SILENT, 0.0 if BUSY == 1 else SILENT)
+        looked = good(kept, client.report(), NOTHING)
         looked += ended(kept, 0)
         journal = kept.journals()[-1].read_text()
         looked += due(journal.endswith("status 0\n"), f"what a source did to the run: {journal[-80:]!r}")
         radio = kept.state()["radios"][1]
         looked += due(radio["bad_lines"] > 50 and radio["restarts"] == 3 and radio["source"] == "running", f"its state says {radio}")
-        return looked
+        looked += due(0 < 4 * radio["spread_given"] < radio["spread"], f"its marks aren't steadied: {radio}")
+        return looked + as_steadied(kept, 1, "msf")
 
 
 def full_disk(base: float) -> int:
@@ -198,7 +197,8 @@ def full_disk(base: float) -> int:
             client = kept.client(base)
             kept.waits("journals can't be written: No space left on device")
             kept.waits("has the time", times=3)
-            looked = good(kept, client.report(), SILENT * BUSY, UNTIMED * BUSY)
+            runs = kept.text().count("has the time") - 1
+            looked = good(kept, client.report(), CHANGE, runs + 1)
             looked += due(not kept.journals() and not list(journals.glob("*.part")), f"a full disk has {list(journals.iterdir())}")
             (journals / "fill").unlink()
             kept.waits("journals can be written again")
@@ -224,13 +224,13 @@ def main() -> int:
     for case in [cases[name] for name in given or cases]:
         began = time.monotonic()
         try:
-            looked += case(base)
+            looked += tried(case, base)
         except Wrong as wrong:
             print(f"keeper: {case.__name__}: {wrong}", file=sys.stderr)
             bad = 1
         print(f"  {case.__name__}: {time.monotonic() - began:.0f} s", flush=True)
     if not bad:
-        print(f"keeper: {looked}" + (f", with bounds {BUSY} times as wide for the load" if BUSY > 1 else ""))
+        print(f"keeper: {looked}, on a processor {SLOW:.1f} times as slow as the usual one, at a load of {os.getloadavg()[0]:.1f} on {os.cpu_count()}")
     return bad
 
 

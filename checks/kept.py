@@ -23,6 +23,10 @@ class Wrong(Exception):
     """Something isn't as it should be."""
 
 
+class TooLate(Wrong):
+    """What has to come didn't come in time."""
+
+
 def program() -> str:
     """The built program: RADIO_NTPD, else the one of this checkout."""
     return os.environ.get("RADIO_NTPD") or str(TOP / "crates/radio_ntpd/out/radio_ntpd")
@@ -97,6 +101,8 @@ def receiver(plan: str, base: float, history: float = 15, more: str = "") -> str
 class Kept:
     """A keeper of a station in a folder of its own. `radios` are the tables of its file, plan and keys."""
 
+    RATE = 200  # of its clients' requests, a second
+
     def __init__(self, radios: list[tuple[str, str]], top: str = "", station: str = "") -> None:
         self.port = free_port()
         self.folder = pathlib.Path(tempfile.mkdtemp(prefix="kept."))
@@ -118,7 +124,7 @@ class Kept:
         self.kill()
         shutil.rmtree(self.folder)
 
-    def client(self, base: float, rate: float = 200) -> "Asking":
+    def client(self, base: float, rate: float = RATE) -> "Asking":
         """A client that asks its link."""
         self.clients.append(Asking(self.port, base, rate))
         return self.clients[-1]
@@ -140,7 +146,7 @@ class Kept:
             if self.process.poll() is not None:
                 raise Wrong(f"the keeper has ended with {self.process.returncode}: {self.text()}")
             if time.monotonic() > end:
-                raise Wrong(f"the keeper doesn't say {what!r} within {seconds} s: {self.text()}")
+                raise TooLate(f"the keeper doesn't say {what!r} within {seconds} s: {self.text()}")
             time.sleep(0.02)
 
     def state(self) -> dict:
@@ -166,7 +172,7 @@ class Kept:
 class Asking:
     """A client beside: `report` ends it and gives what it met."""
 
-    def __init__(self, port: int, base: float, rate: float = 200, seconds: float = 100_000) -> None:
+    def __init__(self, port: int, base: float, rate: float, seconds: float = 100_000) -> None:
         words = [sys.executable, "-B", TOP / "checks/kept_client.py", str(port), str(seconds), str(rate), repr(base)]
         self.process = subprocess.Popen(words, stdout=subprocess.PIPE)
 

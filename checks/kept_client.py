@@ -5,8 +5,10 @@
 
 BASE is what the time is ahead of the monotonic clock, in seconds. It prints a line of JSON at the end, or when it gets SIGTERM:
 asked, answered, timed  requests, answers, answers with the time
-silent                  the longest span without an answer: from the first request that got none to the next that got one, in seconds
+silent                  the longest span without an answer: from the first request that got none to the next that got one, in seconds. It is
+                        counted in requests: a span in which this client itself was stalled isn't one without answers
 untimed                 the same for answers with the time; before the first of them nothing counts
+stalled                 by how much the machine stalled a bare echo server at worst, or this client, in seconds
 error                   the greatest error of an answer with the time beyond its own way there and back, in seconds
 wrong                   answers whose error is above the root distance that they say
 silences, untimes       all those spans, in seconds
@@ -18,12 +20,12 @@ import select
 import signal
 import socket
 import struct
-import sys
 import time
+
+from kept_machine import Echo
 
 EPOCH = 2208988800
 WHOLE = 2**32
-LATE = 0.5  # an answer that comes later is lost, in seconds
 
 
 class Spans:
@@ -54,19 +56,19 @@ class Spans:
 class Client:
     """What one client met."""
 
-    def __init__(self, port: int, base: float) -> None:
-        self.base = base
+    def __init__(self, port: int, base: float, rate: float) -> None:
+        self.base, self.rate = base, rate
         self.socket = socket.socket(socket.AF_INET, socket.SOCK_DGRAM)
         self.socket.connect(("127.0.0.1", port))
         self.socket.setblocking(False)
-        self.sent: dict[int, float] = {}
+        self.sent: dict[int, int] = {}  # the numbers of the requests, by their stamps
         self.silence, self.untime = Spans(), Spans()
         self.asked = self.answered = self.timed = self.wrong = 0
         self.error = 0.0
 
     def ask(self) -> None:
         stamp = time.monotonic_ns()
-        self.sent[stamp] = stamp / 1e9
+        self.sent[stamp] = self.asked
         self.asked += 1
         try:
             self.socket.send(bytes([0x23, 0, 6, 0xEC]) + bytes(36) + struct.pack(">Q", stamp))
@@ -82,32 +84,33 @@ class Client:
             except OSError:
                 continue
             came = time.monotonic_ns() / 1e9
-            sent = self.sent.get(struct.unpack(">Q", datagram[24:32])[0])
-            if sent is None:
+            stamp = struct.unpack(">Q", datagram[24:32])[0]
+            if stamp not in self.sent:
                 continue
-            self.settle(sent)
-            del self.sent[struct.unpack(">Q", datagram[24:32])[0]]
-            self.take(datagram, sent, came)
+            number = self.sent.pop(stamp)
+            self.settle(number)
+            self.take(datagram, number / self.rate, stamp / 1e9, came)
 
-    def settle(self, before: float) -> None:
-        """What was sent before this moment and isn't answered is lost: answers come in their order."""
-        for stamp, sent in list(self.sent.items()):
-            if sent < before:
+    def settle(self, before: int) -> None:
+        """The requests before this one that aren't answered are lost: answers come in their order."""
+        for stamp, number in list(self.sent.items()):
+            if number < before:
                 del self.sent[stamp]
-                self.silence.miss(sent)
+                self.silence.miss(number / self.rate)
                 if self.timed:
-                    self.untime.miss(sent)
+                    self.untime.miss(number / self.rate)
 
-    def take(self, datagram: bytes, sent: float, came: float) -> None:
+    def take(self, datagram: bytes, due: float, sent: float, came: float) -> None:
+        """An answer: when its request was due by the client's own count, when it was sent, and when the answer came (s)."""
         self.answered += 1
-        self.silence.hit(sent)
+        self.silence.hit(due)
         first, stratum, _, _, delay, dispersion, _, _, _, receive, transmit = struct.unpack(">BBBbII4sQQQQ", datagram[:48])
         if first >> 6 == 3 or stratum == 0:
             if self.timed:
-                self.untime.miss(sent)
+                self.untime.miss(due)
             return
         self.timed += 1
-        self.untime.hit(sent)
+        self.untime.hit(due)
         # In whole numbers the stamps lie between the request's moment and the answer's.
         earliest, latest = (round((moment + self.base + EPOCH) * 1e6) for moment in (sent, came))
         error = max(0, earliest - receive * 1_000_000 // WHOLE, transmit * 1_000_000 // WHOLE - latest) / 1e6
@@ -132,22 +135,26 @@ def main() -> None:
     port, seconds, rate, base = given.port, given.seconds, given.rate, given.base
     stops = []
     signal.signal(signal.SIGTERM, lambda *_: stops.append(1))
-    client = Client(port, base)
+    echo, client = Echo(), Client(port, base, rate)
     begin = time.monotonic()
-    due = begin
+    due, late = begin, 0.0
     while not stops and due < begin + seconds:
         wait = due - time.monotonic()
         if wait > 0:
-            select.select([client.socket], [], [], wait)
+            select.select([client.socket, echo.socket], [], [], wait)
             client.hear()
+            echo.hear()
             continue
+        late = max(late, -wait)
         client.ask()
+        echo.ask()
         due = max(due + 1 / rate, time.monotonic())
     time.sleep(0.2)
     client.hear()
     for spans in (client.silence, client.untime):
-        spans.finish(time.monotonic())
-    print(json.dumps(client.report()), flush=True)
+        spans.finish(client.asked / rate)
+    echo.close()
+    print(json.dumps({**client.report(), "stalled": round(max(late, echo.worst), 4)}), flush=True)
 
 
 if __name__ == "__main__":

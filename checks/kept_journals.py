@@ -3,7 +3,7 @@
 import pathlib
 import subprocess
 
-from kept import PLANS, Kept, Wrong, program
+from kept import PLANS, TOP, Kept, Wrong, program
 
 
 def due(holds: bool, what: str) -> int:
@@ -28,16 +28,31 @@ def whole(journal: pathlib.Path) -> int:
 
 def as_decoded(kept: Kept) -> int:
     """Minute by minute, the last journal has what `decode` says of the logs that are kept."""
-    looked = 0
+    return sum(minutes(kept, feed, plan, log_of(kept, feed, plan)) for feed, plan in enumerate(PLANS))
+
+
+def as_steadied(kept: Kept, feed: int, plan: str) -> int:
+    """The same of a radio that was steadied since the keeper began: the log has its pulses as they came."""
+    log = log_of(kept, feed, plan)
+    steadied = kept.folder / "steadied.log"
+    with open(log, "rb") as pulses, open(steadied, "wb") as out:
+        subprocess.run([TOP / "feeders/steady.py"], stdin=pulses, stdout=out, timeout=60, check=True)
+    looked = due(steadied.read_bytes() != log.read_bytes(), f"the log of {plan} doesn't have its pulses as they came")
+    return looked + minutes(kept, feed, plan, steadied)
+
+
+def log_of(kept: Kept, feed: int, plan: str) -> pathlib.Path:
+    return next((kept.folder / "state/logs").glob(f"{feed}-{plan}.*.log"))
+
+
+def minutes(kept: Kept, feed: int, plan: str, log: pathlib.Path) -> int:
+    """The minutes of a feed in the last journal, against `decode` of a log."""
     lag = [round(float(line.split(" us late")[0].split()[-1])) for line in kept.text().splitlines() if " us late" in line][-1]
     journal = kept.journals()[-1].read_text().splitlines()
-    for feed, plan in enumerate(PLANS):
-        log = next((kept.folder / "state/logs").glob(f"{feed}-{plan}.*.log"))
-        done = subprocess.run([program(), "decode", "--plan", plan, "--log", log], stdout=subprocess.PIPE, timeout=20)
-        decoded = [line.split()[1:] for line in done.stdout.decode().splitlines() if line.startswith("0 ")]
-        told = [line.split()[4:] for line in journal if line.startswith("j2 ") and line.split()[3] == str(feed)]
-        looked += due(len(told) >= 10, f"the last journal has {len(told)} minutes of {plan}")
-        # The first minute of a run is alone; the ones before it are those that the run wasn't given.
-        moved = [[str(int(at) - lag), *words] for at, *words in decoded[-len(told) + 1 :]]
-        looked += due(moved == told[1:], f"the minutes of {plan} aren't those that decode writes: {moved[:2]} .. {told[1:3]}")
-    return looked
+    done = subprocess.run([program(), "decode", "--plan", plan, "--log", log], stdout=subprocess.PIPE, timeout=20)
+    decoded = [line.split()[1:] for line in done.stdout.decode().splitlines() if line.startswith("0 ")]
+    told = [line.split()[4:] for line in journal if line.startswith("j2 ") and line.split()[3] == str(feed)]
+    looked = due(len(told) >= 10, f"the last journal has {len(told)} minutes of {plan}")
+    # The first minute of a run is alone; the ones before it are those that the run wasn't given.
+    moved = [[str(int(at) - lag), *words] for at, *words in decoded[-len(told) + 1 :]]
+    return looked + due(moved == told[1:], f"the minutes of {plan} aren't those that decode writes: {moved[:2]} .. {told[1:3]}")

@@ -18,7 +18,8 @@ MOST = 65536  # bytes of a station file
 
 @dataclass(frozen=True)
 class Radio:
-    """A radio's source: `kind` is `command`, `fifo` or `file`, and `value` the command or the name. `stall` and `delay` are seconds."""
+    """A radio's source: `kind` is `command`, `fifo` or `file`, and `value` the command or the name. `stall` and `delay` are seconds;
+    `steady` says whether its pulses are steadied."""
 
     kind: str
     value: str
@@ -26,6 +27,7 @@ class Radio:
     stall: float
     plan: str
     delay: float
+    steady: bool = False
 
 
 @dataclass(frozen=True)
@@ -65,7 +67,7 @@ TOP = {
     "pace": (int, 0, 1024), "alarms": (dict,), "radio": (list,),
 }
 ALARMS = {"command": (str,), "unheard": (int, 60, 86400 * 30), "limit": (int, 1, 3600)}
-RADIO = {"command": (str,), "fifo": (str,), "file": (str,), "name": (str,), "stall": (int, 2, 86400)}
+RADIO = {"command": (str,), "fifo": (str,), "file": (str,), "name": (str,), "stall": (int, 2, 86400), "steady": (bool,)}
 
 
 def default() -> str:
@@ -124,7 +126,7 @@ class Keys:
 
     def _judge(self, key: str, value: object, kind: type, limits: list[int]) -> None:
         if type(value) is not kind:
-            names = {str: "a string", int: "a whole number", dict: "a table", list: "an array of tables"}
+            names = {str: "a string", int: "a whole number", bool: "true or false", dict: "a table", list: "an array of tables"}
             self.refuse(key, f"it isn't {names[kind]}")
         if limits and not limits[0] <= value <= limits[1]:
             self.refuse(key, f"{value} isn't within {limits[0]} to {limits[1]}")
@@ -192,7 +194,7 @@ def _radio(path: str, text: str, values: object, place: int, tables: list[dict])
     value = values[named[0]]
     if named[0] != "command":
         value = os.path.join(os.path.dirname(os.path.abspath(path)), value)
-    return Radio(named[0], value, values.get("name", plan), values.get("stall", 60), plan, _number(table, "delay", 0) / 1e6)
+    return Radio(named[0], value, values.get("name", plan), values.get("stall", 60), plan, _number(table, "delay", 0) / 1e6, values.get("steady", False))
 
 
 def judge(settings: Settings) -> None:

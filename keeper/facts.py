@@ -16,7 +16,7 @@ def new_state(settings: Settings, before: State | None) -> State:
     state = State(keeper_since=time.time(), keeper_pid=os.getpid())
     state.station, state.bound, state.cycle = settings.station, settings.bound, settings.cycle
     state.links = [LinkState(port=port) for port in settings.links]
-    state.radios = [RadioState(number=place, plan=one.plan, name=one.name, delay=one.delay) for place, one in enumerate(settings.radios)]
+    state.radios = [RadioState(number=place, plan=one.plan, name=one.name, delay=one.delay, steady=one.steady) for place, one in enumerate(settings.radios)]
     first = len(state.radios)
     state.servers = [ServerState(number=first + place, address=address, port=port) for place, (address, port) in enumerate(settings.servers)]
     if settings.leap_file:

@@ -1,4 +1,5 @@
-"""One radio: its source kept alive, its pulses checked, logged, kept for a while, and handed on to the server and to `decode`."""
+"""One radio: its source kept alive, its pulses checked, logged as they came, steadied where the file says so, kept for a while, and handed on
+to the server and to `decode`."""
 
 import collections
 import time
@@ -14,6 +15,7 @@ from keeper.pulse_log import PulseLog
 from keeper.reception import Reception
 from keeper.source import Ended, source_of
 from keeper.state import RadioState
+from keeper.steadied import Steadied, Unmoved
 
 PAUSES = (1, 60)  # the first and the longest pause before a source is started again, in seconds
 LOOK = 0.1  # how often a file that grows is looked at, in seconds
@@ -21,7 +23,7 @@ REPORT = 60.0  # bad lines are reported so often at most, in seconds
 
 
 class Feed:
-    """`say` gets a sentence for the operator; `turn` is called often, with the monotonic clock's seconds."""
+    """`say` gets a sentence for the operator; `turn` is called often, with the monotonic clock's seconds. Raises OSError."""
 
     def __init__(self, loop: Loop, guard: Guard, radio: Radio, state: RadioState, log: PulseLog, decoder: Decoder | None, say: Callable[[str], None]) -> None:
         self.loop, self.radio, self.state, self.log, self.decoder, self.say = loop, radio, state, log, decoder, say
@@ -30,7 +32,8 @@ class Feed:
         if decoder:
             decoder.tell = lambda line: self.reception.take(line, time.time())
         self.lines = Lines()
-        self.recent: collections.deque[Pulse] = collections.deque()
+        self.steadied = Steadied() if radio.steady else Unmoved()
+        self.recent: collections.deque[Pulse] = collections.deque()  # as they were handed on
         self.outlet: Outlet | None = None
         self.pause, self.due = PAUSES[0], 0.0
         self.pulse_at = 0.0
@@ -41,7 +44,7 @@ class Feed:
     def recall(self, pulses: list[Pulse]) -> None:
         """What a keeper before this one has logged in the last minutes is at hand too."""
         if pulses:
-            self.recent.extend(pulses)
+            self.recent.extend(self.steadied.pulse(pulse) for pulse in pulses)
             self.lines.last = pulses[-1].start
 
     def turn(self, now: float) -> None:
@@ -112,16 +115,16 @@ class Feed:
         if not pulses:
             return
         self.pulse_at, self.pause, self.state.source = now, PAUSES[0], "running"
-        unix = time.time()
-        for pulse in pulses:
+        unix, given = time.time(), [self.steadied.pulse(pulse) for pulse in pulses]
+        for pulse, moved in zip(pulses, given):
             self.log.write(pulse.start, pulse.line(), unix)
-            self.reception.pulse(pulse.start, unix)
-        self.recent.extend(pulses)
+            self.reception.pulse(pulse.start, unix, moved.start)
+        self.recent.extend(given)
         self._forget_old()
         if self.outlet:
-            self.outlet.give(pulses)
+            self.outlet.give(given)
         if self.decoder:
-            self.decoder.give(b"".join(pulse.line() for pulse in pulses), now)
+            self.decoder.give(b"".join(pulse.line() for pulse in given), now)
 
     def _forget_old(self) -> None:
         while self.recent[0].start < self.recent[-1].start - OLDEST:

@@ -10,6 +10,7 @@ import time
 from enum import Enum
 
 from keeper.config import Radio, Settings
+from keeper.steadied import PLACE
 
 CLOCKS = "/sys/devices/system/clocksource/clocksource0"
 GOOD_CLOCKS = ("tsc", "arch_sys_counter", "kvm-clock", "hyperv_clocksource_tsc_page", "xen", "riscv_clocksource", "stp", "timer")
@@ -59,6 +60,18 @@ def look_at_source(radio: Radio, place: int) -> Finding:
     if not os.access(radio.value, os.R_OK):
         return Level.BAD, f"{name}: {radio.value} may not be read by you"
     return Level.WELL, f"{name}: {radio.value} is there"
+
+
+def look_at_steady(radio: Radio, place: int, code: str = PLACE) -> list[Finding]:
+    """Whether a radio can be steadied that is to be, and is so once alone."""
+    if not radio.steady:
+        return []
+    name = f"radio {place} ({radio.name or radio.plan})"
+    if not os.path.exists(code):
+        return [(Level.BAD, f"{name}: it can't be steadied: {code} isn't there")]
+    if radio.kind == "command" and os.path.basename(code) in radio.value:
+        return [(Level.BAD, f"{name}: its command steadies it too: take `steady.py` out of the command, so that the log has its pulses as they came")]
+    return [(Level.WELL, f"{name}: its marks will be steadied, two minutes after they begin as well as can be")]
 
 
 def _look_at_command(name: str, command: str) -> Finding:
@@ -121,5 +134,6 @@ def look(settings: Settings, running: bool) -> list[Finding]:
     found = [(Level.WELL, f"port {port} is served by the keeper that runs") for port in settings.links] if running else [look_at_port(port) for port in settings.links]
     if not settings.links:
         found.append((Level.NOTE, "the station has no [[link]]: nobody is answered"))
-    found += [look_at_source(radio, place) for place, radio in enumerate(settings.radios)]
+    for place, radio in enumerate(settings.radios):
+        found += [look_at_source(radio, place), *look_at_steady(radio, place)]
     return found + look_at_clock() + [look_at_folder(settings.folder)]

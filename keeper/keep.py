@@ -132,7 +132,15 @@ class Keeper:
             say("the end was asked for")
 
     def _keep_run(self, run: Run) -> str:
-        """Goes on until the run has to end; says why."""
+        """Goes on until the run has to end; says why. The end of its process wakes the loop."""
+        ends = run.server.child.descriptor
+        self.loop.reads(ends, lambda: None)
+        try:
+            return self._until_end(run)
+        finally:
+            self.loop.forget(ends)
+
+    def _until_end(self, run: Run) -> str:
         while True:
             self._turn(min(TURN, run.watch.wait(time.monotonic())))
             now = time.monotonic()

@@ -93,6 +93,10 @@ def _radios(sheet: Sheet, state: State) -> None:
         [({**labels, "rule": number}, count) for labels, one in by for number, count in refused(one.reception).items()],
     )
     sheet.put("radio_mark_spread_seconds", "gauge", "Standard deviation of the starts of marks.", [(labels, one.spread) for labels, one in by if one.spread])
+    sheet.put(
+        "radio_steadied_mark_spread_seconds", "gauge", "The same after they were steadied.",
+        [(labels, one.spread_given) for labels, one in by if one.steady and one.spread_given],
+    )
 
 
 def _servers(sheet: Sheet, state: State) -> None:

@@ -1,4 +1,4 @@
-"""What goes on beside the runs: relays, the guard of the children, and feeds whose sources end, stall and write noise."""
+"""What goes on beside the runs: relays, and the guard of the children."""
 
 import os
 import pathlib
@@ -6,19 +6,13 @@ import signal
 import socket
 import subprocess
 import sys
-import tempfile
 import time
 import unittest
 
 from keeper.children import Child, Guard
-from keeper.config import Radio
-from keeper.feed import Feed
 from keeper.loop import Loop
-from keeper.outlet import Outlet, pipe
 from keeper.pacing import Pacing
-from keeper.pulse_log import PulseLog
 from keeper.relay import BURST, WAIT, Relay
-from keeper.state import RadioState
 
 TOP = pathlib.Path(__file__).parent.parent.parent
 TIME = b"\x24\1" + bytes(46)
@@ -170,74 +164,6 @@ def alive(process):
         return pathlib.Path(f"/proc/{process}/stat").read_text().rpartition(")")[2].split()[0] != "Z"
     except FileNotFoundError:
         return False
-
-
-class Feeds(unittest.TestCase):
-    def setUp(self):
-        folder = tempfile.TemporaryDirectory()
-        self.addCleanup(folder.cleanup)
-        self.folder = pathlib.Path(folder.name)
-        self.guard = Guard()
-        self.addCleanup(self.guard.close)
-        self.loop = Loop()
-        self.addCleanup(self.loop.close)
-        self.said = []
-
-    def feed(self, command, stall=60.0):
-        state = RadioState(plan="dcf")
-        log = PulseLog(str(self.folder), 0, "dcf", 3, self.said.append, "b0070000")
-        feed = Feed(self.loop, self.guard, Radio("command", command, "dcf", stall, "dcf", 0.0), state, log, None, self.said.append)
-        self.addCleanup(log.join)
-        self.addCleanup(feed.close)
-        return feed
-
-    def turn(self, feed, seconds, until=lambda: False):
-        end = time.monotonic() + seconds
-        while time.monotonic() < end and not until():
-            self.loop.turn(0.02)
-            feed.turn(time.monotonic())
-
-    def server(self, feed):
-        taken, given = pipe()
-        self.addCleanup(os.close, taken)
-        os.set_blocking(taken, False)
-        feed.give_to(Outlet(given))
-        return taken
-
-    def test_a_source_that_dies_in_a_line_is_started_again_and_the_pipe_stays_open(self):
-        now = time.monotonic_ns() // 1000
-        feed = self.feed(f"if mkdir {self.folder}/once 2> /dev/null; then echo {now - 500} 7; printf '{now} 7'; else echo {now - 500} 7; echo {now + 9} 8; exec sleep 60; fi")
-        taken = self.server(feed)
-        self.turn(feed, 8, lambda: feed.state.pulses == 2)
-        self.assertEqual(os.read(taken, 100), f"{now - 500} 7\n{now + 9} 8\n".encode())
-        self.assertEqual((feed.state.restarts, feed.lines.bad, feed.state.source), (1, 1, "running"))
-        self.assertEqual(self.said[0], "radio 0: its command ended with 0; it is started again in 1 s")
-        self.assertIn("1 bad line left out; the last: ", self.said[1])
-
-    def test_a_source_that_writes_noise(self):
-        now = time.monotonic_ns() // 1000
-        feed = self.feed(f"head -c 300000 /dev/urandom; echo; echo {now} 7; exec sleep 60")
-        taken = self.server(feed)
-        self.turn(feed, 8, lambda: feed.state.pulses == 1)
-        self.assertEqual(os.read(taken, 1000), f"{now} 7\n".encode())
-        self.assertGreater(feed.lines.bad, 100)
-        self.assertEqual(len(self.said), 1)
-
-    def test_a_source_that_stalls(self):
-        feed = self.feed("exec sleep 60", stall=0.3)
-        self.turn(feed, 3, lambda: feed.state.source == "waiting")
-        self.assertEqual(self.said, ["radio 0: no pulse for 0 s; it is started again in 1 s"])
-        self.turn(feed, 5, lambda: feed.state.restarts == 2)
-        self.assertEqual(self.said[1:], ["radio 0: no pulse for 0 s; it is started again in 2 s"])
-
-    def test_a_new_server_gets_the_last_minutes_first(self):
-        now = time.monotonic_ns() // 1000
-        feed = self.feed(f"echo {now - 100} 7; echo {now - 50} 7; sleep 1; echo {now + 1} 9; exec sleep 60")
-        self.turn(feed, 5, lambda: feed.state.pulses == 2)
-        taken = self.server(feed)
-        self.turn(feed, 5, lambda: feed.state.pulses == 3)
-        self.assertEqual(os.read(taken, 100), f"{now - 100} 7\n{now - 50} 7\n{now + 1} 9\n".encode())
-        self.assertEqual((self.folder / os.listdir(self.folder)[0]).read_bytes(), f"{now - 100} 7\n{now - 50} 7\n{now + 1} 9\n".encode())
 
 
 if __name__ == "__main__":

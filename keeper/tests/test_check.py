@@ -108,6 +108,17 @@ class Hosts(Folder):
                 self.assertEqual(told, level, text)
                 self.assertIn(said, text)
 
+    def test_steadying(self):
+        for command, steady, code, level, said in (
+            ("gpiomon", True, hosts.PLACE, Level.WELL, "will be steadied"), ("gpiomon", True, "/nosuch", Level.BAD, "/nosuch isn't there"),
+            ("gpiomon | /x/steady.py", True, hosts.PLACE, Level.BAD, "its command steadies it too"),
+        ):
+            with self.subTest(said=said):
+                ((told, text),) = hosts.look_at_steady(Radio("command", command, "roof", 60.0, "dcf", 0.0, steady), 0, code)
+                self.assertEqual(told, level, text)
+                self.assertIn(said, text)
+        self.assertEqual(hosts.look_at_steady(Radio("command", "x | /x/steady.py", "roof", 60.0, "dcf", 0.0), 0), [])
+
     def test_clock_sources(self):
         for name, level in (("tsc", Level.WELL), ("arch_sys_counter", Level.WELL), ("hpet", Level.NOTE), ("jiffies", Level.NOTE)):
             self.write("current_clocksource", name + "\n")

@@ -3,7 +3,7 @@
 import time
 import unittest
 
-from keeper import facts
+from keeper import facts, metrics, page, text
 from keeper.config import Radio, Settings
 from keeper.ntp import EPOCH, Answer
 from keeper.state import Alarm, LinkState, Quarter, State
@@ -25,6 +25,15 @@ class Facts(unittest.TestCase):
         self.assertEqual((state.radios[0].number, state.radios[0].name, state.radios[0].delay), (0, "attic", 0.0014))
         self.assertEqual((state.servers[0].number, state.leap_file.number, state.leap_file.expires), (1, 2, 0.0))
         self.assertEqual((state.links[0].port, state.bound, state.cycle), (123, 0.5, 3600))
+
+    def test_a_steadied_radio_is_shown_with_both_spreads(self):
+        steady = facts.new_state(settings(radios=[Radio("command", "true", "attic", 60.0, "dcf", 0.0, True)]), None)
+        plain = facts.new_state(settings(), None)
+        for state in (steady, plain):
+            state.radios[0].spread, state.radios[0].spread_given = 0.0042, 0.0006
+        for render, said in ((text.render, "4.2 ms, steady 600 us"), (page.render, "the same, steadied"), (metrics.render, "radio_ntpd_radio_steadied_mark_spread_seconds{")):
+            self.assertIn(said, render(steady, time.time()))
+            self.assertNotIn(said, render(plain, time.time()))
 
     def test_pictures_and_alarms_of_a_keeper_before_are_taken_over(self):
         before = facts.new_state(settings(), None)

@@ -69,6 +69,10 @@ class Config(Folder):
         self.assertEqual((first.kind, first.value, first.name, first.stall, first.plan, first.delay), ("command", "true", "dcf", 60, "dcf", 0.0014))
         self.assertEqual((second.kind, second.value, second.name, second.stall), ("fifo", str(self.folder / "msf.fifo"), "attic", 30))
 
+    def test_each_radio_may_be_steadied(self):
+        self.assertEqual([radio.steady for radio in self.load(KEEPER).radios], [False, False])
+        self.assertEqual([radio.steady for radio in self.load(KEEPER + "steady = true\n").radios], [False, True])
+
     def test_servers_without_pacing_shorten_the_cycle(self):
         self.assertEqual(self.load("pace = 0\n" + KEEPER).cycle, 300)
         self.assertEqual(self.load("pace = 0\ncycle = 900\n" + KEEPER).cycle, 900)
@@ -83,6 +87,7 @@ class Config(Folder):
             ("cycle = 1\n" + KEEPER, "cycle: 1 isn't within 2 to 604800 (line 1)"),
             ('cycle = "5"\n' + KEEPER, "cycle: it isn't a whole number (line 1)"),
             ("days = true\n" + KEEPER, "days: it isn't a whole number (line 1)"),
+            (KEEPER + "steady = 1\n", "radio.1.steady: it isn't true or false (line 8)"),
             (KEEPER.replace('"true"', '""'), "radio.0.command: it is empty (line 3)"),
             (KEEPER + "[alarms]\nunheard = 5\n", "alarms.unheard: 5 isn't within 60 to 2592000 (line 9)"),
             ("radio = 3\nstation = 'station.toml'\n", "radio: it isn't an array of tables (line 1)"),

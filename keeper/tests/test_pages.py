@@ -25,6 +25,13 @@ class Pages(unittest.TestCase):
                 found = re.search(rf"(?ms)^\.(?:It )?Cm {key}\n(.*?)(?=^\.(?:It|El|Cm))", MANUAL)
                 self.assertRegex(found[1].replace("\n", " "), rf"\b{limits[0]} to {limits[1]}\b", key)
 
+    def test_what_is_left_out_is_the_same_on_both_pages(self):
+        table = (DOCS / "KEEPER.md").read_text()
+        for key, row in (("days", "days"), ("pace", "pace"), ("unheard", "alarms.unheard"), ("limit", "alarms.limit"), ("stall", "radio.I.stall"), ("steady", "radio.I.steady")):
+            found = re.search(rf"(?ms)^\.(?:It )?Cm {key}\n(.*?)(?=^\.(?:It|El|Cm))", MANUAL)
+            default = re.search(r"by default ([a-z0-9]+)", found[1].replace("\n", " "))[1]
+            self.assertRegex(table, rf"(?m)^\| `{row}` \|.*\| `?{default}`? \|$")
+
     def test_each_key_of_a_station(self):
         table = re.search(r"(?ms)^## Station file$(.*?)^## ", (DOCS / "FORMATS.md").read_text())[1]
         keys = re.findall(r"(?m)^\| `([a-z_.I]+)` \|[^|]*\|[^|]*\|$", table)
