@@ -54,13 +54,18 @@ def errors(program: str, plan: str, log: pathlib.Path, ppm: float) -> list[float
     return [late(report, ppm) for report in decode(program, plan, log) if report.said.startswith("verdict")]
 
 
-def replay(program: str, plan: str, log: pathlib.Path, folder: pathlib.Path, ppm: float) -> list[tuple[float, float]]:
-    """The error and the root dispersion, in milliseconds, of the replies an hour and six hours after a log's end; none where it has no time."""
+def replay(program: str, plan: str, log: pathlib.Path, folder: pathlib.Path, ppm: float, after: tuple[int, ...] = (HOUR, 6 * HOUR)) -> list[tuple[float, float]]:
+    """The error and the root dispersion, in milliseconds, of the replies so long after a log's end, in microseconds; none where it has no time."""
     pulses = log.read_text().splitlines()
     end = int(pulses[-1].split()[0])
-    moments = [end + HOUR, end + 6 * HOUR]
+    return [given for _, given in asked(program, plan, pulses, [end + span for span in after], folder, ppm)]
+
+
+def asked(program: str, plan: str, pulses: list[str], moments: list[int], folder: pathlib.Path, ppm: float) -> list[tuple[int, tuple[float, float]]]:
+    """Each of these moments at which there is a time, and the error and the root dispersion of the reply, in milliseconds. Moments rise."""
     script, station = folder / "script", folder / "station"
-    script.write_text("".join(f"pulse 0 {line}\n" for line in pulses) + "".join(f"request 0 {at} {at} {REQUEST}\n" for at in moments))
+    lines = [(int(line.split()[0]), f"pulse 0 {line}\n") for line in pulses] + [(at, f"request 0 {at} {at} {REQUEST}\n") for at in moments]
+    script.write_text("".join(line for _, line in sorted(lines, key=lambda one: one[0])))
     station.write_text(f'bound = 16000\n\n[[radio]]\nplan = "{plan}"\nlog = "none"\n')
     done = subprocess.run([program, "replay", "--station", str(station), "--script", str(script)], capture_output=True, text=True)
     if not done.stdout.endswith("status 0\n"):
@@ -72,5 +77,5 @@ def replay(program: str, plan: str, log: pathlib.Path, folder: pathlib.Path, ppm
             continue
         sent = struct.unpack(">Q", reply[40:48])[0] / 2**32
         true = since_1900(FIRST) + (at - BEGIN) / (1 + ppm * 1e-6) / 1e6
-        found.append((1000 * (sent - true), struct.unpack(">I", reply[8:12])[0] / 65.536))
+        found.append((at, (1000 * (sent - true), struct.unpack(">I", reply[8:12])[0] / 65.536)))
     return found

@@ -5,6 +5,8 @@
     steadied.py year PROGRAM [--days N] [--bits SHARE ..]    whether any minute of a year of DCF77 says something else
     steadied.py holdover PROGRAM [--seeds N] [--ppm N]       whether the time holds what it promises, an hour and six hours after reception
 
+Each takes --jobs N too: in how many processes it works, one for each processor where it isn't given.
+
 steady.sh, steady_year.sh and holdover.sh call it. It ends with 1 where the program doesn't do its part, and `year` where a verdict is wrong
 that isn't wrong without steady.py.
 """
@@ -85,15 +87,15 @@ def spread(words: argparse.Namespace) -> int:
         for ppm in (0, 50)
     ]
     print("plan  jitter   ms  ppm    raw  spread steady  spread  times    mean   worst    (ms)")
-    show(side_by_side(jobs))
+    show(side_by_side(jobs, words.jobs))
     print("plan   ms  ppm     raw  spread of the verdicts at minute 2, 3, 4, 6, 10 and 16, steady (ms)")
-    show(side_by_side([functools.partial(settled, words.program, plan, jitter, 50, words.seeds) for plan in PLANS for jitter in JITTERS]))
+    show(side_by_side([functools.partial(settled, words.program, plan, jitter, 50, words.seeds) for plan in PLANS for jitter in JITTERS], words.jobs))
     return 0
 
 
-def side_by_side(jobs: list[Callable]) -> Iterator:
-    """What some functions give, in their order, run on as many processors as there are."""
-    with multiprocessing.Pool(os.cpu_count(), end_quietly) as pool:
+def side_by_side(jobs: list[Callable], processes: int) -> Iterator:
+    """What some functions give, in their order, run in so many processes."""
+    with multiprocessing.Pool(processes, end_quietly) as pool:
         yield from pool.imap(call, jobs)
 
 
@@ -150,7 +152,7 @@ def year(words: argparse.Namespace) -> int:
     for bits in words.bits:
         jobs = [functools.partial(some_days, words.program, bits, words.jitter, day, min(10, words.days - day)) for day in range(0, words.days, 10)]
         sums: dict[str, int] = {}
-        for counts in side_by_side(jobs):
+        for counts in side_by_side(jobs, words.jobs):
             sums = {name: sums.get(name, 0) + count for name, count in counts.items()}
         bad += sums["wrong with steady alone"]
         counted = ", ".join(f"{name} {count}" for name, count in sums.items())
@@ -183,7 +185,7 @@ def holdover(words: argparse.Namespace) -> int:
     jobs = [functools.partial(held, words.program, plan, jitter, words.ppm, normal, words.seeds) for normal in (False, True) for plan in PLANS for jitter in JITTERS]
     print(f"of {words.seeds} runs: how many were farther off than they said an hour on, six hours on, at either; had no time; worst error, what it said (ms)")
     print("plan  jitter  ms  ppm |    raw                                    | steady")
-    show(side_by_side(jobs))
+    show(side_by_side(jobs, words.jobs))
     return 0
 
 
@@ -194,6 +196,7 @@ def main() -> int:
         kind = kinds.add_parser(name)
         kind.set_defaults(does=does)
         kind.add_argument("program")
+        kind.add_argument("--jobs", type=int, default=os.cpu_count(), help="how many processes work on it (one for each processor)")
     kinds.choices["spread"].add_argument("--minutes", type=int, default=1440)
     kinds.choices["spread"].add_argument("--seeds", type=int, default=40)
     kinds.choices["year"].add_argument("--days", type=int, default=365)

@@ -5,7 +5,7 @@
 
 A cheap receiver reports each mark some milliseconds early or late, and `radio_ntpd` takes a minute's time from one mark alone. Marks come
 a second apart, so all of them together say more exactly where each should be: a straight line is laid through their phases, which follows
-the drift of the host's counter, and a few marks that are far off don't bend it. After two minutes it is settled.
+the drift of the host's counter, and a few marks that are far off hardly bend it. After two minutes it is settled.
 
 - A start is moved by at most --most milliseconds (80 where it isn't given). One that is farther from the line is left.
 - Widths stay as they are. No mark is made and none is dropped. Starts rise as strictly as they did.
@@ -34,7 +34,8 @@ GREATEST_MOST = 90_000  # a second is 100 ms long or short before its minute is 
 WINDOW = 600 * SECOND  # how long a mark counts
 GAP = 60 * SECOND  # how long a line holds without a mark near it
 FIRST = 8  # the marks from which a phase is known, if three quarters of them agree on it
-SLOPE_FROM = 90 * SECOND  # the drift isn't known from less than this
+ROUNDS = 3  # how often a line is laid again by the distances of the marks from it
+USUAL = 50e-6  # how far a counter typically drifts of which no mark has said more yet
 STEEPEST = 500e-6  # the greatest drift of a counter that NTP follows
 # Within this much of its head a reduction belongs to the same second: MSF's second parts, and noise.
 NEXT = 900_000
@@ -47,14 +48,6 @@ LINE = re.compile(rb"(0|[1-9][0-9]{0,15}) ([0-9]{1,7})\n")
 def around(span: float) -> float:
     """What is left of a span without its whole seconds, from -half a second up to half a second."""
     return (span + HALF) % SECOND - HALF
-
-
-def middle(values: list[float]) -> float:
-    """The mean of the middle half of some values: as blind to outliers as a median needs to be, and steadier."""
-    ordered = sorted(values)
-    cut = len(ordered) // 4
-    kept = ordered[cut : len(ordered) - cut]
-    return sum(kept) / len(kept)
 
 
 def median(values: list[float]) -> float:
@@ -71,6 +64,7 @@ class PhaseLine:
         self.last: collections.deque[int] = collections.deque(maxlen=FIRST)  # the last marks, near or far
         self.level = self.slope = 0.0  # the phase at `origin`, and by how much it grows in a microsecond
         self.origin = 0
+        self.drift = 0.0  # the slope that is expected of the counter where the marks don't say more
         self.due = 0  # how many marks are awaited before the line is laid anew
         self.spread = 0.0  # the median distance of a mark from the line, in microseconds
 
@@ -116,8 +110,11 @@ class PhaseLine:
         self.restart([(at, centre % SECOND + around(at - centre)) for at in agreed])
 
     def restart(self, marks: list[tuple[int, float]]) -> None:
-        """Starts anew with these marks."""
+        """Starts anew with these marks. What was known of the counter's drift stays known."""
         self.marks = collections.deque(marks)
+        self.drift = self.slope
+        self.origin = marks[-1][0]
+        self.level = median([phase + self.slope * (self.origin - at) for at, phase in marks])
         self.lay()
 
     def look_for_step(self) -> None:
@@ -135,20 +132,29 @@ class PhaseLine:
                 return
 
     def lay(self) -> None:
-        """Lays the line through the marks: its slope from the first and the last third, its level from all."""
+        """Lays the line through the marks by least squares, where one farther off than twice the median counts as if it were just so far."""
         marks = list(self.marks)
+        for _ in range(ROUNDS):
+            off = [abs(phase - self.phase(at)) for at, phase in marks]
+            far = max(1.0, 2 * median(off))
+            self.lay_weighted(marks, [far / max(far, one) for one in off], 0.75 * far)
+        self.spread = median([abs(phase - self.phase(at)) for at, phase in marks])
+        self.due = len(marks) // 20
+
+    def lay_weighted(self, marks: list[tuple[int, float]], weights: list[float], jitter: float) -> None:
+        """Lays the line by weighted least squares. `jitter` is about the standard deviation of a mark, in microseconds: the expected drift
+        counts as one more measurement of the slope, good to USUAL."""
         self.origin = marks[-1][0]
-        self.slope = 0.0
-        if self.origin - marks[0][0] >= SLOPE_FROM:
-            third = len(marks) // 3
-            early, late = marks[:third], marks[-third:]
-            apart = (sum(at for at, _ in late) - sum(at for at, _ in early)) / third
-            rise = middle([phase for _, phase in late]) - middle([phase for _, phase in early])
-            self.slope = max(-STEEPEST, min(STEEPEST, rise / apart))
-        levels = [phase - self.slope * (at - self.origin) for at, phase in marks]
-        self.level = middle(levels)
-        self.spread = median([abs(one - self.level) for one in levels])
-        self.due = len(marks) // 10
+        total = sum(weights)
+        centre = sum(weight * (at - self.origin) for weight, (at, _) in zip(weights, marks)) / total
+        mean = sum(weight * phase for weight, (_, phase) in zip(weights, marks)) / total
+        length, rise = (jitter / USUAL) ** 2, (jitter / USUAL) ** 2 * self.drift
+        for weight, (at, phase) in zip(weights, marks):
+            away = at - self.origin - centre
+            length += weight * away * away
+            rise += weight * away * (phase - mean)
+        self.slope = max(-STEEPEST, min(STEEPEST, rise / length))
+        self.level = mean - self.slope * centre
 
 
 class Steady:

@@ -1,0 +1,137 @@
+"""One case of accuracy.py: a receiver in software, a keeper of it, and the clients that judge."""
+
+import os
+import pathlib
+import shutil
+import signal
+import statistics
+import subprocess
+import sys
+from typing import NamedTuple
+
+from asked import Reading, ask, chrony_readings, tracking
+
+HERE = pathlib.Path(__file__).resolve().parent
+FEEDERS = HERE.parent / "feeders"
+sys.path.insert(0, str(HERE.parent / "checks"))
+from kept import Kept  # noqa: E402
+
+QUICK = 0.001  # an exchange that took longer, in seconds, was kept waiting by the host's other work, and says nothing of the server's time
+HISTORY = 12  # minutes of pulses that a receiver gives at once as it begins
+JUDGE = "server 127.0.0.1 port {port} noselect minpoll 0 maxpoll 0\nlogdir {folder}\nlog measurements\n"
+BRIDGED = "refclock SOCK {folder}/radio.sock refid DCF poll 4 filter 1 precision 1e-3 delay 0.01\n"
+OWN = "port 0\ncmdport 0\nbindcmdaddress {folder}/cmd\npidfile {folder}/pid\n"
+
+
+class Plan(NamedTuple):
+    """What is run. Times are in seconds since the beginning, `jitter` in milliseconds, `outliers` a share of 1."""
+
+    program: str
+    plan: str
+    seconds: int
+    jitter: float
+    outliers: float
+    fade: tuple[int, int]
+    change: int
+
+
+def chronyd(folder: pathlib.Path, text: str) -> subprocess.Popen | None:
+    """Starts a chronyd that touches no clock, in a folder of its own; None where it isn't installed."""
+    if not shutil.which("chronyd"):
+        return None
+    folder.mkdir(mode=0o700)
+    (folder / "conf").write_text((text + OWN).format(folder=folder))
+    words = ["chronyd", "-x", "-u", "root", "-d", "-f", str(folder / "conf")]
+    return subprocess.Popen(words, stdout=subprocess.DEVNULL, stderr=(folder / "said").open("w"))
+
+
+class Case:
+    """A receiver whose pulses a keeper gives to a server, and chrony_sock.py to a chronyd of its own."""
+
+    def __init__(self, plan: Plan, steady: bool, ppm: float, seed: int, since: tuple[float, float], folder: pathlib.Path) -> None:
+        """`since` says which UTC, in seconds since 1970, a moment of the monotonic clock had."""
+        self.plan, self.steady, self.ppm, self.since, self.folder = plan, steady, ppm, since, folder
+        folder.mkdir()
+        self.pulses = folder / "pulses.log"
+        self.pulses.touch()
+        keys = f"command = '''{self.command(seed)}'''\nstall = 86400\n" + ("steady = true\n" if steady else "")
+        self.kept = Kept([(plan.plan, keys)], station="bound = 16000")
+        self.readings: list[Reading] = []
+        self.bridged: list[Reading] = []
+        self.children: list[subprocess.Popen] = []
+        self.judge: subprocess.Popen | None = None  # the chronyd that asks the server
+        self.other: subprocess.Popen | None = None  # the chronyd that has the pulses by its socket
+
+    def command(self, seed: int) -> str:
+        """The receiver and its feeder, for the keeper's file. The pulses go into a file too."""
+        plan = self.plan
+        receiver = [HERE / "soft_receiver.py", "--plan", plan.plan, "--form", "edges", "--live", plan.seconds, "--history", HISTORY]
+        receiver += ["--jitter", plan.jitter, "--outliers", plan.outliers, "--ppm", self.ppm, "--seed", seed]
+        receiver += ["--since", "{!r},{!r}".format(*self.since), "--fade", "{}:{}".format(*plan.fade)]
+        return f"{' '.join(map(str, receiver))} | {FEEDERS / 'edges_to_log.py'} | tee {self.pulses}"
+
+    def start(self) -> None:
+        bridge = self.folder / "bridge"
+        self.judge = chronyd(self.folder / "judge", JUDGE.replace("{port}", str(self.kept.port)))
+        self.other = chronyd(bridge, BRIDGED)
+        self.children += [child for child in (self.judge, self.other) if child]
+        if self.other:
+            log = self.pipe(["tail", "-n", "+1", "-f", self.pulses], None)
+            if self.steady:
+                log = self.pipe([FEEDERS / "steady.py"], log.stdout)
+            decode = self.pipe([self.plan.program, "decode", "--plan", self.plan.plan, "--log", "/dev/stdin"], log.stdout)
+            self.pipe([FEEDERS / "chrony_sock.py", bridge / "radio.sock"], decode.stdout)
+        self.kept.start()
+        self.kept.waits(" serves ")
+
+    def pipe(self, words: list, source) -> subprocess.Popen:
+        """Starts a program that reads from this source and writes into a pipe."""
+        child = subprocess.Popen([str(word) for word in words], stdin=source or subprocess.DEVNULL, stdout=subprocess.PIPE)
+        if source:
+            source.close()
+        self.children.append(child)
+        return child
+
+    def change(self) -> None:
+        """Has the keeper end its run and begin another."""
+        self.kept.process.send_signal(signal.SIGHUP)
+
+    def look(self) -> None:
+        """Asks the chronyd that has the pulses by its socket, and the server itself where no chronyd does."""
+        if self.other:
+            self.bridged += tracking(self.folder / "bridge" / "cmd")
+        if not self.judge and (answer := ask(self.kept.port, 0.3)) is not None and answer.synchronised:
+            self.readings.append(Reading(answer.unix, answer.sent - 2_208_988_800 - answer.unix, answer.distance + answer.took / 2, answer.took))
+
+    def end(self) -> None:
+        """Ends all that was started, and takes what the judge has written; the keeper's files come into the case's folder."""
+        try:
+            if self.kept.process:
+                self.kept.stop()
+        finally:
+            for child in reversed(self.children):
+                child.terminate()
+                child.wait()
+            shutil.copytree(self.kept.folder, self.folder / "keeper", dirs_exist_ok=True)
+            self.kept.__exit__()
+        if self.judge:
+            self.readings = chrony_readings(self.folder / "judge" / "measurements.log")
+
+    def error(self, reading: Reading) -> float:
+        """By how much a reading is off what the receiver's sender sent then, in seconds."""
+        return reading.offset - (reading.unix - self.since[1]) * (1 / (1 + self.ppm * 1e-6) - 1)
+
+    def row(self, name: str, readings: list[Reading], begin: float, every: float) -> str:
+        """What clients saw from `begin` on, asking once in `every` seconds."""
+        seen = [(self.error(one), one.distance) for one in readings if one.unix >= begin and one.took < QUICK]
+        answered = sum(one.unix >= begin for one in readings)
+        what = f"{name:6} {'steady' if self.steady else 'raw':6} {self.ppm:4g}"
+        if len(seen) < 2:
+            return f"{what}  no time"
+        errors = [error for error, _ in seen]
+        within = sum(abs(error) <= distance for error, distance in seen) / len(seen)
+        share = answered * every / (self.plan.seconds - (begin - self.since[1]))
+        return (
+            f"{what} {1000 * statistics.mean(errors):8.2f} {1000 * statistics.pstdev(errors):7.2f} {1000 * max(map(abs, errors)):7.2f}"
+            f" {100 * within:7.1f} {100 * min(1, share):9.1f} {100 * len(seen) / answered:6.1f}"
+        )
