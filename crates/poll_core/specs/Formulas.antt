@@ -1,7 +1,7 @@
 -- The request of a poll, and what an exchange says of the time (RFC 5905, section 8; that the clock's own precision is 2^-20 s
 -- and the bounds of the server's are this project's own choice). Moments are microseconds of the host's counter, and lengths
 -- are units of 2^-32 s.
-use Rattle.std.specs.Prelude.{ℕ, ◌+◌, ◌-◌, ◌*◌, ◌/◌, ◌%◌, ◌^◌, nat_lt, min, ℤ, pos, negsuc, ◌+ℤ◌, ◌-ℤ◌, if◌then◌else◌}
+use Rattle.std.specs.Prelude.{ℕ, ◌+◌, ◌-◌, ◌*◌, ◌/◌, ◌%◌, ◌^◌, min, ℤ, pos, negsuc, ◌+ℤ◌, ◌-ℤ◌}
 use Rattle.std.specs.Int.{int_max}
 use Rattle.tick_units.specs.Units.{floor_div, local_span, phi}
 use Rattle.tick_units.specs.declared.sample.Sample.{Sample}
@@ -32,9 +32,10 @@ request_header moment = record {
   transmit = request_stamp moment;
 }
 
--- a second of 32 bits stands for the one from 2000-01-01 on: one that is earlier in its era is the next era's
+-- the one second with these low 32 bits among the 2^32 that begin at 2000-01-01 (section 6, on eras; `Unwraps` of civil_minute):
+-- it is as far after that moment as its low bits are ahead of that moment's, modulo 2^32
 abbrev pub unwrapped_second : ℕ → ℕ
-unwrapped_second low = if nat_lt low 3155673600 then low + 2 ^ 32 else low
+unwrapped_second low = 3155673600 + (low + (2 ^ 32 - 3155673600)) % 2 ^ 32
 
 -- the span since 1900 of a timestamp: its second unwrapped, its fraction kept
 abbrev pub span_of : Stamp → ℤ

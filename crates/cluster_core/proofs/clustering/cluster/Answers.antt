@@ -10,7 +10,7 @@ use Rattle.cluster_core.proofs.clustering.cluster.Goals as goal
 -- what is left are the clusters of what was there
 left : (c : goal.After-of) → Clusters c.args.s.now c.of.result
 left c =
-    let first = c.put_all.ensures ∙ ap (in_order may_precede) c.as_slice.ensures.value in
+    let first = c.put_all.ensures.items ∙ ap (in_order may_precede) c.as_slice.ensures.value in
     subst (Settles (in_order may_precede c.args.s.now)) (sym c.of.ensures) (subst (λ (all : List Survivor). Settles all c.settle.new.left.items) first c.settle.ensures)
 
 pub returns-clause-clusters : goal.returns-clause-clusters
