@@ -17,6 +17,7 @@ sys.path.insert(0, str(HERE.parent / "checks"))
 from kept import Kept  # noqa: E402
 
 QUICK = 0.001  # an exchange that took longer, in seconds, was kept waiting by the host's other work, and says nothing of the server's time
+LONGER = 120  # for how long a receiver goes on after the end, in seconds, so that the keeper doesn't start it again
 HISTORY = 12  # minutes of pulses that a receiver gives at once as it begins
 JUDGE = "server 127.0.0.1 port {port} noselect minpoll 0 maxpoll 0\nlogdir {folder}\nlog measurements\n"
 BRIDGED = "refclock SOCK {folder}/radio.sock refid DCF poll 4 filter 1 precision 1e-3 delay 0.01\n"
@@ -65,7 +66,7 @@ class Case:
     def command(self, seed: int) -> str:
         """The receiver and its feeder, for the keeper's file. The pulses go into a file too."""
         plan = self.plan
-        receiver = [HERE / "soft_receiver.py", "--plan", plan.plan, "--form", "edges", "--live", plan.seconds, "--history", HISTORY]
+        receiver = [HERE / "soft_receiver.py", "--plan", plan.plan, "--form", "edges", "--live", plan.seconds + LONGER, "--history", HISTORY]
         receiver += ["--jitter", plan.jitter, "--outliers", plan.outliers, "--ppm", self.ppm, "--seed", seed]
         receiver += ["--since", "{!r},{!r}".format(*self.since), "--fade", "{}:{}".format(*plan.fade)]
         return f"{' '.join(map(str, receiver))} | {FEEDERS / 'edges_to_log.py'} | tee {self.pulses}"

@@ -1,7 +1,7 @@
 #!/usr/bin/env python3
 """Up to which bound the time holds what it promises while minutes are refused, by how far the host's counter is off; holdover.sh calls this.
 
-    holdover_refused.py PROGRAM [--seeds N] [--jitter MS] [--ppm N ..] [--plan PLAN]
+    holdover_refused.py PROGRAM [--seeds N] [--jitter MS ..] [--ppm N ..] [--plan PLAN]
 
 Fifteen minutes of reception by receivers in software, then an hour in which each minute has a bit of no width and is refused. Such a minute
 makes a page that begins at the last verdict's offset, without what the counter has drifted since. A request comes in the middle of each minute.
@@ -29,7 +29,8 @@ def spoilt(lines):
 
 
 def row(program: str, plan: str, jitter: float, ppm: float, seeds: int) -> str:
-    """What all runs of a counter came to: when one was first farther off than it said, and the least that was said then."""
+    """What all runs of a counter came to: what was reported in the first minute at most, when a run was first farther off than it said, the
+    least that one said then, and the greatest error an hour on. Moments are in minutes, the others in milliseconds."""
     broken: list[tuple[float, float]] = []
     last: list[tuple[float, float]] = []
     first = []

@@ -32,6 +32,8 @@ CASES = [
     ("bench/steadied.py", "spread /nosuch --minutes 3 --seeds 1", 1),
     ("bench/steadied.py", "year /nosuch --days 1", 1),
     ("bench/steadied.py", "holdover /nosuch --seeds 1", 1),
+    ("bench/holdover_refused.py", "", 2),
+    ("bench/holdover_refused.py", "/nosuch --seeds 1 --jitter 2 --ppm 0", 1),
     ("bench/soft_receiver.py", "", 2),
     ("bench/soft_receiver.py", "--plan dcf --live x", 2),
     ("bench/soft_receiver.py", "--plan dcf --live 1 --fade 5", 2),
