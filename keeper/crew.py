@@ -12,6 +12,7 @@ from keeper.feed import Feed
 from keeper.hearings import Hearings
 from keeper.journal import read_journal
 from keeper.journals import Journals, failed_links, heard, status_of
+from keeper.lines import MINUTES
 from keeper.loop import Loop
 from keeper.notify import Notify
 from keeper.ntp import own_addresses
@@ -20,6 +21,8 @@ from keeper.pulse_log import PulseLog
 from keeper.readback import last_pulses
 from keeper.runs import Run
 from keeper.say import say
+
+VERDICTS = 4  # a radio has the time after so many
 
 
 class Crew:
@@ -81,6 +84,11 @@ class Crew:
             self.pacing = None
         if wanted and not self.pacing:
             self.pacing = Pacing(self.guard, self.loop, settings.pace, settings.servers)
+
+    def is_warm(self, now: float) -> bool:
+        """Whether a run that began now (Unix s) would soon have the time: by a radio, of which it receives the last minutes, or by servers,
+        which are asked at once."""
+        return bool(self.settings.servers) or any(feed.reception.verdicts_since(now - 60 * MINUTES) >= VERDICTS for feed in self.feeds)
 
     def turn(self, most: float) -> None:
         """One round of all that goes on beside a run, of at most so many seconds."""

@@ -166,7 +166,11 @@ class Keeper:
             return "link"
         if self.signals.take_reload() and self._reload():
             return "reload"
-        return "cycle" if now - run.began >= self.settings.cycle else ""
+        return "cycle" if now - run.began >= self.settings.cycle and self._may_change(run) else ""
+
+    def _may_change(self, run: Run) -> bool:
+        """Whether no time is lost by a new run. After some minutes without reception it would not have the time that this one still has."""
+        return not run.watch.has_time() or self.crew.is_warm(time.time())
 
     def _reload(self) -> bool:
         """Whether the files, read anew, are good. Else that is said, and all goes on as it was."""

@@ -106,6 +106,10 @@ class Reception:
             self.radio.minute, self.radio.minute_at = float(int(words[3]) - EPOCH), at
             self.slots.add(at, self.radio.minute - close + self.delay)
 
+    def verdicts_since(self, moment: float) -> int:
+        """How many verdicts came after this moment (Unix s)."""
+        return sum(good for at, good in self.minutes if at > moment)
+
     def _quarter(self, at: float) -> Quarter:
         """The quarter of an hour of a moment."""
         quarters, begun = self.radio.reception, at // QUARTER * QUARTER

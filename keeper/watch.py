@@ -132,6 +132,10 @@ class Watch:
             link.client.close()
             link.client = None
 
+    def has_time(self) -> bool:
+        """Whether a link's last answer had the time."""
+        return any(link.last and link.last.has_time() for link in self.links)
+
     def deaf(self) -> list[int]:
         """The places of the links that don't answer any more."""
         return [place for place, link in enumerate(self.links) if link.silent >= SILENT]

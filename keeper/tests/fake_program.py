@@ -2,7 +2,8 @@
 """Stands in for the program where a test needs one that can be had at once: `serve`, `decode` and `replay` as far as the keeper sees them.
 
 Its time is that of the host, taken at the start of a pulse; it has one when a feed has heard 240 pulses. It proves nothing of the real
-program: checks/keeper.sh runs that. FAKE_FAULT makes `replay` refuse the station; FAKE_REST is how long it rests before it opens links, and FAKE_DIES
+program: checks/keeper.sh runs that. FAKE_FAULT makes `replay` refuse the station; FAKE_REFUSES makes `decode` refuse each
+minute; FAKE_REST is how long it rests before it opens links, and FAKE_DIES
 how long after it has opened them it dies, in s.
 """
 
@@ -112,7 +113,8 @@ def decode(words: argparse.Namespace) -> int:
     with open(words.log, "rb") as log:
         for count, line in enumerate(log, 1):
             if count % 60 == 0:
-                print(f"0 {line.split()[0].decode()} verdict {int(time.time()) + EPOCH} 0", flush=True)
+                said = "refused 3" if "FAKE_REFUSES" in os.environ else f"verdict {int(time.time()) + EPOCH} 0"
+                print(f"0 {line.split()[0].decode()} {said}", flush=True)
     print("status 0")
     return 0
 

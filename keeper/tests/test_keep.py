@@ -146,6 +146,19 @@ class Runs(Kept):
         self.keeper.wait(30)
         self.assertLess(time.monotonic() - began, 15)
 
+    def test_runs_follow_one_another(self):
+        self.keep("cycle = 2\n")
+        self.waits("run 3 has the time")
+        self.ask()
+
+    def test_a_run_goes_on_while_a_new_one_would_have_no_time(self):
+        self.keep("cycle = 2\n", FAKE_REFUSES="1")
+        self.waits("has the time")
+        runs = self.text().count("serves after")
+        time.sleep(4)
+        self.assertEqual(self.text().count("serves after"), runs, self.text())
+        self.ask()
+
     def test_a_reload(self):
         self.keep()
         self.waits("run 1 has the time")

@@ -57,6 +57,11 @@ class Minutes(unittest.TestCase):
         self.reception.take("0 900000000000 refused 1", MINUTE, UNIX)
         self.assertEqual(self.radio.reception, [Quarter(MINUTE // 900 * 900, 0, 0, 0, {"1": 1})])
 
+    def test_verdicts_since_a_moment(self):
+        self.reception.take(LINE, MINUTE + 1, UNIX)
+        self.reception.take("0 422003000 refused 3", MINUTE + 61, UNIX)
+        self.assertEqual([self.reception.verdicts_since(MINUTE + after) for after in (-1, 1)], [1, 0])
+
     def test_a_day_is_kept(self):
         for minute in range(2 * 24 * 60):
             self.reception.take(f"0 {60_000_000 * minute} refused 1", MINUTE + 60 * minute, MINUTE)
