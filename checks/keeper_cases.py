@@ -10,7 +10,7 @@ import sys
 import time
 
 from kept import PLANS, TOP, WAIT, Kept, Wrong, ask, base_now, descendants, is_free, parent_of, receiver
-from kept_bounds import CHANGE, FLOODED, GONE, KILLED, LATE, LONGEST_START, NOTHING, PYTHONS, SLOW, WARM, bound, tried
+from kept_bounds import CHANGE, CHANGES, FLOODED, GONE, KILLED, LATE, LONGEST_START, NOTHING, PYTHONS, SLOW, WARM, bound, tried
 from kept_journals import as_decoded, as_steadied, due, whole
 from kept_machine import python_start
 
@@ -84,7 +84,7 @@ def changes(base: float) -> int:
         kept.start()
         kept.waits("has the time")
         client = kept.client(base)
-        kept.waits("has the time", 90, 11)
+        kept.waits("has the time", CHANGES, 11)
         looked = good(kept, client.report(), CHANGE, 10)
         kept.client(base)
         time.sleep(0.5)
