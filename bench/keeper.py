@@ -42,6 +42,8 @@ def offset(port: int, base: float) -> float:
                 except BlockingIOError:
                     continue
                 came = time.monotonic_ns()
+                if struct.unpack(">Q", answer[24:32])[0] != left:
+                    continue  # it answers an earlier request, late
                 receive, transmit = struct.unpack(">QQ", answer[32:48])
                 middle = ((receive + transmit) // 2 * 1_000_000 >> 32) - round((base + EPOCH) * 1e6)
                 best = min(best, ((came - left) / 1e9, (middle - (left + came) / 2e3) / 1e6))
@@ -77,11 +79,16 @@ def changes(base: float) -> None:
         client = kept.client(base, RATE)
         kept.waits("has the time", 120, CHANGES + 1)
         met = client.report()
+        kept.client(base)
+        time.sleep(1)
+        began = time.monotonic()
         kept.stop()
+        ended = time.monotonic() - began
     for name, what in (("silences", "without an answer"), ("untimes", "without time")):
         spans = sorted(one * 1000 for one in met[name]) or [0.0]
         print(f"{CHANGES} changes under {RATE} requests a second: {what} {statistics.median(spans):.1f} ms in the median, {spans[-1]:.1f} at worst, {len(spans)} spans")
     print(f"  {met['asked']} requests, {met['answered']} answered, {met['wrong']} wrong, the greatest error {met['error'] * 1e6:.0f} us")
+    print(f"  from SIGTERM to the end, under {kept.RATE} requests a second: {ended:.2f} s")
 
 
 def used(process: int) -> float:

@@ -16,12 +16,13 @@ work=$(mktemp -d) || exit 1
 host="$work/host"
 home=/root/radio_ntpd
 keeper=
+network=
 bad=0
 finish() {
-    if [ -n "$keeper" ]; then
-        kill "$keeper" 2> "$work/none"
-        wait "$keeper"
-    fi
+    for process in $keeper $network; do
+        kill "$process" 2> "$work/none"
+        wait "$process" 2> "$work/none"
+    done
     umount "$host/proc" 2> "$work/none"
     rm -rf --one-file-system "$work"
 }
@@ -66,11 +67,15 @@ chmod +x "$host/usr/local/bin/sudo" "$host/usr/local/bin/gpiomon"
 step() {
     awk -v step="**$1." 'index($0, step) == 1 { found = 1 } /^\*\*[0-9]/ && index($0, step) != 1 { found = 0 } /^## / { found = 0 } found && /^    / { sub(/^    /, ""); print }' docs/FIRST_EVENING.md
 }
+# Runs words in the folder there; once there is a network of its own, in that.
+inside() {
+    ${network:+nsenter --net="/proc/$network/ns/net"} chroot "$host" sh -c "cd $home && $1"
+}
 # Runs a step there. `told` is its exit status, and what it writes is in "$work/step.N".
 run() {
     said=$(step "$1")
     [ -n "$said" ] || wrong "step $1 has no command"
-    chroot "$host" sh -c "cd $home && $said" > "$work/step.$1" 2>&1
+    inside "$said" > "$work/step.$1" 2>&1
     told=$?
     echo "$name: step $1 ends with $told: $(tail -n 1 "$work/step.$1")"
 }
@@ -90,20 +95,26 @@ has 4 ' verdict '
 has 4 '^status 0$'
 run 5
 run 6
+# From here on nothing comes from elsewhere, and port 12300 of this host may be another's.
+chroot "$host" apt-get install chrony > "$work/chrony" 2>&1 || wrong "chrony: $(tail -n 2 "$work/chrony")"
+unshare --net sh -c 'ip link set lo up && exec sleep 900' &
+network=$!
+until [ "$(readlink "/proc/$network/exe")" = "$(readlink -f "$(command -v sleep)")" ]; do
+    sleep 0.1
+done
 run 7
 has 7 '^nothing to mend$'
 [ $told = 0 ] || wrong "the check ends with $told"
-chroot "$host" sh -c "cd $home && exec $(step 8)" > "$work/step.8" 2>&1 &
+nsenter --net="/proc/$network/ns/net" chroot "$host" sh -c "cd $home && exec $(step 8)" > "$work/step.8" 2>&1 &
 keeper=$!
 # Four to five minutes after the first minute mark there is a time.
 turns=0
-until chroot "$host" sh -c "cd $home && ./radio_keeper status" > "$work/step.9" 2>&1; do
+until inside './radio_keeper status' > "$work/step.9" 2>&1; do
     turns=$((turns + 1))
     [ $turns -lt 84 ] || { wrong "no time after seven minutes: $(head -n 3 "$work/step.9"; tail -n 3 "$work/step.8")"; break; }
     sleep 5
 done
 has 9 '^OK: time from DCF, stratum 1'
-chroot "$host" apt-get install chrony > "$work/chrony" 2>&1
 run 10
 has 10 'System clock wrong by'
 wrong_by=$(sed -n 's/.*System clock wrong by \(-\{0,1\}[0-9.]*\) seconds.*/\1/p' "$work/step.10")
@@ -113,7 +124,7 @@ wait "$keeper"
 told=$?
 keeper=
 [ $told = 0 ] || wrong "^C ends the keeper with $told: $(tail -n 2 "$work/step.8")"
-chroot "$host" sh -c "cd $home && ./radio_keeper install && ./radio_keeper install --do" > "$work/installed" 2>&1 || wrong "it can't be installed: $(tail -n 2 "$work/installed")"
+inside './radio_keeper install && ./radio_keeper install --do' > "$work/installed" 2>&1 || wrong "it can't be installed: $(tail -n 2 "$work/installed")"
 [ "$(chroot "$host" radio_keeper --version)" = "$(./radio_keeper --version)" ] || wrong 'what was installed is another version'
 [ "$bad" = 0 ] && echo "$name: the ten commands lead to a client that sees the host's clock off by $wrong_by s"
 exit "$bad"

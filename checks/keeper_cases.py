@@ -10,7 +10,7 @@ import sys
 import time
 
 from kept import PLANS, TOP, WAIT, Kept, Wrong, ask, base_now, descendants, is_free, parent_of, receiver
-from kept_bounds import CHANGE, FLOODED, GONE, KILLED, LATE, LONGEST_START, NOTHING, PYTHONS, SLOW, WARM, bound, tried
+from kept_bounds import CHANGE, CHANGES, FLOODED, GONE, KILLED, LATE, LONGEST_START, NOTHING, PYTHONS, SLOW, WARM, bound, tried
 from kept_journals import as_decoded, as_steadied, due, whole
 from kept_machine import python_start
 
@@ -84,7 +84,7 @@ def changes(base: float) -> int:
         kept.start()
         kept.waits("has the time")
         client = kept.client(base)
-        kept.waits("has the time", 90, 11)
+        kept.waits("has the time", CHANGES, 11)
         looked = good(kept, client.report(), CHANGE, 10)
         kept.client(base)
         time.sleep(0.5)
@@ -171,12 +171,14 @@ def sources(base: float) -> int:
         kept.waits("its command ended with 0; it is started again in 2 s")
         kept.waits("no pulse for 2 s; it is started again in 4 s")
         time.sleep(6)
+        # On a slow machine even the good source may need a start more until its first pulse comes.
+        kept.waits_for(lambda state: state["radios"][1]["source"] == "running" and state["radios"][1]["pulses"] > 900)
         looked = good(kept, client.report(), NOTHING)
         looked += ended(kept, 0)
         journal = kept.journals()[-1].read_text()
         looked += due(journal.endswith("status 0\n"), f"what a source did to the run: {journal[-80:]!r}")
         radio = kept.state()["radios"][1]
-        looked += due(radio["bad_lines"] > 50 and radio["restarts"] == 3 and radio["source"] == "running", f"its state says {radio}")
+        looked += due(radio["bad_lines"] > 50 and radio["restarts"] >= 3 and radio["source"] == "running", f"its state says {radio}")
         looked += due(0 < 4 * radio["spread_given"] < radio["spread"], f"its marks aren't steadied: {radio}")
         return looked + as_steadied(kept, 1, "msf")
 

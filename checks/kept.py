@@ -12,6 +12,7 @@ import subprocess
 import sys
 import tempfile
 import time
+from collections.abc import Callable
 
 TOP = pathlib.Path(__file__).resolve().parent.parent
 PLANS = ("dcf", "msf", "wwvb")
@@ -148,6 +149,14 @@ class Kept:
             if time.monotonic() > end:
                 raise TooLate(f"the keeper doesn't say {what!r} within {seconds} s: {self.text()}")
             time.sleep(0.02)
+
+    def waits_for(self, holds: Callable[[dict], bool], seconds: float = WAIT) -> None:
+        """Waits until this holds of its state, which it renews every ten seconds."""
+        end = time.monotonic() + seconds
+        while not holds(self.state()):
+            if time.monotonic() > end:
+                raise TooLate(f"its state says {self.state()} after {seconds} s: {self.text()}")
+            time.sleep(0.1)
 
     def state(self) -> dict:
         return json.loads((self.folder / "state/state.json").read_text())

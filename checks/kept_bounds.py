@@ -23,6 +23,8 @@ NOTHING = (0.0, 0.0)
 FLOODED = 1.5
 # A start with the last minutes at hand, in which so many Pythons begin.
 WARM, PYTHONS, LONGEST_START = 2.0, 3, 20.0
+# Ten changes, each after three seconds: on a machine of which others have the most, each takes a quarter of a minute.
+CHANGES = 300.0
 # After the keeper has ended its processes are killed ones that the host has yet to take away.
 GONE = 5.0
 

@@ -9,9 +9,9 @@ from keeper.ntp import Answer, answer, request
 
 LEAST = 10  # exchanges at least
 AIM = 20.0  # within which the lag is to be known, in microseconds
-SOME = 1000.0  # what will do on a busy machine or under a flood, in microseconds
-ENOUGH = 0.05  # how long it is tried to know it as well as is aimed at, in seconds
-LONGEST = 2.0  # how long it is tried to know it as well as will do, in seconds
+# What will do on a busy machine or under a flood: after so many seconds, within so many microseconds. Clients are without time meanwhile, and
+# the root dispersion of a radio, which doesn't say this error, is 5 ms at least.
+WILL_DO = ((0.05, 1000.0), (0.2, 2000.0), (2.0, float("inf")))
 SPIN = 300_000  # for so long each second answer is waited for without sleeping, in nanoseconds
 AGAIN = 0.002  # an answer that hasn't come by then is waited for beside the next ones, in seconds
 CLOSED = 0.0002  # how often a port that isn't open yet is asked, in seconds
@@ -43,6 +43,11 @@ def reading_of(exchanges: list[Exchange]) -> Reading | None:
     least = max(one.left - one.said.receive * 1e6 for one in good)
     most = min(one.came - one.said.transmit * 1e6 for one in good)
     return Reading((least + most) / 2, max(most - least, 0.0) / 2)
+
+
+def will_do(took: float) -> float:
+    """Within how many microseconds it will do to know the lag after so many seconds."""
+    return max((bound for after, bound in WILL_DO if took > after), default=0.0)
 
 
 def open_client(port: int, address: str) -> socket.socket:
@@ -106,8 +111,8 @@ class Counter:
             return False
         if not self.exchanges[-1].said.reports_counter():
             return True
-        took, bound = time.monotonic() - self.began, self.reading().bound
-        return took > LONGEST or bound <= SOME and took > ENOUGH or bound <= AIM and len(self.exchanges) >= LEAST
+        bound = self.reading().bound
+        return bound <= will_do(time.monotonic() - self.began) or bound <= AIM and len(self.exchanges) >= LEAST
 
     def reading(self) -> Reading | None:
         return reading_of(self.exchanges)

@@ -13,7 +13,7 @@ import time
 import unittest
 
 from keeper import journals, ntp, sockets
-from keeper.counter import Counter, Exchange, reading_of
+from keeper.counter import Counter, Exchange, reading_of, will_do
 from keeper.drain import Drain
 from keeper.hearings import LEAST, MOST, Hearings
 from keeper.loop import Loop
@@ -124,6 +124,10 @@ class CounterTests(unittest.TestCase):
         reading = reading_of(exchanges)
         self.assertAlmostEqual(reading.lag, 5_000_000, 3)
         self.assertAlmostEqual(reading.bound, 1_000, 3)
+
+    def test_what_will_do_grows_with_the_time_without_time(self):
+        self.assertEqual([will_do(took) for took in (0.05, 0.06, 0.2, 0.21, 2.0)], [0.0, 1000.0, 1000.0, 2000.0, 2000.0])
+        self.assertGreater(will_do(2.01), 1e12)
 
     def test_a_port_that_is_not_open_yet(self):
         with socket.socket(socket.AF_INET, socket.SOCK_DGRAM) as closed:
