@@ -198,7 +198,7 @@ def full_disk(base: float) -> int:
             kept.waits("has the time")
             client = kept.client(base)
             kept.waits("journals can't be written: No space left on device")
-            kept.waits("has the time", times=3)
+            kept.waits("has the time", CHANGES, 3)
             runs = kept.text().count("has the time") - 1
             looked = good(kept, client.report(), CHANGE, runs + 1)
             looked += due(not kept.journals() and not list(journals.glob("*.part")), f"a full disk has {list(journals.iterdir())}")

@@ -53,6 +53,10 @@ def minutes(kept: Kept, feed: int, plan: str, log: pathlib.Path) -> int:
     decoded = [line.split()[1:] for line in done.stdout.decode().splitlines() if line.startswith("0 ")]
     told = [line.split()[4:] for line in journal if line.startswith("j2 ") and line.split()[3] == str(feed)]
     looked = due(len(told) >= 10, f"the last journal has {len(told)} minutes of {plan}")
+    moved = [[str(int(at) - lag), *words] for at, *words in decoded]
+    # While a run is ended the log goes on: it may have minutes that closed after the run's last.
+    later = sum(int(row[0]) > int(told[-1][0]) for row in moved)
+    looked += due(later <= 2, f"the last journal lacks {later} minutes of {plan}")
     # The first minute of a run is alone; the ones before it are those that the run wasn't given.
-    moved = [[str(int(at) - lag), *words] for at, *words in decoded[-len(told) + 1 :]]
-    return looked + due(moved == told[1:], f"the minutes of {plan} aren't those that decode writes: {moved[:2]} .. {told[1:3]}")
+    same = moved[len(moved) - later - len(told) + 1 : len(moved) - later]
+    return looked + due(same == told[1:], f"the minutes of {plan} aren't those that decode writes: {same[:2]} .. {told[1:3]}")
