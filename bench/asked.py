@@ -38,7 +38,7 @@ def free_port() -> int:
 
 
 def ask(port: int, wait: float) -> Answer | None:
-    """Asks the server at this port of 127.0.0.1 once; None where it doesn't answer within so many seconds."""
+    """Asks the server at this port of 127.0.0.1 once; None where no answer comes within this number of seconds."""
     with socket.socket(socket.AF_INET, socket.SOCK_DGRAM) as client:
         client.connect(("127.0.0.1", port))
         client.settimeout(wait)

@@ -21,7 +21,7 @@ BAD = 60  # minutes that are refused
 BROKEN = 30_000  # a width of no class, in microseconds
 
 
-def spoilt(lines):
+def with_refused_minutes(lines):
     """Lines of which each minute from GOOD on has a reduction of no width in its second 30."""
     for true, start, width in lines:
         minute, moment = divmod(true - BEGIN, MINUTE)
@@ -38,7 +38,7 @@ def row(program: str, plan: str, jitter: float, ppm: float, seeds: int) -> str:
         folder = pathlib.Path(name)
         for seed in range(seeds):
             faults = Faults(jitter=1000 * jitter, outliers=0.03, ppm=ppm)
-            _, log = write_logs(folder, spoilt(made_log(plan, FIRST, GOOD + BAD, faults, seed, BEGIN)))
+            _, log = write_logs(folder, with_refused_minutes(made_log(plan, FIRST, GOOD + BAD, faults, seed, BEGIN)))
             moments = [round(BEGIN + (minute + 0.5) * MINUTE) for minute in range(GOOD, GOOD + BAD)]
             told = asked(program, plan, log.read_text().splitlines(), moments, folder, ppm)
             first.append(told[0][1][1])

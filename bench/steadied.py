@@ -94,7 +94,7 @@ def spread(words: argparse.Namespace) -> int:
 
 
 def side_by_side(jobs: list[Callable], processes: int) -> Iterator:
-    """What some functions give, in their order, run in so many processes."""
+    """What some functions give, in their order, run in this number of processes."""
     with multiprocessing.Pool(processes, end_quietly) as pool:
         yield from pool.imap(call, jobs)
 
@@ -207,7 +207,7 @@ def main() -> int:
     asked = words.parse_args()
     signal.signal(signal.SIGTERM, interrupt)
     signal.signal(signal.SIGINT, interrupt)
-    # What a worker leaves behind that is ended goes with this folder.
+    # What a worker that is ended leaves goes with this folder.
     with tempfile.TemporaryDirectory() as tempfile.tempdir:
         try:
             if not os.access(asked.program, os.X_OK):

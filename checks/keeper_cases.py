@@ -22,7 +22,7 @@ def command(plan: str, base: float, history: float = 15, more: str = "") -> tupl
 
 
 def goes(processes: list[int], seconds: float = 10) -> bool:
-    """Whether none of these processes lives any more within so many seconds."""
+    """Whether all of these processes have ended within this number of seconds."""
     end = time.monotonic() + seconds
     while [one for one in processes if parent_of(one)[1] != "Z"]:
         if time.monotonic() > end:
@@ -41,7 +41,7 @@ def ended(kept: Kept, status: int) -> int:
 
 
 def good(kept: Kept, met: dict, bounds: tuple[float, float], changes: int = 1) -> int:
-    """What a client met at so many changes of run. `bounds`: for how long it may be without an answer, and without the time (s)."""
+    """What a client met at a number of changes of run. `bounds`: for how long it may be without an answer, and without the time (s)."""
     silent, untimed = (bound(one, met["stalled"]) for one in bounds)
     print(f"  a client met {met}", flush=True)
     looked = due(met["wrong"] == 0, f"a client got a wrong time: {kept.text()}")

@@ -37,8 +37,8 @@ def base_now() -> float:
     """What the host's clock is ahead of the monotonic one (s), by the shortest of some readings."""
     readings = []
     for _ in range(200):
-        before, clock, behind = time.monotonic(), time.time(), time.monotonic()
-        readings.append((behind - before, clock - (before + behind) / 2))
+        before, clock, after = time.monotonic(), time.time(), time.monotonic()
+        readings.append((after - before, clock - (before + after) / 2))
     return min(readings)[1]
 
 
@@ -141,7 +141,7 @@ class Kept:
         return (self.folder / "said").read_bytes()[self.said_at :].decode()
 
     def waits(self, what: str, seconds: float = WAIT, times: int = 1) -> None:
-        """Waits until it has said this so many times."""
+        """Waits until it has said this `times` times."""
         end = time.monotonic() + seconds
         while self.text().count(what) < times:
             if self.process.poll() is not None:

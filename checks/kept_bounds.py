@@ -21,7 +21,7 @@ KILLED = (0.250, 0.400)
 NOTHING = (0.0, 0.0)
 # A flood that uses up a run's hearings: it has to be noticed first, by three requests without an answer, beside two processors' worth of flood.
 FLOODED = 1.5
-# A start with the last minutes at hand, in which so many Pythons begin.
+# A start with the last minutes at hand, in which several Python processes begin.
 WARM, PYTHONS, LONGEST_START = 2.0, 3, 20.0
 # Ten changes, each after three seconds: on a machine of which others have the most, each takes a quarter of a minute.
 CHANGES = 300.0
@@ -35,7 +35,7 @@ SLOW = slowness()
 
 
 class Late:
-    """The bounds that a case didn't keep, as sentences. It goes on behind them, so that nothing else is overlooked."""
+    """The bounds that a case didn't keep, as sentences. It goes on after them, so that nothing else is overlooked."""
 
     def __init__(self) -> None:
         self.said: list[str] = []

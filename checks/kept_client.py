@@ -1,5 +1,5 @@
 #!/usr/bin/env python3
-"""A client that asks a server so many times a second, and says what it met. It shares no code with the program or the keeper.
+"""A client that asks a server at a steady rate, and says what it met. It shares no code with the program or the keeper.
 
     kept_client.py PORT SECONDS RATE BASE
 

@@ -99,11 +99,11 @@ done
 # Removed: programs and pages are gone, settings and journals stand. Purged: nothing is left, no user either.
 inside dpkg --remove radio-ntpd > "$work/removed" 2>&1 || wrong "it can't be removed: $(tail -n 3 "$work/removed")"
 left=$(find "$host/usr" "$host/lib/systemd" -name '*radio*ntpd*' -o -name 'radio_keeper*' 2> "$work/none")
-[ -z "$left" ] || wrong "behind the removal there is $left"
+[ -z "$left" ] || wrong "after the removal there is $left"
 [ -e "$host/etc/radio_ntpd/station.toml" ] && [ -d "$host/var/lib/radio_ntpd/journals" ] || wrong 'settings or journals went with the removal'
 inside dpkg --purge radio-ntpd > "$work/purged" 2>&1 || wrong "it can't be purged: $(tail -n 3 "$work/purged")"
 left=$(find "$host/etc" "$host/var/lib" "$host/usr" -path "$host/var/lib/dpkg" -prune -o -name '*radio*ntpd*' -print)
-[ -z "$left" ] || wrong "behind the purge there is $left"
+[ -z "$left" ] || wrong "after the purge there is $left"
 inside getent passwd radio_ntpd > "$work/none" && wrong 'the user is left'
 
 [ "$bad" = 0 ] && echo "$name: $(basename "$deb") installed, checked, served the time, removed and purged"

@@ -28,8 +28,8 @@ def base_now() -> float:
     """What the host's clock is ahead of the monotonic one (s), by the shortest of some readings."""
     readings = []
     for _ in range(50):
-        before, clock, behind = time.monotonic(), time.time(), time.monotonic()
-        readings.append((behind - before, clock - (before + behind) / 2))
+        before, clock, after = time.monotonic(), time.time(), time.monotonic()
+        readings.append((after - before, clock - (before + after) / 2))
     return min(readings)[1]
 
 

@@ -59,7 +59,7 @@ state = "/var/lib/radio_ntpd"
 command = "receiver | /usr/lib/radio_ntpd/feeders/edges_to_log.py"
 TOML
 
-# How far the time on port 123 is off, in milliseconds, by the quickest of eight exchanges; or why there is none. It waits so many seconds, $1, for one.
+# How far the time on port 123 is off, in milliseconds, by the quickest of eight exchanges; or why there is none. It waits $1 seconds for one.
 cat > "$work/time.py" <<'PY'
 import socket, struct, sys, time
 
@@ -163,7 +163,7 @@ done
 has_time 'a keeper that hung was ended' 30
 
 inside systemctl stop radio_ntpd || wrong "it can't be stopped"
-[ -z "$(inside pgrep -u radio_ntpd)" ] || wrong "behind the stop there is $(inside pgrep -a -u radio_ntpd)"
+[ -z "$(inside pgrep -u radio_ntpd)" ] || wrong "after the stop there is $(inside pgrep -a -u radio_ntpd)"
 last=$(find "$host/var/lib/radio_ntpd/journals" -name '*.journal' | LC_ALL=C sort | tail -n 1)
 [ "$(tail -n 1 "$last")" = 'status 0' ] || wrong "the last journal ends with $(tail -n 1 "$last")"
 [ "$(property Result)" = success ] || wrong "the unit's result is $(property Result)"

@@ -20,7 +20,7 @@ RADIOS = HERE.parent / "examples" / "radios"
 
 
 def due(second, ppm=0.0, phase=123_456):
-    """When the mark of a second is due on a counter that gains so many parts per million."""
+    """When the mark of a second is due on a counter that gains `ppm` parts per million."""
     return 5 * SECOND + phase + round(second * SECOND * (1 + ppm * 1e-6))
 
 

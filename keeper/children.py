@@ -106,7 +106,7 @@ class Child:
         return self.process.poll()
 
     def wait(self, seconds: float) -> bool:
-        """Whether it has ended within so many seconds."""
+        """Whether it has ended within this number of seconds."""
         if self.process.poll() is None:
             select.select([self.descriptor], [], [], max(0.0, seconds))
         return self.process.poll() is not None

@@ -9,7 +9,7 @@ from keeper.ntp import Answer, answer, request
 
 LEAST = 10  # exchanges at least
 AIM = 20.0  # within which the lag is to be known, in microseconds
-# What will do on a busy machine or under a flood: after so many seconds, within so many microseconds. Clients are without time meanwhile, and
+# What will do on a busy machine or under a flood: after a number of seconds, within a number of microseconds. Clients are without time meanwhile, and
 # the root dispersion of a radio, which doesn't say this error, is 5 ms at least.
 WILL_DO = ((0.05, 1000.0), (0.2, 2000.0), (2.0, float("inf")))
 SPIN = 300_000  # for so long each second answer is waited for without sleeping, in nanoseconds
@@ -46,7 +46,7 @@ def reading_of(exchanges: list[Exchange]) -> Reading | None:
 
 
 def will_do(took: float) -> float:
-    """Within how many microseconds it will do to know the lag after so many seconds."""
+    """Within how many microseconds it is enough to know the lag after this number of seconds."""
     return max((bound for after, bound in WILL_DO if took > after), default=0.0)
 
 

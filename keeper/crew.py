@@ -22,7 +22,7 @@ from keeper.readback import last_pulses
 from keeper.runs import Run
 from keeper.say import say
 
-VERDICTS = 4  # a radio has the time after so many
+VERDICTS = 4  # a radio has the time after this number of them
 
 
 class Crew:
@@ -91,7 +91,7 @@ class Crew:
         return bool(self.settings.servers) or any(feed.reception.verdicts_since(now - 60 * MINUTES) >= VERDICTS for feed in self.feeds)
 
     def turn(self, most: float) -> None:
-        """One round of all that goes on beside a run, of at most so many seconds."""
+        """One round of all that goes on beside a run, of at most `most` seconds."""
         self.loop.turn(most)
         now = time.monotonic()
         for feed in self.feeds:

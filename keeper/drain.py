@@ -9,7 +9,7 @@ from keeper.counter import open_client
 from keeper.ntp import answer, request
 from keeper.sockets import Socket, of_process
 
-# So many empty datagrams go before a request whose answer says that they were received, and so many such batches may be under way. They
+# The number of empty datagrams before a request whose answer says that they were received, and of such batches that may be under way. They
 # fit into a link's queue with room for as many of clients.
 BATCH, BATCHES = 64, 2
 LOST = 0.004  # an answer that hasn't come by then may never come: the link may have no hearings left, in seconds

@@ -20,5 +20,5 @@ class Hearings:
         return int(min(MOST, max(LEAST, wanted)))
 
     def learn(self, heard: int, seconds: float, used_up: bool) -> None:
-        """The busiest link of a run heard so many datagrams beside the keeper's own in so many seconds."""
+        """The busiest link of a run received `heard` datagrams beside the keeper's own in `seconds` seconds."""
         self.count = min(MOST, self.count * GROWN) if used_up else self._within(heard / max(seconds, 1.0))

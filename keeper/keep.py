@@ -21,7 +21,7 @@ STANDBY = 1.0  # how long after a run's beginning the next server is started, in
 
 
 class Keeper:
-    """`begin` raises OSError; `serve` gives the exit status; `close` leaves nothing behind, whatever happened."""
+    """`begin` raises OSError; `serve` gives the exit status; `close` leaves nothing, whatever happened."""
 
     def __init__(self, settings: config.Settings) -> None:
         self.settings = settings

@@ -30,11 +30,11 @@ class Loop:
             pass
 
     def every(self, seconds: float, call: Call) -> None:
-        """Calls now and then again after each so many seconds."""
+        """Calls now, and again after each period, in seconds."""
         heapq.heappush(self.due, (time.monotonic(), next(self.numbers), seconds, call))
 
     def turn(self, most: float) -> None:
-        """One round: waits at most so many seconds for something to do, and does it."""
+        """One round: waits at most `most` seconds for something to do, and does it."""
         wait = max(0.0, min(most, self.due[0][0] - time.monotonic())) if self.due else most
         for key, _ in self.selector.select(wait):
             # A call before it may have taken this one out.

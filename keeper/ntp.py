@@ -71,7 +71,7 @@ def unix_of(seconds: float, now: float) -> float:
 
 
 def own_addresses(denied: list[str], gap: float) -> list[str]:
-    """Loopback addresses to ask from in turn: so many that none asks twice within the station's gap (s), none of a denied net where there is one."""
+    """Loopback addresses to ask from in turn: enough that none asks twice within the station's gap (s), none of a denied net where there is one."""
     nets = []
     for text in denied:
         try:

@@ -46,7 +46,7 @@ class Outlet:
             self.broken = True
 
     def close(self, wait: float = 0.2) -> None:
-        """Closes the pipe at the end of a line, for which it waits at most so many seconds."""
+        """Closes the pipe at the end of a line, for which it waits a bounded number of seconds."""
         if self.descriptor < 0:
             return
         if self.pending and not self.broken and select.select([], [self.descriptor], [], wait)[1]:

@@ -1,4 +1,4 @@
-"""Dated logs of a radio's pulses: one for each day of UTC and each boot, compressed when the day is over, and kept so many days."""
+"""Dated logs of a radio's pulses: one for each day of UTC and each boot, compressed when the day is over, and kept for a number of days."""
 
 import datetime
 import gzip

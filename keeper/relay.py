@@ -1,4 +1,4 @@
-"""Stands between the server and each server that it asks, and lets one exchange in so many seconds through. A process of its own.
+"""Stands between the server and each server that it asks, and lets one exchange in `pace` seconds through. A process of its own.
 
     python3 -m keeper.relay PACE ADDRESS:PORT...
 

@@ -98,7 +98,7 @@ def load(path: str) -> State:
 
 
 def put(path: str, text: str) -> None:
-    """Writes a text for others to read: whole, or not at all. Raises OSError and then leaves nothing behind."""
+    """Writes a text for others to read: whole, or not at all. Raises OSError and then leaves nothing."""
     part = f"{path}.{os.getpid()}.part"
     try:
         with open(part, "w", encoding="utf-8") as file:

@@ -39,7 +39,7 @@ def text_of(values: dict) -> str:
 
 
 def polls_for(cycle: float, pace: float) -> int:
-    """So many polls last a cycle where one in `pace` seconds is answered and each other one takes two seconds (both in seconds)."""
+    """The number of polls that lasts a cycle where one in `pace` seconds is answered and each other one takes two seconds (both in seconds)."""
     return max(1, min(MOST_POLLS, int(cycle / SILENCE + cycle / max(pace, SILENCE)) + 8))
 
 

@@ -1,4 +1,4 @@
-"""A made-up station with three radios, two servers and a day behind it, for pictures and for a browser. Nothing of it was measured."""
+"""A made-up station with three radios, two servers and a day of its past, for pictures and for a browser. Nothing of it was measured."""
 
 import math
 import random

@@ -70,7 +70,7 @@ class Addresses(unittest.TestCase):
 
 
 class Link:
-    """A link as `serve` has it, in a thread: its counter is `lag` microseconds behind, and it hears so many datagrams."""
+    """A link as `serve` has it, in a thread: its counter is `lag` microseconds late, and it receives a number of datagrams."""
 
     def __init__(self, test, hearings, lag=0, kiss=False):
         self.socket = socket.socket(socket.AF_INET, socket.SOCK_DGRAM)
@@ -172,7 +172,7 @@ class Drains(unittest.TestCase):
                         asks.send(ntp.request(1))
                         asks.recv(100)
                     except OSError as error:
-                        # Behind its last hearing the link is deaf.
+                        # After its last hearing the link is deaf.
                         if link.heard < link.hearings:
                             lost.append(error)
         asking = threading.Thread(target=client)

@@ -86,7 +86,7 @@ class Kept(unittest.TestCase):
         return (self.folder / "said").read_text()
 
     def waits(self, what, seconds=WAIT, times=1):
-        """Waits until the keeper has said this so many times."""
+        """Waits until the keeper has said this `times` times."""
         end = time.monotonic() + seconds
         while self.text().count(what) < times:
             self.assertIsNone(self.keeper.poll(), self.text())
@@ -126,7 +126,7 @@ class Runs(Kept):
         self.assertTrue(self.journals()[0].read_text().endswith("status 0\n"))
         answered, dropped = (int(self.journals()[0].read_text().split(" answered ")[1].split()[one]) for one in (0, 2))
         own = int(self.journals()[0].with_suffix(".own").read_text().split()[3])
-        # The client of this test asked once; what came behind the last hearing isn't heard.
+        # The client of this test asked once; what came after the last hearing isn't received.
         self.assertLessEqual(answered + dropped, own + 1)
         self.assertGreater(answered + dropped, own - 2500)
         self.assertEqual(state.load(str(self.folder / "state/state.json")).run.last_journal, self.journals()[0].name)
