@@ -53,6 +53,6 @@ abbrev pub left_within : ℕ → List Survivor → List Survivor
 left_within zero all = all
 left_within (suc steps) all = if is_at_rest all then all else left_within steps (without_greatest (selection_jitter all) all)
 
--- the one list that is left of survivors
+-- the list of the survivors that are left
 abbrev pub survivors_left : List Survivor → List Survivor
 survivors_left survivors = left_within (length survivors) (in_order may_precede survivors)

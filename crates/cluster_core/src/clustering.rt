@@ -72,7 +72,7 @@ fn are_above(jitter: u128, all: &[Survivor]) -> bool
     all.iter().all(|x| jitter < x.jitter2)
 }
 
-// The place of the one to discard, and `None` where no more are discarded.
+// The place of the one to discard, and `None` where none has to be discarded.
 fn to_discard(all: &[Survivor]) -> Option<usize>
     requires { length all.now ≤ 16 }
     ensures none { IfNone result (is_at_rest all.now ≡ true) }
@@ -89,7 +89,7 @@ fn to_discard(all: &[Survivor]) -> Option<usize>
     }
 }
 
-// Discards one after another, until no more are discarded.
+// Discards one after another, until none has to be discarded.
 fn settle(left: &mut ArrayVec<Survivor, 16>)
     ensures { Settles left.old.items left.new.items }
 {

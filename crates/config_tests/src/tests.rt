@@ -259,7 +259,7 @@ fn in_lines(alloc: Global, text: &str) -> Result<String, Fail> {
     Ok(lines)
 }
 
-// Whether the file of a line, between two texts, comes to what the line says.
+// Whether the file of a line, between two texts, has the result that the line says.
 fn is_right(alloc: Global, line: &str, before: &str, after: &str) -> Result<bool, Fail> {
     let Some((file, want)) = line.split_once(" -> ") else {
         return Ok(false);

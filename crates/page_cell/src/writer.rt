@@ -34,7 +34,7 @@ impl Model for Writer {
     ghost invariant = { λ w. (w.feed.table ≡ w.baton.table) × StandsForJournal w.fold (key_of w.baton.view) w.baton.view.list × (w.feeds ≡ length (key_of w.baton.view).sources) × (w.published ≡ length w.baton.view.list) };
 }
 
-// The beginning of the counter.
+// The zero of the counter.
 fn beginning() -> Local {
     match Local::new(0) {
         Some(moment) => moment,

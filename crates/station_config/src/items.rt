@@ -25,7 +25,7 @@ pub enum KeyFault<'a> {
     Memory,
 }
 
-// The place of a table's bad value among the values of all tables.
+// The fault of a table's misread value, with the table's part and place.
 fn placed(part: Part, place: usize, misread: Misread) -> KeyFault<'static>
     ensures { (bad more : List Text) → IsMisread bad misread → IsMisreadAt (map (key_in part place) bad ++ more) result }
 {

@@ -226,7 +226,7 @@ fn first_in_arrays<'a>(check: Check, table: &'a Table) -> Option<Spot<'a>>
     first_in_array(check, Part::Link, table, "link")
 }
 
-// The same of the arrays that speak of clients: the shared keys come first, and then the denied nets.
+// The same of the arrays about clients: the shared keys come first, and then the denied nets.
 fn first_in_clients<'a>(check: Check, table: &'a Table) -> Option<Spot<'a>>
     ensures { option_map spot_text result ≡ slice_get (keys_at (keys_for check) (client_sheets (table_view table.now))) 0 }
 {
