@@ -14,7 +14,7 @@ const FIRST_MINUTE: u64 = 3_981_312_000;
 
 const MINUTES: u32 = 1440;
 
-// The log of a plan. Making it fails only for want of memory.
+// The log of a plan. Making it fails only for lack of memory.
 #[tactic(auto, unfolding(crate::specs::Day::day_log))]
 fn make_log(alloc: Global, plan: Plan, seed: u32) -> Result<SureSource, AllocError>
     ensures { IfOk result (λ log. sure_state log ≡ source_of (day_log plan seed)) }

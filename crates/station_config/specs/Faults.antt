@@ -157,7 +157,7 @@ faults_of top =
 
 -- ---- the answer
 
--- The fault is the first one of the document. Want of memory says nothing.
+-- The fault is the first one of the document. Lack of memory says nothing.
 abbrev pub IsFirst : List Fault → StationFault → Type 0
 IsFirst faults fault.Memory = ⊤
 IsFirst faults fault.NotToml = ⊥
@@ -171,7 +171,7 @@ pub record IsDocument (bytes : List ℕ) (top : Members) : Type 0 where
   pub utf8 : IsUtf8 bytes
   pub parsed : parse_document bytes ≡ Some top
 
--- Why a text is refused: it is no document, or the document has this fault first. Want of memory says nothing.
+-- Why a text is refused: it is no document, or the document has this fault first. Lack of memory says nothing.
 abbrev pub Refuses : List ℕ → StationFault → Type 0
 Refuses bytes fault.Memory = ⊤
 Refuses bytes fault.NotToml = (top : Members) → IsDocument bytes top → ⊥

@@ -35,7 +35,7 @@ pub record IsRead {X : Type 0} (form : Form) (default : X) (reading : Data → O
   pub said : IfSome result (λ x. x ≡ read_or default reading value)
   pub wrong : is_none result ≡ is_wrong form value
 
--- the first key with a bad value; want of memory says nothing
+-- the first key with a bad value; lack of memory says nothing
 abbrev pub IsMisread : List Text → Misread → Type 0
 IsMisread bad misread.Memory = ⊤
 IsMisread bad (misread.Range key) = slice_get bad 0 ≡ Some key.now
@@ -61,7 +61,7 @@ pub record AddsKeys (tables : List (ℕ × Members)) (before after : List KeyFie
   pub good : bad_in_keys (ids_of before) tables ≡ []
   pub apart : AreApart before → AreApart after
 
--- the `KeyFault` is the first of the faults; want of memory says nothing
+-- the `KeyFault` is the first of the faults; lack of memory says nothing
 abbrev pub IsFirstKeyFault : List Fault → KeyFault → Type 0
 IsFirstKeyFault faults key_fault.Memory = ⊤
 IsFirstKeyFault faults (key_fault.Unknown spot) = slice_get faults 0 ≡ Some (unknown_key (spot_text spot))

@@ -15,7 +15,7 @@ use crate::station::{Radio, ServerRow};
 use std::alloc::Global;
 use toml::Value;
 
-// Why there is no station: its first fault, or want of memory.
+// Why there is no station: its first fault, or lack of memory.
 #[derive(Clone, Copy, Debug)]
 pub enum KeyFault<'a> {
     Unknown(Spot<'a>),

@@ -156,7 +156,7 @@ fn run_hub<
     }
 }
 
-/// Opens the hub of the name's cell and runs the station in it. Want of memory gives back the gear.
+/// Opens the hub of the name's cell and runs the station in it. Lack of memory gives back the gear.
 pub fn run_named<
     N: HubName + Send + Sync,
     R: Threads + Wait + Sync,

@@ -47,7 +47,7 @@ refusal_of s Publish = if s.published == length s.journal then Some (Nothing (le
 refusal_of s (Read k) = if nat_lt k (length s.seen) then None else Some (NoReader k)
 refusal_of s (Tell k n) = if nat_lt k (length s.seen) then (if nat_le n s.published then None else Some (Beyond n s.published)) else Some (NoReader k)
 
--- want of memory comes after every other reason: it is reported only where there is none of these
+-- lack of memory comes after every other reason: it is reported only where there is none of these
 abbrev pub reason : StepRefusal → Option StepRefusal
 reason Memory = None
 reason (NoReader k) = Some (NoReader k)
