@@ -22,7 +22,7 @@ impl TimeOfDay {
 }
 
 impl CivilTime {
-    /// Whether the ones digit is above 9, or the day isn't 1 to 31.
+    /// Whether the ones digit is above 9, or the day is not 1 to 31.
     pub fn breaks_day_range(&self) -> bool
         ensures { result ≡ breaks_day_range self.now }
     {
@@ -36,7 +36,7 @@ impl CivilTime {
         self.weekday == self.no_weekday
     }
 
-    /// Whether the ones digit is above 9, or the month isn't 1 to 12.
+    /// Whether the ones digit is above 9, or the month is not 1 to 12.
     pub fn breaks_month_range(&self) -> bool
         ensures { result ≡ breaks_month_range self.now }
     {

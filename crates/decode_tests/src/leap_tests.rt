@@ -57,7 +57,7 @@ fn symbol_at(plan: Plan, minute: &Minute<'_>, place: usize) -> Symbol {
     }
 }
 
-// What the marks of a minute come to, which begins at this second; DCF77 leaves out the last of 60.
+// What the marks of a minute come to that begins at this second; DCF77 leaves out the last of 60.
 fn hear_minute(
     pairing: &mut Pairing,
     plan: Plan,
@@ -87,7 +87,7 @@ fn after_two(plan: Plan, first: &Minute<'_>, second: &Minute<'_>) -> Option<Kind
     Some(heard.kind)
 }
 
-// Each way in which two neighbouring frames announce the same leap second, or don't.
+// Each way in which two neighbouring frames announce the same leap second, or do not.
 fn believes_both(
     rt: &impl Abort,
     plan: Plan,

@@ -155,7 +155,7 @@ fn answer(at: u64, kind: Kind) -> Option<Heard> {
     })
 }
 
-// A minute is believed where it closes 60 s behind the one before, within 100 ms.
+// A minute is believed where it closes 60 s after the one before, within 100 ms.
 #[test]
 fn minutes_are_a_minute_apart(rt: HostRuntime) -> Result<(), Fail> {
     let now = Places {
@@ -186,7 +186,7 @@ fn minutes_are_a_minute_apart(rt: HostRuntime) -> Result<(), Fail> {
     Ok(())
 }
 
-// A minute with a leap second closes 61 s behind the one before, or 60 s, within 100 ms of either.
+// A minute with a leap second closes 61 s after the one before, or 60 s, within 100 ms of either.
 #[test]
 fn a_leap_minute_is_a_second_longer(rt: HostRuntime) -> Result<(), Fail> {
     for (spacing, first, second, differs) in [

@@ -9,7 +9,7 @@ use std::process::Abort;
 use std::test::Fail;
 use tick_units::{Heard, Kind, Local, Mark, Reduction, Symbol};
 
-// What `assert_eq!` does, as a call: where many stand in a test, calls are proved in a third of the time.
+// Does what `assert_eq!` does, as a call. In a test with many of them, calls are proved in a third of the time.
 pub fn same<T: PartialEq + Debug + Drop>(rt: &impl Abort, left: T, right: T) {
     assert_eq!(*rt; left, right);
 }
@@ -107,7 +107,7 @@ pub fn wwvb_minute(alloc: Global) -> Result<Vec<Reduction>, Fail> {
     Ok(list)
 }
 
-// The last answer to reductions, as far as their starts rise, of a receiver with a path delay.
+// The last answer of a receiver with a path delay to reductions, as far as their starts rise.
 pub fn last_answer(
     receiver: Box<dyn Receiver + Send>,
     delay_us: u32,

@@ -1,6 +1,6 @@
--- Scaffolding, which contracts use: the marks of a segment as a few numbers. No rule of a code plan speaks of a place behind
--- the 61st of a segment that is as long as a minute, so the bits of 61 places are kept, and of the marks behind them what a
--- rule on all marks asks.
+-- Scaffolding, which contracts use: the marks of a segment as a few numbers. No rule of a code plan concerns a place after the
+-- 61st of a segment that is as long as a minute. So the bits of 61 places are kept, and of later marks only what a rule on all
+-- marks needs.
 use Rattle.std.specs.Prelude.{◌≡◌, ℕ, ◌+◌, ◌*◌, Bool, true, min, Option, Some, None, List, [], ◌∷◌, length, take, drop, if◌then◌else◌}
 use Rattle.std.specs.List.{last_or, list_any}
 use Rattle.frame_rules.specs.Fields.{has_a, has_b}
@@ -26,7 +26,7 @@ abbrev pub has_long : List Mark → Bool
 has_long marks = list_any (λ mark. is_long mark.symbol) marks
 
 -- these are the bits of the places of marks: how many there are, up to 61; bits A, bits B and which are Long, of the first 61;
--- and whether one behind them is Long
+-- and whether a later one is Long
 pub record HasBits (places : PlaceBits) (marks : List Mark) : Type 0 where
   pub count : places.count ≡ min (length marks) 61
   pub bits_a : places.bits_a ≡ word_of has_a (take 61 marks)

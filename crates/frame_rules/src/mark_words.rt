@@ -14,7 +14,7 @@ use tick_units::{Local, Mark};
 #[derive(Clone, Copy, Debug)]
 pub struct MarkWords {
     places: PlaceBits,
-    // Of all marks: whether two neighbours don't start about a second apart, whether a width is in no class, and the last.
+    // Of all marks: whether two neighbours do not start about a second apart, whether a width is in no class, and the last.
     spacing_broken: bool,
     width_broken: bool,
     last: Option<Mark>,

@@ -20,7 +20,7 @@ impl Number {
         u32::from(self.tens) + u32::from(self.ones)
     }
 
-    /// Whether its ones digit is above 9, or it isn't from `least` to `most`.
+    /// Whether its ones digit is above 9, or it is not from `least` to `most`.
     pub fn is_out_of(self, least: u32, most: u32) -> bool
         ensures { result ≡ is_out_of least most self.ones (both_digits self) }
     {
@@ -28,8 +28,7 @@ impl Number {
     }
 }
 
-/// Whether a number whose ones digit is this one is none: that digit is above 9, or the number isn't from `least` to
-/// `most`.
+/// Whether a number whose ones digit is this one is none: that digit is above 9, or the number is not from `least` to `most`.
 pub fn is_out_of(least: u32, most: u32, ones: u16, number: u32) -> bool
     ensures { result ≡ is_out_of least most ones number }
 {

@@ -33,7 +33,7 @@ impl JournalLine {
         }
     }
 
-    /// The entry that it tells.
+    /// Its entry.
     pub fn entry(&self) -> &Entry
         ensures { result.now ≡ entry_of self.now }
     {
@@ -44,7 +44,7 @@ impl JournalLine {
     }
 }
 
-/// The line whose text this is, in either form, and `None` where it is no line's.
+/// The line whose text this is, in either form. `None` where no line has this text.
 pub fn read_line(text: &[u8]) -> Option<JournalLine>
     ensures line { IfSome result (λ l. IsLineText text.now l) }
     ensures every { (l : line.JournalLine) → IsLineText text.now l → result ≡ Some l }

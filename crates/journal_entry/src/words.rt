@@ -1,4 +1,4 @@
-//! The words of entries, each of which says what its numbers are; and the word in front of a numbered entry.
+//! The words of entries, each of which says what its numbers are; and the word before a numbered entry.
 
 pub const VERSION_2: &[u8] = b"j2";
 

@@ -8,7 +8,7 @@ use clock_page::Page;
 use reply_core::{Code, Dropped, kiss};
 use std::test::Fail;
 
-// What a client gets with the code, of which a drop leaves nothing.
+// What a client gets with the code; a drop leaves nothing of it.
 fn kissed(
     code: Code,
     page: &Page,
@@ -137,7 +137,7 @@ fn a_code_has_the_stamps_of_the_answer(rt: HostRuntime) -> Result<(), Fail> {
     Ok(())
 }
 
-// What isn't answered gets no code either, and what follows the 48th byte is passed over.
+// What is not answered gets no code either, and what follows the 48th byte is passed over.
 #[test]
 fn codes_are_dropped_as_answers_are(rt: HostRuntime) -> Result<(), Fail> {
     let page = of_a_radio()?;

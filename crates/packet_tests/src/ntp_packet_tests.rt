@@ -43,7 +43,7 @@ fn a_request_of_ntpdate(rt: HostRuntime) {
     assert_spells(&rt, bytes, header);
 }
 
-// A request that `systemd-timesyncd` 252 sent: the version and the mode, and a transmit timestamp by chance.
+// A request that `systemd-timesyncd` 252 sent: the version and the mode, and a random transmit timestamp.
 #[test]
 fn a_request_of_timesyncd(rt: HostRuntime) {
     let mut bytes = [0; 48];

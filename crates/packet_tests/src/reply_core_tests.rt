@@ -7,7 +7,7 @@ use reply_core::{Dropped, reply};
 use std::test::Fail;
 use tick_units::{Short, Span, Stamp};
 
-// What is answered, of which a drop leaves nothing.
+// What is answered; a drop leaves nothing of it.
 pub(crate) fn answered(
     page: &Page,
     datagram: &[u8],

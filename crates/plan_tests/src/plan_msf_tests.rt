@@ -88,7 +88,7 @@ fn frame(ones: Ones, changed: Ones) -> Result<[Mark; 61], Fail> {
     Ok(marks)
 }
 
-// What a segment comes to that is closed a minute behind its first mark.
+// What a segment comes to that is closed a minute after its first mark.
 fn read_closed(segment: &[Mark]) -> Result<Result<Coded, Broken>, Fail> {
     Ok(read(segment, moment(62_000_000)?))
 }
@@ -240,7 +240,7 @@ fn of_two_rules_the_lesser_is_named(rt: HostRuntime) -> Result<(), Fail> {
     lesser_is_named(&rt, &BREAKS)
 }
 
-// A day that its month doesn't have, in a year that is none, and on another weekday.
+// A day that its month does not have, in an invalid year, and on another weekday.
 #[test]
 fn a_date_is_judged_where_there_is_one(rt: HostRuntime) -> Result<(), Fail> {
     let rows = [
@@ -254,7 +254,7 @@ fn a_date_is_judged_where_there_is_one(rt: HostRuntime) -> Result<(), Fail> {
     Ok(())
 }
 
-// A frame without its identifier, with a mark too few, then an odd width too, then a closing mark that is late too.
+// A frame without its identifier, with a mark too few, then an odd width too, then a late closing mark too.
 #[test]
 fn spacing_comes_before_width_and_width_before_length(rt: HostRuntime) -> Result<(), Fail> {
     let mut marks = frame(NEW_YEAR, Ones { a: &[52], b: &[] })?;

@@ -58,8 +58,8 @@ spelt c = frame_of (not (c.leap_at == 0)) (civil_of (sent_second c)) (day_of_yea
 abbrev pub is_free : ℕ → Bool
 is_free place = is_between 36 38 place || is_between 40 43 place || place == 55 || is_between 57 58 place
 
--- lawful marks that agree with these symbols in their number and at each place that isn't free, and have a sign of DUT1 and
--- no Long at those that are
+-- valid marks that agree with these symbols in their number and at each place that is not free. At the free places they have a
+-- sign of DUT1 and no Long.
 pub record Agrees (marks : List Mark) (close : ℕ) (symbols : List Symbol) : Type 0 where
   pub shape : MayStandFor (are_spaced_to marks close) marks symbols
   pub places : (place : ℕ) → IsFalse (is_free place) → slice_index_or (symbols_of marks) place Zero ≡ slice_index_or symbols place Zero

@@ -5,10 +5,10 @@
 //!
 //! | rule | broken where |
 //! |---|---|
-//! | 1 | two neighbouring marks, or the last and the closing one, don't start 900000 to 1100000 microseconds apart |
+//! | 1 | two neighbouring marks, or the last and the closing one, do not start 900000 to 1100000 microseconds apart |
 //! | 2 | a width is in no class |
 //! | 3 | there are not 60 marks |
-//! | 50 | a marker isn't Long, or another place is |
+//! | 50 | a marker is not Long, or another place is |
 //! | 51 | a place that is always 0 is 1 |
 //! | 52 | the sign of DUT1 is neither plus nor minus |
 //! | 53, 54, 55 | the minute, the hour or the year is none |

@@ -67,7 +67,7 @@ server_rows h =
     ∷ []
 
 -- the table for a datagram: the server, the moment of the outstanding request, the transmit timestamp of the last accepted
--- answer, the sender and the bytes. Where no request is outstanding row 3 holds, and no row after it counts
+-- answer, the sender and the bytes. Where no request is outstanding, row 3 holds, and no row after it counts.
 abbrev pub table : Address → Option ℕ → Option Stamp → Address → List ℕ → List Row
 table server asked accepted from bytes =
     datagram_rows server asked from bytes ++ exchange_rows (request_stamp (unwrap_or asked 0)) accepted (fields bytes) ++ server_rows (fields bytes)

@@ -20,11 +20,11 @@ pub enum Part {
     Zero,
     /// The space, or the digits of the width behind it.
     Width,
-    /// No lawful line begins as this one does.
+    /// No valid line begins as this one does.
     Unlawful,
 }
 
-/// What is kept of a line that isn't finished: its numbers so far and its length, and not its text.
+/// What is kept of an unfinished line: its numbers so far and its length, and not its text.
 #[derive(Clone, Copy, Debug, PartialEq, Eq)]
 pub struct Line {
     part: Part,

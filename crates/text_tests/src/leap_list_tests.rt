@@ -3,7 +3,7 @@ use crate::shared::same;
 use leap_file::LeapReader;
 use std::test::Fail;
 
-// What the file says before its rows, and behind them.
+// What the file says before its rows, and after them.
 const HEAD: &[u8] =
     b"#\tATOMIC TIME\n#\n#@\t3991593600\n#$\t3676924800\n#NTP Time      DTAI    Day Month Year\n#\n";
 
@@ -49,7 +49,7 @@ const SECONDS: [u64; 27] = [
     3550089600, 3644697600, 3692217600,
 ];
 
-// The reader takes a piece of a file and tells of no bad line: the leap seconds of it go to `found`, of which so many are there.
+// The reader takes a piece of a file without a bad line. Its leap seconds go to `found`, which has this many so far.
 fn take_piece(
     reader: &mut LeapReader,
     piece: &[u8],
@@ -73,7 +73,7 @@ fn take_piece(
     Ok(count)
 }
 
-// Takes pieces, and gives how many leap seconds they tell of.
+// Takes pieces, and returns how many leap seconds they name.
 fn take_pieces(
     reader: &mut LeapReader,
     pieces: &[&[u8]],

@@ -6,7 +6,7 @@ use crate::{Short, Span};
 pub struct Sample {
     /// What is to be added to the host's counter to give the time since 1900.
     pub offset: Span,
-    /// The way to the server and back.
+    /// How long the exchange took beyond the server's own work: the way to the server and back.
     pub delay: Span,
     /// How far the offset may be from the truth when it was taken, the delay apart.
     pub dispersion: Span,
