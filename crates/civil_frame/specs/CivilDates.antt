@@ -1,5 +1,5 @@
--- The date that a frame says, and the rules that speak of it. The calendar is the Gregorian one of ISO 8601, and the years
--- are those of the century that begins in 2000.
+-- The date that a frame says, and the rules on it. The calendar is the Gregorian one of ISO 8601, and the years are those of the
+-- century that begins in 2000.
 use Rattle.std.specs.Prelude.{ℕ, ◌+◌, ◌%◌, Bool, not, ◌&&◌, ◌||◌, ◌==◌}
 use Rattle.civil_minute.specs.Dates.{is_date, day_number, weekday_of_day}
 use Rattle.frame_rules.specs.Numbers.{both_digits}

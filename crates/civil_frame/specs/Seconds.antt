@@ -14,8 +14,8 @@ local_start civil = second_of (2000 + both_digits civil.year) (both_digits civil
 unfoldable pub minute_start : CivilTime → ℕ
 minute_start civil = local_start civil - 3600 * civil.hours_ahead
 
--- the second at which a clock of UTC shows what a clock of a zone shows at the minute; the zone is this many hours ahead, with
--- summer time and without
+-- the second at which a clock of UTC shows what a clock of a zone shows at the minute. The zone is this many hours ahead, with
+-- summer time and without.
 abbrev pub local_second : (Bool → ℕ) → Coded → ℕ
 local_second hours_ahead c = c.minute + 3600 * hours_ahead c.summer
 

@@ -1,5 +1,5 @@
--- What a page says of a moment of the host's counter: the time, whether to trust it, and whether a leap second is near (the leap
--- indicator of RFC 5905, section 7.3).
+-- What a page says of a moment of the host's counter: the time, whether to trust it, and whether a leap second is near. The leap
+-- indicator is that of RFC 5905, section 7.3.
 use Rattle.std.specs.Prelude.{ℕ, ◌-◌, ◌^◌, ◌==◌, Bool, not, ◌&&◌, nat_lt, ℤ, pos, ◌+ℤ◌, ◌*ℤ◌, int_lt, int_le, if◌then◌else◌}
 use Rattle.tick_units.specs.Units.{floor_div, local_span, stamp_of}
 use Rattle.clock_page.specs.Page.{PageFields}

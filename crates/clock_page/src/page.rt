@@ -36,8 +36,8 @@ pub struct Page {
     pub reftime: Stamp,
     /// The second at which the announced leap second ends, and 0 where none is announced.
     pub leap_at: u64,
-    /// How fast the host's counter loses: by how many units of 2^-32 s the offset grows in a second from the anchor on, -2147483
-    /// to 2147483 (500 parts per million).
+    /// How fast the host's counter loses: by how many units of 2^-32 s the offset grows in a second from the anchor on. It is
+    /// -2147483 to 2147483 (500 parts per million).
     pub rate: i32,
 }
 

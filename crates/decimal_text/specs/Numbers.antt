@@ -1,5 +1,5 @@
--- Numbers in decimal, as Rust's and C's decimal output writes them (`decimal`): what may stand after one, and what a text says
--- that begins with one.
+-- Numbers in decimal, as Rust's and C's decimal output writes them (`decimal`): what may follow one, and what a text says that
+-- begins with one.
 use Rattle.std.specs.Prelude.{◌≡◌, ℕ, ◌≤◌, ◌||◌, nat_le, nat_lt, Option, None, Some, List, [], ◌∷◌, length, take, drop, decimal, IsTrue, if◌then◌else◌}
 use Rattle.decimal_text.specs.declared.number.Number.{Number}
 

@@ -22,7 +22,7 @@ fn closed_after(marks: usize, odd_at: usize) -> Option<Heard> {
     pairing.hear(mark_at(start.saturating_add(1_000_000), Symbol::Zero)?)
 }
 
-// The segment of a stuck receiver, with more marks than a minute has, is refused by its length, or by an odd width wherever it
+// The segment of a stuck receiver has more marks than a minute. It is refused by its length, or by an odd width wherever it
 // stands.
 #[test]
 fn a_segment_of_any_length_is_judged(rt: HostRuntime) -> Result<(), Fail> {

@@ -64,7 +64,7 @@ fn a_receiver_is_blank_until_it_hears(rt: HostRuntime) -> Result<(), Fail> {
     Ok(())
 }
 
-// A minute of DCF77 begins 1900000 to 2100000 microseconds after the mark before it; so the second mark here begins one, which
+// A minute of DCF77 begins 1900000 to 2100000 microseconds after the mark before it. So the second mark here begins one, which
 // the third closes, or none does.
 #[test]
 fn a_minute_of_dcf77_begins_after_a_gap(rt: HostRuntime) -> Result<(), Fail> {

@@ -19,7 +19,7 @@ IsTimely latest latest_now (Datagram arrival) = (latest ≤ arrival.at) × (late
 IsTimely latest latest_now Quiet = latest_now ≡ latest
 IsTimely latest latest_now End = latest_now ≡ latest
 
--- one event more
+-- one event more, by what the link received
 pub record Hears (before now : LinkState) (hearing : Hearing) (piece : List ℕ) : Type 0 where
   pub event : Adds before.events now.events (event_of hearing piece ∷ [])
   pub timely : IsTimely before.latest now.latest hearing

@@ -1,5 +1,5 @@
--- The openings of an outside, in order: what was asked for, and what the object reported when it was opened and when it was given
--- back. Also which openings a call makes.
+-- The openings of an outside, in order: what was asked for, and what the object reported as it was opened and given back. Also
+-- which openings a call makes.
 use Rattle.std.specs.Prelude.{◌≡◌, ◌≤◌, ℕ, zero, suc, Option, None, Some, List, [], ◌∷◌, ◌++◌, length, map, slice_get}
 use Rattle.std.specs.List.{sum_by}
 use Rattle.std.specs.Option.{MatchOption, option_map, option_to_list}

@@ -43,7 +43,7 @@ pub enum LinkEvent<'a> {
 }
 
 impl<'a> LinkEvent<'a> {
-    // What kind of event it is, without the bytes of its datagram.
+    /// What kind of event it is, without the bytes of its datagram.
     pub fn kind(&self) -> Kind
         ensures { event_with result (bytes_of (event_seen self.now)) ≡ event_seen self.now }
     {
@@ -59,7 +59,7 @@ impl<'a> LinkEvent<'a> {
         }
     }
 
-    // The bytes of its datagram.
+    /// The bytes of its datagram; none where the event has no datagram.
     pub fn bytes(&self) -> &'a [u8]
         ensures { result.now ≡ bytes_of (event_seen self.now) }
     {

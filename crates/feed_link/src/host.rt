@@ -83,7 +83,7 @@ impl<'a, R: Files + Net + Clock> HostOutside<'a, R> {
     }
 }
 
-// A socket on this port of all addresses of the host, or on a free port where it is 0. It waits this long for a datagram.
+// A socket on this port of all addresses of the host, or on a free port where it is 0. It waits `SILENCE` seconds for a datagram.
 fn bind<R: Net>(rt: &R, port: u16) -> io::Result<UdpSocket> {
     let all = IpAddr::V4(Ipv4Addr::UNSPECIFIED);
     let socket = rt.bind_udp(SocketAddr::new(all, port))?;

@@ -3,8 +3,8 @@ ghost use Rattle.std.specs.Prelude.{◌≡◌, ◌^◌, ◌<◌};
 ghost use Rattle.frame_rules.specs.Rules.{is_out_of};
 ghost use Rattle.frame_rules.specs.Numbers.{both_digits};
 
-/// A number of two digits as the places of a frame say it: the sum of the weights of its tens, as 10, 20, 40 and 80, and
-/// that of its ones, 1, 2, 4 and 8.
+/// A number of two digits as the places of a frame say it, as two sums of weights. Those of its tens are 10, 20, 40 and 80, those
+/// of its ones 1, 2, 4 and 8.
 #[derive(Clone, Copy, Debug, PartialEq, Eq)]
 pub struct Number {
     pub tens: u16,

@@ -6,7 +6,7 @@ ghost use Rattle.journal_entry.specs.declared.line.JournalLine as line;
 use crate::words::VERSION_2;
 use crate::{Entry, Numbered, read_entry, read_numbered};
 
-/// A line of a journal: an entry by itself, as the first form has it, or with its number and rate, as the second has it.
+/// A line of a journal: an entry by itself, as in the first form, or with its number and rate, as in the second.
 #[derive(Clone, Copy, Debug, PartialEq, Eq)]
 pub enum JournalLine {
     Bare(Entry),

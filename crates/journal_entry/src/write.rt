@@ -26,8 +26,8 @@ pub fn write_entry(e: &Entry, out: &mut [u8; ENTRY_ROOM]) -> usize
     length
 }
 
-/// Writes the text of an entry as `write_entry` does, in the room of a line.
 // It is not inlined: an entry is rare among pulses, and the room and registers of its text would slow down each of them.
+/// Writes the text of an entry as `write_entry` does, in the room of a line. Returns the number of bytes written, at most 141.
 #[inline(never)]
 pub fn write_unnumbered(e: &Entry, out: &mut [u8; LINE_ROOM]) -> usize
     ensures text { take result out.new ≡ text_of e.now }

@@ -36,8 +36,8 @@ abbrev pub after : Gate → ℕ → ℕ → (kept : Bool) → Gate
 after gate ip at true = with_table gate (table_after (code_of gate ip at) gate ip at)
 after gate ip at false = gate
 
--- a client that passes stays unkept only where the gate keeps a table and the client is new to it: it takes memory for such a
--- client
+-- a client that passes stays unkept only where the gate keeps a table and the client is new to it. The gate takes memory for such
+-- a client.
 abbrev pub MayBeKept : Gate → ℕ → ℕ → (kept : Bool) → Type 0
 MayBeKept gate ip at kept = kept ≡ false → (code_of gate ip at ≡ Pass) × (0 < gate.gap) × (lookup (nat_eq ip) gate.table ≡ None)
 

@@ -24,8 +24,8 @@ fn renew(last: &mut Local, gap: u64, at: Local) -> Code
     Code::Pass
 }
 
-// The code of a client that is in the table. Its pair moves to the first place: with its moment as it was where the code is
-// `Rate`, and with the new one where it is `Pass`. A client that is not in the table has no code, and nothing changes.
+// The code of a client that is in the table. Its pair moves to the first place. It keeps its moment where the code is `Rate`, and
+// gets the new one where it is `Pass`. A client that is not in the table has no code, and nothing changes.
 pub(crate) fn judge_known(
     clients: &mut LruCache<u32, Local>,
     ip: u32,

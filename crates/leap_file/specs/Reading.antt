@@ -1,4 +1,5 @@
--- What a reader of a leap second file stands for: the bytes that it has taken (the form is that of `leap-seconds.list` of IERS and NIST).
+-- What a reader of a leap second file stands for: the bytes that it has taken. The form is that of `leap-seconds.list` of IERS
+-- and NIST.
 use Rattle.std.specs.Prelude.{◌≡◌, ℕ, Bool, true, false, ◌-◌, ◌^◌, min, Option, None, Some, List, [], ◌∷◌, ◌++◌, length, Result, MatchResult, is_some, if◌then◌else◌}
 use Rattle.std.specs.List.{last_or}
 use Rattle.std.specs.Option.{option_map, option_to_list}
@@ -32,7 +33,7 @@ pub record HasRead (reader : LeapReader) (bytes : List ℕ) : Type 0 where
   pub lines : reader.bad ≡ None → reader.lines ≡ counted (length (lines_of bytes).complete)
   pub before : reader.bad ≡ None → reader.before ≡ last_or None (rows false bytes)
 
--- one byte more is taken, and the result says what it adds: a leap second, or the bad line that the file has from then on
+-- one byte more is taken. The result says what it adds: a leap second, or the bad line that the file has from then on.
 pub record Takes (new : LeapReader) (bytes : List ℕ) (byte : ℕ) (result : Result (Option ℕ) BadLeap) : Type 0 where
   pub read : HasRead new (bytes ++ byte ∷ [])
   pub found : MatchResult result

@@ -28,7 +28,8 @@ rows_behind before (Nothing ∷ more) = rows_behind before more
 rows_behind before (Bad ∷ more) = []
 rows_behind before (Numbers row ∷ more) = if may_stand before row then row ∷ rows_behind (Some row) more else []
 
--- the number of the first bad line, where the first line has this number: it is bad by itself, or a row that may not stand there
+-- the number of the first bad line, where the first line has this number. A line is bad by itself, or as a row that may not stand
+-- there.
 abbrev pub bad_behind : Option Row → ℕ → List LeapLine → Option ℕ
 bad_behind before number [] = None
 bad_behind before number (Nothing ∷ more) = bad_behind before (number + 1) more

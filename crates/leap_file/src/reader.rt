@@ -22,12 +22,12 @@ fn one_more(lines: u64) -> u64
 
 /// Reads a leap second file byte by byte, up to its first bad line.
 ///
-/// A row is a second since 1900-01-01 of 1 to 10 digits, spaces or tabs, and TAI less UTC from then on in 1 to 3 digits. Spaces
-/// and tabs may follow, and after at least one of these a remark that begins with `#`. Lines that begin with `#`, lines of spaces
-/// and tabs and empty lines are no rows. A carriage return at the end of a line is passed over. Any other line is bad. A row is
-/// bad too where its second is not before 2100-01-03, begins no month of UTC or does not rise. So is a row whose difference is
-/// above 255 or is not one more than that of the row before. The first row says what held before the leap seconds of the list, so
-/// it names none.
+/// A row is two numbers with spaces or tabs between them. The first is a second since 1900-01-01 in 1 to 10 digits. The second is
+/// TAI less UTC from then on, in 1 to 3 digits. Spaces and tabs may follow, and after at least one of these a remark that begins
+/// with `#`. Lines that begin with `#`, lines of spaces and tabs and empty lines are no rows. A carriage return at the end of a
+/// line is passed over. Any other line is bad. A row is bad too where its second is not before 2100-01-03, begins no month of UTC
+/// or does not rise. So is a row whose difference is above 255 or is not one more than that of the row before. The first row says
+/// what held before the leap seconds of the list, so it names none.
 #[derive(Drop)]
 pub struct LeapReader {
     line: Line,

@@ -63,9 +63,9 @@ impl<R: Receiver> LogDecoder<R> {
         }
     }
 
-    /// Takes bytes up to the end of the first line that completes an entry, up to the byte that makes a line bad, or all of them.
-    /// No clause says how many bytes one call takes. The result belongs to the bytes that were taken, and the caller goes on with
-    /// the rest.
+    /// Takes bytes up to the end of the first line that completes an entry, or up to the byte that makes a line bad. Takes all of
+    /// them where there is neither. No clause says how many bytes one call takes. The result belongs to the bytes that were
+    /// taken, and the caller goes on with the rest.
     #[inline(always)]
     pub fn take(&mut self, bytes: &[u8]) -> Step
         requires some { 0 < length bytes.now }

@@ -10,8 +10,8 @@ pub struct Header {
     pub version: u8,
     /// The mode, 0 to 7: 3 is a client's, 4 a server's.
     pub mode: u8,
-    /// The sender's stratum: 1 where a reference clock sets its own clock, else one more than that of the server that it takes
-    /// its time from. 0 where it is not synchronised, or says nothing of it.
+    /// The sender's stratum: 1 where a reference clock sets its own clock, else one more than that of its server. It is 0 where
+    /// the sender is not synchronised, or says nothing of it.
     pub stratum: u8,
     /// The interval between polls, in log2 seconds.
     pub poll: i8,

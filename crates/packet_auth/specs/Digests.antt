@@ -1,6 +1,6 @@
--- What an authentic packet carries after its header of 48 bytes (RFC 5905, section 7.3, figure 8): the key's identifier of 32
--- bits, its highest byte first, and the 16 bytes of the digest. The digest is MD5 (RFC 1321) of the key's secret followed by the
--- header.
+-- What an authentic packet carries after its header of 48 bytes (RFC 5905, section 7.3, figure 8). First comes the key's
+-- identifier of 32 bits, its highest byte first, then the 16 bytes of the digest. The digest is MD5 (RFC 1321) of the key's
+-- secret followed by the header.
 use Rattle.std.specs.Prelude.{ℕ, ◌==◌, ◌&&◌, Bool, List, ◌++◌, length, take, drop, Option, Some, None, bytes_eq, if◌then◌else◌}
 use Rattle.std.specs.List.{list_any}
 use Rattle.byteorder.specs.Endian.{big_bytes, big_from}

@@ -78,7 +78,7 @@ fn a_client_is_denied(rt: HostRuntime) -> Result<(), Fail> {
     Ok(())
 }
 
-// A request of version 1 to a server that never knew the time, and one of version 3 with a poll of 17 after a page's end.
+// A request of version 1 to a server that never knew the time. Then one of version 3 with a poll of 17 after a page's end.
 #[test]
 fn a_server_that_is_not_synchronised_has_the_same_codes(rt: HostRuntime) -> Result<(), Fail> {
     let denied = [

@@ -95,7 +95,8 @@ fn a_reply_is_sealed_as_its_request_is(rt: HostRuntime) -> Result<(), Fail> {
     Ok(())
 }
 
-// The last byte is changed, the identifier is another's or nobody's, the length is that of a crypto-NAK, or a byte is one too many or few.
+// The last byte is changed, or the identifier is another's or nobody's. Or the length is that of a crypto-NAK, or one byte too
+// many or too few.
 #[test]
 fn a_request_that_is_not_authentic(rt: HostRuntime) -> Result<(), Fail> {
     let mut changed = packet(REQUEST, 1, BY_LONGWAVE);

@@ -42,8 +42,8 @@ breaks_date_parity marks = is_odd_over is_one marks 36 58
 abbrev pub is_leap_minute : List Mark → Bool
 is_leap_minute marks = announces_leap marks && begins_month (minute_start (said marks))
 
--- the 60th mark is there without reason or is missing, or it is 1; where no minute of a civil date is said, the rule counts as
--- unbroken
+-- the 60th mark is there without reason or is missing, or it is 1. Where no minute of a civil date is said, the rule counts as
+-- unbroken.
 abbrev pub breaks_leap_minute : List Mark → Bool
 breaks_leap_minute marks = names_minute (said marks) && (not (beq (length marks == 60) (is_leap_minute marks)) || is_set is_one marks 59)
 

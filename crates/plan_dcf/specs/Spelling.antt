@@ -16,8 +16,8 @@ use Rattle.frame_rules.specs.MarkRules.{MayStandFor}
 use Rattle.civil_frame.specs.Seconds.{local_second, IsInCentury}
 use Rattle.plan_dcf.specs.Fields.{hours_ahead}
 
--- a whole minute of the years 2000 to 2099 by German time, and no leap second or one at the next UTC midnight, which begins
--- a month
+-- a whole minute of the years 2000 to 2099 by German time. It has no leap second, or one at the next UTC midnight, which begins a
+-- month.
 pub record IsSpellable (c : Coded) : Type 0 where
   pub minute : IsInCentury c.minute (local_second hours_ahead c)
   pub leap : (c.leap_at ≡ 0) ⊎ ((c.leap_at ≡ midnight_from c.minute) × IsTrue (begins_month c.leap_at))

@@ -104,8 +104,8 @@ fn frame_of(c: &Coded, civil: &CivilMinute, weekday: u32) -> Spelling
     frame
 }
 
-/// Writes the frame that says this minute to the beginning of `out`, and returns the number of its symbols: 59, and 60 in a
-/// minute that ends with a leap second. The rest of `out` stays.
+/// Writes the frame that says this minute to the beginning of `out`. Returns the number of its symbols: 59, and 60 in a minute
+/// that ends with a leap second. The rest of `out` stays.
 pub fn spell(c: &Coded, out: &mut [Symbol; 61]) -> usize
     requires { IsSpellable c.now }
     ensures count { result ≡ length (spelt c.now) }

@@ -185,8 +185,8 @@ fn each_rule_is_broken_alone(rt: HostRuntime) -> Result<(), Fail> {
     Ok(())
 }
 
-// Changes of the frame of NEW_YEAR, each of which breaks the rule beside it alone. The rules 21 and 22, and 22 and 23, are
-// never broken at once: a rule on a date counts as unbroken where no date is said.
+// Changes of the frame of NEW_YEAR, each of which breaks the rule beside it alone. The rules 21 and 22, and 22 and 23, are never
+// broken at once. A rule on a date counts as unbroken where no date is said.
 const BREAKS: [(&[usize], u8); 12] = [
     (&[0], 10),
     (&[17], 11),

@@ -177,8 +177,8 @@ fn each_rule_is_broken_alone(rt: HostRuntime) -> Result<(), Fail> {
     Ok(())
 }
 
-// Changes of the frame of NEW_YEAR, each of which breaks the rule beside it alone. The rules 40 and 41, and 41 and 42, are
-// never broken at once: a rule on a date counts as unbroken where no date is said.
+// Changes of the frame of NEW_YEAR, each of which breaks the rule beside it alone. The rules 40 and 41, and 41 and 42, are never
+// broken at once. A rule on a date counts as unbroken where no date is said.
 const BREAKS: [(Ones, u8); 11] = [
     (Ones { a: &[52], b: &[] }, 30),
     (Ones { a: &[17], b: &[] }, 31),
@@ -307,7 +307,7 @@ fn a_mark_too_many_is_spaced_wrongly(rt: HostRuntime) -> Result<(), Fail> {
     Ok(())
 }
 
-// Bits A up to place 16 and bits B up to place 53 carry other things, and no rule speaks of the minute mark's width.
+// Bits A up to place 16 and bits B up to place 53 carry other things, and no rule concerns the minute mark's width.
 #[test]
 fn what_is_passed_over_changes_nothing(rt: HostRuntime) -> Result<(), Fail> {
     let passed = Ones {

@@ -168,8 +168,8 @@ fn markers_are_long_and_no_other_place(rt: HostRuntime) -> Result<(), Fail> {
     Ok(())
 }
 
-// Changes of the frame of NEW_YEAR, each of which breaks the rule beside it alone. The rules 56 and 58 are never broken at
-// once: a rule on a date counts as unbroken where no date is said.
+// Changes of the frame of NEW_YEAR, each of which breaks the rule beside it alone. The rules 56 and 58 are never broken at once.
+// A rule on a date counts as unbroken where no date is said.
 const BREAKS: [(&[usize], u8); 6] = [
     (&[4], 51),
     (&[38], 52),
@@ -208,7 +208,7 @@ fn of_two_rules_the_lesser_is_named(rt: HostRuntime) -> Result<(), Fail> {
     lesser_is_named(&rt, &BREAKS)
 }
 
-// A frame with a reserved place that is 1, a missing marker and a mark too few, then an odd width too, then a late closing mark
+// A frame with a reserved place that is 1, a missing marker and a mark too few. Then an odd width too, then a late closing mark
 // too.
 #[test]
 fn spacing_comes_before_width_and_width_before_length(rt: HostRuntime) -> Result<(), Fail> {

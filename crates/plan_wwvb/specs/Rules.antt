@@ -1,6 +1,5 @@
--- The rules of WWVB. Each is a test of the whole segment, and of the start of the mark that closes it, that is true where the
--- rule is broken. What it requires of the code is NIST's (Special Publication 432); the numbers and the bounds are this
--- project's.
+-- The rules of WWVB. Each tests the whole segment, and the start of the mark that closes it; it is true where the rule is broken.
+-- What it requires of the code is NIST's (Special Publication 432); the numbers and the bounds are this project's.
 use Rattle.std.specs.Prelude.{ℕ, ◌+◌, Bool, true, false, not, ◌&&◌, ◌||◌, nat_lt, Option, List, [], ◌∷◌, length}
 use Rattle.std.specs.List.{list_any, range_with_len}
 use Rattle.frame_rules.specs.Fields.{is_one, is_set, has_pattern}

@@ -1,6 +1,6 @@
--- The request of a poll, and what an exchange says of the time (RFC 5905, section 8; that the clock's own precision is 2^-20 s
--- and the bounds of the server's are this project's own choice). Moments are microseconds of the host's counter, and lengths
--- are units of 2^-32 s.
+-- The request of a poll, and what an exchange says of the time (RFC 5905, section 8). The clock's own precision of 2^-20 s and
+-- the bounds of the server's are this project's own choice. Moments are microseconds of the host's counter, and lengths are units
+-- of 2^-32 s.
 use Rattle.std.specs.Prelude.{ℕ, ◌+◌, ◌-◌, ◌*◌, ◌/◌, ◌%◌, ◌^◌, min, ℤ, pos, negsuc, ◌+ℤ◌, ◌-ℤ◌}
 use Rattle.std.specs.Int.{int_max}
 use Rattle.tick_units.specs.Units.{floor_div, local_span, phi}

@@ -24,7 +24,7 @@ pub record HasRead (reader : LineReader) (bytes : List ℕ) : Type 0 where
   pub lines : bad_line bytes ≡ None → reader.lines ≡ length (lines_of bytes).complete
   pub least : bad_line bytes ≡ None → reader.least ≡ least_after (pulses bytes)
 
--- a prefix of what comes is taken, and the result says what it adds: a reduction, or the bad line that the log has from then on
+-- a prefix of what comes is taken. The result says what it adds: a reduction, or the bad line that the log has from then on.
 pub record TakesFront (new : LineReader) (bytes front : List ℕ) (result : Result (Option Reduction) BadLine) : Type 0 where
   pub read : HasRead new (bytes ++ front)
   pub found : MatchResult result

@@ -18,7 +18,7 @@ pub enum Part {
     Start,
     /// A start that is the one digit 0.
     Zero,
-    /// The space, or the digits of the width behind it.
+    /// The space, or the digits of the width after it.
     Width,
     /// No valid line begins as this one does.
     Unlawful,

@@ -76,7 +76,8 @@ impl LineReader {
         Ok(None)
     }
 
-    /// Takes bytes up to the end of the first line that ends among them, up to the byte that makes a line bad, or all of them.
+    /// Takes bytes up to the end of the first line that ends among them, or up to the byte that makes it bad. Takes all of them
+    /// where there is neither.
     #[inline(always)]
     pub fn take_line(&mut self, bytes: &[u8]) -> Front
         requires { 0 < length bytes.now }

@@ -19,8 +19,8 @@ pub struct WholeLine {
 }
 
 /// The line at the beginning of these bytes, where it is valid and starts at `least` or later. None also where it goes on after
-/// them or stands at their very end, and where its start is 0 or has 16 digits or its width has 7. Such a line is left to the
-/// byte-by-byte reader.
+/// them or stands at their very end. None too where its start is 0 or has 16 digits, or its width has 7. Such a line is left to
+/// the byte-by-byte reader.
 #[inline(always)]
 pub fn line_in_front(bytes: &[u8], least: u64) -> Option<WholeLine>
     ensures within { IfSome result (λ line. line.count ≤ length bytes.now) }

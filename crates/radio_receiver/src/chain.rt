@@ -43,6 +43,7 @@ impl Chain {
         }
     }
 
+    // Sets the path delay, in microseconds. The chain has to be blank.
     pub fn fit(&mut self, delay_us: u32)
         requires { self.old.least_start ≡ 0 }
         ensures fitted { (h : History) → HasChained self.old h → HasChained self.new (with_delay h delay_us) }
@@ -51,6 +52,7 @@ impl Chain {
         self.delay_us = delay_us;
     }
 
+    // Takes the next reduction, and returns the answer that it completes, at its moment less the path delay.
     #[tactic(auto, using(crate::proofs::LastLaws::least_push))]
     #[inline(always)]
     pub fn hear(&mut self, reduction: Reduction) -> Option<Heard>
@@ -96,6 +98,7 @@ impl Chain {
         self.hear(reduction)
     }
 
+    // Whether it has received nothing.
     #[tactic(auto, using(crate::proofs::LastLaws::blank_is))]
     pub fn is_blank(&self) -> bool
         ensures nothing { (h : History) → HasChained self.now h → result ≡ is_blank h.reductions }

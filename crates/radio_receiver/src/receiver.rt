@@ -20,8 +20,8 @@ pub trait Receiver: Drop {
     fn plan(&self) -> Plan
         ensures { (h : History) → stands_for self.now h → result ≡ h.plan };
 
-    /// Sets the path delay, in microseconds: how long the signal is under way. Each moment of a later answer is less by it, and
-    /// not below 0. The receiver has to be blank.
+    /// Sets the path delay, at most 100000 microseconds: how long the signal is under way. Each moment of a later answer is less
+    /// by it, and not below 0. The receiver has to be blank.
     fn fit(&mut self, delay_us: u32)
         requires blank { least_start self.old ≡ 0 }
         requires delay { delay_us ≤ 100000 }

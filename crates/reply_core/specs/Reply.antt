@@ -1,5 +1,5 @@
--- The answer to a datagram (RFC 5905, appendix A.5.3.1, `fast_xmit`), from a page, the moment of arrival and that of sending; and
--- the kiss-o'-death packet that a client gets in its place (section 7.4).
+-- The answer to a datagram (RFC 5905, appendix A.5.3.1, `fast_xmit`), from a page, the moment of arrival and that of sending.
+-- Also the kiss-o'-death packet that a client gets in its place (section 7.4).
 use Rattle.std.specs.Prelude.{ℕ, ◌-◌, ◌*◌, ◌+◌, Bool, true, false, ◌==◌, ◌||◌, not, nat_lt, List, length, Result, Ok, Err, pos, if◌then◌else◌}
 use Rattle.std.specs.Result.{result_map_both}
 use Rattle.tick_units.specs.Units.{phi, to_short}
@@ -13,8 +13,8 @@ use Rattle.reply_core.specs.declared.code.Code.TheVariants.{Pass, Deny, Rate}
 use Rattle.reply_core.specs.declared.dropped.Dropped.{Dropped}
 use Rattle.reply_core.specs.declared.dropped.Dropped.TheVariants.{Short, Version, Mode}
 
--- the request in a datagram: its first 48 bytes, where their mode is a client's and their version is 1 to 4; of several reasons
--- for a drop the first counts
+-- the request in a datagram: its first 48 bytes, where their mode is a client's and their version is 1 to 4. Of several reasons
+-- for a drop the first counts.
 abbrev pub request_of : List ℕ → Result Header Dropped
 request_of datagram = if nat_lt (length datagram) 48 then Err Short
     else if (fields datagram).version == 0 || nat_lt latest_version (fields datagram).version then Err Version

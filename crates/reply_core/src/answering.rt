@@ -24,7 +24,7 @@ const RATE: u32 = 0x5241_5445;
 /// The request in a datagram; what stands after its first 48 bytes is passed over.
 ///
 /// # Errors
-/// A datagram that is no request of a client: it has fewer than 48 bytes, a version that is not 1 to 4, or another mode.
+/// A datagram that is no client's request: it has fewer than 48 bytes, a version outside 1 to 4, or another mode.
 pub fn read_request(datagram: &[u8]) -> Result<Header, Dropped>
     ensures read { result ≡ request_of datagram.now }
     ensures version { IfOk result (λ request. request.version < 8) }
@@ -104,9 +104,9 @@ fn header(code: Code, page: &Page, request: &Header, arrived: Local, sent: Local
     }
 }
 
-/// Writes the 48 bytes that a client gets by its code for a request that `read_request` has read: the answer for `Pass`, and a
-/// kiss-o'-death packet for the others. They depend on a page, the moment when the request arrived and the moment when they are
-/// sent.
+/// Writes the 48 bytes that a client gets by its code for a request that `read_request` has read. They are the answer for `Pass`,
+/// and a kiss-o'-death packet for the others. They depend on a page, the moment when the request arrived and the moment when they
+/// are sent.
 pub fn write_reply(
     code: Code,
     page: &Page,

@@ -51,8 +51,8 @@ pub record Spells (line : List ℕ) (r : Reduction) : Type 0 where
   pub least : 1 ≤ r.width
   pub most : r.width ≤ 2000000
 
--- of what lines say, the reductions before the first bad line: it says none, or one that does not start after that of the line
--- before it
+-- of what lines say, the reductions before the first bad line. A bad line says none, or one that does not start after that of the
+-- line before it.
 abbrev pub lawful : List (Option Reduction) → List Reduction
 lawful [] = []
 lawful (None ∷ more) = []

@@ -35,8 +35,8 @@ are_parts r next = is_short r.width && is_short next.width && is_between (r.at +
 abbrev pub joined_mark : Reduction → Mark
 joined_mark r = record { at = r.at; symbol = OnlyB }
 
--- in MSF two neighbours that are parts join to one mark, where the first of them does not join with the one before it; a mark
--- whose last part is the last reduction is not given
+-- in MSF two neighbours that are parts join to one mark, where the first of them does not join with the one before it. A mark
+-- whose last part is the last reduction is left out.
 abbrev pub msf_marks : List Reduction → List Mark
 msf_marks [] = []
 msf_marks (r ∷ []) = []

@@ -1,5 +1,5 @@
--- Units: microseconds of the host's counter, spans of 2^-32 s, stamps and shorts (RFC 5905, sections 6 and 7; which way
--- each quotient is rounded is this project's own choice).
+-- Units: microseconds of the host's counter, spans of 2^-32 s, stamps and shorts (RFC 5905, sections 6 and 7). Which way each
+-- quotient is rounded is this project's own choice.
 use Rattle.std.specs.Prelude.{◌-◌, ◌-ℤ◌, ℕ, zero, suc, ◌+◌, ◌*◌, ◌/◌, ◌^◌, ◌≤◌, min, nat_le, ℤ, pos, negsuc, neg_ℤ, unsigned_abs, if◌then◌else◌}
 use Rattle.std.specs.Int.{div_ceil, int_div_euclid, int_rem_euclid}
 

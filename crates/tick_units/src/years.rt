@@ -1,4 +1,4 @@
-//! The supported years: a second in them is told.
+//! The supported years; a second in them counts as told.
 ghost use Rattle.std.specs.Prelude.{◌<◌, ◌≤◌, IsTrue};
 ghost use Rattle.std.specs.Prelude.{◌↔◌};
 ghost use Rattle.tick_units.specs.Years.{first_told, end_of_told};
