@@ -19,7 +19,7 @@ breaks_hour_range time = is_out_of 0 23 time.hour.ones (both_digits time.hour)
 abbrev pub breaks_day_range : CivilTime → Bool
 breaks_day_range civil = is_out_of 1 31 civil.day.ones (both_digits civil.day)
 
--- the weekday is the number that is none in its plan: 0 in DCF77, 7 in MSF
+-- the weekday is the number that is invalid in its plan: 0 in DCF77, 7 in MSF
 abbrev pub breaks_weekday_range : CivilTime → Bool
 breaks_weekday_range civil = civil.weekday == civil.no_weekday
 

@@ -26,7 +26,7 @@ pub struct CivilTime {
     pub day: Number,
     /// Monday 1 to Saturday 6, and Sunday 7 or 0.
     pub weekday: u16,
-    /// The number that is no weekday in this code plan.
+    /// The number that is no valid weekday in this code plan.
     pub no_weekday: u16,
     pub time: TimeOfDay,
     /// How far the clock is ahead of UTC, in hours.

@@ -29,7 +29,7 @@ impl CivilTime {
         self.day.is_out_of(1, 31)
     }
 
-    /// Whether the weekday is the number that is none.
+    /// Whether the weekday is the invalid number.
     pub fn breaks_weekday_range(&self) -> bool
         ensures { result ≡ breaks_weekday_range self.now }
     {

@@ -22,7 +22,7 @@ pub struct Page {
     pub stratum: u8,
     /// What the server takes its time from: four letters, or an IPv4 address.
     pub refid: u32,
-    /// What is to be added to the host's counter to give the time since 1900, at the anchor; never negative.
+    /// What to add to the host's counter to get the time since 1900, at the anchor; never negative.
     pub offset: Span,
     /// The moment for which the page was computed.
     pub anchor: Local,

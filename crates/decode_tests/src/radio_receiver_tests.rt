@@ -124,7 +124,7 @@ fn push_places(list: &mut Vec<Reduction>, begin: u64, places: &Places<'_>) -> Re
     Ok(())
 }
 
-// The last answer to two minutes of DCF77, the second of which begins at about 62 s, and which close at these moments.
+// The last answer to two minutes of DCF77, which close at these moments. The second begins at about 62 s.
 fn after_two(
     alloc: Global,
     before: &[usize],

@@ -10,7 +10,7 @@ use crate::places::Places;
 use crate::rules::is_a_second_on;
 use tick_units::{Local, Mark};
 
-/// The marks of a segment, added one by one and kept as numbers alone.
+/// The marks of a segment, added one by one and kept only as numbers.
 #[derive(Clone, Copy, Debug)]
 pub struct MarkWords {
     places: PlaceBits,

@@ -28,7 +28,7 @@ impl Number {
     }
 }
 
-/// Whether a number whose ones digit is this one is none: that digit is above 9, or the number is not from `least` to `most`.
+/// Whether a number with this ones digit is invalid: that digit is above 9, or the number is not from `least` to `most`.
 pub fn is_out_of(least: u32, most: u32, ones: u16, number: u32) -> bool
     ensures { result ≡ is_out_of least most ones number }
 {

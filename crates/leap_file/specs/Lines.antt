@@ -20,7 +20,7 @@ abbrev pub begins : (ℕ → Bool) → List ℕ → Bool
 begins test [] = false
 begins test (byte ∷ text) = test byte
 
--- a line that has blanks alone, or nothing, or begins with `#`
+-- a line that has only blanks, or nothing, or begins with `#`
 abbrev pub says_nothing : List ℕ → Bool
 says_nothing line = list_all is_blank line || begins is_hash line
 

@@ -18,7 +18,7 @@ abbrev pub EndsIn : (returned : Bool) → Part → List ℕ → Type 0
 EndsIn true part text = (front : List ℕ) × (text ≡ front ++ 13 ∷ []) × (part ≡ part_of front)
 EndsIn false part text = (strip_carriage_return text ≡ text) × (part ≡ part_of text)
 
--- what is kept of a line is what it has come to
+-- what is kept of a line is how far it has come
 abbrev pub IsLine : Line → List ℕ → Type 0
 IsLine line text = EndsIn line.returned line.part text
 

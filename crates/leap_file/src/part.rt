@@ -15,7 +15,7 @@ const DTAI_DIGITS: u8 = 3;
 /// What a line says.
 #[derive(Clone, Copy, Debug, PartialEq, Eq)]
 pub enum LeapLine {
-    /// No row: it has blanks alone, or begins with `#`.
+    /// No row: it has only blanks, or begins with `#`.
     Nothing,
     /// A row.
     Numbers(Row),
@@ -28,7 +28,7 @@ pub enum LeapLine {
 pub enum Part {
     /// It has no byte.
     Start,
-    /// It has blanks alone.
+    /// It has only blanks.
     Blank,
     /// It begins with `#`.
     Remark,

@@ -1,4 +1,4 @@
-//! Headers that were dissected by hand, and their bytes.
+//! Headers that were decoded by hand, and their bytes.
 use ntp_packet::{Header, read, write};
 use std::process::Abort;
 use tick_units::{Short, Stamp};
@@ -67,7 +67,7 @@ fn a_request_of_timesyncd(rt: HostRuntime) {
     assert_spells(&rt, bytes, header);
 }
 
-// An answer of a server of stratum 2, dissected by hand. It has a leap second at the end of the day, a root delay of 1/256 s, a
+// An answer of a server of stratum 2, decoded by hand. It has a leap second at the end of the day, a root delay of 1/256 s, a
 // root dispersion of 1/128 s. Its clock was last set from 10.0.0.1 at noon of 2026-01-01. Each number has bytes of its own.
 #[test]
 fn an_answer_of_a_server(rt: HostRuntime) {

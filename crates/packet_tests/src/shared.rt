@@ -1,4 +1,4 @@
-//! What the tests of packets share: a moment, a request, the page of a radio, and what its server replies.
+//! What the tests of packets share: a moment, a request, the page of a radio, and its server's replies.
 ghost use Rattle.std.specs.Prelude.{◌≡◌, IfOk};
 
 use clock_page::Page;

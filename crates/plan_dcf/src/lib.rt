@@ -11,9 +11,9 @@
 //! | 11 | the two bits of the time zone are equal |
 //! | 12 | the time bit is 0 |
 //! | 13, 14, 15 | the parity of the minute, of the hour or of the date is odd |
-//! | 16, 17, 18 | the minute, the hour or the day of the month is none |
+//! | 16, 17, 18 | the minute, the hour or the day of the month is invalid |
 //! | 19 | the weekday is 0 |
-//! | 20, 21 | the month or the year is none |
+//! | 20, 21 | the month or the year is invalid |
 //! | 22 | the year has no such month and day |
 //! | 23 | the weekday is not that of the date |
 //! | 24 | a 60th mark is there, or is missing, against what is announced, or it is 1 |

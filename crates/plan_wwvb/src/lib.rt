@@ -11,7 +11,7 @@
 //! | 50 | a marker is not Long, or another place is |
 //! | 51 | a place that is always 0 is 1 |
 //! | 52 | the sign of DUT1 is neither plus nor minus |
-//! | 53, 54, 55 | the minute, the hour or the year is none |
+//! | 53, 54, 55 | the minute, the hour or the year is invalid |
 //! | 56 | the year has no such day |
 //! | 58 | a leap second is announced in the last minute of a month |
 //!

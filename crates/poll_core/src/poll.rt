@@ -17,8 +17,8 @@ use tick_units::{Local, Sample, Stamp};
 
 /// The exchanges of one poller with one server (RFC 5905, section 8).
 ///
-/// A request is outstanding from when it is made until an answer to it is accepted or another request is made. A refused answer
-/// changes nothing, so a late or a strange datagram does not spoil the exchange.
+/// A request is outstanding until an answer to it is accepted or another request is made. A refused answer changes nothing, so a
+/// late or a strange datagram does not spoil the exchange.
 #[derive(Debug, Drop)]
 pub struct Poll {
     server: Address,

@@ -1,4 +1,4 @@
--- What it is to write a text to a sink. A write may take a part of what it is given, or fail.
+-- What writing a text to a sink means. A write may take a part of what it is given, or fail.
 use Rattle.std.specs.Prelude.{◌≡◌, ℕ, List, ◌++◌}
 use Rattle.feed_link.specs.Faults.{RoseByOne}
 use Rattle.feed_link.specs.Told.{SinkState, Adds}
