@@ -10,7 +10,7 @@ const END_OF_2016: u64 = 3_692_217_600;
 
 const END_OF_JUNE_2015: u64 = 3_644_697_600;
 
-// The places that are One but for the announcement, by PTB's table: 1 January 2017, 00:58 and 00:59 CET.
+// The places that are One except for the announcement, by PTB's table: 1 January 2017, 00:58 and 00:59 CET.
 const WINTER: [usize; 16] = [
     18, 20, 24, 25, 27, 28, 36, 42, 43, 44, 45, 50, 51, 52, 54, 58,
 ];

@@ -107,7 +107,7 @@ const BEFORE_LEAP: [usize; 17] = [
 
 const LEAP: [usize; 15] = [18, 19, 20, 29, 35, 36, 42, 43, 44, 45, 50, 51, 52, 54, 58];
 
-// The second marks of a minute of DCF77 but the first: those that are One, how many there are, and how far they are apart.
+// The second marks of a minute of DCF77 except the first: those that are One, how many there are, and how far they are apart.
 #[derive(Clone, Copy)]
 struct Places<'a> {
     ones: &'a [usize],

@@ -90,7 +90,7 @@ impl Spelling {
         &self.symbols[..self.count]
     }
 
-    /// Writes the symbols to the beginning of `out`, whose rest stays, and returns their number.
+    /// Writes the symbols to the beginning of `out`, and returns their number. The rest of `out` stays.
     pub fn write_to(&self, out: &mut [Symbol; 61]) -> usize
         ensures count { result ≡ length self.now }
         ensures written { out.new ≡ self.now ++ drop (length self.now) out.old }

@@ -48,6 +48,6 @@ rows whole bytes = rows_behind None (map line_says (lines_read whole bytes))
 abbrev pub bad_line : Bool → List ℕ → Option ℕ
 bad_line whole bytes = bad_behind None 1 (map line_says (lines_read whole bytes))
 
--- the seconds at which leap seconds end: those of the rows but the first
+-- the seconds at which leap seconds end: those of the rows except the first
 abbrev pub leap_seconds : Bool → List ℕ → List ℕ
 leap_seconds whole bytes = map (λ row. row.second) (drop 1 (rows whole bytes))

@@ -61,7 +61,7 @@ fn a_sink_in_memory_fails_at_its_calls_and_adds_nothing(rt: HostRuntime) -> Resu
     Ok(())
 }
 
-// Two logs in memory, of which the opening of this number fails.
+// An outside with two logs in memory; its opening of this number fails.
 fn two_logs(alloc: Global, failing: u64) -> Result<MemoryOutside<OpenGate>, Fail> {
     let mut logs = Vec::new(alloc);
     for (name, text) in [("a", "1"), ("b", "2")] {

@@ -219,7 +219,7 @@ fn of_a_longer_datagram_1024_bytes_are_heard(rt: HostRuntime) -> Result<(), Fail
     Ok(())
 }
 
-// An outside with two links, whose opening of this number fails.
+// An outside with two links; its opening of this number fails.
 fn two_links(alloc: Global, failing: u64) -> Result<MemoryOutside<OpenGate>, Fail> {
     let mut links = Vec::new(alloc);
     links.push(link(alloc, 0, AMPLE)?)?;

@@ -40,7 +40,7 @@ abbrev pub start_of : List Mark → ℕ
 start_of [] = 0
 start_of (mark ∷ marks) = mark.at
 
--- each piece but the last, with the start of the piece after it
+-- each piece except the last, with the start of the piece after it
 abbrev pub closed : List (List Mark) → List Segment
 closed [] = []
 closed (piece ∷ []) = []

@@ -38,7 +38,7 @@ breaks_hour_parity marks = is_odd_over is_one marks 29 35
 abbrev pub breaks_date_parity : List Mark → Bool
 breaks_date_parity marks = is_odd_over is_one marks 36 58
 
--- a minute that ends with a leap second has a mark more, and only that one has
+-- a minute that ends with a leap second has a mark more, and no other has
 abbrev pub is_leap_minute : List Mark → Bool
 is_leap_minute marks = announces_leap marks && begins_month (minute_start (said marks))
 

@@ -185,7 +185,7 @@ fn each_rule_is_broken_alone(rt: HostRuntime) -> Result<(), Fail> {
     Ok(())
 }
 
-// Changes of the frame of NEW_YEAR, each of which breaks the rule beside it alone. The rules 21 and 22, and 22 and 23, are never
+// Changes of the frame of NEW_YEAR. Each breaks the rule beside it and no other. The rules 21 and 22, and 22 and 23, are never
 // broken at once. A rule on a date counts as unbroken where no date is said.
 const BREAKS: [(&[usize], u8); 12] = [
     (&[0], 10),

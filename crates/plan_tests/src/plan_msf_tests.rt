@@ -71,7 +71,7 @@ fn symbol(a: bool, b: bool) -> Symbol {
     }
 }
 
-// Marks a second apart, of which these bits are 1, but for those that are changed. The first is the minute mark.
+// Marks a second apart, of which these bits are 1, except for the changed ones. The first is the minute mark.
 fn frame(ones: Ones, changed: Ones) -> Result<[Mark; 61], Fail> {
     let mut marks = [Mark {
         at: moment(0)?,
@@ -177,7 +177,7 @@ fn each_rule_is_broken_alone(rt: HostRuntime) -> Result<(), Fail> {
     Ok(())
 }
 
-// Changes of the frame of NEW_YEAR, each of which breaks the rule beside it alone. The rules 40 and 41, and 41 and 42, are never
+// Changes of the frame of NEW_YEAR. Each breaks the rule beside it and no other. The rules 40 and 41, and 41 and 42, are never
 // broken at once. A rule on a date counts as unbroken where no date is said.
 const BREAKS: [(Ones, u8); 11] = [
     (Ones { a: &[52], b: &[] }, 30),

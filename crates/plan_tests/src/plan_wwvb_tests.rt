@@ -40,7 +40,7 @@ const JUNE: [usize; 16] = [1, 6, 7, 13, 16, 17, 18, 23, 25, 33, 36, 38, 48, 51, 
 
 const MARKERS: [usize; 7] = [0, 9, 19, 29, 39, 49, 59];
 
-// Marks a second apart with the markers, of which these are One, but for those that are changed.
+// Marks a second apart with the markers, of which these are One, except for the changed ones.
 fn frame(ones: &[usize], changed: &[usize]) -> Result<[Mark; 61], Fail> {
     let mut marks = [Mark {
         at: moment(0)?,
@@ -168,8 +168,8 @@ fn markers_are_long_and_no_other_place(rt: HostRuntime) -> Result<(), Fail> {
     Ok(())
 }
 
-// Changes of the frame of NEW_YEAR, each of which breaks the rule beside it alone. The rules 56 and 58 are never broken at once.
-// A rule on a date counts as unbroken where no date is said.
+// Changes of the frame of NEW_YEAR. Each breaks the rule beside it and no other. The rules 56 and 58 are never broken at once. A
+// rule on a date counts as unbroken where no date is said.
 const BREAKS: [(&[usize], u8); 6] = [
     (&[4], 51),
     (&[38], 52),

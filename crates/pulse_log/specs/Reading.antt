@@ -31,7 +31,7 @@ pub record TakesFront (new : LineReader) (bytes front : List ℕ) (result : Resu
       (λ found. (bad_line (bytes ++ front) ≡ None) × (pulses (bytes ++ front) ≡ pulses bytes ++ option_to_list found))
       (λ bad. (bad_line (bytes ++ front) ≡ Some bad.line) × (pulses (bytes ++ front) ≡ pulses bytes))
 
--- the same with the next byte alone
+-- the same with only the next byte
 abbrev pub TakesByte : LineReader → List ℕ → ℕ → Result (Option Reduction) BadLine → Type 0
 TakesByte new bytes byte result = TakesFront new bytes (byte ∷ []) result
 

@@ -41,7 +41,7 @@ const ROWS: [&[u8]; 28] = [
     b"3692217600      37      # 1 Jan 2017\n",
 ];
 
-// Python's datetime gave the second of the date in each row's remark, but for the first row.
+// Python's datetime gave the second of the date in each row's remark, except for the first row.
 const SECONDS: [u64; 27] = [
     2287785600, 2303683200, 2335219200, 2366755200, 2398291200, 2429913600, 2461449600, 2492985600,
     2524521600, 2571782400, 2603318400, 2634854400, 2698012800, 2776982400, 2840140800, 2871676800,

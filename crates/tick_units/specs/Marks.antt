@@ -13,7 +13,7 @@ use Rattle.tick_units.specs.declared.marks.Symbol.TheVariants.{Zero, One, OnlyB,
 abbrev pub is_between : ℕ → ℕ → ℕ → Bool
 is_between least most n = nat_le least n && nat_le n most
 
--- the reduction of an MSF second in which neither bit is 1, and each part of one in which bit B alone is
+-- the reduction of an MSF second in which neither bit is 1, and each part of one in which only bit B is 1
 abbrev pub is_short : ℕ → Bool
 is_short width = is_between 40000 149999 width
 
