@@ -142,6 +142,7 @@ fn add_net(nets: &mut Vec<DeniedNet>, place: usize, item: &Value) -> Result<(), 
     }
 }
 
+// The radios of these tables, in order; else the first bad value among them, or lack of memory.
 pub fn read_radios(alloc: Global, items: &[Value]) -> Result<Vec<Radio>, KeyFault<'static>>
     requires { keys_at missing_in (sheets Part.Radio (tables_from 0 (items_view items.now))) ≡ [] }
     ensures read { IfOk result (λ v. Adds Part.Radio radio_of (tables_from 0 (items_view items.now)) [] (map radio_kept v.items)) }
@@ -154,6 +155,7 @@ pub fn read_radios(alloc: Global, items: &[Value]) -> Result<Vec<Radio>, KeyFaul
     Ok(radios)
 }
 
+// The servers of these tables, in order; else the first bad value among them, or lack of memory.
 pub fn read_servers(alloc: Global, items: &[Value]) -> Result<Vec<ServerRow>, KeyFault<'static>>
     requires { keys_at missing_in (sheets Part.Server (tables_from 0 (items_view items.now))) ≡ [] }
     ensures read { IfOk result (λ v. Adds Part.Server server_of (tables_from 0 (items_view items.now)) [] (map server_fields v.items)) }
@@ -166,6 +168,7 @@ pub fn read_servers(alloc: Global, items: &[Value]) -> Result<Vec<ServerRow>, Ke
     Ok(servers)
 }
 
+// The ports of the serving links of these tables, in order; else the first bad value among them, or lack of memory.
 pub fn read_links(alloc: Global, items: &[Value]) -> Result<Vec<u16>, KeyFault<'static>>
     requires { keys_at missing_in (sheets Part.Link (tables_from 0 (items_view items.now))) ≡ [] }
     ensures read { IfOk result (λ v. Adds Part.Link (number_at port_row) (tables_from 0 (items_view items.now)) [] v.items) }
@@ -178,6 +181,8 @@ pub fn read_links(alloc: Global, items: &[Value]) -> Result<Vec<u16>, KeyFault<'
     Ok(links)
 }
 
+// The keys of these tables, in order; else the first bad value among them, or lack of memory. An identifier that an earlier
+// key has is bad too.
 pub fn read_keys(alloc: Global, items: &[Value]) -> Result<Vec<SharedKey>, KeyFault<'static>>
     requires { keys_at missing_in (sheets Part.Key (tables_from 0 (items_view items.now))) ≡ [] }
     ensures read { IfOk result (λ v. AddsKeys (tables_from 0 (items_view items.now)) [] (map key_kept v.items)) }
@@ -190,6 +195,7 @@ pub fn read_keys(alloc: Global, items: &[Value]) -> Result<Vec<SharedKey>, KeyFa
     Ok(keys)
 }
 
+// The denied nets of these tables, in order; else the first bad value among them, or lack of memory.
 pub fn read_nets(alloc: Global, items: &[Value]) -> Result<Vec<DeniedNet>, KeyFault<'static>>
     requires { keys_at missing_in (sheets Part.Deny (tables_from 0 (items_view items.now))) ≡ [] }
     ensures read { IfOk result (λ v. Adds Part.Deny net_of (tables_from 0 (items_view items.now)) [] (map net_kept v.items)) }

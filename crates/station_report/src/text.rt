@@ -138,7 +138,8 @@ fn write_lines<K: Sink>(done: &Done, out: &mut K) -> Result<(), Failed>
     write_links(done.links.as_slice(), out)
 }
 
-// Writes what a station has left: its journal, its links, the page of the journal, and the status line.
+/// Writes what a station has left: its journal, its links, the page of the journal, and the status line. Returns the status, which
+/// is `WriteFault` where a write fails.
 pub fn finish_served<K: Sink>(station: &Station, done: &Done, limit: u32, out: &mut K) -> Status
     requires { HasEach station.now done.now }
     ensures { FinishesDone limit done.now (K.state out.old) (K.state out.new) result }

@@ -62,6 +62,7 @@ pub fn word_said(at: Local, what: &What) -> Option<Word>
     }
 }
 
+// The verdict that an entry is, if it is one: its moment and its second since 1900.
 pub fn verdict_said(at: Local, what: &What) -> Option<Verdict>
     ensures { result ≡ verdict_in at what.now }
 {

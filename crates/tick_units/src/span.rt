@@ -72,7 +72,7 @@ impl Span {
         self.units.abs_diff(other.units)
     }
 
-    /// The square of the number of units between the two, which counts as at most 2^40 (256 s).
+    /// The square of the number of units between the two; that number counts as at most 2^40 (256 s).
     pub fn squared_apart(self, other: Span) -> u128
         ensures value { result ≡ square self other }
         ensures small { result ≤ 2 ^ 80 }

@@ -8,7 +8,7 @@ use super::subject::Subject;
 use arrayvec::ArrayVec;
 use itoa::Buffer;
 
-// A status line that names no key of a station file, with its line feed.
+/// A status line that names no key of a station file, with its line feed: at most 80 bytes.
 pub type Line = ArrayVec<u8, 80>;
 
 // Adds a text to a line.
