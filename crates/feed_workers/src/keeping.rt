@@ -1,4 +1,4 @@
-//! Keeping an entry that is due.
+//! Keeps an entry that is due.
 ghost use Rattle.std.specs.Prelude.{◌≡◌, ◌++◌, ◌∷◌, [], List, length};
 ghost use Rattle.journal_entry.specs.Lawful.{IsLawfulWhat};
 ghost use Rattle.journal_entry.specs.declared.entry.Entry.{Entry};
@@ -36,7 +36,7 @@ fn offer<N: HubName, R: Wait>(
     }
 }
 
-// Keeps an entry that is due, where there is room, and passes the gate before it and behind it.
+// Keeps an entry that is due, where there is room, and passes the gate before it and after it.
 pub fn keep<N: HubName, R: Wait, G: Gate>(
     rt: &R,
     hub: &Hub<N>,

@@ -74,7 +74,7 @@ fn take_byte<N: HubName, R: Wait, G: Gate>(
     }
 }
 
-// Takes a piece of a file, up to a bad line: that line, where there is one.
+// Takes a piece of a file, up to a bad line, and answers with that line, where there is one.
 fn take_piece<N: HubName, R: Wait, G: Gate>(
     rt: &R,
     hub: &Hub<N>,
@@ -99,7 +99,7 @@ fn take_piece<N: HubName, R: Wait, G: Gate>(
     None
 }
 
-// The file has come to its end: keeps the notice of a last line without its line feed. How the file ends.
+// At the end of the file: keeps the notice of a last line without its line feed, and answers how the file ends.
 fn finish_list<N: HubName, R: Wait, G: Gate>(
     rt: &R,
     hub: &Hub<N>,
@@ -123,7 +123,7 @@ fn finish_list<N: HubName, R: Wait, G: Gate>(
     }
 }
 
-// Reads a file to its end, to its first bad line, to its first fault or to 2^16 bytes, and keeps the entries that are due.
+// Reads a file to its end, a bad line, a fault or 2^16 bytes, whichever comes first, and keeps the entries that are due.
 fn read_list<L: Source, N: HubName, R: Wait, G: Gate>(
     rt: &R,
     hub: &Hub<N>,
@@ -174,8 +174,8 @@ fn read_list<L: Source, N: HubName, R: Wait, G: Gate>(
     }
 }
 
-/// The worker of a leap second file: it reads the published list of leap seconds, and keeps a notice of each at the station's first
-/// moment.
+/// The worker of a leap second file: it reads the published list of leap seconds, and keeps a notice of each at the station's
+/// first moment.
 #[derive(Drop)]
 pub struct LeapWorker<L: Drop> {
     pub(crate) log: L,
@@ -191,8 +191,8 @@ impl<L: Source + Drop> LeapWorker<L> {
         LeapWorker { log, start, pass }
     }
 
-    /// Reads the file to its end, to its first bad line, to its first fault or to 65536 bytes, and keeps a notice of each leap second
-    /// where there is room.
+    /// Reads the file to its end, a bad line, a fault or 65536 bytes, whichever comes first. It keeps a notice of each leap
+    /// second where there is room.
     pub fn run<N: HubName, R: Wait, G: Gate>(&mut self, rt: &R, hub: &Hub<N>, gate: &G) -> LogWork
         requires pass { IsOfFeed N.table (length N.settings.sources) (claim_of self.old.pass.view).number self.old.pass }
         ensures log { L.opening self.new.log ≡ L.opening self.old.log }
@@ -204,7 +204,7 @@ impl<L: Source + Drop> LeapWorker<L> {
         read_list(rt, hub, gate, log, *start, pass)
     }
 
-    /// Gives the file and the pass back.
+    /// Gives back the file and the pass.
     pub fn give_back(self) -> (L, FeedPass)
         ensures { (result.0 ≡ self.log) × (result.1 ≡ self.pass) }
     {

@@ -26,7 +26,7 @@ use verdict_journal::{Hub, HubName};
 // The most hearings of a round.
 const HEARINGS: u32 = 8;
 
-/// The worker of a server: it polls it so many times, and keeps the entries of its feed.
+/// The worker of a server: it polls it this many times, and keeps the entries of its feed.
 #[derive(Drop)]
 pub struct PollWorker<L: Drop> {
     pub(crate) server: Address,
@@ -35,7 +35,7 @@ pub struct PollWorker<L: Drop> {
     pub(crate) pass: FeedPass,
 }
 
-// What one hearing of a round came to.
+// The result of one hearing of a round.
 #[derive(Clone, Copy)]
 enum Heard {
     // A datagram that was refused: the round goes on.
@@ -48,7 +48,7 @@ enum Heard {
     Fault,
 }
 
-// What a datagram is in the journal, and whether it is an answer that was accepted.
+// What a datagram is in the journal, and whether it is an accepted answer.
 #[derive(Drop)]
 struct Judged {
     what: What,
@@ -79,7 +79,7 @@ fn judge_datagram(poll: &mut Poll, arrival: &Arrival, bytes: &[u8]) -> Judged
     }
 }
 
-// Hears once, and keeps the entry of a datagram.
+// One hearing; keeps the entry of a datagram.
 fn hear_once<L: Link, N: HubName, R: Wait, G: Gate>(
     rt: &R,
     hub: &Hub<N>,
@@ -114,7 +114,7 @@ fn hear_once<L: Link, N: HubName, R: Wait, G: Gate>(
     }
 }
 
-// Makes one poll: why the polling ends with it, if it does.
+// Makes one poll, and answers why the polling ends with it, if it does.
 fn poll_once<L: Link, N: HubName, R: Wait, G: Gate>(
     rt: &R,
     hub: &Hub<N>,
@@ -154,7 +154,7 @@ fn poll_once<L: Link, N: HubName, R: Wait, G: Gate>(
 }
 
 impl<L: Link + Drop> PollWorker<L> {
-    /// A worker that polls this server so many times over a link, with the pass of its feed.
+    /// A worker that polls this server this many times over a link, with the pass of its feed.
     pub fn new(server: Address, polls: u32, link: L, pass: FeedPass) -> PollWorker<L>
         ensures is { (result.link ≡ link) × (result.pass ≡ pass) }
         ensures asks { (result.server ≡ server) × (result.polls ≡ polls) }
@@ -167,9 +167,9 @@ impl<L: Link + Drop> PollWorker<L> {
         }
     }
 
-    /// Makes its polls, until the link ends or fails, and keeps each entry that is due where there is room. A poll takes the link's
-    /// moment, sends a request to the server, and hears until an answer is accepted, nothing comes for a while, or eight hearings were
-    /// made.
+    /// Makes its polls, until the link ends or fails, and keeps each entry that is due where there is room. A poll takes the
+    /// link's moment and sends a request to the server. It goes on until it accepts an answer, a hearing gives nothing, or it has
+    /// made eight hearings.
     pub fn run<N: HubName, R: Wait, G: Gate>(&mut self, rt: &R, hub: &Hub<N>, gate: &G) -> PollWork
         requires { IsOfFeed N.table (length N.settings.sources) (claim_of self.old.pass.view).number self.old.pass }
         ensures link { L.opening self.new.link ≡ L.opening self.old.link }
@@ -200,7 +200,7 @@ impl<L: Link + Drop> PollWorker<L> {
         }
     }
 
-    /// Gives the link and the pass back.
+    /// Gives back the link and the pass.
     pub fn give_back(self) -> (L, FeedPass)
         ensures { (result.0 ≡ self.link) × (result.1 ≡ self.pass) }
     {

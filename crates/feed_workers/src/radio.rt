@@ -33,7 +33,7 @@ pub struct WorkerOf<L: Drop, R: Drop> {
 /// The worker of a radio: it decodes a log, and keeps the entries of its feed.
 pub type RadioWorker<L> = WorkerOf<L, BoxedReceiver>;
 
-// How many bytes were taken, and the line that isn't lawful, where there is one among them.
+// How many bytes were taken, and the first invalid line among them, where there is one.
 #[derive(Clone, Copy)]
 struct Took {
     count: usize,
@@ -76,7 +76,7 @@ fn take_line<N: HubName, R: Wait, G: Gate>(
     }
 }
 
-// Takes a piece of a log, up to a bad line: that line, where there is one.
+// Takes a piece of a log, up to a bad line, and answers with that line, where there is one.
 fn hear_piece<N: HubName, R: Wait, G: Gate>(
     rt: &R,
     hub: &Hub<N>,
@@ -116,7 +116,7 @@ fn at_end(decoder: &LogDecoder<BoxedReceiver>) -> LogEnd
     }
 }
 
-// Reads a log of at most so many bytes, to its end, to its first bad line or to its first fault, and keeps the entries that are due.
+// Reads a log of at most this many bytes, to its end, a bad line or a fault, and keeps the entries that are due.
 pub fn read_log<L: Source, N: HubName, R: Wait, G: Gate>(
     rt: &R,
     hub: &Hub<N>,
@@ -173,7 +173,7 @@ pub fn read_log<L: Source, N: HubName, R: Wait, G: Gate>(
 }
 
 impl<L: Source + Drop> WorkerOf<L, BoxedReceiver> {
-    /// A worker over a log, with a receiver that has heard nothing and the pass of its feed.
+    /// A worker over a log, with a receiver that has received nothing and the pass of its feed.
     pub fn new(receiver: BoxedReceiver, log: L, pass: FeedPass) -> RadioWorker<L>
         requires { least_start receiver ≡ 0 }
         ensures is { (result.log ≡ log) × (result.pass ≡ pass) }
@@ -186,8 +186,8 @@ impl<L: Source + Drop> WorkerOf<L, BoxedReceiver> {
         WorkerOf { decoder, log, pass }
     }
 
-    /// Reads the log to its end, to its first bad line, to its first fault or to 2^30 bytes, and keeps each entry that is due where there
-    /// is room. A worker that has decoded nothing yet keeps the entries of all that it reads.
+    /// Reads the log to its end, a bad line, a fault or 2^30 bytes, whichever comes first. It keeps each entry that is due where
+    /// there is room. A worker that has decoded nothing yet keeps the entries of all that it reads.
     pub fn run<N: HubName, R: Wait, G: Gate>(&mut self, rt: &R, hub: &Hub<N>, gate: &G) -> LogWork
         requires ready { IsReady least_start self.old.decoder }
         requires pass { IsOfFeed N.table (length N.settings.sources) (feed_of self.old.decoder) self.old.pass }
@@ -200,7 +200,7 @@ impl<L: Source + Drop> WorkerOf<L, BoxedReceiver> {
         read_log(rt, hub, gate, decoder, log, pass, LIMIT)
     }
 
-    /// Gives the log and the pass back. The receiver is dropped.
+    /// Gives back the log and the pass. The receiver is dropped.
     pub fn give_back(self) -> (L, FeedPass)
         ensures { (result.0 ≡ self.log) × (result.1 ≡ self.pass) }
     {

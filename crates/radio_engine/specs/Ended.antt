@@ -1,4 +1,4 @@
--- Scaffolding: what the crew of a station leaves, all in one.
+-- Scaffolding: all that the crew of a station leaves.
 use Rattle.std.specs.Prelude.{ℕ}
 use Rattle.feed_link.specs.Told.{SourceState, LinkState}
 use Rattle.station_config.specs.Station.{StationFields}

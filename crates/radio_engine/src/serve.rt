@@ -1,4 +1,4 @@
-//! `serve`: a station is served, and then its journal is written, what became of its links, and the page of the journal.
+//! `serve`: serves a station, and then writes its journal, how its links ended, and the page of the journal.
 ghost use Rattle.std.specs.Prelude.{◌≡◌, ◌<◌, ◌≤◌, ◌⊎◌, [], All, IfOk, MatchResult, false, true, length, vec_len};
 ghost use Rattle.radio_engine.specs.Ended.{EndsAll};
 ghost use Rattle.station_report.specs.Crewing.{GivesServed, GivesUnused, TriesServe, subject_of};
@@ -25,14 +25,14 @@ use std::alloc::{AllocError, Global};
 use std::sync::Wait;
 use std::thread::Threads;
 
-// What a station is served with: the receivers of its radios, and its logs and links or room for them.
+// The equipment for serving a station: the receivers of its radios, and its logs and links or room for them.
 #[derive(Drop)]
 pub struct Kit<L: Drop, T: Drop> {
     pub receivers: Vec<BoxedReceiver>,
     pub gear: Gear<L, T>,
 }
 
-// What stands for a missing log or link in the status line.
+// The subject of the status line for a missing log or link.
 fn subject_of(station: &Station, missing: Missing) -> Subject
     ensures { result ≡ subject_of station.now missing }
 {
@@ -185,7 +185,7 @@ fn serve<R: Threads + Wait + Sync, O: Outside>(
     }
 }
 
-// Serves a station by its name: what was done is written once all is given back.
+// Serves a station by its name, and writes what was done once all is given back.
 pub fn run_serve<R: Threads + Wait + Sync, O: Outside, K: Sink>(
     rt: &R,
     alloc: Global,

@@ -60,7 +60,7 @@ fn link(alloc: Global, station: &Station, place: usize) -> Result<Option<Place>,
     }
 }
 
-// What a station calls a subject. Files that the arguments name are not its own.
+// What a station calls a subject. Files that the arguments name do not belong to it.
 fn place_in(
     alloc: Global,
     station: &Station,
@@ -73,7 +73,7 @@ fn place_in(
     }
 }
 
-// The station of a file, which is read once more. A pipe is not, since it gives its bytes once.
+// The station of a file, which is read a second time. A pipe is not, since it gives its bytes once.
 fn station_of(rt: &HostRuntime, name: &str) -> Option<Station> {
     if !fs::metadata(rt, name).ok()?.is_file() {
         return None;
@@ -89,7 +89,7 @@ fn find_place(rt: &HostRuntime, arguments: &[Argument<'_>], last_line: &str) -> 
     place_in(rt.alloc(), &station, subject).ok()?
 }
 
-// Writes what is to be said, where memory is found for it.
+// Writes the message, where there is memory for it.
 fn try_report<W: Write + Drop>(
     rt: &HostRuntime,
     words: &[String],
@@ -110,8 +110,8 @@ fn try_report<W: Write + Drop>(
     Ok(())
 }
 
-/// Says on standard error what a person needs to know of a run that has ended: what is wrong, where that can be told, or the help. Where
-/// no memory is found for it, that is said alone.
+/// Writes on standard error what a person needs to know of a run that has ended: what is wrong, where that can be named, or the
+/// help. Where there is not enough memory for it, the message says only that.
 pub fn write_report<W: Write + Drop>(
     rt: &HostRuntime,
     words: &Result<Vec<String>, AllocError>,

@@ -1,4 +1,4 @@
-//! Hearing, reading, answering: turn after turn.
+//! Turn after turn: one hearing, one reading, one answer.
 ghost use Rattle.std.specs.Prelude.{◌≡◌, ◌<◌, ◌-◌, ◌^◌, ◌∷◌, []};
 ghost use Rattle.std.specs.Bool.{OnTrue, OnFalse};
 ghost use Rattle.feed_link.specs.Told.NetEvent.{Came};
@@ -14,16 +14,17 @@ use page_cell::{PageCell, ReadPass};
 use sealed_reply::Request;
 use std::sync::Wait;
 
-// Responders have these numbers and their own at the gate.
+// The numbers of responders at the gate begin here.
 const AT_GATE: u32 = 100;
 
-// The places of the gate that a responder passes: after it has heard a datagram, and after it has sent a reply.
+// The places of the gate that a responder passes: after it has received a datagram, and after it has sent a reply.
 const HEARD: u8 = 2;
 
 const SENT: u8 = 3;
 
 impl<L: Link + Drop> Responder<L> {
-    /// A responder on a link, with a reader's pass, the keys of the station and a gate of clients. Its number, from 0, is below 8.
+    /// A responder on a link, with a reader's pass, the keys of the station and a gate of clients. Its number, from 0, is below
+    /// 8.
     pub fn new(
         link: L,
         pass: ReadPass,
@@ -43,7 +44,7 @@ impl<L: Link + Drop> Responder<L> {
         }
     }
 
-    // Answers a datagram that came, of which the hearing is past. True where another turn may come.
+    // Answers a datagram that came; its hearing is over. True where another turn may come.
     fn answer<R: Wait, G: Gate>(
         &mut self,
         rt: &R,
@@ -118,12 +119,12 @@ impl<L: Link + Drop> Responder<L> {
         }
     }
 
-    /// Serves for so many hearings, or until the link ends or fails. Each datagram that comes passes place 2 of the gate; then the page
-    /// is read, then the link's moment is taken. A datagram that is no request of a client is dropped. Else its sender is judged, and gets
-    /// the answer or a kiss code, sealed as the datagram is. After a sending it passes place 3. Where no page could be read, the datagram
-    /// is left.
+    /// Serves for this many hearings, or until the link ends or fails. Each datagram that comes passes place 2 of the gate. Then
+    /// the responder reads the page, and takes the link's moment. It drops a datagram that is no request of a client. It judges
+    /// the sender of any other, which gets the answer or a kiss code, sealed as the datagram is. After a sending it passes place
+    /// 3. Where it could read no page, it leaves the datagram.
     ///
-    /// It takes memory for each client that the table of its gate of clients is to keep and doesn't know.
+    /// It takes memory for each client that the table of its gate of clients is to keep and does not know.
     pub fn serve<R: Wait, G: Gate>(
         &mut self,
         rt: &R,
@@ -159,7 +160,7 @@ impl<L: Link + Drop> Responder<L> {
         self.keys
     }
 
-    /// Gives the link and the pass back, and the gate of clients as the calls so far left it.
+    /// Gives back the link and the pass, and the gate of clients as the calls so far left it.
     pub fn give_back(self) -> (L, ReadPass, ClientGate)
         ensures { (result.0 ≡ self.link) × (result.1 ≡ self.pass) × (result.2 ≡ self.clients) }
     {

@@ -27,7 +27,7 @@ pub enum Fault<'a> {
     },
 }
 
-// The first option that there is not, or that has no value.
+// The first option that does not exist, or that has no value.
 fn bad_option<'a>(arguments: &[Argument<'a>]) -> Option<Fault<'a>> {
     for argument in arguments {
         match *argument {
@@ -56,7 +56,7 @@ fn command<'a>(arguments: &[Argument<'a>]) -> Result<Shape, Fault<'a>> {
     shape_of(word).ok_or(Fault::UnknownCommand(word))
 }
 
-// How often an option was given, up to twice.
+// How many times an option was given, up to twice.
 fn is_given_twice(arguments: &[Argument<'_>], option: &str) -> bool {
     let mut is_given = false;
     for argument in arguments {
@@ -92,7 +92,7 @@ fn option_fault<'a>(
     Some(Fault::Wants { option, wants })
 }
 
-// The first option that a command needs and has not.
+// The first option that a command needs and does not have.
 fn missing<'a>(arguments: &[Argument<'a>], shape: Shape) -> Option<Fault<'a>> {
     for option in shape.needs {
         if value_of(arguments, option).is_none() {
@@ -105,7 +105,7 @@ fn missing<'a>(arguments: &[Argument<'a>], shape: Shape) -> Option<Fault<'a>> {
     None
 }
 
-/// The first fault of the arguments, where one can be told.
+/// The first fault of the arguments, where one can be named.
 pub fn fault_of<'a>(arguments: &[Argument<'a>]) -> Option<Fault<'a>> {
     if let Some(fault) = bad_option(arguments) {
         return Some(fault);

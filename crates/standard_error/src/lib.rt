@@ -1,5 +1,5 @@
-//! What a person reads on standard error after a command has ended: what is wrong, where that can be told, and the help. No proof
-//! speaks of these texts, and nothing else depends on them.
+//! What a person reads on standard error after a command has ended: what is wrong, where that can be named, and the help. No
+//! proof speaks of these texts, and nothing else depends on them.
 #![tactic(auto)]
 
 mod arguments;

@@ -1,4 +1,4 @@
-//! What is said of a run that has ended.
+//! The message about a run that has ended.
 
 use crate::arguments::{Argument, value_of};
 use crate::fault::fault_of;
@@ -17,13 +17,13 @@ pub struct Place {
     pub is_leap_file: bool,
 }
 
-/// A run that has ended. Its `Display` is what is said of it: whole lines, or nothing. It owns its texts, since the borrow checker does
-/// not cover a struct whose parts are lent for different times.
+/// A run that has ended. Its `Display` is the message about it: whole lines, or nothing. It owns its texts, since the borrow
+/// checker does not cover a struct whose parts are lent for different times.
 #[derive(Drop)]
 pub struct Report<'a> {
     /// What follows the program's name, where that is text.
     pub arguments: Option<Vec<Argument<'a>>>,
-    /// The last line that was written whole, without its line feed; else it is empty.
+    /// The last line that was written whole, without its line feed. It is empty where there is none.
     pub last_line: String,
     /// Whether a minute was written.
     pub has_minute: bool,
@@ -33,7 +33,7 @@ pub struct Report<'a> {
     pub place: Option<Place>,
 }
 
-// Whether help is asked for.
+// Whether the arguments ask for help.
 fn asks_help(arguments: &[Argument<'_>]) -> bool {
     for argument in arguments {
         match *argument {
@@ -44,7 +44,7 @@ fn asks_help(arguments: &[Argument<'_>]) -> bool {
     arguments.is_empty()
 }
 
-// Whether the version is asked for.
+// Whether the arguments ask for the version.
 fn asks_version(arguments: &[Argument<'_>]) -> bool {
     for argument in arguments {
         if *argument == Argument::Unknown("--version") {
@@ -54,7 +54,7 @@ fn asks_version(arguments: &[Argument<'_>]) -> bool {
     false
 }
 
-// What is said of arguments that ask for no command.
+// The message about arguments that ask for no command.
 fn write_usage<W: fmt::Write>(
     arguments: &[Argument<'_>],
     f: &mut fmt::Formatter<W>,
@@ -71,7 +71,7 @@ fn write_usage<W: fmt::Write>(
     f.write_str(COMMAND_LINES)
 }
 
-// The table and the name of a key of a station file: those of `radio.0.plan` are `radio` and `plan`, and `bound` stands in none.
+// The table and the name of a key of a station file: those of `radio.0.plan` are `radio` and `plan`, and `bound` has no table.
 fn key_parts(key: &str) -> (&str, &str) {
     match key.split_once('.') {
         Some((table, rest)) => match rest.split_once('.') {
@@ -82,7 +82,7 @@ fn key_parts(key: &str) -> (&str, &str) {
     }
 }
 
-// What is said of a station file that is refused.
+// The message about a station file that is refused.
 fn write_station<W: fmt::Write>(fault: StationFault<'_>, f: &mut fmt::Formatter<W>) -> fmt::Result {
     match fault {
         StationFault::Toml => f.write_str(NO_TOML),
@@ -189,12 +189,12 @@ impl<'a> Report<'a> {
         }
     }
 
-    // Whether a log was decoded that gave no minute.
+    // Whether the run decoded a log that gave no minute.
     fn is_without_minute(&self) -> bool {
         !self.has_minute && self.value("plan").is_some()
     }
 
-    // Writes a sentence on a subject: what stands before it, and why.
+    // Writes a sentence on a subject: the text before it, and the reason.
     fn write_about<W: fmt::Write>(
         &self,
         before: &str,
@@ -207,7 +207,7 @@ impl<'a> Report<'a> {
         writeln!(f, ": {why}")
     }
 
-    // A file that is too long.
+    // The message about a file that is too long.
     fn write_long<W: fmt::Write>(
         &self,
         subject: Subject,
@@ -219,7 +219,7 @@ impl<'a> Report<'a> {
         writeln!(f, " has more than {limit} bytes")
     }
 
-    // A station file that is refused.
+    // The message about a station file that is refused.
     fn write_refused<W: fmt::Write>(
         &self,
         fault: StationFault<'_>,
@@ -232,7 +232,7 @@ impl<'a> Report<'a> {
         f.write_str("\n")
     }
 
-    // A line that is none.
+    // The message about a line that is not valid.
     fn write_bad_line<W: fmt::Write>(
         &self,
         subject: Subject,
@@ -244,7 +244,7 @@ impl<'a> Report<'a> {
         writeln!(f, " is bad: {}", self.line_text(subject))
     }
 
-    // Arguments that ask for no command.
+    // The message about arguments that ask for no command.
     fn write_usage<W: fmt::Write>(&self, f: &mut fmt::Formatter<W>) -> fmt::Result {
         match &self.arguments {
             Some(arguments) => write_usage(arguments.as_slice(), f),

@@ -53,7 +53,7 @@ fn subject_named(word: &str, number: &str) -> Option<Subject> {
     }
 }
 
-// The first six words of a line; those that it has not are empty.
+// The first six words of a line; missing ones are empty.
 #[derive(Clone, Copy)]
 struct Words<'a> {
     first: &'a str,
@@ -124,7 +124,7 @@ fn words_of<'a>(line: &'a str) -> Words<'a> {
     }
 }
 
-// What a status line of these words says.
+// The outcome that a status line of these words reports.
 fn said<'a>(line: &'a str, words: Words<'a>) -> Option<Outcome<'a>> {
     if words.first != "status" {
         return None;
@@ -144,7 +144,7 @@ fn said<'a>(line: &'a str, words: Words<'a>) -> Option<Outcome<'a>> {
     }
 }
 
-/// How a run ended whose last line is this one, without its line feed. It is empty where none was written whole.
+/// How a run ended whose last line is this one, without its line feed. The line is empty where none was written whole.
 pub fn outcome_of(line: &str) -> Outcome<'_> {
     said(line, words_of(line)).unwrap_or(Outcome::NotWritten)
 }

@@ -1,4 +1,4 @@
-//! What is said, row by row.
+//! The messages, row by row.
 use crate::{Place, Report, Watched, read_arguments};
 use feed_link::Refusal;
 use std::alloc::Global;
@@ -7,12 +7,12 @@ use std::io::Write;
 use std::process::Abort;
 use std::test::Fail;
 
-// What `assert_eq!` does, as a call: where many stand in a test, calls are proved in a third of the time.
+// What `assert_eq!` does, as a call: where a test has many, calls are proved in a third of the time.
 fn same<T: PartialEq + Debug + Drop>(rt: &impl Abort, left: T, right: T) {
     assert_eq!(*rt; left, right);
 }
 
-// Whether what is said of a run of these words contains a text.
+// Whether the message about a run with these arguments contains a text.
 fn says(alloc: Global, words: &str, last_line: &str, text: &str) -> Result<bool, Fail> {
     let mut all = Vec::new(alloc);
     for word in words.split_whitespace() {

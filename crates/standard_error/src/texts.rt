@@ -46,13 +46,13 @@ proved and built with rattle-kit-13f logic dac8208d650f15bf
 pub const NO_MINUTE: &str =
     "the log gave no minute: it has no marks of this plan, or its widths are not in microseconds";
 
-/// Where the output takes no more.
+/// Where the output accepts no more.
 pub const NO_OUTPUT: &str = "standard output took no more: it is closed, or its disk is full";
 
-/// Where no memory is found.
+/// Where there is not enough memory.
 pub const NO_MEMORY: &str = "no memory was found, and nothing was done";
 
-/// Where no memory is found for what is to be said.
+/// Where there is not enough memory for the message.
 pub const NO_MEMORY_LINE: &str = "radio_ntpd: no memory was found to say more\n";
 
 /// Where the station file is no TOML.
@@ -84,15 +84,15 @@ pub const SCRIPT_LINE: &str =
 pub const JOURNAL_LINE: &str =
     "docs/FORMATS.md has the lines of a journal; it may be of another station, or cut off";
 
-/// What a key of a station file wants.
+/// What a key of a station file requires.
 pub struct Range {
-    /// The table in which the key stands, or nothing.
+    /// The table of the key, or nothing.
     pub table: &'static str,
     pub name: &'static str,
     pub wants: &'static str,
 }
 
-/// What each key of a station file wants.
+/// What each key of a station file requires.
 pub const RANGES: [Range; 20] = [
     Range {
         table: "",
@@ -214,7 +214,7 @@ impl Range {
     }
 }
 
-/// What the key of this name wants, in this table or in none.
+/// What the key with this name requires, in this table or in none.
 pub fn range_of(table: &str, name: &str) -> Option<&'static str> {
     for range in &RANGES {
         if range.is_of(table, name) {

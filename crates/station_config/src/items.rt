@@ -15,7 +15,7 @@ use crate::station::{Radio, ServerRow};
 use std::alloc::Global;
 use toml::Value;
 
-// What stands against a station: its first fault, or want of memory.
+// Why there is no station: its first fault, or lack of memory.
 #[derive(Clone, Copy, Debug)]
 pub enum KeyFault<'a> {
     Unknown(Spot<'a>),
@@ -25,7 +25,7 @@ pub enum KeyFault<'a> {
     Memory,
 }
 
-// What a misread value of a table is among the values of all tables.
+// The fault of a table's misread value, with the table's part and place.
 fn placed(part: Part, place: usize, misread: Misread) -> KeyFault<'static>
     ensures { (bad more : List Text) → IsMisread bad misread → IsMisreadAt (map (key_in part place) bad ++ more) result }
 {
@@ -95,7 +95,7 @@ fn add_link(links: &mut Vec<u16>, place: usize, item: &Value) -> Result<(), KeyF
     }
 }
 
-// Puts a key behind others.
+// Puts a key after others.
 fn push_key(keys: &mut Vec<SharedKey>, key: SharedKey) -> Result<(), KeyFault<'static>>
     ensures pushed { IfOk result (λ _. map key_kept keys.new.items ≡ map key_kept keys.old.items ++ key_kept key ∷ []) }
     ensures full { IfErr result (λ fault. fault ≡ KeyFault.Memory) }

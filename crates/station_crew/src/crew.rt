@@ -30,7 +30,7 @@ pub struct Crew<L: Drop, T: Drop> {
     pub responders: Vec<ServeJob<T>>,
 }
 
-/// What the workers leave, each in the station's order: logs and links, what was done, and the passes.
+/// What the workers leave, each in the station's order: logs and links, what they did, and the passes.
 #[derive(Drop)]
 pub struct Left<L: Drop, T: Drop> {
     pub gear: Gear<L, T>,
@@ -78,7 +78,7 @@ fn begin<
     );
 }
 
-// Each responder is told how much every feed has seen.
+// Each responder learns how much every feed has seen.
 fn tell_crew<T: Link + Drop>(
     cell: &PageCell,
     feeds: &mut Vec<FeedPass>,
@@ -112,8 +112,8 @@ fn go_on<N: HubName + Send + Sync, R: Threads + Wait + Sync, T: Link + Drop, G: 
     run_second(rt, hub, gate, budget, jobs.as_mut_slice());
 }
 
-/// Runs both phases: the feeds' workers beside the responders; then the responders are told how much every feed has seen, and those
-/// whose link goes on serve again. `told` has room for the responders of the second phase, `left` for all that is left.
+/// Runs both phases: first the feeds' workers beside the responders. Then the responders learn how much every feed has seen, and
+/// those whose link goes on serve again. `told` has room for the responders of the second phase, `left` for all that is left.
 pub fn run_crew<
     N: HubName + Send + Sync,
     R: Threads + Wait + Sync,

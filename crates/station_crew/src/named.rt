@@ -92,7 +92,7 @@ fn man_crew<L: Source + Drop, T: Link + Drop>(
     crew
 }
 
-// Mans the station, runs both phases and closes the hub.
+// Makes the workers of the station, runs both phases and closes the hub.
 fn run_hub<
     N: HubName + Send + Sync,
     R: Threads + Wait + Sync,
@@ -156,7 +156,7 @@ fn run_hub<
     }
 }
 
-/// Opens the hub of the name's cell and runs the station in it. Want of memory gives the gear back.
+/// Opens the hub of the name's cell and runs the station in it. Lack of memory gives back the gear.
 pub fn run_named<
     N: HubName + Send + Sync,
     R: Threads + Wait + Sync,

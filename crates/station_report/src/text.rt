@@ -1,4 +1,4 @@
-//! What is written of a station that was served.
+//! Writes the report of a station that was served.
 ghost use Rattle.std.specs.Prelude.{◌≡◌, ◌+◌, ◌++◌, ◌≤◌, OnOk, OnErr, None, Some, codes, length, take, vec_len};
 ghost use Rattle.journal_entry.specs.declared.writer.TheConstants.{LINE_ROOM};
 ghost use Rattle.station_report.specs.Crewing.{FinishesDone, HasEach, line_of_work, totals_by, totals_of};
@@ -90,8 +90,8 @@ fn end_word(end: End) -> &'static [u8]
     }
 }
 
-/// Writes the line of a link at the front of `line`: its number from 0, how many datagrams of each kind its responder met in both phases,
-/// and how it ended. The answer is the number of bytes.
+/// Writes the line of a link at the beginning of `line`: its number from 0, how many datagrams of each kind its responder met in
+/// both phases, and how it ended. The answer is the number of bytes.
 pub fn write_link_line(number: usize, work: &LinkWork, line: &mut Line) -> usize
     ensures text { take result line.new ≡ line_of_work number work.now }
     ensures within { result ≤ LINE_ROOM }
