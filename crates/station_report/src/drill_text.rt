@@ -141,7 +141,8 @@ fn tell_feeds<K: Sink>(journal: &Journal, out: &mut K) -> Result<(), Failed>
     tell_feed(2, journal, out)
 }
 
-// Writes what a drill has left: how many answers of each kind each feed got, the page of its journal, and the status line.
+/// Writes what a drill has left: how many answers of each kind each feed got, the page of its journal, and the status line.
+/// Returns the status, which is `WriteFault` where a write fails.
 pub fn finish_drilled<K: Sink>(station: &Station, done: &Done, limit: u32, out: &mut K) -> Status
     requires { HasEach station.now done.now }
     ensures { FinishesDrill limit done.now (K.state out.old) (K.state out.new) result }
