@@ -1,6 +1,6 @@
 #!/usr/bin/env python3
-"""How each Python program of this repository ends where its words are wrong, or a file, a device, a program or a server isn't there: in
-words and with a status of its own, never with a traceback.
+"""How each Python program of this repository ends where its arguments are wrong, or a file, a device, a program or a server isn't there: in
+a sentence and with a status of its own, never with a traceback.
 
     checks/test_ends.py
 """
@@ -11,7 +11,7 @@ import sys
 import unittest
 
 TOP = pathlib.Path(__file__).resolve().parent.parent
-# The words that each program is run with, and what it ends with. Nobody listens at port 9 of 127.0.0.1.
+# The arguments that each program is run with, and what it ends with. Nobody listens at port 9 of 127.0.0.1.
 CASES = [
     ("feeders/edges_to_log.py", "--nosuch", 2),
     ("feeders/edges_to_log.py", "/nosuch", 127),

@@ -14,7 +14,7 @@ hour and a band in which eight tenths lie, a short one its points. Of --receptio
 Lines that are no entries are passed over.
 
 It needs matplotlib (Debian's python3-matplotlib). It exits with 1 where a file can't be read, has no entry, or can't be written, and where
-matplotlib isn't there, and with 2 for wrong words.
+matplotlib isn't there, and with 2 for invalid arguments.
 """
 
 import argparse

@@ -16,7 +16,7 @@ from journal_text import KINDS, Entry, Moment, Run, Station, due, name_of, offse
 
 HOUR = 3_600_000_000
 MINUTE = 60_000_000
-# The colours tell kinds apart in print too; refused minutes are shades by their rule.
+# The colours differ in print too; refused minutes are shades by their rule.
 COLOURS = {"verdict": "#2a7f3f", "lone": "#b8d8b0", "differs": "#e0a030", "sample": "#2f6fb0", "declined": "#a0a0d0", "notice": "#705090"}
 LINES = ("#1f5fa8", "#c05020", "#2a7f3f", "#705090", "#808000", "#008080", "#a02060", "#606060")
 DPI = 100
@@ -188,7 +188,7 @@ def day(runs: list[Run], given: list[list[Moment]], station: Station, name: str)
             offset.plot(at, band.median, "o-", markersize=2.5, linewidth=0.9, color=LINES[row % len(LINES)], label=name_of(station, feed))
     heard.set_yticks(range(len(feeds)), [name_of(station, feed) for feed in feeds])
     heard.invert_yaxis()
-    heard.set_title("how much of each quarter of an hour gave the time: green all, red none, white nothing was heard", fontsize="small", loc="left")
+    heard.set_title("how much of each quarter of an hour gave the time: green all, red none, white nothing was received", fontsize="small", loc="left")
     for moments in given:
         good = [(utc(one.unix), one.dispersion * 1000 if one.has_time else float("nan")) for one in moments]
         dispersion.plot(*zip(*good), "-", linewidth=1, color="#444444")

@@ -37,7 +37,7 @@ port = 123
 
 
 def verdicts(minutes, ppm=0.0, feed=0):
-    """The entries of a radio without jitter on a counter that gains so many parts in a million, which showed 2 s at noon."""
+    """The entries of a radio without jitter on a counter that gains a number of parts in a million, which showed 2 s at noon."""
     return [read_entry(f"{feed} {2_000_000 + round(60_000_000 * minute * (1 + ppm * 1e-6))} verdict {NOON + 60 * minute} 0") for minute in minutes]
 
 
