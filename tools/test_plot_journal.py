@@ -6,6 +6,7 @@
 
 import math
 import pathlib
+import random
 import subprocess
 import sys
 import tempfile
@@ -73,6 +74,13 @@ class Reading(unittest.TestCase):
         level, slope = line_through(points)
         self.assertAlmostEqual(level, 3.0, delta=1)
         self.assertAlmostEqual(slope, 0.5, delta=0.01)
+
+    def test_a_line_through_values_that_rise(self):
+        """A day with 1 ms of jitter on a counter that is 5 ppm off: the slope is known within a third of a millisecond a day."""
+        for seed in range(10):
+            chance = random.Random(seed)
+            _, slope = line_through([(60.0 * minute, 5e-6 * 60 * minute + chance.uniform(-1e-3, 1e-3)) for minute in range(1440)])
+            self.assertAlmostEqual(slope, 5e-6, delta=4e-9)
 
     def test_a_run(self):
         run = run_of(verdicts(range(60), 50))
