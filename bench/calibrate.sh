@@ -1,0 +1,9 @@
+#!/bin/sh
+# What `radio_keeper calibrate` says of receivers in software whose lag is known, 23 ms: against the host's clock, and against a server that is
+# 40 ms ahead of it (and the receiver with it), asked every 16 s. All cases run side by side; it takes as long as --minutes says, and a bit.
+#
+#     bench/calibrate.sh [--minutes N] [--jitter MS ..]
+set -eu
+. "$(dirname "$0")/built.sh"
+rm -rf "$work"
+exec python3 -B "$top/bench/calibrate.py" "$program" "$@"
