@@ -1,6 +1,7 @@
 """The soak of checks/soak.sh: a station kept for hours, with fades, servers and kills."""
 
 import argparse
+import json
 import os
 import pathlib
 import signal
@@ -87,6 +88,13 @@ def line(kept: Kept, met: dict, hours: float, kills: list[Event]) -> str:
             f"the machine stalled an echo {met['stalled'] * 1000:.0f} ms at worst, load {os.getloadavg()[0]:.1f} on {os.cpu_count()}")
 
 
+def note(met: dict, runs: dict[int, tuple[str, float]], kills: list[Event]) -> None:
+    """Writes what was met so far into the file that SOAK_MET names: each span without an answer, each run and each kill (monotonic s)."""
+    if "SOAK_MET" in os.environ:
+        text = json.dumps({"met": met, "runs": runs, "kills": [(one.kind.name, one.at) for one in kills]})
+        pathlib.Path(os.environ["SOAK_MET"]).write_text(text)
+
+
 def memory(process: int) -> int:
     """What a process has in memory, in KB; 0 where it has ended."""
     for row in pathlib.Path(f"/proc/{process}/status").read_text().splitlines():
@@ -111,8 +119,11 @@ def watched(kept: Kept, base: float, hours: float, killed: int, kills: list[Even
             kills.append(kill_in_turn(kept, len(kills)))
         if now > due:
             due += LOOK
-            print(line(kept, client.look(), (now - began) / 3600, kills), flush=True)
+            met = client.look()
+            note(met, runs, kills)
+            print(line(kept, met, (now - began) / 3600, kills), flush=True)
     met = client.report()
+    note(met, runs, kills)
     print(line(kept, met, (now - began) / 3600, kills), flush=True)
     return met, runs
 

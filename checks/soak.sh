@@ -10,7 +10,8 @@
 #     says what the machine itself stalled;
 #   - one was missing at any other time;
 #   - a run began for which nothing had been killed, a radio wasn't heard, or the keeper didn't end well.
-# It isn't in the gate. RADIO_NTPD names another program, SOAK_SAID a file for what the keeper says. On a machine with other work give it priority:
+# It isn't in the gate. RADIO_NTPD names another program, SOAK_SAID a file for what the keeper says, SOAK_MET one for each span, run and
+# kill. On a machine with other work give it priority:
 #
 #     chrt -r 1 checks/soak.sh
 #
