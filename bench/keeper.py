@@ -85,7 +85,7 @@ def changes(base: float) -> None:
         kept.stop()
         ended = time.monotonic() - began
     for name, what in (("silences", "without an answer"), ("untimes", "without time")):
-        spans = sorted(one * 1000 for one in met[name]) or [0.0]
+        spans = sorted(seconds * 1000 for _, seconds, _ in met[name]) or [0.0]
         print(f"{CHANGES} changes under {RATE} requests a second: {what} {statistics.median(spans):.1f} ms in the median, {spans[-1]:.1f} at worst, {len(spans)} spans")
     print(f"  {met['asked']} requests, {met['answered']} answered, {met['wrong']} wrong, the greatest error {met['error'] * 1e6:.0f} us")
     print(f"  from SIGTERM to the end, under {kept.RATE} requests a second: {ended:.2f} s")

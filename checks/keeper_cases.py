@@ -40,10 +40,15 @@ def ended(kept: Kept, status: int) -> int:
     return looked + due(goes(processes, GONE), "a process of it is left at its end")
 
 
+def brief(met: dict) -> dict:
+    """What a client met, without each stall of the machine."""
+    return {name: value for name, value in met.items() if name != "stalls"}
+
+
 def good(kept: Kept, met: dict, bounds: tuple[float, float], changes: int = 1) -> int:
     """What a client met at a number of changes of run. `bounds`: for how long it may be without an answer, and without the time (s)."""
     silent, untimed = (bound(one, met["stalled"]) for one in bounds)
-    print(f"  a client met {met}", flush=True)
+    print(f"  a client met {brief(met)}", flush=True)
     looked = due(met["wrong"] == 0, f"a client got a wrong time: {kept.text()}")
     looked += LATE.due(met["silent"], silent, "a client got no answer for long")
     looked += LATE.due(met["untimed"], untimed, "a client got no time for long")
@@ -138,9 +143,9 @@ def flood(base: float) -> int:
         time.sleep(3)
         runs = kept.text().count(") serves after")
         met = client.report()
-        print(f"  flood of {sent} in {took:.1f} s, {runs} runs: {met}", flush=True)
-        looked = due(met["wrong"] == 0, f"a client got a wrong time: {met}")
-        looked += LATE.due(met["silent"], bound(FLOODED, met["stalled"], 2 * FLOODED), f"a flood silences clients: {met}")
+        print(f"  flood of {sent} in {took:.1f} s, {runs} runs: {brief(met)}", flush=True)
+        looked = due(met["wrong"] == 0, f"a client got a wrong time: {brief(met)}")
+        looked += LATE.due(met["silent"], bound(FLOODED, met["stalled"], 2 * FLOODED), f"a flood silences clients: {brief(met)}")
         looked += due(runs >= 2, "a flood uses up no run")
         said = ask(kept.port)
         looked += due(said is not None and said[0] == 0, f"after a flood clients get {said}")

@@ -179,12 +179,21 @@ class Kept:
 
 
 class Asking:
-    """A client beside: `report` ends it and gives what it met."""
+    """A client beside: `look` gives what it has met so far, `report` ends it and gives all. Both raise Wrong where it has ended by itself."""
 
     def __init__(self, port: int, base: float, rate: float, seconds: float = 100_000) -> None:
         words = [sys.executable, "-B", TOP / "checks/kept_client.py", str(port), str(seconds), str(rate), repr(base)]
         self.process = subprocess.Popen(words, stdout=subprocess.PIPE)
 
+    def look(self) -> dict:
+        self.process.send_signal(signal.SIGUSR1)
+        return self._told(self.process.stdout.readline())
+
     def report(self) -> dict:
         self.process.send_signal(signal.SIGTERM)
-        return json.loads(self.process.communicate(timeout=30)[0])
+        return self._told(self.process.communicate(timeout=30)[0])
+
+    def _told(self, line: bytes) -> dict:
+        if not line:
+            raise Wrong(f"the client has ended by itself, with {self.process.wait()}")
+        return json.loads(line)

@@ -3,7 +3,8 @@
 
     kept_client.py PORT SECONDS RATE BASE
 
-BASE is what the time is ahead of the monotonic clock, in seconds. It prints a line of JSON at the end, or when it gets SIGTERM:
+BASE is what the time is ahead of the monotonic clock, in seconds. It prints a line of JSON at the end, or when it gets SIGTERM, and at each
+SIGUSR1 one of what it has met so far:
 asked, answered, timed  requests, answers, answers with the time
 silent                  the longest span without an answer: from the first request that got none to the next that got one, in seconds. It is
                         counted in requests: a span in which this client itself was stalled isn't one without answers
@@ -11,7 +12,8 @@ untimed                 the same for answers with the time; before the first of 
 stalled                 by how much the machine stalled a bare echo server at worst, or this client, in seconds
 error                   the greatest error of an answer with the time beyond its own way there and back, in seconds
 wrong                   answers whose error is above the root distance that they say
-silences, untimes       all those spans, in seconds
+silences, untimes       all those spans: when the first request of each was sent (monotonic s), how long it was (s), its requests
+stalls                  the worst stall of each second that had one of 5 ms or more: that second (monotonic s), and how long it was (s)
 """
 
 import argparse
@@ -26,31 +28,52 @@ from kept_machine import Echo
 
 EPOCH = 2208988800
 WHOLE = 2**32
+STALL = 0.005  # a stall that is shorter is not told, in seconds
 
 
 class Spans:
-    """The spans between a first miss and the next hit."""
+    """The spans between a first miss and the next hit. A request is `due` by the client's own count of them (s)."""
 
     def __init__(self) -> None:
         self.began: float | None = None
-        self.all: list[float] = []
+        self.at, self.missed = 0.0, 0
+        self.all: list[tuple[float, float, int]] = []
 
-    def miss(self, sent: float) -> None:
+    def miss(self, due: float, at: float) -> None:
+        """A request without an answer, which was sent at this moment (monotonic s)."""
         if self.began is None:
-            self.began = sent
+            self.began, self.at, self.missed = due, at, 0
+        self.missed += 1
 
     def finish(self, now: float) -> None:
         """What has begun hasn't ended."""
         if self.began is not None:
             self.hit(now)
 
-    def hit(self, sent: float) -> None:
-        if self.began is not None and sent > self.began:
-            self.all.append(round(sent - self.began, 4))
+    def hit(self, due: float) -> None:
+        if self.began is not None and due > self.began:
+            self.all.append((round(self.at, 3), round(due - self.began, 4), self.missed))
             self.began = None
 
     def longest(self) -> float:
-        return max(self.all, default=0.0)
+        return max((seconds for _, seconds, _ in self.all), default=0.0)
+
+
+class Stalls:
+    """What the machine did to an echo or to this client: the worst of each second, in seconds."""
+
+    def __init__(self) -> None:
+        self.of: dict[int, float] = {}
+
+    def note(self, at: float, seconds: float) -> None:
+        """A stall that ended at this moment (monotonic s)."""
+        self.of[int(at)] = max(seconds, self.of.get(int(at), 0.0))
+
+    def worst(self) -> float:
+        return max(self.of.values(), default=0.0)
+
+    def long(self) -> list[tuple[int, float]]:
+        return [(at, round(seconds, 4)) for at, seconds in sorted(self.of.items()) if seconds >= STALL]
 
 
 class Client:
@@ -96,9 +119,9 @@ class Client:
         for stamp, number in list(self.sent.items()):
             if number < before:
                 del self.sent[stamp]
-                self.silence.miss(number / self.rate)
+                self.silence.miss(number / self.rate, stamp / 1e9)
                 if self.timed:
-                    self.untime.miss(number / self.rate)
+                    self.untime.miss(number / self.rate, stamp / 1e9)
 
     def take(self, datagram: bytes, due: float, sent: float, came: float) -> None:
         """An answer: when its request was due by the client's own count, when it was sent, and when the answer came (s)."""
@@ -107,7 +130,7 @@ class Client:
         first, stratum, _, _, delay, dispersion, _, _, _, receive, transmit = struct.unpack(">BBBbII4sQQQQ", datagram[:48])
         if first >> 6 == 3 or stratum == 0:
             if self.timed:
-                self.untime.miss(due)
+                self.untime.miss(due, sent)
             return
         self.timed += 1
         self.untime.hit(due)
@@ -125,6 +148,11 @@ class Client:
         }
 
 
+def tell(client: Client, stalls: Stalls) -> None:
+    """Prints what was met so far."""
+    print(json.dumps({**client.report(), "stalled": round(stalls.worst(), 4), "stalls": stalls.long()}), flush=True)
+
+
 def main() -> None:
     parser = argparse.ArgumentParser(description="Asks a server on the loopback, and reports silences and errors.")
     parser.add_argument("port", type=int)
@@ -133,19 +161,22 @@ def main() -> None:
     parser.add_argument("base", type=float, help="the receivers' time at the zero of the monotonic clock, in seconds")
     given = parser.parse_args()
     port, seconds, rate, base = given.port, given.seconds, given.rate, given.base
-    stops = []
+    stops, looks = [], []
     signal.signal(signal.SIGTERM, lambda *_: stops.append(1))
-    echo, client = Echo(), Client(port, base, rate)
-    begin = time.monotonic()
-    due, late = begin, 0.0
+    signal.signal(signal.SIGUSR1, lambda *_: looks.append(1))
+    echo, client, stalls = Echo(), Client(port, base, rate), Stalls()
+    begin = due = time.monotonic()
     while not stops and due < begin + seconds:
+        if looks:
+            looks.pop()
+            tell(client, stalls)
         wait = due - time.monotonic()
         if wait > 0:
             select.select([client.socket, echo.socket], [], [], wait)
             client.hear()
-            echo.hear()
+            stalls.note(time.monotonic(), echo.hear())
             continue
-        late = max(late, -wait)
+        stalls.note(time.monotonic(), -wait)
         client.ask()
         echo.ask()
         due = max(due + 1 / rate, time.monotonic())
@@ -154,7 +185,7 @@ def main() -> None:
     for spans in (client.silence, client.untime):
         spans.finish(client.asked / rate)
     echo.close()
-    print(json.dumps({**client.report(), "stalled": round(max(late, echo.worst), 4)}), flush=True)
+    tell(client, stalls)
 
 
 if __name__ == "__main__":

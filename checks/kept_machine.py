@@ -36,8 +36,7 @@ def python_start() -> float:
 
 
 class Echo:
-    """A bare server that sends back what it gets, asked beside the keeper's: what is wrong with its answers is the machine's doing.
-    `worst` is how long an answer took, in seconds."""
+    """A bare server that sends back what it gets, asked beside the keeper's: what is wrong with its answers is the machine's doing."""
 
     def __init__(self) -> None:
         link = socket.socket(socket.AF_INET, socket.SOCK_DGRAM)
@@ -53,7 +52,6 @@ class Echo:
         self.socket.setblocking(False)
         link.close()
         self.waits_since: float | None = None
-        self.worst = 0.0
 
     def ask(self) -> None:
         """Asks where no answer is awaited."""
@@ -61,14 +59,14 @@ class Echo:
             self.waits_since = time.monotonic()
             self.socket.send(struct.pack(">d", self.waits_since))
 
-    def hear(self) -> None:
+    def hear(self) -> float:
+        """How long the answer took that has come, in seconds; 0.0 where none has."""
         try:
             self.socket.recv(100)
         except OSError:
-            return
-        if self.waits_since is not None:
-            self.worst = max(self.worst, time.monotonic() - self.waits_since)
-        self.waits_since = None
+            return 0.0
+        since, self.waits_since = self.waits_since, None
+        return time.monotonic() - since if since is not None else 0.0
 
     def close(self) -> None:
         self.socket.send(b"")

@@ -4,8 +4,8 @@ import collections
 import os
 import signal
 import subprocess
-import sys
 
+from keeper.say import say
 from keeper.state import Alarm, State
 
 LOST = 15.0  # a change of run is no loss: so long nobody may have heard the time, in seconds
@@ -60,13 +60,17 @@ class Alarms:
                 self.raise_alarm(state, "radio-unheard", f"radio {radio.number} ({radio.name or radio.plan}) has had no verdict for {now - since:.0f} s", now, radio.number)
         elif radio.number in self.silent and radio.minute_at > state.keeper_since:
             self.silent.discard(radio.number)
-            self.raise_alarm(state, "radio-heard", f"radio {radio.number} ({radio.name or radio.plan}) is heard again", now, radio.number)
+            self.raise_alarm(state, "radio-heard", f"radio {radio.number} ({radio.name or radio.plan}) is received again", now, radio.number)
+
+    def move(self, step: float) -> None:
+        """The host's clock was set forward by this number of seconds."""
+        self.time_at += step
 
     def raise_alarm(self, state: State, event: str, text: str, now: float, radio: int | None = None) -> None:
         """Puts an alarm into the state, says it on standard error, and has the command run."""
         state.alarms.append(Alarm(event, now, text))
         del state.alarms[:-KEPT]
-        print(f"alarm {event}: {text}", file=sys.stderr, flush=True)
+        say(f"alarm {event}: {text}")
         if self.command:
             self.waiting.append(self._environment(state, event, text, now, radio))
 
@@ -90,7 +94,7 @@ class Alarms:
                     self._signal(signal.SIGTERM)
                 return
             if self.child.returncode:
-                print(f"the alarm's command ended with {self.child.returncode}", file=sys.stderr, flush=True)
+                say(f"the alarm's command ended with {self.child.returncode}")
             self.child = None
         if self.waiting:
             self._start(self.waiting.popleft(), now)
@@ -101,7 +105,7 @@ class Alarms:
             # A session of its own: what the command starts is ended with it.
             self.child = subprocess.Popen(["/bin/sh", "-c", self.command], env=environment, stdin=subprocess.DEVNULL, start_new_session=True)
         except OSError as error:
-            print(f"the alarm's command can't be started: {error.strerror}", file=sys.stderr, flush=True)
+            say(f"the alarm's command can't be started: {error.strerror}")
 
     def _signal(self, number: int) -> None:
         try:

@@ -3,7 +3,7 @@
 import os
 import time
 
-from keeper import faces, facts
+from keeper import clock, faces, facts
 from keeper.alarms import Alarms
 from keeper.children import Guard
 from keeper.config import Settings
@@ -36,6 +36,7 @@ class Crew:
         self.alarms: Alarms | None = None
         self.settings: Settings | None = None
         self.refused = ""  # why a file was refused at the last reload
+        self.clock = clock.ClockWatch()
         self.failing = False
 
     def use(self, settings: Settings) -> None:
@@ -98,6 +99,19 @@ class Crew:
             feed.turn(now)
         self.alarms.turn(now)
         self.notify.turn(now)
+        step = self.clock.step()
+        if step:
+            self._move(step)
+
+    def _move(self, step: float) -> None:
+        """The host's clock was set forward by this number of seconds."""
+        say(clock.sentence(step))
+        facts.move(self.state, step)
+        self.alarms.move(step)
+        for feed in self.feeds:
+            feed.reception.move(step)
+        if self.pacing:
+            self.pacing.move(step)
 
     def note_begin(self, run: Run) -> None:
         """A run serves."""
@@ -146,11 +160,15 @@ class Crew:
         facts.note_servers(self.state, self.pacing)
         for feed in self.feeds:
             feed.reception.renew(now)
-        self.state.notes = [one for one in (self.journals.note, self.refused and f"not reloaded: {self.refused}") if one]
+        said = (self.journals.note, *(feed.log.note for feed in self.feeds), self.refused and f"not reloaded: {self.refused}")
+        self.state.notes = [one for one in said if one]
         self.alarms.judge(self.state, now)
         self.notify.status(self._sentence())
         try:
+            os.makedirs(self.settings.folder, exist_ok=True)
             faces.renew(self.state, self.settings.folder, now)
+            if self.failing:
+                say("the state can be written again")
             self.failing = False
         except OSError as error:
             if not self.failing:

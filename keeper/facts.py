@@ -1,5 +1,6 @@
 """Puts into the state what the keeper knows of its runs, its links and its feeds."""
 
+import dataclasses
 import os
 import time
 
@@ -91,3 +92,13 @@ def note_requests(state: State, heard: list[int], own: list[int], seconds: float
     for link, count, ours in zip(state.links, heard, own):
         link.requests += max(0, count - ours)
         link.requests_per_second = max(0, count - ours) / max(seconds, 1.0)
+
+
+def move(state: State, step: float) -> None:
+    """The host's clock was set forward by this number of seconds: the moments that this keeper took by it are moved. The pictures of the day stay."""
+    state.alarms = [dataclasses.replace(one, at=one.at + step) if one.at >= state.keeper_since else one for one in state.alarms]
+    state.keeper_since += step
+    for part, names in [(state.run, ("since",)), *((one, ("pulse_at", "minute_at")) for one in state.radios), *((one, ("sample_at", "answered_at")) for one in state.servers)]:
+        for name in names:
+            if getattr(part, name):
+                setattr(part, name, getattr(part, name) + step)

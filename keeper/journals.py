@@ -96,6 +96,7 @@ class Journals:
         path = os.path.join(self.folder, name)
         part = path + ".part"
         try:
+            os.makedirs(self.folder, exist_ok=True)
             with open(part, "wb") as file:
                 file.write(text)
                 file.flush()

@@ -1,5 +1,6 @@
 """Lines of a pulse log as they come from a source: whole ones alone, their form and their order checked."""
 
+import collections
 import re
 from dataclasses import dataclass
 
@@ -9,6 +10,7 @@ LONGEST = 32  # a line that reaches this many bytes is bad
 AHEAD = 1_000_000  # a start so far ahead of the host's clock isn't of that clock, in microseconds
 MINUTES = 15  # what is older than this isn't handed on
 OLDEST = MINUTES * 60_000_000  # in microseconds
+MOST = 100  # pulses that begin within a second; the feeders leave out what is shorter than 5 ms, and the gaps too
 HISTORY = 2_000_000  # for so long after its first bytes a source may say what was said or is too old, in microseconds
 
 
@@ -44,6 +46,7 @@ class Lines:
         self.half = b""
         self.spilt = False  # the line that goes on is longer than a line may be
         self.last = -1
+        self.starts: collections.deque[int] = collections.deque(maxlen=MOST)  # of the last pulses
         self.history: int | None = None  # until when what is old isn't bad; None before the source's first bytes
         self.bad = 0
         self.last_bad = ""
@@ -85,8 +88,11 @@ class Lines:
         elif pulse.start < now - OLDEST:
             if now > self.history:
                 self._refuse(line, f"its start is {(now - pulse.start) / 1e6:.0f} s old")
+        elif len(self.starts) == MOST and pulse.start - self.starts[0] < 1_000_000:
+            self._refuse(line, f"it is noise: more than {MOST} pulses begin within a second")
         else:
             self.last = pulse.start
+            self.starts.append(pulse.start)
             return pulse
         return None
 

@@ -70,6 +70,10 @@ class Pacing:
         except OSError:
             pass  # it has died: `has_died` says so
 
+    def move(self, step: float) -> None:
+        """The host's clock was set forward by this number of seconds."""
+        self.answered = [at + step if at else at for at in self.answered]
+
     def go(self) -> None:
         """A run begins."""
         self._say(b"go")

@@ -7,9 +7,11 @@ import re
 import shutil
 import threading
 from collections.abc import Callable
+from typing import IO
 
 NAME = re.compile(r"(\d+)-([a-z]+)\.(\d{8})\.([0-9a-f]{8})\.log(\.gz)?")
 PARTS = ".part"
+LINE = 64  # bytes: a line and the end of the one before are less
 
 
 def boot_id() -> str:
@@ -46,7 +48,7 @@ class PulseLog:
         self.folder, self.number, self.plan, self.days, self.say = folder, number, plan, days, say
         self.boot = boot or boot_id()
         self.day, self.descriptor, self.last = "", -1, -1
-        self.failing = False
+        self.note = ""  # why nothing can be written now
         self.worker: threading.Thread | None = None
 
     def path(self, day: str) -> str:
@@ -59,13 +61,19 @@ class PulseLog:
                 self._turn_over(day_of(unix))
             if start > self.last:
                 self._add(start, line)
-            self.failing = False
+                self._note("")
         except (OSError, ValueError) as error:
-            if not self.failing:
-                self.say(f"the log of radio {self.number} can't be written: {getattr(error, 'strerror', None) or error}")
-            self.failing = True
+            self._note(f"the log of radio {self.number} can't be written: {getattr(error, 'strerror', None) or error}")
+
+    def _note(self, note: str) -> None:
+        """Says where it begins to be refused, and where it goes on again."""
+        if bool(note) != bool(self.note):
+            self.say(note or f"the log of radio {self.number} can be written again")
+        self.note = note
 
     def _add(self, start: int, line: bytes) -> None:
+        if self.descriptor >= 0 and os.fstat(self.descriptor).st_nlink == 0:
+            self.close()  # it was taken away
         if self.descriptor < 0:
             self._open()
             if start <= self.last:
@@ -78,6 +86,7 @@ class PulseLog:
         self.last = start
 
     def _open(self) -> None:
+        os.makedirs(self.folder, exist_ok=True)
         path = self.path(self.day)
         if os.path.exists(path):
             self.last = max(self.last, _whole_end(path))
@@ -120,17 +129,36 @@ class PulseLog:
 
 
 def compress(path: str) -> None:
-    """Puts PATH.gz in the place of a file, whole or not at all. Raises OSError."""
-    part = path + ".gz" + PARTS
+    """Puts PATH.gz in the place of a file, whole or not at all. What PATH.gz has already, where the host's clock was set back over
+    midnight, stays at its beginning. Raises OSError."""
+    packed, part = path + ".gz", path + ".gz" + PARTS
     try:
-        with open(path, "rb") as file, gzip.open(part, "wb") as out:
-            shutil.copyfileobj(file, out, 65536)
-        os.replace(part, path + ".gz")
+        with open(path, "rb") as file, open(part, "wb") as out:
+            is_more = True
+            if os.path.exists(packed):
+                with open(packed, "rb") as before:
+                    shutil.copyfileobj(before, out, 65536)
+                # Where a keeper was killed after it had put it there, all of it is there.
+                with gzip.open(packed, "rb") as before:
+                    is_more = _last_line(before) != _last_line(file)
+            if is_more:
+                file.seek(0)
+                with gzip.open(out, "wb") as added:
+                    shutil.copyfileobj(file, added, 65536)
+        os.replace(part, packed)
     except OSError:
         if os.path.exists(part):
             os.unlink(part)
         raise
     os.unlink(path)
+
+
+def _last_line(file: IO[bytes]) -> bytes:
+    """The last whole line of a log, read from where it stands."""
+    tail = b""
+    while piece := file.read(65536):
+        tail = (tail + piece)[-LINE:]
+    return tail.rpartition(b"\n")[0].rpartition(b"\n")[2]
 
 
 def drop_old(folder: str, pattern: re.Pattern[str], before: str) -> None:

@@ -110,6 +110,10 @@ class Reception:
         """How many verdicts came after this moment (Unix s)."""
         return sum(good for at, good in self.minutes if at > moment)
 
+    def move(self, step: float) -> None:
+        """The host's clock was set forward by this number of seconds: the minutes of the last hour are moved with it."""
+        self.minutes = collections.deque((at + step, good) for at, good in self.minutes)
+
     def _quarter(self, at: float) -> Quarter:
         """The quarter of an hour of a moment."""
         quarters, begun = self.radio.reception, at // QUARTER * QUARTER

@@ -184,8 +184,17 @@ def day(runs: list[Run], given: list[list[Moment]], station: Station) -> str:
     for row, feed in enumerate(feeds):
         points = [(unix_of(run, entry.at), (one - due(run, entry.at)) * 1000) for run in runs for entry, one in with_offsets(run.entries) if entry.feed == feed]
         if points:
-QUARTER = 900
-# The colours differ in print too; refused minutes are shades of red by their rule.
+            spread = spread_of(points, QUARTER)
+            colour = LINES[row % len(LINES)]
+            offset.shapes += [Band(spread.at, spread.low, spread.high, colour), Line(list(zip(spread.at, spread.median)), colour)]
+            offset.key[name_of(station, feed)] = colour
+    seen = [1000 * one.dispersion for moments in given for one in moments if one.has_time] or [5.0]
+    dispersion = Panel("root dispersion,\nms", 120, log_axis(4.5, 1.3 * max(seen), DISPERSIONS))
+    dispersion.shapes += [Line([(one.unix, 1000 * one.dispersion if one.has_time else math.nan) for one in moments], GREY, False) for moments in given]
+    time = Panel("", 36, Axis(0, 1, [(0.5, "time")]), [bar for moments in given for bar in had_time(moments)], {"had it": GREEN, "had none": RED})
+    across = utc_axis(min(moments[0].unix for moments in given), max(moments[-1].unix for moments in given) + 60)
+    above = "How much of each quarter of an hour gave the time: green all, red none, white: nothing was heard"
+    return picture([heard(runs, feeds, station), offset, dispersion, time], across, "UTC", above)
 
 
 def phase(points: list[tuple[int, float, float]], most: float) -> str:

@@ -6,7 +6,9 @@ import os
 import tempfile
 import time
 import unittest
+from unittest import mock
 
+from keeper import facts
 from keeper.alarms import Alarms
 from keeper.state import LinkState, RadioState, RunState, State
 
@@ -74,6 +76,24 @@ class Changes(Quiet):
             self.alarms.judge(self.state, 1100.0)
             self.assertEqual(self.events(self.state), ["run-died"] * due)
         self.assertIn("status 9 memory", self.state.alarms[0].text)
+
+    def test_a_clock_that_was_set_raises_none(self):
+        self.at(1002, leap=0, minute_at=1002.0)
+        for step in (3600.0, -3600.0):
+            self.alarms.move(step)
+            facts.move(self.state, step)
+        self.alarms.move(3600.0)
+        facts.move(self.state, 3600.0)
+        self.assertEqual(self.at(1003 + 3600, leap=3), ["time-gained"])
+        self.assertEqual(self.at(1010 + 3600, leap=0), ["time-gained"])
+        self.assertEqual([one.at for one in self.state.alarms], [1002.0 + 3600])
+
+    def test_a_reader_that_has_gone_holds_nothing_up(self):
+        out = io.StringIO()
+        out.write = mock.Mock(side_effect=BrokenPipeError(32, "Broken pipe"))
+        with contextlib.redirect_stderr(out):
+            self.assertEqual(self.at(1002, leap=0), ["time-gained"])
+        self.assertTrue(out.write.called)
 
     def test_the_state_keeps_twenty(self):
         for number in range(50):

@@ -3,15 +3,16 @@
 import gzip
 import os
 import pathlib
+import shutil
 import tempfile
 import time
 import unittest
 from unittest import mock
 
 from keeper.children import Guard
-from keeper.lines import AHEAD, HISTORY, OLDEST, Lines, Pulse
+from keeper.lines import AHEAD, HISTORY, MOST, OLDEST, Lines, Pulse
 from keeper.outlet import PENDING, Outlet, pipe
-from keeper.pulse_log import PulseLog
+from keeper.pulse_log import PulseLog, compress
 from keeper.source import Command, Ended, Fifo, Growing
 
 NOW = 5_000_000_000
@@ -56,6 +57,12 @@ class LineTests(unittest.TestCase):
         self.refuses(b"%d 1\n" % (NOW - OLDEST - 1), "old")
         self.refuses(b"4999000 1\n", "old")  # milliseconds
         self.takes(b"%d 1\n%d 1\n" % (NOW - OLDEST, NOW + AHEAD), (NOW - OLDEST, 1), (NOW + AHEAD, 1))
+
+    def test_more_pulses_than_a_receiver_gives_are_noise(self):
+        first = 4_900_000_000
+        self.takes(b"".join(b"%d 5000\n" % (first + place * 10_000) for place in range(MOST)), *((first + place * 10_000, 5000) for place in range(MOST)))
+        self.refuses(b"%d 5000\n" % (first + 999_999), "it is noise: more than 100 pulses begin within a second")
+        self.takes(b"%d 5000\n%d 5000\n" % (first + 1_000_000, first + 1_010_000), (first + 1_000_000, 5000), (first + 1_010_000, 5000))
 
     def test_a_line_without_an_end(self):
         self.refuses(b"x" * 40, "it is too long")
@@ -219,7 +226,44 @@ class Logs(Made):
             whole[0] = True
             log.write(3, b"3 1\n", 5.0)
         self.assertEqual((self.folder / "0-dcf.19700101.b0070001.log").read_bytes(), b"1 1\n3 1\n")
-        self.assertEqual(self.said, ["the log of radio 0 can't be written: No space left on device"])
+        self.assertEqual(self.said, ["the log of radio 0 can't be written: No space left on device", "the log of radio 0 can be written again"])
+        self.assertEqual(log.note, "")
+
+    def test_what_can_not_be_written_stands_in_a_note(self):
+        log = self.log()
+        with mock.patch("keeper.pulse_log.os.write", mock.Mock(side_effect=OSError(28, "No space left on device"))):
+            log.write(1, b"1 1\n", 5.0)
+            self.assertEqual(log.note, "the log of radio 0 can't be written: No space left on device")
+            log.write(1, b"1 1\n", 5.0)
+        self.assertEqual(self.said, [log.note])
+
+    def test_a_log_or_a_folder_that_was_taken_away_is_made_again(self):
+        log = self.log()
+        name = self.folder / "0-dcf.19700101.b0070001.log"
+        log.write(1, b"1 1\n", 5.0)
+        name.unlink()
+        log.write(2, b"2 1\n", 5.0)
+        self.assertEqual(name.read_bytes(), b"2 1\n")
+        log.join()
+        shutil.rmtree(self.folder)
+        log.write(3, b"3 1\n", 5.0)
+        self.assertEqual((name.read_bytes(), self.said), (b"3 1\n", []))
+
+    def test_a_clock_that_is_set_back_over_midnight_loses_nothing(self):
+        log = self.log()
+        for start, unix in ((1, DAY - 1), (2, DAY + 1), (3, DAY - 2), (4, DAY + 2)):
+            log.write(start, b"%d 1\n" % start, unix)
+            log.join()
+        packed, today = self.folder / "0-dcf.19700101.b0070001.log.gz", self.folder / "0-dcf.19700102.b0070001.log"
+        self.assertEqual(gzip.decompress(packed.read_bytes()), b"1 1\n3 1\n")
+        self.assertEqual((self.names(), today.read_bytes()), ([packed.name, today.name, today.name + ".gz"], b"4 1\n"))
+
+    def test_a_log_is_compressed_once_where_a_keeper_was_killed_meanwhile(self):
+        path = self.folder / "0-dcf.19700101.b0070001.log"
+        for _ in range(2):
+            path.write_bytes(b"1 1\n2 1\n")
+            compress(str(path))
+        self.assertEqual(gzip.decompress((self.folder / (path.name + ".gz")).read_bytes()), b"1 1\n2 1\n")
 
 
 class Outlets(unittest.TestCase):
