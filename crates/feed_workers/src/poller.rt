@@ -4,8 +4,8 @@ ghost use Rattle.std.specs.Option.{ForSome};
 ghost use Rattle.feed_link.specs.Told.{NetEvent, LinkState};
 ghost use Rattle.feed_link.specs.declared.outside.Address.{Address};
 ghost use Rattle.feed_workers.specs.Asking.{HasDone, HearsOne, Polled};
-ghost use Rattle.feed_workers.specs.Keeping.{IsOfFeed};
-ghost use Rattle.feed_workers.specs.Polling.{RunsPolls};
+ghost use Rattle.feed_workers.specs.Keeping.{IsOfFeed, share_of};
+ghost use Rattle.feed_workers.specs.Polling.{RunsPolls, session_at, session_of};
 ghost use Rattle.feed_workers.specs.Polls.{what_of};
 ghost use Rattle.journal_entry.specs.Lawful.{IsLawfulWhat};
 ghost use Rattle.page_cell.specs.declared.view.Claim.{Claim};
@@ -95,9 +95,11 @@ fn hear_once<L: Link, N: HubName, R: Wait, G: Gate>(
     ensures link { L.opening link.new ≡ L.opening link.old }
     ensures pass { IsOfFeed N.table (length N.settings.sources) feed pass.new }
     ensures asked { ForSome (asked_at poll.new) (λ moment. moment ≤ (L.state link.new).latest) }
-    ensures hears { (server : Address) (before : LinkState) (start : Claim) (events : List NetEvent) →
-        HasDone poll.old server before (L.state link.old) start (claim_of pass.old.view) N.limit full.old events → start.number ≡ feed →
-        HearsOne poll.new server before (L.state link.new) start (claim_of pass.new.view) N.limit full.new events result }
+    ensures hears { (server : Address) (before : LinkState) (begun : Claim) (events : List NetEvent) →
+        let had = share_of begun pass.old N.limit full.old in
+        let has = share_of begun pass.new N.limit full.new in
+        HasDone poll.old (session_at server before (L.state link.old) had) events → begun.number ≡ feed →
+        HearsOne poll.new (session_at server before (L.state link.new) has) events result }
 {
     let mut piece = [0u8; 1024];
     match link.hear(&mut piece) {
@@ -129,12 +131,17 @@ fn poll_once<L: Link, N: HubName, R: Wait, G: Gate>(
     requires pass { IsOfFeed N.table (length N.settings.sources) feed pass.old }
     ensures link { L.opening link.new ≡ L.opening link.old }
     ensures pass { IsOfFeed N.table (length N.settings.sources) feed pass.new }
-    ensures goes { IfNone result ((before : LinkState) (start : Claim) (count : ℕ) →
-        Polled poll.old server before (L.state link.old) start (claim_of pass.old.view) N.limit full.old count → start.number ≡ feed →
-        Polled poll.new server before (L.state link.new) start (claim_of pass.new.view) N.limit full.new (count + 1)) }
-    ensures stops { IfSome result (λ end. (before : LinkState) (start : Claim) (count polls : ℕ) → count < polls →
-        Polled poll.old server before (L.state link.old) start (claim_of pass.old.view) N.limit full.old count → start.number ≡ feed →
-        RunsPolls server polls before (L.state link.new) start (claim_of pass.new.view) N.limit (record { end = end; full = full.new })) }
+    ensures goes { IfNone result ((before : LinkState) (begun : Claim) (count : ℕ) →
+        let had = share_of begun pass.old N.limit full.old in
+        let has = share_of begun pass.new N.limit full.new in
+        Polled poll.old (session_at server before (L.state link.old) had) count → begun.number ≡ feed →
+        Polled poll.new (session_at server before (L.state link.new) has) (count + 1)) }
+    ensures stops { IfSome result (λ end. (before : LinkState) (begun : Claim) (count polls : ℕ) →
+        count < polls →
+        let had = share_of begun pass.old N.limit full.old in
+        let has = share_of begun pass.new N.limit full.new in
+        Polled poll.old (session_at server before (L.state link.old) had) count → begun.number ≡ feed →
+        RunsPolls (session_at server before (L.state link.new) has) polls end) }
 {
     let moment = link.moment();
     let request = poll.ask(moment);
@@ -175,7 +182,7 @@ impl<L: Link + Drop> PollWorker<L> {
         ensures link { L.opening self.new.link ≡ L.opening self.old.link }
         ensures pass { IsOfFeed N.table (length N.settings.sources) (claim_of self.old.pass.view).number self.new.pass }
         ensures asks { (self.new.server ≡ self.old.server) × (self.new.polls ≡ self.old.polls) }
-        ensures runs { RunsPolls self.old.server self.old.polls (L.state self.old.link) (L.state self.new.link) (claim_of self.old.pass.view) (claim_of self.new.pass.view) N.limit result }
+        ensures runs { RunsPolls (session_of L.state N.limit self.old self.new result) self.old.polls result.end }
     {
         let feed = self.pass.number();
         let PollWorker {

@@ -2,8 +2,8 @@
 ghost use Rattle.std.specs.Prelude.{◌≡◌, ◌<◌, ◌-◌, ◌^◌, ◌∷◌, []};
 ghost use Rattle.std.specs.Bool.{OnTrue, OnFalse};
 ghost use Rattle.feed_link.specs.Told.NetEvent.{Came};
-ghost use Rattle.packet_auth.specs.Keys.{keys_of};
-ghost use Rattle.responder.specs.Serving.{IsSame, Serves};
+ghost use Rattle.responder.specs.Desks.{IsSame, desk_of};
+ghost use Rattle.responder.specs.Serving.{Serves};
 ghost use Rattle.responder.specs.Steps.{Goes, Stops, StopsUnsent, HasRoom};
 
 use crate::{End, Responder, Served};
@@ -33,7 +33,8 @@ impl<L: Link + Drop> Responder<L> {
         clients: ClientGate,
     ) -> Responder<L>
         requires { number < 8 }
-        ensures { (result.link ≡ link) × (result.pass ≡ pass) × (result.number ≡ number) × (result.keys ≡ keys) × (result.clients ≡ clients) }
+        ensures { (result.link ≡ link) × (result.pass ≡ pass) × (result.number ≡ number)
+            × (result.keys ≡ keys) × (result.clients ≡ clients) }
     {
         Responder {
             link,
@@ -57,9 +58,13 @@ impl<L: Link + Drop> Responder<L> {
         requires pass { self.old.pass.table ≡ cell.now.table }
         requires room { HasRoom served.old }
         requires at { (L.state self.old.link).latest ≡ arrival.now.at }
-        ensures same { IsSame (L.opening self.old.link) (L.opening self.new.link) self.old.pass self.new.pass self.old.number self.new.number self.old.keys self.new.keys }
-        ensures goes { OnTrue result (Goes (keys_of self.old.keys) self.old.clients self.new.clients (Came arrival.now.from arrival.now.at datagram.now ∷ []) (L.state self.old.link) (L.state self.new.link) self.old.pass.view self.new.pass.view served.old served.new) }
-        ensures stops { OnFalse result (StopsUnsent (keys_of self.old.keys) self.old.clients self.new.clients (Came arrival.now.from arrival.now.at datagram.now ∷ []) (L.state self.old.link) (L.state self.new.link) self.old.pass.view self.new.pass.view served.old served.new) }
+        ensures same { IsSame L.opening self.old self.new }
+        ensures goes { let arrived = Came arrival.now.from arrival.now.at datagram.now ∷ [] in
+            let before = desk_of L.state self.old in
+            OnTrue result (Goes before (desk_of L.state self.new) arrived served.old served.new) }
+        ensures stops { let arrived = Came arrival.now.from arrival.now.at datagram.now ∷ [] in
+            let before = desk_of L.state self.old in
+            OnFalse result (StopsUnsent before (desk_of L.state self.new) arrived served.old served.new) }
     {
         gate.pass(rt, AT_GATE + self.number, HEARD);
         let Ok(page) = cell.try_read(&mut self.pass) else {
@@ -98,9 +103,11 @@ impl<L: Link + Drop> Responder<L> {
     ) -> bool
         requires pass { self.old.pass.table ≡ cell.now.table }
         requires room { HasRoom served.old }
-        ensures same { IsSame (L.opening self.old.link) (L.opening self.new.link) self.old.pass self.new.pass self.old.number self.new.number self.old.keys self.new.keys }
-        ensures goes { OnTrue result (Goes (keys_of self.old.keys) self.old.clients self.new.clients [] (L.state self.old.link) (L.state self.new.link) self.old.pass.view self.new.pass.view served.old served.new) }
-        ensures stops { OnFalse result (Stops (keys_of self.old.keys) self.old.clients self.new.clients (L.state self.old.link) (L.state self.new.link) self.old.pass.view self.new.pass.view served.old served.new) }
+        ensures same { IsSame L.opening self.old self.new }
+        ensures goes { let before = desk_of L.state self.old in
+            OnTrue result (Goes before (desk_of L.state self.new) [] served.old served.new) }
+        ensures stops { let before = desk_of L.state self.old in
+            OnFalse result (Stops before (desk_of L.state self.new) served.old served.new) }
     {
         match self.link.hear(piece) {
             Ok(Hearing::Datagram(arrival)) => {
@@ -133,8 +140,8 @@ impl<L: Link + Drop> Responder<L> {
         budget: u64,
     ) -> Served
         requires { self.old.pass.table ≡ cell.now.table }
-        ensures same { IsSame (L.opening self.old.link) (L.opening self.new.link) self.old.pass self.new.pass self.old.number self.new.number self.old.keys self.new.keys }
-        ensures serves { Serves (keys_of self.old.keys) self.old.clients self.new.clients (L.state self.old.link) (L.state self.new.link) self.old.pass.view self.new.pass.view budget result }
+        ensures same { IsSame L.opening self.old self.new }
+        ensures serves { Serves (desk_of L.state self.old) (desk_of L.state self.new) budget result }
     {
         let mut served = Served {
             answered: 0,

@@ -5,6 +5,7 @@ ghost use Rattle.station_crew.specs.Crews.{CrewRan, HasRoomFor, HasRoomToLeave};
 ghost use Rattle.station_crew.specs.Jobs.{HasServed, HasServedAgain, LeapRan, MayHear, MayNotice, MayPoll, PollRan, RadioRan};
 ghost use Rattle.station_crew.specs.Leaving.{number_of};
 ghost use Rattle.crew_work.specs.Lists.{Both, Each, Every, Pairs};
+ghost use Rattle.crew_work.specs.Served.{seen, sights_of};
 ghost use Rattle.station_crew.specs.Telling.{WasTold};
 
 use crate::jobs::{LeapJob, PollJob, RadioJob, ServeJob};
@@ -58,7 +59,9 @@ fn begin<
     ensures pollers { Each (PollRan T.state T.opening N.limit) crew.old.pollers.items crew.new.pollers.items }
     ensures leap { Both (LeapRan L.state L.opening N.limit) crew.old.leap crew.new.leap }
     ensures responders { Each (HasServed T.state T.opening budget) crew.old.responders.items crew.new.responders.items }
-    ensures counts { (vec_len crew.new.radios ≡ vec_len crew.old.radios) × (vec_len crew.new.pollers ≡ vec_len crew.old.pollers) × (vec_len crew.new.responders ≡ vec_len crew.old.responders) }
+    ensures counts { (vec_len crew.new.radios ≡ vec_len crew.old.radios)
+        × (vec_len crew.new.pollers ≡ vec_len crew.old.pollers)
+        × (vec_len crew.new.responders ≡ vec_len crew.old.responders) }
 {
     let Crew {
         radios,
@@ -136,7 +139,8 @@ pub fn run_crew<
     requires few { vec_len crew.responders ≤ 8 }
     requires told { (told.items ≡ []) × (vec_len crew.responders ≤ vec_capacity told) }
     requires left { HasRoomToLeave (vec_len crew.radios) (vec_len crew.pollers) (vec_len crew.responders) left }
-    ensures { CrewRan stands_for L.state L.opening T.state T.opening N.limit budget.during budget.after crew result }
+    ensures { let sights = sights_of (seen L.state L.opening) (seen T.state T.opening) in
+        CrewRan stands_for sights N.limit budget crew result }
 {
     let mut crew = crew;
     let mut told = told;

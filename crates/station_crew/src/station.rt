@@ -4,6 +4,7 @@ ghost use Rattle.station_config.specs.Station.{gate_of, leap_feed, settings_of};
 ghost use Rattle.station_crew.specs.Crews.{HasRoom, HasRoomFor, HasRoomForGear, HasRoomToLeave};
 ghost use Rattle.station_gear.specs.Opens.{IsWhole};
 ghost use Rattle.crew_work.specs.Served.{AreBlank, IsJournalOf, LeapServed, LinksServed, RadiosServed, ServersServed};
+ghost use Rattle.crew_work.specs.Served.{column_of, seen, service_of};
 
 use crate::crew::{Crew, Left};
 use crate::named::{Ended, Room, run_named};
@@ -128,10 +129,17 @@ pub fn serve_station<R: Threads + Wait + Sync, L: Source + Drop, T: Link + Drop,
     requires blank { AreBlank stands_for least_start station.now.radios receivers.items }
     requires gear { IsWhole station.now gear }
     ensures journal { IfOk result (λ e. IsJournalOf (settings_of station.now) limit e.journal) }
-    ensures radios { IfOk result (λ e. RadiosServed L.state L.opening station.now.radios limit e.journal.entries gear.logs.items e.gear.logs.items e.radios.items) }
-    ensures servers { IfOk result (λ e. ServersServed T.state T.opening station.now.servers (length station.now.radios) limit e.journal.entries gear.servers.items e.gear.servers.items e.servers.items) }
-    ensures leap { IfOk result (λ e. LeapServed L.state L.opening station.now.top.start (leap_feed station.now) limit e.journal.entries gear.leap e.gear.leap e.leap) }
-    ensures links { IfOk result (λ e. LinksServed T.state T.opening station.now.keys (gate_of station.now) (settings_of station.now) e.journal.entries budget.during budget.after gear.links.items e.gear.links.items e.links.items) }
+    ensures radios { IfOk result (λ e. let column = column_of 0 limit e.journal.entries in
+        let work = e.radios.items in
+        RadiosServed (seen L.state L.opening) station.now.radios column gear.logs.items e.gear.logs.items work) }
+    ensures servers { IfOk result (λ e. let column = column_of (length station.now.radios) limit e.journal.entries in
+        let had = gear.servers.items in
+        let has = e.gear.servers.items in
+        ServersServed (seen T.state T.opening) station.now.servers column had has e.servers.items) }
+    ensures leap { IfOk result (λ e. let column = column_of (leap_feed station.now) limit e.journal.entries in
+        LeapServed (seen L.state L.opening) station.now.top.start column gear.leap e.gear.leap e.leap) }
+    ensures links { IfOk result (λ e. let service = service_of station.now e.journal.entries budget in
+        LinksServed (seen T.state T.opening) service gear.links.items e.gear.links.items e.links.items) }
     ensures memory { IfErr result (λ g. g ≡ gear) }
 {
     let counts = Counts {

@@ -29,6 +29,7 @@ use Rattle.tick_units.specs.Log.{bad_at_end, pulses}
 use Rattle.tick_units.specs.declared.marks.Plan.TheVariants.{Dcf, Msf, Wwvb}
 use Rattle.tick_units.specs.declared.verdicts.Heard.{Heard}
 use Rattle.radio_receiver.specs.Histories.{answers_of}
+use Rattle.crew_work.specs.Served.{seen, sights_of}
 use Rattle.station_report.specs.Crewing.{LeavesAll, causes_left}
 use Rattle.file_commands.specs.Decoding.{IsGoodLog}
 use Rattle.station_report.specs.DrillScaffold.{FinishesDrill, HasDayGear, HasDrilled, feed_lines}
@@ -126,7 +127,7 @@ abbrev list_causes : Option LeapRun → List Ending
 list_causes o = each_cause (λ feed (leap : LeapRun). log_cause feed leap.end) 3 (option_to_list o)
 
 module _ {T : Type 0} (log_opening : SureSource → ℕ) (state : T → LinkState) (opening : T → ℕ) (orders : Orders) (seed : ℕ) (gear : Gear SureSource T) (done : Done) (last : Gear SureSource T)
-    (day : HasDayGear seed gear) (left : LeavesAll sure_state log_opening state opening one_of_each orders gear last done.journal done.radios.items done.servers.items done.leap done.links.items) where
+    (day : HasDayGear seed gear) (left : LeavesAll (sights_of (seen sure_state log_opening) (seen state opening)) one_of_each orders gear done last) where
   logs_open : length gear.logs.items ≡ 3
   logs_open = sym (length-map gear.logs.items sure_state) ∙ ap (λ (l : List SourceState). length l) day.logs
 

@@ -16,6 +16,7 @@ use Rattle.system_fold.specs.Page.{page_of}
 use Rattle.tick_units.specs.declared.marks.Plan.{Plan}
 use Rattle.tick_units.specs.declared.verdicts.Kind.{Kind}
 use Rattle.station_report.specs.Crewing.{HasEach, causes_left}
+use Rattle.verdict_journal.specs.Journals.{State}
 use Rattle.station_report.specs.Drilling.{day_run, feed_line, is_differing, is_lone, is_refused, is_verdict, times}
 use Rattle.file_commands.specs.Endings.{status_of, status_line}
 use Rattle.station_report.specs.Headline.{HasDueEntries, IsTold, due_in_all, full_cause}
@@ -67,6 +68,10 @@ pub record Counted (entries : List Entry) (counts : Counts) : Type 0 where
   pub lone : counts.lone ≡ times is_lone entries
   pub differs : counts.differs ≡ times is_differing entries
   pub refused : counts.refused ≡ times is_refused entries
+
+-- the line of a feed of a journal
+abbrev pub line_of_feed : ℕ → State → List ℕ
+line_of_feed feed journal = feed_line feed (of_feed feed journal.entries)
 
 abbrev pub feed_lines : List Entry → List ℕ
 feed_lines journal = flat_map (λ feed. feed_line feed (of_feed feed journal)) (0 ∷ 1 ∷ 2 ∷ [])

@@ -30,7 +30,6 @@ use Rattle.journal_entry.specs.Texts.{spaced}
 use Rattle.journal_entry.specs.declared.entry.Entry.{Entry}
 use Rattle.kiss_gate.specs.Gates.{Gate}
 use Rattle.log_decoder.specs.Due.{due_log}
-use Rattle.packet_auth.specs.Keys.{KeyFields}
 use Rattle.page_cell.specs.Claims.{of_feed}
 use Rattle.responder.specs.Serving.{EndsBy}
 use Rattle.responder.specs.Turns.{Turn, events_of, readings_of, AreTurns, GoesOn, answered_of, dropped_of, torn_of, kissed_of, unkept_of, Rises}
@@ -40,7 +39,7 @@ use Rattle.station_config.specs.Station.{RadioFields, ServerFields, StationField
 use Rattle.crew_work.specs.Lists.{Pairs}
 use Rattle.crew_work.specs.Served.{IsReadOf}
 use Rattle.system_fold.specs.Page.{page_of}
-use Rattle.system_fold.specs.Settings.{IsJournal, SettingsFields}
+use Rattle.system_fold.specs.Settings.{IsJournal}
 use Rattle.file_commands.specs.Endings.{number_of, status_of, status_line}
 use Rattle.file_commands.specs.Migrating.{journal_text}
 use Rattle.file_commands.specs.Text.{page_text}
@@ -146,31 +145,31 @@ pub record PollsServers (of : StationFields) (run : StationRun) : Type 0 where
 -- ---- 4. Each client is answered
 
 -- both phases have as many hearings as were asked for, unless the link ended or one of its calls failed: then nothing comes behind that
-abbrev pub EndsPhases : ℕ → ℕ → ℕ → ℕ → List Turn → List Turn → End → Type 0
-EndsPhases during after faults faults_now first second end =
-    (All GoesOn first × (length first ≡ during) × EndsBy after faults faults_now second end)
-    ⊎ ((end ≢ Count) × (second ≡ []) × EndsBy during faults faults_now first end)
+abbrev pub EndsPhases : (during after : ℕ) → LinkRun → Type 0
+EndsPhases during after link =
+    (All GoesOn link.first × (length link.first ≡ during) × EndsBy after link.opened.faults link.back.faults link.second link.end)
+    ⊎ ((link.end ≢ Count) × (link.second ≡ []) × EndsBy during link.opened.faults link.back.faults link.first link.end)
 
 -- The events of a link are those of its turns: each reply goes to the sender of the datagram of its turn, and is its answer from the page
 -- that was read in that turn, or the kiss code that the link's gate of clients gives its sender, authentic exactly where that datagram is,
 -- and by the key that it names. The gate begins with no client, and goes on from turn to turn over both phases. Each page is that of a
 -- beginning of the journal, and these beginnings never shorten; in the second phase each is the whole journal, and no datagram is left for
 -- want of a page. Of those that were left so in the first phase, four times as many are no more than there are entries
-pub record IsAnswered (keys : List KeyFields) (gate : Gate) (settings : SettingsFields) (journal : List Entry) (during after : ℕ) (link : LinkRun) : Type 0 where
+pub record IsAnswered (of : StationFields) (journal : List Entry) (during after : ℕ) (link : LinkRun) : Type 0 where
   pub told : Adds link.opened.events link.back.events (flat_map events_of (link.first ++ link.second))
   pub gate_now : Gate
-  pub replies : AreTurns keys gate (link.first ++ link.second) gate_now
-  pub pages : All (IsReadOf settings journal) (flat_map readings_of (link.first ++ link.second))
+  pub replies : AreTurns of.keys (gate_of of) (link.first ++ link.second) gate_now
+  pub pages : All (IsReadOf (settings_of of) journal) (flat_map readings_of (link.first ++ link.second))
   pub last : ℕ
   pub rising : Rises 0 (flat_map readings_of (link.first ++ link.second)) last
   pub whole : All (λ reading. reading.length ≡ length journal) (flat_map readings_of link.second)
   pub none_left : sum_by torn_of link.second ≡ 0
   pub few_left : 4 * sum_by torn_of link.first ≤ length journal
-  pub ends : EndsPhases during after link.opened.faults link.back.faults link.first link.second link.end
+  pub ends : EndsPhases during after link
 
 pub record AnswersLinks (of : StationFields) (during after : ℕ) (run : StationRun) : Type 0 where
   pub each : length run.links ≡ length of.links
-  pub served : All (IsAnswered of.keys (gate_of of) (settings_of of) run.journal during after) run.links
+  pub served : All (IsAnswered of run.journal during after) run.links
 
 -- ---- 5. All of it is written
 

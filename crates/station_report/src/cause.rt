@@ -111,7 +111,9 @@ fn with_works<W: Work>(found: Option<Ending>, works: &[W], first: u32) -> Option
 
 // The one to report of those so far and of a leap second file's worker, where there is one, with the feed of this number.
 fn with_leap(found: Option<Ending>, leap: Option<LogWork>, feed: u32) -> Option<Ending>
-    ensures { (all : List Ending) → HasLeast all found → HasLeast (all ++ each_cause (λ place work. log_cause place work.end) feed (option_to_list leap)) result }
+    ensures { (all : List Ending) → HasLeast all found →
+        let more = each_cause (λ place work. log_cause place work.end) feed (option_to_list leap) in
+        HasLeast (all ++ more) result }
 {
     match leap {
         Some(work) => with_next(found, work.cause(feed)),

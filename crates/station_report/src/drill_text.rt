@@ -3,8 +3,7 @@ ghost use Rattle.std.specs.Prelude.{◌≡◌, ◌-◌, ◌≤◌, ◌^◌, OnOk
 ghost use Rattle.journal_entry.specs.declared.writer.TheConstants.{LINE_ROOM};
 ghost use Rattle.page_cell.specs.Claims.{of_feed};
 ghost use Rattle.station_report.specs.Crewing.{HasEach};
-ghost use Rattle.station_report.specs.DrillScaffold.{Counted, CountsFound, CountsOne, CountsUpTo, FinishesDrill, answer_found, answer_in, feed_lines};
-ghost use Rattle.station_report.specs.Drilling.{feed_line};
+ghost use Rattle.station_report.specs.DrillScaffold.{Counted, CountsFound, CountsOne, CountsUpTo, FinishesDrill, answer_found, answer_in, feed_lines, line_of_feed};
 ghost use Rattle.sink_text.specs.Writing.{WritesAll, WritesFront};
 
 use crate::cause::ending_of;
@@ -102,7 +101,7 @@ fn counts_of(journal: &Journal, feed: u32) -> Counts
 
 // Writes the line of a feed at the beginning of `line`. The answer is its number of bytes.
 fn write_feed_line(feed: u32, journal: &Journal, line: &mut Line) -> usize
-    ensures text { take result line.new ≡ feed_line feed (of_feed feed journal.now.entries) }
+    ensures text { take result line.new ≡ line_of_feed feed journal.now }
     ensures within { result ≤ LINE_ROOM }
 {
     let counts = counts_of(journal, feed);
@@ -123,8 +122,8 @@ fn write_feed_line(feed: u32, journal: &Journal, line: &mut Line) -> usize
 
 // Writes the line of a feed.
 fn tell_feed<K: Sink>(feed: u32, journal: &Journal, out: &mut K) -> Result<(), Failed>
-    ensures ok { OnOk result (WritesAll (K.state out.old) (K.state out.new) (feed_line feed (of_feed feed journal.now.entries))) }
-    ensures err { OnErr result (WritesFront (K.state out.old) (K.state out.new) (feed_line feed (of_feed feed journal.now.entries))) }
+    ensures ok { OnOk result (WritesAll (K.state out.old) (K.state out.new) (line_of_feed feed journal.now)) }
+    ensures err { OnErr result (WritesFront (K.state out.old) (K.state out.new) (line_of_feed feed journal.now)) }
 {
     let mut line = [0; LINE_ROOM];
     let length = write_feed_line(feed, journal, &mut line);
