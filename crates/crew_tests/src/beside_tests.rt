@@ -27,7 +27,7 @@ fn has_held_once(rt: &(impl Abort + Wait), gate: &HoldGate) {
     assert!(*rt; !gate.ran_out(rt));
 }
 
-// Two links hear a request each, in the first phase or in the second. One responder has heard, and goes on once the other has answered.
+// Two links receive a request each, in the first phase or in the second. One responder has received, and goes on once the other has answered.
 fn answers_after<R: Threads + Wait + Sync + Abort>(
     rt: &R,
     alloc: Global,

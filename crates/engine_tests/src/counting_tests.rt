@@ -1,4 +1,4 @@
-//! Swaps with receivers that count what they hear: what is written is the same, whichever receivers stand in the rack.
+//! Swaps with receivers that count what they receive: what is written is the same, whichever receivers stand in the rack.
 ghost use Rattle.std.specs.Prelude.{◌≡◌, IfOk, false};
 ghost use Rattle.feed_link.specs.MemoryOutside.{is_gate_out};
 
@@ -17,7 +17,7 @@ use tick_units::Plan;
 
 const REPLAY: [&str; 5] = ["replay", "--station", "s", "--script", "p"];
 
-// Runs the words with four receivers of each plan, each of which counts what it hears.
+// Runs the words with four receivers of each plan, each of which counts what it receives.
 fn run_counting<R: Threads + Wait + Sync, G: Gate + Drop>(
     rt: &R,
     alloc: Global,
@@ -91,7 +91,7 @@ fn run_counting<R: Threads + Wait + Sync, G: Gate + Drop>(
     Ok(run_station(rt, alloc, words, rack, outside, out))
 }
 
-// A station with a radio of DCF77, and the script of three minutes in which it is swapped behind the pulse at 90 s.
+// A station with a radio of DCF77, and the script of three minutes in which it is swapped after the pulse at 90 s.
 fn swapped(alloc: Global) -> Result<MemoryOutside<OpenGate>, FakeOpen>
     ensures { IfOk result (λ outside. is_gate_out outside ≡ false) }
 {

@@ -19,10 +19,10 @@ use tick_units::{Heard, Plan, Reduction};
 
 const REPLAY: [&str; 5] = ["replay", "--station", "s", "--script", "p"];
 
-// What the four receivers of a plan add for each reduction that they hear: a count of four hexadecimal digits has room for each of them.
+// What the four receivers of a plan add for each reduction that they receive: a count of four hexadecimal digits has room for each of them.
 const STEPS: [u64; 4] = [1, 0x1_0000, 0x1_0000_0000, 0x1_0000_0000_0000];
 
-// A receiver round a receiver, which adds its step to a count that others share wherever it hears.
+// A receiver round a receiver, which adds its step to a count that others share wherever it receives.
 #[derive(Drop)]
 struct NotingReceiver<T> {
     inner: T,
@@ -63,7 +63,7 @@ impl<T: Receiver> Receiver for NotingReceiver<T> {
     }
 }
 
-// How often the four receivers of each plan have heard.
+// How often the four receivers of each plan have received.
 #[derive(Drop)]
 struct Counts {
     dcf: Arc<AtomicU64, Global>,
@@ -71,7 +71,7 @@ struct Counts {
     wwvb: Arc<AtomicU64, Global>,
 }
 
-// Runs the words with four receivers of each plan, each of which notes where it hears.
+// Runs the words with four receivers of each plan, each of which notes where it receives.
 fn run_noting<R: Threads + Wait + Sync, G: Gate + Drop>(
     rt: &R,
     alloc: Global,
@@ -208,7 +208,7 @@ fn pulses(script: &mut String, radio: u32, from: u64, count: u64) -> Result<(), 
     Ok(())
 }
 
-// Each radio hears some pulses, then radio 2 is swapped and hears some more, then radio 0, then radio 1.
+// Each radio receives some pulses, then radio 2 is swapped and receives some more, then radio 0, then radio 1.
 fn swapped(alloc: Global) -> Result<MemoryOutside<OpenGate>, FakeOpen>
     ensures { IfOk result (λ outside. is_gate_out outside ≡ false) }
 {
