@@ -35,7 +35,7 @@ pub record IsBlank {B : Type 0} (stands : B → History → Type 0) (least : B �
 abbrev pub AreBlank : {B : Type 0} → (B → History → Type 0) → (B → ℕ) → List RadioFields → List B → Type 0
 AreBlank stands least radios receivers = Pairs (IsBlank stands least) radios receivers
 
--- the journal has these settings and this limit, is within it, and each of its entries is lawful
+-- the journal has these settings and this limit, is within it, and each of its entries is valid
 pub record IsJournalOf (settings : SettingsFields) (limit : ℕ) (journal : State) : Type 0 where
   pub settings_are : journal.settings ≡ settings
   pub limit_is : journal.limit ≡ limit
@@ -67,7 +67,7 @@ pub record Column : Type 0 where
 abbrev pub column_of : (feed limit : ℕ) → List Entry → Column
 column_of feed limit journal = record { feed = feed; limit = limit; journal = journal }
 
--- that of a feed so many places after it
+-- that of a feed this many places after it
 abbrev pub column_after : Column → ℕ → Column
 column_after column places = record column { feed = column.feed + places }
 
@@ -91,12 +91,12 @@ pub record NoticesLeaps (start : ℕ) (column : Column) (file file_now : SourceS
   pub ends : EndsLeap most_of_a_list file file_now bytes whole work.end
   pub due : HasDue column.limit column.journal column.feed work.full (due_leap column.feed start whole bytes)
 
--- a page that was read is that of the first so many entries of the journal
+-- a page that was read is that of a beginning of the journal, of this many entries
 pub record IsReadOf (settings : SettingsFields) (journal : List Entry) (reading : Reading) : Type 0 where
   pub within : reading.length ≤ length journal
   pub page : reading.page ≡ page_of settings (take reading.length journal)
 
--- what was told of a phase is what its turns come to
+-- what was reported of a phase is what its turns come to
 pub record CountsTurns (served : Served) (turns : List Turn) : Type 0 where
   pub answered : served.answered ≡ sum_by answered_of turns
   pub dropped : served.dropped ≡ sum_by dropped_of turns
@@ -104,7 +104,7 @@ pub record CountsTurns (served : Served) (turns : List Turn) : Type 0 where
   pub kissed : served.kissed ≡ sum_by kissed_of turns
   pub unkept : served.unkept ≡ sum_by unkept_of turns
 
--- these turns were taken in a phase of at most so many hearings, by which the link came from one state to the other
+-- these turns were taken in a phase of at most this many hearings, by which the link came from one state to the other
 pub record ServesPhase (budget : ℕ) (link link_now : LinkState) (served : Served) (turns : List Turn) : Type 0 where
   pub events : Adds link.events link_now.events (flat_map events_of turns)
   pub most : length turns ≤ budget
@@ -165,14 +165,14 @@ pub record RadiosServed {L : Type 0} (logs_of : Sight L SourceState) (radios : L
   pub at : (i : ℕ) (radio : RadioFields) (a b : L) (work : LogWork) → i < length logs →
       HearsRadio (slice_index_or radios i radio) (column_after first i) (logs_of.state (slice_index_or logs i a)) (logs_of.state (slice_index_or logs_now i b)) (slice_index_or works i work)
 
--- the servers are the feeds behind them
+-- the servers are the feeds after them
 pub record ServersServed {T : Type 0} (links_of : Sight T LinkState) (servers : List ServerFields) (first : Column) (links links_now : List T) (works : List PollWork) : Type 0 where
   pub openings : map links_of.opening links_now ≡ map links_of.opening links
   pub count : length works ≡ length links
   pub at : (i : ℕ) (server : ServerFields) (a b : T) (work : PollWork) → i < length links →
       AsksServer (slice_index_or servers i server) (column_after first i) (links_of.state (slice_index_or links i a)) (links_of.state (slice_index_or links_now i b)) (slice_index_or works i work)
 
--- the leap second file is the feed behind them, where there is one: what was done with it, which is still that of its opening
+-- the leap second file is the feed after them, where there is one: what was done with it, which is still that of its opening
 abbrev pub LeapServed : {L : Type 0} → Sight L SourceState → (start : ℕ) → Column → Option L → Option L → Option LogWork → Type 0
 LeapServed file_of start column None None None = Unit {0}
 LeapServed file_of start column (Some file) (Some file_now) (Some work) =

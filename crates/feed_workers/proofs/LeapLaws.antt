@@ -89,7 +89,7 @@ module _ (reader new : LeapReader) (start : ℕ) (share : Share) (bytes : List �
 
 -- ---- a piece
 
--- bytes behind a bad line change neither that line nor what is due
+-- bytes after a bad line change neither that line nor what is due
 pub passed_stays : (start : ℕ) (share : Share) (front more : List ℕ) (line : ℕ) → HasPassed start share front line → HasPassed start share (front ++ more) line
 passed_stays start share front more line h = by (bad_line false front) refl h.bad
   where
@@ -136,7 +136,7 @@ line_small true bytes bad is =
     let small = bad_small None 1 (says (bytes ++ 10 ∷ [])) bad (sym (ap (bad_behind None 1) (says_whole bytes)) ∙ is) in
     omega (arith, length-append bytes (10 ∷ []))
 
--- so it is told as it is
+-- so it is reported as it is
 pub exact : (whole : Bool) (bytes : List ℕ) (line : ℕ) → length bytes ≤ 2 ^ 16 → option_map counted (bad_line whole bytes) ≡ Some line → bad_line whole bytes ≡ Some line
 exact whole bytes line most counts = by (bad_line whole bytes) refl counts
   where
@@ -163,7 +163,7 @@ list_ends log log_now bytes Long at read good = absurd at
 
 -- ---- places of a piece
 
--- with the byte at a place the front up to it is one longer, and the rest stands behind
+-- with the byte at a place the beginning up to it is one longer, and the rest stands after
 pub up_to : (bytes piece : List ℕ) (place : ℕ) → place < length piece → (bytes ++ take place piece) ++ slice_index_or piece place 0 ∷ [] ≡ bytes ++ take (place + 1) piece
 up_to bytes piece place within = append_assoc bytes (take place piece) (slice_index_or piece place 0 ∷ []) ∙ ap (λ (l : List ℕ). bytes ++ l) (sym (ap (λ n. take n piece) (one_on place) ∙ take-suc piece place 0 within))
   where

@@ -28,7 +28,7 @@ due_none feed Dcf delay = refl
 due_none feed Msf delay = refl
 due_none feed Wwvb delay = refl
 
--- bytes behind a bad line change neither that line nor what is due
+-- bytes after a bad line change neither that line nor what is due
 due_same : (feed : ℕ) (plan : Plan) (delay : ℕ) (bytes more : List ℕ) → pulses more ≡ pulses bytes → due_log feed plan delay more ≡ due_log feed plan delay bytes
 due_same feed plan delay bytes more same = ap (λ (rs : List Reduction). map (entry_of feed) (answers_of (record { plan = plan; delay = delay; reductions = rs }))) same
 
@@ -43,7 +43,7 @@ module _ {B : Type 0} (stands : B → History → Type 0) where
   }
 
   module _ (d now : LogDecoder B) (tuning : Tuning) (share : Share) (before front : List ℕ) (h : HasHeard stands d tuning share before None) where
-    -- a front of what comes completes no entry
+    -- a beginning of what comes completes no entry
     pub heard_nothing : (found : Result (Option Entry) Bad) → DecodesFront stands now share.begun.number tuning.plan tuning.delay before front found → found ≡ Ok None →
         HasHeard stands now tuning share (before ++ front) None
     heard_nothing found any same = let took = subst (λ f. DecodesFront stands now share.begun.number tuning.plan tuning.delay before front f) same any in record {

@@ -39,7 +39,7 @@ is_timely asked moment latest x is same e = let same_moment : moment ≡ x = cc 
 event_is : (mid last : LinkState) (hearing is : Hearing) (piece : List ℕ) → Hears mid last hearing piece → hearing ≡ is → Adds mid.events last.events (event_of is piece ∷ [])
 event_is mid last hearing is piece hears same = subst (λ (h : Hearing). Adds mid.events last.events (event_of h piece ∷ [])) same hears.event
 
--- what does not end a round isn't the link's end
+-- what does not end a round is not the link's end
 not_ended : (server : Address) (before : List NetEvent) (event : NetEvent) → ends_round server before event ≡ false → is_ended event ≡ false
 not_ended server before (Came from at bytes) on = refl
 not_ended server before Silent on = refl
@@ -47,7 +47,7 @@ not_ended server before Ended on = absurd (true≢false on)
 not_ended server before (Timed moment) on = refl
 not_ended server before (Went to bytes) on = refl
 
--- a list that isn't empty has a last item
+-- a list that is not empty has a last item
 record Ended_by (events : List NetEvent) : Type 0 where
   pub front : List NetEvent
   pub last : NetEvent

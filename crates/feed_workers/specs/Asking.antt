@@ -18,7 +18,7 @@ pub record HasDone (poll : Poll) (session : Session) (events : List NetEvent) : 
   pub kept : Keeps session.share (due_link session.share.begun.number session.server events)
   pub no_fault : session.link.faults ≡ session.begun.faults
 
--- so many whole rounds were made, after each of which another may come
+-- this many whole rounds were made, after each of which another may come
 pub record Polled (poll : Poll) (session : Session) (count : ℕ) : Type 0 where
   pub made : List Round
   pub done : HasDone poll session (events_in session.server made)
@@ -36,7 +36,7 @@ HearsOne poll session before End = HasDone poll session (before ++ Ended ∷ [])
 HearsOne poll session before Fault =
     Adds session.begun.events session.link.events before × RoseByOne session.begun.faults session.link.faults × Keeps session.share (due_link session.share.begun.number session.server before)
 
--- in a round after so many others: its request was sent, and so many hearings were made, none of which ends it
+-- in a round after this many others: its request was sent, and this many hearings were made, none of which ends it
 pub record InRound (poll : Poll) (session : Session) (count heard : ℕ) : Type 0 where
   pub made : List Round
   pub whole : AreWhole session.server [] made

@@ -24,7 +24,7 @@ pub record HasMissed (tuning : Tuning) (share : Share) (bytes : List ℕ) (line 
   pub kept : Keeps share (due_log share.begun.number tuning.plan tuning.delay bytes)
   pub bad_is : bad_line bytes ≡ Some line
 
--- a piece was heard behind these bytes: all of it, or up to a bad line
+-- a piece was read after these bytes: all of it, or up to a bad line
 abbrev pub HearsPiece : {B : Type 0} → (B → History → Type 0) → LogDecoder B → Tuning → Share → List ℕ → Option ℕ → Type 0
 HearsPiece stands decoder tuning share bytes None = HasHeard stands decoder tuning share bytes None
 HearsPiece stands decoder tuning share bytes (Some line) = HasMissed tuning share bytes line

@@ -17,7 +17,7 @@ pub record Share : Type 0 where
 abbrev pub share_of : Claim → Known → ℕ → Bool → Share
 share_of begun pass limit full = record { begun = begun; claim = claim_of pass.view; limit = limit; full = full }
 
--- The feed's own entries have grown by these, in order. Where the journal was found full, they have grown by a front of them that isn't
+-- The feed's own entries have grown by these, in order. Where the journal was found full, they have grown by a beginning of them that is not
 -- all, and the pass has seen as many entries as there may be
 pub record Keeps (share : Share) (due : List Entry) : Type 0 where
   pub count : ℕ
@@ -27,7 +27,7 @@ pub record Keeps (share : Share) (due : List Entry) : Type 0 where
   pub whole : share.full ≡ false → count ≡ length due
   pub lost : share.full ≡ true → (count < length due) × (length share.claim.seen ≡ share.limit)
 
--- a pass of this cell, and of this feed, which is one of so many sources
+-- a pass of this cell, and of this feed, which is one of a number of sources
 pub record IsOfFeed (table : TableId) (sources feed : ℕ) (pass : Known) : Type 0 where
   pub table_is : pass.table ≡ table
   pub feed_is : (claim_of pass.view).number ≡ feed

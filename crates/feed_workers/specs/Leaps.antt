@@ -26,9 +26,9 @@ notices_of feed start seconds = map (λ second. record { feed = feed; at = start
 abbrev pub due_leap : ℕ → ℕ → (whole : Bool) → List ℕ → List Entry
 due_leap feed start whole bytes = notices_of feed start (leap_seconds whole bytes)
 
--- These bytes were read of a file of at most so many, and the reading ended so. Whole: at the file's end, with no bad line. BadLine: at the
+-- These bytes were read of a file of at most this many, and the reading ended so. Whole: at the file's end, with no bad line. BadLine: at the
 -- first bad line, which stands among the bytes or is the last one, without its line feed, at the file's end. Fault: a read failed. Long:
--- there is another byte behind as many as a file may have. In the last two no line was bad so far
+-- there is another byte after as many as a file may have. In the last two no line was bad so far
 abbrev pub EndsLeap : ℕ → SourceState → SourceState → List ℕ → (whole : Bool) → LogEnd → Type 0
 EndsLeap most log log_now bytes whole Whole = (whole ≡ true) × EndsReading file.Whole most log log_now bytes × (bad_line true bytes ≡ None)
 EndsLeap most log log_now bytes whole (BadLine line) =

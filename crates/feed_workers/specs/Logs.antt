@@ -17,9 +17,9 @@ use Rattle.feed_workers.specs.declared.work.LogWork.{LogWork}
 abbrev pub most_of_a_log : ℕ
 most_of_a_log = 2 ^ 30
 
--- These bytes were read of a log of at most so many, and the reading ended so. Whole: at the log's end, with no bad line and no
+-- These bytes were read of a log of at most this many, and the reading ended so. Whole: at the log's end, with no bad line and no
 -- unfinished one. BadLine: at the first bad line, which stands among the bytes or is the unfinished one at the log's end. Fault: a read
--- failed. Long: there is another byte behind as many as a log may have. In the last two no line was bad so far
+-- failed. Long: there is another byte after as many as a log may have. In the last two no line was bad so far
 abbrev pub EndsLog : ℕ → SourceState → SourceState → List ℕ → LogEnd → Type 0
 EndsLog most log log_now bytes Whole = EndsReading file.Whole most log log_now bytes × (bad_at_end bytes ≡ None)
 EndsLog most log log_now bytes (BadLine line) =

@@ -20,17 +20,17 @@ pub record HasPassed (start : ℕ) (share : Share) (bytes : List ℕ) (line : �
   pub kept : Keeps share (due_leap share.begun.number start false bytes)
   pub bad : option_map counted (bad_line false bytes) ≡ Some line
 
--- a byte was taken behind others, with which they are these; or it ends a bad line
+-- a byte was taken after others, with which they are these; or it ends a bad line
 abbrev pub NoticesByte : {A : Type 0} → LeapReader → ℕ → Share → List ℕ → Result A BadLeap → Type 0
 NoticesByte reader start share bytes (Ok unit) = HasNoticed reader start share bytes
 NoticesByte reader start share bytes (Err bad) = HasPassed start share bytes bad.line
 
--- a piece was taken behind others: all of it, or up to a bad line
+-- a piece was taken after others: all of it, or up to a bad line
 abbrev pub NoticesPiece : LeapReader → ℕ → Share → List ℕ → Option ℕ → Type 0
 NoticesPiece reader start share bytes None = HasNoticed reader start share bytes
 NoticesPiece reader start share bytes (Some line) = HasPassed start share bytes line
 
--- the file came to its end behind these bytes: its last line counts, with its notice or as a bad line
+-- the file came to its end after these bytes: its last line counts, with its notice or as a bad line
 pub record EndsList (start : ℕ) (share : Share) (bytes : List ℕ) (end : LogEnd) : Type 0 where
   pub kept : Keeps share (due_leap share.begun.number start true bytes)
   pub ends : EndsAt end (option_map counted (bad_line true bytes))

@@ -1,4 +1,4 @@
--- Turns, put one behind another.
+-- Turns, put one after another.
 use Rattle.std.proofs.Common.{◌≡◌, ◌⊎◌, inl, inr, ℕ, zero, suc, ◌+◌, ◌<◌, ◌≤◌, List, [], ◌∷◌, ◌++◌, map, length, refl, sym, ap, ◌∙◌, subst, arith, length-append}
 use Rattle.std.specs.Prelude.{All, Bool, true, false}
 use Rattle.std.specs.Bool.{OnFalse, OnTrue}
@@ -34,7 +34,7 @@ pub rises_le : (n m : ℕ) (rs : List Reading) → Rises n rs m → n ≤ m
 rises_le n m [] p = omega arith
 rises_le n m (r ∷ rs) p = let q = rises_le r.length m rs p.1 in let h = p.0 in omega arith
 
--- turns behind turns, from gate to gate
+-- turns after turns, from gate to gate
 pub turns_both : (keys : List KeyFields) (A B C : Gate) (ts us : List Turn) → AreTurns keys A ts B → AreTurns keys B us C → AreTurns keys A (ts ++ us) C
 turns_both keys A B C [] us p q = subst (λ z. AreTurns keys z us C) (sym p) q
 turns_both keys A B C (t ∷ ts) us p q = (p.0, turns_both keys (gate_behind A t) B C ts us p.1 q)
@@ -97,7 +97,7 @@ with_past a b heard past t told o = record {
 pub serving_none : (a : Desk) (s : Served) → s.answered ≡ 0 → s.dropped ≡ 0 → s.again ≡ 0 → s.kissed ≡ 0 → s.unkept ≡ 0 → s.end ≡ Count → Serving a a 0 s
 serving_none a s e f g k u h = record { turns = []; took = took_none a a.link (Adds-none a.link.events); go = All-nil GoesOn; length = refl; faults = refl; answered = e; dropped = f; again = g; kissed = k; unkept = u; end = h; most = (omega arith, omega arith, omega arith, omega arith, omega arith) }
 
--- what was counted of some turns, behind what was counted before
+-- what was counted of some turns, after what was counted before
 record Counts (answered dropped again kissed unkept : ℕ) (s r : Served) : Type 0 where
   pub by_answered : r.answered ≡ s.answered + answered
   pub by_dropped : r.dropped ≡ s.dropped + dropped

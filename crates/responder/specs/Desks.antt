@@ -13,7 +13,7 @@ pub record Desk : Type 0 where
   pub link : LinkState
   pub view : View
 
--- a responder's, by what its link tells
+-- a responder's, by what its link reports
 abbrev pub desk_of : {L : Type 0} → (L → LinkState) → Responder L → Desk
 desk_of state r = record { keys = keys_of r.keys; gate = r.clients; link = state r.link; view = r.pass.view }
 

@@ -12,7 +12,7 @@ use Rattle.responder.specs.declared.served.End.{End}
 use Rattle.responder.specs.declared.served.End.TheVariants.{Count, LinkEnd, LinkFault}
 
 -- These turns were taken at a desk, whose keys stay, and whose gate of clients goes from turn to turn: the link's events are theirs, in
--- order, and the pass has their readings, in order, each of a page, whose lengths never fall. So many more of its calls answered Again
+-- order, and the pass has their readings, in order, each of a page, whose lengths never fall. This many more of its calls answered Again
 -- as turns left their datagram; where there was one, something was published beyond what the pass had seen.
 pub record Took (before now : Desk) (turns : List Turn) : Type 0 where
   pub keys : now.keys ≡ before.keys

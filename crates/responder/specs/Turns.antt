@@ -101,7 +101,7 @@ goes_on (Unsent request reading judged sent reply) = false
 abbrev pub GoesOn : Turn → Type 0
 GoesOn turn = goes_on turn ≡ true
 
--- the time was told
+-- the time was given
 abbrev pub passed : Code → ℕ
 passed Pass = 1
 passed Deny = 0

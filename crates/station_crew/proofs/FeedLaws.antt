@@ -1,4 +1,4 @@
--- What closing tells of each feed.
+-- What closing reports of each feed.
 use Rattle.std.proofs.Common.{◌≡◌, ◌⊎◌, inl, inr, ℕ, ◌+◌, ◌-◌, ◌==◌, ◌<◌, ◌≤◌, List, [], ◌∷◌, ◌++◌, take, map, length, refl, sym, ap, ◌∙◌, subst, arith, length-append, append_assoc}
 use Rattle.std.specs.Prelude.{Option, Some, None, All, IfSome, get_or, option_map}
 use Rattle.std.specs.Option.{option_to_list}

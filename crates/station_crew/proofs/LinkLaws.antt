@@ -1,4 +1,4 @@
--- What closing tells of each link that the station serves on.
+-- What closing reports of each link that the station serves on.
 use Rattle.std.proofs.Common.{◌≡◌, ℕ, zero, suc, ◌<◌, ◌≤◌, List, [], ◌∷◌, ◌++◌, None, Bool, true, false, map, length, refl, sym, ap, ◌∙◌, subst, arith}
 use Rattle.std.specs.Prelude.{All, get_or}
 use Rattle.std.specs.List.{flat_map, sum_by}
@@ -79,7 +79,7 @@ phase_of before now budget served r = record {
 abbrev by_parts : List KeyFields → Gate → SettingsFields → List Entry → Budget → Service
 by_parts keys gate settings journal budget = record { keys = keys; gate = gate; settings = settings; journal = journal; during = budget.during; after = budget.after }
 
--- the turns of a link by what its responder did in both phases, and by what the journal tells of its pass
+-- the turns of a link by what its responder did in both phases, and by what the journal reports of its pass
 serves_link : {T : Type 0} (state : T → LinkState) (opening : T → ℕ) (keys : List KeyFields) (gate : Gate) (s : SettingsFields) (j : List Entry) (budget : Budget) (feeds : List Known) (a b : ServeJob T)
     → a.responder.pass.view.seen ≡ 0 → a.responder.pass.view.readings ≡ [] → a.responder.pass.view.watch.torn ≡ 0 → a.work.second ≡ None
     → keys_of a.responder.keys ≡ keys → a.responder.clients ≡ gate → ((r : KnownReader) → HasSeenAll feeds r → length j ≤ r.view.seen)

@@ -30,7 +30,7 @@ pub record IsNewReader (table : TableId) (r : KnownReader) : Type 0 where
   pub unread : r.view.readings ≡ []
   pub untorn : r.view.watch.torn ≡ 0
 
--- room for the workers of so many radios, servers and links
+-- room for the workers of this many radios, servers and links
 pub record HasRoomFor {L T X : Type 0} {F : X → Type 0} (of_radios of_servers of_links : ℕ) (crew : Crew L T X F) : Type 0 where
   pub no_radios : crew.radios.items ≡ []
   pub no_pollers : crew.pollers.items ≡ []

@@ -27,17 +27,17 @@ pub record IsManned {L X : Type 0} {F : X → Type 0} (stands : Boxed X F → Hi
   pub start : (plan : Plan) (delay : ℕ) → stands receiver (record { plan = plan; delay = delay; reductions = [] })
       → HasDecoded stands j.worker.decoder (claim_of j.worker.pass.view).number plan delay []
 
--- a radio's worker with a pass of this cell, for one of so many sources
+-- a radio's worker with a pass of this cell, for one of a number of sources
 pub record MayHear {L X : Type 0} {F : X → Type 0} (least : Boxed X F → ℕ) (table : TableId) (sources : ℕ) (j : RadioJob L X F) : Type 0 where
   pub ready : IsReady least j.worker.decoder
   pub pass : IsOfFeed table sources (feed_of j.worker.decoder) j.worker.pass
   pub feed : feed_of j.worker.decoder ≡ (claim_of j.worker.pass.view).number
 
--- a server's worker with a pass of this cell, for one of so many sources
+-- a server's worker with a pass of this cell, for one of a number of sources
 pub record MayPoll {T : Type 0} (table : TableId) (sources : ℕ) (j : PollJob T) : Type 0 where
   pub pass : IsOfFeed table sources (claim_of j.worker.pass.view).number j.worker.pass
 
--- a leap second file's worker with a pass of this cell, for one of so many sources
+-- a leap second file's worker with a pass of this cell, for one of a number of sources
 pub record MayNotice {L : Type 0} (table : TableId) (sources : ℕ) (j : LeapJob L) : Type 0 where
   pub pass : IsOfFeed table sources (claim_of j.worker.pass.view).number j.worker.pass
 

@@ -1,4 +1,4 @@
--- Scaffolding: what responders are told between the phases.
+-- Scaffolding: what responders learn between the phases.
 use Rattle.std.specs.Prelude.{◌≡◌, ◌≤◌, ℕ, List, All, length}
 use Rattle.feed_link.specs.Told.{LinkState}
 use Rattle.page_cell.specs.Passes.{Known, KnownReader, claim_of}
@@ -26,7 +26,7 @@ pub record WasTold {T : Type 0} (feeds : List Known) (a b : ServeJob T) : Type 0
   pub learnt : HasLearnt a.responder.pass b.responder.pass
   pub seen : HasSeenAll feeds b.responder.pass
 
--- both phases of a responder, and what it was told between them
+-- both phases of a responder, and what it learnt between them
 pub record HasServedTwice {T : Type 0} (state : T → LinkState) (opening : T → ℕ) (budget : Budget) (feeds : List Known) (a b : ServeJob T) : Type 0 where
   pub between : ServeJob T
   pub told : ServeJob T

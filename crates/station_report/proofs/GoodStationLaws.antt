@@ -57,7 +57,7 @@ answered status result out out_now text h no_write = elim h [
   | inr failed ↦ absurd (no_write (rose_by_one out.faults out_now.faults failed.1.3))
 ]
 
--- ---- visits that told the same
+-- ---- visits that reported the same
 
 state_of : (a b : State) → ◌≡◌ {A = Option State} (Some a) (Some b) → a ≡ b
 state_of a b e = cc
@@ -83,7 +83,7 @@ none_failed [] (y ∷ ys) what e = no_state y.opened (ap (λ (o : Opening). o.op
 none_failed (x ∷ xs) [] what e = cc
 none_failed (x ∷ xs) (y ∷ ys) what e = none_failed xs ys what (rest_of (visited x) (visited y) (map visited xs ++ failed what ∷ []) (map visited ys) e)
 
--- ---- logs and links, told in a row
+-- ---- logs and links, reported in a row
 
 log_state : (a b : SourceState) → OfLog a ≡ OfLog b → a ≡ b
 log_state a b e = cc
@@ -210,7 +210,7 @@ good_list feed start (Some r) (Some g) read good same too =
       ap (λ b. due_leap feed start b r.bytes ∷ []) (whole.1.0 ∙ sym good.whole_is) ∙ ap (λ b. due_leap feed start g.whole b ∷ []) bytes,
     )
 
--- a link without a fault has the events that it tells
+-- a link without a fault has the events that it reports
 good_events : (opened back : LinkState) (told events : List NetEvent) → IsGoodLink opened back told → Adds opened.events back.events events → events ≡ told
 good_events opened back told events good adds = by opened.events back.events refl refl
   where
@@ -289,7 +289,7 @@ no_faults bytes of says top document =
     let same : top ≡ says.top = cc in
     ap faults_of same ∙ says.no_fault
 
--- a text that says a station isn't refused
+-- a text that says a station is not refused
 not_refused : (bytes : List ℕ) (of : StationFields) (why : StationFault) → Says bytes of → RefusesStation bytes why → Rattle.file_commands.specs.StationFile.IsNamed why → ⊥
 not_refused bytes of fault.Memory says refuses named = named
 not_refused bytes of fault.NotToml says refuses named = refuses says.top says.document
@@ -299,7 +299,7 @@ not_refused bytes of (fault.Range key) says refuses named = one_fault (faults_of
 not_refused bytes of (fault.TooMany key count) says refuses named = one_fault (faults_of refuses.0) _ (no_faults bytes of says refuses.0 refuses.1) refuses.2
 
 module _ (of : StationFields) (opened back : SourceState) (station : IsStation of opened back) (most : length station.text ≤ most_of_a_station) (no_fault : Rose opened.faults back.faults → ⊥) where
-  -- only want of memory keeps a station without a fault from being used
+  -- only lack of memory keeps a station without a fault from being used
   only_memory : (end : FileEnd) (bytes : List ℕ) (due : Obstacle) → EndsReading end most_of_a_station opened back bytes → IsObstacle end bytes due → status_at due ≡ Memory
   only_memory file.Fault bytes due read is = absurd (no_fault (rose_by_one opened.faults back.faults read.cause.1))
   only_memory file.TooLong bytes due read is =

@@ -31,7 +31,7 @@ use Rattle.station_report.specs.Crewing.{end_of, end_by, in_both, line_of_work}
 use Rattle.station_report.specs.Headline.{IsAnswered, IsPolled, LeapRun, LinkRun, LogRun, PollRun, Tally, each_text, leap_dues, line_of_link, link_line, radio_dues, server_dues, tally_of}
 use Rattle.station_report.proofs.CountLaws.{HaveDue}
 
--- receivers that stand for silent ones of the radios, of which nothing was heard
+-- receivers that stand for silent ones of the radios, which have received nothing
 pub blank_receivers : {B : Type 0} (stands : B → History → Type 0) (least : B → ℕ) (radios : List RadioFields) (receivers : List B) →
     AreOf stands receivers (map silent radios) → All (λ b. least b ≡ 0) receivers → AreBlank stands least radios receivers
 blank_receivers stands least [] [] are all = tt

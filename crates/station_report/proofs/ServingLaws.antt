@@ -84,7 +84,7 @@ returned-unused (held ∷ outs) [] e = All-nil IsUnused
 returned-unused (held ∷ outs) (state ∷ states) e =
     All-cons IsUnused (record { what = held.what; opened = held.opened; back = state }) (returned outs states) (first_state state held.opened states _ e) (returned-unused outs states (rest_states state held.opened states _ e))
 
--- ---- what couldn't be opened
+-- ---- what could not be opened
 
 within : {X : Type 0} (xs : List X) (n : ℕ) (x : X) → slice_get xs n ≡ Some x → n < length xs
 within [] n x at = absurd cc

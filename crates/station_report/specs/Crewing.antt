@@ -33,9 +33,9 @@ use Rattle.station_report.specs.declared.done.Done.{Done}
 use Rattle.station_report.specs.declared.done.Orders.{Orders}
 use Rattle.station_report.specs.declared.text.Totals.{Totals}
 
--- ---- what is told
+-- ---- what is reported
 
--- the one that is told of these, or none
+-- the one that is reported of these, or none
 abbrev pub HasLeast : List Ending → Option Ending → Type 0
 HasLeast all None = all ≡ []
 HasLeast all (Some due) = IsFirstOfLeast all due

@@ -94,7 +94,7 @@ pub record HasDrilled (seed limit : ℕ) (done : Done) : Type 0 where
   pub each : HasEach one_of_each done
   pub days : (feed : ℕ) (plan : Plan) → IsDay feed plan seed
 
--- what they left is told
+-- what they left is reported
 pub record FinishesDrill (limit : ℕ) (done : Done) (out out_now : SinkState) (result : Status) : Type 0 where
   pub due : Ending
   pub cause : IsTold (causes_left limit done) due

@@ -49,7 +49,7 @@ use Rattle.file_commands.specs.declared.ending.Ending.TheVariants.{Whole, NotRea
 use Rattle.file_commands.specs.declared.ending.status.Status.{Status}
 use Rattle.file_commands.specs.declared.ending.subject.Subject.TheVariants.{Feed, Link}
 
--- what became of the log of a radio: what it told when it was opened and when it was given back, the bytes that were read of it, and how
+-- what became of the log of a radio: what it reported when it was opened and when it was given back, the bytes that were read of it, and how
 -- its reading ended
 pub record LogRun : Type 0 where
   pub opened : SourceState
@@ -65,7 +65,7 @@ pub record LeapRun : Type 0 where
   pub whole : Bool
   pub end : LogEnd
 
--- of the link of a server: what it told and how its worker ended, and the events that it told in between
+-- of the link of a server: what it reported and how its worker ended, and the events that it reported in between
 pub record PollRun : Type 0 where
   pub opened : LinkState
   pub back : LinkState
@@ -107,7 +107,7 @@ abbrev pub leap_dues : (feed start : ℕ) → Option LeapRun → List (List Entr
 leap_dues feed start None = []
 leap_dues feed start (Some leap) = due_leap feed start leap.whole leap.bytes ∷ []
 
--- the radios are the first feeds, the servers those behind them, and the leap second file is the last
+-- the radios are the first feeds, the servers those after them, and the leap second file is the last
 abbrev pub dues : StationFields → StationRun → List (List Entry)
 dues of run = radio_dues 0 of.radios run.radios ++ server_dues (length of.radios) of.servers run.servers ++ leap_dues (leap_feed of) of.top.start run.leap
 
@@ -124,7 +124,7 @@ pub record HasDueEntries (of : StationFields) (limit : ℕ) (run : StationRun) :
 
 -- ---- 2. Each log is read
 
--- The bytes read of each log, and of the leap second file, are a beginning of what it told. They are all of it, unless a read of it failed,
+-- The bytes read of each log, and of the leap second file, are a beginning of what it reported. They are all of it, unless a read of it failed,
 -- a bad line was met, or as many bytes were read as it may have
 pub record ReadsLogs (of : StationFields) (run : StationRun) : Type 0 where
   pub each : length run.radios ≡ length of.radios
@@ -134,7 +134,7 @@ pub record ReadsLogs (of : StationFields) (run : StationRun) : Type 0 where
 
 -- ---- 3. Each server is polled
 
--- its link's events are those of the rounds of so many polls; a round is cut short only where a call of that link failed
+-- its link's events are those of the rounds of this many polls; a round is cut short only where a call of that link failed
 pub record IsPolled (server : ServerFields) (polled : PollRun) : Type 0 where
   pub told : Adds polled.opened.events polled.back.events polled.events
   pub ends : EndsPolls server.address server.polls polled.opened.faults polled.back.faults polled.events polled.end
@@ -144,7 +144,7 @@ pub record PollsServers (of : StationFields) (run : StationRun) : Type 0 where
 
 -- ---- 4. Each client is answered
 
--- both phases have as many hearings as were asked for, unless the link ended or one of its calls failed: then nothing comes behind that
+-- both phases have as many hearings as were asked for, unless the link ended or one of its calls failed: then nothing comes after that
 abbrev pub EndsPhases : (during after : ℕ) → LinkRun → Type 0
 EndsPhases during after link =
     (All GoesOn link.first × (length link.first ≡ during) × EndsBy after link.opened.faults link.back.faults link.second link.end)
@@ -154,7 +154,7 @@ EndsPhases during after link =
 -- that was read in that turn, or the kiss code that the link's gate of clients gives its sender, authentic exactly where that datagram is,
 -- and by the key that it names. The gate begins with no client, and goes on from turn to turn over both phases. Each page is that of a
 -- beginning of the journal, and these beginnings never shorten; in the second phase each is the whole journal, and no datagram is left for
--- want of a page. Of those that were left so in the first phase, four times as many are no more than there are entries
+-- lack of a page. Of those that were left so in the first phase, four times as many are no more than there are entries
 pub record IsAnswered (of : StationFields) (journal : List Entry) (during after : ℕ) (link : LinkRun) : Type 0 where
   pub told : Adds link.opened.events link.back.events (flat_map events_of (link.first ++ link.second))
   pub gate_now : Gate
@@ -263,7 +263,7 @@ pub record IsFirstOfLeast (all : List Ending) (due : Ending) : Type 0 where
   pub greater : All (λ other. number_at due < number_at other) before
   pub no_less : All (λ other. number_at due ≤ number_at other) behind
 
--- that one is told; where nothing went wrong, all is whole
+-- that one is reported; where nothing went wrong, all is whole
 abbrev pub IsTold : List Ending → Ending → Type 0
 IsTold all due = ((all ≡ []) × (due ≡ Whole)) ⊎ IsFirstOfLeast all due
 

@@ -6,7 +6,7 @@ use Rattle.feed_workers.specs.Keeping.{IsOfFeed, share_of}
 use Rattle.feed_workers.specs.Polling.{session_at}
 use Rattle.feed_workers.proofs.poller.PollWorker.run.Given as goal
 
--- so many whole rounds were made
+-- this many whole rounds were made
 abbrev pub invariant-polls : goal.invariant-polls
 invariant-polls g l = record {
   link : g.L.Link.opening l.link ≡ g.L.Link.opening l.fn.self.link;
