@@ -44,6 +44,8 @@ CASES = [
     ("bench/make_logs.py", "--minutes 1 /nosuch", 1),
     ("bench/make_script.py", "x", 2),
     ("bench/ask_on.py", "", 2),
+    ("bench/calibrate.py", "", 2),
+    ("bench/pictures.py", "", 2),
     ("checks/ask.py", "", 1),
     ("checks/ask.py", "look 9", 1),
     ("checks/hostile.py", "x", 2),
