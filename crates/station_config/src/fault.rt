@@ -49,8 +49,7 @@ pub enum StationFault {
     /// A value isn't of the type and range of its key.
     #[error("value out of range")]
     Range { key: KeyText },
-    /// There are more radios and servers than 16, more radios of a plan than 4, more links than 8, more keys than 8, or more
-    /// denied nets than 16.
+    /// There are more than 16 radios, servers and leap second files together, 4 radios of a plan, 8 links, 8 keys or 16 denied nets.
     #[error("too many: {count}")]
     TooMany { key: KeyText, count: u64 },
     /// Memory ran out.
