@@ -49,7 +49,7 @@ pub enum StationFault {
     /// A value is not of the type and range of its key.
     #[error("value out of range")]
     Range { key: KeyText },
-    /// There are more than 16 radios and servers, 4 radios of a plan, 8 links, 8 keys or 16 denied nets.
+    /// There are more than 16 radios, servers and leap second files together, 4 radios of a plan, 8 links, 8 keys or 16 denied nets.
     #[error("too many: {count}")]
     TooMany { key: KeyText, count: u64 },
     /// Memory ran out.
