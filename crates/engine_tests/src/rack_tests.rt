@@ -3,7 +3,7 @@ ghost use Rattle.std.specs.Prelude.{◌≡◌, IfOk, false};
 ghost use Rattle.feed_link.specs.MemoryOutside.{is_gate_out};
 ghost use Rattle.radio_receiver.specs.Histories.{History};
 
-use crate::runs::{outside_of, same};
+use crate::runs::{OF_A_PLAN, outside_of, same};
 use crate::test_station::{file, one};
 use feed_link::{FakeOpen, Gate, MemoryOutside, MemorySink, OpenGate};
 use radio_engine::{Status, run_station};
@@ -19,8 +19,9 @@ use tick_units::{Heard, Plan, Reduction};
 
 const REPLAY: [&str; 5] = ["replay", "--station", "s", "--script", "p"];
 
-// What the four receivers of a plan add for each reduction that they receive: a count of four hexadecimal digits has room for each of them.
-const STEPS: [u64; 4] = [1, 0x1_0000, 0x1_0000_0000, 0x1_0000_0000_0000];
+// How many times more each receiver of a plan adds than the one before it, which adds 1 at first: four hexadecimal digits of a count are of
+// one receiver.
+const NEXT: u64 = 0x1_0000;
 
 // A receiver round a receiver, which adds its step to a count that others share wherever it receives.
 #[derive(Drop)]
@@ -83,114 +84,16 @@ fn run_noting<R: Threads + Wait + Sync, G: Gate + Drop>(
     requires { is_gate_out outside.old ≡ false }
 {
     let mut rack: Vec<BoxedReceiver> = Vec::new(alloc);
-    let share = Arc::try_clone(&heard.dcf)?;
-    put_in_rack(
-        &mut rack,
-        Box::new(
-            alloc,
-            NotingReceiver::new(DcfReceiver::new(), STEPS[0], share),
-        )?,
-        Plan::Dcf,
-    )?;
-    let share = Arc::try_clone(&heard.msf)?;
-    put_in_rack(
-        &mut rack,
-        Box::new(
-            alloc,
-            NotingReceiver::new(MsfReceiver::new(), STEPS[0], share),
-        )?,
-        Plan::Msf,
-    )?;
-    let share = Arc::try_clone(&heard.wwvb)?;
-    put_in_rack(
-        &mut rack,
-        Box::new(
-            alloc,
-            NotingReceiver::new(WwvbReceiver::new(), STEPS[0], share),
-        )?,
-        Plan::Wwvb,
-    )?;
-    let share = Arc::try_clone(&heard.dcf)?;
-    put_in_rack(
-        &mut rack,
-        Box::new(
-            alloc,
-            NotingReceiver::new(DcfReceiver::new(), STEPS[1], share),
-        )?,
-        Plan::Dcf,
-    )?;
-    let share = Arc::try_clone(&heard.msf)?;
-    put_in_rack(
-        &mut rack,
-        Box::new(
-            alloc,
-            NotingReceiver::new(MsfReceiver::new(), STEPS[1], share),
-        )?,
-        Plan::Msf,
-    )?;
-    let share = Arc::try_clone(&heard.wwvb)?;
-    put_in_rack(
-        &mut rack,
-        Box::new(
-            alloc,
-            NotingReceiver::new(WwvbReceiver::new(), STEPS[1], share),
-        )?,
-        Plan::Wwvb,
-    )?;
-    let share = Arc::try_clone(&heard.dcf)?;
-    put_in_rack(
-        &mut rack,
-        Box::new(
-            alloc,
-            NotingReceiver::new(DcfReceiver::new(), STEPS[2], share),
-        )?,
-        Plan::Dcf,
-    )?;
-    let share = Arc::try_clone(&heard.msf)?;
-    put_in_rack(
-        &mut rack,
-        Box::new(
-            alloc,
-            NotingReceiver::new(MsfReceiver::new(), STEPS[2], share),
-        )?,
-        Plan::Msf,
-    )?;
-    let share = Arc::try_clone(&heard.wwvb)?;
-    put_in_rack(
-        &mut rack,
-        Box::new(
-            alloc,
-            NotingReceiver::new(WwvbReceiver::new(), STEPS[2], share),
-        )?,
-        Plan::Wwvb,
-    )?;
-    let share = Arc::try_clone(&heard.dcf)?;
-    put_in_rack(
-        &mut rack,
-        Box::new(
-            alloc,
-            NotingReceiver::new(DcfReceiver::new(), STEPS[3], share),
-        )?,
-        Plan::Dcf,
-    )?;
-    let share = Arc::try_clone(&heard.msf)?;
-    put_in_rack(
-        &mut rack,
-        Box::new(
-            alloc,
-            NotingReceiver::new(MsfReceiver::new(), STEPS[3], share),
-        )?,
-        Plan::Msf,
-    )?;
-    let share = Arc::try_clone(&heard.wwvb)?;
-    put_in_rack(
-        &mut rack,
-        Box::new(
-            alloc,
-            NotingReceiver::new(WwvbReceiver::new(), STEPS[3], share),
-        )?,
-        Plan::Wwvb,
-    )?;
+    let mut step = 1u64;
+    for _ in 0..OF_A_PLAN {
+        let dcf = NotingReceiver::new(DcfReceiver::new(), step, Arc::try_clone(&heard.dcf)?);
+        put_in_rack(&mut rack, Box::new(alloc, dcf)?, Plan::Dcf)?;
+        let msf = NotingReceiver::new(MsfReceiver::new(), step, Arc::try_clone(&heard.msf)?);
+        put_in_rack(&mut rack, Box::new(alloc, msf)?, Plan::Msf)?;
+        let wwvb = NotingReceiver::new(WwvbReceiver::new(), step, Arc::try_clone(&heard.wwvb)?);
+        put_in_rack(&mut rack, Box::new(alloc, wwvb)?, Plan::Wwvb)?;
+        step = step.wrapping_mul(NEXT);
+    }
     Ok(run_station(rt, alloc, words, rack, outside, out))
 }
 
