@@ -72,6 +72,8 @@ grep -qF "$kit" README.md || wrong "README.md does not have '$kit'"
 # The arguments.
 usage 'radio_ntpd: unknown option --staton' serve --staton examples/station.toml
 usage 'radio_ntpd: --station has no value' serve --station
+usage 'radio_ntpd: --log has no value' decode --plan dcf --log ''
+usage 'radio_ntpd: --seed has no value' drill --seed -1
 usage 'radio_ntpd: no command' --seed 7
 usage 'radio_ntpd: unknown command server' server
 usage 'radio_ntpd: two commands, serve and decode' serve decode
@@ -94,6 +96,10 @@ long=$(printf '%0300d' 0)
 says 2 'status 2 open feed 0' "radio_ntpd: cannot open feed 0 ($long): the host refuses it" decode --plan dcf --log "$long"
 printf 'leap_file = "nosuch.list"\n[[radio]]\nplan = "dcf"\nlog = "examples/dcf77-hour.log"\n' > "$work/station"
 says 2 'status 2 open feed 1' 'radio_ntpd: cannot open feed 1 (nosuch.list): there is no such file' serve --station "$work/station"
+# A station that comes by a pipe can't be read once more, so its names are left out.
+messages=$((messages + 1))
+printf '[[radio]]\nplan = "dcf"\nlog = "nosuch"\n' | "$program" serve --station /dev/stdin > "$work/out" 2> "$work/said"
+[ "$?:$(cat "$work/said")" = '2:radio_ntpd: cannot open feed 0: there is no such file' ] || wrong "a station by a pipe says '$(cat "$work/said")'"
 port=$(python3 -B -c 'import socket; s = socket.socket(socket.AF_INET, socket.SOCK_DGRAM); s.bind(("127.0.0.1", 0)); print(s.getsockname()[1])')
 printf '[[link]]\nport = %s\n[[link]]\nport = %s\n' "$port" "$port" > "$work/station"
 says 2 'status 2 open link 1' "radio_ntpd: cannot open link 1 (port $port): another program or link has the port" serve --station "$work/station"
@@ -158,6 +164,9 @@ many 17 '[[deny]]\nnet = "192.0.2.0/24"\n' deny 16
 
 # Reads, lines, a full journal, an output that takes no more, files that are too long.
 says 4 'status 4 read feed 0' 'radio_ntpd: cannot read feed 0 (/): it is a folder' decode --plan dcf --log /
+says 4 'status 4 read station' 'radio_ntpd: cannot read the station file (/): it is a folder' serve --station /
+says 4 'status 4 read script' 'radio_ntpd: cannot read the script (/): it is a folder' replay --station examples/station.toml --script /
+says 4 'status 4 read journal' 'radio_ntpd: cannot read the journal (/): it is a folder' migrate --station examples/station.toml --journal /
 printf '1000000 100000\n2.5 100000\n' > "$work/log"
 says 5 'status 5 line 0 2' "radio_ntpd: line 2 of feed 0 ($work/log) is bad: a line is START WIDTH" decode --plan dcf --log "$work/log"
 printf '3644697600 36\nodd\n' > "$work/list"
@@ -180,6 +189,9 @@ messages=$((messages + 1))
 grep -q '^radio_ntpd: standard output took no more' "$work/said" || wrong "a closed output says '$(cat "$work/said")'"
 head -c 65537 /dev/zero | tr '\0' '\n' > "$work/long"
 says 10 'status 10 long station' "radio_ntpd: the station file ($work/long) has more than 65536 bytes" serve --station "$work/long"
+{ printf '#'; head -c 65536 /dev/zero | tr '\0' ' '; } > "$work/long"
+printf 'leap_file = "%s"\n' "$work/long" > "$work/station"
+says 10 'status 10 long feed 0' "radio_ntpd: feed 0 ($work/long) has more than 65536 bytes" serve --station "$work/station"
 
 # Memory that runs out: for the room of a large journal, and at the least limit at which the program can begin at all. The sentence of
 # status 7 is in the tests of crates/standard_error: no host fails a call of a link when it is asked to.
