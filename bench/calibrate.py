@@ -45,12 +45,12 @@ def serve(link: socket.socket) -> None:
         link.sendto(head + datagram[40:48] + struct.pack(">QQ", received, stamp(AHEAD)), client)
 
 
-def began(folder: pathlib.Path, plan: str, jitter: float, ahead: float, minutes: int, port: int | None) -> subprocess.Popen:
+def began(folder: pathlib.Path, plan: str, jitter: float, ahead: float, minutes: int, port: int | None, seed: int) -> subprocess.Popen:
     """Starts `calibrate` on a receiver whose sender's clock is `ahead` of the host's, against a server's port or the host's clock."""
     folder.mkdir()
     since = f"{time.monotonic()!r},{time.time() + ahead!r}"
     receiver = [sys.executable, "-B", TOP / "bench/soft_receiver.py", "--plan", plan, "--live", 60 * minutes + 300, "--history", 3, "--since", since]
-    receiver += ["--jitter", jitter, "--outliers", OUTLIERS, "--lag", LAG]
+    receiver += ["--jitter", jitter, "--outliers", OUTLIERS, "--lag", LAG, "--seed", seed]
     (folder / "station.toml").write_text(f'[[radio]]\nplan = "{plan}"\nlog = "x"\n')
     (folder / "keeper.toml").write_text(f"station = \"station.toml\"\n[[radio]]\ncommand = '''exec {' '.join(map(str, receiver))}'''\n")
     words = [TOP / "radio_keeper", "calibrate", "--config", folder / "keeper.toml", "--minutes", minutes]
@@ -85,7 +85,7 @@ def main() -> int:
                 for jitter in asked.jitter:
                     for name, ahead, port in (("host", 0.0, None), ("server", AHEAD, link.getsockname()[1])):
                         place = pathlib.Path(folder, f"{plan}{jitter:g}{name}")
-                        cases.append((plan, jitter, name, began(place, plan, jitter, ahead, asked.minutes, port)))
+                        cases.append((plan, jitter, name, began(place, plan, jitter, ahead, asked.minutes, port, len(cases))))
             print("plan    ms against minutes  late ms within  off lag  closing  it says", flush=True)
             for case in cases:
                 print(row(*case), flush=True)
