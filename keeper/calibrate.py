@@ -39,6 +39,7 @@ def main(given: list[str]) -> int:
         if not least <= getattr(asked, name) <= most:
             words.error(f"--{name} is {least} to {most}")
     settings = config.load(asked.config or config.default())
+    config.judge(settings)
     if not 0 <= asked.radio < len(settings.radios):
         raise Fault(f"there is no radio {asked.radio}: the station has {len(settings.radios)}")
     try:

@@ -14,6 +14,7 @@ UNPACED_CYCLE = 300
 KINDS = ("command", "fifo", "file")
 JUDGED = 20.0  # how long the program may take to judge a station file, in seconds
 MOST = 65536  # bytes of a station file
+LARGEST = 2**53  # no number of a station is greater
 
 
 @dataclass(frozen=True)
@@ -94,7 +95,7 @@ def read(path: str) -> tuple[dict, str]:
     """A TOML file and its text. Raises Fault."""
     try:
         with open(path, "rb") as file:
-            text = file.read(MOST + 1).decode("utf-8")
+            text = file.read(MOST + 1).decode("utf-8-sig")  # an editor's byte order mark is passed over, as the program does
     except OSError as error:
         raise Fault(sentence(error), REFUSED) from error
     except UnicodeDecodeError as error:
@@ -103,7 +104,7 @@ def read(path: str) -> tuple[dict, str]:
         raise Fault(f"{path}: it has more than {MOST} bytes", REFUSED)
     try:
         return tomllib.loads(text), text
-    except (tomllib.TOMLDecodeError, RecursionError) as error:
+    except (ValueError, RecursionError) as error:  # a number of thousands of digits is a ValueError that isn't of tomllib's own
         raise Fault(f"{path}: it is no TOML: {error}", REFUSED) from error
 
 
@@ -153,7 +154,14 @@ def _table(values: dict, key: str) -> list[dict]:
 
 
 def _number(values: dict, key: str, default: float) -> float:
-    return values[key] if type(values.get(key)) is int else default
+    """A number of the station; the default where it is none, or so great that the program refuses it anyway."""
+    return values[key] if type(values.get(key)) is int and abs(values[key]) < LARGEST else default
+
+
+def _port(values: dict) -> int:
+    """The port of a link or a server, 1 to 65535; 0 where it has none, which the program refuses."""
+    port = values.get("port")
+    return port if type(port) is int and 0 < port < 65536 else 0
 
 
 def load(path: str) -> Settings:
@@ -168,14 +176,14 @@ def load(path: str) -> Settings:
     radios = [_radio(path, text, one, place, tables) for place, one in enumerate(values.get("radio", []))]
     if len(radios) != len(tables):
         raise Fault(f"{path}: radio: {len(radios)} are here and {len(tables)} in {station_path}{line_of(text, 'radio')}", REFUSED)
-    servers = [(one["address"], one["port"]) for one in _table(station, "server") if isinstance(one.get("address"), str) and type(one.get("port")) is int]
+    servers = [(one["address"], _port(one)) for one in _table(station, "server") if isinstance(one.get("address"), str) and _port(one)]
     pace = values.get("pace", 16)
     return Settings(
         path=os.path.abspath(path), station=station_path, text=station,
         program=os.path.join(base, values["program"]) if "program" in values else built_program(),
         folder=os.path.join(base, values.get("state", "state")),
         cycle=values.get("cycle", UNPACED_CYCLE if servers and not pace else HOUR), days=values.get("days", 30), pace=pace,
-        radios=radios, links=[one["port"] for one in _table(station, "link") if type(one.get("port")) is int], servers=servers,
+        radios=radios, links=[_port(one) for one in _table(station, "link") if _port(one)], servers=servers,
         denied=[one["net"] for one in _table(station, "deny") if isinstance(one.get("net"), str)],
         gap=_number(station, "gap", 0) / 1e6, bound=_number(station, "bound", 1000) / 1e3,
         leap_file=station["leap_file"] if isinstance(station.get("leap_file"), str) else None, alarms=Alarms(**alarms),

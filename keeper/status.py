@@ -4,12 +4,12 @@ import json
 import os
 import sys
 import time
-import tomllib
 
 from keeper import faces, metrics, text
+from keeper.config import read
 from keeper.state import State, StateError, load
 from keeper.verdict import Level, judge, worst
-from keeper.words import DONE, REFUSED, UNKNOWN, Fault, Parser
+from keeper.words import DONE, UNKNOWN, Fault, Parser
 
 FOLDER = "/var/lib/radio_ntpd"
 FILES = ("keeper.toml", "/etc/radio_ntpd/keeper.toml")
@@ -33,13 +33,13 @@ def parser(command: str) -> Parser:
 def main(given: list[str], command: str = "status") -> int:
     words = parser(command)
     asked = words.parse_args(given)
+    if command == "status" and asked.nagios:
+        return nagios(asked.folder, asked.config)
     path = os.path.join(asked.folder or folder_of(asked.config), faces.STATE)
     if command == "watch":
         if not 0.2 <= asked.every <= 3600:
             words.error("--every is 0.2 to 3600 seconds")
         return watch(path, asked.every)
-    if asked.nagios:
-        return nagios(path)
     state = found(path)
     now = time.time()
     if asked.json:
@@ -53,16 +53,11 @@ def main(given: list[str], command: str = "status") -> int:
 
 
 def folder_of(config: str | None) -> str:
-    """The folder that a keeper's file names. The station file isn't read, so that nobody has to see its keys to see the state."""
+    """The folder that a keeper's file names. The station file isn't read, so that nobody has to see its keys to see the state. Raises Fault."""
     path = config or next((one for one in FILES if os.path.exists(one)), None)
     if path is None:
         return FOLDER
-    try:
-        with open(path, "rb") as file:
-            named = tomllib.load(file).get("state", "state")
-    except tomllib.TOMLDecodeError as error:
-        raise Fault(f"{path} is no TOML: {error}", REFUSED) from error
-    return os.path.join(os.path.dirname(os.path.abspath(path)), str(named))
+    return os.path.join(os.path.dirname(os.path.abspath(path)), str(read(path)[0].get("state", "state")))
 
 
 def found(path: str) -> State:
@@ -73,11 +68,11 @@ def found(path: str) -> State:
         raise Fault(f"{error}; does the keeper run, and are --config and --folder right?") from error
 
 
-def nagios(path: str) -> int:
+def nagios(folder: str | None, config: str | None) -> int:
     """One line on standard output, whatever is wrong."""
     try:
-        line, level = text.nagios(load(path), time.time())
-    except StateError as error:
+        line, level = text.nagios(load(os.path.join(folder or folder_of(config), faces.STATE)), time.time())
+    except (StateError, Fault) as error:
         line, level = f"RADIO_NTPD UNKNOWN: {str(error).replace('|', '/')}", Level(UNKNOWN)
     print(line)
     return int(level)

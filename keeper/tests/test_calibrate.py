@@ -224,6 +224,11 @@ class Whole(unittest.TestCase):
             with self.assertRaisesRegex(Fault, "the server .* can't be asked: "):
                 calibrate.main(["--config", os.path.join(self.folder, "keeper.toml"), "--server", name])
 
+    def test_a_program_that_is_not_there(self):
+        self.write("keeper.toml", 'station = "station.toml"\nprogram = "nosuch"\n[[radio]]\ncommand = "sleep 60"\n')
+        with self.assertRaisesRegex(Fault, "nosuch can't be run: No such file or directory"):
+            self.calibrate(0.5)
+
     def test_too_little(self):
         self.write("keeper.toml", 'station = "station.toml"\nprogram = "program"\n[[radio]]\ncommand = "sleep 60"\n')
         told, said = self.calibrate(0.5)

@@ -13,6 +13,7 @@ import unittest
 from keeper import faces, metrics, page, pictures, relay, rules, status, text
 from keeper.state import Alarm, LeapFileState, LinkState, Quarter, RadioState, RunState, ServerState, Slot, State, save
 from keeper.verdict import Level, judge, span, summary, worst
+from keeper.words import Fault
 
 NOW = 1767269100.0  # 2026-01-01 12:05:00 UTC
 
@@ -243,6 +244,19 @@ class Files(unittest.TestCase):
         self.assertRegex(said, r"\ARADIO_NTPD UNKNOWN: [^\n|]*\n\Z")
         with self.assertRaisesRegex(Exception, "does the keeper run"):
             self.run_status()
+
+    def test_a_file_that_is_refused(self):
+        path = os.path.join(self.folder, "odd.toml")
+        for odd in (b"\xff", b"x = " + b"9" * 5000, b"x = " + b"[" * 20_000, b"x ="):
+            with self.subTest(odd=odd[:9]):
+                with open(path, "wb") as file:
+                    file.write(odd)
+                with self.assertRaisesRegex(Fault, "odd.toml: it "):
+                    status.folder_of(path)
+                out = io.StringIO()
+                with contextlib.redirect_stdout(out):
+                    self.assertEqual(status.main(["--nagios", "--config", path]), 3)
+                self.assertRegex(out.getvalue(), r"\ARADIO_NTPD UNKNOWN: [^\n|]*\n\Z")
 
     def test_the_folder_of_a_file(self):
         path = os.path.join(self.folder, "keeper.toml")

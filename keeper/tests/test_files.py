@@ -93,10 +93,36 @@ class Config(Folder):
             ("radio = 3\nstation = 'station.toml'\n", "radio: it isn't an array of tables (line 1)"),
             (KEEPER + '[[radio]]\ncommand = "true"\n', f"radio: 3 are here and 2 in {self.folder}/station.toml (line 2)"),
             ("cycle = \n", "it is no TOML: Invalid value (at line 1, column 9)"),
+            (f"cycle = {'9' * 30}\n" + KEEPER, f"cycle: {'9' * 30} isn't within 2 to 604800 (line 1)"),
+            ("\0", "it is no TOML: Invalid statement (at line 1, column 1)"),
         )
         for text, why in rows:
             with self.subTest(why=why):
                 self.assertEqual(self.refused(text), why)
+
+    def test_what_is_no_toml_however_odd_it_is(self):
+        for odd in (b"\xff\xfe", b"x = " + b"9" * 5000, b"x = " + b"[" * 20_000, b"x" * 70_000):
+            with self.subTest(odd=odd[:9]):
+                (self.folder / "odd.toml").write_bytes(odd)
+                for given in (lambda: config.load(str(self.folder / "odd.toml")), lambda: self.load(KEEPER.replace("station.toml", "odd.toml"))):
+                    with self.assertRaises(Fault) as caught:
+                        given()
+                    self.assertEqual(caught.exception.status, REFUSED)
+                    self.assertRegex(str(caught.exception), "odd.toml: it (is no TOML: |isn't UTF-8|has more than 65536 bytes)")
+
+    def test_a_byte_order_mark_is_passed_over(self):
+        (self.folder / "station.toml").write_bytes(b"\xef\xbb\xbf" + STATION.encode())
+        self.assertEqual(self.load("\ufeff" + KEEPER).links, [12300])
+
+    def test_numbers_that_the_program_refuses_are_left_to_it(self):
+        great = "9" * 400
+        for old, new in (("gap = 2000000", f"gap = {great}"), ("bound = 500", f"bound = -{great}"), ("delay = 1400", f"delay = {great}"), ("port = 12300", f"port = {great}"),
+                         ("port = 12300", "port = 70000"), ("port = 12300", "port = 0"), ("port = 4123", "port = -1")):
+            with self.subTest(new=new[:20]):
+                (self.folder / "station.toml").write_text(STATION.replace(old, new))
+                settings = self.load(KEEPER)
+                self.assertTrue(all(0 < port < 65536 for port in [*settings.links, *(port for _, port in settings.servers)]))
+                self.assertLess(abs(settings.gap) + abs(settings.bound) + abs(settings.radios[0].delay), 1e4)
 
     def test_files_that_are_not_there(self):
         with self.assertRaises(Fault) as caught:
