@@ -6,8 +6,8 @@ use crate::outcome::{
     Kind, Subject, bad_line_of, station_fault_of, status_of, subject_of, word_at,
 };
 use crate::texts::{
-    COMMAND_LINES, FULL, HELP, LEAP_FILE, LINK_FAILED, NO_MEMORY, NO_OUTPUT, NO_TOML, NOT_READ,
-    Named, VERSION, most_of, range_of, write_texts,
+    COMMAND_LINES, FULL, HELP, JOURNAL_LINE, LEAP_LINE, LINK_FAILED, LOG_LINE, NO_MEMORY,
+    NO_OUTPUT, NO_TOML, NOT_READ, SCRIPT_LINE, VERSION, most_of, range_of, write_texts,
 };
 use feed_link::Refusal;
 use std::fmt;
@@ -121,13 +121,71 @@ fn write_many<W: fmt::Write>(many: &str, f: &mut fmt::Formatter<W>) -> fmt::Resu
     )
 }
 
-// Why an opening was refused.
-fn refusal_text(refusal: Option<Refusal>, named: Named) -> &'static str {
+// Why an opening was refused where a right is missing, of a file or of a link.
+fn no_right_text(kind: Kind) -> &'static str {
+    match kind {
+        Kind::Link => "a port below 1024 needs a right",
+        _ => "there is no right to read it",
+    }
+}
+
+// Why an opening was refused, of a file or of a link.
+fn refusal_text(refusal: Option<Refusal>, kind: Kind) -> &'static str {
     match refusal {
         Some(Refusal::NotThere) => "there is no such file",
         Some(Refusal::Taken) => "another program or link has the port",
-        Some(Refusal::NoRight) => named.no_right,
+        Some(Refusal::NoRight) => no_right_text(kind),
         Some(Refusal::Other) | None => "the host refuses it",
+    }
+}
+
+// The most bytes of a leap second file.
+const LEAP_LIMIT: &str = "65536";
+
+// The most bytes of a file that is no leap second file.
+fn limit_text(kind: Kind) -> &'static str {
+    match kind {
+        Kind::Station => "65536",
+        Kind::Script => "2^26",
+        Kind::Journal | Kind::Feed | Kind::Link => "2^30",
+    }
+}
+
+// What a line of a file looks like that is no leap second file.
+fn line_text(kind: Kind) -> &'static str {
+    match kind {
+        Kind::Script => SCRIPT_LINE,
+        Kind::Journal => JOURNAL_LINE,
+        Kind::Feed | Kind::Link | Kind::Station => LOG_LINE,
+    }
+}
+
+// The option that names a file. A log is the one feed of `decode`.
+fn option_of(kind: Kind) -> &'static str {
+    match kind {
+        Kind::Station => "station",
+        Kind::Script => "script",
+        Kind::Journal => "journal",
+        Kind::Feed | Kind::Link => "log",
+    }
+}
+
+// What a file or a link is called, before its number.
+fn kind_text(kind: Kind) -> &'static str {
+    match kind {
+        Kind::Station => "the station file",
+        Kind::Script => "the script",
+        Kind::Journal => "the journal",
+        Kind::Feed => "feed ",
+        Kind::Link => "link ",
+    }
+}
+
+// The number of a feed or a link; the others have none.
+fn number_text(subject: Subject<'_>) -> &str {
+    match subject.kind {
+        Kind::Feed | Kind::Link => subject.number,
+        Kind::Station | Kind::Script | Kind::Journal => "",
     }
 }
 
@@ -140,11 +198,29 @@ impl<'a> Report<'a> {
         }
     }
 
-    // What is said of the subject's kind. That a feed is a leap second file only the station file says.
-    fn named(&self, subject: Subject<'_>) -> Named {
+    // Whether the feed that the last line names is a leap second file.
+    fn is_leap_file(&self) -> bool {
         match &self.detail {
-            Detail::Place(place) if place.is_leap_file => LEAP_FILE,
-            _ => subject.named,
+            Detail::Place(place) => place.is_leap_file,
+            _ => false,
+        }
+    }
+
+    // The most bytes of a file.
+    fn limit_text(&self, kind: Kind) -> &'static str {
+        if self.is_leap_file() {
+            LEAP_LIMIT
+        } else {
+            limit_text(kind)
+        }
+    }
+
+    // Why a line is not valid, or else what a line looks like.
+    fn bad_line_text(&self, kind: Kind) -> &'static str {
+        match self.detail {
+            Detail::Hint(why) => why,
+            _ if self.is_leap_file() => LEAP_LINE,
+            _ => line_text(kind),
         }
     }
 
@@ -162,10 +238,10 @@ impl<'a> Report<'a> {
         subject: Subject<'_>,
         f: &mut fmt::Formatter<W>,
     ) -> fmt::Result {
-        write_texts(f, subject.named.name, subject.number, "")?;
+        write_texts(f, kind_text(subject.kind), number_text(subject), "")?;
         match &self.detail {
             Detail::Place(place) => write_texts(f, " (", place.name.as_str(), ")"),
-            _ => self.write_value(subject.named.option, f),
+            _ => self.write_value(option_of(subject.kind), f),
         }
     }
 
@@ -218,10 +294,7 @@ impl<'a> Report<'a> {
         subject: Subject<'_>,
         f: &mut fmt::Formatter<W>,
     ) -> fmt::Result {
-        let why = match self.detail {
-            Detail::Hint(why) => why,
-            _ => self.named(subject).line,
-        };
+        let why = self.bad_line_text(subject.kind);
         write_texts(
             f,
             "radio_ntpd: line ",
@@ -240,7 +313,7 @@ impl<'a> Report<'a> {
     ) -> fmt::Result {
         f.write_str("radio_ntpd: ")?;
         self.write_subject(subject, f)?;
-        let limit = self.named(subject).limit;
+        let limit = self.limit_text(subject.kind);
         write_texts(f, " has more than ", limit, " bytes\n")
     }
 
@@ -253,7 +326,7 @@ impl<'a> Report<'a> {
     ) -> fmt::Result {
         match status {
             2 => {
-                let why = refusal_text(self.refusal, subject.named);
+                let why = refusal_text(self.refusal, subject.kind);
                 self.write_about("cannot open ", subject, ": ", why, f)
             }
             4 => self.write_about("cannot read ", subject, ": ", NOT_READ, f),

@@ -1,7 +1,5 @@
 //! How a run ended, as the last line of its output says.
 
-use crate::texts::{FEED, JOURNAL, LINK, Named, SCRIPT, STATION};
-
 /// The status of a run whose status line was not written whole.
 pub const NOT_WRITTEN: u8 = 8;
 
@@ -25,10 +23,8 @@ pub enum Kind {
 #[derive(Clone, Copy)]
 pub struct Subject<'a> {
     pub kind: Kind,
-    /// What is said of each of its kind.
-    pub named: Named,
-    /// The place of a feed or a link, from 0. Feeds are the radios in order, then the servers, then the leap second file. It is empty
-    /// for the others.
+    /// The place of a feed or a link, from 0. Feeds are the radios in order, then the servers, then the leap second file. It is not
+    /// used for the others.
     pub number: &'a str,
 }
 
@@ -40,13 +36,13 @@ impl Subject<'_> {
 }
 
 // What each word of a status line names. A bad line with a number before its own is one of a feed.
-const KINDS: [(&str, Kind, Named); 6] = [
-    ("station", Kind::Station, STATION),
-    ("script", Kind::Script, SCRIPT),
-    ("journal", Kind::Journal, JOURNAL),
-    ("feed", Kind::Feed, FEED),
-    ("line", Kind::Feed, FEED),
-    ("link", Kind::Link, LINK),
+const KINDS: [(&str, Kind); 6] = [
+    ("station", Kind::Station),
+    ("script", Kind::Script),
+    ("journal", Kind::Journal),
+    ("feed", Kind::Feed),
+    ("line", Kind::Feed),
+    ("link", Kind::Link),
 ];
 
 /// The word at a place of a line, from 0. It is empty where there are fewer.
@@ -63,25 +59,30 @@ pub fn status_of(line: &str) -> u8 {
     }
 }
 
-// What stands at two words of a line, the first of which names its kind.
-fn subject_named<'a>(word: &str, number: &'a str) -> Option<Subject<'a>> {
-    for (name, kind, named) in &KINDS {
+// What a word names.
+fn kind_named(word: &str) -> Option<Kind> {
+    for (name, kind) in &KINDS {
         if *name == word {
-            return Some(Subject {
-                kind: *kind,
-                named: *named,
-                number: if named.has_number { number } else { "" },
-            });
+            return Some(*kind);
         }
     }
     None
 }
 
+// The file or the link whose word is at a place of a line.
+fn subject_at(line: &str, place: usize) -> Option<Subject<'_>> {
+    let kind = kind_named(word_at(line, place))?;
+    Some(Subject {
+        kind,
+        number: word_at(line, place.saturating_add(1)),
+    })
+}
+
 /// The file or the link that a last line names.
 pub fn subject_of(line: &str) -> Option<Subject<'_>> {
     match status_of(line) {
-        2 | 4 | 10 => subject_named(word_at(line, 3), word_at(line, 4)),
-        5 | 7 => subject_named(word_at(line, 2), word_at(line, 3)),
+        2 | 4 | 10 => subject_at(line, 3),
+        5 | 7 => subject_at(line, 2),
         _ => None,
     }
 }
@@ -95,8 +96,17 @@ pub fn bad_line_of(line: &str) -> &str {
     }
 }
 
-/// What is wrong with a station file, and the key at fault with what follows it. A key may have spaces.
+// What follows the first word of a line.
+fn after_word(line: &str) -> &str {
+    match line.split_once(' ') {
+        Some((_, rest)) => rest,
+        None => "",
+    }
+}
+
+/// What is wrong with a station file, and the key at fault with what follows it: the rest of `status 3 station`. A key may have
+/// spaces.
 pub fn station_fault_of(line: &str) -> (&str, &str) {
-    let rest = line.strip_prefix("status 3 station ").unwrap_or("");
+    let rest = after_word(after_word(after_word(line)));
     rest.split_once(' ').unwrap_or((rest, ""))
 }
