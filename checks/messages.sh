@@ -126,7 +126,12 @@ if [ "$(cat /proc/sys/net/ipv4/ip_unprivileged_port_start)" -gt 123 ] && unshare
 fi
 
 # Station files.
-station 'bound =' toml 'it is not TOML'
+station 'bound =' toml 'line 1 is not TOML'
+station 'bound = 1\r\nstart = 0\r\n# K\303\266ln\r\ngap =' toml 'line 4 is not TOML'
+printf 'bound =' > "$work/station"
+messages=$((messages + 1))
+cat "$work/station" | "$program" serve --station /dev/stdin > "$work/out" 2> "$work/said"
+grep -qF 'the station file (/dev/stdin): it is not TOML' "$work/said" || wrong "a station of a pipe says '$(cat "$work/said")'"
 station 'boundd = 1\n' 'unknown boundd' 'there is no key boundd'
 station '[[radio]]\nplan = "dcf"\n' 'missing radio.0.log' 'the key radio.0.log is missing'
 # What each key wants, and how many there may be of each array.
@@ -169,6 +174,9 @@ says 4 'status 4 read script' 'radio_ntpd: cannot read the script (/): it is a f
 says 4 'status 4 read journal' 'radio_ntpd: cannot read the journal (/): it is a folder' migrate --station examples/station.toml --journal /
 printf '1000000 100000\n2.5 100000\n' > "$work/log"
 says 5 'status 5 line 0 2' "radio_ntpd: line 2 of feed 0 ($work/log) is bad: a line is START WIDTH" decode --plan dcf --log "$work/log"
+printf '1000000000 100000000\n2000000000 200000000\n' > "$work/log"
+says 5 'status 5 line 0 1' "radio_ntpd: line 1 of feed 0 ($work/log) is bad: widths look like nanoseconds; the log wants microseconds" \
+    decode --plan dcf --log "$work/log"
 printf '3644697600 36\nodd\n' > "$work/list"
 printf 'leap_file = "%s"\n' "$work/list" > "$work/station"
 says 5 'status 5 line 0 2' "radio_ntpd: line 2 of feed 0 ($work/list) is bad: a row is" serve --station "$work/station"
@@ -212,9 +220,33 @@ messages=$((messages + 1))
 [ "$told:$(cat "$work/said")" = '9:radio_ntpd: no memory was found to say more' ] ||
     wrong "want of memory ends with $told and says '$(cat "$work/said")'"
 
-# A log that gives no minute.
-says 0 'status 0' 'radio_ntpd: the log gave no minute' decode --plan msf --log examples/dcf77-hour.log
-says 0 'status 0' 'radio_ntpd: the log gave no minute' decode --plan dcf --log /dev/null
+# A log that gives no minute: its hint. A log has COUNT lines, one a second; its first width and each sixtieth is FIRST, and the
+# others are those after it in turn.
+hint() {
+    plan=$1 text=$2 count=$3 first=$4
+    shift 4
+    mark=0
+    while [ "$mark" -lt "$count" ]; do
+        width=$first
+        if [ $((mark % 60)) != 0 ]; then
+            width=$1
+            shift
+            set -- "$@" "$width"
+        fi
+        echo "$((mark * 1000000 + 1000000)) $width"
+        mark=$((mark + 1))
+    done > "$work/log"
+    says 0 'status 0' "radio_ntpd: the log gave no minute: $text" decode --plan "$plan" --log "$work/log"
+}
+hint dcf 'widths look like milliseconds; the log wants microseconds' 120 100 100 200
+hint msf 'it has fewer marks than a minute has' 58 500000 100000 200000
+hint dcf 'its marks look like those of --plan wwvb' 120 800000 200000 500000 200000 800000
+hint dcf 'its marks look like those of --plan msf' 120 500000 100000 200000 300000
+says 0 'status 0' 'radio_ntpd: the log gave no minute: its marks look like those of --plan dcf' decode --plan msf --log examples/dcf77-hour.log
+hint dcf 'its marks look like those of this plan, but no minute has them all' 120 100000 100000 200000
+hint dcf 'its widths are those of no plan; it is noise, or high where it should be low' 120 900000 900000 800000
+says 0 'status 0' 'radio_ntpd: the log gave no minute: it has no marks of this plan, or its widths are not in microseconds' \
+    decode --plan dcf --log /dev/null
 
 # A closed standard error changes nothing, nor does one that takes nothing.
 for to in '&-' /dev/full; do

@@ -4,7 +4,7 @@ use crate::commands::is_option;
 use std::alloc::{AllocError, Global};
 
 /// An argument, or an option with its value.
-#[derive(Clone, Copy, Debug, PartialEq, Eq)]
+#[derive(Clone, Copy)]
 pub enum Argument<'a> {
     Command(&'a str),
     Option { name: &'a str, value: &'a str },

@@ -5,16 +5,20 @@
 mod arguments;
 mod commands;
 mod fault;
+mod fault_line;
 mod message;
 mod outcome;
 mod texts;
 mod watched;
+mod widths;
 
 pub use arguments::{Argument, read_arguments, value_of};
-pub use message::{Place, Report};
-pub use outcome::{Subject, subject_of};
-pub use texts::NO_MEMORY_LINE;
+pub use fault_line::toml_line;
+pub use message::{Detail, Place, Report};
+pub use outcome::{DONE_LINE, Kind, Subject, TOML_LINE, subject_of};
+pub use texts::{NO_MEMORY_LINE, NO_MINUTE};
 pub use watched::Watched;
+pub use widths::{SAMPLE_BYTES, bad_line_text, no_minute_text};
 
 #[cfg(test)]
 mod tests;
