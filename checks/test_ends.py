@@ -45,6 +45,7 @@ CASES = [
     ("bench/make_script.py", "x", 2),
     ("bench/ask_on.py", "", 2),
     ("bench/calibrate.py", "", 2),
+    ("bench/calibrate_spread.py", "x", 2),
     ("bench/pictures.py", "", 2),
     ("checks/ask.py", "", 1),
     ("checks/ask.py", "look 9", 1),
