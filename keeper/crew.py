@@ -135,7 +135,8 @@ class Crew:
         run_state, status, seconds = self.state.run, status_of(text), max(run.ended - run.began, 0.001)
         run_state.last_status, run_state.last_journal = status, self.journals.keep(run.since, text, run.own)
         if run.why != "cycle" or status != "status 0":
-            say(f"run {run.number} ended ({run.why}) after {seconds:.0f} s: {status or f'no status line, it ended with {run.exit_status}'}")
+            how = status or f"no status line, it ended with {run.exit_status}"
+            say(f"run {run.number} ended ({run.why}) after {seconds:.0f} s: {': '.join(filter(None, (how, run.reason)))}")
         counts = heard(text)
         others = [max(0, count - own) for count, own in zip(counts, run.own)]
         facts.note_requests(self.state, counts, run.own, seconds)
