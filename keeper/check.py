@@ -18,7 +18,6 @@ from keeper.words import DONE, NOT_WELL, Fault, Parser
 
 SECONDS = 10
 MOST = 1 << 20  # bytes that are looked at of a radio; a source that writes more writes noise
-DOCUMENT = "radio_ntpd.toml(5) has the range of each key"
 
 
 def parser() -> Parser:
@@ -67,7 +66,7 @@ def judge_station(settings: config.Settings) -> list[Finding]:
     try:
         config.judge(settings)
     except Fault as fault:
-        return [(Level.BAD, explained(str(fault)))]
+        return [(Level.BAD, str(fault))]
     found = [(Level.WELL, f"{settings.station}: the program takes it")]
     if not settings.radios and not settings.servers:
         found.append((Level.NOTE, "the station has no radio and no server: it will never have a time"))
@@ -81,17 +80,6 @@ def judge_station(settings: config.Settings) -> list[Finding]:
     if settings.text.get("key") and mode & 0o077:
         found.append((Level.NOTE, f"{settings.station} has keys and can be read by others: chmod 600 it"))
     return found
-
-
-def explained(text: str) -> str:
-    """A refusal of the program with what to do about it."""
-    for word, advice in (
-        ("station toml", "it is no TOML 1.0: a quote that isn't closed, a value that is missing"), ("station unknown", "a key that a station doesn't have: look for a slip of the pen"),
-        ("station missing", "write the key"), ("station range", DOCUMENT), ("station many", "there are more than a station may have"),
-    ):
-        if word in text:
-            return f"{text}; {advice}"
-    return text
 
 
 def hear(settings: config.Settings, place: int, seconds: int) -> list[Finding]:

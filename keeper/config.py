@@ -6,7 +6,7 @@ import subprocess
 import tomllib
 from dataclasses import dataclass, field
 
-from keeper.words import REFUSED, Fault, sentence
+from keeper.words import REFUSED, Fault, reason, sentence
 
 HOUR = 3600
 # Without pacing servers are asked at the start of a run alone, so what they said is at most this old, in seconds.
@@ -206,14 +206,15 @@ def _radio(path: str, text: str, values: object, place: int, tables: list[dict])
 
 
 def judge(settings: Settings) -> None:
-    """Asks the program itself whether the station is valid. Raises Fault with its word."""
+    """Asks the program itself whether the station is valid. Raises Fault with its sentence and its status."""
     words = [settings.program, "replay", "--station", settings.station, "--script", "/dev/null"]
     try:
-        done = subprocess.run(words, stdin=subprocess.DEVNULL, stdout=subprocess.PIPE, stderr=subprocess.DEVNULL, timeout=JUDGED)
+        done = subprocess.run(words, stdin=subprocess.DEVNULL, capture_output=True, timeout=JUDGED)
     except OSError as error:
         raise Fault(f"the program {settings.program} can't be run: {error.strerror}") from error
     except subprocess.TimeoutExpired as error:
         raise Fault(f"the program {settings.program} doesn't judge the station within {JUDGED:.0f} s") from error
     last = done.stdout.decode("ascii", "replace").splitlines()[-1:] or [f"it ends with {done.returncode}"]
     if done.returncode != 0:
-        raise Fault(f"{settings.station}: the program refuses it: {last[0]}", REFUSED)
+        why = reason(done.stderr).removeprefix(f"the station file ({settings.station}): ") or "the program refuses it"
+        raise Fault(f"{settings.station}: {why} ({last[0]})", REFUSED)

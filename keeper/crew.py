@@ -21,6 +21,7 @@ from keeper.pulse_log import PulseLog
 from keeper.readback import last_pulses
 from keeper.runs import Run
 from keeper.say import say
+from keeper.state import State
 
 VERDICTS = 4  # a radio has the time after this number of them
 
@@ -40,22 +41,33 @@ class Crew:
         self.failing = False
 
     def use(self, settings: Settings) -> None:
-        """What these settings leave as it is goes on; a radio's last minutes stay at hand."""
+        """What these settings leave as it is goes on; a radio's last minutes stay at hand. Where the host refuses something all is as it was."""
         os.makedirs(settings.folder, exist_ok=True)
         before = self.state if self.settings else facts.last_state(os.path.join(settings.folder, faces.STATE))
         state = facts.new_state(settings, before)
+        journals = Journals(os.path.join(settings.folder, "journals"), settings.days, say)
+        journals.begin()
+        feeds: list[Feed] = []
+        try:
+            for place in range(len(settings.radios)):
+                feeds.append(self._feed_for(settings, state, place))
+            pacing = self._pacing_for(settings)
+        except OSError:
+            _close_others(feeds, self.feeds)
+            raise
+        # From here on nothing is refused.
         if self.settings:
             facts.go_on(state, self.state)
-        self.addresses = own_addresses(settings.denied, settings.gap)
-        self.hearings = Hearings(settings.cycle)
-        waiting = self.journals.waiting if self.settings else []
-        self.journals = Journals(os.path.join(settings.folder, "journals"), settings.days, say)
-        self.journals.begin()
-        self.journals.waiting = waiting
+            journals.waiting = self.journals.waiting
+        _close_others(self.feeds, feeds)
+        if self.pacing and self.pacing is not pacing:
+            self.pacing.close()
         if self.alarms is None or settings.alarms != self.settings.alarms:
             self._use_alarms(settings)
-        self._use_feeds(settings, state)
-        self._use_relays(settings)
+        for feed in feeds:
+            state.radios[feed.state.number], feed.log.days = feed.state, settings.days
+        self.feeds, self.pacing, self.journals = feeds, pacing, journals
+        self.addresses, self.hearings = own_addresses(settings.denied, settings.gap), Hearings(settings.cycle)
         self.settings, self.state = settings, state
 
     def _use_alarms(self, settings: Settings) -> None:
@@ -63,28 +75,23 @@ class Crew:
             self.alarms.close()
         self.alarms = Alarms(settings.alarms.command, settings.alarms.unheard, settings.alarms.limit, settings.folder)
 
-    def _use_feeds(self, settings: Settings, state) -> None:
-        old, self.feeds = self.feeds, []
-        for place, radio in enumerate(settings.radios):
-            if place < len(old) and old[place].radio == radio and self.settings.program == settings.program:
-                self.feeds.append(old[place])
-                state.radios[place] = old[place].state
-                continue
-            log = PulseLog(os.path.join(settings.folder, "logs"), place, radio.plan, settings.days, say)
-            decoder = Decoder(settings.program, radio.plan, lambda line: None)
-            self.feeds.append(Feed(self.loop, self.guard, radio, state.radios[place], log, decoder, say))
-            self.feeds[-1].recall(last_pulses(log, time.monotonic_ns() // 1000, time.time()))
-        for feed in old:
-            if feed not in self.feeds:
-                feed.close()
+    def _feed_for(self, settings: Settings, state: State, place: int) -> Feed:
+        """The feed of the radio at this place: the one that runs, where it is the same radio. Raises OSError."""
+        radio = settings.radios[place]
+        if place < len(self.feeds) and self.feeds[place].radio == radio and self.settings.program == settings.program:
+            return self.feeds[place]
+        log = PulseLog(os.path.join(settings.folder, "logs"), place, radio.plan, settings.days, say)
+        feed = Feed(self.loop, self.guard, radio, state.radios[place], log, Decoder(settings.program, radio.plan, lambda line: None), say)
+        feed.recall(last_pulses(log, time.monotonic_ns() // 1000, time.time()))
+        return feed
 
-    def _use_relays(self, settings: Settings) -> None:
-        wanted = (settings.servers, settings.pace) if settings.servers and settings.pace else None
-        if self.pacing and (self.pacing.servers, self.pacing.pace) != wanted:
-            self.pacing.close()
-            self.pacing = None
-        if wanted and not self.pacing:
-            self.pacing = Pacing(self.guard, self.loop, settings.pace, settings.servers)
+    def _pacing_for(self, settings: Settings) -> Pacing | None:
+        """Relays for the servers: those that run, where the servers are the same. Raises OSError."""
+        if not settings.servers or not settings.pace:
+            return None
+        if self.pacing and (self.pacing.servers, self.pacing.pace) == (settings.servers, settings.pace):
+            return self.pacing
+        return Pacing(self.guard, self.loop, settings.pace, settings.servers)
 
     def is_warm(self, now: float) -> bool:
         """Whether a run that began now (Unix s) would soon have the time: by a radio, of which it receives the last minutes, or by servers,
@@ -128,7 +135,8 @@ class Crew:
         run_state, status, seconds = self.state.run, status_of(text), max(run.ended - run.began, 0.001)
         run_state.last_status, run_state.last_journal = status, self.journals.keep(run.since, text, run.own)
         if run.why != "cycle" or status != "status 0":
-            say(f"run {run.number} ended ({run.why}) after {seconds:.0f} s: {status or f'no status line, it ended with {run.exit_status}'}")
+            how = status or f"no status line, it ended with {run.exit_status}"
+            say(f"run {run.number} ended ({run.why}) after {seconds:.0f} s: {': '.join(filter(None, (how, run.reason)))}")
         counts = heard(text)
         others = [max(0, count - own) for count, own in zip(counts, run.own)]
         facts.note_requests(self.state, counts, run.own, seconds)
@@ -188,3 +196,10 @@ class Crew:
             self.pacing.close()
         if self.alarms:
             self.alarms.close()
+
+
+def _close_others(feeds: list[Feed], kept: list[Feed]) -> None:
+    """Closes the feeds that aren't among those that are kept."""
+    for feed in feeds:
+        if feed not in kept:
+            feed.close()

@@ -177,6 +177,8 @@ class Keeper:
         self.crew.notify.reloading()
         try:
             settings = config.load(self.settings.path)
+            if settings.folder != self.settings.folder:
+                raise Fault(f"state: it is {settings.folder} now, for which the keeper has to be started anew")
             config.judge(settings)
         except Fault as fault:
             self.crew.refuse(str(fault))

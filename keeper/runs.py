@@ -33,6 +33,7 @@ class Run:
         self.own = [0] * len(settings.links)
         self.had_time = False
         self.why, self.ended = "", 0.0  # why it ended, and when (monotonic s)
+        self.reason = ""  # the program's own sentence on it
         self.exit_status: int | None = None  # negative for a signal
 
     def age(self) -> float:
@@ -114,7 +115,7 @@ class Run:
             self.server.child.end(0)
             why = f"nobody answers on port {self.settings.links[0]} within {BEGIN:.0f} s"
         else:
-            why = status_of(self.server.text()) or f"the program ended with {self.server.status()}"
+            why = ": ".join(filter(None, (status_of(self.server.text()) or f"the program ended with {self.server.status()}", self.server.reason())))
         self.server.close()
         return why
 
@@ -126,6 +127,6 @@ class Run:
         """What it has printed. It has ended, or ends within seconds since its ports are free."""
         if not self.server.child.wait(POLLS):
             self.server.child.end(0)
-        text, self.exit_status = self.server.text(), self.server.status()
+        text, self.exit_status, self.reason = self.server.text(), self.server.status(), self.server.reason()
         self.server.close()
         return text

@@ -6,8 +6,10 @@ import time
 
 from keeper.children import Child, Guard
 from keeper.outlet import Outlet, pipe
+from keeper.words import reason
 
 ROOM = 1 << 26  # a journal that is longer isn't kept, in bytes
+SENTENCES = 4096  # of what it says on its standard error, in bytes
 
 
 class Server:
@@ -21,16 +23,18 @@ class Server:
         logs = [pipe() for _ in range(radios)]
         # Its output stays in memory until it has ended, so that a full disk can't spoil it.
         self.journal = os.memfd_create("journal", os.MFD_CLOEXEC)
+        self.errors = os.memfd_create("errors", os.MFD_CLOEXEC)
         self.names = [f"/dev/fd/{taken}" for taken, _ in logs]
         self.outlets = [Outlet(given) for _, given in logs]
         words = [program, "serve", "--station", f"/dev/fd/{station}", "--during", str(during)]
         handed = [station, *(taken for taken, _ in logs)]
         self.start = time.monotonic_ns() // 1000
         try:
-            self.child = Child(guard, words, stdin=subprocess.DEVNULL, stdout=self.journal, stderr=subprocess.DEVNULL, pass_fds=handed)
+            self.child = Child(guard, words, stdin=subprocess.DEVNULL, stdout=self.journal, stderr=self.errors, pass_fds=handed)
         except OSError:
             self._close_pipes()
             os.close(self.journal)
+            os.close(self.errors)
             raise
         finally:
             for one in handed:
@@ -64,6 +68,10 @@ class Server:
         size = min(os.fstat(self.journal).st_size, ROOM)
         return os.pread(self.journal, size, 0)
 
+    def reason(self) -> str:
+        """The sentence in which it has said what went wrong; nothing where nothing did, or where it was killed."""
+        return reason(os.pread(self.errors, SENTENCES, 0))
+
     def close(self) -> None:
         """Ends it at once where it still runs, and gives back all that it had."""
         if self.closed:
@@ -72,3 +80,4 @@ class Server:
         self._close_pipes()
         self.child.end(0)
         os.close(self.journal)
+        os.close(self.errors)

@@ -31,6 +31,12 @@ class Parser(argparse.ArgumentParser):
         sys.exit(USAGE)
 
 
+def reason(said: bytes) -> str:
+    """The program's own last sentence on its standard error, without its name; nothing where it says none."""
+    lines = said.decode("utf-8", "replace").splitlines()
+    return lines[-1].removeprefix("radio_ntpd: ") if lines else ""
+
+
 def sentence(error: OSError) -> str:
     """What the host says of a call that failed, with the file's name where there is one."""
     what = error.strerror or str(error)

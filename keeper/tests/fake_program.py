@@ -88,6 +88,7 @@ def serve(words: argparse.Namespace) -> int:
             link.bind(("0.0.0.0", row["port"]))
         except OSError:
             print(f"status 2 open link {place}")
+            print(f"radio_ntpd: cannot open link {place} (port {row['port']}): another program or link has the port", file=sys.stderr)
             return 2
         links.append(link)
         counts.append([0, 0])
@@ -119,9 +120,11 @@ def decode(words: argparse.Namespace) -> int:
     return 0
 
 
-def replay() -> int:
+def replay(words: argparse.Namespace) -> int:
     fault = os.environ.get("FAKE_FAULT")
     print(f"status 3 station {fault}" if fault else "status 0")
+    if fault:
+        print(f"radio_ntpd: the station file ({words.station}): there is no key {fault.split()[-1]}", file=sys.stderr)
     return 3 if fault else 0
 
 
@@ -133,7 +136,7 @@ def main() -> int:
     parser.add_argument("--during", type=int, default=16)
     words = parser.parse_args()
     if words.command == "replay":
-        return replay()
+        return replay(words)
     return decode(words) if words.command == "decode" else serve(words)
 
 

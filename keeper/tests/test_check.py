@@ -74,7 +74,7 @@ class Whole(Folder):
     def test_the_program_refuses_the_station(self):
         told, said = self.run_check("--seconds", "0", says="status 3 station range radio.0.delay", ends=3)
         self.assertEqual(told, 1)
-        self.assertRegex(said, r"BAD +\S+station.toml: the program refuses it: status 3 station range radio.0.delay; radio_ntpd.toml\(5\)")
+        self.assertRegex(said, r"BAD +\S+station.toml: the program refuses it \(status 3 station range radio.0.delay\)")
 
     def test_a_key_that_is_not_known(self):
         with self.assertRaises(Fault) as raised:

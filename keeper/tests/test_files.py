@@ -135,7 +135,7 @@ class Config(Folder):
         config.judge(settings)
         with mock.patch.dict(os.environ, FAKE_FAULT="unknown boundd"), self.assertRaises(Fault) as caught:
             config.judge(settings)
-        self.assertEqual(str(caught.exception), f"{self.folder}/station.toml: the program refuses it: status 3 station unknown boundd")
+        self.assertEqual(str(caught.exception), f"{self.folder}/station.toml: there is no key boundd (status 3 station unknown boundd)")
 
     def test_a_program_that_is_not_there(self):
         with self.assertRaises(Fault) as caught:

@@ -195,7 +195,7 @@ class Runs(Kept):
         with socket.socket(socket.AF_INET, socket.SOCK_DGRAM) as other:
             other.bind(("0.0.0.0", self.port))
             self.keep()
-            self.waits("run 1 doesn't begin: status 2 open link 0")
+            self.waits(f"run 1 doesn't begin: status 2 open link 0: cannot open link 0 (port {self.port}): another program or link has the port\n")
         self.waits("has the time")
         self.ask()
 
@@ -226,7 +226,7 @@ class Runs(Kept):
     def test_a_station_that_is_refused(self):
         self.keep(FAKE_FAULT="unknown boundd")
         self.assertEqual(self.keeper.wait(30), 78)
-        self.assertEqual(self.text(), f"radio_keeper run: {self.folder}/station.toml: the program refuses it: status 3 station unknown boundd\n")
+        self.assertEqual(self.text(), f"radio_keeper run: {self.folder}/station.toml: there is no key boundd (status 3 station unknown boundd)\n")
 
 
 if __name__ == "__main__":

@@ -1,0 +1,146 @@
+"""What a reload takes over and what it leaves as it was; folders that are taken away; a host's clock that is set."""
+
+import contextlib
+import io
+import os
+import pathlib
+import shutil
+import tempfile
+import time
+import unittest
+from unittest import mock
+
+from keeper import clock, config
+from keeper.children import Guard
+from keeper.crew import Crew
+from keeper.keep import Keeper
+from keeper.loop import Loop
+from keeper.words import Fault
+
+FAKE = pathlib.Path(__file__).with_name("fake_program.py")
+STATION = '[[radio]]\nplan = "dcf"\nlog = "x"\n[[radio]]\nplan = "msf"\nlog = "x"\n[[server]]\naddress = "127.0.0.1"\nport = 9\n[[link]]\nport = 12300\n'
+FIRST, SECOND = '[[radio]]\ncommand = "sleep 60"\n', '[[radio]]\ncommand = "sleep 61"\n'
+
+
+class Crews(unittest.TestCase):
+    def setUp(self):
+        folder = tempfile.TemporaryDirectory()
+        self.addCleanup(folder.cleanup)
+        self.folder = pathlib.Path(folder.name)
+        (self.folder / "station.toml").write_text(STATION)
+        self.said = io.StringIO()
+        self.enterContext(contextlib.redirect_stderr(self.said))
+        self.guard, self.loop = Guard(), Loop()
+        self.addCleanup(self.guard.close)
+        self.addCleanup(self.loop.close)
+        self.crew = Crew(self.loop, self.guard)
+        self.addCleanup(lambda: self.crew.close() if self.crew.settings else None)
+
+    def settings(self, radios: str = FIRST + SECOND, top: str = ""):
+        (self.folder / "keeper.toml").write_text(f'station = "station.toml"\nprogram = "{FAKE}"\n{top}{radios}')
+        return config.load(str(self.folder / "keeper.toml"))
+
+    def turn(self):
+        self.crew.turn(0.01)
+
+    def sources(self):
+        return [feed.source.child.pid for feed in self.crew.feeds]
+
+
+class Reloads(Crews):
+    def test_what_stays_the_same_goes_on(self):
+        self.crew.use(self.settings())
+        self.turn()
+        before, relays, journals = self.sources(), self.crew.pacing, self.crew.journals
+        journals.waiting = [("20261130T000000Z", b"status 0\n", "")]
+        self.crew.use(self.settings(FIRST + SECOND.replace("61", "62"), "days = 7\n"))
+        self.turn()
+        self.assertEqual((self.sources()[0], self.crew.pacing), (before[0], relays))
+        self.assertNotEqual(self.sources()[1], before[1])
+        self.assertEqual([feed.log.days for feed in self.crew.feeds], [7, 7])
+        self.assertIs(self.crew.state.radios[0], self.crew.feeds[0].state)
+        self.assertEqual(self.crew.journals.waiting, journals.waiting)
+
+    def test_servers_that_are_paced_otherwise_get_other_relays(self):
+        self.crew.use(self.settings())
+        before = self.crew.pacing
+        self.crew.use(self.settings(top="pace = 64\n"))
+        self.assertEqual((before.child, self.crew.pacing.pace), (None, 64))
+        self.crew.use(self.settings(top="pace = 0\n"))
+        self.assertIsNone(self.crew.pacing)
+
+    def test_where_the_host_refuses_something_all_is_as_it_was(self):
+        self.crew.use(self.settings())
+        self.turn()
+        before = self.sources(), self.crew.pacing, self.crew.journals, self.crew.state, self.crew.settings
+        other = self.settings(SECOND + FIRST + "steady = true\n", "pace = 64\n")
+        for refused in ("keeper.steadied.steady", "keeper.crew.Pacing", "keeper.crew.Journals.begin", "keeper.crew.os.makedirs"):
+            with self.subTest(refused=refused), mock.patch(refused, mock.Mock(side_effect=OSError(24, "Too many open files"))), self.assertRaises(OSError):
+                self.crew.use(other)
+            self.turn()
+            self.assertEqual((self.sources(), self.crew.pacing, self.crew.journals, self.crew.state, self.crew.settings), before)
+            self.assertEqual([feed.state.source for feed in self.crew.feeds], ["running", "running"])
+
+    def test_another_state_folder_needs_a_new_start(self):
+        settings = self.settings()
+        keeper = mock.Mock(settings=settings, crew=self.crew)
+        self.crew.use(settings)
+        self.settings(top='state = "other"\n')
+        self.crew.notify = mock.Mock()
+        self.assertFalse(Keeper._reload(keeper))
+        self.assertEqual(self.crew.refused, f"state: it is {self.folder}/other now, for which the keeper has to be started anew")
+        self.assertEqual(self.crew.state.alarms[-1].event, "file-refused")
+
+
+class Renewals(Crews):
+    def test_a_state_folder_that_was_taken_away_is_made_again(self):
+        self.crew.use(self.settings(top='state = "s"\n'))
+        self.crew.renew(None)
+        shutil.rmtree(self.folder / "s")
+        self.crew.renew(None)
+        self.assertEqual(sorted(os.listdir(self.folder / "s")), ["radio_ntpd.prom", "state.json", "status.html"])
+        self.assertNotIn("can't be written", self.said.getvalue())
+
+    def test_a_state_that_can_not_be_written_is_said_once_and_when_it_can_be_again(self):
+        self.crew.use(self.settings())
+        with mock.patch("keeper.crew.faces.renew", mock.Mock(side_effect=OSError(28, "No space left on device"))):
+            self.crew.renew(None)
+            self.crew.renew(None)
+        self.crew.renew(None)
+        self.crew.renew(None)
+        said = [line.split(" ", 1)[1] for line in self.said.getvalue().splitlines()]
+        self.assertEqual(said, ["the state can't be written: No space left on device", "the state can be written again"])
+
+    def test_a_log_that_can_not_be_written_stands_in_the_notes(self):
+        self.crew.use(self.settings())
+        self.crew.feeds[1].log.note = "the log of radio 1 can't be written: No space left on device"
+        self.crew.renew(None)
+        self.assertEqual(self.crew.state.notes, ["the log of radio 1 can't be written: No space left on device"])
+
+    def test_a_clock_that_is_set_moves_all_moments_at_once(self):
+        self.crew.use(self.settings())
+        readings = iter([0.0, 3600.0, 3600.0])
+        self.crew.clock = clock.ClockWatch(lambda: next(readings))
+        since = self.crew.state.keeper_since
+        self.crew.feeds[0].reception.minutes.append((time.time(), True))
+        self.crew.pacing.answered = [5.0]
+        self.turn()
+        self.turn()
+        self.assertIn("the host's clock was set forward by 3600 s", self.said.getvalue())
+        self.assertEqual((self.crew.state.keeper_since, self.crew.pacing.answered), (since + 3600, [3605.0]))
+        self.assertEqual(self.crew.feeds[0].reception.verdicts_since(time.time() + 3500), 1)
+
+
+class Faults(Crews):
+    def test_a_file_that_is_refused_is_said_and_raises_an_alarm(self):
+        self.crew.use(self.settings())
+        with self.assertRaises(Fault):
+            self.settings(top="cicle = 3\n")
+        self.crew.refuse("cicle: a key that isn't known")
+        self.crew.renew(None)
+        self.assertEqual(self.crew.state.notes, ["not reloaded: cicle: a key that isn't known"])
+        self.assertIn("alarm file-refused: cicle: a key that isn't known", self.said.getvalue())
+
+
+if __name__ == "__main__":
+    unittest.main()
