@@ -13,7 +13,7 @@ use Rattle.feed_workers.specs.declared.work.PollEnd.TheVariants.{Rounds, LinkEnd
 use Rattle.feed_workers.specs.declared.work.PollWork.{PollWork}
 
 -- These events were those of this many polls, and they ended so. Rounds: as many whole rounds as polls, none of which received the link's
--- end. LinkEnd: no more whole rounds than polls, of which the last one, and no other, heard it. LinkFault: fewer whole rounds than polls,
+-- end. LinkEnd: no more whole rounds than polls, of which the last one, and no other, received it. LinkFault: fewer whole rounds than polls,
 -- and then one that a fault cut; one call of the link failed
 abbrev pub EndsPolls : Address → ℕ → ℕ → ℕ → List NetEvent → PollEnd → Type 0
 EndsPolls server polls faults faults_now events Rounds =

@@ -97,7 +97,6 @@ abbrev pub AreWhole : Address → List NetEvent → List Round → Type 0
 AreWhole server before [] = Unit {0}
 AreWhole server before (round ∷ rounds) = IsWhole server before round × AreWhole server (before ++ events_of server round) rounds
 
--- a round after which another may come
 abbrev pub is_ended : NetEvent → Bool
 is_ended (Came from at bytes) = false
 is_ended Silent = false
@@ -105,6 +104,7 @@ is_ended Ended = true
 is_ended (Timed moment) = false
 is_ended (Went to bytes) = false
 
+-- a round after which another may come
 abbrev pub IsOpen : Round → Type 0
 IsOpen round = is_ended round.last ≡ false
 

@@ -44,7 +44,7 @@ pub data Turn : Type 0 where
 abbrev pub came : Request → NetEvent
 came request = Came request.from request.at request.bytes
 
--- what befell the link: a datagram, then the moment, then the reply to its sender
+-- what happened on the link: a datagram, then the moment, then the reply to its sender
 abbrev pub events_of : Turn → List NetEvent
 events_of Still = Silent ∷ []
 events_of Last = Ended ∷ []

@@ -25,7 +25,7 @@ pub record ServerFields : Type 0 where
   pub polls : ℕ
 
 -- a station: the numbers of its top table, its rows and names. The numbers are the bound of its pages in milliseconds, its first
--- moment, and the least gap between the requests of a client in microseconds. The size of a link's table of clients is one more.
+-- moment, and the least gap between the requests of a client in microseconds. The fourth is the size of a link's table of clients.
 -- The rows are its radios and servers, the ports of its links, its keys, and the nets that it denies. It may also have the name
 -- of a leap second file.
 pub record StationFields : Type 0 where

@@ -6,11 +6,11 @@
 -- Read on in this order; each file names its source. docs/HEADLINE.md has examples, and what is trusted.
 --   what an object reports, and its faults    feed_link Told, Faults
 --   how far a file is read                    file_reader Ends; feed_workers Logs, Leaps
---   how a server is polled                    feed_workers Polls, Polling
---   a station, its journal and its page       station_config Station; system_fold Settings; clock_page Page
---   which client passes                       kiss_gate Gates, Nets, Clients
---   the turns of a link                       responder Turns, Serving
---   texts and statuses                        sink_text Writing; file_commands Writing, Endings, Text; system_fold Numbered
+--   how a server is polled                    poll_core Histories; feed_workers Polls, Polling
+--   which client passes                       packet_auth Keys; kiss_gate Nets, Clients, Gates
+--   a station, its journal and its page       system_fold Settings; station_config Station; page_cell Claims; crew_work Lists; clock_page Page
+--   the turns of a link                       responder Turns; crew_work Served; responder Serving
+--   texts and statuses                        sink_text Writing; journal_entry Texts; system_fold Numbered; file_commands Writing, Endings, Text, Migrating
 -- Taken on their tests: due_log (log_decoder Due), leap_seconds (leap_file Rows), page_of (system_fold Page),
 -- judge (poll_core Histories), reply_to (sealed_reply Replies).
 use Rattle.std.specs.Prelude.{◌≡◌, ◌≢◌, ◌⊎◌, ℕ, suc, ◌*◌, ◌<◌, ◌≤◌, min, nat_lt, Bool, Option, None, Some, IfSome, is_some, List, [], ◌∷◌, ◌++◌, All, length, slice_get, codes, decimal, if◌then◌else◌}
@@ -125,7 +125,7 @@ pub record HasDueEntries (of : StationFields) (limit : ℕ) (run : StationRun) :
 -- ---- 2. Each log is read
 
 -- The bytes read of each log, and of the leap second file, are a beginning of what it reported. They are all of it, unless a read of it failed,
--- a bad line was met, or as many bytes were read as it may have
+-- a bad line was met, or it has more bytes than it may have
 pub record ReadsLogs (of : StationFields) (run : StationRun) : Type 0 where
   pub each : length run.radios ≡ length of.radios
   pub read : All (λ log. EndsLog most_of_a_log log.opened log.back log.bytes log.end) run.radios
@@ -134,7 +134,7 @@ pub record ReadsLogs (of : StationFields) (run : StationRun) : Type 0 where
 
 -- ---- 3. Each server is polled
 
--- its link's events are those of the rounds of this many polls; a round is cut short only where a call of that link failed
+-- its link's events are those of this many rounds; of fewer only where the link ended, or a call of it failed, which cuts a round
 pub record IsPolled (server : ServerFields) (polled : PollRun) : Type 0 where
   pub told : Adds polled.opened.events polled.back.events polled.events
   pub ends : EndsPolls server.address server.polls polled.opened.faults polled.back.faults polled.events polled.end
