@@ -25,7 +25,7 @@ def status_of(text: bytes) -> str:
 
 
 def heard(text: bytes) -> list[int]:
-    """The datagrams that each link heard."""
+    """The datagrams that each link received."""
     return [sum(int(one) for one in found.groups()[1:5]) for found in LINK.finditer(text)]
 
 

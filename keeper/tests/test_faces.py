@@ -53,7 +53,7 @@ class Sentences(unittest.TestCase):
         self.says(Level.OK, "root dispersion 249.0 ms", link__root_dispersion=0.249)
         self.says(Level.WARNING, "DCF77 roof: its source is waiting", radio__source="waiting")
         self.says(Level.WARNING, "DCF77 roof: no verdict for 1 h", radio__minute_at=NOW - 3601)
-        self.says(Level.WARNING, "DCF77 roof: no verdict for ever", radio__minute_at=0.0)
+        self.says(Level.WARNING, "DCF77 roof: no verdict yet", radio__minute_at=0.0)
         self.says(Level.WARNING, "server 192.0.2.17 has given no sample for 2 h", server__sample_at=NOW - 7201, server__answered_at=0.0)
         self.says(Level.WARNING, "the leap second file expires in 29 d", leap__expires=NOW + 29 * 86400)
         self.says(Level.WARNING, "the leap second file has expired", leap__expires=NOW - 1)
