@@ -1,4 +1,4 @@
-"""Asking: packets, the reading of a counter, the watch of links, how a run's hearings are used up, and journals of runs that ended."""
+"""Asking: packets, the reading of a counter, the watch of links, and how a run's hearings are used up."""
 
 import dataclasses
 import os

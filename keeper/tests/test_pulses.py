@@ -83,8 +83,8 @@ class Made(unittest.TestCase):
         self.folder = pathlib.Path(folder.name)
 
     def reads(self, source, due, ends=None):
-        """What a source gives within two seconds."""
-        got, end = b"", time.monotonic() + 2
+        """What a source gives within ten seconds, on a busy machine too."""
+        got, end = b"", time.monotonic() + 10
         try:
             while time.monotonic() < end and (ends or got != due):
                 got += source.read()
@@ -110,8 +110,11 @@ class Sources(Made):
         self.addCleanup(guard.close)
         source = Command(guard, "trap '' TERM; sleep 61 | cat & echo $!; wait")
         source.begin()
-        time.sleep(0.2)
-        cat = int(source.read())
+        text, end = b"", time.monotonic() + 10
+        while not text.endswith(b"\n") and time.monotonic() < end:
+            text += source.read()
+            time.sleep(0.005)
+        cat = int(text)
         source.end()
         for _ in range(100):
             if not os.path.exists(f"/proc/{cat}") or b"Z" in pathlib.Path(f"/proc/{cat}/stat").read_bytes().split()[2:3]:
