@@ -4,6 +4,7 @@ import pathlib
 import tempfile
 import time
 import unittest
+from unittest import mock
 
 from keeper import journals
 
@@ -36,12 +37,23 @@ class JournalTests(unittest.TestCase):
     def test_old_journals_are_taken_away(self):
         self.journals.begin()
         now = time.time()
-        for days in (32, 29):
-            (self.folder / (journals.name_of(now - days * 86400) + ".journal")).write_bytes(TEXT)
+        old = [journals.name_of(now - days * 86400) + ".journal" for days in (32, 29, 1)]
+        for name in old:
+            (self.folder / name).write_bytes(TEXT)
         (self.folder / "mine").write_text("")
         kept = self.journals.keep(now, TEXT, [0, 0])
         names = sorted(one.name for one in self.folder.iterdir())
-        self.assertEqual(names, sorted(["mine", kept, kept.replace(".journal", ".own"), journals.name_of(now - 29 * 86400) + ".journal"]))
+        self.assertEqual(names, sorted(["mine", kept, kept.replace(".journal", ".own"), *old[1:]]))
+
+    def test_a_clock_that_is_set_years_ahead_makes_none_too_old_at_once(self):
+        now = time.time()
+        kept = self.journals.keep(now, TEXT, [0, 0])
+        with mock.patch("keeper.journals.time.time", lambda: now + 10 * 365 * 86400):
+            wrong = self.journals.keep(time.time(), TEXT, [0, 0])
+            self.journals.keep(time.time() + 5, TEXT, [0, 0])
+        self.assertTrue((self.folder / kept).exists())
+        self.journals.keep(now + 60, TEXT, [0, 0])
+        self.assertTrue((self.folder / kept).exists() and (self.folder / wrong).exists())
 
     def test_a_journal_without_its_end_is_none(self):
         self.journals.begin()

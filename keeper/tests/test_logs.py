@@ -8,7 +8,7 @@ import tempfile
 import unittest
 from unittest import mock
 
-from keeper.pulse_log import PulseLog, compress
+from keeper.pulse_log import PulseLog, compress, oldest_kept
 
 DAY = 86400
 
@@ -38,6 +38,12 @@ class Logs(unittest.TestCase):
         self.assertEqual(self.names(), [f"0-dcf.1970010{day}.b0070001.log{end}" for day, end in ((3, ".gz"), (4, ".gz"), (5, ".gz"), (6, ""))])
         self.assertEqual(gzip.decompress((self.folder / "0-dcf.19700104.b0070001.log.gz").read_bytes()), b"31 1\n32 1\n")
         self.assertEqual(self.said, [])
+
+    def test_the_first_day_that_is_kept(self):
+        for there, today, due in (([], "20260301", "20260226"), (["20260228"], "20260301", "20260226"), (["20260201", "20260301"], "20260301", "20260130"),
+                                  (["20260201"], "20260302", "20260130"), (["20260301"], "20360101", "20260227"), (["20360101"], "20260301", "20260226")):
+            with self.subTest(there=there, today=today):
+                self.assertEqual(oldest_kept(there, today, 3), due)
 
     def test_a_keeper_that_begins_again_goes_on_behind_the_last_whole_line(self):
         (self.folder / "0-dcf.19700101.b0070001.log").write_bytes(b"10 1\n20 1\n3")
