@@ -8,7 +8,7 @@ import subprocess
 from keeper.say import say
 from keeper.state import Alarm, State
 
-LOST = 15.0  # a change of run is no loss: so long nobody may have heard the time, in seconds
+LOST = 15.0  # a change of run is no loss: so long nobody may have received the time, in seconds
 QUEUE = 20  # alarms that wait; of more the oldest is dropped
 KEPT = 20  # alarms that the state keeps
 GRACE = 2.0  # between SIGTERM and SIGKILL, in seconds

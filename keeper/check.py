@@ -115,7 +115,7 @@ def listen(source, seconds: float) -> tuple[bytes, str]:
 
 
 def judge_marks(seen: Look, plan: str) -> list[Finding]:
-    """Sentences on what was heard of a radio of this plan."""
+    """Sentences on what was received of a radio of this plan."""
     if seen.edges and not seen.widths:
         return [(Level.BAD, "its lines are edges: put `| feeders/edges_to_log.py` after the command")]
     if not seen.widths:

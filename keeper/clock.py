@@ -3,7 +3,7 @@
 import time
 from collections.abc import Callable
 
-LEAST = 2.0  # what the clock is set by less than this moves nothing, in seconds: no age is told more finely, and a slew is none
+LEAST = 2.0  # what the clock is set by less than this moves nothing, in seconds: no age is shown more finely, and a slew is none
 
 
 def ahead() -> float:

@@ -35,7 +35,7 @@ class Exchange:
 
 
 def reading_of(exchanges: list[Exchange]) -> Reading | None:
-    """What these exchanges say together; None where no answer reports a counter. A request can't be heard before it was sent, and an
+    """What these exchanges say together; None where no answer reports a counter. A request can't be received before it was sent, and an
     answer can't come before it was sent: so each bounds the lag from both sides, and the closest bounds count."""
     good = [one for one in exchanges if one.said.reports_counter()]
     if not good:
@@ -64,7 +64,7 @@ def open_client(port: int, address: str) -> socket.socket:
 
 
 class Counter:
-    """Reads the counter of a server that has just been started, step by step. `asked` counts the requests that were heard or may be."""
+    """Reads the counter of a server that has just been started, step by step. `asked` counts the requests that were received or may be."""
 
     def __init__(self, port: int, address: str) -> None:
         self.client = open_client(port, address)

@@ -15,7 +15,7 @@ BATCH, BATCHES = 64, 2
 LOST = 0.004  # an answer that hasn't come by then may never come: the link may have no hearings left, in seconds
 AGAIN = 0.0005  # from there on a single request is sent so often, until one is answered or the port is closed, in seconds
 ROUND = 8  # hearings that end a poller's round
-STILL = 0.03  # a queue that has stood for so long isn't heard any more, in seconds
+STILL = 0.03  # a queue that has stood for so long isn't received any more, in seconds
 
 
 class LinkDrain:
@@ -91,7 +91,7 @@ class PollDrain:
         found = [one for one in of_process(self.process) if one.port not in self.links]
         going = [one for one in found if not self._is_still(one, now)]
         for one in going:
-            # Nothing is added to what waits, so that it shows whether it is heard.
+            # Nothing is added to what waits, so that it shows whether it is received.
             for _ in range(0 if one.waiting else ROUND * 16):
                 try:
                     self.out.sendto(b"", ("127.0.0.1", one.port))

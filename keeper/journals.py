@@ -3,6 +3,7 @@
 import datetime
 import os
 import re
+import time
 from collections.abc import Callable
 
 from keeper.pulse_log import day_of, drop_old
@@ -25,7 +26,7 @@ def status_of(text: bytes) -> str:
 
 
 def heard(text: bytes) -> list[int]:
-    """The datagrams that each link heard."""
+    """The datagrams that each link received."""
     return [sum(int(one) for one in found.groups()[1:5]) for found in LINK.finditer(text)]
 
 
@@ -80,7 +81,7 @@ class Journals:
                 # The counts come first, so that a journal never stands without them.
                 self._write(name + ".own", counts.encode())
                 self._write(name + ".journal", text)
-                drop_old(self.folder, NAME, day_of(datetime.datetime.now().timestamp() - self.days * 86400))
+                drop_old(self.folder, NAME, day_of(time.time()), self.days)
             except OSError as error:
                 said = f"journals can't be written: {error.strerror}; {len(self.waiting)} wait"
                 if not self.note:

@@ -20,7 +20,7 @@ FIT = 0.8  # the part of the marks that has to be of a class
 @dataclass
 class Look:
     """What was seen. `lines` is how many there were, `edges` and `others` how many of them were edges and neither.
-    `unit` and `clock` are words, empty where they can't be told. `rate` is marks a second; `inverted` is None where it can't be told;
+    `unit` and `clock` are words, empty where they aren't known. `rate` is marks a second; `inverted` is None where it isn't known;
     `plans` are those that the widths may be of."""
 
     lines: int = 0
@@ -50,7 +50,7 @@ def look(lines: Iterable[bytes], seconds: float, monotonic: float, unix: float) 
         return seen
     seen.unit, seen.clock = unit_of(pairs[-1][0], monotonic, unix)
     scale = UNITS.get(seen.unit, 1.0)
-    # What a source says of the time before it was heard isn't looked at.
+    # What a source says of the time before it was read isn't looked at.
     last = pairs[-1][0] / scale
     marks = [(start / scale, width / scale) for start, width in pairs if start / scale > last - seconds * SECOND]
     seen.widths = [round(width) for _, width in marks]
@@ -91,7 +91,7 @@ def is_inverted(marks: list[tuple[float, float]]) -> bool | None:
 
 
 def plans_of(marks: list[tuple[float, float]]) -> list[str]:
-    """The plans of which most of these marks may be. DCF77 and MSF can't always be told apart in some seconds."""
+    """The plans of which most of these marks may be. DCF77 and MSF can't always be distinguished in some seconds."""
     widths = [width for _, width in marks]
     found = [plan for plan, classes in CLASSES.items() if sum(any(least <= width < most for least, most in classes) for width in widths) >= FIT * len(widths)]
     gaps = [later - earlier for (earlier, _), (later, _) in zip(marks, marks[1:])]

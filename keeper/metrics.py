@@ -69,8 +69,8 @@ def _links(sheet: Sheet, state: State, now: float) -> None:
         sheet.put(f"link_{field}_seconds", "gauge", about, [(labels, getattr(one, field)) for labels, one in by])
     for field, name, about in (
         ("answered_at", "last_answer", "When the link answered the keeper last."),
-        ("reference_time", "reference", "When its source was heard last."),
-        ("until", "time_end", "When its time ends if no source is heard any more."),
+        ("reference_time", "reference", "When its source was received last."),
+        ("until", "time_end", "When its time ends if no source is received any more."),
     ):
         sheet.put(f"link_{name}_timestamp_seconds", "gauge", about, [(labels, getattr(one, field)) for labels, one in by if getattr(one, field)])
     sheet.put("link_requests_total", "counter", "Datagrams of clients in the runs that have ended.", [(labels, one.requests) for labels, one in by])

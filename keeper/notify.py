@@ -1,4 +1,4 @@
-"""What systemd is told of the keeper (sd_notify, by its socket), as `Type=notify` and `WatchdogSec=` ask for. Elsewhere nothing is done."""
+"""What the keeper reports to systemd (sd_notify, by its socket), as `Type=notify` and `WatchdogSec=` ask for. Elsewhere nothing is done."""
 
 import os
 import socket
@@ -44,7 +44,7 @@ class Notify:
         self._send("STATUS=" + " ".join(text.split()))
 
     def turn(self, now: float) -> None:
-        """Call it often, with the monotonic clock's seconds: the watchdog is told in time that the loop goes round."""
+        """Call it often, with the monotonic clock's seconds: the watchdog learns in time that the loop goes round."""
         if self.interval is not None and now >= self.due:
             self._send("WATCHDOG=1")
             self.due = now + self.interval

@@ -49,7 +49,7 @@ def _banner(state: State, now: float) -> str:
 def _link(state: State, link: LinkState, now: float) -> str:
     pairs = [
         ("reference", rules.reference(link.reference_id, state)), ("stratum", str(link.stratum)), ("root dispersion", length(link.root_dispersion)),
-        ("leap second", LEAPS[link.leap & 3]), ("source heard", ago(link.reference_time, now)),
+        ("leap second", LEAPS[link.leap & 3]), ("source received", ago(link.reference_time, now)),
         ("time lasts without it", span(link.until - now) if link.until > now else "-"), ("requests a second", f"{link.requests_per_second:.1f}"),
         ("answered", ago(link.answered_at, now)),
     ]
@@ -111,7 +111,7 @@ def _offsets(state: State, now: float) -> str:
 
 KEY = (
     '<section class="wide key"><p class="key"><span><i class="verdict"></i>minute believed</span><span><i class="half"></i>valid, but not believed alone</span>'
-    '<span><i class="refused"></i>refused</span><span><i class="none"></i>not heard</span><span>a column is a quarter of an hour, hours are UTC</span></p></section>'
+    '<span><i class="refused"></i>refused</span><span><i class="none"></i>nothing received</span><span>a column is a quarter of an hour, hours are UTC</span></p></section>'
 )
 
 

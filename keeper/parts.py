@@ -9,7 +9,7 @@ QUARTER = 900  # a quarter of an hour, in seconds
 QUARTERS = 96  # as many as are kept: 24 hours
 SLOT = 300  # what one point of the picture of offsets stands for, in seconds
 SLOTS = 288  # as many as are kept: 24 hours
-DRIFT = 15e-6  # how fast the root dispersion grows while no source is heard, in seconds a second
+DRIFT = 15e-6  # how fast the root dispersion grows while no source is received, in seconds a second
 
 
 @dataclass
@@ -46,8 +46,8 @@ class LinkState:
     stratum: 0 where it has no time.
     reference_id: four letters at most, or an IPv4 address.
     root_delay, root_dispersion: of that answer (s).
-    reference_time: when its source was heard last (Unix s), 0.0 where it has no time.
-    until: when its time ends if no source is heard any more (Unix s), 0.0 where it has no time.
+    reference_time: when its source was received last (Unix s), 0.0 where it has no time.
+    until: when its time ends if no source is received any more (Unix s), 0.0 where it has no time.
     requests: datagrams of clients in the runs that have ended since the keeper began, its own left out.
     requests_per_second: the same a second, in the last of them.
     offset: its time less the host's clock (s), which says something only where the host's clock is good.
@@ -112,7 +112,7 @@ class RadioState:
     last_bad: the last such line, and why it was left out.
     pulse_at: when the last pulse came (Unix s).
     verdicts_hour, minutes_hour: verdicts and all minutes with an answer in the last hour.
-    minute: the second that the last verdict told (Unix s).
+    minute: the second that the last verdict has (Unix s).
     minute_at: when that verdict came (Unix s).
     spread: how far its marks lie off a straight line of whole seconds over the last five minutes, standard deviation (s).
     spread_given: the same of the marks as they are handed on, which are others where they are steadied (s).

@@ -34,7 +34,7 @@ def hour_marks(now: float) -> str:
 
 
 def reception(quarters: list[Quarter], plan: str, now: float) -> str:
-    """A column for each quarter of an hour: verdicts below, then minutes that tell no time by themselves, then refused ones."""
+    """A column for each quarter of an hour: verdicts below, then minutes that give no time by themselves, then refused ones."""
     last = now // QUARTER * QUARTER
     first = last - (QUARTERS - 1) * QUARTER
     columns = []
@@ -76,7 +76,7 @@ def offsets(lines: list[Line], now: float) -> str:
     kept = [Line(line.name, [one for one in line.slots if first <= one.at < now]) for line in lines]
     values = [value for line in kept for one in line.slots for value in (one.least, one.greatest)]
     if not values:
-        return '<p class="dim">Nothing has been heard yet.</p>'
+        return '<p class="dim">Nothing has been received yet.</p>'
     low, high, step = nice_range(min(values), max(values))
     drawn = [f'<line class="grid" x1="0" x2="1000" y1="{y:.1f}" y2="{y:.1f}"/>' for y in (_height(value, low, high) for value in _steps(low, high, step))]
     for number, line in enumerate(kept):
@@ -129,6 +129,6 @@ def _curve(piece: list[Slot], first: float, low: float, high: float, colour: int
 def _key(lines: list[Line]) -> str:
     said = []
     for number, line in enumerate(lines):
-        last = f" {line.slots[-1].median * 1e3:+.1f} ms" if line.slots else " not heard"
+        last = f" {line.slots[-1].median * 1e3:+.1f} ms" if line.slots else " nothing yet"
         said.append(f'<span><i style="background:var(--feed{number % COLOURS})"></i>{html.escape(line.name)}{last}</span>')
     return f'<p class="key">{"".join(said)}</p>'

@@ -102,11 +102,10 @@ class PulseLog:
         self.worker.start()
 
     def _tidy(self, today: str) -> None:
-        oldest = day_of(datetime.datetime.strptime(today, "%Y%m%d").replace(tzinfo=datetime.timezone.utc).timestamp() - self.days * 86400)
-        for name in sorted(os.listdir(self.folder)):
-            found = NAME.fullmatch(name.removesuffix(PARTS))
-            if not found or int(found[1]) != self.number:
-                continue
+        there = [(name, NAME.fullmatch(name.removesuffix(PARTS))) for name in sorted(os.listdir(self.folder))]
+        mine = [(name, found) for name, found in there if found and int(found[1]) == self.number]
+        oldest = oldest_kept([found[3] for _, found in mine], today, self.days)
+        for name, found in mine:
             path = os.path.join(self.folder, name)
             try:
                 if name.endswith(PARTS) or found[3] < oldest:
@@ -161,9 +160,22 @@ def _last_line(file: IO[bytes]) -> bytes:
     return tail.rpartition(b"\n")[0].rpartition(b"\n")[2]
 
 
-def drop_old(folder: str, pattern: re.Pattern[str], before: str) -> None:
-    """Removes the files of a folder whose name has this form and whose first group, a day, is before this one."""
-    for name in os.listdir(folder):
-        found = pattern.fullmatch(name)
-        if found and found[1] < before:
+def later(day: str, days: int) -> str:
+    """The day that is so many days after another one, both as `day_of` has them."""
+    return (datetime.datetime.strptime(day, "%Y%m%d") + datetime.timedelta(days=days)).strftime("%Y%m%d")
+
+
+def oldest_kept(there: list[str], today: str, days: int) -> str:
+    """The first day that is kept of those that are there: so many days before today. A host's clock that is set far ahead by mistake must
+    not make all of them too old at once, so today is at most the day after the newest of the other days."""
+    newest = max((day for day in there if day < today), default=today)
+    return later(min(today, later(newest, 1)), -days)
+
+
+def drop_old(folder: str, pattern: re.Pattern[str], today: str, days: int) -> None:
+    """Removes the files of a folder whose name has this form and whose first group, a day, is too old to be kept. Raises OSError."""
+    there = [(name, found[1]) for name, found in ((one, pattern.fullmatch(one)) for one in os.listdir(folder)) if found]
+    oldest = oldest_kept([day for _, day in there], today, days)
+    for name, day in there:
+        if day < oldest:
             os.unlink(os.path.join(folder, name))

@@ -7,9 +7,9 @@ import time
 from keeper.state import QUARTER, QUARTERS, SLOT, SLOTS, Quarter, RadioState, Slot
 
 EPOCH = 2208988800  # the seconds from 1900 to 1970
-WINDOW = 300_000_000  # the marks whose spread is told are those of the last five minutes, in microseconds
+WINDOW = 300_000_000  # the marks whose spread is shown are those of the last five minutes, in microseconds
 WILD = 100_000  # a mark so far off the others is no mark of a whole second (as MSF's second parts are not), in microseconds
-LEAST = 30  # with fewer marks no spread is told
+LEAST = 30  # with fewer marks no spread is shown
 HOUR = 3600
 
 
@@ -94,7 +94,7 @@ class Reception:
             return
         shift = time.time() - time.monotonic() if unix is None else unix
         close = int(words[1]) / 1e6 + shift
-        # What a source says of the time before it was heard comes at once, and belongs to the moment when it was.
+        # What a source says of the time before it was read comes at once, and belongs to the moment when it was.
         kind, at = words[2], min(now, close)
         quarter = self._quarter(at)
         if kind == "refused":

@@ -41,7 +41,7 @@ def table(rows: list[list[str]]) -> list[str]:
 
 
 def hours(quarters: list[Quarter], now: float, blocks: str = BLOCKS) -> str:
-    """24 characters, one an hour up to now: which part of its minutes were verdicts; `.` where nothing was heard."""
+    """24 characters, one an hour up to now: which part of its minutes were verdicts; `.` where nothing was received."""
     first = now // QUARTER * QUARTER - (QUARTERS - 1) * QUARTER
     good, heard = [0] * 24, [0] * 24
     for one in quarters:

@@ -9,10 +9,10 @@ STALE = 60.0  # a state that is older was left by a keeper that has ended, in se
 SILENT = 15.0  # a link that hasn't answered for so long is silent, in seconds
 NEW = 600.0  # a keeper so young may still wait for its first minutes, in seconds
 UNHEARD = 3600.0  # a radio without a verdict for so long is unheard, in seconds
-OLD_SAMPLE = 7200.0  # a server without a sample for so long isn't heard, in seconds
-DIED = 3600.0  # so long a run that died is told of, in seconds
-EXPIRES = 30 * 86400.0  # so long before its end a leap second file is told of, in seconds
-WIDE = 0.5  # the part of the bound from which on a root dispersion is told of
+OLD_SAMPLE = 7200.0  # a server without a sample for so long is reported, in seconds
+DIED = 3600.0  # so long a run that died is reported, in seconds
+EXPIRES = 30 * 86400.0  # so long before its end a leap second file is reported, in seconds
+WIDE = 0.5  # the part of the bound from which on a root dispersion is reported
 
 
 class Level(IntEnum):
@@ -35,7 +35,7 @@ def judge(state: State, now: float) -> list[tuple[Level, str]]:
         found += [(Level.WARNING, one) for one in _radio(state, radio, now)]
     for server in state.servers:
         if now - max(server.sample_at, server.answered_at, state.keeper_since) > OLD_SAMPLE:
-            found.append((Level.WARNING, f"server {server.address} has given no sample for {_since(server.sample_at, now)}"))
+            found.append((Level.WARNING, f"server {server.address} has given no sample {_since(server.sample_at, now)}"))
     leap = state.leap_file
     if leap is not None and leap.expires and leap.expires - now < EXPIRES:
         found.append((Level.WARNING, "the leap second file has expired" if leap.expires < now else f"the leap second file expires in {span(leap.expires - now)}"))
@@ -62,7 +62,7 @@ def _radio(state: State, radio: RadioState, now: float) -> list[str]:
     if radio.source != "running":
         return [f"{name}: its source is {radio.source}"]
     if now - max(radio.minute_at, state.keeper_since) > UNHEARD:
-        return [f"{name}: no verdict for {_since(radio.minute_at, now)}"]
+        return [f"{name}: no verdict {_since(radio.minute_at, now)}"]
     return []
 
 
@@ -90,7 +90,8 @@ def title(radio: RadioState) -> str:
 
 
 def _since(at: float, now: float) -> str:
-    return span(now - at) if at else "ever"
+    """How long nothing has come, where something came before."""
+    return f"for {span(now - at)}" if at else "yet"
 
 
 def span(seconds: float) -> str:

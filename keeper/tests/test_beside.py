@@ -152,8 +152,10 @@ time.sleep(60)
         first = self.guard.pid
         child = Child(self.guard, ["/bin/sleep", "30"])
         os.kill(first, signal.SIGKILL)
-        time.sleep(0.1)
-        self.guard.look()
+        end = time.monotonic() + 8
+        while self.guard.pid == first and time.monotonic() < end:
+            self.guard.look()
+            time.sleep(0.02)
         self.assertNotEqual(self.guard.pid, first)
         child.end()
         self.assertEqual(self.guard.groups, set())

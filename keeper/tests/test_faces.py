@@ -1,35 +1,13 @@
 """What is shown of a state: sentences, text, metrics, the page."""
 
-import contextlib
 import html.parser
-import io
-import json
-import os
 import re
-import tempfile
-import time
 import unittest
 
-from keeper import faces, metrics, page, pictures, relay, rules, status, text
-from keeper.state import Alarm, LeapFileState, LinkState, Quarter, RadioState, RunState, ServerState, Slot, State, save
+from keeper import metrics, page, pictures, relay, rules, text
+from keeper.state import Alarm, Quarter, RadioState, Slot, State
+from keeper.tests.made_station import NOW, a_good_station
 from keeper.verdict import Level, judge, span, summary, worst
-from keeper.words import Fault
-
-NOW = 1767269100.0  # 2026-01-01 12:05:00 UTC
-
-
-def a_good_station(now: float = NOW) -> State:
-    """A station of which all is well."""
-    quarters = [Quarter((now // 900 - 95 + place) * 900, 14, 0, 0, {"2": 1}) for place in range(96)]
-    slots = [Slot((now // 300 - 287 + place) * 300, -0.002, 0.001, 0.003) for place in range(288)]
-    return State(
-        written=now, keeper_since=now - 90000, keeper_pid=1, station="/etc/radio_ntpd/station.toml", bound=0.5,
-        run=RunState(number=7, since=now - 600, cause="cycle", lag=0.0013, lag_bound=5e-6, last_status="status 0"),
-        links=[LinkState(123, now - 1, now - 1, 0, 1, "DCF", 0.0, 0.0054, now - 40, now + 32900, 991, 3.4)],
-        radios=[RadioState(0, "dcf", "roof", "running", pulses=9, pulse_at=now - 1, verdicts_hour=58, minutes_hour=60, minute=now, minute_at=now, spread=0.0021, reception=quarters, offsets=slots)],
-        servers=[ServerState(1, "192.0.2.17", 123, 56, {"6": 2}, now - 60, now - 60, 0.0004, 0.012, 1, slots[:100])],
-        leap_file=LeapFileState(2, "/l", 27, 1483228800.0, now + 100 * 86400),
-    )
 
 
 class Sentences(unittest.TestCase):
@@ -53,7 +31,7 @@ class Sentences(unittest.TestCase):
         self.says(Level.OK, "root dispersion 249.0 ms", link__root_dispersion=0.249)
         self.says(Level.WARNING, "DCF77 roof: its source is waiting", radio__source="waiting")
         self.says(Level.WARNING, "DCF77 roof: no verdict for 1 h", radio__minute_at=NOW - 3601)
-        self.says(Level.WARNING, "DCF77 roof: no verdict for ever", radio__minute_at=0.0)
+        self.says(Level.WARNING, "DCF77 roof: no verdict yet", radio__minute_at=0.0)
         self.says(Level.WARNING, "server 192.0.2.17 has given no sample for 2 h", server__sample_at=NOW - 7201, server__answered_at=0.0)
         self.says(Level.WARNING, "the leap second file expires in 29 d", leap__expires=NOW + 29 * 86400)
         self.says(Level.WARNING, "the leap second file has expired", leap__expires=NOW - 1)
@@ -206,64 +184,6 @@ class Page(unittest.TestCase):
     def test_a_gap_is_no_line(self):
         slots = [Slot(NOW - 9000), Slot(NOW - 8700), Slot(NOW - 3000)]
         self.assertEqual([len(piece) for piece in pictures._pieces(slots)], [2, 1])
-
-
-class Files(unittest.TestCase):
-    def setUp(self):
-        folder = tempfile.TemporaryDirectory()
-        self.addCleanup(folder.cleanup)
-        self.folder = folder.name
-
-    def run_status(self, *words):
-        out = io.StringIO()
-        with contextlib.redirect_stdout(out):
-            told = status.main([*words, "--folder", self.folder])
-        return told, out.getvalue()
-
-    def test_all_is_renewed(self):
-        faces.renew(a_good_station(), self.folder, NOW)
-        self.assertEqual(sorted(os.listdir(self.folder)), ["radio_ntpd.prom", "state.json", "status.html"])
-
-    def test_status_in_each_form(self):
-        now = time.time()
-        save(a_good_station(now), os.path.join(self.folder, "state.json"))
-        told, said = self.run_status()
-        self.assertEqual((told, said.split(":")[0]), (0, "OK"))
-        self.assertEqual(json.loads(self.run_status("--json")[1])["run"]["number"], 7)
-        self.assertIn("radio_ntpd_runs_total 7\n", self.run_status("--prometheus")[1])
-        self.assertEqual(self.run_status("--nagios")[0], 0)
-        save(a_good_station(now - 100), os.path.join(self.folder, "state.json"))
-        told, said = self.run_status("--nagios")
-        self.assertEqual(told, 2)
-        self.assertRegex(said, r"\ARADIO_NTPD CRITICAL: no keeper runs[^\n]*\n\Z")
-        self.assertEqual(self.run_status()[0], 2)
-
-    def test_no_state(self):
-        told, said = self.run_status("--nagios")
-        self.assertEqual(told, 3)
-        self.assertRegex(said, r"\ARADIO_NTPD UNKNOWN: [^\n|]*\n\Z")
-        with self.assertRaisesRegex(Exception, "does the keeper run"):
-            self.run_status()
-
-    def test_a_file_that_is_refused(self):
-        path = os.path.join(self.folder, "odd.toml")
-        for odd in (b"\xff", b"x = " + b"9" * 5000, b"x = " + b"[" * 20_000, b"x ="):
-            with self.subTest(odd=odd[:9]):
-                with open(path, "wb") as file:
-                    file.write(odd)
-                with self.assertRaisesRegex(Fault, "odd.toml: it "):
-                    status.folder_of(path)
-                out = io.StringIO()
-                with contextlib.redirect_stdout(out):
-                    self.assertEqual(status.main(["--nagios", "--config", path]), 3)
-                self.assertRegex(out.getvalue(), r"\ARADIO_NTPD UNKNOWN: [^\n|]*\n\Z")
-
-    def test_the_folder_of_a_file(self):
-        path = os.path.join(self.folder, "keeper.toml")
-        for said, due in (("", f"{self.folder}/state"), ('state = "s"', f"{self.folder}/s"), ('state = "/x"', "/x")):
-            with open(path, "w", encoding="utf-8") as file:
-                file.write(said)
-            self.assertEqual(status.folder_of(path), due)
 
 
 if __name__ == "__main__":

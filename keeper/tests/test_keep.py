@@ -177,9 +177,10 @@ class Runs(Kept):
     def test_a_killed_keeper_leaves_nothing(self):
         self.keep()
         self.waits("run 1 has the time")
-        time.sleep(1.5)  # a server stands by then
-        mine = descendants(self.keeper.pid)
         # A guard, a server and one that stands by, a source, a `decode`.
+        end = time.monotonic() + WAIT
+        while len(mine := descendants(self.keeper.pid)) < 5 and time.monotonic() < end:
+            time.sleep(0.1)
         self.assertGreaterEqual(len(mine), 5)
         self.keeper.kill()
         self.keeper.wait()

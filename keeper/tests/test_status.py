@@ -1,0 +1,76 @@
+"""`status` in each of its forms, from the file that the keeper renews, and where there is none."""
+
+import contextlib
+import io
+import json
+import os
+import tempfile
+import time
+import unittest
+
+from keeper import faces, status
+from keeper.state import save
+from keeper.tests.made_station import NOW, a_good_station
+from keeper.words import Fault
+
+
+class Files(unittest.TestCase):
+    def setUp(self):
+        folder = tempfile.TemporaryDirectory()
+        self.addCleanup(folder.cleanup)
+        self.folder = folder.name
+
+    def run_status(self, *words):
+        out = io.StringIO()
+        with contextlib.redirect_stdout(out):
+            told = status.main([*words, "--folder", self.folder])
+        return told, out.getvalue()
+
+    def test_all_is_renewed(self):
+        faces.renew(a_good_station(), self.folder, NOW)
+        self.assertEqual(sorted(os.listdir(self.folder)), ["radio_ntpd.prom", "state.json", "status.html"])
+
+    def test_status_in_each_form(self):
+        now = time.time()
+        save(a_good_station(now), os.path.join(self.folder, "state.json"))
+        told, said = self.run_status()
+        self.assertEqual((told, said.split(":")[0]), (0, "OK"))
+        self.assertEqual(json.loads(self.run_status("--json")[1])["run"]["number"], 7)
+        self.assertIn("radio_ntpd_runs_total 7\n", self.run_status("--prometheus")[1])
+        self.assertEqual(self.run_status("--nagios")[0], 0)
+        save(a_good_station(now - 100), os.path.join(self.folder, "state.json"))
+        told, said = self.run_status("--nagios")
+        self.assertEqual(told, 2)
+        self.assertRegex(said, r"\ARADIO_NTPD CRITICAL: no keeper runs[^\n]*\n\Z")
+        self.assertEqual(self.run_status()[0], 2)
+
+    def test_no_state(self):
+        told, said = self.run_status("--nagios")
+        self.assertEqual(told, 3)
+        self.assertRegex(said, r"\ARADIO_NTPD UNKNOWN: [^\n|]*\n\Z")
+        with self.assertRaisesRegex(Exception, "does the keeper run"):
+            self.run_status()
+
+    def test_a_file_that_is_refused(self):
+        path = os.path.join(self.folder, "odd.toml")
+        for odd in (b"\xff", b"x = " + b"9" * 5000, b"x = " + b"[" * 20_000, b"x ="):
+            with self.subTest(odd=odd[:9]):
+                with open(path, "wb") as file:
+                    file.write(odd)
+                with self.assertRaisesRegex(Fault, "odd.toml: it "):
+                    status.folder_of(path)
+                out = io.StringIO()
+                with contextlib.redirect_stdout(out):
+                    self.assertEqual(status.main(["--nagios", "--config", path]), 3)
+                self.assertRegex(out.getvalue(), r"\ARADIO_NTPD UNKNOWN: [^\n|]*\n\Z")
+
+    def test_the_folder_of_a_file(self):
+        path = os.path.join(self.folder, "keeper.toml")
+        for said, due in (("", f"{self.folder}/state"), ('state = "s"', f"{self.folder}/s"), ('state = "/x"', "/x")):
+            with open(path, "w", encoding="utf-8") as file:
+                file.write(said)
+            self.assertEqual(status.folder_of(path), due)
+
+
+if __name__ == "__main__":
+    unittest.main()
