@@ -4,6 +4,7 @@ import contextlib
 import errno
 import io
 import os
+import pathlib
 import signal
 import tempfile
 import time
@@ -57,10 +58,6 @@ class OfCheck(unittest.TestCase):
         ):
             with self.subTest(sentence=sentence):
                 self.assertEqual(check.judge_marks(seen, plan), [(level, sentence)])
-
-    def test_advice(self):
-        for refused, advice in (("status 3 station missing radio.0.log", "write the key"), ("status 3 station range bound", "radio_ntpd.toml(5) has the range of each key")):
-            self.assertEqual(check.explained(refused), f"{refused}; {advice}")
 
     def test_a_keeper_that_runs_reads_the_receivers(self):
         settings = mock.Mock(path="keeper.toml", radios=[])
@@ -142,7 +139,7 @@ class OfAState(unittest.TestCase):
         alarms = Alarms("true")
         said(alarms.raise_alarm, State(), "time-lost", "no link answers", 1.0)
         with mock.patch("keeper.alarms.subprocess.Popen", side_effect=OSError(errno.EAGAIN, "too many")):
-            self.assertEqual(said(alarms.turn, 1.0), "the alarm's command can't be started: too many\n")
+            self.assertIn("the alarm's command can't be started: too many\n", said(alarms.turn, 1.0))
 
     def test_texts_of_numbers(self):
         self.assertEqual(rules.rule("dcf", "10")[1], "bit errors, or a signal that isn't DCF77")
@@ -185,7 +182,7 @@ class OfAState(unittest.TestCase):
 class OfRuns(unittest.TestCase):
     def test_a_run_that_begins_and_ends(self):
         crew = types.SimpleNamespace(state=State(links=[LinkState(1)]), notify=mock.Mock(), journals=mock.Mock(keep=lambda *_: ""), hearings=mock.Mock(), alarms=mock.Mock())
-        run = mock.Mock(spec=Run, number=2, cause="cycle", since=1.0, reading=None, began=1.0, ended=41.0, why="died", own=[0], exit_status=-9, server=mock.Mock())
+        run = mock.Mock(spec=Run, number=2, cause="cycle", since=1.0, reading=None, began=1.0, ended=41.0, why="died", own=[0], exit_status=-9, reason="", server=mock.Mock())
         run.age.return_value = 0.006
         self.assertIn("run 2 (cycle) serves after 6 ms; where its counter stands isn't known\n", said(Crew.note_begin, crew, run))
         run.reading = mock.Mock(lag=1304.2, bound=12.0)
@@ -199,7 +196,8 @@ class OfRuns(unittest.TestCase):
     def test_journals_that_are_lost(self):
         sentences = []
         with tempfile.TemporaryDirectory() as folder:
-            kept = Journals(os.path.join(folder, "nosuch"), 3, sentences.append)
+            kept = Journals(os.path.join(folder, "file", "journals"), 3, sentences.append)
+            pathlib.Path(folder, "file").touch()
             self.assertEqual(kept.keep(0.0, b"0 1 lone 2\n", [1]), "")
             for number in range(WAITING + 1):
                 kept.keep(float(number), b"status 0\n", [1])
