@@ -75,6 +75,8 @@ def main() -> int:
     words.add_argument("--minutes", type=int, default=20)
     words.add_argument("--jitter", type=float, nargs="+", default=[2, 8, 15])
     asked = words.parse_args()
+    if not os.access(asked.program, os.X_OK):
+        raise OSError(f"{asked.program} is no program")
     os.environ["RADIO_NTPD"] = os.path.abspath(asked.program)
     cases: list[tuple[str, float, str, subprocess.Popen]] = []
     with tempfile.TemporaryDirectory() as folder, socket.socket(socket.AF_INET, socket.SOCK_DGRAM) as link:

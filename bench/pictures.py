@@ -10,9 +10,11 @@ WORK is a folder to work in, and PICTURES the one that the pictures are written 
     phase.svg                   four hours of DCF77 with 8 ms of jitter, as it came and steady
 """
 
+import os
 import pathlib
 import subprocess
 import sys
+from typing import BinaryIO
 
 import ends
 from known_logs import BEGIN, FIRST
@@ -34,7 +36,7 @@ def journal(program: str, folder: pathlib.Path, name: str, logs: dict[str, list[
     script.write_text("".join(f"pulse {feed} {line}\n" for _, feed, line in rows))
     station.write_text(f"bound = {bound}\n" + "".join(f'[[radio]]\nplan = "{plan}"\nlog = "none"\n' for plan in logs))
     with written.open("wb") as sink:
-        subprocess.run([program, "replay", "--station", str(station), "--script", str(script)], stdout=sink, check=True)
+        call([program, "replay", "--station", station, "--script", script], sink)
     return ["--station", str(station), str(written)]
 
 
@@ -49,9 +51,16 @@ def received(folder: pathlib.Path, plan: str, seed: int) -> list[str]:
     return write_logs(folder, lines)[1].read_text().splitlines()
 
 
+def call(words: list, sink: BinaryIO | None = None) -> None:
+    """Runs a program. Raises OSError where it doesn't end with 0."""
+    done = subprocess.run(list(map(str, words)), stdout=sink)
+    if done.returncode:
+        raise OSError(f"{' '.join(map(str, words[:3]))} ended with {done.returncode}")
+
+
 def draw(*words: object) -> None:
     """Calls plot_journal.py with these words."""
-    subprocess.run([sys.executable, "-B", str(TOP / "tools/plot_journal.py"), *map(str, words)], check=True)
+    call([sys.executable, "-B", TOP / "tools/plot_journal.py", *words])
 
 
 def main() -> int:
@@ -59,6 +68,8 @@ def main() -> int:
         print(__doc__, file=sys.stderr)
         return 2
     program, folder, pictures = sys.argv[1], pathlib.Path(sys.argv[2]), pathlib.Path(sys.argv[3])
+    if not os.access(program, os.X_OK):
+        raise OSError(f"{program} is no program")
     drilled = journal(program, folder, "drill", {plan: made(plan, DRILL_FIRST, DAY, 7).splitlines() for plan in ("dcf", "msf", "wwvb")}, 1000)
     draw("--reception", pictures / "reception.svg", "--offsets", pictures / "offsets.svg", *drilled)
     logs = {plan: received(folder, plan, seed) for seed, plan in enumerate(("dcf", "msf"))}
