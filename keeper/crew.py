@@ -37,6 +37,7 @@ class Crew:
         self.alarms: Alarms | None = None
         self.settings: Settings | None = None
         self.refused = ""  # why a file was refused at the last reload
+        self.lacking = ""  # why no server can be started for the next run
         self.clock = clock.ClockWatch()
         self.failing = False
 
@@ -168,7 +169,7 @@ class Crew:
         facts.note_servers(self.state, self.pacing)
         for feed in self.feeds:
             feed.reception.renew(now)
-        said = (self.journals.note, *(feed.log.note for feed in self.feeds), self.refused and f"not reloaded: {self.refused}")
+        said = (self.lacking, self.journals.note, *(feed.log.note for feed in self.feeds), self.refused and f"not reloaded: {self.refused}")
         self.state.notes = [one for one in said if one]
         self.alarms.judge(self.state, now)
         self.notify.status(self._sentence())

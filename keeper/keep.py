@@ -11,6 +11,7 @@ from keeper.loop import Loop, Signals
 from keeper.runs import Run
 from keeper.say import say
 from keeper.server import Server
+from keeper.standby import Standby
 from keeper.words import DONE, NOT_WELL, Fault, sentence
 
 RENEWED = 10.0  # how often the state is written, in seconds
@@ -30,7 +31,7 @@ class Keeper:
         self.signals = Signals(self.loop)
         self.crew = Crew(self.loop, self.guard)
         self.run: Run | None = None
-        self.standby: Server | None = None
+        self.standby = Standby(self.guard, say)
         self.next: config.Settings | None = None  # what a reload has read
         self.lock = -1
         self.number = self.deaths = 0
@@ -78,23 +79,16 @@ class Keeper:
         return self.status
 
     def _stand_by(self) -> None:
-        """A server that waits for its station, for as many hearings as the next run needs."""
-        count = self.crew.hearings.count
-        if self.standby and (self.standby.status() is not None or self.standby.during * 2 < count):
-            self.standby.close()
-            self.standby = None
-        if not self.standby:
-            try:
-                self.standby = Server(self.guard, self.settings.program, len(self.crew.feeds), count)
-            except OSError as error:
-                say(f"the program {self.settings.program} can't be started: {error.strerror}")
+        """A server waits for its station, for as many hearings as the next run needs."""
+        self.standby.renew(self.settings.program, len(self.crew.feeds), self.crew.hearings.count)
+        self.crew.lacking = self.standby.note
 
     def _start_run(self, cause: str) -> None:
         """Begins a run, and tries again after a pause where it doesn't begin. `self.run` is None where the end was asked for."""
         before, self.run, pause = self.run, None, PAUSES[0]
         while not self.stopping and self.run is None:
             self._stand_by()
-            server, self.standby = self.standby, None
+            server = self.standby.take()
             if server:
                 self._try_run(server, cause)
             if before:
@@ -152,7 +146,7 @@ class Keeper:
             cause = self._why_end(run, now)
             if cause:
                 return cause
-            if not self.standby and now - run.began > STANDBY:
+            if not self.standby.server and now - run.began > STANDBY:
                 self._stand_by()
 
     def _why_end(self, run: Run, now: float) -> str:
@@ -169,8 +163,9 @@ class Keeper:
         return "cycle" if now - run.began >= self.settings.cycle and self._may_change(run) else ""
 
     def _may_change(self, run: Run) -> bool:
-        """Whether no time is lost by a new run. After some minutes without reception it would not have the time that this one still has."""
-        return not run.watch.has_time() or self.crew.is_warm(time.time())
+        """Whether no time is lost by a new run. After some minutes without reception it would not have the time that this one still has;
+        and where its program can't be started, there would be none."""
+        return bool(self.standby.server) and (not run.watch.has_time() or self.crew.is_warm(time.time()))
 
     def _reload(self) -> bool:
         """Whether the files, read anew, are good. Else that is said, and all goes on as it was."""
@@ -197,9 +192,7 @@ class Keeper:
             self.settings = settings
         except OSError as error:
             self.crew.refuse(sentence(error))
-        if self.standby:
-            self.standby.close()
-            self.standby = None
+        self.standby.close()
         self.crew.notify.ready()
 
     def _end_run(self, run: Run, why: str) -> None:
@@ -232,9 +225,9 @@ class Keeper:
         self.crew.renew(self.run)
 
     def close(self) -> None:
-        for server in (self.standby, self.run.server if self.run else None):
-            if server:
-                server.close()
+        self.standby.close()
+        if self.run:
+            self.run.server.close()
         self.crew.close()
         self.guard.close()
         if self.lock >= 0:

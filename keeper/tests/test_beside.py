@@ -134,7 +134,8 @@ import sys, time
 from keeper.children import Child, Guard
 guard = Guard()
 child = Child(guard, ["/bin/sh", "-c", "trap '' TERM; sleep 67 & echo $!; wait"], stdout=sys.stdout)
-print(child.pid, guard.pid, flush=True)
+sys.stdout.write(f"{child.pid} {guard.pid}\\n")  # at once, as `print` may not: the child writes into the same pipe
+sys.stdout.flush()
 time.sleep(60)
 """
         parent = subprocess.Popen([sys.executable, "-B", "-c", program], cwd=TOP, stdout=subprocess.PIPE)

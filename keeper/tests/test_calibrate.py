@@ -229,6 +229,11 @@ class Whole(unittest.TestCase):
         with self.assertRaisesRegex(Fault, "nosuch can't be run: No such file or directory"):
             self.calibrate(0.5)
 
+    def test_a_source_that_ends(self):
+        self.write("keeper.toml", 'station = "station.toml"\nprogram = "program"\n[[radio]]\ncommand = "exit 7"\n')
+        with self.assertRaisesRegex(Fault, "radio 0: its source ended: its command ended with 7"):
+            self.calibrate(10.0)
+
     def test_too_little(self):
         self.write("keeper.toml", 'station = "station.toml"\nprogram = "program"\n[[radio]]\ncommand = "sleep 60"\n')
         told, said = self.calibrate(0.5)

@@ -7,6 +7,7 @@ import socket
 import sys
 import tempfile
 import unittest
+from unittest.mock import Mock
 
 from keeper import check, hosts
 from keeper.config import Radio
@@ -70,6 +71,10 @@ class Whole(Folder):
         self.assertEqual(told, 1)
         self.assertIn("its command ended with 3", said)
         self.assertIn("1 lines were no start and width", said)
+
+    def test_a_source_that_can_not_be_begun(self):
+        found = check.hear(Mock(radios=[Radio("fifo", f"{self.folder}/nosuch", "roof", 60.0, "dcf", 0.0)]), 0, 1)
+        self.assertEqual(found, [(Level.BAD, "radio 0 (roof): its source can't be begun: No such file or directory")])
 
     def test_the_program_refuses_the_station(self):
         told, said = self.run_check("--seconds", "0", says="status 3 station range radio.0.delay", ends=3)

@@ -1,0 +1,47 @@
+"""The server of the next run: started before it is needed, so that a change of run waits for no program to start."""
+
+import time
+from collections.abc import Callable
+
+from keeper.children import Guard
+from keeper.server import Server
+
+AGAIN = 1.0  # how long after a start that the host refused the next one is tried, in seconds
+
+
+class Standby:
+    """`server` waits for its station, None where there is none. `note` says why none can be started; `say` gets it once, and when it goes again."""
+
+    def __init__(self, guard: Guard, say: Callable[[str], None]) -> None:
+        self.guard, self.say = guard, say
+        self.server: Server | None = None
+        self.due = 0.0
+        self.note = ""
+
+    def renew(self, program: str, radios: int, hearings: int) -> None:
+        """Starts one for as many hearings as the next run needs, where there is none that lives and has them."""
+        if self.server and (self.server.status() is not None or self.server.during * 2 < hearings):
+            self.close()
+        if not self.server and time.monotonic() >= self.due:
+            try:
+                self.server = Server(self.guard, program, radios, hearings)
+                self._note("", f"the program {program} can be started again")
+            except OSError as error:
+                self.due = time.monotonic() + AGAIN
+                note = f"the program {program} can't be started: {error.strerror}"
+                self._note(note, note)
+
+    def _note(self, note: str, said: str) -> None:
+        if note != self.note:
+            self.say(said)
+        self.note = note
+
+    def take(self) -> Server | None:
+        """Hands it over to a run."""
+        server, self.server = self.server, None
+        return server
+
+    def close(self) -> None:
+        if self.server:
+            self.server.close()
+            self.server = None
