@@ -204,11 +204,6 @@ class OfRuns(unittest.TestCase):
         self.assertEqual(sentences[0], "the run of 19700101T000000Z ended without a status line: its journal is lost")
         self.assertIn("the journal 19700101T000000Z is given up: the disk takes nothing", sentences)
 
-    def test_what_can_not_be_started(self):
-        keep = types.SimpleNamespace(crew=mock.Mock(feeds=[], hearings=mock.Mock(count=9)), standby=None, guard=None, settings=mock.Mock(program="/nosuch"))
-        with mock.patch("keeper.keep.Server", side_effect=OSError(errno.ENOENT, "No such file or directory")):
-            self.assertIn("the program /nosuch can't be started: No such file or directory\n", said(Keeper._stand_by, keep))
-
     def test_relays_that_have_ended(self):
         run = mock.Mock(spec=Run, number=2, server=mock.Mock())
         run.drain.return_value = True
