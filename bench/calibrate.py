@@ -29,7 +29,7 @@ SAID = re.compile(r"come (-?[\d.]+) ms late, within ([\d.]+) ms; a closing mark 
 
 
 def stamp(ahead: float) -> int:
-    """The time of a clock so many seconds ahead of the host's, as an NTP timestamp."""
+    """The time of a clock this many seconds ahead of the host's, as an NTP timestamp."""
     return int((time.time() + ahead + EPOCH) * 2**32) % 2**64
 
 
