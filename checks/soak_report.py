@@ -127,7 +127,7 @@ def lines(report: Report) -> list[str]:
             f"{met['wrong']} wrong; {met['error'] * 1e3:.2f} ms off at most"]
     for kind in (CHANGED, *KILLS):
         cost = report.costs[kind.name]
-        said.append(f"  {kind.name}, {cost.events} times: {_words(cost)}; {kind.silent * 1000:.0f} and {kind.untimed * 1000:.0f} ms are allowed on a quiet machine")
+        said.append(f"  {kind.name} ({cost.events}): {_words(cost)}; {kind.silent * 1000:.0f} and {kind.untimed * 1000:.0f} ms are allowed on a quiet machine")
     return said + [f"  at other times: {_words(report.other)}; none is allowed"]
 
 

@@ -42,7 +42,7 @@ class Verdicts(unittest.TestCase):
         self.assertEqual(report.faults, [])
         cost = report.costs[CHANGED.name]
         self.assertEqual((cost.unanswered, cost.untimed, cost.silence, cost.untime), (3, 9, 0.03, 0.09))
-        self.assertIn("  change of run, 1 times: 3 without an answer, 6 more without the time, for 30 and 90 ms at most; "
+        self.assertIn("  change of run (1): 3 without an answer, 6 more without the time, for 30 and 90 ms at most; "
                       "50 and 100 ms are allowed on a quiet machine", lines(report))
 
     def test_beyond_the_bound_of_a_change(self):
