@@ -50,6 +50,10 @@ def run(plan: Plan, ppms: list[float], folder: pathlib.Path, say: Callable[[str]
     for case in cases:
         if case.other:
             say(case.row("sock", case.bridged, begin + 270, 2))
+    say("of ntp, starts and ppm; when           mean ms   worst  reporting  within")
+    for case in cases:
+        for line in case.stretches():
+            say(line)
 
 
 def read_words() -> argparse.Namespace:

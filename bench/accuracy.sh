@@ -1,5 +1,5 @@
 #!/bin/sh
-# How far off the time is that clients get of a radio, and how often by no more than they are told: receivers in software with jitter and
+# How far off the time is that clients get of a radio, and how often by no more than is reported: receivers in software with jitter and
 # outliers, on the host's clock, through the feeders and a server, with the starts as they come and with steady.py, at 0 and 50 parts in a
 # million, through a fade of ten minutes and a change of run. chronyd with -x judges, where it is installed. It takes half an hour.
 #

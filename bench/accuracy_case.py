@@ -17,6 +17,7 @@ sys.path.insert(0, str(HERE.parent / "checks"))
 from kept import Kept  # noqa: E402
 
 QUICK = 0.001  # an exchange that took longer, in seconds, was kept waiting by the host's other work, and says nothing of the server's time
+AFTER = 180  # for how long after a fade clients may be told of a page without the drift in it, in seconds
 LONGER = 120  # for how long a receiver goes on after the end, in seconds, so that the keeper doesn't start it again
 HISTORY = 12  # minutes of pulses that a receiver gives at once as it begins
 JUDGE = "server 127.0.0.1 port {port} noselect minpoll 0 maxpoll 0\nlogdir {folder}\nlog measurements\n"
@@ -122,11 +123,28 @@ class Case:
         """By how much a reading is off what the receiver's sender sent then, in seconds."""
         return reading.offset - (reading.unix - self.since[1]) * (1 / (1 + self.ppm * 1e-6) - 1)
 
+    def name(self) -> str:
+        return f"{'steady' if self.steady else 'raw':6} {self.ppm:4g}"
+
+    def stretches(self) -> list[str]:
+        """What clients of the server saw before the fade, in it, soon after it, up to the change of run, and after that."""
+        fade, change, end = self.plan.fade, self.plan.change, self.plan.seconds
+        ends = (("before the fade", 30, fade[0]), ("in the fade", *fade), ("soon after it", fade[1], fade[1] + AFTER), ("later", fade[1] + AFTER, change), ("after the change", change, end))
+        rows = []
+        for name, first, past in ends:
+            seen = [(self.error(one), one.distance) for one in self.readings if first <= one.unix - self.since[1] < past and one.took < QUICK]
+            if seen:
+                error, said = max(seen, key=lambda one: abs(one[0]))
+                within = sum(abs(error) <= distance for error, distance in seen) / len(seen)
+                mean = statistics.mean(error for error, _ in seen)
+                rows.append(f"{self.name()} {name:16} {1000 * mean:8.2f} {1000 * error:7.2f} {1000 * said:9.1f} {100 * within:7.1f}")
+        return rows
+
     def row(self, name: str, readings: list[Reading], begin: float, every: float) -> str:
         """What clients saw from `begin` on, asking once in `every` seconds."""
         seen = [(self.error(one), one.distance) for one in readings if one.unix >= begin and one.took < QUICK]
         answered = sum(one.unix >= begin for one in readings)
-        what = f"{name:6} {'steady' if self.steady else 'raw':6} {self.ppm:4g}"
+        what = f"{name:6} {self.name()}"
         if len(seen) < 2:
             return f"{what}  no time"
         errors = [error for error, _ in seen]

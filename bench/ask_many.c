@@ -1,6 +1,6 @@
-/* A client for bench/serve.sh: asks a server at a port of 127.0.0.1 so many times and keeps so many requests outstanding. It says how
+/* A client for bench/serve.sh: asks a server at a port of 127.0.0.1 a number of times and keeps a number of requests outstanding. It says how
  * many replies came in a second. A request that is lost for a second is sent anew; a reply that isn't 48 bytes ends it with 1. With a
- * fourth word it asks as so many clients by turns, whose addresses are 127.1.0.0 and those behind it. */
+ * fourth word it asks as that many clients by turns, whose addresses are 127.1.0.0 and those after it. */
 #define _GNU_SOURCE
 #include <arpa/inet.h>
 #include <errno.h>
@@ -50,7 +50,7 @@ int main(int count, char **words) {
     int fd = socket(AF_INET, SOCK_DGRAM, 0);
     server = (struct sockaddr_in){.sin_family = AF_INET, .sin_port = htons(atoi(words[1])), .sin_addr = {htonl(INADDR_LOOPBACK)}};
     struct timeval second = {1, 0};
-    /* One client alone hears that nobody listens yet. */
+    /* One client alone learns that nobody listens yet. */
     if ((!clients && connect(fd, (struct sockaddr *)&server, sizeof server)) || setsockopt(fd, SOL_SOCKET, SO_RCVTIMEO, &second, sizeof second))
         return 1;
     double begin = now();

@@ -1,5 +1,5 @@
 #!/usr/bin/env python3
-"""What `drill` tells, worked out by a program of its own from docs/FORMATS.md and docs/PAGE.md: the minutes of the made logs as they were
+"""What `drill` writes, worked out by a program of its own from docs/FORMATS.md and docs/PAGE.md: the minutes of the made logs as they were
 spelt, not as they are read. It gave the lines that the tests of engine_tests compare with.
 
 usage: drill_model.py SEED

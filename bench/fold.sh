@@ -1,6 +1,6 @@
 #!/bin/sh
 # What an entry costs in a fold, with the page after it: instructions an entry, counted by callgrind, of a small program that folds
-# the answers of so many servers, none or some of them ten seconds off. Two trees are built in one run, each in a temporary folder
+# the answers of some servers, none or some of them ten seconds off. Two trees are built in one run, each in a temporary folder
 # over copies of the crates, which proves them first (some minutes where nothing is kept): this one, and that of a commit before
 # what doesn't age of a distance was kept ready. Needs rt, git, valgrind.
 #
@@ -30,12 +30,12 @@ for tree in before after; do
     (cd "$work/$tree/crates/fold_loop" && rt run -- 1 0 1 > "$work/build.log" 2>&1) || { cat "$work/build.log" >&2; exit 1; }
 done
 
-# The instructions of a run of a tree with so many servers, so many of them off, and so many entries; it leaves the sum of what the
+# The instructions of a run of a tree with a number of servers, of them off, and of entries; it leaves the sum of what the
 # pages said.
 count() {
     tree=$1
     shift
-    # A block that is filled counts by its stores, and not, as `rep stosb` does behind 2048 bytes, by its bytes.
+    # A block that is filled counts by its stores, and not, as `rep stosb` does from 2048 bytes on, by its bytes.
     GLIBC_TUNABLES=glibc.cpu.x86_rep_stosb_threshold=1000000 valgrind --tool=callgrind --callgrind-out-file=/dev/null "$work/$tree/crates/fold_loop/out/fold_loop" "$@" 2>&1 > "$work/sum.$tree" |
         sed -n 's/.*Collected : //p'
 }

@@ -1,8 +1,8 @@
-# A small program that folds the answers of so many servers, some of them ten seconds off, and makes the page after each: its source
+# A small program that folds the answers of some servers, some of them ten seconds off, and makes the page after each: its source
 # and proofs, written into "$work/loop". The scripts that build it over copies of the crates read this.
 mkdir -p "$work/loop/src" "$work/loop/proofs/fold_often" "$work/loop/proofs/are_lawful"
 cat > "$work/loop/src/main.rt" <<'RATTLE'
-//! Folds so many answers of so many servers, and makes the page after each.
+//! Folds a number of answers of a number of servers, and makes the page after each.
 #![tactic(auto)]
 
 ghost use Rattle.std.specs.Prelude.{◌≤◌, ◌<◌, ◌^◌, ◌≡◌, true, length};
@@ -63,7 +63,7 @@ fn fold_often(settings: &Settings, strays: u32, count: u64) -> u64
     sum
 }
 
-// Settings with so many servers, at most 16.
+// Settings with that many servers, at most 16.
 fn settings_of(servers: u64) -> Settings {
     let mut settings = Settings::new(1000);
     for _ in 0..servers {

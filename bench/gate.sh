@@ -1,6 +1,6 @@
 #!/bin/sh
 # What a judgement of the gate of clients costs: instructions, counted by callgrind, of a small program that judges a request of each
-# sender of a list with a table of so many clients: of senders that are spread, no two alike; of some that were made to fall into one
+# sender of a list with a table of a number of clients: of senders that are spread, no two alike; of some that were made to fall into one
 # place of the table; and of senders that ask by turns, so that each is known, which pass, or come too soon. A run of fewer judgements
 # is taken off, so that what comes before falls out. With a full table of
 # the most clients those that fall into one place take too long for callgrind, and are timed; that takes a minute and a half of processor time. The
@@ -22,7 +22,7 @@ for crate in tick_units ntp_packet clock_page reply_core kiss_gate; do
 done
 echo "gate_loop: tick_units reply_core kiss_gate" >> "$work/crates.txt"
 cat > "$work/crates/gate_loop/src/main.rt" <<'RATTLE'
-//! Judges a request of each of so many senders of the file `senders`, 4 bytes a sender, a microsecond after the one before.
+//! Judges a request of each of a number of senders of the file `senders`, 4 bytes a sender, a microsecond after the one before.
 #![tactic(auto)]
 
 use kiss_gate::{ClientGate, DenyList};
@@ -73,7 +73,7 @@ fn main(rt: HostRuntime) -> io::Result<()> {
 }
 RATTLE
 cat > "$work/find.c" <<'C'
-/* The first so many addresses that have one tag, and their places among the first so many groups of a table of so many groups, by the
+/* The first addresses that have one tag, and their places among the first groups of a table: how many, and of how many, by the
    hash of the kit's maps, whose seed is fixed. */
 #include <stdint.h>
 #include <stdio.h>
@@ -111,7 +111,7 @@ cp "$work/known/senders" "$work/soon/senders"
 "$work/find" 128 1 8000 > "$work/place/senders"
 "$work/find" 8192 64 80000 > "$work/most/senders"
 
-# The instructions of a run over so many senders of a list with a gap. Each of them is new and passes, or is known and asks a thousand
+# The instructions of a run over that many senders of a list with a gap. Each of them is new and passes, or is known and asks a thousand
 # microseconds later: with a gap of one microsecond it passes, with one of a minute only the first 1024 do.
 instructions() {
     gap=60000000
@@ -122,7 +122,7 @@ instructions() {
     sed -n 's/.*Collected : //p' "$work/err"
 }
 
-# How many a judgement takes, with a table of so many clients that is full.
+# How many a judgement takes, with a full table of that many clients.
 judgement() {
     few=$(instructions "$1" "$2" "$3")
     more=$(instructions "$1" "$2" "$4")
@@ -143,7 +143,7 @@ def seconds(count):
     return os.times().children_user - before.children_user
 few, more = seconds(66000), seconds(72000)
 print(f'most, 65536 clients: {(more - few) / 6000 * 1e3:.2f} ms of processor time a judgement')
-# The 8192nd sender behind a full table finds no lane that is free, and all is put in anew.
+# The 8192nd sender after a full table finds no lane that is free, and all is put in anew.
 few, more = seconds(73700), seconds(73760)
 print(f'most, 65536 clients: {more - few:.1f} s of processor time for 60 judgements, in one of which the table is made anew')
 PYTHON

@@ -7,11 +7,12 @@ The command is `rt ci` where none is given. Each process below it is read off /p
 that it, or the nearest process above it, was called for: as the proof of the crate, as that of its tests, or as a wrong body that
 has to be refused (among these the check over which a crate's wrong bodies are tried). What a process takes in its last second may be
 lost. The table is in minutes of processor time, the dearest crates first. The command's own output goes on as it is, and its exit
-status is kept. Linux alone.
+status is kept. A SIGTERM ends the command, and the table has what it took until then. Linux alone.
 """
 
 import os
 import re
+import signal
 import subprocess
 import sys
 import time
@@ -100,6 +101,7 @@ def main() -> int:
     except OSError as error:
         print(f"gate_time: {error.filename}: {error.strerror}", file=sys.stderr)
         return 127
+    signal.signal(signal.SIGTERM, lambda *_: child.terminate())
     processes = Processes(child.pid)
     while True:
         processes.look()

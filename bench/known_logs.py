@@ -55,7 +55,7 @@ def errors(program: str, plan: str, log: pathlib.Path, ppm: float) -> list[float
 
 
 def replay(program: str, plan: str, log: pathlib.Path, folder: pathlib.Path, ppm: float, after: tuple[int, ...] = (HOUR, 6 * HOUR)) -> list[tuple[float, float]]:
-    """The error and the root dispersion, in milliseconds, of the replies so long after a log's end, in microseconds; none where it has no time."""
+    """The error and the root dispersion, in milliseconds, of the replies a time after a log's end, in microseconds; none where it has no time."""
     pulses = log.read_text().splitlines()
     end = int(pulses[-1].split()[0])
     return [given for _, given in asked(program, plan, pulses, [end + span for span in after], folder, ppm)]

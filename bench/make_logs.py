@@ -1,5 +1,5 @@
 #!/usr/bin/env python3
-"""Writes the logs of a DCF77, an MSF and a WWVB receiver that hear the same minutes by one counter, from the calendar alone, by the
+"""Writes the logs of a DCF77, an MSF and a WWVB receiver that receive the same minutes by one counter, from the calendar alone, by the
 codes that PTB, NPL and NIST publish. It shares no code with the program.
 
     make_logs.py --minutes N [--first 'YYYY-MM-DD HH:MM'] [--begin MICROSECONDS] [--jitter MICROSECONDS] [--seed N] FOLDER
@@ -7,8 +7,8 @@ codes that PTB, NPL and NIST publish. It shares no code with the program.
 FOLDER/dcf77.log, msf.log and wwvb.log get a line for each reduction of the carrier: its start and its width, both in microseconds.
 --first is the UTC at which the first whole minute of the logs begins, --begin the counter's value at that moment; it's winter in
 Germany and in Britain. The pulses come later by the receiver's path delay, 1400 us for DCF77, 2600 us for MSF and 21000 us for WWVB,
-and by up to --jitter more; widths are off by as much either way. Each log has what its last minute needs to be told: the mark that
-closes it, and for MSF the mark behind that one.
+and by up to --jitter more; widths are off by as much either way. Each log has what its last minute needs to be given: the mark that
+closes it, and for MSF the mark after that one.
 """
 
 import argparse

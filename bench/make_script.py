@@ -5,7 +5,7 @@ the program.
     make_script.py --lines N
     make_script.py --station
 
-With --lines it writes a script of so many lines: the pulses of twelve radios in order of time, and in each minute an exchange
+With --lines it writes a script of that many lines: the pulses of twelve radios in order of time, and in each minute an exchange
 with each of four servers and a client's request. With --station it writes the station file that goes with it: four radios of
 DCF77, four of MSF and four of WWVB, and the servers, sixteen feeds in all. The first minute begins at 2 s of the host's counter
 and is 2026-01-01 12:00 UTC; winter time is kept all year.

@@ -37,7 +37,7 @@ head -n "$short" "$work/long" > "$work/short"
 printf '[[server]]\naddress = "0.0.0.%d"\nport = 123\n' 0 1 2 3 > "$work/station"
 gcc -O2 -o "$work/measure" "$top/bench/measure.c"
 
-# Measures a command over so many lines; $1 names it.
+# Measures a command over that many lines; $1 names it.
 measure() {
     label=$1 count=$2
     shift 2

@@ -26,7 +26,7 @@ for crate in $crates; do
 done
 echo "page_loop: tick_units feed_link journal_entry clock_page system_fold page_cell atomic_table" >> "$work/crates.txt"
 cat > "$loop/src/main.rt" <<'RATTLE'
-//! Publishes and reads so many pages, in one thread or in several.
+//! Publishes and reads a number of pages, in one thread or in several.
 #![tactic(auto)]
 
 ghost use Rattle.std.specs.Prelude.{◌≡◌, ◌≤◌, ◌<◌, ◌^◌, [], length, All, IfSome};
@@ -138,7 +138,7 @@ fn add(tally: &mut Tally, read: &Result<Page, page_cell::Again>) {
     }
 }
 
-// Reads so many times, or until there are so many entries.
+// Reads that many times, or until there are that many entries.
 fn read_all(cell: &PageCell, pass: &mut ReadPass, count: u64, last: u64) -> Tally
     requires { pass.old.table ≡ cell.now.table }
     ensures { pass.new.table ≡ pass.old.table }
@@ -160,7 +160,7 @@ fn read_all(cell: &PageCell, pass: &mut ReadPass, count: u64, last: u64) -> Tall
 RATTLE
 cat >> "$loop/src/main.rt" <<'RATTLE'
 
-// Reads so often, or until there are so many entries; the nanoseconds that it took.
+// Reads that often, or until there are that many entries; the nanoseconds that it took.
 fn read_timed<R: Clock>(
     rt: &R,
     cell: &PageCell,

@@ -4,7 +4,7 @@ system_fold compare with.
 
 usage: page_model.py [-v] BOUND KIND... < ENTRIES
 BOUND is in milliseconds, KIND is dcf, msf, wwvb, server or leap, one for each feed; ENTRIES are lines of a journal.
--v also tells the cut, the armed leap second, the fit sources, the interval and the feeds that are left.
+-v also prints the cut, the armed leap second, the fit sources, the interval and the feeds that are left.
 """
 import argparse
 import math

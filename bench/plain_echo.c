@@ -1,5 +1,5 @@
 /* A baseline for bench/serve.sh: the system calls of a server's turn, and nothing else. It waits for a datagram for two seconds, reads
- * the clock twice, and sends 48 bytes back; for so many turns, or until it's ended. */
+ * the clock twice, and sends 48 bytes back; for a number of turns, or until it's ended. */
 #include <netinet/in.h>
 #include <stdio.h>
 #include <stdlib.h>

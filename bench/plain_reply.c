@@ -10,7 +10,7 @@ static void put64(uint8_t *out, uint64_t n) { n = __builtin_bswap64(n); memcpy(o
 /* A number of microseconds in units of 2^-32 s. */
 static uint64_t span(uint64_t us) { return ((us / 1000000) << 32) + ((us % 1000000) << 32) / 1000000; }
 
-/* What a rate comes to in so many microseconds, rounded down. */
+/* What a rate comes to in that many microseconds, rounded down. */
 static int64_t slew(int64_t rate, uint64_t us) {
     int64_t rest = rate * (int64_t)(us % 1000000);
     return rate * (int64_t)(us / 1000000) + rest / 1000000 - (rest % 1000000 < 0);
@@ -24,7 +24,7 @@ static int is_blank(const uint64_t *w) {
     return w[1] == 0x494e4954 && w[5] == 0x00100000 && !(w[2] | w[4] | w[6] | w[7] | w[8] | w[9]);
 }
 
-/* Whether a second lies 1 to 86400 s behind that of a span, whose high word has the carry of the sum. */
+/* Whether a second lies 1 to 86400 s after that of a span, whose high word has the carry of the sum. */
 static int is_near(__int128 since, uint64_t leap_at) {
     int64_t second = (int64_t)(since >> 32);
     return second < (__int128)leap_at && leap_at <= (__int128)second + 86400;

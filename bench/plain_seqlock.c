@@ -1,5 +1,5 @@
-/* A sequence lock of ten words in plain C: one writer, which does so many turns of nothing between two writings, and so many readers
-   that read so many times each. Prints the nanoseconds a reading, how many tries of a hundred met a writing, and a number that keeps
+/* A sequence lock of ten words in plain C: one writer, which does a number of turns of nothing between two writings, and some readers
+   that read a number of times each. Prints the nanoseconds a reading, how many tries of a hundred met a writing, and a number that keeps
    the loads from being left out. A reader tries until it succeeds. */
 #include <pthread.h>
 #include <stdatomic.h>

@@ -32,18 +32,18 @@ measure replay "$work/short" "$work/of_short" "$program" replay --station "$work
 measure replay "$work/long" "$work/of_long" "$program" replay --station "$work/station" --script "$work/long"
 measure decode "$work/log" "$work/of_log" "$program" decode --plan dcf --log "$work/log"
 
-# The cost of a line behind the short script, without what starting costs.
+# The cost of a line after the short script, without what starting costs.
 python3 -B - "$work/of_short" "$work/of_long" "$work/of_log" <<'PY'
 import sys
 (short_time, short_peak, short), (long_time, long_peak, long), (decode_time, _, pulses) = (
     tuple(map(float, open(name).read().split())) for name in sys.argv[1:]
 )
 line, pulse = (long_time - short_time) / (long - short), decode_time / pulses
-print(f"a line behind the first {short:.0f}: {line:.1f} ns, {line / pulse:.2f} times a pulse of decode")
+print(f"a line after the first {short:.0f}: {line:.1f} ns, {line / pulse:.2f} times a pulse of decode")
 print(f"memory of the long script less that of the short one: {long_peak - short_peak:.0f} KiB")
 PY
 
-# Every minute is heard whole: each radio's first is alone and the others agree, each answer of a server is a sample, each request
+# Every minute is received whole: each radio's first is alone and the others agree, each answer of a server is a sample, each request
 # is answered, and all is kept.
 "$program" replay --station "$work/station" --script "$work/long" > "$work/text"
 python3 -B - "$work/long" "$work/text" <<'PY'

@@ -24,7 +24,7 @@ reply_core: tick_units ntp_packet clock_page
 reply_loop: tick_units clock_page reply_core
 CRATES
 cat > "$work/crates/reply_loop/src/main.rt" <<'RATTLE'
-//! Answers so many requests, each from a page that is read from its ten words.
+//! Answers a number of requests, each from a page that is read from its ten words.
 #![tactic(auto)]
 
 use clock_page::Page;
@@ -87,7 +87,7 @@ gcc -O2 -o "$work/plain" "$top/bench/plain_reply.c"
 (cd "$work/crates/reply_loop" && rt run -- 1 > "$work/build.log" 2>&1) || { cat "$work/build.log" >&2; exit 1; }
 ours="$work/crates/reply_loop/out/reply_loop"
 
-# The instructions of a run with so many replies.
+# The instructions of a run with that many replies.
 count() {
     valgrind --tool=callgrind --callgrind-out-file=/dev/null "$@" 2>&1 > "$work/sum" | sed -n 's/.*Collected : //p'
 }

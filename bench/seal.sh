@@ -19,7 +19,7 @@ for crate in tick_units ntp_packet packet_auth clock_page reply_core sealed_repl
 done
 echo 'seal_loop: tick_units clock_page packet_auth reply_core sealed_reply' >> "$work/crates.txt"
 cat > "$work/crates/seal_loop/src/main.rt" <<'RATTLE'
-//! Replies to so many requests, which are authentic, or with the word `plain` aren't.
+//! Replies to a number of requests, which are authentic, or with the word `plain` aren't.
 #![tactic(auto)]
 
 use clock_page::Page;

@@ -11,7 +11,7 @@ set -eu
 replies=${1:-50000}
 runs=${2:-7}
 BOUND=1.5
-# What the server hears of one phase at the most, but for some that get it going.
+# What the server receives in one phase at the most, but for some that get it going.
 [ $((2 * replies * runs)) -le 990000 ] || { echo "more than 990000 replies in all" >&2; exit 1; }
 cd "$(dirname "$0")/.."
 . bench/built.sh
@@ -134,7 +134,7 @@ if command -v valgrind > /dev/null; then
 fi
 
 # A journal that is full to its last entry: each mark of an MSF log that is Long closes a segment, of one mark, which is refused. The
-# last mark of such a log is never told, and the first one closes nothing.
+# last mark of such a log is never given, and the first one closes nothing.
 limit=1048576
 python3 -B - "$limit" > "$work/long.log" <<'PY'
 import sys

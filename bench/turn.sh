@@ -1,7 +1,7 @@
 #!/bin/sh
 # What an answered turn costs: user instructions a turn over a real loopback socket, counted by callgrind, of a small program that serves
-# so many datagrams, beside plain C that makes the same system calls and echoes what came. A client of Python asks. Twice as many
-# turns less as many are counted, so that what comes before and behind them falls out. The program is built in a temporary folder
+# a number of datagrams, beside plain C that makes the same system calls and echoes what came. A client of Python asks. Twice as many
+# turns less as many are counted, so that what comes before and after them falls out. The program is built in a temporary folder
 # over copies of the crates, which proves them first (some minutes where nothing is kept). Needs rt, valgrind, gcc, python3.
 #
 #     bench/turn.sh [TURNS]
@@ -22,7 +22,7 @@ done
 cp "$top/HANDLES" "$work/"
 echo "turn_loop: tick_units feed_link journal_entry system_fold packet_auth kiss_gate page_cell responder" >> "$work/crates.txt"
 cat > "$work/crates/turn_loop/src/main.rt" <<'RATTLE'
-//! Serves so many datagrams on a port, from the page of no entry.
+//! Serves a number of datagrams on a port, from the page of no entry.
 #![tactic(auto)]
 
 ghost use Rattle.std.specs.Prelude.{◌≡◌};
@@ -132,7 +132,7 @@ python3 "$work/client.py" "$port" &
 client=$!
 trap 'kill "$client"; rm -rf "$work"' EXIT
 
-# The user instructions of a program that serves so many datagrams.
+# The user instructions of a program that serves that many datagrams.
 instructions() {
     valgrind --tool=callgrind --callgrind-out-file="$work/cg" "$1" "$port" "$2" > "$work/out" 2> "$work/err"
     [ "$(cat "$work/out")" = "$2" ] || { echo "answered $(cat "$work/out") of $2" >&2; exit 1; }

@@ -9,12 +9,12 @@ program.
     ask.py wait PORT                        waits until a server answers, for ten seconds at most
     ask.py soon PORT                        waits until a server has a time, for ten seconds at most, and asks ten times at most
     ask.py look PORT COUNT AHEAD LEAP STRATUM REFID [DUMP]
-                                            asks so many times and looks at each answer; DUMP gets them for text2pcap
-    ask.py gets PORT ADDRESS WHAT...        asks from an address of this host, once for each WHAT and at once behind the one before: the
+                                            asks that many times and looks at each answer; DUMP gets them for text2pcap
+    ask.py gets PORT ADDRESS WHAT...        asks from an address of this host, once for each WHAT and at once after the one before: the
                                             answer is the time where it says `time`, else this kiss code; where it says `nothing`, a
                                             request of 47 bytes isn't answered
     ask.py drain PORT                       asks until the server has ended, for half a minute at most
-    ask.py near VALUE AHEAD                 whether a value that a client has printed is so many seconds, within one
+    ask.py near VALUE AHEAD                 whether a value that a client has printed is that many seconds, within one
 
 It ends with 1 and says why where something isn't as it should be.
 """
@@ -48,7 +48,7 @@ def free_port():
 
 
 def to_server(port):
-    """A socket that hears one server alone."""
+    """A socket that receives of one server alone."""
     client = socket.socket(socket.AF_INET, socket.SOCK_DGRAM)
     client.connect(("127.0.0.1", port))
     client.settimeout(WAIT)
@@ -56,7 +56,7 @@ def to_server(port):
 
 
 def request(version, poll, sent, length=48):
-    """A client's request; behind its 48 bytes a server has nothing to look at."""
+    """A client's request; after its 48 bytes a server has nothing to look at."""
     return bytes([version << 3 | 3, 0, poll, 0xEC]) + bytes(36) + struct.pack(">Q", sent) + bytes(length - 48)
 
 
@@ -70,7 +70,7 @@ def answer(client, question):
 
 
 def wait_for(port):
-    """One request is heard at most: one that finds no socket is refused at once."""
+    """One request is received at most: one that finds no socket is refused at once."""
     end = time.monotonic() + WAIT
     with to_server(port) as client:
         while time.monotonic() < end:
@@ -117,7 +117,7 @@ def look_at(reply, question, left, came, ahead, leap, stratum, refid):
     yield "the root delay", delay, 0
     yield "the reference ID", told_refid.rstrip(b"\0").decode("latin-1"), refid
     yield "the origin", origin, left
-    # A radio's time is told 5 ms off at the least, and as no time from 1 s on. None is 16 s off.
+    # A radio's time is reported to be 5 ms off at the least, and as no time from 1 s on. None is 16 s off.
     yield f"that the root dispersion {dispersion} is in range", (328 <= dispersion <= 65536 if has_time else dispersion == 2**20), True
     yield "that it was received before it was sent", 0 <= span(sent, received) < 1, True
     # The newest minute of the radios came in the quarter of an hour before.
@@ -131,7 +131,7 @@ def dump(datagram):
 
 
 def look(port, count, ahead, leap, stratum, refid, dump_name=None):
-    """Asks in each version, with several polls, and with bytes behind the 48."""
+    """Asks in each version, with several polls, and with bytes after the 48."""
     dumped = []
     with to_server(port) as client:
         for i in range(count):

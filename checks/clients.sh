@@ -31,7 +31,7 @@ found() {
     sed -n "s/.*$1.*/\1/p" "$2" | head -n 1
 }
 
-# A client says that the server's time is so many seconds ahead of the host's.
+# A client says that the server's time is a number of seconds ahead of the host's.
 says_ahead() {
     asked=$((asked + 1))
     ask near "${2:-nothing}" "$ahead" || wrong "$1: $(cat "$work/$1")"
@@ -43,7 +43,7 @@ says() {
 }
 
 # Our own client looks at 40 replies from each radio alone and from all of them. The server serves from the page of all that its
-# radios have heard, since it makes no hearing beside them; and each request is one of its hearings.
+# radios received, since it makes no hearing beside them; and each request is one of its hearings.
 asked=$((asked + 1))
 for row in dcf:DCF msf:MSF wwvb:WWVB; do
     port=$(ask port)
@@ -103,7 +103,7 @@ if command -v chronyd > /dev/null; then
     says chronyd 'Timeout reached'
 fi
 
-# The same as a client that goes on asking, which tells all fields of an answer and its ten tests of it. The last four speak of the
+# The same as a client that goes on asking, which prints all fields of an answer and its ten tests of it. The last four speak of the
 # delay, and a busy machine may miss one of them.
 if is_there chronyc; then
     asked=$((asked + 1))
@@ -154,7 +154,7 @@ ask drain "$port" || wrong 'the server goes on'
 ended 0 'status 0'
 wrote 'link 0 answered [0-9]* dropped 0 again 0 kissed 0 unkept 0 end count'
 
-# Who may ask: a client that asks again within a second gets RATE and is told the time when the second is over, whoever else asks; one of
+# Who may ask: a client that asks again within a second gets RATE, and the time when the second is over, whoever else asks; one of
 # a denied net gets DENY, but what is no request of its is dropped as anyone's.
 asked=$((asked + 1))
 port=$(ask port)
@@ -172,7 +172,7 @@ ask gets "$port" 127.0.2.1 DENY nothing DENY || wrong 'a client of a denied net'
 sleep 1.1
 ask gets "$port" 127.0.0.1 time || wrong 'a client that has waited'
 
-# chronyd takes a RATE for what it is: it says so, and asks less often than the 64 times a second that it was told to.
+# chronyd takes a RATE for what it is: it says so, and asks less often than the 64 times a second that it was set to.
 if is_there chronyc; then
     asked=$((asked + 1))
     rm -rf "$work/chrony"

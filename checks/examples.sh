@@ -1,6 +1,6 @@
 #!/bin/sh
 # Runs the examples of README.md and docs/OPERATING.md, and compares their texts and statuses with what these pages say. The gate
-# runs it behind `rt ci`, on the program that it has built.
+# runs it after `rt ci`, on the program that it has built.
 #
 #     checks/examples.sh
 set -u
@@ -10,7 +10,7 @@ trap 'rm -rf "$work"' EXIT
 bad=0
 checked=0
 
-# The words end with the status $1 and the last line $2, which is empty where nothing is written.
+# The arguments end with the status $1 and the last line $2, which is empty where nothing is written.
 ends() {
     status=$1 last=$2
     shift 2
@@ -45,7 +45,7 @@ station() {
     ends 3 "status 3 station $2" replay --station "$work/station" --script examples/exchange.script
 }
 
-# So many of a text, one behind the other.
+# A text a number of times, one after the other.
 repeated() {
     count=$1
     while [ "$count" -gt 0 ]; do
@@ -109,13 +109,13 @@ ends 5 'status 5 journal 1' migrate --station examples/station.toml --journal "$
 printf '2 62000000 lone 3976257600\n' > "$work/journal"
 ends 5 'status 5 journal 1' migrate --station examples/station.toml --journal "$work/journal"
 
-# The words.
+# The arguments.
 ends 0 'status 0' --plan=dcf --log=examples/dcf77-hour.log -- decode
 ends 1 'status 1 usage'
 ends 1 'status 1 usage' replay --station examples/station.toml --script examples/exchange.script --limit 0
 
 ends 1 'status 1 usage' decode --plan dcf --log "$(printf 'no\377utf8')"
-# Nine words: the last of them is read too.
+# Nine arguments: the last of them is read too.
 ends 6 'status 6 full 2' --limit 2 --station examples/station.toml --script examples/exchange.script -- replay
 ends 1 'status 1 usage' --limit 2 --station examples/station.toml --script examples/exchange.script -- replay decode
 

@@ -13,7 +13,7 @@ for tests in feeders/test_feeders feeders/test_feeder_ends feeders/test_steady f
     cat "$work/one" >> "$work/tests"
 done
 
-# The edges of a log, on a line that is low while the carrier is reduced, with a spike of 2 ms behind each reduction.
+# The edges of a log, on a line that is low while the carrier is reduced, with a spike of 2 ms after each reduction.
 edges() {
     awk '{
         split($1 " " $1 + $2 " " $1 + $2 + 20000 " " $1 + $2 + 22000, at, " ")

@@ -43,7 +43,7 @@ dies() {
     wait "$1" 2> /dev/null
 }
 
-# Writes the file $1, but so many bytes of it, $2, at a time, each piece a millisecond behind the one before.
+# Writes the file $1, but $2 bytes of it at a time, each piece a millisecond after the one before.
 slowly() {
     python3 -B - "$1" "$2" <<'PY'
 import sys, time
@@ -56,7 +56,7 @@ PY
 }
 
 # Feed $1 of the run is a radio of plan $2 whose pipe got the bytes of $3: it has the entries that `decode` gives for them. `bad` lines are
-# those that it tells, `line` the number or nothing.
+# those that it reports, `line` the number or nothing.
 stands() {
     ./radio_ntpd decode --plan "$2" --log "$3" > "$work/decoded"
     line=$(sed -n 's/^status 5 line 0 //p' "$work/decoded")
@@ -96,13 +96,13 @@ cp "$work/serving" "$work/served"
 stands 0 dcf "$work/lines"
 [ -z "$line" ] || wrong 'a log cut between two lines has a bad one'
 stands 2 wwvb "$wwvb"
-[ "$(grep -c ' verdict ' "$work/entries")" = 9 ] || wrong 'a slow radio is not heard whole'
+[ "$(grep -c ' verdict ' "$work/entries")" = 9 ] || wrong 'a slow radio is not read whole'
 stands 1 msf "$work/half"
 [ "$told:$(tail -n 1 "$work/served")" = "5:status 5 line 1 $line" ] ||
     wrong "a writer that dies in line $line ends the run with $told and '$(tail -n 1 "$work/served")'"
 wrote 'link 0 answered [0-9]* dropped 0 again 0 kissed 0 unkept 0 end count'
 
-# Serves one radio of DCF77 whose pipe is "$work/a"; the words are those behind the station.
+# Serves one radio of DCF77 whose pipe is "$work/a"; the arguments are those after the station.
 serve_one() {
     radio dcf a > "$work/station"
     serve --station "$work/station" "$@"
@@ -147,8 +147,8 @@ want="status 0"
 [ -z "$line" ] || want="status 5 line 0 $line"
 [ "$(tail -n 1 "$work/served")" = "$want" ] || wrong "a log that another goes on with ends with '$(tail -n 1 "$work/served")', not '$want'"
 
-# A bad line in the middle: nothing behind it is read, while the run goes on. What its writer still has is held up where a pipe is full, and
-# the writer is told of a broken pipe once the run has ended.
+# A bad line in the middle: nothing after it is read, while the run goes on. What its writer still has is held up where a pipe is full, and
+# the writer meets a broken pipe once the run has ended.
 { head -n 200 "$dcf"; echo 'no line'; } > "$work/bad"
 {
     radio dcf a
@@ -170,7 +170,7 @@ writer=$!
 servers="$servers $writer"
 ask wait "$port" || wrong 'a bad line ends the run'
 sleep 0.3
-kill -0 "$writer" 2> /dev/null || wrong 'the writer behind a bad line is not held up'
+kill -0 "$writer" 2> /dev/null || wrong 'the writer after a bad line is not held up'
 ask drain "$port" || wrong 'a server with a bad line does not end'
 ended 5 'status 5 line 0 201'
 stands 0 dcf "$work/bad"
@@ -199,7 +199,7 @@ def asked():
                 time.sleep(0.05)
 
 for number in (signal.SIGTERM, signal.SIGINT, signal.SIGHUP, signal.SIGQUIT, signal.SIGPIPE):
-    # A shell that runs this behind `&` leaves signals ignored, which a program would take over.
+    # A shell that runs this with `&` leaves signals ignored, which a program would take over.
     if number != signal.SIGPIPE:
         signal.signal(number, signal.SIG_DFL)
     run = subprocess.Popen(["./radio_ntpd", "serve", "--station", station, "--during", "2"], stdout=subprocess.PIPE)
@@ -220,7 +220,7 @@ for number in (signal.SIGTERM, signal.SIGINT, signal.SIGHUP, signal.SIGQUIT, sig
                 sys.exit(f"{number!r} ends it with {told} and {text!r}")
             try:
                 writer.write(b"700000000 100000\n")
-                sys.exit(f"its pipe is not broken behind {number!r}")
+                sys.exit(f"its pipe is not broken after {number!r}")
             except BrokenPipeError:
                 pass
             with socket.socket(socket.AF_INET, socket.SOCK_DGRAM) as other:
@@ -228,16 +228,16 @@ for number in (signal.SIGTERM, signal.SIGINT, signal.SIGHUP, signal.SIGQUIT, sig
     if number == signal.SIGPIPE:
         text, _ = run.communicate(timeout=20)
         if run.returncode or not text.endswith(b"\nstatus 0\n"):
-            sys.exit(f"behind SIGPIPE it ends with {run.returncode} and {text!r}")
+            sys.exit(f"after SIGPIPE it ends with {run.returncode} and {text!r}")
 PY
 checked=$((checked + 5))
 
-# A signal while the journal is written to a reader that is slow: the reader has a front of it. An output whose reader went away while it
+# A signal while the journal is written to a reader that is slow: the reader has the beginning of it. An output whose reader went away while it
 # served ends with 8, not with a signal.
 for one in 1 2 3 4; do
     printf '[[radio]]\nplan = "dcf"\nlog = "examples/dcf77-hour.log"\ndelay = %s\n' "$one"
 done > "$work/station"
-python3 -B - "$work/station" "$work/front" <<'PY' || wrong 'a journal that is cut off is not a front of it'
+python3 -B - "$work/station" "$work/front" <<'PY' || wrong 'a journal that is cut off is not the beginning of it'
 import fcntl, os, re, signal, subprocess, sys, time
 words = ["./radio_ntpd", "serve", "--station", sys.argv[1]]
 ours, its = os.pipe()

@@ -20,7 +20,7 @@ RULES = {
     "wwvb": {1, 2, 3, *range(50, 57), 58},
 }
 
-# The fields behind the word of an entry: a number below this, a length of less than this size, or so many hexadecimal digits.
+# The fields after the keyword of an entry: a number below this, a length of less than this size, or a number of hexadecimal digits.
 SECOND, BYTE, SHORT, LENGTH, ADDRESS = ("below", 2**64), ("below", 256), ("below", 2**32), ("size", 2**70), ("hex", 8)
 WORDS = {
     "verdict": (SECOND, SECOND),
@@ -76,7 +76,7 @@ class Entry:
         self.values = [text if form == "hex" else int(text) for text, (form, _) in zip(rest, kinds)]
 
     def is_lawful(self, feeds):
-        """Whether a journal of so many feeds may have it."""
+        """Whether a journal of that many feeds may have it."""
         if self.feed >= feeds:
             return False
         if self.word == "verdict":
@@ -108,9 +108,9 @@ def page(text):
     need(abs(int(rate)) <= MOST_RATE, f"no page: {text!r}")
     if sync == "0":
         nothing = (stratum, refid, offset, until, delay, dispersion, reftime, leap_at, rate)
-        need(nothing == ("0", "494e4954", "0", "0", "0", "1048576", "0" * 16, "0", "0"), f"a page without a time that tells one: {text!r}")
+        need(nothing == ("0", "494e4954", "0", "0", "0", "1048576", "0" * 16, "0", "0"), f"a page without a time that has one: {text!r}")
     else:
-        need(int(stratum) > 0 and int(until) > 0, f"a page with a time that tells none: {text!r}")
+        need(int(stratum) > 0 and int(until) > 0, f"a page with a time that has none: {text!r}")
     return int(length), int(sync)
 
 
@@ -122,7 +122,7 @@ def lines_of(output):
 
 
 def first_bad(lines, is_bad, tail):
-    """The number of the first bad line, or None; `tail` is what stands behind the last line feed."""
+    """The number of the first bad line, or None; `tail` is what stands after the last line feed."""
     for place, line in enumerate(lines, 1):
         if is_bad(line):
             return place
@@ -130,13 +130,13 @@ def first_bad(lines, is_bad, tail):
 
 
 def cut(data):
-    """The lines of a file as texts, and what stands behind the last line feed."""
+    """The lines of a file as texts, and what stands after the last line feed."""
     *lines, tail = data.decode("latin-1").split("\n")
     return lines, tail
 
 
 class Pulses:
-    """The reductions of one radio: a start and a width are lawful behind those before."""
+    """The reductions of one radio: a start and a width are valid after those before."""
 
     def __init__(self):
         self.last = -1
@@ -179,7 +179,7 @@ def judge_decode(plan, data, output, status):
 
 
 def judge_answer(plan, before, entry, line):
-    """An answer of a receiver behind the one before it, which no swap parts."""
+    """An answer of a receiver after the one before it, which no swap parts."""
     valid = before is not None and before.word != "refused"
     minute = before.values[1 if before.word == "differs" else 0] if valid else None
     if entry.word == "refused":
@@ -190,7 +190,7 @@ def judge_answer(plan, before, entry, line):
         need(valid and entry.values[0] == minute + 60, f"a verdict that no minute before agrees with: {line!r}")
         apart = entry.at - before.at
         long = 60_900_000 <= apart <= 61_100_000 and plan == "dcf"
-        need(59_900_000 <= apart <= 60_100_000 or long, f"a verdict {apart} us behind the minute before: {line!r}")
+        need(59_900_000 <= apart <= 60_100_000 or long, f"a verdict {apart} us after the minute before: {line!r}")
     else:
         need(valid and entry.values == [minute, entry.values[1], entry.at - before.at], f"what differs isn't the minute before: {line!r}")
 
@@ -210,7 +210,7 @@ class Journal:
         return entry
 
     def ends(self, line):
-        """The page line behind it."""
+        """The page line after it."""
         length, sync = page(line)
         need(length == len(self.entries), f"a page of {length} of {len(self.entries)} entries")
         need(length > 0 or line == "page 0 0 0 494e4954 0 0 0 0 1048576 0000000000000000 0 0", f"the page of no entry: {line!r}")
@@ -242,7 +242,7 @@ def judge_migrate(feeds, data, output, status, again):
     bad = first_bad(texts, is_bad, tail)
     written = len(lines)
     if second and written + 1 != (bad or len(texts) + 1):
-        # The line behind those that were written has another rate than the page then.
+        # The line after those that were written has another rate than the page then.
         need(written + 1 < (bad or len(texts) + 1), f"{written} lines are written, and the first bad one is {bad}")
         entries = [numbered(line)[2] for line in texts[: written + 1]]
         need(again(entries)[written] != texts[written], f"line {written + 1} is refused, and has the rate of its page")

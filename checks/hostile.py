@@ -1,11 +1,11 @@
 #!/usr/bin/env python3
-"""Sends so many malformed datagrams to a server, from several sockets, with good requests between them, and looks at all that comes
-back. It prints how many good and how many bad ones were heard, and how many were sent from port 0. It shares no code with the program.
+"""Sends a number of malformed datagrams to a server, from several sockets, with good requests between them, and looks at all that comes
+back. It prints how many good and how many bad ones were received, and how many were sent from port 0. It shares no code with the program.
 
     hostile.py PORT COUNT
 
-A socket holds what the server has not yet heard, some 200 thousand bytes of it, and the host drops what comes on top. So a good request
-is sent behind some hundred others at most, and its reply says that all before it were heard. At the end good ones are sent until the
+A socket holds what the server has not yet received, some 200 thousand bytes of it, and the host drops what comes on top. So a good request
+is sent after some hundred others at most, and its reply says that all before it were received. At the end good ones are sent until the
 server is gone.
 """
 
@@ -64,13 +64,13 @@ def malformed(draw, i):
 
 
 def good(draw, i, sent):
-    """The good one of number i, with bytes behind its header that nobody asks for."""
+    """The good one of number i, with bytes after its header that nobody asks for."""
     length = (48, 49, 68, 1023, 1024, 1025, 1472, 9000)[i % 8]
     return head(1 + i % 4, 3) + bytes([0, draw.randrange(256), 0xEC]) + bytes(36) + struct.pack(">Q", sent) + draw.randbytes(length - 48)
 
 
 class Senders:
-    """Sockets that send by turns, and hear whoever sends to them."""
+    """Sockets that send by turns, and receive from whoever sends to them."""
 
     def __init__(self, port, count):
         self.server = ("127.0.0.1", port)
@@ -153,7 +153,7 @@ def main():
     asked = unheard = waiting = 0
     for i in range(count):
         datagram = malformed(draw, i)
-        # Some sockets never ask, so they have nothing to hear.
+        # Some sockets never ask, so they have nothing to receive.
         (silent if i % 3 == 0 else senders).send(datagram)
         waiting += COST + 2 * len(datagram)
         if i % 1000 == 500 and from_port_0(port, good(draw, 0, i)):

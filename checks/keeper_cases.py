@@ -57,7 +57,7 @@ def good(kept: Kept, met: dict, bounds: tuple[float, float], changes: int = 1) -
 
 
 def starts(base: float) -> int:
-    """Cold: no pulse is at hand, so clients hear INIT. Warm: a log that grows has the last minutes."""
+    """Cold: no pulse is at hand, so clients get INIT. Warm: a log that grows has the last minutes."""
     with Kept([command("dcf", base, 0)]) as cold:
         cold.start()
         cold.waits("run 1 (start) serves")
@@ -148,7 +148,7 @@ def flood(base: float) -> int:
         looked += LATE.due(met["silent"], bound(FLOODED, met["stalled"], 2 * FLOODED), f"a flood silences clients: {brief(met)}")
         looked += due(runs >= 2, "a flood uses up no run")
         said = ask(kept.port)
-        looked += due(said is not None and said[0] == 0, f"after a flood clients hear {said}")
+        looked += due(said is not None and said[0] == 0, f"after a flood clients get {said}")
         return looked + ended(kept, 0)
 
 

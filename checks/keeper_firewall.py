@@ -45,7 +45,7 @@ def kept(name: str, top: str, reference: str, base: float) -> int:
         if keeper.stop() != 0:
             raise Wrong(f"the keeper doesn't end well: {keeper.text()}")
         found = samples(keeper.journals()[-1])
-    looked = due(said is not None and said[:3] == (0, 2, bytes(map(int, reference.split("."))).decode("latin-1")), f"{name}: a client hears {said}")
+    looked = due(said is not None and said[:3] == (0, 2, bytes(map(int, reference.split("."))).decode("latin-1")), f"{name}: a client gets {said}")
     apart = [after[0] - before[0] for before, after in zip(found, found[1:])]
     paced = apart[BURST:]
     looked += due(len(paced) >= LASTS / PAUSE - 4, f"{name}: there are {len(found)} samples: {apart}")

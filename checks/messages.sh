@@ -72,6 +72,8 @@ grep -qF "$kit" README.md || wrong "README.md does not have '$kit'"
 # The arguments.
 usage 'radio_ntpd: unknown option --staton' serve --staton examples/station.toml
 usage 'radio_ntpd: --station has no value' serve --station
+usage 'radio_ntpd: --log has no value' decode --plan dcf --log ''
+usage 'radio_ntpd: --seed has no value' drill --seed -1
 usage 'radio_ntpd: no command' --seed 7
 usage 'radio_ntpd: unknown command server' server
 usage 'radio_ntpd: two commands, serve and decode' serve decode
@@ -94,6 +96,10 @@ long=$(printf '%0300d' 0)
 says 2 'status 2 open feed 0' "radio_ntpd: cannot open feed 0 ($long): the host refuses it" decode --plan dcf --log "$long"
 printf 'leap_file = "nosuch.list"\n[[radio]]\nplan = "dcf"\nlog = "examples/dcf77-hour.log"\n' > "$work/station"
 says 2 'status 2 open feed 1' 'radio_ntpd: cannot open feed 1 (nosuch.list): there is no such file' serve --station "$work/station"
+# A station that comes by a pipe can't be read once more, so its names are left out.
+messages=$((messages + 1))
+printf '[[radio]]\nplan = "dcf"\nlog = "nosuch"\n' | "$program" serve --station /dev/stdin > "$work/out" 2> "$work/said"
+[ "$?:$(cat "$work/said")" = '2:radio_ntpd: cannot open feed 0: there is no such file' ] || wrong "a station by a pipe says '$(cat "$work/said")'"
 port=$(python3 -B -c 'import socket; s = socket.socket(socket.AF_INET, socket.SOCK_DGRAM); s.bind(("127.0.0.1", 0)); print(s.getsockname()[1])')
 printf '[[link]]\nport = %s\n[[link]]\nport = %s\n' "$port" "$port" > "$work/station"
 says 2 'status 2 open link 1' "radio_ntpd: cannot open link 1 (port $port): another program or link has the port" serve --station "$work/station"
@@ -120,7 +126,12 @@ if [ "$(cat /proc/sys/net/ipv4/ip_unprivileged_port_start)" -gt 123 ] && unshare
 fi
 
 # Station files.
-station 'bound =' toml 'it is not TOML'
+station 'bound =' toml 'line 1 is not TOML'
+station 'bound = 1\r\nstart = 0\r\n# K\303\266ln\r\ngap =' toml 'line 4 is not TOML'
+printf 'bound =' > "$work/station"
+messages=$((messages + 1))
+cat "$work/station" | "$program" serve --station /dev/stdin > "$work/out" 2> "$work/said"
+grep -qF 'the station file (/dev/stdin): it is not TOML' "$work/said" || wrong "a station of a pipe says '$(cat "$work/said")'"
 station 'boundd = 1\n' 'unknown boundd' 'there is no key boundd'
 station '[[radio]]\nplan = "dcf"\n' 'missing radio.0.log' 'the key radio.0.log is missing'
 # What each key wants, and how many there may be of each array.
@@ -158,8 +169,14 @@ many 17 '[[deny]]\nnet = "192.0.2.0/24"\n' deny 16
 
 # Reads, lines, a full journal, an output that takes no more, files that are too long.
 says 4 'status 4 read feed 0' 'radio_ntpd: cannot read feed 0 (/): it is a folder' decode --plan dcf --log /
+says 4 'status 4 read station' 'radio_ntpd: cannot read the station file (/): it is a folder' serve --station /
+says 4 'status 4 read script' 'radio_ntpd: cannot read the script (/): it is a folder' replay --station examples/station.toml --script /
+says 4 'status 4 read journal' 'radio_ntpd: cannot read the journal (/): it is a folder' migrate --station examples/station.toml --journal /
 printf '1000000 100000\n2.5 100000\n' > "$work/log"
 says 5 'status 5 line 0 2' "radio_ntpd: line 2 of feed 0 ($work/log) is bad: a line is START WIDTH" decode --plan dcf --log "$work/log"
+printf '1000000000 100000000\n2000000000 200000000\n' > "$work/log"
+says 5 'status 5 line 0 1' "radio_ntpd: line 1 of feed 0 ($work/log) is bad: widths look like nanoseconds; the log wants microseconds" \
+    decode --plan dcf --log "$work/log"
 printf '3644697600 36\nodd\n' > "$work/list"
 printf 'leap_file = "%s"\n' "$work/list" > "$work/station"
 says 5 'status 5 line 0 2' "radio_ntpd: line 2 of feed 0 ($work/list) is bad: a row is" serve --station "$work/station"
@@ -180,6 +197,9 @@ messages=$((messages + 1))
 grep -q '^radio_ntpd: standard output took no more' "$work/said" || wrong "a closed output says '$(cat "$work/said")'"
 head -c 65537 /dev/zero | tr '\0' '\n' > "$work/long"
 says 10 'status 10 long station' "radio_ntpd: the station file ($work/long) has more than 65536 bytes" serve --station "$work/long"
+{ printf '#'; head -c 65536 /dev/zero | tr '\0' ' '; } > "$work/long"
+printf 'leap_file = "%s"\n' "$work/long" > "$work/station"
+says 10 'status 10 long feed 0' "radio_ntpd: feed 0 ($work/long) has more than 65536 bytes" serve --station "$work/station"
 
 # Memory that runs out: for the room of a large journal, and at the least limit at which the program can begin at all. The sentence of
 # status 7 is in the tests of crates/standard_error: no host fails a call of a link when it is asked to.
@@ -200,9 +220,33 @@ messages=$((messages + 1))
 [ "$told:$(cat "$work/said")" = '9:radio_ntpd: no memory was found to say more' ] ||
     wrong "want of memory ends with $told and says '$(cat "$work/said")'"
 
-# A log that gives no minute.
-says 0 'status 0' 'radio_ntpd: the log gave no minute' decode --plan msf --log examples/dcf77-hour.log
-says 0 'status 0' 'radio_ntpd: the log gave no minute' decode --plan dcf --log /dev/null
+# A log that gives no minute: its hint. A log has COUNT lines, one a second; its first width and each sixtieth is FIRST, and the
+# others are those after it in turn.
+hint() {
+    plan=$1 text=$2 count=$3 first=$4
+    shift 4
+    mark=0
+    while [ "$mark" -lt "$count" ]; do
+        width=$first
+        if [ $((mark % 60)) != 0 ]; then
+            width=$1
+            shift
+            set -- "$@" "$width"
+        fi
+        echo "$((mark * 1000000 + 1000000)) $width"
+        mark=$((mark + 1))
+    done > "$work/log"
+    says 0 'status 0' "radio_ntpd: the log gave no minute: $text" decode --plan "$plan" --log "$work/log"
+}
+hint dcf 'widths look like milliseconds; the log wants microseconds' 120 100 100 200
+hint msf 'it has fewer marks than a minute has' 58 500000 100000 200000
+hint dcf 'its marks look like those of --plan wwvb' 120 800000 200000 500000 200000 800000
+hint dcf 'its marks look like those of --plan msf' 120 500000 100000 200000 300000
+says 0 'status 0' 'radio_ntpd: the log gave no minute: its marks look like those of --plan dcf' decode --plan msf --log examples/dcf77-hour.log
+hint dcf 'its marks look like those of this plan, but no minute has them all' 120 100000 100000 200000
+hint dcf 'its widths are those of no plan; it is noise, or high where it should be low' 120 900000 900000 800000
+says 0 'status 0' 'radio_ntpd: the log gave no minute: it has no marks of this plan, or its widths are not in microseconds' \
+    decode --plan dcf --log /dev/null
 
 # A closed standard error changes nothing, nor does one that takes nothing.
 for to in '&-' /dev/full; do

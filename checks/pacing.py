@@ -101,7 +101,7 @@ def play(text: str, servers: int) -> list[bytes]:
 
 
 class Row:
-    """What a client heard over the day."""
+    """What a client got over the day."""
 
     def __init__(self, replies: list[bytes], moments: list[float]) -> None:
         self.worst = self.told = self.over = 0.0

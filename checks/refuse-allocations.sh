@@ -4,7 +4,7 @@
 # A run may only end so:
 #   whole      the same text and status as without a refusal
 #   memory     `status 9 memory` alone, and 9
-#   unkept     the whole text, and the one line `unkept` behind the reply to a client that couldn't be remembered
+#   unkept     the whole text, and the one line `unkept` after the reply to a client that couldn't be remembered
 # With the fakes a refusal may also be one of the test's own (it then judges nothing) or of the output in memory, which is a
 # failed write. Anything else is printed as BAD, and the script ends with 1.
 #

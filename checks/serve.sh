@@ -74,7 +74,7 @@ for row in 0:dcf:dcf77 1:msf:msf 2:wwvb:wwvb; do
     checked=$((checked + 1))
     ./radio_ntpd decode --plan "${plan%:*}" --log "examples/radios/${plan#*:}.log" | sed -n 's/^0 //p' > "$work/decoded"
     entries "${row%%:*}" | cmp -s - "$work/decoded" || wrong "the entries of ${plan%:*} aren't those that decode writes"
-    # Ten minutes are heard whole, the first of which is alone.
+    # Ten minutes are received whole, the first of which is alone.
     [ "$(grep -c ' verdict ' "$work/decoded")" = 9 ] || wrong "${plan%:*} hasn't nine verdicts"
 done
 grep '^j2 ' "$work/served" > "$work/journal"
@@ -89,18 +89,18 @@ ends 6 'status 6 full 3' --station "$work/station" --during 0 --limit 3
 wrote 'page 3 0 0 494e4954 .*'
 [ "$(grep -c '^j2 ' "$work/served")" = 3 ] || wrong "a limit of 3 doesn't leave three entries"
 
-# Logs that aren't there, that are a folder, or have a bad line; the other radio is heard whole.
+# Logs that aren't there, that are a folder, or have a bad line; the other radio is read whole.
 { radio dcf nosuch; link "$port"; } > "$work/station"
 refused 2 'status 2 open feed 0' --station "$work/station"
 { radio dcf examples/radios/dcf77.log; radio msf nosuch; } > "$work/station"
 refused 2 'status 2 open feed 1' --station "$work/station"
 { radio dcf /; radio msf examples/radios/msf.log; } > "$work/station"
 ends 4 'status 4 read feed 0' --station "$work/station"
-[ "$(entries 1 | grep -c ' verdict ')" = 9 ] || wrong "a radio isn't heard beside one that can't be read"
+[ "$(entries 1 | grep -c ' verdict ')" = 9 ] || wrong "a radio isn't read beside one that can't be read"
 { head -n 200 examples/radios/dcf77.log; echo '206000000'; sed 1,200d examples/radios/dcf77.log; } > "$work/log"
 { radio msf examples/radios/msf.log; radio dcf "$work/log"; } > "$work/station"
 ends 5 'status 5 line 1 201' --station "$work/station"
-[ "$(entries 0 | grep -c ' verdict ')" = 9 ] || wrong "a radio isn't heard beside one with a bad line"
+[ "$(entries 0 | grep -c ' verdict ')" = 9 ] || wrong "a radio isn't read beside one with a bad line"
 [ "$(entries 1 | wc -l)" = 3 ] || wrong "the minutes before a bad line aren't kept"
 
 # A port that is taken: by another server, and by the station's own first link; and one that takes a right that isn't there.
@@ -138,14 +138,14 @@ case "$told:$(tail -n 1 "$work/served")" in
 esac
 grep -q '^page ' "$work/served" || wrong 'two radios on one pipe leave no page'
 
-# A log that is still being written: before it tells a time clients hear that there is none, and then they hear the radio's.
+# A log that is still being written: before it has a time clients get none, and then they get the radio's.
 mkfifo "$work/live"
 { echo 'start = 604000000'; radio msf "$work/live"; link "$port"; } > "$work/station"
 # Taken before it starts, so that it is off by the start of one program alone.
 unheard=$(ask local 604000000)
 serve --station "$work/station" --during 32 --after 1
 exec 3> "$work/live"
-ask wait "$port" && ask look "$port" 10 "$unheard" 3 0 INIT || wrong 'before its radio is heard a server has a time'
+ask wait "$port" && ask look "$port" 10 "$unheard" 3 0 INIT || wrong 'before its radio is received a server has a time'
 cat examples/radios/msf.log >&3
 ask soon "$port" && ask look "$port" 10 "$ahead" 0 1 MSF || wrong 'a server has no time of a log that goes on'
 exec 3>&-
@@ -204,7 +204,7 @@ awk '/^[0-9]/ { if (row++) print "5000000 notice " $1 }' "$list" > "$work/rows"
 entries 0 | cmp -s - "$work/rows" || wrong "the notices aren't the rows of $list"
 listed "$list" examples/radios/dcf77.log
 ends 0 'status 0' --station "$work/station"
-entries 1 | cmp -s - "$work/rows" || wrong "the notices behind a radio aren't the rows of $list"
+entries 1 | cmp -s - "$work/rows" || wrong "the notices after a radio aren't the rows of $list"
 [ "$(entries 0 | grep -c ' verdict ')" = 9 ] || wrong 'a radio before a leap second file has not nine verdicts'
 listed "$work/nosuch" examples/radios/dcf77.log
 refused 2 'status 2 open feed 1' --station "$work/station"
@@ -222,7 +222,7 @@ listed "$work/list65536"
 ends 0 'status 0' --station "$work/station"
 checked=$((checked + 3))
 
-# An output that takes no more: closed from the start, full, and closed behind 100 bytes of a pipe of a page. Four radios' hours are
+# An output that takes no more: closed from the start, full, and closed after 100 bytes of a pipe of a page. Four radios' hours are
 # longer than that. Nothing is written anywhere else.
 { for one in 1 2 3 4; do radio dcf examples/dcf77-hour.log; done; } > "$work/station"
 timeout 20 ./radio_ntpd serve --station "$work/station" >&-
@@ -243,7 +243,7 @@ os.close(its)
 text = os.read(ours, 100)
 os.close(ours)
 told = run.wait(timeout=20)
-sys.exit(f"it ends with {told} behind {text!r}" if told != 8 or not text.startswith(b"j2 1 ") else 0)
+sys.exit(f"it ends with {told} after {text!r}" if told != 8 or not text.startswith(b"j2 1 ") else 0)
 PY
 checked=$((checked + 3))
 

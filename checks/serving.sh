@@ -31,7 +31,7 @@ ask() {
     python3 -B checks/ask.py "$@"
 }
 
-# The example's station with a port of its own, $1; the radios whose plans follow, or all three, hear.
+# The example's station with a port of its own, $1; the radios whose plans follow, or all three, receive.
 station() {
     sed "s/^port = .*/port = $1/" examples/serve.toml > "$work/all.toml"
     shift
@@ -45,7 +45,7 @@ station() {
     fi
 }
 
-# Starts a server with these words behind `serve`, the first two of which name its station. It writes to "$work/serving", and is
+# Starts a server with these arguments after `serve`, the first two of which name its station. It writes to "$work/serving", and is
 # killed after a minute. `ahead` is how far the time of the example's logs is ahead of the host's, in seconds.
 serve() {
     start=$(sed -n 's/^start = //p' "$2")

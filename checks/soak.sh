@@ -9,8 +9,8 @@
 #   - an answer or the time was missing at a change of run or a kill for longer than checks/kept_bounds.py allows, where the echo about that moment
 #     says what the machine itself stalled;
 #   - one was missing at any other time;
-#   - a run began for which nothing had been killed, a radio wasn't heard, or the keeper didn't end well.
-# It isn't in the gate. RADIO_NTPD names another program, SOAK_SAID a file for what the keeper says, SOAK_MET one for each span, run and
+#   - a run began for which nothing had been killed, a radio was not heard, or the keeper did not end well.
+# It is not in the gate. RADIO_NTPD names another program, SOAK_SAID a file for what the keeper says, SOAK_MET one for each span, run and
 # kill. On a machine with other work give it priority:
 #
 #     chrt -r 1 checks/soak.sh

@@ -1,6 +1,6 @@
 #!/usr/bin/env python3
-"""How each Python program of this repository ends where its words are wrong, or a file, a device, a program or a server isn't there: in
-words and with a status of its own, never with a traceback.
+"""How each Python program of this repository ends where its arguments are wrong, or a file, a device, a program or a server isn't there: in
+a sentence and with a status of its own, never with a traceback.
 
     checks/test_ends.py
 """
@@ -11,7 +11,7 @@ import sys
 import unittest
 
 TOP = pathlib.Path(__file__).resolve().parent.parent
-# The words that each program is run with, and what it ends with. Nobody listens at port 9 of 127.0.0.1.
+# The arguments that each program is run with, and what it ends with. Nobody listens at port 9 of 127.0.0.1.
 CASES = [
     ("feeders/edges_to_log.py", "--nosuch", 2),
     ("feeders/edges_to_log.py", "/nosuch", 127),
@@ -22,9 +22,9 @@ CASES = [
     ("feeders/chrony_sock.py", "/nosuch", 1),
     ("tools/plot_journal.py", "", 2),
     ("tools/plot_journal.py", "--help", 0),
-    ("tools/plot_journal.py", "--day x.png /nosuch", 1),
-    ("tools/plot_journal.py", "--phase x.png /nosuch", 1),
-    ("tools/plot_journal.py", "--station /nosuch --day x.png README.md", 1),
+    ("tools/plot_journal.py", "--day x.svg /nosuch", 1),
+    ("tools/plot_journal.py", "--phase x.svg /nosuch", 1),
+    ("tools/plot_journal.py", "--station /nosuch --day x.svg README.md", 1),
     ("bench/accuracy.py", "", 2),
     ("bench/accuracy.py", "/nosuch --minutes 1 --fade x", 2),
     ("bench/accuracy.py", "/nosuch --minutes 1", 1),
@@ -34,6 +34,11 @@ CASES = [
     ("bench/steadied.py", "holdover /nosuch --seeds 1", 1),
     ("bench/holdover_refused.py", "", 2),
     ("bench/holdover_refused.py", "/nosuch --seeds 1 --jitter 2 --ppm 0", 1),
+    ("bench/calibrate.py", "", 2),
+    ("bench/calibrate.py", "/nosuch --minutes 1", 1),
+    ("bench/calibrate_spread.py", "x", 2),
+    ("bench/pictures.py", "", 2),
+    ("bench/pictures.py", "/nosuch /tmp /tmp", 1),
     ("bench/soft_receiver.py", "", 2),
     ("bench/soft_receiver.py", "--plan dcf --live x", 2),
     ("bench/soft_receiver.py", "--plan dcf --live 1 --fade 5", 2),
@@ -44,6 +49,9 @@ CASES = [
     ("bench/make_logs.py", "--minutes 1 /nosuch", 1),
     ("bench/make_script.py", "x", 2),
     ("bench/ask_on.py", "", 2),
+    ("bench/calibrate.py", "", 2),
+    ("bench/calibrate_spread.py", "x", 2),
+    ("bench/pictures.py", "", 2),
     ("checks/ask.py", "", 1),
     ("checks/ask.py", "look 9", 1),
     ("checks/hostile.py", "x", 2),

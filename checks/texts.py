@@ -15,7 +15,7 @@ from pathlib import Path
 TOP = Path(__file__).resolve().parent.parent
 SOURCE = TOP / "crates/standard_error/src"
 # What stands for something else in the page's sentences.
-PLACES = re.compile(r"\b(?:WHAT|FILE|REASON|FAULT|LINE|LIMIT|NAME|ONE|OTHER|WORD|COMMAND|KEY|RANGE|COUNT|MOST)\b|--[a-z]+ wants\b")
+PLACES = re.compile(r"\b(?:WHAT|FILE|REASON|FAULT|HINT|LINE|LIMIT|NAME|ONE|OTHER|WORD|COMMAND|KEY|RANGE|COUNT|MOST)\b|--[a-z]+ wants\b")
 # Texts that no run can reach: each key has a range, and each array a greatest count.
 NEVER = {"another value", "fewer"}
 LITERAL = re.compile(r'"((?:[^"\\]|\\.)*)"', re.DOTALL)

@@ -2,7 +2,7 @@
 """Spoils good files by chance, runs the program over each, and judges what it writes and how it ends by checks/grammar.py. It shares no
 code with the program.
 
-    torture.py COUNT SECONDS [SEED]     so many spoilt files of each kind, as far as the seconds go
+    torture.py COUNT SECONDS [SEED]     COUNT spoilt files of each kind, as far as the seconds go
     torture.py --one KIND NUMBER [SEED] writes one of them, for a look at what went wrong
 
 A kind is a log of a plan, a script, a station, or a journal of either form. A file has the same spoils wherever it is made: they hang
@@ -198,7 +198,7 @@ class Journal(Kind):
         self.second = second
 
     def lines(self, draw):
-        # A numbered journal is told from its beginning.
+        # A numbered journal is known by its beginning.
         count = draw.randint(self.fewest, self.most)
         return self.good[:count] if self.second else super().lines(draw)
 
@@ -308,7 +308,7 @@ SPOILS += [in_bytes(change) for change in (cut, changed, flipped, put_in, taken_
 
 
 def spoilt(kind, name, number, seed):
-    """The file of this number: its bytes, and the draw that goes on behind it."""
+    """The file of this number: its bytes, and the draw that goes on after it."""
     draw = random.Random(f"{seed}/{name}/{number}")
     lines = kind.lines(draw)
     for _ in range(draw.choice((0, 1, 1, 1, 2, 3, 6))):

@@ -12,7 +12,7 @@ a recorded log are, is passed over: chronyd compares with the time of now. --del
 own lag included, in microseconds. A leap second is announced from a day before it on, where two frames announced it.
 
 While chronyd doesn't take samples, as when it is started again, the bridge says so once and goes on. It exits as `decode` did, by its
-status line, with 1 where that is missing, and with 2 for wrong words.
+status line, with 1 where that is missing, and with 2 for invalid arguments.
 """
 
 import argparse

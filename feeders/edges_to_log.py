@@ -14,7 +14,7 @@ A line that is no edge is reported on standard error and passed over.
 
 It exits with the command's status, and 128 and the signal's number where a signal ended it; with 0 at the end of its input and where SIGINT
 or SIGTERM ended it; with 1 where its reader has ended, a read fails, or gpiomon reported an error on that input (2>&1); with 2
-for wrong words, and with 127 where there is no such command.
+for invalid arguments, and with 127 where there is no such command.
 """
 
 import argparse
@@ -95,7 +95,7 @@ class Reductions:
         return GREATEST / 1e6 + SETTLED if self.began is not None else None
 
     def waited(self) -> None:
-        """No edge came for so long."""
+        """No edge came for that long."""
         self.settle()
         self.cut()
 
@@ -198,7 +198,7 @@ def feed(feeder: Feeder, command: list[str]) -> int:
 def main() -> int:
     words = argparse.ArgumentParser(description=__doc__, formatter_class=argparse.RawDescriptionHelpFormatter)
     words.add_argument("--low", action="store_true", help="the line is low while the carrier is reduced")
-    words.add_argument("command", nargs=argparse.REMAINDER, help="what prints the edges, with its own words")
+    words.add_argument("command", nargs=argparse.REMAINDER, help="what prints the edges, with its own arguments")
     asked = words.parse_args()
     command = asked.command[1:] if asked.command[:1] == ["--"] else asked.command
     if sys.stdout is None or (sys.stdin is None and not command):

@@ -7,7 +7,7 @@ A receiver's output lies on DCD where nothing else is said. Many receivers take 
 most want. An edge's time is read when the kernel wakes us, some tens of microseconds after it.
 
 It exits with 1 where the device isn't there, may not be read, is no serial port, or is unplugged, and where its reader has ended; with 2 for
-wrong words; with 0 where SIGINT or SIGTERM ended it.
+invalid arguments; with 0 where SIGINT or SIGTERM ended it.
 """
 
 import argparse

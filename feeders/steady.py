@@ -15,7 +15,7 @@ the drift of the host's counter, and a few marks that are far off hardly bend it
   eight where they are farther than --most, else as soon as the last 16 or 64 show more than chance explains.
 
 A line that is no line of a log is handed on as it is. It exits with 1 where its reader has ended or a read
-fails, with 2 for wrong words, and with 0 at the end of its input and where SIGINT or SIGTERM ended it.
+fails, with 2 for invalid arguments, and with 0 at the end of its input and where SIGINT or SIGTERM ended it.
 """
 
 import argparse

@@ -4,6 +4,7 @@
     feeders/test_feeder_ends.py
 """
 
+import errno
 import os
 import pathlib
 import shutil
@@ -15,6 +16,8 @@ import unittest
 HERE = pathlib.Path(__file__).resolve().parent
 sys.path.insert(0, str(HERE))
 
+import chrony_sock  # noqa: E402
+import serial_edges  # noqa: E402
 from test_feeders import ours, ran  # noqa: E402
 
 
@@ -84,6 +87,37 @@ class Ends(unittest.TestCase):
         self.addCleanup(os.close, theirs)
         name = os.ttyname(theirs)
         self.assertEqual(ran(name, program="serial_edges.py"), ("", f"{name}: it is no serial port with modem lines\n", 1))
+
+    def test_a_serial_port_that_is_unplugged(self):
+        for number in (errno.EIO, errno.ENODEV, errno.ENXIO):
+            self.assertEqual(serial_edges.cause(OSError(number, os.strerror(number))), f"it was unplugged or doesn't answer ({os.strerror(number)})")
+
+
+class Sentences(unittest.TestCase):
+    """Sentences that no other test looks at."""
+
+    def test_streams_that_are_closed(self):
+        for words, closed, said in (
+            ("edges_to_log.py", "<&-", "edges_to_log.py: its input or its output is closed"),
+            ("edges_to_log.py true", ">&-", "edges_to_log.py: its input or its output is closed"),
+            ("steady.py", "<&-", "steady.py: its input or its output is closed"),
+            ("steady.py", ">&-", "steady.py: its input or its output is closed"),
+            ("chrony_sock.py /nosuch", "<&-", "chrony_sock.py: its input is closed"),
+        ):
+            with self.subTest(words=words, closed=closed):
+                done = subprocess.run(["sh", "-c", f"exec {HERE}/{words} {closed}"], stdin=subprocess.DEVNULL, capture_output=True, text=True, timeout=20)
+                self.assertEqual((done.stderr, done.returncode), (f"{said}\n", 1))
+
+    def test_how_far_a_start_may_be_moved(self):
+        written, said, status = ran("--most", "91", program="steady.py")
+        self.assertEqual((written, status), ("", 2))
+        self.assertTrue(said.endswith("--most is 1 to 90 milliseconds\n"), said)
+
+    def test_a_verdict_that_is_old(self):
+        said = []
+        bridge = chrony_sock.Bridge("/nosuch", 0, 5.0, chrony_sock.Clocks(lambda: 10 * 10**9, lambda: 10**18), said.append)
+        self.assertFalse(bridge.line("0 4000000 verdict 4004773260 0\n"))
+        self.assertEqual(said, ["a verdict of a moment 6.0 s ago is passed over"])
 
 
 if __name__ == "__main__":

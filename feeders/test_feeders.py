@@ -99,7 +99,7 @@ class Edges(unittest.TestCase):
                 self.gives(noisy, reductions)
 
     def test_lost_edges(self):
-        """Of each edge that was lost one reduction isn't told, and no other."""
+        """Of each edge that was lost one reduction isn't given, and no other."""
         for plan in PLANS:
             reductions = reductions_of(plan)
             edges = edges_of(reductions)

@@ -161,12 +161,12 @@ def _last_line(file: IO[bytes]) -> bytes:
 
 
 def later(day: str, days: int) -> str:
-    """The day that is so many days after another one, both as `day_of` has them."""
+    """The day that is this many days after another one, both as `day_of` has them."""
     return (datetime.datetime.strptime(day, "%Y%m%d") + datetime.timedelta(days=days)).strftime("%Y%m%d")
 
 
 def oldest_kept(there: list[str], today: str, days: int) -> str:
-    """The first day that is kept of those that are there: so many days before today. A host's clock that is set far ahead by mistake must
+    """The first day that is kept of those that are there: this many days before today. A host's clock that is set far ahead by mistake must
     not make all of them too old at once, so today is at most the day after the newest of the other days."""
     newest = max((day for day in there if day < today), default=today)
     return later(min(today, later(newest, 1)), -days)

@@ -9,7 +9,7 @@ from keeper.loop import Loop
 from keeper.ntp import ASKED, Answer, answer, request, unix_of
 from keeper.sockets import is_running, sockets
 
-SILENT = 3  # so many times without an answer, and the link is deaf
+SILENT = 3  # this many times without an answer, and the link is deaf
 WAIT = 0.25  # for one answer, in seconds
 SOONER = 0.1  # for one answer of a link in whose queue datagrams wait, in seconds
 STARVED = 5.0  # for so long silence doesn't count while the server waits for a processor, or works off a flood, in seconds

@@ -2,7 +2,7 @@
 
 A definition is a text that starts at the beginning of a line with its declaration (`pub`, `abbrev`, `record`, `data` ..) and goes
 on up to the next declaration. Names are looked up by the imports of their file. Rust's own types (`specs.declared`) and the names of
-the toolchain's library are told apart from definitions of this repository. A name that a clause binds, as a parameter, a field or a
+the toolchain's library are distinguished from definitions of this repository. A name that a clause binds, as a parameter, a field or a
 variable, stands for no definition there. What a tactic or a field's projection names isn't seen.
 """
 

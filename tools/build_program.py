@@ -9,14 +9,14 @@ the toolchain's own means. The crates with the longest chain of others above the
 nothing of a proof is. The program itself is built last, in the checkout.
 
 A lane needs 5 GB of memory. Lanes lie in $XDG_CACHE_HOME/radio_ntpd (or ~/.cache/radio_ntpd), and what was proved there is kept, so
-a build that was stopped goes on where it was. Needs `rt` and Python 3.11.
+a build that was stopped goes on where it was. The toolchain shares libraries by a folder beside its own. Who may not write there
+has one lane, the checkout itself. Needs `rt` and Python 3.11.
 
 Exit status: 0 built, 69 no toolchain, 70 a crate isn't proved or the disk failed, 130 stopped by a signal.
 """
 
 import contextlib
 import fcntl
-import hashlib
 import os
 import shutil
 import signal
@@ -26,35 +26,11 @@ import threading
 import time
 from pathlib import Path
 
-from crate_graph import PROGRAM, SOURCES, chains, count_lines, read_crates
+from build_lanes import cache_of, make_lanes, shares_libraries
+from crate_graph import PROGRAM, chains, count_lines, read_crates
 
-LANE_BYTES = 5_000_000_000
 MOST_JOBS = 4
 NO_TOOLCHAIN, FAILED, STOPPED = 69, 70, 130
-
-
-def free_bytes() -> int:
-    """Returns the memory that is free, in bytes; where the host doesn't say, that of one lane."""
-    with contextlib.suppress(OSError):
-        for line in Path("/proc/meminfo").read_text(encoding="ascii").splitlines():
-            if line.startswith("MemAvailable:"):
-                return 1024 * int(line.split()[1])
-    return LANE_BYTES
-
-
-def copy_sources(top: Path, lane: Path) -> None:
-    """Gives a lane the checkout's sources, and leaves what was built there."""
-    for name in ("crates.txt", "HANDLES"):
-        lane.mkdir(parents=True, exist_ok=True)
-        shutil.copyfile(top / name, lane / name)
-    for crate in (top / "crates").iterdir():
-        for part in SOURCES:
-            shutil.rmtree(lane / "crates" / crate.name / part, ignore_errors=True)
-            if (crate / part).is_dir():
-                shutil.copytree(crate / part, lane / "crates" / crate.name / part)
-    for crate in (lane / "crates").iterdir():
-        if not (top / "crates" / crate.name).is_dir():
-            shutil.rmtree(crate)
 
 
 def as_time(seconds: float) -> str:
@@ -65,8 +41,8 @@ def as_time(seconds: float) -> str:
 class Build:
     """One build: what is done, what runs, and what is left."""
 
-    def __init__(self, top: Path, logs: Path, crates: dict[str, list[str]], processors: int):
-        self.top, self.logs, self.crates, self.processors = top, logs, crates, processors
+    def __init__(self, top: Path, logs: Path, crates: dict[str, list[str]], processors: int, lanes: int):
+        self.top, self.logs, self.crates, self.processors, self.lanes = top, logs, crates, processors, lanes
         self.lines = {name: count_lines(top / "crates" / name) for name in crates}
         self.chain = chains(crates, self.lines)
         self.done: set[str] = set()
@@ -86,13 +62,14 @@ class Build:
         return max(ready, key=self.chain.__getitem__, default=None)
 
     def jobs(self) -> int:
-        """Returns how many jobs the next crate gets: the processors that nothing else uses or waits for."""
+        """Returns how many jobs the next crate gets: the processors that nothing else uses, shared with what can start beside it."""
         idle = self.processors - sum(jobs for _, jobs in self.running.values())
         waiting = sum(
             name not in self.done and name not in self.running and all(it in self.done for it in self.crates[name])
             for name in self.crates
         )
-        return max(1, min(MOST_JOBS, idle // max(1, waiting)))
+        beside = min(waiting, self.lanes - len(self.running))
+        return max(1, min(MOST_JOBS, idle // max(1, beside)))
 
     def start(self, name: str, lane: Path) -> subprocess.Popen:
         """Starts the build of a crate in a lane, in a process group of its own; the program's runs in the checkout."""
@@ -173,17 +150,16 @@ class Build:
         print("\r\x1b[K", end="", file=sys.stderr, flush=True)
 
 
-def build(top: Path, cache: Path) -> int:
-    """Builds the program of a checkout, and returns an exit status."""
+def build(top: Path, cache: Path, is_shared: bool) -> int:
+    """Builds the program of a checkout, and returns an exit status. `is_shared`: whether lanes can take libraries from each other."""
+    print("radio_ntpd: proving and building the program; README.md says how long that takes.", file=sys.stderr)
+    print("Meanwhile, in crates/radio_ntpd, 'rt try -- drill --seed 7' runs it unproved, in two minutes.", file=sys.stderr, flush=True)
     crates = read_crates(top)
     processors = len(os.sched_getaffinity(0))
-    count = max(1, min(processors, free_bytes() // LANE_BYTES))
-    lanes = [cache / f"lane-{number}" for number in range(1, count + 1)]
     logs = cache / "logs"
     logs.mkdir(parents=True, exist_ok=True)
-    for lane in lanes:
-        copy_sources(top, lane)
-    run = Build(top, logs, crates, processors)
+    lanes = make_lanes(top, cache, processors, is_shared)
+    run = Build(top, logs, crates, processors, len(lanes))
     signal.signal(signal.SIGTERM, lambda *_: run.stop())
     signal.signal(signal.SIGINT, lambda *_: run.stop())
     workers = [threading.Thread(target=run.work, args=(lane,)) for lane in lanes]
@@ -212,13 +188,14 @@ def is_newer(program: Path, since: float) -> bool:
 
 def main() -> int:
     """Builds the program, one build of a checkout at a time."""
-    if shutil.which("rt") is None:
-        print("radio_ntpd: `rt` is not on PATH: install the Rattle kit that README.md names, and add its bin folder to PATH", file=sys.stderr)
+    rt = shutil.which("rt")
+    if rt is None:
+        wanted = "install the Rattle kit that README.md names, and add its bin folder to PATH"
+        print(f"radio_ntpd: the program is not built yet, and `rt` is not on PATH: {wanted}", file=sys.stderr)
         return NO_TOOLCHAIN
     top = Path(__file__).resolve().parent.parent
-    cache = Path(os.environ.get("XDG_CACHE_HOME") or Path.home() / ".cache") / "radio_ntpd" / hashlib.sha256(bytes(top)).hexdigest()[:16]
     try:
-        cache.mkdir(parents=True, exist_ok=True)
+        cache = cache_of(top)
         with open(cache / "lock", "w", encoding="ascii") as lock:
             try:
                 fcntl.flock(lock, fcntl.LOCK_EX | fcntl.LOCK_NB)
@@ -228,7 +205,7 @@ def main() -> int:
                 fcntl.flock(lock, fcntl.LOCK_EX)
                 if is_newer(top / "crates" / PROGRAM / "out" / PROGRAM, since):
                     return 0
-            return build(top, cache)
+            return build(top, cache, shares_libraries(rt))
     except OSError as error:
         print(f"radio_ntpd: the build failed: {error.filename or 'the host'}: {error.strerror}", file=sys.stderr)
         return FAILED

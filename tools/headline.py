@@ -8,9 +8,9 @@ are taken on their tests. A part stands between one of these comments, as `<!--c
 
     quote CRATE.FILE.NAME [PART ..]   the definition, or of it these fields, or the equations of these constructors; then its names
     clause PATH FUNCTION CLAUSE       a clause of source, by its path below crates/; then its names
-    read CRATE.FILE ..                the definitions of these files that are to be read
+    read CRATE.FILE ..                the definitions of these files that are to be read, each file after those that it needs
     taken CRATE.FILE.NAME ..          definitions that are taken on their tests, and how much they lead to
-    beside CRATE.FILE.NAME ..         definitions that the headline does not lead to, and how much they lead to besides
+    beside CRATE.FILE.NAME ..         definitions that the headline does not lead to, and how much they lead to that it does not
     counts                            a table of all of it
 
 The names of a quote that were linked since the last heading are not linked again. Of a record that is quoted all fields have to be
@@ -55,7 +55,7 @@ class Maker:
     """Makes the parts of a page, one after another."""
 
     def __init__(self, specs: Specs, text: str, start: str = HEADLINE):
-        """Takes the page as it is. It raises Missing where a file of which something is to be read is not listed there."""
+        """Takes the page as it is. It raises Missing where `look_up_lists` does."""
         self.specs = specs
         # The lines that were quoted of each definition, and what was linked since the last heading.
         self.quoted: dict[Name, set[str]] = {}
@@ -63,10 +63,19 @@ class Maker:
         asked = [(kind, words.split()) for kind, words in PART.findall(text)]
         taken = [find_definition(specs, word).name for kind, words in asked if kind == "taken" for word in words]
         self.list = ReadingList(specs, find_definition(specs, start).name, taken)
-        listed = {word for kind, words in asked if kind == "read" for word in words}
+        self.beside = [find_definition(specs, word).name for kind, words in asked if kind == "beside" for word in words]
+        self.look_up_lists([word for kind, words in asked if kind == "read" for word in words])
+
+    def look_up_lists(self, listed: list[str]) -> None:
+        """Looks whether each file of which something is to be read is listed, and after those that it needs. It raises Missing."""
+        places = {word: place for place, word in enumerate(listed)}
         for name in self.list.to_read:
-            if f"{name.crate}.{name.file}" not in listed:
+            if f"{name.crate}.{name.file}" not in places:
                 raise Missing(f"no list of {name.crate}.{name.file}, of which {name.name} is to be read")
+        for name, one in self.list.to_read.items():
+            for need in sorted(one.uses & self.list.to_read.keys()):
+                if places[f"{need.crate}.{need.file}"] > places[f"{name.crate}.{name.file}"]:
+                    raise Missing(f"{name.crate}.{name.file} is listed before {need.crate}.{need.file}, which {name.name} needs")
 
     def make(self, kind: str, words: list[str]) -> list[str]:
         """Returns the lines of a part. It raises Missing."""
@@ -136,13 +145,19 @@ class Maker:
 
     def count(self, words: list[str]) -> list[str]:
         """Makes the table of all of it."""
-        rows = [f"| {what} | {size.definitions} | {size.lines} | {size.files} |" for what, size in self.list.sizes().items()]
+        sizes = self.list.sizes() | self.size_beside()
+        rows = [f"| {what} | {size.definitions} | {size.lines} | {size.files} |" for what, size in sizes.items()]
         return ["| definitions | how many | lines | files |", "|---|---|---|---|", *rows]
 
+    def size_beside(self) -> dict[str, Size]:
+        """Measures what stands beside the headline, where anything does."""
+        return {"beside the headline": size_of(self.list.led_to(self.beside, self.list.whole))} if self.beside else {}
+
     def sizes(self) -> dict[str, Size]:
-        """Measures what was quoted, and what there is to read."""
+        """Measures what was quoted, what there is to read, and what stands beside the headline."""
         files = {(name.crate, name.file) for name in self.quoted}
-        return {"quoted": Size(len(self.quoted), sum(map(len, self.quoted.values())), len(files)), **self.list.sizes()}
+        quoted = Size(len(self.quoted), sum(map(len, self.quoted.values())), len(files))
+        return {"quoted": quoted, **self.list.sizes(), **self.size_beside()}
 
 
 def parts_of(text: str) -> Iterator[tuple[str, list[str], str]]:

@@ -73,14 +73,21 @@ def with_offsets(entries: list[Entry]) -> list[tuple[Entry, float]]:
 
 
 def line_through(points: list[tuple[float, float]]) -> tuple[float, float]:
-    """The level and the slope of a line that outliers don't bend, at the moment 0: medians of the first and of the last third."""
+    """The level and the slope of a line that outliers don't bend, at the moment 0: medians of the first and of the last third. A second
+    time they are those of what is left of the first line, since a median of values that rise is one value, with its jitter."""
     points = sorted(points)
     third = max(1, len(points) // 3)
     early, late = points[:third], points[-third:]
     apart = statistics.median(at for at, _ in late) - statistics.median(at for at, _ in early)
-    rise = statistics.median(value for _, value in late) - statistics.median(value for _, value in early)
-    slope = rise / apart if apart > 0 else 0.0
-    return statistics.median(value - slope * at for at, value in points), slope
+    slope = 0.0
+    for _ in range(2 if apart > 0 else 0):
+        slope += (median_off(late, slope) - median_off(early, slope)) / apart
+    return median_off(points, slope), slope
+
+
+def median_off(points: list[tuple[float, float]], slope: float) -> float:
+    """The median distance of points from a line through zero."""
+    return statistics.median(value - slope * at for at, value in points)
 
 
 def run_of(entries: list[Entry]) -> Run | None:

@@ -1,8 +1,8 @@
 #!/usr/bin/env python3
 """Draws pictures of journals, as `serve`, `replay`, `migrate` or `decode` writes them, and of a radio's log.
 
-    tools/plot_journal.py [--station FILE] [--reception PNG] [--offsets PNG] [--day PNG] JOURNAL...
-    tools/plot_journal.py --phase PNG LOG
+    tools/plot_journal.py [--station FILE] [--reception SVG] [--offsets SVG] [--day SVG] JOURNAL...
+    tools/plot_journal.py --phase SVG LOG
 
 --reception  how each feed was received over the run, by kind of entry and by the rule that a minute broke
 --offsets    how far each feed's time was off the line through all of them, its spread, and the rate of the host's counter
@@ -13,16 +13,15 @@ With --station feeds have the names of their plans or servers, and the bound is 
 hour and a band in which eight tenths lie, a short one its points. Of --reception and --offsets several journals are taken as one run.
 Lines that are no entries are passed over.
 
-It needs matplotlib (Debian's python3-matplotlib). It exits with 1 where a file can't be read, has no entry, or can't be written, and where
-matplotlib isn't there, and with 2 for wrong words.
+It exits with 1 where a file can't be read, has no entry, or can't be written, and with 2 for invalid arguments.
 """
 
 import argparse
-import importlib.util
 import pathlib
 import sys
 import tomllib
 
+import plots
 from journal_text import Run, line_through, read_journal, read_station, run_of, station_of, reported_each_minute
 
 FEEDERS = pathlib.Path(__file__).resolve().parent.parent / "feeders"
@@ -56,10 +55,15 @@ def phases_of(log: str) -> list[tuple[int, float, float]]:
     return [(at, (due := phase - level - slope * at) / 1000 + (at - put) / 1000, due / 1000) for (at, phase), (_, put) in zip(phases, starts)]
 
 
-def draw(words: argparse.Namespace, plots) -> None:
+def write(name: str, picture: str) -> None:
+    """Writes a picture into its file."""
+    pathlib.Path(name).write_text(picture, encoding="utf-8")
+
+
+def draw(words: argparse.Namespace) -> None:
     """Draws what was asked for."""
     if words.phase:
-        plots.phase(phases_of(words.files[0]), MOST, words.phase)
+        write(words.phase, plots.phase(phases_of(words.files[0]), MOST))
     if not (words.reception or words.offsets or words.day):
         return
     journals = [read_journal(name) for name in words.files]
@@ -68,13 +72,13 @@ def draw(words: argparse.Namespace, plots) -> None:
         raise Fault(f"{words.files[0]} has no entry")
     station = read_station(words.station) if words.station else station_of(entries)
     if words.reception:
-        plots.reception(entries, station, words.reception)
+        write(words.reception, plots.reception(entries, station))
     if words.offsets:
-        plots.offsets(has_time(run_of(entries), words.files[0]), station, words.offsets)
+        write(words.offsets, plots.offsets(has_time(run_of(entries), words.files[0]), station))
     if words.day:
         runs = [run for journal in journals if (run := run_of(journal))]
         has_time(runs[0] if runs else None, words.files[0])
-        plots.day(runs, [reported_each_minute(run, station) for run in runs], station, words.day)
+        write(words.day, plots.day(runs, [reported_each_minute(run, station) for run in runs], station))
 
 
 def has_time(run: Run | None, name: str) -> Run:
@@ -86,11 +90,11 @@ def has_time(run: Run | None, name: str) -> Run:
 def read_words() -> argparse.Namespace:
     words = argparse.ArgumentParser(description=__doc__, formatter_class=argparse.RawDescriptionHelpFormatter)
     words.add_argument("--station")
-    pictures = [words.add_argument(f"--{name}", metavar="PNG") for name in ("reception", "offsets", "day", "phase")]
+    pictures = [words.add_argument(f"--{name}", metavar="SVG") for name in ("reception", "offsets", "day", "phase")]
     words.add_argument("files", nargs="+", metavar="FILE")
     asked = words.parse_args()
     if not any(getattr(asked, picture.dest) for picture in pictures):
-        words.error("say which picture, as --offsets offsets.png")
+        words.error("say which picture, as --offsets offsets.svg")
     if asked.phase and (len(asked.files) > 1 or asked.reception or asked.offsets or asked.day):
         words.error("--phase goes with one log and no other picture")
     return asked
@@ -98,17 +102,12 @@ def read_words() -> argparse.Namespace:
 
 def main() -> int:
     words = read_words()
-    if not importlib.util.find_spec("matplotlib"):
-        print("plot_journal.py needs matplotlib (Debian's python3-matplotlib)", file=sys.stderr)
-        return 1
     try:
-        import plots
-
-        draw(words, plots)
+        draw(words)
     except tomllib.TOMLDecodeError as fault:
         print(f"{words.station}: {fault}", file=sys.stderr)
         return 1
-    except (OSError, Fault, ImportError) as fault:
+    except (OSError, Fault) as fault:
         print(f"plot_journal.py: {fault}", file=sys.stderr)
         return 1
     return 0

@@ -59,5 +59,5 @@ class ReadingList:
         return {
             "to read": size_of(list(self.to_read.values())),
             "taken on their tests": size_of([one for name, one in self.whole.items() if name not in self.to_read]),
-            "all": size_of(list(self.whole.values())),
+            "both": size_of(list(self.whole.values())),
         }

@@ -20,6 +20,6 @@ awk '
             if (!all[feed]) continue
             line = sprintf("feed %d entries %d", feed, all[feed])
             for (i = 1; i <= kinds; i++) if (count[feed, name[i]]) line = line sprintf(", %s %d", name[i], count[feed, name[i]])
-            printf "%s; %.1f of a hundred tell the time\n", line, 100 * good[feed] / all[feed]
+            printf "%s; %.1f of a hundred give the time\n", line, 100 * good[feed] / all[feed]
         }
     }' "$@"

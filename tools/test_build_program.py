@@ -10,10 +10,12 @@ import tempfile
 import time
 import unittest
 from pathlib import Path
+from unittest import mock
 
 HERE = Path(__file__).resolve().parent
 sys.path.insert(0, str(HERE))
 
+import build_lanes  # noqa: E402
 import build_program  # noqa: E402
 import crate_graph  # noqa: E402
 
@@ -46,18 +48,18 @@ class Builds(unittest.TestCase):
         (top / "crates.txt").write_text(CRATES)
         (top / "HANDLES").write_text("Handles allowed: none.\n")
         (top / "tools").mkdir()
-        for name in ("build_program.py", "crate_graph.py"):
+        for name in ("build_program.py", "build_lanes.py", "crate_graph.py"):
             shutil.copyfile(HERE / name, top / "tools" / name)
         self.words = [sys.executable, "-B", str(top / "tools" / "build_program.py")]
-        (self.room / "bin").mkdir()
-        rt = self.room / "bin" / "rt"
+        (self.room / "kit" / "bin").mkdir(parents=True)
+        rt = self.room / "kit" / "bin" / "rt"
         rt.write_text(TOOLCHAIN)
         rt.chmod(0o755)
         self.notes = self.room / "notes"
         self.notes.write_text("")
         self.about = {
             **os.environ,
-            "PATH": f"{self.room}/bin:{os.environ['PATH']}",
+            "PATH": f"{self.room}/kit/bin:{os.environ['PATH']}",
             "NOTES": str(self.notes),
             "XDG_CACHE_HOME": str(self.room / "cache"),
         }
@@ -81,7 +83,7 @@ class Builds(unittest.TestCase):
 
     def test_the_longest_chain_comes_first(self):
         top = self.room / "top"
-        build = build_program.Build(top, self.room, crate_graph.read_crates(top), 2)
+        build = build_program.Build(top, self.room, crate_graph.read_crates(top), 2, 2)
         self.assertEqual(build.next_crate(), "low")
         build.done.add("low")
         self.assertEqual(build.next_crate(), "right")
@@ -94,11 +96,47 @@ class Builds(unittest.TestCase):
         self.assertNotIn("radio_ntpd", self.noted("begin"))
 
     def test_without_a_toolchain_it_says_so(self):
-        (self.room / "bin" / "rt").unlink()
-        done = subprocess.run(self.words, env={**self.about, "PATH": f"{self.room}/bin"}, capture_output=True, text=True, timeout=60)
+        (self.room / "kit" / "bin" / "rt").unlink()
+        done = subprocess.run(self.words, env={**self.about, "PATH": f"{self.room}/kit/bin"}, capture_output=True, text=True, timeout=60)
         self.assertEqual(done.returncode, 69)
         self.assertEqual(len(done.stderr.splitlines()), 1)
         self.assertIn("`rt` is not on PATH", done.stderr)
+
+    def test_the_announcement_comes_only_where_a_build_begins(self):
+        self.assertIn("proving and building", self.run_build().stderr)
+        (self.room / "kit" / "bin" / "rt").unlink()
+        self.assertNotIn("proving", self.run_build(PATH=f"{self.room}/kit/bin").stderr)
+
+    def test_where_libraries_are_not_shared_the_checkout_is_the_only_lane(self):
+        # A file in the place of the toolchain's folder for what it shares.
+        (self.room / "rattle-kept").write_text("")
+        done = self.run_build()
+        self.assertEqual(done.returncode, 0, done.stderr)
+        self.assertIn("one crate at a time", done.stderr)
+        lines = [line.split() for line in self.notes.read_text().splitlines()]
+        self.assertEqual([words[0] for words in lines], ["begin", "end"] * 4)
+        self.assertEqual(list(self.room.glob("cache/radio_ntpd/*/lane-*")), [])
+        processors = str(max(1, min(4, len(os.sched_getaffinity(0)))))
+        self.assertEqual({words[-1] for words in lines if words[0] == "begin"}, {processors})
+
+    def test_where_libraries_are_shared(self):
+        kit = self.room / "kit"
+        rt = str(kit / "bin" / "rt")
+        self.assertTrue(build_lanes.shares_libraries(rt))
+        (self.room / "rattle-kept").mkdir()
+        self.assertTrue(build_lanes.shares_libraries(rt))
+        with mock.patch("os.geteuid", return_value=os.geteuid() + 1):
+            self.assertFalse(build_lanes.shares_libraries(rt))
+        (self.room / "rattle-kept").rmdir()
+        with mock.patch("os.access", return_value=False):
+            self.assertFalse(build_lanes.shares_libraries(rt))
+
+    def test_a_user_without_a_folder_for_lanes_is_told_what_to_set(self):
+        (self.room / "taken").write_text("")
+        done = self.run_build(XDG_CACHE_HOME=str(self.room / "taken"))
+        self.assertEqual(done.returncode, 70)
+        self.assertEqual(len(done.stderr.splitlines()), 1)
+        self.assertIn("set XDG_CACHE_HOME", done.stderr)
 
     def start_slow(self):
         child = subprocess.Popen(self.words, env={**self.about, "SLOW": "left right"}, stderr=subprocess.PIPE, text=True)
@@ -117,7 +155,7 @@ class Builds(unittest.TestCase):
             said = child.stderr.read()
             self.assertEqual(child.wait(20), 130)
             self.assertIn("what is proved is kept", said)
-            left = subprocess.run(["pgrep", "-f", f"{self.room}/bin/rt"], capture_output=True, text=True)
+            left = subprocess.run(["pgrep", "-f", f"{self.room}/kit/bin/rt"], capture_output=True, text=True)
             self.assertEqual(left.stdout, "")
 
     def test_a_second_build_waits_and_says_so(self):

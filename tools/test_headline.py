@@ -68,7 +68,7 @@ pub fn serve(turns: u8) -> u8
 #[test]
 fn it_is_served() {}
 """
-LISTS = "<!--read high.Head low.Low-->\n<!--end-->\n"
+LISTS = "<!--read low.Low high.Head-->\n<!--end-->\n"
 
 
 class Made(unittest.TestCase):
@@ -145,19 +145,23 @@ class Made(unittest.TestCase):
         made, _ = self.make("", LISTS + "\n")
         self.assertIn("- `low` `Low`, 12 lines: [`Turn`](../crates/low/specs/Low.antt#L2), [`count_of`]", made)
         self.refused("no list of low.Low", "", "<!--read high.Head-->\n<!--end-->\n")
-        self.refused("nothing of low.Gone", "", "<!--read high.Head low.Low low.Gone-->\n<!--end-->\n")
+        self.refused("nothing of low.Gone", "", "<!--read low.Low high.Head low.Gone-->\n<!--end-->\n")
+        self.refused("high.Head is listed before low.Low, which IsServed needs", "", "<!--read high.Head low.Low-->\n<!--end-->\n")
 
     def test_what_is_taken_is_not_to_be_read(self):
         made, maker = self.make("<!--taken low.Low.count_of-->\n<!--end-->\n")
         self.assertIn("[`count_of`](../crates/low/specs/Low.antt#L8): 2 definitions, 8 lines in 1 files.", made)
         sizes = {what: (size.definitions, size.lines) for what, size in maker.sizes().items()}
-        self.assertEqual(sizes, {"quoted": (0, 0), "to read": (3, 13), "taken on their tests": (2, 8), "all": (5, 21)})
+        self.assertEqual(sizes, {"quoted": (0, 0), "to read": (3, 13), "taken on their tests": (2, 8), "both": (5, 21)})
 
     def test_what_stands_beside_the_headline_is_measured(self):
         self.put("high/specs/Run.antt", "use Rattle.high.specs.Head.{IsServed}\nabbrev pub Runs : Type 0\nRuns = IsServed\n")
         made, maker = self.make("<!--beside high.Run.Runs-->\n<!--end-->\n")
         self.assertIn("[`Runs`](../crates/high/specs/Run.antt#L2): 1 definitions, 2 lines in 1 files more.", made)
-        self.assertEqual(maker.sizes()["all"].definitions, 5)
+        sizes = {what: size.definitions for what, size in maker.sizes().items()}
+        self.assertEqual(sizes, {"quoted": 0, "to read": 5, "taken on their tests": 0, "both": 5, "beside the headline": 1})
+        counts, _ = self.make("<!--counts-->\n<!--end-->\n<!--beside high.Run.Runs-->\n<!--end-->\n")
+        self.assertIn("| both | 5 | 21 | 2 |\n| beside the headline | 1 | 2 | 1 |\n", counts)
 
     def test_links_get_their_lines(self):
         made, _ = self.make("See [`table`](../crates/low/specs/Low.antt) and [`Turn`](../crates/low/specs/Low.antt#L99).\n")

@@ -1,20 +1,26 @@
 #!/usr/bin/env python3
-"""Tests of what plot_journal.py reads and, where matplotlib is there, of the pictures that it draws.
+"""Tests of what plot_journal.py reads, and of the pictures that it draws.
 
     tools/test_plot_journal.py
 """
 
+import math
 import pathlib
-import struct
+import random
 import subprocess
 import sys
 import tempfile
 import unittest
+import xml.etree.ElementTree
 
 HERE = pathlib.Path(__file__).resolve().parent
 sys.path.insert(0, str(HERE))
 
 from journal_text import due, line_through, read_entry, read_station, run_of, station_of, reported_each_minute, unix_of  # noqa: E402
+from plots import scale_of, shade, spread_of  # noqa: E402
+from svg_chart import Band, Bar, Line, Panel, log_axis, picture, round_axis, utc_axis  # noqa: E402
+
+SVG = "{http://www.w3.org/2000/svg}"
 
 NOON = 3_976_257_600  # 2026-01-01 12:00 UTC, in seconds since 1900
 NOON_UNIX = 1_767_268_800
@@ -37,7 +43,7 @@ port = 123
 
 
 def verdicts(minutes, ppm=0.0, feed=0):
-    """The entries of a radio without jitter on a counter that gains so many parts in a million, which showed 2 s at noon."""
+    """The entries of a radio without jitter on a counter that gains a number of parts in a million, which showed 2 s at noon."""
     return [read_entry(f"{feed} {2_000_000 + round(60_000_000 * minute * (1 + ppm * 1e-6))} verdict {NOON + 60 * minute} 0") for minute in minutes]
 
 
@@ -69,6 +75,13 @@ class Reading(unittest.TestCase):
         self.assertAlmostEqual(level, 3.0, delta=1)
         self.assertAlmostEqual(slope, 0.5, delta=0.01)
 
+    def test_a_line_through_values_that_rise(self):
+        """A day with 1 ms of jitter on a counter that is 5 ppm off: the slope is known within a third of a millisecond a day."""
+        for seed in range(10):
+            chance = random.Random(seed)
+            _, slope = line_through([(60.0 * minute, 5e-6 * 60 * minute + chance.uniform(-1e-3, 1e-3)) for minute in range(1440)])
+            self.assertAlmostEqual(slope, 5e-6, delta=4e-9)
+
     def test_a_run(self):
         run = run_of(verdicts(range(60), 50))
         self.assertAlmostEqual(run.rate, -50e-6, delta=1e-8)
@@ -90,43 +103,95 @@ class Reading(unittest.TestCase):
         self.assertFalse(bounded[71].has_time)
 
 
+class Charts(unittest.TestCase):
+    """What svg_chart.py makes of values."""
+
+    def test_round_axes(self):
+        for values, has_zero, said in (
+            ([0.0, 24.0], True, ["0", "5", "10", "15", "20"]),
+            ([-1.0, 1.0], False, ["-1.0", "-0.5", "0.0", "0.5", "1.0"]),
+            ([0.012, 0.038], False, ["0.015", "0.020", "0.025", "0.030", "0.035"]),
+            ([], False, ["0.0", "0.2", "0.4", "0.6", "0.8", "1.0"]),
+        ):
+            with self.subTest(values=values):
+                axis = round_axis(values, has_zero=has_zero)
+                self.assertEqual([letters for _, letters in axis.ticks], said)
+                self.assertTrue(all(axis.low <= value <= axis.high for value in values))
+        flat = round_axis([7.0, 7.0])
+        self.assertTrue(flat.low < 7 < flat.high)
+
+    def test_places_on_an_axis(self):
+        self.assertEqual([log_axis(1, 100, (1, 10, 1000)).part(value) for value in (0.1, 1, 10, 100, 1e9)], [0, 0, 0.5, 1, 1])
+        self.assertEqual([letters for _, letters in log_axis(4.5, 60, (5, 10, 100)).ticks], ["5", "10"])
+
+    def test_hours_of_utc(self):
+        axis = utc_axis(NOON_UNIX - 60, NOON_UNIX + 24 * 3600)
+        self.assertEqual([letters for _, letters in axis.ticks], ["12:00", "15:00", "18:00", "21:00", "2026-01-02", "03:00", "06:00", "09:00", "12:00"])
+
+    def test_shapes(self):
+        """A line is broken where a value isn't a number; a bar lies where its values say; letters are escaped."""
+        nan = math.nan
+        panel = Panel("a < b\nc", 100, round_axis([0.0, 1.0]), key={"one & two": "#123456"})
+        panel.shapes = [Line([(0, 0), (1, 1), (2, nan), (3, 1)], "#000001"), Band([0, 1, 2, 3, 4], [0, 0, nan, 0, 0], [1, 1, nan, 1, 1], "#000002"), Bar(1, 3, 0, 0.5, "#000003")]
+        drawn = xml.etree.ElementTree.fromstring(picture([panel], round_axis([0.0, 4.0], has_zero=True), "s", "over it"))
+        self.assertEqual(len(drawn.findall(f"{SVG}polyline")), 1)
+        self.assertEqual(len(drawn.findall(f"{SVG}circle")), 3)
+        self.assertEqual(len(drawn.findall(f"{SVG}polygon")), 2)
+        bar = next(one for one in drawn.findall(f"{SVG}rect") if one.get("fill") == "#000003")
+        self.assertAlmostEqual(float(bar.get("width")), 2 / 4.16 * 680, delta=0.2)
+        self.assertAlmostEqual(float(bar.get("height")), 0.5 / 1.04 * 100, delta=0.2)
+        said = [one.text for one in drawn.iter(f"{SVG}tspan")]
+        self.assertTrue({"a < b", "c", "one & two", "s", "over it"} <= set(said))
+
+    def test_medians_and_bands(self):
+        points = [(place / 10, float(place % 10)) for place in range(20)] + [(5.5, 1.0)]
+        spread = spread_of(points, 1.0)
+        self.assertEqual((spread.at[:2], spread.low[:2], spread.median[:2], spread.high[:2]), ([0.5, 1.5], [1.0, 1.0], [4.5, 4.5], [8.0, 8.0]))
+        self.assertEqual([math.isfinite(value) for value in spread.median], [True, True, False, True])
+        self.assertEqual([scale_of(hours * 3_600_000_000).name[:4] for hours in (1, 24, 100)], ["minu", "hour", "days"])
+        self.assertEqual([shade(((0, 0, 0), (100, 0, 0), (100, 100, 0)), part) for part in (0, 0.25, 0.5, 1)], ["#000000", "#320000", "#640000", "#646400"])
+
+
 class Pictures(unittest.TestCase):
     def draw(self, *words):
-        for python in (sys.executable, "/usr/bin/python3"):
-            done = subprocess.run([python, "-B", HERE / "plot_journal.py", *words], capture_output=True, timeout=300)
-            if b"needs matplotlib" not in done.stderr:
-                return done
-        self.skipTest("matplotlib isn't installed")
+        return subprocess.run([sys.executable, "-B", HERE / "plot_journal.py", *words], capture_output=True, timeout=300)
+
+    def read(self, name, colour):
+        """How many shapes of this colour a picture has."""
+        drawn = xml.etree.ElementTree.parse(name).getroot()
+        return sum(colour in (one.get("fill"), one.get("stroke")) for one in drawn)
 
     def test_each_is_drawn(self):
         with tempfile.TemporaryDirectory() as folder:
-            for name, hours in (("short", 1), ("long", 5)):
+            for name, hours, green in (("short", 1, 13), ("long", 5, 21)):
                 journal = pathlib.Path(folder, name)
                 lines = [f"j2 {number} 920 {entry.feed} {entry.at} {entry.kind} {' '.join(entry.fields)}\n" for number, entry in enumerate(verdicts(range(60 * hours)), 1)]
                 journal.write_text("".join(lines) + "0 4000000000 refused 3\npage 5\nstatus 0\n")
-                pictures = [f"{folder}/{name}.{picture}.png" for picture in ("reception", "offsets", "day")]
+                pictures = [f"{folder}/{name}.{picture}.svg" for picture in ("reception", "offsets", "day")]
                 done = self.draw("--reception", pictures[0], "--offsets", pictures[1], "--day", pictures[2], journal)
                 self.assertEqual((done.returncode, done.stderr), (0, b""))
-                for picture in pictures:
-                    head = pathlib.Path(picture).read_bytes()[:24]
-                    self.assertEqual(head[:8], b"\x89PNG\r\n\x1a\n")
-                    self.assertGreater(min(struct.unpack(">II", head[16:24])), 250)
+                # A bar for each five minutes or quarter of an hour with verdicts, and one in the key.
+                self.assertEqual(self.read(pictures[0], "#2a7f3f"), green)
+                self.assertGreater(self.read(pictures[1], "#1f5fa8"), 10)
+                # Without time up to the fourth verdict, then with it up to the end; and one of each colour in the key.
+                self.assertEqual([self.read(pictures[2], colour) for colour in ("#2a7f3f", "#c03030")], [2, 2])
 
     def test_a_phase(self):
         with tempfile.TemporaryDirectory() as folder:
-            done = self.draw("--phase", f"{folder}/phase.png", HERE.parent / "examples/radios/dcf77.log")
+            done = self.draw("--phase", f"{folder}/phase.svg", HERE.parent / "examples/radios/dcf77.log")
             self.assertEqual((done.returncode, done.stderr), (0, b""))
+            self.assertGreater(self.read(f"{folder}/phase.svg", "#1f5fa8"), 5)
 
     def test_what_cannot_be_drawn(self):
         with tempfile.TemporaryDirectory() as folder:
             refused = pathlib.Path(folder, "refused")
             refused.write_text("0 5 refused 3\n")
             for words, said in (
-                (("--offsets", "x.png", refused), b"has no entry that gives the time"),
-                (("--day", "x.png", refused), b"has no entry that gives the time"),
-                (("--reception", "x.png", HERE / "summary.sh"), b"has no entry"),
-                (("--phase", "x.png", HERE / "summary.sh"), b"has no marks that agree on a phase"),
-                (("--reception", f"{folder}/nosuch/x.png", refused), b"No such file or directory"),
+                (("--offsets", "x.svg", refused), b"has no entry that gives the time"),
+                (("--day", "x.svg", refused), b"has no entry that gives the time"),
+                (("--reception", "x.svg", HERE / "summary.sh"), b"has no entry"),
+                (("--phase", "x.svg", HERE / "summary.sh"), b"has no marks that agree on a phase"),
+                (("--reception", f"{folder}/nosuch/x.svg", refused), b"No such file or directory"),
             ):
                 with self.subTest(words=words):
                     done = self.draw(*words)

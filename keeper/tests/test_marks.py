@@ -20,7 +20,7 @@ def upside_down(marks):
 
 
 def pieces(marks, seconds=10):
-    """So many seconds from each seventh second on."""
+    """This many seconds from each seventh second on."""
     for first in range(10, 500, 7):
         yield [one for one in marks if first * 1_000_000 <= one[0] < (first + seconds) * 1_000_000]
 

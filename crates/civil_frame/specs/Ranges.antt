@@ -15,15 +15,15 @@ breaks_minute_range time = is_out_of 0 59 time.minute.ones (both_digits time.min
 abbrev pub breaks_hour_range : TimeOfDay → Bool
 breaks_hour_range time = is_out_of 0 23 time.hour.ones (both_digits time.hour)
 
--- the ones digit is above 9, or the day isn't 1 to 31
+-- the ones digit is above 9, or the day is not 1 to 31
 abbrev pub breaks_day_range : CivilTime → Bool
 breaks_day_range civil = is_out_of 1 31 civil.day.ones (both_digits civil.day)
 
--- the weekday is the number that is none in its plan: 0 in DCF77, 7 in MSF
+-- the weekday is the number that is invalid in its plan: 0 in DCF77, 7 in MSF
 abbrev pub breaks_weekday_range : CivilTime → Bool
 breaks_weekday_range civil = civil.weekday == civil.no_weekday
 
--- the ones digit is above 9, or the month isn't 1 to 12
+-- the ones digit is above 9, or the month is not 1 to 12
 abbrev pub breaks_month_range : CivilTime → Bool
 breaks_month_range civil = is_out_of 1 12 civil.month.ones (both_digits civil.month)
 

@@ -1,5 +1,5 @@
--- The absolute seconds of civil times. A clock that is some hours ahead of UTC shows at a second what a clock of UTC shows
--- so many hours later.
+-- The absolute seconds of civil times. A clock that is some hours ahead of UTC shows at a second what a clock of UTC shows that
+-- many hours later.
 use Rattle.std.specs.Prelude.{◌≡◌, ◌≢◌, ℕ, ◌+◌, ◌-◌, ◌*◌, ◌%◌, ◌<◌, ◌≤◌, Bool}
 use Rattle.tick_units.specs.declared.verdicts.Coded.{Coded}
 use Rattle.civil_minute.specs.Dates.{second_of}
@@ -10,12 +10,12 @@ use Rattle.civil_frame.specs.declared.civil_time.CivilTime.{CivilTime}
 unfoldable pub local_start : CivilTime → ℕ
 local_start civil = second_of (2000 + both_digits civil.year) (both_digits civil.month) (both_digits civil.day) (both_digits civil.time.hour) (both_digits civil.time.minute)
 
--- the absolute second at which the minute begins that is said
+-- the absolute second at which the said minute begins
 unfoldable pub minute_start : CivilTime → ℕ
 minute_start civil = local_start civil - 3600 * civil.hours_ahead
 
--- the second at which a clock of UTC shows what a clock of a zone shows at the minute, the zone being so many hours ahead
--- with summer time or without
+-- the second at which a clock of UTC shows what a clock of a zone shows at the minute. The zone is this many hours ahead, with
+-- summer time and without.
 abbrev pub local_second : (Bool → ℕ) → Coded → ℕ
 local_second hours_ahead c = c.minute + 3600 * hours_ahead c.summer
 
@@ -25,8 +25,8 @@ pub record IsInCentury (minute shown : ℕ) : Type 0 where
   pub from : 3155673600 ≤ shown
   pub below : shown < 6311433600
 
--- what a valid frame says is a whole minute from one second on and below another; a leap second that it announces ends no
--- earlier than the minute begins, and no later than 2100 does
+-- what a valid frame says is a whole minute, at least one second and below another. A leap second that it announces ends no
+-- earlier than the minute begins, and no later than 2100 begins.
 pub record IsDated (least bound : ℕ) (c : Coded) : Type 0 where
   pub whole : c.minute % 60 ≡ 0
   pub from : least ≤ c.minute

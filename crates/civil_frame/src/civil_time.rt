@@ -26,7 +26,7 @@ pub struct CivilTime {
     pub day: Number,
     /// Monday 1 to Saturday 6, and Sunday 7 or 0.
     pub weekday: u16,
-    /// The number that is no weekday in this code plan.
+    /// The number that is no valid weekday in this code plan.
     pub no_weekday: u16,
     pub time: TimeOfDay,
     /// How far the clock is ahead of UTC, in hours.
@@ -47,7 +47,7 @@ impl CivilTime {
             || breaks_year_range(self.year))
     }
 
-    // The second at which a clock of UTC shows what is said, where that is a minute of a civil date.
+    // The second at which a clock of UTC shows what is said, where it is a minute of a civil date.
     #[tactic(auto, unfolding(crate::specs::CivilDates::names_minute, crate::specs::CivilDates::is_in_range, crate::specs::Seconds::local_start))]
     fn local_start(&self) -> Option<u64>
         ensures value { result
@@ -63,7 +63,7 @@ impl CivilTime {
         }
     }
 
-    /// The absolute second at which the minute begins that is said, where that is a minute of a civil date.
+    /// The absolute second at which the said minute begins, where it is a minute of a civil date.
     pub fn minute_start(&self) -> Option<u64>
         ensures value { result
             ≡ (if names_minute self.now then Some (minute_start self.now) else None) }
@@ -87,7 +87,7 @@ impl CivilTime {
         self.is_in_range() && self.local_start().is_none()
     }
 
-    /// Whether the weekday isn't that of the date.
+    /// Whether the weekday is not that of the date.
     pub fn breaks_weekday(&self) -> bool
         ensures { result ≡ breaks_weekday self.now }
     {
@@ -98,7 +98,7 @@ impl CivilTime {
     }
 }
 
-/// The second at which a clock of UTC shows what a clock so many hours ahead of it shows at a minute.
+/// The second at which a clock of UTC shows what a clock this many hours ahead of it shows at a minute.
 pub fn local_second(c: &Coded, hours_ahead: u16) -> u64
     requires { c.now.minute < 2 ^ 63 }
     ensures { result ≡ c.now.minute + 3600 * hours_ahead }

@@ -22,21 +22,21 @@ impl TimeOfDay {
 }
 
 impl CivilTime {
-    /// Whether the ones digit is above 9, or the day isn't 1 to 31.
+    /// Whether the ones digit is above 9, or the day is not 1 to 31.
     pub fn breaks_day_range(&self) -> bool
         ensures { result ≡ breaks_day_range self.now }
     {
         self.day.is_out_of(1, 31)
     }
 
-    /// Whether the weekday is the number that is none.
+    /// Whether the weekday is the invalid number.
     pub fn breaks_weekday_range(&self) -> bool
         ensures { result ≡ breaks_weekday_range self.now }
     {
         self.weekday == self.no_weekday
     }
 
-    /// Whether the ones digit is above 9, or the month isn't 1 to 12.
+    /// Whether the ones digit is above 9, or the month is not 1 to 12.
     pub fn breaks_month_range(&self) -> bool
         ensures { result ≡ breaks_month_range self.now }
     {

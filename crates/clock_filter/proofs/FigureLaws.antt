@@ -21,7 +21,7 @@ fold-max-least : (n most : ℕ) (ns : List ℕ) → n ≤ most → n ≤ fold ma
 fold-max-least n most [] below = below
 fold-max-least n most (m ∷ ns) below = fold-max-least n (max most m) ns (omega arith)
 
--- the best sample isn't from before the cut, and the newest isn't older than it
+-- the best sample is not from before the cut, and the newest is not older than it
 timely-by : (cut : ℕ) (rate : ℤ) (held : List Taken) → All (λ x. cut ≤ x.at) held → IfSome (figures_by rate held) (IsTimely cut)
 timely-by cut rate [] all = tt
 timely-by cut rate (best ∷ others) all = record {
@@ -38,7 +38,7 @@ half-least n (pos zero) some least = let none : 0 / n ≡ 0 = div-eq_of_lt some 
 half-least n (pos (suc a)) some least = omega (arith, ints)
 half-least n (negsuc a) some least = absurd (omega (arith, ints))
 
--- the age of a stage whose sample is lawful, or that is empty
+-- the age of a stage whose sample is valid, or that is empty
 record IsAge (age : ℤ) : Type 0 where
   least : pos 0 ≤ℤ age
   most : age ≤ℤ pos (2 ^ 36)
@@ -98,7 +98,7 @@ between-rate (Some a) (Some b) = by_test (nat_lt (b.at - a.at) 30000000)
     by_test true = record { least = omega (arith, ints); most = omega (arith, ints) }
     by_test false = held-rate (floor_div ((b.sample.offset -ℤ a.sample.offset) *ℤ pos (10 ^ 6)) (b.at - a.at))
 
--- the figures of lawful samples
+-- the figures of valid samples
 measured-by : (rate : ℤ) (held : List Taken) → IsRate rate → AreLawful held → IfSome (figures_by rate held) IsMeasured
 measured-by rate [] bounded all = tt
 measured-by rate (best ∷ others) bounded all =

@@ -12,7 +12,7 @@ use Rattle.tick_units.specs.Units.{ceil_div}
 use Rattle.clock_filter.specs.Figures.{aged, staged}
 use Rattle.clock_filter.specs.declared.taken.Taken.{Taken}
 
--- what so many stages can add up to
+-- what this many stages can add up to
 pub record Within (stages : ℕ) (sum : ℤ) : Type 0 where
   pub least : pos (2 ^ (70 - stages)) ≤ℤ (sum +ℤ pos (2 ^ 70))
   pub most : (sum +ℤ pos (2 ^ (36 - stages))) ≤ℤ pos (2 ^ 36)

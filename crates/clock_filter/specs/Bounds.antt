@@ -1,4 +1,4 @@
--- What holds of the figures of any samples, and of lawful ones (no part of them negative, or as long as 2^34 s).
+-- What holds of the figures of any samples, and of valid ones (no part of them is negative, or as long as 2^34 s).
 use Rattle.std.specs.Prelude.{ℕ, ◌^◌, ◌≤◌, List, All, pos, ◌≤ℤ◌}
 use Rattle.tick_units.specs.Samples.{IsLawful, IsLength}
 use Rattle.clock_filter.specs.Rate.{IsRate}
@@ -13,7 +13,7 @@ pub record IsTimely (cut : ℕ) (f : Figures) : Type 0 where
 abbrev pub AreLawful : List Taken → Type 0
 AreLawful samples = All (λ x. IsLawful x.sample) samples
 
--- the figures of lawful samples
+-- the figures of valid samples
 pub record IsMeasured (f : Figures) : Type 0 where
   pub offset : IsLength f.offset
   pub delay : IsLength f.delay

@@ -1,5 +1,5 @@
--- How far a source may be from the truth at a moment (RFC 5905, section 11 and appendix A.5.5.2, the root distance). A short
--- has 65536 units. That a source farther than 1 s away, or of stratum 15, isn't fit is this project's own.
+-- How far a source may be from the truth at a moment (RFC 5905, section 11 and appendix A.5.5.2, the root distance). A short has
+-- 65536 units. It is this project's own rule that a source farther than 1 s away, or of stratum 15, is not fit.
 use Rattle.std.specs.Prelude.{ℕ, ◌-◌, ◌*◌, ◌^◌, Bool, ◌&&◌, nat_lt, ℤ, pos, ◌+ℤ◌, int_le}
 use Rattle.std.specs.Int.{int_max}
 use Rattle.tick_units.specs.Units.{phi, ceil_div, least_dispersion, root}
@@ -9,7 +9,8 @@ use Rattle.clock_filter.specs.declared.figures.Figures.{Figures}
 abbrev pub root_delay_of : Figures → ℤ
 root_delay_of f = pos (f.root_delay.0 * 65536) +ℤ f.delay
 
--- the dispersion that the source tells of itself and that of its samples, the drift of the host's counter since the best sample, and the jitter
+-- the dispersion that the source reports of itself, that of its samples, the drift of the host's counter since the best sample,
+-- and the jitter
 abbrev pub root_dispersion_of : ℕ → Figures → ℤ
 root_dispersion_of now f = ((pos (f.root_disp.0 * 65536) +ℤ f.dispersion) +ℤ pos (phi (now - f.taken_at))) +ℤ pos (root f.jitter2)
 

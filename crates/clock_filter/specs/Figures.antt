@@ -1,5 +1,5 @@
 -- What the held samples say together (RFC 5905, section 10): the best sample's own figures, the dispersion of the filter, its
--- jitter and the rate. The jitter has no lower bound by the precision here, and each difference in it counts as at most 256 s.
+-- jitter and the rate. Here the precision is no lower bound of the jitter, and each difference in it counts as at most 256 s.
 use Rattle.std.specs.Prelude.{ℕ, ◌+◌, ◌-◌, ◌/◌, ◌^◌, Option, None, Some, List, [], ◌∷◌, length, map, fold, sum_by, slice_get, ℤ, pos, ◌+ℤ◌}
 use Rattle.std.specs.Int.{int_min}
 use Rattle.std.specs.List.{range_with_len}
@@ -14,13 +14,13 @@ use Rattle.clock_filter.specs.declared.taken.Taken.{Taken}
 abbrev pub newest_of : List Taken → ℕ
 newest_of taken = greatest (map (λ x. x.at) taken)
 
--- the dispersion of a stage at a moment: that of its sample and what the host's counter may have drifted since, at most 16 s
--- (MAXDISP); an empty stage has 16 s
+-- the dispersion of a stage at a moment: that of its sample and the drift of the host's counter since, at most 16 s (MAXDISP); an
+-- empty stage has 16 s
 abbrev pub aged : ℕ → Option Taken → ℤ
 aged now None = pos (2 ^ 36)
 aged now (Some x) = int_min (pos (2 ^ 36)) (x.sample.dispersion +ℤ pos (phi (now - x.at)))
 
--- what so many stages add up to: the first counts half, and each next one half as much as the one before it, rounded up
+-- the sum of this many stages: the first counts half, and each next one half as much as the one before it, rounded up
 unfoldable pub staged : ℕ → ℕ → List Taken → ℤ
 staged stages now taken = fold (λ sum i. sum +ℤ ceil_div (aged now (slice_get taken i)) (2 ^ (i + 1))) (pos 0) (range_with_len 0 stages)
 

@@ -6,7 +6,7 @@ use Rattle.tick_units.specs.Orders.{best}
 use Rattle.tick_units.specs.Units.{floor_div}
 use Rattle.clock_filter.specs.declared.taken.Taken.{Taken}
 
--- a rate is the number of units of 2^-32 s by which the offset grows in a second, at most 500 parts per million of 2^32
+-- a rate is the growth of the offset in a second, in units of 2^-32 s, at most 500 parts per million of 2^32
 abbrev pub most_rate : ℕ
 most_rate = 2147483
 
@@ -22,7 +22,7 @@ earliest taken = best (λ y x. nat_lt y.at x.at) taken
 abbrev pub latest : List Taken → Option Taken
 latest taken = best (λ y x. nat_le x.at y.at) taken
 
--- from one offset to another in so many microseconds, rounded down and held to the bound
+-- from one offset to another in this many microseconds, rounded down and held to the bound
 abbrev pub held_rate : ℤ → ℤ → ℕ → ℤ
 held_rate before after apart = int_max (neg_ℤ (pos most_rate)) (int_min (pos most_rate) (floor_div ((after -ℤ before) *ℤ pos (10 ^ 6)) apart))
 

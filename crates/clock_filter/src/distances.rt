@@ -29,8 +29,8 @@ pub fn root_delay(f: &Figures) -> Span
     Span::from(f.root_delay) + f.delay
 }
 
-/// How far the source's reference clock and the host may have drifted apart at a moment, the round-trip delay left out: the
-/// root dispersion and the jitter.
+/// How far the source's reference clock and the host may have drifted apart at a moment: the root dispersion and the jitter,
+/// without the round-trip delay.
 pub fn root_dispersion(f: &Figures, now: Local) -> Span
     requires moment { f.now.newest ≤ now }
     requires newest { f.now.taken_at ≤ f.now.newest }

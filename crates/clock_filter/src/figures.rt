@@ -13,11 +13,11 @@ const STAGES: usize = 8;
 /// What the samples of a source say of the time.
 #[derive(Clone, Copy, Debug, PartialEq, Eq)]
 pub struct Figures {
-    /// What is to be added to the host's counter to give the time since 1900, by the best sample: the one of least delay.
+    /// The time since 1900 less the host's counter, by the best sample: the one of least delay.
     pub offset: Span,
     /// The best sample's round-trip delay.
     pub delay: Span,
-    /// How far the offset may be from the truth at `newest`, the delay and the server's own part left out; at most 16 s.
+    /// How far the offset may be from the truth at `newest`, without the delay and the server's own part; at most 16 s.
     pub dispersion: Span,
     /// The mean of the squares of the other samples' distances from the offset, in units of 2^-64 s^2; at most 2^80.
     pub jitter2: u128,
@@ -25,16 +25,16 @@ pub struct Figures {
     pub taken_at: Local,
     /// When the newest sample was taken.
     pub newest: Local,
-    /// The server's stratum, and 0 of a radio.
+    /// The server's stratum; 0 for a radio.
     pub stratum: u8,
-    /// The server's IPv4 address, and 0 of a radio.
+    /// The server's IPv4 address; 0 for a radio.
     pub address: u32,
     /// The server's own round-trip delay to its reference clock.
     pub root_delay: Short,
     /// The server's own dispersion.
     pub root_disp: Short,
-    /// How fast the host's counter loses, by the samples: the units of 2^-32 s by which the offset grows a second, -2147483 to
-    /// 2147483 (500 parts per million); 0 where they tell of less than 30 s.
+    /// The rate at which the host's counter loses, by the samples: the growth of the offset in a second, in units of 2^-32 s. It
+    /// is -2147483 to 2147483 (500 parts per million), and 0 where the samples span less than 30 s.
     pub rate: i32,
 }
 
@@ -63,7 +63,7 @@ fn newest_of(best: &Taken, others: &[Taken]) -> Local
     newest
 }
 
-// A dispersion that has grown by the drift of so many microseconds, at most 16 s.
+// A dispersion that has grown by the drift over this many microseconds, at most 16 s.
 fn grown(dispersion: Span, microseconds: u64) -> Span
     requires { microseconds < 2 ^ 50 }
     ensures value { result ≡ int_min (pos (2 ^ 36)) (dispersion +ℤ pos (units.phi microseconds)) }
@@ -71,7 +71,7 @@ fn grown(dispersion: Span, microseconds: u64) -> Span
     ensures most { result ≤ℤ pos (2 ^ 36) }
 {
     let most = max_dispersion();
-    // Looked at for what it says of every span: that it is below 2^70.
+    // Read for its bound: every span is below 2^70.
     let _size = dispersion.unsigned_abs();
     if dispersion < most {
         most.min(dispersion + phi(microseconds))

@@ -16,8 +16,8 @@ use arrayvec::ArrayVec;
 use std::marker::Model;
 use tick_units::{Local, Sample};
 
-/// The clock filter of a source: its last eight samples, which stand for all that were added, those of them from a cut on in the
-/// order of their delays, and what these say, which is worked out once. Contracts see it as the list of the samples.
+/// The clock filter of a source: its last eight samples, in place of all that were added. It keeps those from a cut on in the
+/// order of their delays, with their figures, which it computes once. Contracts see it as the list of the samples.
 #[derive(Drop)]
 pub struct Filter {
     last: ArrayVec<Taken, 8>,
@@ -40,7 +40,7 @@ impl Model for Filter {
     ghost invariant = { λ f. IsKnown f.cut f.last.items f.known × (f.held.items ≡ in_order may_precede (filter (λ x. nat_le f.cut x.at) f.last.items)) };
 }
 
-// What the last samples of a source say from a cut on, where those from it on are in order.
+// The figures of the last samples of a source from a cut on, where those from it on are in order.
 fn figures_in_order(cut: u64, last: &[Taken], held: &[Taken]) -> Option<Ready>
     requires few { length held.now ≤ 8 }
     requires held { held.now ≡ in_order may_precede (filter (λ x. nat_le cut x.at) last.now) }
@@ -50,7 +50,7 @@ fn figures_in_order(cut: u64, last: &[Taken], held: &[Taken]) -> Option<Ready>
     Some(Ready::of(figures))
 }
 
-// What the last samples of a source say from a cut on.
+// The figures of the last samples of a source from a cut on.
 fn figures_from(cut: u64, last: &[Taken]) -> Option<Ready>
     requires { length last.now ≤ 8 }
     ensures { IsKnown cut last.now result }
@@ -82,7 +82,7 @@ impl Filter {
         self.known = figures_in_order(self.cut, self.last.as_slice(), self.held.as_slice());
     }
 
-    /// Works out what the samples say from this cut on, in microseconds of the host's counter, so that `figures` has it ready.
+    /// Computes the figures from this cut on, in microseconds of the host's counter, so that `figures` has them ready.
     pub fn look_from(&mut self, cut: u64)
         ensures { self.new ≡ self.old }
     {
@@ -93,8 +93,8 @@ impl Filter {
         }
     }
 
-    /// The figures of those of the last eight samples that aren't from before `cut`, in microseconds of the host's counter,
-    /// and `None` where there are none.
+    /// The figures of those of the last eight samples that are not from before `cut`, in microseconds of the host's counter.
+    /// `None` where there are no such samples.
     pub fn figures(&self, cut: u64) -> Option<Figures>
         ensures value { (samples : List Taken) → StandsFor self.now samples → result ≡ figures.figures_of (held cut samples) }
         ensures timely { IfSome result (IsTimely cut) }
@@ -105,7 +105,7 @@ impl Filter {
         Some(*ready.get())
     }
 
-    /// The same figures, with what doesn't age of their distance.
+    /// The same figures, with the part of their distance that does not age.
     pub fn ready(&self, cut: u64) -> Option<Ready>
         ensures value { (samples : List Taken) → StandsFor self.now samples → result ≡ figures.figures_of (held cut samples) }
         ensures timely { IfSome result (IsTimely cut) }

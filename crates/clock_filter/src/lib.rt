@@ -1,5 +1,5 @@
-//! The clock filter of RFC 5905 (section 10): what the last eight samples of a source say of the time, and how far that may
-//! be from the truth.
+//! The clock filter of RFC 5905 (section 10): what the last eight samples of a source say of the time, and how far that may be
+//! from the truth.
 #![tactic(auto)]
 
 mod distances;

@@ -10,13 +10,13 @@ ghost use Rattle.clock_filter.specs.declared.taken.Taken.{Taken};
 use crate::Taken;
 use tick_units::Span;
 
-// The most that a rate counts as, either way: 500 parts per million of 2^32.
+// The greatest rate, either way: 500 parts per million of 2^32.
 const MOST: i128 = 2_147_483;
 
-// Samples nearer to each other than this many microseconds, 30 s, tell no rate.
+// Samples nearer to each other than this many microseconds, 30 s, give no rate.
 const LEAST_APART: u64 = 30_000_000;
 
-// Of samples those at the two ends of the time that they tell of.
+// The first and the last of some samples, by their moments.
 #[derive(Clone, Copy)]
 struct Ends<'a> {
     first: Option<&'a Taken>,
@@ -66,7 +66,7 @@ fn widened<'a>(ends: Ends<'a>, taken: &'a Taken) -> Ends<'a>
     }
 }
 
-// The ends of those of these samples that aren't from before a moment.
+// The ends of those of these samples that are not from before a moment.
 fn ends_of(eight: &[Taken], cut: u64) -> Ends<'_>
     ensures first { option_map (λ t. t.now) result.first ≡ earliest (filter (λ x. nat_le cut x.at) eight.now) }
     ensures last { option_map (λ t. t.now) result.last ≡ latest (filter (λ x. nat_le cut x.at) eight.now) }
@@ -109,7 +109,7 @@ fn held(rate: i128) -> i32
     rate.clamp(-MOST, MOST) as i32
 }
 
-// How many units the offset has grown a second, from one to another in so many microseconds.
+// How many units the offset has grown a second, from one to another in this many microseconds.
 fn grown_a_second(before: Span, after: Span, apart: u64) -> i32
     requires { 0 < apart }
     ensures { result ≡ held_rate before after apart }
@@ -137,7 +137,7 @@ fn rate_from(first: Option<&Taken>, last: Option<&Taken>) -> i32
     }
 }
 
-/// The rate of those of these samples that aren't from before a moment.
+/// The rate of those of these samples that are not from before a moment.
 pub fn rate_of(eight: &[Taken], cut: u64) -> i32
     ensures value { result ≡ rates.rate_of (filter (λ x. nat_le cut x.at) eight.now) }
 {

@@ -1,4 +1,4 @@
-//! Figures of a source, with what doesn't age of its distance.
+//! The figures of a source, with the part of its distance that does not age.
 ghost use Rattle.std.specs.Prelude.{◌≡◌, true, ◌≤◌, ◌-◌, ◌*◌, ◌^◌, pos, ◌+ℤ◌, ◌≤ℤ◌, unsigned_abs};
 ghost use Rattle.tick_units.specs.Units as units;
 ghost use Rattle.tick_units.specs.Units.{root};
@@ -10,7 +10,7 @@ use crate::distances::{TOO_FAR, half_of_delay};
 use std::marker::Model;
 use tick_units::{Local, Span, isqrt, phi};
 
-/// What the samples of a source say, with all that doesn't age of its distance worked out once. Contracts see it as the figures.
+/// The figures of a source, with all of its distance that does not age, computed once. Contracts see it as the figures.
 #[derive(Clone, Copy, Debug)]
 pub struct Ready {
     figures: Figures,
@@ -38,11 +38,11 @@ impl Model for Ready {
     } };
 }
 
-// The most that a delay or a dispersion is of lawful samples, and more.
+// A bound above each delay and dispersion of valid samples.
 const LONGEST: u128 = 1 << 68;
 
-// The square root, rounded down. Of one sample alone there is no jitter, and one below 1 s is a number of 64 bits, whose root
-// takes half of the steps.
+// The square root, rounded down. One sample alone has no jitter. A jitter below 1 s is a number of 64 bits, whose root takes half
+// of the steps.
 #[tactic(auto, using(tick_units::proofs::RootLaws::root_from))]
 fn jitter_of(jitter2: u128) -> u64
     ensures { result ≡ root jitter2 }
@@ -56,7 +56,7 @@ fn jitter_of(jitter2: u128) -> u64
     }
 }
 
-// The root dispersion but for the drift.
+// The root dispersion without the drift.
 fn steady_dispersion(f: &Figures) -> Span
     requires { unsigned_abs f.now.dispersion ≤ 2 ^ 68 }
     ensures value { result ≡ (pos (f.now.root_disp.0 * 65536) +ℤ f.now.dispersion) +ℤ pos (root f.now.jitter2) }
@@ -142,7 +142,7 @@ impl Ready {
         self.distance + self.drift(now)
     }
 
-    /// Whether the source may be selected at a moment, as `is_fit` tells of the figures.
+    /// Whether the source may be selected at a moment, as `is_fit` says of the figures.
     pub fn is_fit(&self, now: Local) -> bool
         requires moment { self.now.newest ≤ now }
         requires newest { self.now.taken_at ≤ self.now.newest }

@@ -10,7 +10,7 @@ pub struct Taken {
     pub sample: Sample,
 }
 
-/// What lies in the unused places of a filter.
+/// What fills the unused places of a filter.
 impl Default for Taken {
     fn default() -> Taken {
         Taken {

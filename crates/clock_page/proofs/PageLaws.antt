@@ -5,7 +5,7 @@ use Rattle.std.proofs.lemmas.Int.{ints}
 use Rattle.tick_units.specs.Units.{floor_div}
 use Rattle.clock_page.specs.Page.{AreWords, IsRate, PageFields, unsynchronised, word_of, words}
 
--- the high word of a span that isn't negative
+-- the high word of a span that is not negative
 pub high_word : (z : ℤ) → pos 0 ≤ℤ z → unsigned_abs z / 2 ^ 64 ≡ unsigned_abs (floor_div z (2 ^ 64))
 high_word (pos n) least = refl
 high_word (negsuc n) least = absurd (omega (arith, ints))
@@ -78,7 +78,7 @@ state-below w p h =
     let refid = h.page.refid in
     omega arith
 
--- the words of a page that isn't synchronised
+-- the words of a page that is not synchronised
 state-unsynced : (w : List ℕ) (p : PageFields) → AreWords w p → p.sync ≡ false → slice_index w 1 / 2 ^ 32 < 256
 state-unsynced w p h off =
     let e = each_word w p h in

@@ -1,5 +1,5 @@
--- The page, which tells how the server reckons the time, and its ten words of 64 bits. Its fields are those that an answer
--- takes from the server's variables (RFC 5905, section 9.2); how they are packed is this project's own.
+-- The page, which says how the server computes the time, and its ten words of 64 bits. Its fields are those that an answer takes
+-- from the server's variables (RFC 5905, section 9.2); how they are packed is this project's own.
 use Rattle.std.specs.Prelude.{◌≡◌, ℕ, ◌+◌, ◌*◌, ◌^◌, ◌<◌, Bool, false, List, [], ◌∷◌, ℤ, pos, neg_ℤ, ◌≤ℤ◌, ◌<ℤ◌, unsigned_abs}
 use Rattle.std.specs.Int.{from_bool, int_rem_euclid}
 use Rattle.tick_units.specs.Units.{floor_div}
@@ -21,7 +21,7 @@ pub record PageFields : Type 0 where
   pub leap_at : ℕ
   pub rate : ℤ
 
--- the reference ID of a server that isn't synchronised, `INIT`
+-- the reference ID of a server that is not synchronised, `INIT`
 abbrev pub init_id : ℕ
 init_id = 0x494e4954
 
@@ -29,7 +29,7 @@ init_id = 0x494e4954
 abbrev pub unknown_dispersion : ℕ
 unknown_dispersion = 0x00100000
 
--- the page of so many entries at a moment, where nothing tells the time
+-- the page of this many entries at a moment, where the server does not know the time
 abbrev pub unsynchronised : ℕ → ℕ → PageFields
 unsynchronised length anchor = record {
   length = length;
@@ -54,8 +54,8 @@ pub record IsRate (rate : ℤ) : Type 0 where
   pub least : neg_ℤ (pos most_rate) ≤ℤ rate
   pub most : rate ≤ℤ pos most_rate
 
--- what holds of every page: its offset isn't negative, its rate is within the bound, and where it isn't synchronised it says nothing
--- more than that
+-- what holds of every page: its offset is not negative, and its rate is within the bound. Where it is not synchronised, it says
+-- nothing more than that.
 pub record IsSound (p : PageFields) : Type 0 where
   pub offset : pos 0 ≤ℤ p.offset
   pub rate : IsRate p.rate

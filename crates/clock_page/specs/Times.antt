@@ -1,10 +1,10 @@
--- What a page says of a moment of the host's counter: the time, whether it is to be trusted, and whether a leap second is
--- near (the leap indicator of RFC 5905, section 7.3).
+-- What a page says of a moment of the host's counter: the time, whether to trust it, and whether a leap second is near. The leap
+-- indicator is that of RFC 5905, section 7.3.
 use Rattle.std.specs.Prelude.{ℕ, ◌-◌, ◌^◌, ◌==◌, Bool, not, ◌&&◌, nat_lt, ℤ, pos, ◌+ℤ◌, ◌*ℤ◌, int_lt, int_le, if◌then◌else◌}
 use Rattle.tick_units.specs.Units.{floor_div, local_span, stamp_of}
 use Rattle.clock_page.specs.Page.{PageFields}
 
--- how much the offset has grown since the page was reckoned, by its rate, rounded down; nothing before that moment
+-- how much the offset has grown since the page was computed, by its rate, rounded down; 0 before that moment
 abbrev pub slew : PageFields → ℕ → ℤ
 slew p u = floor_div (p.rate *ℤ pos (u - p.anchor)) (10 ^ 6)
 
@@ -32,6 +32,6 @@ is_ahead second leap_at = int_lt second (pos leap_at) && int_le (pos leap_at) (s
 abbrev pub leap_is_near : PageFields → ℕ → Bool
 leap_is_near p u = not (p.leap_at == 0) && is_ahead (second_at p u) p.leap_at
 
--- the leap indicator: 3 where the page isn't synchronised, 1 where the day's last minute has 61 seconds
+-- the leap indicator: 3 where the page is not synchronised, 1 where the day's last minute has 61 seconds
 abbrev pub leap_indicator : PageFields → ℕ → ℕ
 leap_indicator p u = if synced_at p u then (if leap_is_near p u then 1 else 0) else 3

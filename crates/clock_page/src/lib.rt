@@ -1,4 +1,4 @@
-//! The page, which tells how the server reckons the time; its ten words; and what it says of a moment.
+//! The page, which says how the server computes the time; its ten words; and what it says of a moment.
 #![tactic(auto)]
 
 mod page;

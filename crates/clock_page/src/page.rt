@@ -1,43 +1,43 @@
-//! The page: what it says, and the page where nothing tells the time.
+//! The page: what it says, and the page of a server that does not know the time.
 ghost use Rattle.std.specs.Prelude.{◌≡◌};
 ghost use Rattle.clock_page.specs.Page.{unsynchronised};
 
 use std::marker::Model;
 use tick_units::{Local, Short, Span, Stamp};
 
-/// The reference ID of a server that isn't synchronised: `INIT` (RFC 5905, section 7.4).
+/// The reference ID of a server that is not synchronised: `INIT` (RFC 5905, section 7.4).
 pub const INIT: u32 = 0x494e_4954;
 
 /// The root dispersion where nothing is known: 16 s, which is MAXDISP of RFC 5905.
 pub const UNKNOWN_DISPERSION: u32 = 0x0010_0000;
 
-/// How the server reckons the time, from so many entries of its journal.
+/// How the server computes the time, from the first `length` entries of its journal.
 #[derive(Clone, Copy, Debug, PartialEq, Eq)]
 pub struct Page {
     /// The number of entries.
     pub length: u64,
-    /// Whether the page tells the time.
+    /// Whether the page gives the time.
     pub sync: bool,
     /// The server's stratum.
     pub stratum: u8,
     /// What the server takes its time from: four letters, or an IPv4 address.
     pub refid: u32,
-    /// What is to be added to the host's counter to give the time since 1900, at the anchor; never negative.
+    /// What to add to the host's counter to get the time since 1900, at the anchor; never negative.
     pub offset: Span,
-    /// The moment for which the page was reckoned.
+    /// The moment for which the page was computed.
     pub anchor: Local,
-    /// The moment from which on the page isn't synchronised, in microseconds.
+    /// The moment from which on the page is not synchronised, in microseconds.
     pub until: u64,
     /// The round-trip delay to the reference clock.
     pub root_delay: Short,
     /// The dispersion of the time that comes from the reference clock, at the anchor.
     pub root_disp: Short,
-    /// When the reference clock was last heard.
+    /// When the reference clock was last received.
     pub reftime: Stamp,
     /// The second at which the announced leap second ends, and 0 where none is announced.
     pub leap_at: u64,
-    /// How fast the host's counter loses: the units of 2^-32 s by which the offset grows a second from the anchor on, -2147483 to
-    /// 2147483 (500 parts per million).
+    /// How fast the host's counter loses: by how many units of 2^-32 s the offset grows in a second from the anchor on. It is
+    /// -2147483 to 2147483 (500 parts per million).
     pub rate: i32,
 }
 
@@ -56,7 +56,7 @@ impl Model for Page {
 }
 
 impl Page {
-    /// The page of so many entries at a moment, where nothing tells the time.
+    /// The page of this many entries at a moment, where the server does not know the time.
     pub fn unsynchronised(length: u64, anchor: Local) -> Page
         ensures { result ≡ unsynchronised length anchor }
     {

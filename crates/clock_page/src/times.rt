@@ -29,7 +29,7 @@ fn millionths(product: i64) -> i64
     product.div_euclid(1_000_000)
 }
 
-// How much the offset grows in so many microseconds.
+// How much the offset grows in this many microseconds.
 fn grown(rate: i32, passed: u64) -> i64
     requires { passed < 2 ^ 50 }
     ensures value { result ≡ floor_div (rate *ℤ pos passed) (10 ^ 6) }

@@ -86,7 +86,7 @@ fn rate_of(word: u64) -> Option<i32>
     }
 }
 
-// The one page that isn't synchronised whose words these can be.
+// The one page that is not synchronised whose words these can be.
 fn blank(w: &[u64; 10], anchor: Local) -> Page
     requires anchor { anchor ≡ slice_index w.now 3 }
     requires state { slice_index w.now 1 / 2 ^ 32 < 256 }
@@ -95,7 +95,7 @@ fn blank(w: &[u64; 10], anchor: Local) -> Page
     Page::unsynchronised(w[0], anchor)
 }
 
-// The page whose words these are, where it isn't synchronised.
+// The page whose words these are, where it is not synchronised.
 fn unsynced(w: &[u64; 10], anchor: Local) -> Option<Page>
     requires anchor { anchor ≡ slice_index w.now 3 }
     requires state { slice_index w.now 1 / 2 ^ 32 < 256 }
@@ -163,7 +163,7 @@ impl Page {
         ]
     }
 
-    /// The page whose words these are, and `None` where they are no page's.
+    /// The page whose words these are. `None` where no page has these words.
     pub fn of_words(w: [u64; 10]) -> Option<Page>
         ensures page { IfSome result (AreWords w) }
         ensures every { (p : PageFields) → AreWords w p → result ≡ Some p }

@@ -1,4 +1,4 @@
--- The mean by weight, reckoned from a base, so that no product passes 128 bits.
+-- The mean by weight, computed from a base, so that no product passes 128 bits.
 use Rattle.std.proofs.Common.{◌≡◌, ℕ, ◌+◌, ◌*◌, ◌/◌, ◌^◌, ◌<◌, ◌≤◌, ℤ, pos, negsuc, zero, suc, ◌+ℤ◌, ◌-ℤ◌, ◌*ℤ◌, ◌≤ℤ◌, neg_ℤ, unsigned_abs, sym, ap, ◌∙◌, arith, List, [], ◌∷◌, ◌++◌, length, get_or, ◌-◌, refl, subst, ◌⊎◌, inl, inr}
 use Rattle.std.specs.Prelude.{All, fold, sum_by}
 use Rattle.std.proofs.lemmas.Bool.{cases_lt}
@@ -54,13 +54,13 @@ term_more s t c b n w h =
     let down_b = ap (λ (k : ℕ). w * k) signs.1 in
     omega (arith, ints, product_is (pos w) c, product_is (pos w) (c -ℤ b), product_is (pos n) b, product_is (pos (n + w)) b)
 
--- a weighted sum, reckoned from b
+-- a weighted sum, computed from b
 weighted-shift : {X : Type 0} (w : X → ℕ) (o : X → ℤ) (b : ℤ) (xs : List X) (s t : ℤ) (n : ℕ) → s ≡ t +ℤ pos n *ℤ b
     → fold (λ sum x. sum +ℤ pos (w x) *ℤ o x) s xs ≡ fold (λ sum x. sum +ℤ pos (w x) *ℤ (o x -ℤ b)) t xs +ℤ pos (fold (λ sum x. sum + w x) n xs) *ℤ b
 weighted-shift w o b [] s t n h = h
 weighted-shift w o b (x ∷ xs) s t n h = weighted-shift w o b xs (s +ℤ pos (w x) *ℤ o x) (t +ℤ pos (w x) *ℤ (o x -ℤ b)) (n + w x) (term_more s t (o x) b n (w x) h)
 
--- the mean, reckoned from a base
+-- the mean, computed from a base
 pub mean-from : (base : ℤ) (survivors : List Survivor) → 0 < sum_by weight survivors → base +ℤ floor_div (weighted_from base survivors) (sum_by weight survivors) ≡ mean survivors
 mean-from base survivors some =
     sym (floor_div-shift (weighted_from base survivors) base (sum_by weight survivors) some)
@@ -140,7 +140,7 @@ between low high x y apart a b c d = omega (arith, ints)
 pub near-to : (all : List Survivor) (i : ℕ) (e : Survivor) → i < length all → AreNear all → All (λ x. unsigned_abs (x.offset -ℤ (get_or all i e).offset) ≤ 2 ^ 33) all
 near-to all i e within near = λ k d inside. between near.low near.high _ _ near.apart (near.from k d inside) (near.upto k d inside) (near.from i e within) (near.upto i e within)
 
--- so many survivors are summed
+-- this many survivors are summed
 pub record AreSummed (base : ℤ) (seen : List Survivor) (count : ℕ) (sum : ℤ) (weights : ℕ) : Type 0 where
   pub summed : sum ≡ weighted_from base seen
   pub weighed : weights ≡ sum_by weight seen

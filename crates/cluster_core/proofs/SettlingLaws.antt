@@ -65,7 +65,7 @@ pub settled-some : (all left : List Survivor) → Settles all left → 0 < lengt
 settled-some _ _ (stays all quiet) some = some
 settled-some _ _ (goes_on all fewer left busy discards more) some = settled-some fewer left more (omega (arith, many-busy all busy, length-discards all fewer discards))
 
--- the same from the list that isn't in order yet
+-- the same from the list that is not in order yet
 length-in_order : (survivors : List Survivor) → length (in_order may_precede survivors) ≡ length survivors
 length-in_order survivors = length_permutation survivors _ (in_order-keeps may_precede survivors)
 

@@ -9,7 +9,7 @@ use Rattle.tick_units.specs.Orders.{greatest}
 use Rattle.cluster_core.specs.Clusters.{selection_jitter, greatest_jitter, Discards, IsWorst, without_greatest}
 use Rattle.cluster_core.specs.declared.survivor.Survivor.{Survivor}
 
--- the last of the greatest among so many items from the front on
+-- the last of the greatest among this many first items
 pub record IsWorstSoFar (number : Survivor → ℕ) (all : List Survivor) (seen place most : ℕ) : Type 0 where
   pub most_is : most ≡ greatest (map number (take seen all))
   pub within : 0 < seen → place < seen
@@ -51,7 +51,7 @@ all-from : (number : Survivor → ℕ) (n : ℕ) (xs : List Survivor) → All (�
 all-from number n [] below = refl
 all-from number n (x ∷ xs) below = rw (lt-ltb (number x) n (All-head (λ x. number x < n) x xs below)) (all-from number n xs (All-tail (λ x. number x < n) x xs below))
 
--- one that isn't less keeps an item from being above all
+-- one that is not less keeps an item from being above all
 not_all : (number : Survivor → ℕ) (x y : Survivor) (front back : List Survivor) → number y ≤ number x → list_all (λ z. nat_lt (number z) (number y)) (front ++ x ∷ back) ≡ false
 not_all number x y [] back least = rw (le-ltb (number x) (number y) least) refl
 not_all number x y (z ∷ front) back least = rw (not_all number x y front back least) (and-false (nat_lt (number z) (number y)))

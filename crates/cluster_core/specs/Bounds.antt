@@ -1,5 +1,5 @@
--- What holds of sources that a majority agrees with: a distance of at most 1 s, and offsets within two of them. A jitter is a
--- mean of squares of which each counts as at most 2^80.
+-- What holds of sources that a majority agrees with: a distance of at most 1 s, and offsets within two seconds of each other. A
+-- jitter is a mean of squares, each of which counts as at most 2^80.
 use Rattle.std.specs.Prelude.{◌^◌, ◌<◌, ◌≤◌, List, All, ℤ, pos, ◌-ℤ◌, ◌≤ℤ◌, unsigned_abs}
 use Rattle.cluster_core.specs.declared.survivor.Survivor.{Survivor}
 

@@ -1,5 +1,5 @@
--- The survivors that agree best with each other (RFC 5905, section 11.2.2). Jitters are squared here, and each difference in
--- them counts as at most 256 s; the order of the survivors is this project's own.
+-- The survivors that agree best with each other (RFC 5905, section 11.2.2). Jitters are squared here, and each difference in them
+-- counts as at most 256 s. The order of the survivors is this project's own.
 use Rattle.std.specs.Prelude.{◌≡◌, ℕ, zero, suc, ◌-◌, ◌/◌, ◌==◌, ◌<◌, ◌≤◌, Bool, true, false, ◌&&◌, ◌||◌, nat_le, nat_lt, int_le, int_lt, All, List, [], ◌∷◌, ◌++◌, length, map, sum_by, if◌then◌else◌}
 use Rattle.std.specs.List.{list_all, IsLastBest}
 use Rattle.tick_units.specs.Orders.{greatest, in_order}
@@ -21,11 +21,11 @@ greatest_jitter all = greatest (map (selection_jitter all) all)
 abbrev pub is_at_rest : List Survivor → Bool
 is_at_rest all = nat_le (length all) 3 || list_all (λ x. nat_lt (greatest_jitter all) x.jitter2) all
 
--- the one at a place has the greatest selection jitter, and those behind it have less
+-- the one at a place has the greatest selection jitter, and those after it have less
 abbrev pub IsWorst : List Survivor → ℕ → Type 0
 IsWorst all place = IsLastBest (λ x y. nat_lt (selection_jitter all y) (selection_jitter all x)) all (length all) place
 
--- one is discarded: none has a greater selection jitter, and of those that have as great a one it is the last
+-- one is discarded: none has a greater selection jitter, and of those with as great a jitter it is the last
 pub record Discards (all left : List Survivor) : Type 0 where
   pub front : List Survivor
   pub discarded : Survivor
@@ -35,16 +35,16 @@ pub record Discards (all left : List Survivor) : Type 0 where
   pub greatest : All (λ x. selection_jitter all x ≤ selection_jitter all discarded) all
   pub last : All (λ x. selection_jitter all x < selection_jitter all discarded) back
 
--- one after another is discarded, until those that are left are at left
+-- one after another is discarded, until these are left
 pub data Settles : List Survivor → List Survivor → Type 0 where
   stays : (all : List Survivor) → is_at_rest all ≡ true → Settles all all
   goes_on : (all fewer left : List Survivor) → is_at_rest all ≡ false → Discards all fewer → Settles fewer left → Settles all left
 
--- that, from the survivors in order on
+-- the same, from the survivors in order
 abbrev pub Clusters : List Survivor → List Survivor → Type 0
 Clusters survivors left = Settles (in_order may_precede survivors) left
 
--- of a list without the last of its items of the greatest number: the first goes that is above all behind it
+-- a list without the last of its items of the greatest number: the first item goes that is greater than all after it
 abbrev pub without_greatest : (Survivor → ℕ) → List Survivor → List Survivor
 without_greatest number [] = []
 without_greatest number (x ∷ xs) = if list_all (λ y. nat_lt (number y) (number x)) xs then xs else x ∷ without_greatest number xs
@@ -53,6 +53,6 @@ abbrev pub left_within : ℕ → List Survivor → List Survivor
 left_within zero all = all
 left_within (suc steps) all = if is_at_rest all then all else left_within steps (without_greatest (selection_jitter all) all)
 
--- the one list that survivors settle to
+-- the list of the survivors that are left
 abbrev pub survivors_left : List Survivor → List Survivor
 survivors_left survivors = left_within (length survivors) (in_order may_precede survivors)

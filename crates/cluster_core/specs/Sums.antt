@@ -7,7 +7,7 @@ use Rattle.cluster_core.specs.declared.spread.Sums.{Sums}
 abbrev pub apart : ℤ → Survivor → ℕ
 apart base x = unsigned_abs (x.offset -ℤ base)
 
--- no offset is below the base or more than 256 s above it, and these are the sums of their distances from it and of the squares of these
+-- no offset is below the base or more than 256 s above it; these are the sums of their distances from it and of the squares
 pub record AreSums (s : Sums) (all : List Survivor) : Type 0 where
   pub above : All (λ x. s.base ≤ℤ x.offset) all
   pub near : All (λ x. apart s.base x ≤ 2 ^ 40) all

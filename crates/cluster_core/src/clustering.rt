@@ -11,10 +11,10 @@ use crate::spread::{Sums, spread_of, sums_of};
 use crate::{Survivor, Survivors};
 use arrayvec::ArrayVec;
 
-// How many are left at least (NMIN).
+// The least number that is left (NMIN).
 const LEAST: usize = 3;
 
-// A quotient, rounded down. Most sums fit in 64 bits, and are divided in one step.
+// A quotient, rounded down. Most sums fit in 64 bits, so one step divides them.
 fn quotient(sum: u128, count: usize) -> u128
     requires { 0 < count }
     ensures { result ≡ sum / count }
@@ -72,7 +72,7 @@ fn are_above(jitter: u128, all: &[Survivor]) -> bool
     all.iter().all(|x| jitter < x.jitter2)
 }
 
-// The place of the one that is to be discarded, and `None` where those that are left are at rest.
+// The place of the one to discard, and `None` where none has to be discarded.
 fn to_discard(all: &[Survivor]) -> Option<usize>
     requires { length all.now ≤ 16 }
     ensures none { IfNone result (is_at_rest all.now ≡ true) }
@@ -89,7 +89,7 @@ fn to_discard(all: &[Survivor]) -> Option<usize>
     }
 }
 
-// Discards one after another, until those that are left are at rest.
+// Discards one after another, until none has to be discarded.
 fn settle(left: &mut ArrayVec<Survivor, 16>)
     ensures { Settles left.old.items left.new.items }
 {
@@ -98,8 +98,8 @@ fn settle(left: &mut ArrayVec<Survivor, 16>)
     }
 }
 
-/// Puts survivors in order, the one of the lowest stratum first, of these the nearest, and then the first feed; and discards
-/// those that agree least with the others, until three are left or the others agree as well as each does with itself.
+/// Puts survivors in order: the lowest stratum first, of these the nearest, and then the first feed. Then discards those that
+/// agree least with the others, until three are left or the others agree as well as each does with itself.
 pub fn cluster(s: &mut Survivors)
     ensures clusters { Clusters s.old s.new }
     ensures only { (left : List Survivor) → Clusters s.old left → left ≡ s.new }

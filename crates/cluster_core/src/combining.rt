@@ -27,7 +27,7 @@ impl Model for WeightedSum {
 }
 
 impl WeightedSum {
-    // Of no spans.
+    // The sum of no spans.
     fn new() -> WeightedSum
         ensures { result ≡ pos 0 }
     {
@@ -74,7 +74,7 @@ fn apart(x: &Survivor, base: Span) -> Span
     ensures value { result ≡ x.now.offset -ℤ base }
     ensures offset { unsigned_abs x.now.offset < 2 ^ 70 }
 {
-    // Looked at for what it says of every span: that it is below 2^70.
+    // Read for its bound: every span is below 2^70.
     let _size = x.offset.unsigned_abs();
     x.offset - base
 }
@@ -100,8 +100,8 @@ fn mean_apart(base: Span, survivors: &[Survivor]) -> Span
     sum.over(weights)
 }
 
-/// The mean of the offsets, rounded down, in which a survivor counts the more the nearer it is: its weight is 2^62 divided
-/// by its distance, rounded down.
+/// The mean of the offsets, rounded down. The nearer a survivor is, the more it counts: its weight is 2^62 divided by its
+/// distance, rounded down.
 pub fn combine(s: &Survivors) -> Span
     requires some { 0 < length s.now }
     requires measured { All IsWeighable s.now }

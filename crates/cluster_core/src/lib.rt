@@ -1,5 +1,5 @@
-//! The cluster and combine algorithms of RFC 5905 (sections 11.2.2 and 11.2.3): of the sources that agree, those that agree
-//! best, and the mean of their offsets.
+//! The cluster and combine algorithms of RFC 5905 (sections 11.2.2 and 11.2.3): of the sources that agree, those that agree best,
+//! and the mean of their offsets.
 #![tactic(auto)]
 
 mod clustering;

@@ -7,7 +7,7 @@ ghost use Rattle.cluster_core.specs.declared.survivor.Survivor.{Survivor};
 use crate::Survivor;
 use tick_units::Span;
 
-/// Of survivors the sum of their offsets' distances from the least of them, and that of the squares of these.
+/// Two sums over survivors: of their offsets' distances from the least of them, and of the squares of these.
 #[derive(Clone, Copy)]
 pub struct Sums {
     pub base: Span,
@@ -15,7 +15,7 @@ pub struct Sums {
     pub squares: u128,
 }
 
-// Distances above this count as this: 256 s.
+// Distances above 256 s count as 256 s.
 const FARTHEST: u128 = 1 << 40;
 
 // The least offset.
@@ -31,7 +31,7 @@ fn least_of(all: &[Survivor]) -> Span
 }
 
 impl Sums {
-    // With one survivor more, so far from the base.
+    // With one survivor more, this far from the base.
     fn with(self, apart: u128) -> Sums
         requires near { apart ≤ 2 ^ 40 }
         requires sum { self.sum ≤ 15 * 2 ^ 40 }
@@ -46,7 +46,7 @@ impl Sums {
     }
 }
 
-/// The sums of survivors, where none is so far from another that its distance counts as less than it is.
+/// The sums of survivors, where no two are so far apart that their distance counts as less than it is.
 pub fn sums_of(all: &[Survivor]) -> Option<Sums>
     requires some { 0 < length all.now }
     requires few { length all.now ≤ 16 }
@@ -67,8 +67,8 @@ pub fn sums_of(all: &[Survivor]) -> Option<Sums>
     Some(sums)
 }
 
-// The sum of the squared distances from one survivor, by the sums: from a at a distance of b that of the square of a - b is that
-// of a a, less twice that of a b, and of b b.
+// The sum of the squared distances from one survivor, by the sums. The square of a - b is that of a, less twice a times b, plus
+// that of b.
 fn spread_by(all: &[Survivor], sums: &Sums, x: &Survivor) -> u128
     requires few { length all.now ≤ 16 }
     requires kept { specs.AreSums sums.now all.now }

@@ -1,4 +1,4 @@
-//! What clustering is told of a source.
+//! What clustering receives of a source.
 use tick_units::Span;
 
 /// A source that agrees with enough others.
@@ -6,17 +6,17 @@ use tick_units::Span;
 pub struct Survivor {
     /// Its number.
     pub feed: u32,
-    /// Its stratum, and 0 of a radio.
+    /// Its stratum; 0 for a radio.
     pub stratum: u8,
     /// How far its offset may be from the truth: its root distance.
     pub distance: Span,
-    /// What is to be added to the host's counter to give the time since 1900, by this source.
+    /// The time since 1900 less the host's counter, by this source.
     pub offset: Span,
     /// The square of its jitter, in units of 2^-64 s^2.
     pub jitter2: u128,
 }
 
-/// What lies in the unused places of a list.
+/// What fills the unused places of a list.
 impl Default for Survivor {
     fn default() -> Survivor {
         Survivor {

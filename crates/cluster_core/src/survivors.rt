@@ -37,7 +37,7 @@ impl Survivors {
         Survivors { members }
     }
 
-    /// Adds a survivor behind the others.
+    /// Adds a survivor after the others.
     pub fn add(&mut self, s: Survivor)
         requires { length self.old < 16 }
         ensures { self.new ≡ self.old ++ s ∷ [] }
@@ -45,7 +45,7 @@ impl Survivors {
         self.members.push(s);
     }
 
-    /// The survivor at a place, which counts from 0, and `None` where the list isn't as long.
+    /// The survivor at a place, which counts from 0, and `None` where the list is not that long.
     pub fn get(&self, i: usize) -> Option<Survivor>
         ensures { result ≡ slice_get self.now i }
     {

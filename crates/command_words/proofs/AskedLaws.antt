@@ -1,10 +1,10 @@
--- A command is told apart by its word: what holds of each command with this word holds of every command that has it.
+-- A command is known by its word: what holds of each command with this word holds of every command that has it.
 use Rattle.std.proofs.Common.{◌≡◌, ℕ, get_or, codes, ap, arith}
 use Rattle.tick_units.specs.declared.marks.Plan.{Plan}
 use Rattle.command_words.specs.CommandLine.{Text}
 use Rattle.command_words.specs.Commands.{Asked, decode, drill, migrate, name_of, replay, serve}
 
--- two letters of a word tell the commands apart
+-- two letters of a word distinguish the commands
 abbrev first : Text → ℕ
 first text = get_or text 0 0
 

@@ -1,4 +1,4 @@
--- Parts of a lawful line fit.
+-- Parts of a valid line fit.
 use Rattle.std.proofs.Common.{◌≡◌, ◌∙◌, true, false, List, [], ◌∷◌, ◌++◌, Some, None, refl, sym, ap, subst, inl, inr, bytes_eq, is_some}
 use Rattle.std.proofs.lemmas.Bool.{cases_Bool, or_cases, and_parts, true≢false}
 use Rattle.std.specs.List.{list_all, list_any}
@@ -13,12 +13,12 @@ use Rattle.command_words.proofs.Names.{itself, known, of_each, of_row, same_text
 use Rattle.command_words.proofs.Parts.{Part, are_values, fits, given_in, names_option, row, word_id, words_in}
 use Rattle.command_words.proofs.Values.{are_known}
 
--- at most one command word is to come, and none behind one
+-- at most one command word is to come, and none after one
 abbrev pub Single : List Row → List Text → Type 0
 Single rows [] = Unit {0}
 Single rows (word ∷ more) = (has_row word_id rows ≡ false) × (is_value word ≡ true) × (more ≡ [])
 
--- parts that may stand behind rows, with options of a row that is known
+-- parts that may stand after rows, with options of a row that is known
 pub record Stand (of : List Text) (rows : List Row) (ps : List Part) : Type 0 where
   pub of_known : list_all names_option of ≡ true
   pub once : IsOnce (given_in ps)
@@ -60,7 +60,7 @@ good_option rows name value ps k fresh v g = record {
   sound = rw (name_is name k) g.sound;
 }
 
--- the parts behind a command word
+-- the parts after a command word
 word_behind : (of : List Text) (rows : List Row) (text : Text) (ps : List Part) → Stand of rows ((None, text) ∷ ps) → Stand of (rows ++ row word_id text ∷ []) ps
 word_behind of rows text ps s = record {
   of_known = s.of_known;
@@ -73,7 +73,7 @@ word_behind of rows text ps s = record {
   single = single_none (rows ++ row word_id text ∷ []) (words_in ps) s.single.2;
 }
 
--- the parts behind an option
+-- the parts after an option
 option_behind : (of : List Text) (rows : List Row) (m value : Text) (ps : List Part) → names_option m ≡ true → Stand of rows ((Some m, value) ∷ ps)
     → Stand of (rows ++ row m value ∷ []) ps
 option_behind of rows m value ps k s = record {

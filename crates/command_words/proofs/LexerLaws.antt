@@ -9,7 +9,7 @@ use Rattle.clap.specs.Lexer.{has_byte, long_of, long_of_rest, name_and_value}
 use Rattle.command_words.specs.CommandLine.{Text, is_value}
 use Rattle.command_words.proofs.Steps.{mark}
 
--- ---- a name that isn't empty and has no `=` (61)
+-- ---- a name that is not empty and has no `=` (61)
 
 abbrev pub is_name : Text → Bool
 is_name [] = false

@@ -161,7 +161,7 @@ parts_of_words (joined given ∷ pieces) behind h =
     parts_by (45 ∷ 45 ∷ (given.name ++ 61 ∷ given.value)) more (Some (given.name, Some given.value)) (joined_not_mark given.name given.value) (long_joined given.name given.value sound.0)
     ∙ ap (with_part (Some given.name) given.value) (parts_of_words pieces behind sound.1)
 
--- the pieces in front are sound where the parts are
+-- the pieces before are sound where the parts are
 front : (pieces : List Piece) (behind : Option (List Text)) → list_all is_sound (parts_from pieces behind) ≡ true → list_all (λ p. is_sound (part_of_piece p)) pieces ≡ true
 front [] behind h = refl
 front (p ∷ pieces) behind h =

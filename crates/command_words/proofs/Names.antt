@@ -73,7 +73,7 @@ none_in name (other ∷ more) h =
     let parts = or_parts (bytes_eq other name) (list_any (λ o. bytes_eq o name) more) h in
     rw parts.0 (none_in name more parts.1)
 
--- ---- an option's name leads to its rule, and isn't the command word's id
+-- ---- an option's name leads to its rule, and is not the command word's id
 
 pub record IsOption (name : Text) : Type 0 where
   pub long : arg_by_long rules name ≡ Some (opt name)

@@ -1,4 +1,4 @@
--- The parts that words are read in, from the front: command words, and the values of named options.
+-- The parts in which arguments are read, from the first on: command words, and the values of named options.
 use Rattle.std.specs.Prelude.{◌&&◌, Bool, true, not, Option, None, Some, option_map, List, [], ◌∷◌, ◌++◌, map, codes, if◌then◌else◌}
 use Rattle.std.specs.List.{list_any}
 use Rattle.std.specs.Str.{bytes_eq}
@@ -14,14 +14,14 @@ use Rattle.command_words.specs.Matches.{option_names}
 abbrev pub Part : Type 0
 Part = Option Text × Text
 
--- a part in front of others, where there is a reading of those
+-- a part before others, where there is a reading of those
 abbrev pub with_part : Option Text → Text → Option (List Part) → Option (List Part)
 with_part name value rest = option_map (λ parts. (name, value) ∷ parts) rest
 
 abbrev pub trailing_part : Text → Part
 trailing_part word = (None, word)
 
--- what begins with a word that isn't `--`: `--name=value`, `--name` before its value, or a command word
+-- what begins with an argument that is not `--`: `--name=value`, `--name` before its value, or a command word
 abbrev pub part_of : Option (Text × Option Text) → Text → (Option Text → Option (List Part)) → Option (List Part)
 part_of (Some (name, Some value)) word rest = with_part (Some name) value (rest None)
 part_of (Some (name, None)) word rest = rest (Some name)

@@ -1,5 +1,5 @@
--- The words of a command line without the program's name: command words, and options whose values stand as in GNU's long
--- options (getopt_long). A word is its bytes.
+-- The arguments of a command line without the program's name: command words, and options whose values stand as in GNU's long
+-- options (getopt_long). An argument is its bytes.
 use Rattle.std.specs.Prelude.{◌≡◌, ℕ, ◌==◌, Bool, false, not, Option, None, Some, option_map, unwrap_or, List, [], ◌∷◌, ◌++◌, find, filter_map, codes}
 use Rattle.std.specs.List.{flat_map}
 use Rattle.std.specs.Str.{bytes_eq}
@@ -12,13 +12,13 @@ pub record Given : Type 0 where
   pub name : Text
   pub value : Text
 
--- a command word, or an option and its value: as two words, or as one word that `=` (61) joins
+-- a command word, or an option and its value: as two arguments, or as one argument that `=` (61) joins
 pub data Piece : Type 0 where
   word : Text → Piece
   apart : Given → Piece
   joined : Given → Piece
 
--- pieces, and behind them the words after a word `--` if there is one
+-- pieces, and after them the arguments after an argument `--` if there is one
 pub record Line : Type 0 where
   pub pieces : List Piece
   pub behind : Option (List Text)
@@ -32,7 +32,7 @@ abbrev pub words_behind : Option (List Text) → List Text
 words_behind None = []
 words_behind (Some words) = codes "--" ∷ words
 
--- the words that spell a line
+-- the arguments that spell a line
 abbrev pub words_of : Line → List Text
 words_of line = flat_map words_of_piece line.pieces ++ words_behind line.behind
 
@@ -46,7 +46,7 @@ option_of (word text) = None
 option_of (apart given) = Some given
 option_of (joined given) = Some given
 
--- after `--` every word is a command word
+-- after `--` every argument is a command word
 abbrev pub command_words : Line → List Text
 command_words line = filter_map command_word_of line.pieces ++ unwrap_or line.behind []
 

@@ -1,4 +1,4 @@
--- The commands, their options, and the words that ask for them. The commands are this program's own.
+-- The commands, their options, and the arguments that ask for them. The commands are this program's own.
 use Rattle.std.specs.Prelude.{◌≡◌, ℕ, ◌<◌, ◌≤◌, ◌&&◌, Bool, true, Option, None, Some, List, [], ◌∷◌, codes, decimal}
 use Rattle.std.specs.List.{list_all, list_any}
 use Rattle.std.specs.Str.{bytes_eq}
@@ -8,8 +8,8 @@ use Rattle.command_words.specs.CommandLine.{Text, Given, Line, words_of, command
 use Rattle.command_words.specs.declared.commands.Command.{Command}
 use Rattle.command_words.specs.declared.commands.Command.TheVariants.{Decode, Replay, Serve, Drill, Migrate}
 
--- a command with the values of its options: `serve` with how many hearings a link has beside the feeds, how many behind them, and the limit;
--- `drill` with its seed and the limit
+-- a command with the values of its options: `serve` has the number of hearings of a link beside the feeds, that after them, and
+-- the limit; `drill` has its seed and the limit
 pub data Asked : Type 0 where
   decode : Plan → Text → Asked
   replay : Text → Text → ℕ → Asked
@@ -48,7 +48,7 @@ IsNumber default least most (Some text) n = (text ≡ decimal n) × (least ≤ n
 abbrev pub IsLimit : Option Text → ℕ → Type 0
 IsLimit = IsNumber 1048576 1 4194304
 
--- how many hearings a link has: none at least, and a million at most
+-- how many hearings a link has: at least none, and at most a million
 abbrev pub IsHearings : ℕ → Option Text → ℕ → Type 0
 IsHearings default = IsNumber default 0 1000000
 
@@ -70,7 +70,7 @@ Says value (migrate station journal) = (value (codes "station") ≡ Some station
 abbrev pub is_of : List Text → Given → Bool
 is_of row given = list_any (bytes_eq given.name) row && is_value given.value
 
--- these words ask for a command; words are lawful where they ask for any
+-- these arguments ask for a command; arguments are valid where they ask for any
 pub record AskFor (words : List Text) (a : Asked) : Type 0 where
   pub line : Line
   pub spelt : words ≡ words_of line

@@ -1,4 +1,4 @@
--- The command that `clap` reads the words by, and what a command asks of the matches that it gives.
+-- The command with which `clap` reads the arguments, and what a command requires of the matches that it gives.
 use Rattle.std.specs.Prelude.{◌≡◌, ◌&&◌, Bool, true, Option, None, Some, option_map, List, [], ◌∷◌, fold, codes}
 use Rattle.std.specs.Borrow.{Bor}
 use Rattle.std.specs.List.{list_all, list_any}

@@ -1,4 +1,4 @@
-//! The command that `clap` reads the words by.
+//! The command with which `clap` reads the arguments.
 ghost use Rattle.std.specs.Prelude.{◌≡◌, IfOk, false, fold};
 ghost use Rattle.clap.specs.Words.{app_of, rule_of, with_rule};
 ghost use Rattle.command_words.specs.Matches.{app, option_rule};
@@ -18,7 +18,7 @@ fn option<'a>(alloc: Global, name: &'a str) -> Arg<'a>
     Arg::new(alloc, name).long(name).action(ArgAction::Set)
 }
 
-// The command with an option more for each name.
+// The command with one more option for each name.
 fn with_options<'a>(
     alloc: Global,
     command: Command<'a>,
@@ -33,7 +33,8 @@ fn with_options<'a>(
     Ok(command)
 }
 
-// One command word and the options of all commands, each with one value. Which command has which is asked after the parse.
+// One command word and the options of all commands, each with one value. The check of which command has which option comes after
+// the parse.
 pub fn grammar<'a>(alloc: Global) -> Result<Command<'a>, AllocError>
     ensures { IfOk result (λ c. app_of c ≡ app) }
 {

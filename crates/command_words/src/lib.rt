@@ -1,4 +1,4 @@
-//! The words of a command line, read with `clap`.
+//! The arguments of a command line, read with `clap`.
 #![tactic(auto)]
 
 mod commands;

@@ -1,4 +1,4 @@
-//! Reads the words of a command line.
+//! Reads the arguments of a command line.
 ghost use Rattle.std.specs.Prelude.{◌≡◌, map, IfOk, IfErr};
 ghost use Rattle.command_words.specs.Commands.{Asked, asked, AskFor, HasLimit};
 
@@ -8,15 +8,15 @@ use crate::rows::command;
 use clap::error::ErrorKind;
 use std::alloc::Global;
 
-/// The command that the words of a command line ask for, without the program's name.
+/// The command that the arguments of a command line ask for, without the program's name.
 ///
-/// Fails with `Usage` exactly where the words ask for no command, and with `Memory` where memory runs out.
+/// Fails with `Usage` exactly where the arguments ask for no command, and with `Memory` where memory runs out.
 pub fn read_words<'a>(alloc: Global, words: &'a [&'a str]) -> Result<Command<'a>, WordsFault>
     ensures asked { IfOk result (λ c. AskFor (map (λ w. w.now) words.entry.now) (asked c)) }
     ensures limits { IfOk result HasLimit }
     ensures only { (a : Asked) → AskFor (map (λ w. w.now) words.entry.now) a → IfOk result (λ c. asked c ≡ a) }
 
-    // Words that are refused for themselves are nobody's.
+    // Arguments that `clap` refuses belong to no command.
     ensures usage { IfErr result (λ e. e ≡ WordsFault.Usage → (a : Asked) → AskFor (map (λ w. w.now) words.entry.now) a → ⊥) }
 {
     let Ok(grammar) = grammar(alloc) else {

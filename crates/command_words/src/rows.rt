@@ -72,7 +72,7 @@ fn may_have(row: &[&str], name: &str, value: Option<&str>) -> bool
     }
 }
 
-// Whether each of these options may have what it was given.
+// Whether each of these options may have the value it was given.
 fn may_all_have(matches: &ArgMatches<'_>, row: &[&str], names: &[&str]) -> bool
     ensures { result ≡ list_all (λ w. may_have (map (λ w. w.now) row.now) w.now (first_of w.now (rows_of (found_of matches.now)))) names.now }
 {
@@ -81,7 +81,7 @@ fn may_all_have(matches: &ArgMatches<'_>, row: &[&str], names: &[&str]) -> bool
         .all(|name| may_have(row, name, value(matches, name)))
 }
 
-// Whether no other options were given than those of a row, and each with a value that may be one.
+// Whether all options given are those of a row, and each has a value that it may have.
 fn has_only(matches: &ArgMatches<'_>, row: &[&str]) -> bool
     ensures { result ≡ has_only (map (λ w. w.now) row.now) (rows_of (found_of matches.now)) }
 {
@@ -198,7 +198,7 @@ fn migrate<'a>(matches: &ArgMatches<'a>) -> Option<Command<'a>>
     })
 }
 
-// The command that matches ask for.
+// The command that `clap`'s matches ask for.
 pub fn command<'a>(matches: &ArgMatches<'a>) -> Option<Command<'a>>
     ensures asked { IfSome result (λ c. AreFor (rows_of (found_of matches.now)) (asked c)) }
     ensures every { (a : Asked) → AreFor (rows_of (found_of matches.now)) a → option_map asked result ≡ Some a }

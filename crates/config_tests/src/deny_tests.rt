@@ -1,4 +1,4 @@
-//! Whom a station denies, and how often a client may ask.
+//! Which nets a station denies, and how often a client may ask.
 ghost use Rattle.std.specs.Prelude.{◌≡◌, IfOk};
 ghost use Rattle.station_config.specs.Station.{gate_of};
 
@@ -10,7 +10,7 @@ use std::alloc::Global;
 use std::test::Fail;
 use tick_units::Local;
 
-// Each line has a file, with `|` for its line feeds, and what it comes to.
+// Each line has a file, with `|` for its line feeds, and the file's result.
 
 const NUMBERS: &str = r#"gap = 0 -> 4294967296 0
 gap = 60000000 -> 4294967296 0
@@ -26,7 +26,7 @@ clients = -1 -> range clients
 clients = true -> range clients
 "#;
 
-// What stands between the quotes of a net, and what the file comes to.
+// The text between the quotes of a net, and the file's result.
 const NETS: &str = r#"0.0.0.0/0 -> 4294967296 0
 255.255.255.255/32 -> 4294967296 0
 127.0.0.2/32 -> 4294967296 0
@@ -67,7 +67,7 @@ deny = ["1.2.3.4/8"] -> range deny
 [deny]|net = "1.2.3.4/8" -> range deny
 "#;
 
-// The denied nets come behind the keys.
+// The denied nets come after the keys.
 const ORDER: &str = r#"[[deny]]|x = 1|[[key]]|x = 1 -> unknown key.0.x
 [[deny]]|x = 1|[[key]] -> unknown deny.0.x
 [[deny]]|[[key]] -> missing key.0.id
@@ -107,7 +107,7 @@ fn faults_of_nets(rt: HostRuntime) -> Result<(), Fail> {
     Ok(())
 }
 
-// Sixteen nets may be; of more the texts are looked at first, and the keys are counted before them.
+// There may be sixteen nets; of more the texts are looked at first, and the keys are counted before them.
 #[test]
 fn seventeen_nets(rt: HostRuntime) -> Result<(), Fail> {
     let alloc = rt.alloc();
@@ -144,7 +144,7 @@ fn station(alloc: Global, text: &[u8]) -> Result<Station, Fail> {
     }
 }
 
-// The gate that a link of a station begins with.
+// The gate of clients with which a link of a station begins.
 fn gate(alloc: Global, station: &Station) -> Result<ClientGate, GateOpen>
     ensures { IfOk result (λ gate. gate ≡ gate_of station.now) }
 {

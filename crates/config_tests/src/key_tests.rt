@@ -1,9 +1,9 @@
-//! The keys of a station file, lawful ones and faulty ones.
+//! The keys of a station file, valid ones and faulty ones.
 use crate::tests::{answer, same, wrong};
 use station_config::read_station;
 use std::test::Fail;
 
-// Each line has a file, with `|` for its line feeds, and what it comes to.
+// Each line has a file, with `|` for its line feeds, and the file's result.
 
 const IDENTIFIERS: &str = r#"key = [] -> 4294967296 0
 [[key]]|id = 1|secret = "longwave" -> 4294967296 0
@@ -23,7 +23,7 @@ const IDENTIFIERS: &str = r#"key = [] -> 4294967296 0
 [[key]]|id = 1|secret = ""|[[key]]|id = 1|secret = "b" -> range key.0.secret
 "#;
 
-// What stands between the quotes of a secret, and what the file comes to.
+// The text between the quotes of a secret, and the file's result.
 const SECRETS: &str = r#"! -> 4294967296 0
 ~ -> 4294967296 0
 \u0021\u007e -> 4294967296 0
@@ -75,7 +75,7 @@ fn faults_of_keys(rt: HostRuntime) -> Result<(), Fail> {
     Ok(())
 }
 
-// Eight keys may be; of nine the identifiers and secrets are looked at first, and the links are counted before them.
+// There may be eight keys; of nine the identifiers and secrets are looked at first, and the links are counted before them.
 #[test]
 fn nine_keys(rt: HostRuntime) -> Result<(), Fail> {
     let alloc = rt.alloc();

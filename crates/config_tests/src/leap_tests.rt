@@ -4,7 +4,7 @@ use station_config::read_station;
 use std::alloc::Global;
 use std::test::Fail;
 
-// Each line has a file, with `|` for its line feeds, and what it comes to.
+// Each line has a file, with `|` for its line feeds, and the file's result.
 
 const VALUES: &str = r#"leap_file = "leap-seconds.list" -> 4294967296 0
 leap_file = " " -> 4294967296 0
@@ -63,7 +63,7 @@ fn a_station_may_have_none(rt: HostRuntime) -> Result<(), Fail> {
     Ok(())
 }
 
-// A station of so many servers.
+// A station of this many servers.
 fn servers(alloc: Global, top: &str, count: u8) -> Result<String, Fail> {
     let mut text = String::from_str(alloc, top)?;
     for _ in 0..count {
@@ -72,7 +72,7 @@ fn servers(alloc: Global, top: &str, count: u8) -> Result<String, Fail> {
     Ok(text)
 }
 
-// Sixteen feeds may be, whatever they are.
+// There may be sixteen feeds of any kind.
 #[test]
 fn it_counts_as_a_feed(rt: HostRuntime) -> Result<(), Fail> {
     let alloc = rt.alloc();

@@ -1,5 +1,5 @@
-//! Tests of the station file: lawful ones and faulty ones, and what each comes to. They stand in a crate of their own, so that what reads
-//! station files is not proved once more with them.
+//! Tests of the station file: valid ones and faulty ones, and the result of each. They have a crate of their own, so that the
+//! reader of station files is not proved once more with them.
 #![tactic(auto)]
 
 #[cfg(test)]

@@ -1,4 +1,4 @@
-//! Station files, lawful ones and faulty ones, and what each comes to.
+//! Station files, valid ones and faulty ones, and the result of each.
 use station_config::{KeyText, Station, StationFault, read_station};
 use std::alloc::Global;
 use std::fmt::Debug;
@@ -6,12 +6,12 @@ use std::process::Abort;
 use std::test::Fail;
 use tick_units::Plan;
 
-// What `assert_eq!` does, as a call: where many stand in a test, calls are proved in a third of the time.
+// What `assert_eq!` does, as a call: where a test has many, calls are proved in a third of the time.
 pub(crate) fn same<T: PartialEq + Debug + Drop>(rt: &impl Abort, left: T, right: T) {
     assert_eq!(*rt; left, right);
 }
 
-// The station of a listening laboratory.
+// The station of a laboratory that receives all three plans and serves on a link.
 const LABORATORY: &str = r#"bound = 500
 [[radio]]
 plan = "dcf"
@@ -32,7 +32,7 @@ port = 4123
 port = 5123
 "#;
 
-// In each table a line has a file, with `|` for its line feeds, and what it comes to.
+// In each table a line has a file, with `|` for its line feeds, and the file's result.
 
 const DEFAULTS: &str = r#"# nothing -> 4294967296 0
 radio = []|server = []|link = [] -> 4294967296 0
@@ -161,7 +161,7 @@ start = -1|[[radio]]|plan = 1|log = 1|delay = "" -> range start
 [[link]]|port = 1|[[link]]|port = 0 -> range link.1.port
 "#;
 
-// A key that isn't an array of tables is at fault itself, and nothing in it is looked at.
+// A key that is not an array of tables is at fault itself, and nothing in it is looked at.
 const ARRAYS: &str = r#"radio = [{x = 1}, 2] -> range radio
 radio = 1 -> range radio
 server = [1] -> range server
@@ -242,7 +242,7 @@ fn fault_text(alloc: Global, fault: &StationFault) -> Result<String, Fail> {
     }
 }
 
-// What a station file comes to, in one line.
+// The result of a station file, in one line.
 pub(crate) fn answer(alloc: Global, text: &[u8]) -> Result<String, Fail> {
     match read_station(alloc, text) {
         Ok(station) => station_text(alloc, &station),
@@ -259,7 +259,7 @@ fn in_lines(alloc: Global, text: &str) -> Result<String, Fail> {
     Ok(lines)
 }
 
-// Whether the file of a line, between two texts, comes to what the line says.
+// Whether the file of a line, between two texts, has the result that the line says.
 fn is_right(alloc: Global, line: &str, before: &str, after: &str) -> Result<bool, Fail> {
     let Some((file, want)) = line.split_once(" -> ") else {
         return Ok(false);
@@ -394,7 +394,7 @@ fn file_of(alloc: Global, rows: Rows) -> Result<String, Fail> {
     Ok(text)
 }
 
-// What a file with so many rows of each kind comes to.
+// The result of a file with this many rows of each kind.
 fn of_rows(
     alloc: Global,
     dcf: u8,

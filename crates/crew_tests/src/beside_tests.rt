@@ -8,11 +8,15 @@ use std::alloc::{AllocError, Global};
 use std::process::Abort;
 use std::sync::{Mutex, Wait};
 use std::test::Fail;
-use std::thread::{Threads, yield_now};
+use std::thread::{Threads, sleep};
+use std::time::Duration;
 use verdict_journal::Journal;
 
 // For how many turns a worker is held at the most: for some seconds.
 const TURNS: u64 = 10_000_000;
+
+// For how many milliseconds feeds wait for one another at the most.
+const WAIT: u32 = 5_000;
 
 const LIST: &str = "3644697600\t36\n3692217600\t37\n";
 
@@ -27,7 +31,7 @@ fn has_held_once(rt: &(impl Abort + Wait), gate: &HoldGate) {
     assert!(*rt; !gate.ran_out(rt));
 }
 
-// Two links hear a request each, in the first phase or in the second. One responder has heard, and goes on once the other has answered.
+// Two links receive a request each, in the first phase or in the second. One responder has received, and goes on once the other has answered.
 fn answers_after<R: Threads + Wait + Sync + Abort>(
     rt: &R,
     alloc: Global,
@@ -159,16 +163,19 @@ struct Met {
     ran_out: bool,
 }
 
-// A gate at which each feed waits before an entry until this many feeds have come to one.
+// A gate at which each feed waits before an entry until this many feeds have come to one. It waits by the clock, since turns take as long as
+// the host's load has them.
 #[derive(Drop)]
-struct MeetGate {
+struct MeetGate<'a> {
+    clock: &'a HostRuntime,
     feeds: u32,
     met: Mutex<Met>,
 }
 
-impl MeetGate {
-    fn new(feeds: u32) -> MeetGate {
+impl<'a> MeetGate<'a> {
+    fn new(clock: &'a HostRuntime, feeds: u32) -> MeetGate<'a> {
         MeetGate {
+            clock,
             feeds,
             met: Mutex::new(Met {
                 come: 0,
@@ -191,11 +198,11 @@ impl MeetGate {
     }
 
     fn hold<R: Wait>(&self, rt: &R) {
-        for _ in 0..TURNS {
+        for _ in 0..WAIT {
             if self.is_open(rt) {
                 return;
             }
-            yield_now();
+            sleep(self.clock, Duration::from_millis(1));
         }
         let mut met = self.met.lock(rt);
         met.ran_out = true;
@@ -208,7 +215,7 @@ impl MeetGate {
     }
 }
 
-impl Gate for MeetGate {
+impl Gate for MeetGate<'_> {
     fn pass<R: Wait>(&self, rt: &R, worker: u32, place: u8) {
         if place == 1 {
             self.come(rt, worker);
@@ -228,7 +235,7 @@ fn sixteen_feeds_of_all_kinds_meet(rt: HostRuntime) -> Result<(), Fail> {
     }
     gear.leap = Some(listed(alloc)?);
     let station = of_all_kinds(alloc, 14)?;
-    let gate = MeetGate::new(16);
+    let gate = MeetGate::new(&rt, 16);
     let ended = serve(&rt, alloc, &gate, station.as_str(), 20, NO_HEARINGS, gear)?;
     assert!(rt; gate.has_met(&rt));
     same(&rt, ended.journal.len(), 16);
@@ -244,7 +251,7 @@ fn sixteen_servers_meet(rt: HostRuntime) -> Result<(), Fail> {
         gear.servers.push(answered(alloc)?)?;
         station.push_str(SERVER)?;
     }
-    let gate = MeetGate::new(16);
+    let gate = MeetGate::new(&rt, 16);
     let ended = serve(&rt, alloc, &gate, station.as_str(), 20, NO_HEARINGS, gear)?;
     assert!(rt; gate.has_met(&rt));
     let round = PollWork {

@@ -25,7 +25,7 @@ const THIRD: Address = Address {
     port: 5000,
 };
 
-// A link that hears requests of version 4, of each its sender and its moment, and then its end.
+// A link that receives requests of version 4, of each its sender and its moment, and then its end.
 fn asked(alloc: Global, requests: &[(Address, u32)]) -> Result<MemoryLink, Fail> {
     let mut hearings = Vec::new(alloc);
     for (from, at) in requests {

@@ -29,7 +29,7 @@ const REPLY: [u8; 68] = [
     0xd0, 0xbb, 0x62, 0xd9,
 ];
 
-// A link that hears this request twice at 363 s, and then its end.
+// A link that receives this request twice at 363 s, and then its end.
 fn asked(alloc: Global, request: &[u8]) -> Result<MemoryLink, Fail> {
     let mut hearings = Vec::new(alloc);
     for _ in 0..2u32 {

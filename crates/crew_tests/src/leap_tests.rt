@@ -49,7 +49,7 @@ fn serve_list(
     )
 }
 
-// The first row tells when the list begins, and no leap second.
+// The first row says when the list begins, and is no leap second.
 #[test]
 fn each_row_but_the_first_is_a_notice(rt: HostRuntime) -> Result<(), Fail> {
     let ended = serve_list(

@@ -1,5 +1,5 @@
 //! The numbers by which responders pass the gate at which a test may hold them: 100 for the station's first link, and one more for
-//! each behind it.
+//! each link after it.
 
 use crate::tests::{LINK, asked, no_gear, serve};
 use feed_link::HoldGate;
@@ -9,10 +9,10 @@ use std::sync::Wait;
 use std::test::Fail;
 use std::thread::Threads;
 
-// The place that a responder passes after it has heard a datagram.
+// The place that a responder passes after it has received a datagram.
 const HEARD: u8 = 2;
 
-// How often the worker of this number passes that place, where two links hear one request and three, the first one of each in the
+// How often the worker of this number passes that place, where two links receive one request and three, the first one of each in the
 // first phase.
 fn passings(rt: &(impl Threads + Wait + Sync), alloc: Global, worker: u32) -> Result<u32, Fail> {
     let mut gear = no_gear(alloc);

@@ -30,7 +30,7 @@ struct Pair {
 }
 
 // A gate at which feed 0 and responder 100 wait for one another. The feed waits where it comes to a place for a stated time until the
-// responder has answered, and the responder, which has heard, reads its page while the feed stands there.
+// responder has answered, and the responder, which has received, reads its page while the feed stands there.
 #[derive(Drop)]
 struct PairGate {
     place: u8,
@@ -117,7 +117,7 @@ impl Gate for PairGate {
     }
 }
 
-// What the link is answered while feed 0, a radio that hears five minutes, stands at its fifth coming to a place: the first byte, the
+// What the link is answered while feed 0, a radio that receives five minutes, stands at its fifth coming to a place: the first byte, the
 // stratum, the reference ID.
 fn answered_at<R: Threads + Wait + Sync + Abort>(
     rt: &R,
@@ -146,7 +146,7 @@ fn a_feed_keeps_its_entry_between_its_two_places(rt: HostRuntime) -> Result<(), 
     Ok(())
 }
 
-// A link that hears a request, and whose call of this number fails: the hearing is its first, the sending its second.
+// A link that receives a request, and whose call of this number fails: receiving is its first, sending its second.
 fn failing(alloc: Global, fails: u64) -> Result<MemoryLink, Fail> {
     let mut hearings = Vec::new(alloc);
     hearings.push(Planned::Datagram {

@@ -1,4 +1,4 @@
-//! Stations over fakes: a log of DCF77 by PTB's table of 1 January 2026, 13:00 (12:00 UTC) and the minutes behind it, a server's answer that was
+//! Stations over fakes: a log of DCF77 by PTB's table of 1 January 2026, 13:00 (12:00 UTC) and the minutes after it, a server's answer that was
 //! worked by hand from RFC 5905, section 8, and clients whose answers are those of RFC 5905, section 7.3.
 ghost use Rattle.std.specs.Prelude.{◌≡◌, ◌<◌, ◌≤◌, IfOk};
 ghost use Rattle.radio_receiver.specs.Histories.{blank_of};
@@ -70,7 +70,7 @@ pub(crate) fn moment(microseconds: u32) -> Local {
     Local::new(u64::from(microseconds)).unwrap()
 }
 
-// Whether the frame of a minute behind 13:00, 0 to 7, has a one at a place: the minute's three bits stand at 21, 22 and 23, their parity at 28.
+// Whether the frame of a minute after 13:00, 0 to 7, has a one at a place: the minute's three bits stand at 21, 22 and 23, their parity at 28.
 fn is_one(minute: u32, place: u32) -> bool {
     match place {
         21 => minute & 1 != 0,
@@ -81,7 +81,7 @@ fn is_one(minute: u32, place: u32) -> bool {
     }
 }
 
-// The lines of the frame of a minute behind 13:00, which starts at 2 s in the first minute.
+// The lines of the frame of a minute after 13:00, which starts at 2 s in the first minute.
 fn add_frame(text: &mut String, minute: u32) -> Result<(), Fail> {
     for place in 0..59u32 {
         let second = u64::from(minute)
@@ -99,7 +99,7 @@ fn add_frame(text: &mut String, minute: u32) -> Result<(), Fail> {
     Ok(())
 }
 
-// The log of so many minutes: the last one closes at 2 s more than these.
+// The log of this many minutes: the last one closes 2 s after their sum.
 pub(crate) fn minutes(alloc: Global, count: u32) -> Result<MemorySource, Fail> {
     let mut text = String::from_str(alloc, "0 100000\n")?;
     for minute in 0..count {
@@ -111,7 +111,7 @@ pub(crate) fn minutes(alloc: Global, count: u32) -> Result<MemorySource, Fail> {
     Ok(MemorySource::new(bytes, Vec::new(alloc)))
 }
 
-// A link that hears so many requests at 363 s, and then its end.
+// A link that receives this many requests at 363 s, and then its end.
 pub(crate) fn asked(alloc: Global, count: u32) -> Result<MemoryLink, Fail> {
     let mut hearings = Vec::new(alloc);
     for _ in 0..count {

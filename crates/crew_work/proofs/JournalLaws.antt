@@ -72,11 +72,11 @@ counted k (e ∷ j) all =
     let one = of_one_feed e 0 k (omega arith) (omega (arith, feed)) in
     sym (counts_more e j 0 k ∙ omega (arith, rest, one))
 
--- a lawful journal has as many entries as its feeds have together
+-- a valid journal has as many entries as its feeds have together
 pub feeds-counted : (settings : SettingsFields) (journal : List Entry) → IsJournal settings journal → length journal ≡ sum_by (λ feed. length (of_feed feed journal)) (range_with_len 0 (length settings.sources))
 feeds-counted settings journal all = counted (length settings.sources) journal all
 
--- the first entries of a list and one behind them
+-- the first entries of a list and one after them
 front_and_one : (before : List Entry) (e : Entry) (more : List Entry) → take (suc (length before)) (before ++ e ∷ more) ≡ before ++ e ∷ []
 front_and_one [] e more = refl
 front_and_one (b ∷ before) e more = ap (λ l. b ∷ l) (front_and_one before e more)

@@ -53,7 +53,7 @@ pairs_at belong (x ∷ xs) [] i d e p lt = absurd p
 pairs_at belong (x ∷ xs) (y ∷ ys) zero d e p lt = p.0
 pairs_at belong (x ∷ xs) (y ∷ ys) (suc i) d e p lt = pairs_at belong xs ys i d e p.1 (omega arith)
 
--- some item of a list that isn't empty
+-- some item of a list that is not empty
 pub some_of : {X : Type 0} (xs : List X) (i : ℕ) → i < length xs → X
 some_of [] i lt = absurd (omega arith)
 some_of (x ∷ xs) i lt = x
@@ -89,7 +89,7 @@ pub map_both : {X Y Z : Type 0} (f : Y → Z) (g : X → Y) (xs : List X) → ma
 map_both f g [] = refl
 map_both f g (x ∷ xs) = ap (λ l. f (g x) ∷ l) (map_both f g xs)
 
--- the item at a place of two lists, one behind the other, each made from another
+-- the item at a place of two lists, one after the other, each made from another
 pub left_at : {X Y Z : Type 0} (f : X → Z) (g : Y → Z) (xs : List X) (ys : List Y) (i : ℕ) (d : X) → i < length xs → get_or (map f xs ++ map g ys) i (f d) ≡ f (get_or xs i d)
 left_at f g xs ys i d lt = get_or_append_left (map f xs) (map g ys) (f d) i (omega (arith, lt, length-map xs f)) ∙ get_or-map f xs i d (f d) lt
 
@@ -156,7 +156,7 @@ pub first_removed : {X : Type 0} (xs : List X) (x : X) → x ≡ slice_index_or 
 first_removed [] x is lt = absurd (omega (arith, lt))
 first_removed (y ∷ xs) x is lt = ap (λ z. z ∷ xs) (sym is)
 
--- the next item of a list behind those before it
+-- the next item of a list after those before it
 pub take_one_more : {X : Type 0} (xs ys : List X) (n : ℕ) (x : X) → n < length xs → slice_get xs n ≡ Some x → ys ≡ take n xs → ys ++ x ∷ [] ≡ take (n + 1) xs
 take_one_more xs ys n x lt at e = ap (λ l. l ++ x ∷ []) e ∙ ap (λ z. take n xs ++ z ∷ []) (sym (get_or_from_slice_get xs n x x at)) ∙ sym (take_more xs n x lt)
 
@@ -172,7 +172,7 @@ pairs_one belong [] ys x y n at e h = absurd (omega (arith, n))
 pairs_one belong (a ∷ []) ys x y n at e h = subst (λ l. Pairs belong (a ∷ []) l) (sym e) (subst (λ z. belong z y) (sym (get_or_from_slice_get (a ∷ []) 0 x x at)) h, tt)
 pairs_one belong (a ∷ b ∷ xs) ys x y n at e h = absurd (omega (arith, n))
 
--- one more was taken from the front of a list, and something was made of it
+-- one more was taken from the beginning of a list, and something was made of it
 pub moved : {J X : Type 0} (f : J → X) (js ks : List J) (j : J) (xs ys : List X) (x : X) (all : List X) → ks ≡ js ++ j ∷ [] → xs ≡ x ∷ ys → f j ≡ x → map f js ++ xs ≡ all → map f ks ++ ys ≡ all
 moved f js ks j xs ys x all pushed split same before =
     ap (λ l. map f l ++ ys) pushed ∙ ap (λ l. l ++ ys) (map-append f js (j ∷ [])) ∙ append_assoc (map f js) (f j ∷ []) ys ∙ ap (λ z. map f js ++ z ∷ ys) same ∙ ap (λ l. map f js ++ l) (sym split) ∙ before
@@ -180,7 +180,7 @@ moved f js ks j xs ys x all pushed split same before =
 pub all_rest : {X : Type 0} (P : X → Type 0) (xs ys : List X) (x : X) → xs ≡ x ∷ ys → All P xs → All P ys
 all_rest P xs ys x split all = All-tail P x ys (subst (All P) split all)
 
--- one more was put behind a list
+-- one more was put after a list
 pub all_pushed : {X : Type 0} (P : X → Type 0) (xs ys : List X) (x : X) → ys ≡ xs ++ x ∷ [] → All P xs → P x → All P ys
 all_pushed P xs ys x pushed all one = subst (All P) (sym pushed) (All-push P xs x all one)
 
@@ -189,7 +189,7 @@ counted_more : (first n next : ℕ) → first + n ≡ next → range_with_len fi
 counted_more first zero next e = let is : first ≡ next = omega (arith, e) in ap (λ k. k ∷ []) is
 counted_more first (suc n) next e = ap (λ l. first ∷ l) (counted_more (first + 1) n next (omega (arith, e)))
 
--- one more was put behind a list that is numbered from 0, with the next number
+-- one more was put after a list that is numbered from 0, with the next number
 pub numbered_more : {J : Type 0} (number : J → ℕ) (js ks : List J) (j : J) (n m : ℕ) → ks ≡ js ++ j ∷ [] → number j ≡ n → m ≡ n + 1 → map number js ≡ range_with_len 0 n → map number ks ≡ range_with_len 0 m
 numbered_more number js ks j n m pushed is more before =
     let next : suc n ≡ m = omega (arith, more) in

@@ -3,8 +3,8 @@ use Rattle.std.specs.Prelude.{◌≡◌, ℕ, ◌<◌, ◌≤◌, List, Bool, tr
 use Rattle.journal_entry.specs.declared.entry.Entry.{Entry}
 use Rattle.page_cell.specs.Claims.{of_feed}
 
--- The journal's entries of a feed are those that are due, in order. Where one of them found the journal full, they are a front of them
--- that isn't all, and the journal has as many entries as it may
+-- The journal's entries of a feed are those that are due, in order. Where one of them found the journal full, they are a beginning of them
+-- that is not all, and the journal has as many entries as it may
 pub record HasDue (limit : ℕ) (journal : List Entry) (feed : ℕ) (full : Bool) (due : List Entry) : Type 0 where
   pub count : ℕ
   pub most : count ≤ length due

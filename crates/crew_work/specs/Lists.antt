@@ -23,7 +23,7 @@ Both belong None (Some y) = ⊥
 Both belong (Some x) None = ⊥
 Both belong (Some x) (Some y) = belong x y
 
--- the same of a front of a list, of which the rest is still to come
+-- the same of a beginning of a list, of which the rest is still to come
 pub record PairsFront {X Y : Type 0} (belong : X → Y → Type 0) (all rest : List X) (ys : List Y) : Type 0 where
   pub front : List X
   pub is : front ++ rest ≡ all

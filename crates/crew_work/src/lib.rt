@@ -1,4 +1,5 @@
-//! What the crew of a station is asked for and what it leaves, as those below and above the crew name it.
+//! The budget of a station's crew and the record of what its responders did, in terms that the crates below and above the crew
+//! share.
 #![tactic(auto)]
 
 mod work;

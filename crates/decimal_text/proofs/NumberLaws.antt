@@ -29,7 +29,7 @@ is_text text count value h within small some plain =
     let is = h.says in
     sym (ap decimal is ∙ decimal-digits_value own ds h.digits (omega arith) (λ nought. len ∙ plain (sym first ∙ nought)) (omega arith))
 
--- no digits are no number's text, and nor are those behind a zero
+-- no digits are no number's text, and nor are those after a zero
 pub not_empty : (text : List ℕ) (value : ℕ) → value < 2 ^ 60 → take 0 text ≡ decimal value → ⊥
 not_empty text value small e =
     let some = decimal_nonempty value (omega arith) in
@@ -71,7 +71,7 @@ says_nothing text = record { digits = tt; says = refl }
 no_digit : (byte : ℕ) → IsTrue (nat_lt byte 48 || nat_lt 57 byte) → 48 ≤ byte → byte ≤ 57 → ⊥
 no_digit byte other least most = grind (arith, nat_tests)
 
--- behind the digits of a number stands no digit, or nothing
+-- after the digits of a number stands no digit, or nothing
 past : (n i : ℕ) (rest : List ℕ) → EndsNumber rest → AllDigits 10 (take i (decimal n ++ rest)) → i ≤ length (decimal n ++ rest) → length (decimal n) < i → ⊥
 past n i [] ends all within beyond = omega (arith, length-append (decimal n) [])
 past n i (byte ∷ more) ends all within beyond =

@@ -1,3 +1,3 @@
--- Read Numbers: what the reading of a number is asked for. Reading is scaffolding. What a number's text is, is std's `decimal`.
+-- Read Numbers: what the reading of a number gives. Reading is scaffolding. The text of a number is std's `decimal`.
 pub mod Numbers
 pub mod Reading

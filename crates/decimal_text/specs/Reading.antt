@@ -2,7 +2,7 @@
 use Rattle.std.specs.Prelude.{◌≡◌, ℕ, List, take}
 use Rattle.std.specs.Str.Parse.{AllDigits, digits_value}
 
--- so many bytes of a text are digits, and say this value
+-- the first `count` bytes of a text are digits, and write this value
 pub record SaysSoFar (text : List ℕ) (count value : ℕ) : Type 0 where
   pub digits : AllDigits 10 (take count text)
   pub says : value ≡ digits_value 10 (take count text)

@@ -15,8 +15,8 @@ pub struct Number {
     pub length: usize,
 }
 
-/// The number that a text begins with, up to the first byte that is no digit. `None` where there is none: where the text begins
-/// with no digit, with a zero before other digits, or with a number that is greater than `most`.
+/// The number that a text begins with, up to the first byte that is no digit. `None` where the text begins with no digit, with a
+/// zero before other digits, or with a number that is greater than `most`.
 pub fn first_number(text: &[u8], most: u64) -> Option<Number>
     requires { most < 2 ^ 60 }
     ensures number { IfSome result (λ number. BeginsWith text.now most number) }

@@ -16,7 +16,7 @@ fn all_of(text: &[u8], number: Number) -> Option<u64>
     }
 }
 
-/// The number that all of a text is. `None` where it is no number's text, or the text of one that is greater than `most`.
+/// The number that a whole text writes. `None` where the text writes no number, or one that is greater than `most`.
 pub fn whole_number(text: &[u8], most: u64) -> Option<u64>
     requires { most < 2 ^ 60 }
     ensures said { IfSome result (λ n. text.now ≡ decimal n) }

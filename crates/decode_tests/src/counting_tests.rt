@@ -1,4 +1,4 @@
-//! Tests of a receiver round a receiver: what it answers is what the inner one answers, and it counts what it hears.
+//! Tests of a receiver around a receiver: it answers as the inner one does, and counts the reductions that it receives.
 ghost use Rattle.std.specs.Prelude.{◌≡◌, ◌≤◌};
 
 use crate::shared::{dcf_minute, last_answer, lone, msf_minute, same, wwvb_minute};
@@ -7,8 +7,8 @@ use std::alloc::Global;
 use std::test::Fail;
 use tick_units::{Heard, Plan, Reduction};
 
-// Hears reductions that start at this moment or later, as far as their starts rise: the last answer, and the least start that may
-// come next.
+// Takes reductions that start at this moment or later, as far as their starts rise. Returns the last answer, and the least start
+// that may come next.
 fn hear_all<T: Receiver>(
     receiver: &mut T,
     least: u64,
@@ -42,7 +42,7 @@ fn minute_of(alloc: Global, plan: Plan) -> Result<Vec<Reduction>, Fail> {
     }
 }
 
-// What a receiver round this blank one counts before and behind a path delay, and behind a minute, and its answer to that.
+// What a receiver around this blank one counts before and after a path delay is set, and after a minute, and its answer to that.
 fn counts<T: Receiver>(
     alloc: Global,
     inner: Box<T>,
@@ -61,8 +61,8 @@ fn counts<T: Receiver>(
     Ok(([blank, fitted, counting.count()], heard))
 }
 
-// What two receivers round this blank one count of the first forty reductions of a minute, what the inner one of them counts once it
-// goes on by itself, and its answer.
+// What two receivers around this blank one count of the first forty reductions of a minute. Then what the inner one counts once
+// it goes on by itself, and its answer.
 fn goes_on<T: Receiver>(alloc: Global, inner: Box<T>) -> Result<([u64; 3], Option<Heard>), Fail>
     requires { T.least_start inner.value ≡ 0 }
 {
@@ -107,7 +107,7 @@ fn it_answers_what_its_inner_receiver_answers(rt: HostRuntime) -> Result<(), Fai
     Ok(())
 }
 
-// A minute of DCF77 has 61 reductions here, of which the last one completes it, one of MSF 63 and one of WWVB 62.
+// Here a minute of DCF77 has 61 reductions, one of MSF 63 and one of WWVB 62. The last reduction completes the minute.
 #[test]
 fn it_counts_each_reduction(rt: HostRuntime) -> Result<(), Fail> {
     let alloc = rt.alloc();
@@ -123,7 +123,7 @@ fn it_counts_each_reduction(rt: HostRuntime) -> Result<(), Fail> {
     Ok(())
 }
 
-// The inner one of two that count goes on where the outer one was taken away.
+// The inner one of two counting receivers goes on after the outer one was taken away.
 #[test]
 fn the_inner_receiver_goes_on(rt: HostRuntime) -> Result<(), Fail> {
     let alloc = rt.alloc();

@@ -1,4 +1,4 @@
-//! Days that are made up, against another program.
+//! Made days, against another program.
 use crate::shared::{SUM_OF_NONE, sum_on};
 use drill_day::make_logs;
 use feed_link::{Source, SureSource};
@@ -19,7 +19,8 @@ fn sum_of(log: &mut SureSource) -> (usize, u64) {
     (length, sum)
 }
 
-// The lengths and the checksums of logs that a program apart made by the same description (`bench/made_log.py`), for three seeds.
+// The lengths and the checksums of logs that a separate program made by the same description (`bench/made_log.py`), for three
+// seeds.
 #[test]
 fn days_are_those_of_another_program(rt: HostRuntime) -> Result<(), Fail> {
     let table = [

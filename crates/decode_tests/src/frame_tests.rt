@@ -59,7 +59,7 @@ fn seventy(symbols: &[Symbol; 70]) -> Result<[Mark; 70], Fail> {
     Ok(marks)
 }
 
-// What a frame comes to that reads these marks one by one.
+// What a frame comes to, where it reads these marks one by one.
 fn read_one_by_one<C: CodePlan>(segment: &[Mark], close: Local) -> Result<Coded, Broken> {
     let mut frame: Frame<C> = Frame::new();
     for mark in segment {
@@ -79,7 +79,7 @@ fn read_both<C: CodePlan>(segment: &[Mark], close: Local) -> Result<Result<Coded
     Ok(agreed.ok_or("the frame answers otherwise than the slice")?)
 }
 
-// Reads fronts of these marks in both ways, closed a second behind them.
+// Reads prefixes of these marks in both ways, closed a second after them.
 fn agree_on_fronts<C: CodePlan>(marks: &[Mark]) -> Result<(), Fail> {
     for count in [1usize, 58, 59, 60, 61, 62, 70] {
         let front = marks.get(..count).ok_or("count")?;
@@ -88,7 +88,7 @@ fn agree_on_fronts<C: CodePlan>(marks: &[Mark]) -> Result<(), Fail> {
     Ok(())
 }
 
-// Each symbol at each place, within a minute and behind it.
+// Each symbol at each place, within a minute and after it.
 fn agree_on_symbols<C: CodePlan>(symbols: &[Symbol; 70]) -> Result<(), Fail> {
     for place in 0..70 {
         for symbol in SYMBOLS {

@@ -10,7 +10,7 @@ const END_OF_2016: u64 = 3_692_217_600;
 
 const END_OF_JUNE_2015: u64 = 3_644_697_600;
 
-// The places that are One but for the announcement, by PTB's table: 1 January 2017, 00:58 and 00:59 CET.
+// The places that are One except for the announcement, by PTB's table: 1 January 2017, 00:58 and 00:59 CET.
 const WINTER: [usize; 16] = [
     18, 20, 24, 25, 27, 28, 36, 42, 43, 44, 45, 50, 51, 52, 54, 58,
 ];
@@ -57,7 +57,7 @@ fn symbol_at(plan: Plan, minute: &Minute<'_>, place: usize) -> Symbol {
     }
 }
 
-// What the marks of a minute come to, which begins at this second; DCF77 leaves out the last of 60.
+// What the marks of a minute come to that begins at this second; DCF77 leaves out the last of 60.
 fn hear_minute(
     pairing: &mut Pairing,
     plan: Plan,
@@ -87,7 +87,7 @@ fn after_two(plan: Plan, first: &Minute<'_>, second: &Minute<'_>) -> Option<Kind
     Some(heard.kind)
 }
 
-// Each way in which two neighbouring frames announce the same leap second, or don't.
+// Each way in which two neighbouring frames announce the same leap second, or do not.
 fn believes_both(
     rt: &impl Abort,
     plan: Plan,

@@ -1,5 +1,5 @@
-//! Tests of decoding, from the pulses of a log to its minutes, and of the making of logs. They stand in a crate of their own, so that none of
-//! the crates that they test is proved once more with them.
+//! Tests of decoding, from the pulses of a log to its minutes, and of the making of logs. They stand in a crate of their own: a
+//! change in them then re-proves none of the crates that they test.
 #![tactic(auto)]
 
 #[cfg(test)]

@@ -1,5 +1,5 @@
-//! Logs of DCF77 in which every expected value is from outside: the frames by PTB's table of 1 January 2026, 13:00 and 13:01,
-//! whose seconds since 1900 are 3976257600 and 3976257660.
+//! Logs of DCF77 in which every expected value is from outside. The frames are by PTB's table, of 1 January 2026, 13:00 and
+//! 13:01. Their seconds since 1900 are 3976257600 and 3976257660.
 ghost use Rattle.std.specs.Prelude.{◌≡◌, ◌≤◌};
 ghost use Rattle.log_decoder.specs.Decoding.{IsReady};
 
@@ -64,7 +64,7 @@ fn decoded<R: Receiver>(
     Ok(decoder.finish())
 }
 
-// A receiver that has heard nothing, with a path delay.
+// A receiver that has received nothing, with a path delay.
 fn fitted(receiver: BoxedReceiver, delay_us: u32) -> BoxedReceiver
     requires blank { least_start receiver ≡ 0 }
     requires delay { delay_us ≤ 100000 }

@@ -4,7 +4,7 @@ use minute_pair::Pairing;
 use std::test::Fail;
 use tick_units::{Heard, Kind, Plan, Symbol};
 
-// What a pairing answers last, over marks a second apart after a boundary, and a boundary behind them.
+// What a pairing answers last, over marks a second apart after a boundary, and a boundary after them.
 fn closed_after(marks: usize, odd_at: usize) -> Option<Heard> {
     let mut pairing = Pairing::new(Plan::Dcf);
     let mut start = 0;
@@ -22,7 +22,7 @@ fn closed_after(marks: usize, odd_at: usize) -> Option<Heard> {
     pairing.hear(mark_at(start.saturating_add(1_000_000), Symbol::Zero)?)
 }
 
-// A receiver that is stuck, with more marks than a minute has, is refused by its length, or by an odd width wherever it
+// The segment of a stuck receiver has more marks than a minute. It is refused by its length, or by an odd width wherever it
 // stands.
 #[test]
 fn a_segment_of_any_length_is_judged(rt: HostRuntime) -> Result<(), Fail> {

@@ -11,14 +11,14 @@ use tick_units::Plan;
 // 2026-03-01 00:00 UTC.
 const FIRST: u64 = 3_981_312_000;
 
-// A log that is made, and how its making ended.
+// A made log, and how its making ended.
 #[derive(Drop)]
 struct Making {
     ended: Result<u64, Failed>,
     text: Vec<u8>,
 }
 
-// Makes a log of so many minutes with the seed 7, into a sink whose writes of these numbers fail.
+// Makes a log of this many minutes with the seed 7, into a sink whose writes of these numbers fail.
 fn make_log(alloc: Global, plan: Plan, minutes: u32, fails: Vec<u64>) -> Making
     requires some { 1 ≤ minutes }
     requires few { minutes ≤ 1440 }
@@ -45,8 +45,8 @@ fn a_log_begins_with_the_mark_before_its_first_minute(rt: HostRuntime) -> Result
     Ok(())
 }
 
-// The numbers of lines, the lengths and the checksums of logs that a program apart made by the same description
-// (`bench/made_log.py`). Minute 7 of eight is spoilt.
+// The numbers of lines, the lengths and the checksums of logs that a separate program made by the same description
+// (`bench/made_log.py`). Minute 7 of eight is damaged.
 #[test]
 fn logs_are_those_of_another_program(rt: HostRuntime) -> Result<(), Fail> {
     for (plan, lines, length, sum) in [

@@ -64,7 +64,7 @@ fn a_receiver_is_blank_until_it_hears(rt: HostRuntime) -> Result<(), Fail> {
     Ok(())
 }
 
-// A minute of DCF77 begins 1900000 to 2100000 microseconds after the mark before it; so the second mark here begins one, which
+// A minute of DCF77 begins 1900000 to 2100000 microseconds after the mark before it. So the second mark here begins one, which
 // the third closes, or none does.
 #[test]
 fn a_minute_of_dcf77_begins_after_a_gap(rt: HostRuntime) -> Result<(), Fail> {
@@ -107,7 +107,7 @@ const BEFORE_LEAP: [usize; 17] = [
 
 const LEAP: [usize; 15] = [18, 19, 20, 29, 35, 36, 42, 43, 44, 45, 50, 51, 52, 54, 58];
 
-// The second marks of a minute of DCF77 but the first: those that are One, how many there are, and how far they are apart.
+// The second marks of a minute of DCF77 except the first: those that are One, how many there are, and how far they are apart.
 #[derive(Clone, Copy)]
 struct Places<'a> {
     ones: &'a [usize],
@@ -124,7 +124,7 @@ fn push_places(list: &mut Vec<Reduction>, begin: u64, places: &Places<'_>) -> Re
     Ok(())
 }
 
-// The last answer to two minutes of DCF77, the second of which begins at about 62 s, and which close at these moments.
+// The last answer to two minutes of DCF77, which close at these moments. The second begins at about 62 s.
 fn after_two(
     alloc: Global,
     before: &[usize],
@@ -155,7 +155,7 @@ fn answer(at: u64, kind: Kind) -> Option<Heard> {
     })
 }
 
-// A minute is believed where it closes 60 s behind the one before, within 100 ms.
+// A minute is believed where it closes 60 s after the one before, within 100 ms.
 #[test]
 fn minutes_are_a_minute_apart(rt: HostRuntime) -> Result<(), Fail> {
     let now = Places {
@@ -186,7 +186,7 @@ fn minutes_are_a_minute_apart(rt: HostRuntime) -> Result<(), Fail> {
     Ok(())
 }
 
-// A minute with a leap second closes 61 s behind the one before, or 60 s, within 100 ms of either.
+// A minute with a leap second closes 61 s after the one before, or 60 s, within 100 ms of either.
 #[test]
 fn a_leap_minute_is_a_second_longer(rt: HostRuntime) -> Result<(), Fail> {
     for (spacing, first, second, differs) in [

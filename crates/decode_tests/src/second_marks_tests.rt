@@ -4,7 +4,7 @@ use second_marks::Marker;
 use std::test::Fail;
 use tick_units::{Mark, Plan, Symbol};
 
-// Four short reductions, of which the second can't begin another pair, and the mark of the last is never given.
+// Four short reductions. The second cannot begin another pair, and the mark of the last never comes.
 #[test]
 fn two_parts_of_an_msf_second_are_one_mark(rt: HostRuntime) -> Result<(), Fail> {
     let mut marker = Marker::new(Plan::Msf);
@@ -70,7 +70,7 @@ fn msf_widths_have_their_classes(rt: HostRuntime) -> Result<(), Fail> {
     Ok(())
 }
 
-// Whether two reductions, so far apart and so wide, are the parts of one MSF second; else the first is a mark by itself.
+// Whether two reductions of this distance and these widths are the parts of one MSF second; else the first is a mark by itself.
 #[test]
 fn parts_are_short_and_150_to_250_ms_apart(rt: HostRuntime) -> Result<(), Fail> {
     let table = [

@@ -1,5 +1,5 @@
-//! What the tests share: minutes by the tables of PTB, NPL and NIST, the pulses of such minutes, what a receiver answers to them, and the
-//! checksum of a log.
+//! What the tests share: minutes by the tables of PTB, NPL and NIST, their pulses, what a receiver answers, and the checksum of a
+//! log.
 ghost use Rattle.std.specs.Prelude.{◌≡◌, ◌≤◌};
 
 use radio_receiver::Receiver;
@@ -9,7 +9,7 @@ use std::process::Abort;
 use std::test::Fail;
 use tick_units::{Heard, Kind, Local, Mark, Reduction, Symbol};
 
-// What `assert_eq!` does, as a call: where many stand in a test, calls are proved in a third of the time.
+// Does what `assert_eq!` does, as a call. In a test with many of them, calls are proved in a third of the time.
 pub fn same<T: PartialEq + Debug + Drop>(rt: &impl Abort, left: T, right: T) {
     assert_eq!(*rt; left, right);
 }
@@ -19,7 +19,7 @@ pub const NOON: [usize; 12] = [18, 20, 29, 30, 33, 35, 36, 44, 45, 51, 52, 55];
 
 pub const NOON_1: [usize; 14] = [18, 20, 21, 28, 29, 30, 33, 35, 36, 44, 45, 51, 52, 55];
 
-// The places at which bit A is 1, and those at which bit B is, in a frame of MSF, by NPL's table: 1 January 2026, 12:00.
+// The places with bit A 1, and those with bit B 1, in a frame of MSF, by NPL's table: 1 January 2026, 12:00.
 pub const MSF_A: [usize; 14] = [19, 22, 23, 29, 35, 36, 40, 43, 53, 54, 55, 56, 57, 58];
 
 const MSF_B: [usize; 3] = [1, 55, 57];
@@ -107,7 +107,7 @@ pub fn wwvb_minute(alloc: Global) -> Result<Vec<Reduction>, Fail> {
     Ok(list)
 }
 
-// The last answer to reductions, as far as their starts rise, of a receiver with a path delay.
+// The last answer of a receiver with a path delay to reductions, as far as their starts rise.
 pub fn last_answer(
     receiver: Box<dyn Receiver + Send>,
     delay_us: u32,

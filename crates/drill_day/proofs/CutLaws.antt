@@ -13,13 +13,13 @@ use Rattle.pulse_maker.specs.Made.{number_from}
 use Rattle.pulse_maker.specs.Minutes.{seconds_from}
 use Rattle.drill_day.proofs.MarkLaws.{mark_at, marks_from, read_as}
 
--- a second of this symbol begins a minute, directly behind one of that symbol; in DCF77 none does, since a second is left out there
+-- a second of this symbol begins a minute, directly after one of that symbol; in DCF77 none does, since a second is left out there
 abbrev pub is_step : Plan → Symbol → Symbol → Bool
 is_step Dcf before symbol = false
 is_step Msf before symbol = is_long (read_as Msf symbol)
 is_step Wwvb before symbol = is_long (read_as Wwvb before) && is_long (read_as Wwvb symbol)
 
--- none of these does, of which the first stands behind that symbol
+-- none of these does, of which the first stands after that symbol
 abbrev pub is_calm : Plan → Symbol → List Symbol → Bool
 is_calm plan before [] = true
 is_calm plan before (symbol ∷ more) = not (is_step plan before symbol) && is_calm plan symbol more

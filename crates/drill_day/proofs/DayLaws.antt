@@ -86,7 +86,7 @@ turn_minutes first seed m (suc count) least more le h =
 
 -- ---- the pieces between boundaries
 
--- whatever stands before the first minute, the minutes are cut out behind it
+-- whatever stands before the first minute, the minutes are cut out after it
 record HasMinutes (plan : Plan) (first minutes seed : ℕ) (marks : List Mark) : Type 0 where
   front : List Mark
   closing : List Mark

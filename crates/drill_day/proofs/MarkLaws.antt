@@ -37,7 +37,7 @@ marks_from plan start j (second ∷ more) = mark_at plan start j second.index se
 abbrev pub are_alone : List Second → Bool
 are_alone seconds = list_all (λ (s : Second). is_alone s.symbol) seconds
 
--- each second is behind the one before
+-- each second is after the one before
 abbrev pub InTurn : ℕ → List Second → Type 0
 InTurn least [] = Unit {0}
 InTurn least (second ∷ more) = (least ≤ second.index) × InTurn (second.index + 1) more

@@ -29,7 +29,7 @@ in_time at index late number small e =
     let soon : nat_le (start_of index number) (at + 2100000) ≡ true = le-leb (start_of index number) (at + 2100000) (omega (arith, e, small)) in
     rw (early, soon) refl
 
--- a minute begins behind such a mark
+-- a minute begins after such a mark
 opens : (plan : Plan) (start j index : ℕ) (before : Mark) (head : Symbol) → Leads plan index before → begins plan head ≡ true → is_boundary_behind plan before (mark_at plan start j index head) ≡ true
 opens Dcf start j index before head leads e = in_time before.at index leads.0 (number_from start j) leads.1 leads.2
 opens Msf start j index before head leads e = e
@@ -45,7 +45,7 @@ leads_on Wwvb start j m last count size e = e
 abbrev pub minute_marks : Plan → ℕ → ℕ → ℕ → ℕ → ℕ → List Mark
 minute_marks plan first seed start j m = marks_from plan start j (minute_seconds plan first seed m)
 
--- those of so many minutes from this one on
+-- those of this many minutes from this one on
 abbrev pub minutes_marks : Plan → ℕ → ℕ → ℕ → ℕ → ℕ → ℕ → List (List Mark)
 minutes_marks plan first seed start j m zero = []
 minutes_marks plan first seed start j m (suc count) = minute_marks plan first seed start j m ∷ minutes_marks plan first seed start (j + marked plan) (m + 1) count
@@ -54,7 +54,7 @@ pub seconds_count : (index : ℕ) (symbols : List Symbol) → length (seconds_fr
 seconds_count index [] = refl
 seconds_count index (symbol ∷ more) = ap suc (seconds_count (index + 1) more)
 
--- one minute, behind a mark that leads to it and before marks that begin another
+-- one minute, after a mark that leads to it and before marks that begin another
 pub one_minute : (plan : Plan) (start j m : ℕ) (symbols : List Symbol) (before : Mark) (rest : List Mark) (pieces : List (List Mark)) → IsMinute plan symbols → Leads plan (index_of m) before →
     ((last : Mark) → Leads plan (index_of (m + 1)) last → cut plan (Some last) rest ≡ [] ∷ pieces) →
     cut plan (Some before) (marks_from plan start j (seconds_from (index_of m) symbols) ++ rest) ≡ [] ∷ marks_from plan start j (seconds_from (index_of m) symbols) ∷ pieces
@@ -70,7 +70,7 @@ one_minute plan start j m symbols before rest pieces is leads behind =
     let whole : cut plan (Some before) ((head ∷ tail) ++ rest) ≡ [] ∷ (head ∷ tail) ∷ pieces = rw on (ap (λ l. [] ∷ onto_first head l) inner) in
     subst (λ s. cut plan (Some before) (marks_from plan start j (seconds_from index s) ++ rest) ≡ [] ∷ marks_from plan start j (seconds_from index s) ∷ pieces) (sym is.is) whole
 
--- so many minutes, and a mark that begins another
+-- this many minutes, and a mark that begins another
 pub minutes_cut : (plan : Plan) (first seed start j m count : ℕ) (closing : Symbol) (before : Mark) → begins plan closing ≡ true → Leads plan (index_of m) before →
     cut plan (Some before) (marks_from plan start j (flat_map (minute_seconds plan first seed) (range_with_len m count) ++ record { index = index_of (m + count); symbol = closing } ∷ []))
     ≡ [] ∷ (minutes_marks plan first seed start j m count ++ (mark_at plan start (j + marked plan * count) (index_of (m + count)) closing ∷ []) ∷ [])

@@ -139,7 +139,7 @@ wwvb_leap false leap civil day e = one_bit Wwvb leap e
 
 -- ---- DCF77
 
--- the minute that begins behind a frame isn't the second at which a leap second ends, where none is announced
+-- the minute that begins after a frame is not the second at which a leap second ends, where none is announced
 no_last : (first minute : ℕ) → ((coded_of first minute).leap_at == (coded_of first minute).minute) ≡ false
 no_last first minute = grind (arith, nat_tests)
 

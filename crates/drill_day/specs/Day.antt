@@ -1,5 +1,5 @@
--- The day of a drill: a log for each code plan, made up from a seed, and the entries that are due for it. The day that is made up is
--- this project's own choice.
+-- The day of a drill: a log for each code plan, made up from a seed, and the entries that are due for it. The choice of the day
+-- is this project's own.
 use Rattle.std.specs.Prelude.{◌≡◌, ◌≤◌, ℕ, None, Some, List, [], ◌∷◌, length}
 use Rattle.feed_link.specs.Told.{SourceState}
 use Rattle.tick_units.specs.Log.{bad_at_end}
@@ -25,7 +25,7 @@ day_log plan seed = text_of (made plan first_minute minutes_of_a_day seed)
 abbrev pub day_due : ℕ → Plan → ℕ → List Entry
 day_due feed plan seed = due_log feed plan 0 (day_log plan seed)
 
--- the logs of the three plans, in their order, and what a source of each tells
+-- the logs of the three plans, in their order, and what a source of each reports
 abbrev pub day_logs : ℕ → List (List ℕ)
 day_logs seed = day_log Dcf seed ∷ day_log Msf seed ∷ day_log Wwvb seed ∷ []
 

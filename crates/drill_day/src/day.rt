@@ -14,7 +14,7 @@ const FIRST_MINUTE: u64 = 3_981_312_000;
 
 const MINUTES: u32 = 1440;
 
-// The log of a plan. A making fails only for want of memory.
+// The log of a plan. Making it fails only for lack of memory.
 #[tactic(auto, unfolding(crate::specs::Day::day_log))]
 fn make_log(alloc: Global, plan: Plan, seed: u32) -> Result<SureSource, AllocError>
     ensures { IfOk result (λ log. sure_state log ≡ source_of (day_log plan seed)) }
@@ -42,14 +42,14 @@ fn add_log(
     Ok(())
 }
 
-/// The logs of a day, made up in memory: one of each plan, in the order DCF77, MSF, WWVB. Their jitter and their spoilt minutes come from
-/// the seed. Each has at most three million bytes.
+/// The logs of a day, made up in memory: one of each plan, in the order DCF77, MSF, WWVB. Their jitter and their spoilt minutes
+/// come from the seed. Each has at most three million bytes.
 ///
 /// Fails where memory runs out.
 pub fn make_logs(alloc: Global, seed: u32) -> Result<Vec<SureSource>, AllocError>
     ensures logs { IfOk result (λ logs. map sure_state logs.items ≡ map source_of (day_logs seed)) }
 
-    // They are lawful logs, for each of which as many entries are due as a day has minutes, and none names a leap second.
+    // They are valid logs. As many entries are due for each as a day has minutes, and none names a leap second.
     ensures due { IfOk result (λ _. (feed : ℕ) (plan : Plan) → IsDay feed plan seed) }
 {
     let mut logs = Vec::with_capacity(alloc, 3)?;

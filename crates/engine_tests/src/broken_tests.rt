@@ -1,5 +1,5 @@
 //! Broken input, failing devices, swaps and a full journal, each case by itself over the fakes: what comes before stands, what goes wrong is
-//! told by its name, and the rest goes on. The minutes are those of DCF77 by PTB's table, 1 January 2026, 13:00 (12:00 UTC) and behind it;
+//! named, and the rest goes on. The minutes are those of DCF77 by PTB's table, 1 January 2026, 13:00 (12:00 UTC) and later;
 //! the answer of the server was worked by hand from RFC 5905, section 8.
 
 use crate::runs::{same, written_over};
@@ -46,7 +46,7 @@ fn request(alloc: Global, length: usize) -> Result<Planned, AllocError> {
     })
 }
 
-// A link that hears requests of these lengths and then its end, and whose hearing or sending of this number fails.
+// A link that receives requests of these lengths and then its end, and whose receiving or sending of this number fails.
 fn link(alloc: Global, lengths: &[usize], fails: u64) -> Result<MemoryLink, FakeOpen> {
     let mut hearings = Vec::new(alloc);
     for length in lengths {
@@ -71,7 +71,7 @@ fn answers(alloc: Global, fails: u64) -> Result<MemoryLink, FakeOpen> {
     MemoryLink::new(alloc, hearings, moments, fails, 60, 6000)
 }
 
-// What was written, how it ended, and the outside behind it.
+// What was written, how it ended, and the outside after it.
 #[derive(Drop)]
 struct Ran {
     written: Vec<u8>,
@@ -103,7 +103,7 @@ fn run<R: Threads + Wait + Sync>(
 }
 
 // What a run writes is the whole text, or the status of want of memory alone, or, where the output in memory found no room for more, a
-// front of the text. Where the run wasn't reached nothing is judged.
+// prefix of the text. Where the run wasn't reached nothing is judged.
 fn is_whole_or_wants_memory(rt: &impl Abort, ran: Result<Ran, FakeOpen>, whole: &str) {
     let Ok(ran) = ran else {
         return;
@@ -169,7 +169,7 @@ fn a_start_behind_the_greatest_is_bad(rt: HostRuntime) -> Result<(), Fail> {
     hears(&rt, rt.alloc(), log, 0, &FIRST_IS_BAD, Status::BadLine)
 }
 
-// Nothing behind the 32nd byte is looked at, and no second reading is made, which would fail.
+// Nothing after the 32nd byte is looked at, and no second reading is made, which would fail.
 #[test]
 fn digits_without_a_line_feed_are_bad_at_the_32nd(rt: HostRuntime) -> Result<(), Fail> {
     let mut log = String::new(rt.alloc());
@@ -269,7 +269,7 @@ fn datagrams_are_short_under_48_bytes(rt: HostRuntime) -> Result<(), Fail> {
     Ok(())
 }
 
-// A link hears, answers, and hears: its third call.
+// A link receives, answers, and receives: its third call.
 #[test]
 fn a_second_hearing_that_fails_leaves_one_turn(rt: HostRuntime) -> Result<(), Fail> {
     let alloc = rt.alloc();
@@ -288,7 +288,7 @@ fn a_second_hearing_that_fails_leaves_one_turn(rt: HostRuntime) -> Result<(), Fa
     Ok(())
 }
 
-// A poller sends, hears, and sends: its third call. Of the second round there is the moment of its request alone.
+// A poller sends, receives, and sends: its third call. Of the second round there is the moment of its request alone.
 #[test]
 fn a_second_sending_that_fails_cuts_its_round(rt: HostRuntime) -> Result<(), Fail> {
     let alloc = rt.alloc();
@@ -380,7 +380,7 @@ fn of_each_feed_a_full_journal_has_a_front(rt: HostRuntime) -> Result<(), Fail> 
     Ok(())
 }
 
-// Serves a radio that hears a minute, and a link with one request.
+// Serves a radio that receives a minute, and a link with one request.
 fn serves_a_minute<R: Threads + Wait + Sync>(rt: &R, alloc: Global) -> Result<Ran, FakeOpen> {
     let station = format!(in alloc; "{RADIO}{LINK}")?;
     let station = file(alloc, "s", station.as_str(), 0)?;
@@ -390,7 +390,7 @@ fn serves_a_minute<R: Threads + Wait + Sync>(rt: &R, alloc: Global) -> Result<Ra
     run(rt, alloc, &SERVE, station, files, links)
 }
 
-// Behind checks/refuse-allocations.sh each allocation is refused in turn.
+// Under checks/refuse-allocations.sh each allocation is refused in turn.
 #[test]
 fn want_of_memory_in_a_serving(rt: HostRuntime) {
     let ran = serves_a_minute(&rt, rt.alloc());

@@ -1,8 +1,8 @@
-//! Swaps with receivers that count what they hear: what is written is the same, whichever receivers stand in the rack.
+//! Swaps with receivers that count what they receive: what is written is the same, whichever receivers stand in the rack.
 ghost use Rattle.std.specs.Prelude.{◌≡◌, IfOk, false};
 ghost use Rattle.feed_link.specs.MemoryOutside.{is_gate_out};
 
-use crate::runs::{outside_of, run_over, same};
+use crate::runs::{OF_A_PLAN, outside_of, run_over, same};
 use crate::test_station::{file, minutes, one};
 use feed_link::{FakeOpen, Gate, MemoryOutside, MemorySink, OpenGate};
 use radio_engine::{Status, run_station};
@@ -17,7 +17,7 @@ use tick_units::Plan;
 
 const REPLAY: [&str; 5] = ["replay", "--station", "s", "--script", "p"];
 
-// Runs the words with four receivers of each plan, each of which counts what it hears.
+// Runs the words with four receivers of each plan, each of which counts what it receives.
 fn run_counting<R: Threads + Wait + Sync, G: Gate + Drop>(
     rt: &R,
     alloc: Global,
@@ -28,70 +28,18 @@ fn run_counting<R: Threads + Wait + Sync, G: Gate + Drop>(
     requires { is_gate_out outside.old ≡ false }
 {
     let mut rack: Vec<BoxedReceiver> = Vec::new(alloc);
-    put_in_rack(
-        &mut rack,
-        Box::new(alloc, CountingReceiver::new(DcfReceiver::new()))?,
-        Plan::Dcf,
-    )?;
-    put_in_rack(
-        &mut rack,
-        Box::new(alloc, CountingReceiver::new(MsfReceiver::new()))?,
-        Plan::Msf,
-    )?;
-    put_in_rack(
-        &mut rack,
-        Box::new(alloc, CountingReceiver::new(WwvbReceiver::new()))?,
-        Plan::Wwvb,
-    )?;
-    put_in_rack(
-        &mut rack,
-        Box::new(alloc, CountingReceiver::new(DcfReceiver::new()))?,
-        Plan::Dcf,
-    )?;
-    put_in_rack(
-        &mut rack,
-        Box::new(alloc, CountingReceiver::new(MsfReceiver::new()))?,
-        Plan::Msf,
-    )?;
-    put_in_rack(
-        &mut rack,
-        Box::new(alloc, CountingReceiver::new(WwvbReceiver::new()))?,
-        Plan::Wwvb,
-    )?;
-    put_in_rack(
-        &mut rack,
-        Box::new(alloc, CountingReceiver::new(DcfReceiver::new()))?,
-        Plan::Dcf,
-    )?;
-    put_in_rack(
-        &mut rack,
-        Box::new(alloc, CountingReceiver::new(MsfReceiver::new()))?,
-        Plan::Msf,
-    )?;
-    put_in_rack(
-        &mut rack,
-        Box::new(alloc, CountingReceiver::new(WwvbReceiver::new()))?,
-        Plan::Wwvb,
-    )?;
-    put_in_rack(
-        &mut rack,
-        Box::new(alloc, CountingReceiver::new(DcfReceiver::new()))?,
-        Plan::Dcf,
-    )?;
-    put_in_rack(
-        &mut rack,
-        Box::new(alloc, CountingReceiver::new(MsfReceiver::new()))?,
-        Plan::Msf,
-    )?;
-    put_in_rack(
-        &mut rack,
-        Box::new(alloc, CountingReceiver::new(WwvbReceiver::new()))?,
-        Plan::Wwvb,
-    )?;
+    for _ in 0..OF_A_PLAN {
+        let dcf = CountingReceiver::new(DcfReceiver::new());
+        put_in_rack(&mut rack, Box::new(alloc, dcf)?, Plan::Dcf)?;
+        let msf = CountingReceiver::new(MsfReceiver::new());
+        put_in_rack(&mut rack, Box::new(alloc, msf)?, Plan::Msf)?;
+        let wwvb = CountingReceiver::new(WwvbReceiver::new());
+        put_in_rack(&mut rack, Box::new(alloc, wwvb)?, Plan::Wwvb)?;
+    }
     Ok(run_station(rt, alloc, words, rack, outside, out))
 }
 
-// A station with a radio of DCF77, and the script of three minutes in which it is swapped behind the pulse at 90 s.
+// A station with a radio of DCF77, and the script of three minutes in which it is swapped after the pulse at 90 s.
 fn swapped(alloc: Global) -> Result<MemoryOutside<OpenGate>, FakeOpen>
     ensures { IfOk result (λ outside. is_gate_out outside ≡ false) }
 {

@@ -302,7 +302,7 @@ fn closings_that_are_no_minute_apart_differ(rt: HostRuntime) -> Result<(), Fail>
 }
 
 // The lines of an MSF frame that starts at 2 s: the places at which bit A and bit B are 1, and how far apart the two parts
-// of a second start in which bit B alone is. A closing mark stands behind it, and a mark that gives that one.
+// of a second start in which bit B alone is. A closing mark stands after it, and a mark that gives that one.
 fn msf_log(
     alloc: Global,
     a: &[usize],
@@ -382,7 +382,7 @@ const WWVB_2016: [usize; 18] = [
     1, 3, 5, 8, 12, 17, 18, 22, 23, 26, 27, 31, 32, 36, 38, 48, 51, 52,
 ];
 
-// A frame of WWVB that starts at 2 s, behind a marker and with one behind it. One more place is One.
+// A frame of WWVB that starts at 2 s, with a marker before it and one after it. One more place is One.
 fn wwvb_log(alloc: Global, ones: &[usize], more: usize) -> Result<String, AllocError> {
     let mut text = String::from_str(alloc, "1000000 800000\n")?;
     for place in 0..60usize {

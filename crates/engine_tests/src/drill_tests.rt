@@ -1,4 +1,4 @@
-//! Tests of `drill`. What it tells of a day was worked out by a program apart (`bench/drill_model.py`) from the minutes as they are spelt.
+//! Tests of `drill`. What it prints of a day was worked out by a program apart (`bench/drill_model.py`) from the minutes as they are spelt.
 ghost use Rattle.std.specs.Prelude.{◌≡◌, IfOk, false};
 ghost use Rattle.feed_link.specs.MemoryOutside.{is_gate_out};
 
@@ -70,7 +70,7 @@ fn a_day_of_the_greatest_seed(rt: HostRuntime) -> Result<(), Fail> {
     tells(&rt, rt.alloc(), "4294967295", LAST_SEED)
 }
 
-// A feed waits with its second entry until another has put its entry into the journal: what is told is the same.
+// A feed waits with its second entry until another has put its entry into the journal: what is printed is the same.
 fn waits(
     rt: &(impl Abort + Threads + Wait + Sync),
     alloc: Global,
@@ -146,7 +146,7 @@ fn a_journal_of_three_entries_is_told(rt: HostRuntime) -> Result<(), Fail> {
     Ok(())
 }
 
-// The writing of this number fails, and behind it nothing is written. Three lines of feeds, the page and the status are five.
+// The writing of this number fails, and after it nothing is written. Three lines of feeds, the page and the status are five.
 fn is_cut(
     rt: &(impl Abort + Threads + Wait + Sync),
     alloc: Global,

@@ -61,7 +61,7 @@ const LINES: [&str; 9] = [
     "status 0\n",
 ];
 
-// The first so many of these lines, and a text behind them.
+// The first of these lines, this many, and a text after them.
 fn front(alloc: Global, count: usize, end: &str) -> Result<String, AllocError> {
     let mut text = String::new(alloc);
     for line in LINES.iter().take(count) {
@@ -247,7 +247,7 @@ fn a_failed_writing_comes_before_other_faults(rt: HostRuntime) -> Result<(), Fai
 }
 
 // Runs words where memory may be refused. What they write is the whole text, or the status of want of memory alone, or, where
-// the output in memory found no room for more, a front of the text. Where the run wasn't reached nothing is judged.
+// the output in memory found no room for more, a prefix of the text. Where the run wasn't reached nothing is judged.
 fn is_whole_or_wants_memory(
     rt: &(impl Abort + Threads + Wait + Sync),
     alloc: Global,
@@ -274,7 +274,7 @@ fn is_whole_or_wants_memory(
     }
 }
 
-// Behind checks/refuse-allocations.sh each allocation is refused in turn.
+// Under checks/refuse-allocations.sh each allocation is refused in turn.
 #[test]
 fn want_of_memory_in_a_replay(rt: HostRuntime) {
     let alloc = rt.alloc();

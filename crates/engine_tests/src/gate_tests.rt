@@ -1,4 +1,4 @@
-//! Tests of the gate of clients over the fakes: what `replay` and `serve` tell a client that asks too often, one of a denied net, and the
+//! Tests of the gate of clients over the fakes: what `replay` and `serve` answer a client that asks too often, one of a denied net, and the
 //! others. The kiss codes are those of RFC 5905, section 7.4; the minutes are those of the other tests.
 
 use crate::replay_tests::{DCF, NONE, WORDS, pulses, run};
@@ -17,7 +17,7 @@ const GAP: &str = "gap = 2000000\n";
 
 const DENY: &str = "[[deny]]\nnet = \"127.0.0.2/32\"\n";
 
-// The beginning of a reply that tells the time at 303 s, and of one at any moment.
+// The beginning of a reply with the time at 303 s, and of one at any moment.
 const TIME_AT_303: &str = "reply 240106ec000000000000f06744434600ed00e13000000000";
 
 const TIME: &str = "reply 240106ec";
@@ -33,7 +33,7 @@ fn request(text: &mut String, connection: u32, arrived: u64, sent: u64) -> Resul
     text.push_str("1122334455667788\n")
 }
 
-// The replies to requests of these connections at these moments, behind five minutes of a DCF77 radio, begin so.
+// The replies to requests of these connections at these moments, after five minutes of a DCF77 radio, begin so.
 fn are_replied(
     rt: &(impl Abort + Threads + Wait + Sync),
     alloc: Global,
@@ -181,7 +181,7 @@ const STRANGER: Address = Address {
     port: 5000,
 };
 
-// A link that hears a request of each of these, at the same moment, and then its end.
+// A link that receives a request of each of these, at the same moment, and then its end.
 fn hears(alloc: Global, senders: &[Address]) -> Result<MemoryLink, FakeOpen> {
     let mut hearings = Vec::new(alloc);
     for from in senders {
@@ -194,7 +194,7 @@ fn hears(alloc: Global, senders: &[Address]) -> Result<MemoryLink, FakeOpen> {
     MemoryLink::new(alloc, hearings, Vec::new(alloc), Vec::new(alloc), 60, 6000)
 }
 
-// The reference IDs of the replies that were sent to a client, one behind the other.
+// The reference IDs of the replies that were sent to a client, in order.
 fn sent_to(alloc: Global, link: &MemoryLink, client: Address) -> Result<Vec<u8>, AllocError> {
     let mut letters = Vec::new(alloc);
     for place in 0..link.count() {
@@ -209,7 +209,7 @@ fn sent_to(alloc: Global, link: &MemoryLink, client: Address) -> Result<Vec<u8>,
     Ok(letters)
 }
 
-// The second phase goes on with the table of the first: the client that was let pass there is told RATE. Each link has a table of its own.
+// The second phase goes on with the table of the first: the client that was let pass there gets RATE. Each link has a table of its own.
 #[test]
 fn two_links_judge_over_both_phases(rt: HostRuntime) -> Result<(), Fail> {
     let alloc = rt.alloc();
@@ -257,7 +257,7 @@ fn two_links_judge_over_both_phases(rt: HostRuntime) -> Result<(), Fail> {
     Ok(())
 }
 
-// In the second phase alone: the first reply tells the time of the page, and the next is the kiss code at the same moments.
+// In the second phase alone: the first reply has the time of the page, and the next is the kiss code at the same moments.
 #[test]
 fn a_link_tells_the_time_once_a_gap(rt: HostRuntime) -> Result<(), Fail> {
     let alloc = rt.alloc();

@@ -27,14 +27,14 @@ const NOTICE: &str = "j2 1 0 1 0 notice 3692217600\n";
 
 const NOTICE_PAGE: &str = "page 1 0 0 494e4954 0 0 0 0 1048576 0000000000000000 0 0\n";
 
-// The log of a radio that was never heard, and a leap second file.
+// The log of a radio that never received anything, and a leap second file.
 fn logs(alloc: Global, list: &str, fails: u64) -> Result<Vec<NamedLog>, Fail> {
     let mut logs = one(alloc, file(alloc, "a", "", 0)?)?;
     logs.push(file(alloc, "l", list, fails)?)?;
     Ok(logs)
 }
 
-// A station whose radio was never heard, with a leap second file of this text, writes these texts, and ends so.
+// A station whose radio never received anything, with a leap second file of this text, writes these texts, and ends so.
 fn writes_list(
     rt: &(impl Abort + Threads + Wait + Sync),
     alloc: Global,
@@ -98,7 +98,7 @@ fn a_read_fails_behind_an_unfinished_row(rt: HostRuntime) -> Result<(), Fail> {
     writes_list(&rt, rt.alloc(), list, 2, &want, Status::ReadFault)
 }
 
-// Rows behind so many bytes of remarks, in lines of 64 bytes.
+// Rows after this many bytes of remarks, in lines of 64 bytes.
 fn remarks(alloc: Global, count: u32, rest: &str) -> Result<String, Fail> {
     let mut text = String::new(alloc);
     for _ in 0..count {
@@ -199,7 +199,7 @@ fn it_is_opened_behind_the_logs(rt: HostRuntime) -> Result<(), Fail> {
     Ok(())
 }
 
-// Its worker waits until the server's has kept its sample: its feed is the last one, behind the server's.
+// Its worker waits until the server's has kept its sample: its feed is the last one, after the server's.
 #[test]
 fn its_feed_stands_behind_the_servers(rt: HostRuntime) -> Result<(), Fail> {
     let alloc = rt.alloc();
@@ -222,7 +222,7 @@ fn its_feed_stands_behind_the_servers(rt: HostRuntime) -> Result<(), Fail> {
     Ok(())
 }
 
-// Its worker waits until the radio has told five minutes of 1 January 2026. A leap second at the end of that month is then still to come.
+// Its worker waits until the radio has received five minutes of 1 January 2026. A leap second at the end of that month is then still to come.
 #[test]
 fn the_page_of_a_station_is_armed(rt: HostRuntime) -> Result<(), Fail> {
     let alloc = rt.alloc();
@@ -241,7 +241,7 @@ page 6 1 1 44434600 17077896086183477248 302000000 4364906902 0 61542 ed00e13000
 
 const REPLAY: [&str; 5] = ["replay", "--station", "s", "--script", "c"];
 
-// What `replay` writes of a leap second that is told at noon for midnight, and the reply to a request a second later: its leap indicator is 1.
+// What `replay` writes of a leap second that is announced at noon for midnight, and the reply to a request a second later: its leap indicator is 1.
 const ANNOUNCED: &str = "j2 6 0 1 302000000 notice 3976300800\n\
 reply 640106ec000000000000f06744434600ed00e130000000001122334455667788ed00e13100000000ed00e1310020c49b\n\
 page 6 1 1 44434600 17077896086183477248 302000000 4364906902 0 61542 ed00e13000000000 3976300800 0\nstatus 0\n";

@@ -46,7 +46,7 @@ fn refuses(
     moves(rt, alloc, journal, want.as_str(), Status::BadLine)
 }
 
-// The second line is bad, behind a minute that was told once.
+// The second line is bad, after a minute that stands there once.
 fn refuses_the_second(
     rt: &(impl Abort + Threads + Wait + Sync),
     alloc: Global,
@@ -151,7 +151,7 @@ fn what_is_lawful_is_moved(rt: HostRuntime) -> Result<(), Fail> {
     moves(&rt, alloc, journal, want, Status::Done)
 }
 
-// A line that is too long is bad at its 300th byte, whatever comes behind it.
+// A line that is too long is bad at its 300th byte, whatever comes after it.
 #[test]
 fn a_line_of_300_bytes(rt: HostRuntime) -> Result<(), Fail> {
     let alloc = rt.alloc();

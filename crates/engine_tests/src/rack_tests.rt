@@ -3,7 +3,7 @@ ghost use Rattle.std.specs.Prelude.{◌≡◌, IfOk, false};
 ghost use Rattle.feed_link.specs.MemoryOutside.{is_gate_out};
 ghost use Rattle.radio_receiver.specs.Histories.{History};
 
-use crate::runs::{outside_of, same};
+use crate::runs::{OF_A_PLAN, outside_of, same};
 use crate::test_station::{file, one};
 use feed_link::{FakeOpen, Gate, MemoryOutside, MemorySink, OpenGate};
 use radio_engine::{Status, run_station};
@@ -19,10 +19,11 @@ use tick_units::{Heard, Plan, Reduction};
 
 const REPLAY: [&str; 5] = ["replay", "--station", "s", "--script", "p"];
 
-// What the four receivers of a plan add for each reduction that they hear: a count of four hexadecimal digits has room for each of them.
-const STEPS: [u64; 4] = [1, 0x1_0000, 0x1_0000_0000, 0x1_0000_0000_0000];
+// How many times more each receiver of a plan adds than the one before it, which adds 1 at first: four hexadecimal digits of a count are of
+// one receiver.
+const NEXT: u64 = 0x1_0000;
 
-// A receiver round a receiver, which adds its step to a count that others share wherever it hears.
+// A receiver round a receiver, which adds its step to a count that others share wherever it receives.
 #[derive(Drop)]
 struct NotingReceiver<T> {
     inner: T,
@@ -63,7 +64,7 @@ impl<T: Receiver> Receiver for NotingReceiver<T> {
     }
 }
 
-// How often the four receivers of each plan have heard.
+// How often the four receivers of each plan have received.
 #[derive(Drop)]
 struct Counts {
     dcf: Arc<AtomicU64, Global>,
@@ -71,7 +72,7 @@ struct Counts {
     wwvb: Arc<AtomicU64, Global>,
 }
 
-// Runs the words with four receivers of each plan, each of which notes where it hears.
+// Runs the words with four receivers of each plan, each of which notes where it receives.
 fn run_noting<R: Threads + Wait + Sync, G: Gate + Drop>(
     rt: &R,
     alloc: Global,
@@ -83,114 +84,16 @@ fn run_noting<R: Threads + Wait + Sync, G: Gate + Drop>(
     requires { is_gate_out outside.old ≡ false }
 {
     let mut rack: Vec<BoxedReceiver> = Vec::new(alloc);
-    let share = Arc::try_clone(&heard.dcf)?;
-    put_in_rack(
-        &mut rack,
-        Box::new(
-            alloc,
-            NotingReceiver::new(DcfReceiver::new(), STEPS[0], share),
-        )?,
-        Plan::Dcf,
-    )?;
-    let share = Arc::try_clone(&heard.msf)?;
-    put_in_rack(
-        &mut rack,
-        Box::new(
-            alloc,
-            NotingReceiver::new(MsfReceiver::new(), STEPS[0], share),
-        )?,
-        Plan::Msf,
-    )?;
-    let share = Arc::try_clone(&heard.wwvb)?;
-    put_in_rack(
-        &mut rack,
-        Box::new(
-            alloc,
-            NotingReceiver::new(WwvbReceiver::new(), STEPS[0], share),
-        )?,
-        Plan::Wwvb,
-    )?;
-    let share = Arc::try_clone(&heard.dcf)?;
-    put_in_rack(
-        &mut rack,
-        Box::new(
-            alloc,
-            NotingReceiver::new(DcfReceiver::new(), STEPS[1], share),
-        )?,
-        Plan::Dcf,
-    )?;
-    let share = Arc::try_clone(&heard.msf)?;
-    put_in_rack(
-        &mut rack,
-        Box::new(
-            alloc,
-            NotingReceiver::new(MsfReceiver::new(), STEPS[1], share),
-        )?,
-        Plan::Msf,
-    )?;
-    let share = Arc::try_clone(&heard.wwvb)?;
-    put_in_rack(
-        &mut rack,
-        Box::new(
-            alloc,
-            NotingReceiver::new(WwvbReceiver::new(), STEPS[1], share),
-        )?,
-        Plan::Wwvb,
-    )?;
-    let share = Arc::try_clone(&heard.dcf)?;
-    put_in_rack(
-        &mut rack,
-        Box::new(
-            alloc,
-            NotingReceiver::new(DcfReceiver::new(), STEPS[2], share),
-        )?,
-        Plan::Dcf,
-    )?;
-    let share = Arc::try_clone(&heard.msf)?;
-    put_in_rack(
-        &mut rack,
-        Box::new(
-            alloc,
-            NotingReceiver::new(MsfReceiver::new(), STEPS[2], share),
-        )?,
-        Plan::Msf,
-    )?;
-    let share = Arc::try_clone(&heard.wwvb)?;
-    put_in_rack(
-        &mut rack,
-        Box::new(
-            alloc,
-            NotingReceiver::new(WwvbReceiver::new(), STEPS[2], share),
-        )?,
-        Plan::Wwvb,
-    )?;
-    let share = Arc::try_clone(&heard.dcf)?;
-    put_in_rack(
-        &mut rack,
-        Box::new(
-            alloc,
-            NotingReceiver::new(DcfReceiver::new(), STEPS[3], share),
-        )?,
-        Plan::Dcf,
-    )?;
-    let share = Arc::try_clone(&heard.msf)?;
-    put_in_rack(
-        &mut rack,
-        Box::new(
-            alloc,
-            NotingReceiver::new(MsfReceiver::new(), STEPS[3], share),
-        )?,
-        Plan::Msf,
-    )?;
-    let share = Arc::try_clone(&heard.wwvb)?;
-    put_in_rack(
-        &mut rack,
-        Box::new(
-            alloc,
-            NotingReceiver::new(WwvbReceiver::new(), STEPS[3], share),
-        )?,
-        Plan::Wwvb,
-    )?;
+    let mut step = 1u64;
+    for _ in 0..OF_A_PLAN {
+        let dcf = NotingReceiver::new(DcfReceiver::new(), step, Arc::try_clone(&heard.dcf)?);
+        put_in_rack(&mut rack, Box::new(alloc, dcf)?, Plan::Dcf)?;
+        let msf = NotingReceiver::new(MsfReceiver::new(), step, Arc::try_clone(&heard.msf)?);
+        put_in_rack(&mut rack, Box::new(alloc, msf)?, Plan::Msf)?;
+        let wwvb = NotingReceiver::new(WwvbReceiver::new(), step, Arc::try_clone(&heard.wwvb)?);
+        put_in_rack(&mut rack, Box::new(alloc, wwvb)?, Plan::Wwvb)?;
+        step = step.wrapping_mul(NEXT);
+    }
     Ok(run_station(rt, alloc, words, rack, outside, out))
 }
 
@@ -208,7 +111,7 @@ fn pulses(script: &mut String, radio: u32, from: u64, count: u64) -> Result<(), 
     Ok(())
 }
 
-// Each radio hears some pulses, then radio 2 is swapped and hears some more, then radio 0, then radio 1.
+// Each radio receives some pulses, then radio 2 is swapped and receives some more, then radio 0, then radio 1.
 fn swapped(alloc: Global) -> Result<MemoryOutside<OpenGate>, FakeOpen>
     ensures { IfOk result (λ outside. is_gate_out outside ≡ false) }
 {

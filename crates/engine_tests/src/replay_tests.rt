@@ -27,7 +27,7 @@ const NOON: [&[usize]; 5] = [
     &[18, 20, 23, 28, 29, 30, 33, 35, 36, 44, 45, 51, 52, 55],
 ];
 
-// The pulses of so many frames from 2 s on, behind a first one at 0, up to and with the one at a moment.
+// The pulses of the frames from 2 s on, after a first one at 0: those after one moment, up to and with the one at another.
 pub fn pulses(text: &mut String, from: u64, to: u64) -> Result<(), AllocError> {
     if from == 0 {
         text.push_str("pulse 0 0 100000\n")?;
@@ -55,7 +55,7 @@ pub fn pulses(text: &mut String, from: u64, to: u64) -> Result<(), AllocError> {
     Ok(())
 }
 
-// A request: its first byte, zeros, and the transmit timestamp 1122334455667788; and more bytes behind it.
+// A request: its first byte, zeros, and the transmit timestamp 1122334455667788; and more bytes after it.
 pub fn request(
     text: &mut String,
     arrived: u64,
@@ -499,7 +499,7 @@ fn new_year(
     Ok(())
 }
 
-// Five frames, the one with the leap second, and three more. Behind the mark that begins the sixth, two requests.
+// Five frames, the one with the leap second, and three more. After the mark that begins the sixth, two requests.
 fn leap_script(alloc: Global) -> Result<String, AllocError> {
     let mut script = String::from_str(alloc, "pulse 0 0 100000\n")?;
     let mut start = 2_000_000u64;
@@ -569,7 +569,7 @@ fn words_of_other_commands_are_usage(rt: HostRuntime) -> Result<(), Fail> {
             Status::Usage,
         )?;
     }
-    // Lawful words, and a log under that name.
+    // Valid words, and a log under that name.
     writes(
         &rt,
         rt.alloc(),
@@ -581,7 +581,7 @@ fn words_of_other_commands_are_usage(rt: HostRuntime) -> Result<(), Fail> {
     )
 }
 
-// 46 bytes behind the first.
+// 46 bytes after the first.
 #[test]
 fn a_request_of_47_bytes_is_dropped(rt: HostRuntime) -> Result<(), Fail> {
     let mut script = String::from_str(rt.alloc(), "request 7 1 1 23")?;
@@ -638,7 +638,7 @@ fn msf(
     Ok(())
 }
 
-// The pulse behind the swap is heard by the new receiver alone, and the one before it by the old one alone.
+// The pulse after the swap is received by the new receiver alone, and the one before it by the old one alone.
 #[test]
 fn a_swap_of_msf_loses_its_frame(rt: HostRuntime) -> Result<(), Fail> {
     let mut script = String::new(rt.alloc());

@@ -1,5 +1,5 @@
 //! Worked examples on inputs of their own: two minutes of DCF77 into an output that fails, a journal that two radios fill, keys in a script, words
-//! with their values after `=`, and which of two links at fault is told.
+//! with their values after `=`, and which of two links at fault is reported.
 
 use crate::decode_tests::{TWO_FRAMES, two_frames};
 use crate::fault_tests::stops_at_each_writing;
@@ -50,7 +50,7 @@ fn entries_of(alloc: Global, written: &[u8], feed: &str) -> Result<String, Fail>
     Ok(all)
 }
 
-// What a radio hears of the five minutes from 13:00 on 1 January 2026, 12:00 UTC.
+// What a radio receives of the five minutes from 13:00 on 1 January 2026, 12:00 UTC.
 const FIVE: &str =
     " 62000000 lone 3976257600\n 122000000 verdict 3976257660 0\n 182000000 verdict 3976257720 0\n \
 242000000 verdict 3976257780 0\n 302000000 verdict 3976257840 0\n";
@@ -172,7 +172,7 @@ fn values_may_follow_an_equals_sign(rt: HostRuntime) -> Result<(), Fail> {
     Ok(())
 }
 
-// The server can't be asked, and nothing can be heard on the link: of two with one number the server is told, since it is a feed.
+// The server can't be asked, and nothing can be received on the link: of two with one number the server is reported, since it is a feed.
 #[test]
 fn a_server_at_fault_is_told_before_a_link(rt: HostRuntime) -> Result<(), Fail> {
     let alloc = rt.alloc();

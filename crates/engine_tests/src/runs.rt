@@ -46,6 +46,9 @@ pub fn written_over<R: Threads + Wait + Sync, G: Gate + Drop>(
     Ok((out.into_bytes(), status))
 }
 
+// The receivers of each plan.
+pub const OF_A_PLAN: usize = 4;
+
 // Runs the words with four receivers of each plan.
 pub fn run_over<R: Threads + Wait + Sync, G: Gate + Drop>(
     rt: &R,
@@ -57,17 +60,10 @@ pub fn run_over<R: Threads + Wait + Sync, G: Gate + Drop>(
     requires { is_gate_out outside.old ≡ false }
 {
     let mut rack: Vec<BoxedReceiver> = Vec::new(alloc);
-    put_in_rack(&mut rack, Box::new(alloc, DcfReceiver::new())?, Plan::Dcf)?;
-    put_in_rack(&mut rack, Box::new(alloc, MsfReceiver::new())?, Plan::Msf)?;
-    put_in_rack(&mut rack, Box::new(alloc, WwvbReceiver::new())?, Plan::Wwvb)?;
-    put_in_rack(&mut rack, Box::new(alloc, DcfReceiver::new())?, Plan::Dcf)?;
-    put_in_rack(&mut rack, Box::new(alloc, MsfReceiver::new())?, Plan::Msf)?;
-    put_in_rack(&mut rack, Box::new(alloc, WwvbReceiver::new())?, Plan::Wwvb)?;
-    put_in_rack(&mut rack, Box::new(alloc, DcfReceiver::new())?, Plan::Dcf)?;
-    put_in_rack(&mut rack, Box::new(alloc, MsfReceiver::new())?, Plan::Msf)?;
-    put_in_rack(&mut rack, Box::new(alloc, WwvbReceiver::new())?, Plan::Wwvb)?;
-    put_in_rack(&mut rack, Box::new(alloc, DcfReceiver::new())?, Plan::Dcf)?;
-    put_in_rack(&mut rack, Box::new(alloc, MsfReceiver::new())?, Plan::Msf)?;
-    put_in_rack(&mut rack, Box::new(alloc, WwvbReceiver::new())?, Plan::Wwvb)?;
+    for _ in 0..OF_A_PLAN {
+        put_in_rack(&mut rack, Box::new(alloc, DcfReceiver::new())?, Plan::Dcf)?;
+        put_in_rack(&mut rack, Box::new(alloc, MsfReceiver::new())?, Plan::Msf)?;
+        put_in_rack(&mut rack, Box::new(alloc, WwvbReceiver::new())?, Plan::Wwvb)?;
+    }
     Ok(run_station(rt, alloc, words, rack, outside, out))
 }

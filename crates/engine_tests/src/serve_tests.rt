@@ -1,4 +1,4 @@
-//! Tests of `serve` over the fakes: logs of DCF77 by PTB's table of 1 January 2026, 13:00 (12:00 UTC) and the minutes behind it, a server's
+//! Tests of `serve` over the fakes: logs of DCF77 by PTB's table of 1 January 2026, 13:00 (12:00 UTC) and the minutes after it, a server's
 //! answer that was worked by hand from RFC 5905, section 8, and clients whose answers are those of section 7.3 there.
 ghost use Rattle.std.specs.Prelude.{◌≡◌, IfOk, false};
 ghost use Rattle.feed_link.specs.MemoryOutside.{is_gate_out};
@@ -66,7 +66,7 @@ const THREE_RADIOS_TWO_LINKS: &str =
 
 const TWO_LINKS: &str = "[[link]]\nport = 5123\n[[link]]\nport = 5124\n";
 
-// The page of five minutes that as many radios have heard alike.
+// The page of five minutes that as many radios have received alike.
 const FIVE_OF_3: &str =
     "page 15 1 1 44434600 17077896086183477248 302000000 4364906902 0 61542 ed00e13000000000 0 0\n";
 
@@ -89,7 +89,7 @@ pub const REPLY: [u8; 48] = [
     0xed, 0x00, 0xe1, 0x31, 0x00, 0x00, 0x00, 0x00, 0xed, 0x00, 0xe1, 0x31, 0x00, 0x00, 0x00, 0x00,
 ];
 
-// A link that hears so many requests at 303 s, and then its end; its call of this number fails.
+// A link that receives this many requests at 303 s, and then its end; its call of this number fails.
 pub(crate) fn asked(alloc: Global, count: u32, fails: u64) -> Result<MemoryLink, FakeOpen> {
     let mut hearings = Vec::new(alloc);
     for _ in 0..count {
@@ -103,7 +103,7 @@ pub(crate) fn asked(alloc: Global, count: u32, fails: u64) -> Result<MemoryLink,
     MemoryLink::new(alloc, hearings, Vec::new(alloc), fails, 60, 6000)
 }
 
-// A link that hears these datagrams at 303 s, and then its end.
+// A link that receives these datagrams at 303 s, and then its end.
 fn hears(alloc: Global, datagrams: &[Vec<u8>]) -> Result<MemoryLink, FakeOpen> {
     let mut hearings = Vec::new(alloc);
     for datagram in datagrams {
@@ -134,7 +134,7 @@ pub(crate) fn answered(alloc: Global, first: Address, fails: u64) -> Result<Memo
     MemoryLink::new(alloc, hearings, moments, fails, 60, 6000)
 }
 
-// An outside with a station file "s", these logs behind it and these links, and this gate; its opening of this number fails.
+// An outside with a station file "s", these logs after it and these links, and this gate; its opening of this number fails.
 pub fn outside_of<G: Gate + Drop>(
     alloc: Global,
     station: &str,
@@ -172,7 +172,7 @@ pub fn writes(
     Ok(())
 }
 
-// These texts, one behind the other.
+// These texts as one.
 pub fn joined(alloc: Global, texts: &[&str]) -> Result<String, AllocError> {
     let mut all = String::new(alloc);
     for text in texts {
@@ -334,7 +334,7 @@ fn a_read_fails_in_the_middle(rt: HostRuntime) -> Result<(), Fail> {
     writes(&rt, alloc, &WORDS, RADIO, logs, links, want.as_str(), end)
 }
 
-// A closing mark is told as much earlier as the signal was on its way.
+// A closing mark is dated as much earlier as the signal was on its way.
 #[test]
 fn a_radio_is_heard_with_its_delay(rt: HostRuntime) -> Result<(), Fail> {
     let alloc = rt.alloc();
@@ -426,7 +426,7 @@ fn the_least_number_is_told(rt: HostRuntime) -> Result<(), Fail> {
     )
 }
 
-// Of two with one number the first is told; the rest of the station goes on.
+// Of two with one number the first is reported; the rest of the station goes on.
 #[test]
 fn the_first_of_two_is_told(rt: HostRuntime) -> Result<(), Fail> {
     let alloc = rt.alloc();
@@ -479,7 +479,7 @@ fn the_first_of_two_is_told(rt: HostRuntime) -> Result<(), Fail> {
     )
 }
 
-// The feeds of a station are numbered behind one another, the radios first. What was opened was not used.
+// The feeds of a station are numbered in order, the radios first. What was opened was not used.
 #[test]
 fn each_opening_may_fail(rt: HostRuntime) -> Result<(), Fail> {
     let alloc = rt.alloc();
@@ -561,7 +561,7 @@ fn each_writing_may_fail(rt: HostRuntime) -> Result<(), Fail> {
     Ok(())
 }
 
-// Three radios that hear alike and two links, with a gate; what is written, and the outside.
+// Three radios that receive alike and two links, with a gate; what is written, and the outside.
 fn three_radios<R: Threads + Wait + Sync>(
     rt: &R,
     alloc: Global,

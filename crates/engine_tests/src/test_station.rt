@@ -1,4 +1,4 @@
-// What the tests of `serve` and of broken input share: minutes of DCF77 by PTB's table, 1 January 2026, 13:00 (12:00 UTC) and behind it; the
+// What the tests of `serve` and of broken input share: minutes of DCF77 by PTB's table, 1 January 2026, 13:00 (12:00 UTC) and later; the
 // answer of a server, worked by hand from RFC 5905, section 8; and what is written of them.
 use feed_link::{Address, MemorySource, NamedLog};
 use std::alloc::{AllocError, Global};
@@ -44,7 +44,7 @@ pub fn moment(microseconds: u32) -> Local {
     Local::new(u64::from(microseconds)).unwrap()
 }
 
-// The log of so many minutes: a mark at 0, their frames from 2 s on, and the mark that closes the last.
+// The log of this many minutes: a mark at 0, their frames from 2 s on, and the mark that closes the last.
 pub fn minutes(alloc: Global, count: usize) -> Result<String, AllocError> {
     let mut text = String::from_str(alloc, "0 100000\n")?;
     let mut start = 2u64;

@@ -80,7 +80,7 @@ AreRows-push bytes bytes_now rows rows_now event are longer is =
     } in
     subst (λ b. AreRows b rows_now) (sym longer) (subst (λ l. AreRows (bytes ++ bytes_of event) l) (sym is.rows) all)
 
--- where there is no room, the list is told no longer
+-- where there is no room, the list is reported no longer
 bytes_sum : (bytes : List ℕ) (rows : List Row) → HasBytes bytes rows → bytes_in (map (event_in bytes) rows) ≡ sum_by (λ row. row.length) rows
 bytes_sum bytes [] h = refl
 bytes_sum bytes (row ∷ rows) h =

@@ -6,7 +6,7 @@ use Rattle.feed_link.specs.Faults.{Rose, RoseByOne}
 pub Rose-one : (before now : ℕ) → RoseByOne before now → Rose before now
 Rose-one before now rose = omega (arith, rose)
 
--- a run with more calls behind it, or before it
+-- a run with more calls after it, or before it
 pub Rose-later : (before mid now : ℕ) → Rose before mid → mid ≤ now → Rose before now
 Rose-later before mid now rose le = omega (arith, rose, le)
 

@@ -66,7 +66,7 @@ adds_visit (Some before) (Some mid) (Some now) visit number given grows next sam
     ∙ ap (λ n. with_back n visit.back (before ++ answered visit.what visit.opened ∷ [])) (same ∙ next)
     ∙ back_last before (answered visit.what visit.opened) visit.back
 
--- room for an opening is room for it, whatever was told
+-- room for an opening is room for it, whatever was reported
 HasRoom-same : (room : Room) (openings : List Opening) (x y : Opening) → x.what ≡ y.what → HasRoom room (openings ++ x ∷ []) → HasRoom room (openings ++ y ∷ [])
 HasRoom-same room openings x y same fits =
     let size = ap (λ w. length (name_of w)) same in
@@ -105,7 +105,7 @@ opened_once before mid now visit number given grows next kept same gives = recor
   faults = gives.no_fault ∙ kept;
 }
 
--- one object, which couldn't be opened
+-- one object, which could not be opened
 pub opening_failed : (before now : OutsideState) (what : Wanted) → GrowsBy before now (failed what ∷ []) → RoseByOne before.faults now.faults →
     MakesOpenings (what ∷ []) before now [] (Some what)
 opening_failed before now what grows rose = record { behind = []; in_order = refl; noted = grows; faults = rose }

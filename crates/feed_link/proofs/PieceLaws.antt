@@ -1,4 +1,4 @@
--- The front of a piece into which bytes were copied.
+-- The beginning of a piece into which bytes were copied.
 use Rattle.std.proofs.Common.{◌≡◌, ℕ, List, ◌++◌, take, length, min, ap, ◌∙◌, arith}
 use Rattle.std.proofs.lemmas.List.{take_min, take_all, take-append-le, length-take}
 

@@ -8,7 +8,7 @@ set_same [] place x there = refl
 set_same (y ∷ xs) zero x there = let same : y ≡ x = cc in ap (λ z. z ∷ xs) (sym same)
 set_same (y ∷ xs) (suc place) x there = ap (λ rest. y ∷ rest) (set_same xs place x there)
 
--- nothing stands behind the last place
+-- nothing stands after the last place
 pub past_all : {X : Type 0} (xs : List X) (place : ℕ) → length xs ≤ place → slice_get xs place ≡ None
 past_all [] place le = refl
 past_all (y ∷ xs) zero le = absurd (omega (arith, le))

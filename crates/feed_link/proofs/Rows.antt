@@ -67,7 +67,7 @@ told_push true names more rows room port opened h = record {
   same_room = refl;
 }
 
--- where there is no room, the list is told no longer
+-- where there is no room, the list is reported no longer
 name_size : (names : List ℕ) (port : Option Port) (at len : ℕ) → at + len ≤ length names → IfSome port (λ _. len ≡ 0) →
     length (name_of (wanted_by (take len (drop at names)) port)) ≡ len
 name_size names None at len le none = omega (arith, le, length-take len (drop at names), length-drop at names)

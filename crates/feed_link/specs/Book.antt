@@ -1,4 +1,4 @@
--- The events that the rows of a book stand for: how a link in memory keeps what it tells.
+-- The events that the rows of a book stand for: how a link in memory keeps what it reports.
 use Rattle.std.specs.Prelude.{◌≡◌, ℕ, ◌+◌, ◌≤◌, Option, None, Some, Bool, List, [], ◌∷◌, ◌++◌, length, take, drop, map, if◌then◌else◌}
 use Rattle.std.specs.List.{sum_by}
 use Rattle.feed_link.specs.Told.{NetEvent, Adds}
@@ -23,7 +23,7 @@ bytes_of Ended = []
 bytes_of (Timed at) = []
 bytes_of (Went to bytes) = bytes
 
--- how many events are told, and how many bytes of their datagrams
+-- how many events are reported, and how many bytes of their datagrams
 pub record EventRoom : Type 0 where
   pub events : ℕ
   pub bytes : ℕ
@@ -41,7 +41,7 @@ event_in bytes row = event_with row.kind (take row.length (drop row.start bytes)
 abbrev pub events_told : Bool → List ℕ → List Row → Option (List NetEvent)
 events_told tells bytes rows = if tells then Some (map (event_in bytes) rows) else None
 
--- what a book tells, and its room
+-- what a book reports, and its room
 pub record Noted : Type 0 where
   pub events : Option (List NetEvent)
   pub room : EventRoom
@@ -55,7 +55,7 @@ pub record AreRows (bytes : List ℕ) (rows : List Row) : Type 0 where
   pub has_bytes : HasBytes bytes rows
   pub all_bytes : sum_by (λ row. row.length) rows ≡ length bytes
 
--- one event more, told as long as there is room
+-- one event more, reported as long as there is room
 pub record NotesEvent (before now : Noted) (event : NetEvent) : Type 0 where
   pub noted : Adds before.events now.events (event ∷ [])
   pub told : (events : List NetEvent) → before.events ≡ Some events → HasEventRoom before.room (events ++ event ∷ []) →

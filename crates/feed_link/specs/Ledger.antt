@@ -33,7 +33,7 @@ opening_of names row = record {
 abbrev pub openings_told : Bool → List ℕ → List Row → Option (List Opening)
 openings_told tells names rows = if tells then Some (map (opening_of names) rows) else None
 
--- what an outside in memory tells of its openings, and its room for them
+-- what an outside in memory reports of its openings, and its room for them
 pub record Book : Type 0 where
   pub openings : Option (List Opening)
   pub room : Room
@@ -48,14 +48,14 @@ pub record AreRows (names : List ℕ) (rows : List Row) : Type 0 where
   pub has_names : HasNames names rows
   pub all_names : sum_by (λ row. row.name_len) rows ≡ length names
 
--- one opening more, told as long as there is room
+-- one opening more, reported as long as there is room
 pub record Notes (before now : Book) (opening : Opening) : Type 0 where
   pub noted : Adds before.openings now.openings (opening ∷ [])
   pub told : (openings : List Opening) → before.openings ≡ Some openings → HasRoom before.room (openings ++ opening ∷ []) →
       now.openings ≡ Some (openings ++ opening ∷ [])
   pub same_room : now.room ≡ before.room
 
--- the object of this number is back
+-- the object of this number was given back
 pub record PutsBack (before now : Book) (number : ℕ) (state : State) : Type 0 where
   pub noted : now.openings ≡ option_map (with_back number state) before.openings
   pub same_room : now.room ≡ before.room

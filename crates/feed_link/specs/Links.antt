@@ -1,5 +1,5 @@
--- What the calls of a link do: what was heard, told or sent stands at the end of its events, and no moment or arrival lies below
--- an earlier one.
+-- What the calls of a link do. What it received, gave or sent stands at the end of its events. No moment or arrival lies below an
+-- earlier one.
 use Rattle.std.specs.Prelude.{◌≡◌, ◌≤◌, ℕ, List, [], ◌∷◌, take, Result, MatchResult}
 use Rattle.feed_link.specs.Told.{NetEvent, LinkState, Adds}
 use Rattle.feed_link.specs.Told.NetEvent.{Came, Silent, Ended, Timed, Went}
@@ -7,19 +7,19 @@ use Rattle.feed_link.specs.declared.outside.Address.{Address}
 use Rattle.feed_link.specs.declared.link.Hearing.{Hearing}
 use Rattle.feed_link.specs.declared.link.Hearing.TheVariants.{Datagram, Quiet, End}
 
--- a hearing as an event; a datagram's bytes stand at the front of the piece
+-- a hearing as an event; a datagram's bytes stand at the beginning of the piece
 abbrev pub event_of : Hearing → List ℕ → NetEvent
 event_of (Datagram arrival) piece = Came arrival.from arrival.at (take arrival.length piece)
 event_of Quiet piece = Silent
 event_of End piece = Ended
 
--- a datagram has at most 1024 bytes, and comes no earlier than what was told last; the other hearings tell no moment
+-- a datagram has at most 1024 bytes, and comes no earlier than the last moment or arrival; the other hearings have no moment
 abbrev pub IsTimely : ℕ → ℕ → Hearing → Type 0
 IsTimely latest latest_now (Datagram arrival) = (latest ≤ arrival.at) × (latest_now ≡ arrival.at) × (arrival.length ≤ 1024)
 IsTimely latest latest_now Quiet = latest_now ≡ latest
 IsTimely latest latest_now End = latest_now ≡ latest
 
--- one event more
+-- one event more, by what the link received
 pub record Hears (before now : LinkState) (hearing : Hearing) (piece : List ℕ) : Type 0 where
   pub event : Adds before.events now.events (event_of hearing piece ∷ [])
   pub timely : IsTimely before.latest now.latest hearing
@@ -29,7 +29,7 @@ pub record IsDeaf (before now : LinkState) : Type 0 where
   pub event : Adds before.events now.events []
   pub same : now.latest ≡ before.latest
 
--- a moment was told
+-- it gave a moment
 pub record TellsMoment (before now : LinkState) (moment : ℕ) : Type 0 where
   pub event : Adds before.events now.events (Timed moment ∷ [])
   pub timely : before.latest ≤ moment

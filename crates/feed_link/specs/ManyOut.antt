@@ -3,7 +3,7 @@ use Rattle.std.specs.Prelude.{◌≡◌, ◌<◌, ◌+◌, ℕ, suc, Option, Non
 use Rattle.std.specs.Option.{option_map}
 use Rattle.feed_link.specs.Openings.{Wanted, State, Opening, OutsideState, Visit, IsOutAt, answered, with_back}
 
--- an object that is out: what was asked for, and what it told when it was opened
+-- an object that is out: what was asked for, and what it reported when it was opened
 pub record Held : Type 0 where
   pub what : Wanted
   pub opened : State
@@ -11,7 +11,7 @@ pub record Held : Type 0 where
 abbrev pub held_opening : Held → Opening
 held_opening held = answered held.what held.opened
 
--- what was held, with what each told when it was given back
+-- what was held, with what each reported when it was given back
 abbrev pub returned : List Held → List State → List Visit
 returned [] states = []
 returned (held ∷ others) [] = []
@@ -22,7 +22,7 @@ abbrev pub CountUp : ℕ → List ℕ → Type 0
 CountUp first [] = Unit {0}
 CountUp first (number ∷ numbers) = (number ≡ first) × CountUp (suc first) numbers
 
--- these are the numbers of the openings from this place on behind those before, where they are told
+-- these are the numbers of the openings from this place on, where they are reported
 abbrev pub AreNumbers : Option (List Opening) → Option (List Opening) → ℕ → List ℕ → Type 0
 AreNumbers before None place numbers = Unit {0}
 AreNumbers None (Some now) place numbers = Unit {0}

@@ -1,4 +1,4 @@
--- What the fakes in memory tell, and their calls.
+-- What the fakes in memory report, and their calls.
 use Rattle.std.specs.Prelude.{ℕ, Some, drop, vec_capacity}
 use Rattle.feed_link.specs.Told.{SourceState, SinkState}
 use Rattle.feed_link.specs.declared.calls.Calls.{Calls}

@@ -1,4 +1,4 @@
--- What a link in memory is still to hear and to tell, and what it hears and tells next.
+-- The hearings and moments that a link in memory is still to give, and what it gives next.
 use Rattle.std.specs.Prelude.{ℕ, List, [], ◌∷◌, drop, take, max}
 use Rattle.feed_link.specs.Told.{NetEvent, LinkState}
 use Rattle.feed_link.specs.Told.NetEvent.{Came, Silent, Ended}
@@ -11,7 +11,7 @@ use Rattle.feed_link.specs.declared.memory_link.MemoryLink.{MemoryLink}
 abbrev pub link_state : MemoryLink → LinkState
 link_state s = record { events = s.book.events; latest = s.latest; faults = s.faults }
 
--- its events as they are told, and its room for them
+-- its events as it reports them, and its room for them
 abbrev pub link_book : MemoryLink → Noted
 link_book s = s.book
 

@@ -1,4 +1,4 @@
--- What an outside in memory tells, and which log and which link it hands out.
+-- What an outside in memory reports, and which log and which link it hands out.
 use Rattle.std.specs.Prelude.{◌≡◌, ℕ, ◌+◌, Bool, Option, None, Some, unwrap_or, List, slice_get, slice_set}
 use Rattle.std.specs.List.{position, remove}
 use Rattle.std.specs.Option.{is_none}

@@ -1,5 +1,5 @@
--- The openings of an outside, in order: what was asked for, what was told when it was answered, and what was told when it
--- was given back; and which openings a call makes.
+-- The openings of an outside, in order: what was asked for, and what the object reported as it was opened and given back. Also
+-- which openings a call makes.
 use Rattle.std.specs.Prelude.{◌≡◌, ◌≤◌, ℕ, zero, suc, Option, None, Some, List, [], ◌∷◌, ◌++◌, length, map, slice_get}
 use Rattle.std.specs.List.{sum_by}
 use Rattle.std.specs.Option.{MatchOption, option_map, option_to_list}
@@ -11,12 +11,12 @@ pub data Wanted : Type 0 where
   LogOf : List ℕ → Wanted
   LinkAt : ℕ → ℕ → Wanted
 
--- what a log or a link tells at one moment
+-- what a log or a link reports at one moment
 pub data State : Type 0 where
   OfLog : SourceState → State
   OfLink : LinkState → State
 
--- one opening: what was asked for; what the object told then, where it was answered; what it told when it was given back
+-- one opening: what was asked for; what the object reported then, where it was opened; what it reported when it was given back
 pub record Opening : Type 0 where
   pub what : Wanted
   pub opened : Option State
@@ -30,7 +30,7 @@ answered what state = record { what = what; opened = Some state; back = None }
 abbrev pub failed : Wanted → Opening
 failed what = record { what = what; opened = None; back = None }
 
--- how many openings an outside tells, and how many bytes of their names
+-- how many openings an outside reports, and how many bytes of their names
 pub record Room : Type 0 where
   pub openings : ℕ
   pub names : ℕ
@@ -52,7 +52,7 @@ pub record OutsideState : Type 0 where
   pub room : Room
   pub faults : ℕ
 
--- the openings have these more; they are told on as long as there is room for them
+-- the openings have these more; the outside reports them as long as there is room for them
 pub record GrowsBy (before now : OutsideState) (more : List Opening) : Type 0 where
   pub noted : Adds before.openings now.openings more
   pub told : (openings : List Opening) → before.openings ≡ Some openings → HasRoom before.room (openings ++ more) →
@@ -72,7 +72,7 @@ abbrev pub IsOut : Option (List Opening) → ℕ → Type 0
 IsOut None number = Unit {0}
 IsOut (Some openings) number = IsOutAt openings number
 
--- the openings, with what the object of this number told when it was given back
+-- the openings, with what the object of this number reported when it was given back
 abbrev pub with_back : ℕ → State → List Opening → List Opening
 with_back number state [] = []
 with_back zero state (opening ∷ openings) = record opening { back = Some state } ∷ openings
@@ -84,7 +84,7 @@ pub record GivesBack (before now : OutsideState) (number : ℕ) (state : State) 
   pub same_room : now.room ≡ before.room
   pub no_fault : now.faults ≡ before.faults
 
--- an object that was opened and given back: what was asked for, and what it told then and in the end
+-- an object that was opened and given back: what was asked for, and what it reported then and in the end
 pub record Visit : Type 0 where
   pub what : Wanted
   pub opened : State
@@ -97,9 +97,9 @@ visited visit = record { what = visit.what; opened = Some visit.opened; back = S
 abbrev pub log_visit : List ℕ → SourceState → SourceState → Visit
 log_visit name opened back = record { what = LogOf name; opened = OfLog opened; back = OfLog back }
 
--- A call makes its openings in the order of those that it needs. The first of them are visits: all that was opened is given
--- back. One more may follow, which failed; then the count of faults rose by one, and otherwise it stays. Those behind are
--- not asked for.
+-- A call makes its openings in the order of those that it needs. The first of them are visits: all that was opened is given back.
+-- One more may follow, which failed; then the count of faults rose by one. Otherwise the count stays. The call does not ask for
+-- those after a failed one.
 pub record MakesOpenings (needed : List Wanted) (outside outside_now : OutsideState) (visits : List Visit) (failing : Option Wanted) : Type 0 where
   pub behind : List Wanted
   pub in_order : needed ≡ map (λ visit. visit.what) visits ++ (option_to_list failing ++ behind)

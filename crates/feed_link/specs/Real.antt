@@ -1,4 +1,4 @@
--- What real files, streams and links tell: their counts of faults, and a link its latest moment.
+-- What real files, streams and links report: their counts of faults, and of a link its latest moment.
 use Rattle.std.specs.Prelude.{ℕ, None}
 use Rattle.feed_link.specs.Told.{SourceState, SinkState, LinkState}
 use Rattle.feed_link.specs.Openings.{OutsideState}
@@ -15,6 +15,6 @@ socket_state latest faults = record { events = None; latest = latest; faults = f
 abbrev pub host_state : ℕ → OutsideState
 host_state faults = record { openings = None; room = record { openings = 0; names = 0 }; faults = faults }
 
--- files and links are not told apart by their openings
+-- files and links are not distinguished by their openings
 abbrev pub file_number : ℕ
 file_number = 0

@@ -58,7 +58,7 @@ is_in_vain GaveNone = false
 is_in_vain (Took to bytes) = false
 is_in_vain (TookNone to) = true
 
--- a number of calls, each of which is so
+-- a number of calls that all pass the test
 pub record Repeats (test : Passed → Bool) (before now : Option (List Passed)) : Type 0 where
   pub calls : List Passed
   pub all : IsTrue (list_all test calls)
@@ -78,14 +78,14 @@ pub record GivesNone (before now : Option (List Passed)) : Type 0 where
   pub over : Repeats is_passed_over before between
   pub last : Adds between now (GaveNone ∷ [])
 
--- what a link hears is what its socket gave; a link of a socket never ends
+-- a link receives what its socket gave; a link of a socket never ends
 abbrev pub GivesHearing : Option (List Passed) → Option (List Passed) → Hearing → List ℕ → Type 0
 GivesHearing before now (Datagram arrival) piece = Gives before now arrival.from arrival.length piece
 GivesHearing before now Quiet piece = GivesNone before now
 GivesHearing before now End piece = ⊥
 
--- What a link sends its socket took whole, or it took nothing, so that the datagram is lost, as any may be on its way. Where the
--- sending failed, the socket took nothing, or less than the whole.
+-- The socket took a datagram whole, or it took nothing; then the datagram is lost, as any datagram may be. Where the sending
+-- failed, the socket took nothing, or less than the whole.
 pub record Posts {T E : Type 0} (before now : Option (List Passed)) (result : Result T E) (to : Address) (bytes : List ℕ) : Type 0 where
   pub at : SocketAddr
   pub for : IsFor to at
@@ -95,8 +95,8 @@ pub record Posts {T E : Type 0} (before now : Option (List Passed)) (result : Re
       (λ _. Adds between now (Took at bytes ∷ []) ⊎ Adds between now (TookNone at ∷ []))
       (λ _. Adds between now [] ⊎ ((count : ℕ) × (count < length bytes) × Adds between now (Took at (take count bytes) ∷ [])))
 
--- The moment at which a counter stands that was at `start` this number of microseconds ago, where it can be read. No moment is
--- below the latest one, and none is above 2^50 - 1.
+-- The moment of a counter that was at `start` this many microseconds ago, where it can be read. No moment is below the latest
+-- one, and none is above 2^50 - 1.
 abbrev pub moment_of : ℕ → ℕ → Option ℕ → ℕ
 moment_of start latest None = latest
 moment_of start latest (Some counted) = max latest (min (start + counted) (2 ^ 50 - 1))

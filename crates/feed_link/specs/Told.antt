@@ -1,5 +1,5 @@
--- What a source has left, what a sink holds and what befell a link, where they tell it, and how often they have failed. What
--- is told after a call was told before it too. The rules of the calls are those of Rust's `Read` and `Write`.
+-- What a source has left, what a sink holds and the events of a link, where they report it, and how often they have failed. What
+-- an object reports after a call it reported before the call too. The rules of the calls are those of Rust's `Read` and `Write`.
 use Rattle.std.specs.Prelude.{◌≡◌, ℕ, ◌<◌, Option, None, Some, List, [], ◌++◌, length, take, Result, MatchResult}
 use Rattle.feed_link.specs.declared.outside.Address.{Address}
 
@@ -13,8 +13,8 @@ pub record SinkState : Type 0 where
   pub held : Option (List ℕ)
   pub faults : ℕ
 
--- what befell a link: a datagram came, with its sender, its moment and its bytes; nothing came for a while; nothing will come
--- any more; it told a moment; a datagram went out, with its receiver and its bytes. Moments are in microseconds.
+-- an event of a link. A datagram came, with its sender, its moment and its bytes. Nothing came for a while, or nothing will come
+-- any more. The link gave a moment. A datagram went out, with its receiver and its bytes. Moments are in microseconds.
 pub data NetEvent : Type 0 where
   Came : Address → ℕ → List ℕ → NetEvent
   Silent : NetEvent
@@ -22,8 +22,8 @@ pub data NetEvent : Type 0 where
   Timed : ℕ → NetEvent
   Went : Address → List ℕ → NetEvent
 
--- a link at one moment: its events so far, where they are known; the last moment or arrival, below which no later one lies; and
--- its count of faults
+-- a link at one moment: its events so far, where they are known, the last moment or arrival, and its count of faults. No later
+-- moment lies below the last one.
 pub record LinkState : Type 0 where
   pub events : Option (List NetEvent)
   pub latest : ℕ
@@ -35,7 +35,7 @@ Takes before None bytes = Unit {0}
 Takes None (Some now) bytes = ⊥
 Takes (Some before) (Some now) bytes = before ≡ bytes ++ now
 
--- what is told now is what was told before and these at its end
+-- the list now is the list before with these at its end
 abbrev pub Adds : {T : Type 0} → Option (List T) → Option (List T) → List T → Type 0
 Adds before None more = Unit {0}
 Adds None (Some now) more = ⊥
@@ -46,7 +46,7 @@ abbrev pub NoneLeft : Option (List ℕ) → Type 0
 NoneLeft None = Unit {0}
 NoneLeft (Some left) = left ≡ []
 
--- a read took the next bytes and put them at the front of the piece; it took none only at the end, or where it failed
+-- a read took the next bytes and put them at the beginning of the piece. It took none only at the end, or where it failed.
 abbrev pub Reads : {E : Type 0} → SourceState → SourceState → Result ℕ E → List ℕ → Type 0
 Reads before now result piece = MatchResult result
     (λ n. Takes before.left now.left (take n piece) × (n ≡ 0 → 0 < length piece → NoneLeft now.left))

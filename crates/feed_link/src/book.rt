@@ -28,7 +28,7 @@ pub struct Row {
     pub length: usize,
 }
 
-// How many events are told, and how many bytes of their datagrams.
+// How many events are reported, and how many bytes of their datagrams.
 #[derive(Clone, Copy)]
 pub struct EventRoom {
     pub events: usize,
@@ -78,7 +78,7 @@ impl Book {
         }
     }
 
-    /// How many events are told.
+    /// How many events are reported.
     pub fn count(&self) -> usize
         ensures { result ≡ length (unwrap_or self.now.events []) }
     {
@@ -126,7 +126,7 @@ fn row_at(rows: &[Row], place: usize) -> &Row
     &rows[place]
 }
 
-// Bytes and a row fit.
+// Whether there is room for the bytes and a row.
 fn has_room(bytes: &[u8], rows: &[Row], room: EventRoom, more: &[u8]) -> bool
     ensures bytes { OnTrue result (length bytes.now + length more.now ≤ room.bytes) }
     ensures rows { OnTrue result (length rows.now < room.events) }
@@ -135,7 +135,7 @@ fn has_room(bytes: &[u8], rows: &[Row], room: EventRoom, more: &[u8]) -> bool
     bytes.len() <= room.bytes && more.len() <= room.bytes - bytes.len() && rows.len() < room.events
 }
 
-// Adds the bytes of an event and its row where there is room. Bytes that stand stay where they are, and so do rows.
+// Adds the bytes of an event and its row where there is room. Earlier bytes and rows stay where they are.
 fn note_row(
     bytes: &mut Vec<u8>,
     rows: &mut Vec<Row>,

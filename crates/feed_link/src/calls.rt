@@ -1,7 +1,7 @@
 // The calls of a fake: how many there were, and which of them fail.
 ghost use Rattle.std.specs.Prelude.{◌≡◌};
 
-// Contracts count them from 1. The count stands still at the greatest number of 64 bits.
+// Contracts count the calls from 1. The count stops at the greatest number of 64 bits.
 #[derive(Drop)]
 pub struct Calls {
     made: u64,
@@ -11,14 +11,14 @@ pub struct Calls {
 impl Calls {
     ghost use Rattle.feed_link.specs.Calls.{AreStated, IsCalled, fails_next};
 
-    // None was made yet, and those of these numbers fail.
+    // No call was made yet, and the calls of these numbers fail.
     pub fn new(fails: Vec<u64>) -> Calls
         ensures { AreStated result fails.items }
     {
         Calls { made: 0, fails }
     }
 
-    // One more call is made. Whether it fails.
+    // Counts one more call, and says whether it fails.
     pub fn next_fails(&mut self) -> bool
         ensures made { IsCalled self.old self.new }
         ensures fails { result ≡ fails_next self.old }

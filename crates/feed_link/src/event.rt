@@ -1,4 +1,4 @@
-// What a link in memory was told to hear, and what befell it.
+// The hearings that a link in memory was given, and the events that it noted.
 ghost use Rattle.std.specs.Prelude.{◌≡◌};
 ghost use Rattle.feed_link.specs.Book.{event_with, bytes_of};
 ghost use Rattle.feed_link.specs.Seen.{event_seen};
@@ -10,7 +10,7 @@ use tick_units::Local;
 /// A hearing that a link in memory will give.
 #[derive(Drop)]
 pub enum Planned {
-    /// A datagram with its sender and the moment at which it comes. Its first 1024 bytes are heard.
+    /// A datagram with its sender and the moment at which it comes. The link receives its first 1024 bytes.
     Datagram {
         from: Address,
         at: Local,
@@ -20,7 +20,7 @@ pub enum Planned {
     Quiet,
 }
 
-/// What befell a link in memory.
+/// An event of a link in memory.
 #[derive(Drop)]
 pub enum LinkEvent<'a> {
     /// A datagram came.
@@ -33,7 +33,7 @@ pub enum LinkEvent<'a> {
     Quiet,
     /// Nothing will come any more.
     End,
-    /// It told a moment.
+    /// It gave a moment.
     Moment(Local),
     /// A datagram was sent.
     Sent {
@@ -43,7 +43,7 @@ pub enum LinkEvent<'a> {
 }
 
 impl<'a> LinkEvent<'a> {
-    // What kind of event it is, without the bytes of its datagram.
+    /// What kind of event it is, without the bytes of its datagram.
     pub fn kind(&self) -> Kind
         ensures { event_with result (bytes_of (event_seen self.now)) ≡ event_seen self.now }
     {
@@ -59,7 +59,7 @@ impl<'a> LinkEvent<'a> {
         }
     }
 
-    // The bytes of its datagram.
+    /// The bytes of its datagram; none where the event has no datagram.
     pub fn bytes(&self) -> &'a [u8]
         ensures { result.now ≡ bytes_of (event_seen self.now) }
     {

@@ -37,8 +37,8 @@ struct Passed {
     ran_out: bool,
 }
 
-/// Holds one worker at one place until another one has passed a stated place so many times, and for so many turns at the most. In
-/// each turn another thread may run.
+/// Holds one worker at one place until another one has passed a stated place a stated number of times. It waits for a stated
+/// number of turns at most. In each turn another thread may run.
 #[derive(Drop)]
 pub struct HoldGate {
     held: Pass,
@@ -49,7 +49,7 @@ pub struct HoldGate {
 }
 
 impl HoldGate {
-    /// Holds `worker` at `place` until `other` has passed `other_place` so many `times`, for at most so many `turns`.
+    /// Holds `worker` at `place` until `other` has passed `other_place` `times` times, for at most `turns` turns.
     pub fn new(
         worker: u32,
         place: u8,
@@ -79,13 +79,12 @@ impl HoldGate {
         }
     }
 
-    /// How often the held worker has passed its place: what the lock holds, of which no contract can speak, since other threads write
-    /// it.
+    /// How often the held worker has passed its place. No contract can state it, since other threads write it.
     pub fn passed<R: Wait>(&self, rt: &R) -> u32 {
         self.passed.lock(rt).held
     }
 
-    /// Whether the turns ran out at some passing: what the lock holds, as for `passed`.
+    /// Whether the turns ran out at some passing. No contract can state it, as with `passed`.
     pub fn ran_out<R: Wait>(&self, rt: &R) -> bool {
         self.passed.lock(rt).ran_out
     }
@@ -95,7 +94,7 @@ impl HoldGate {
         self.passed.lock(rt).other >= self.times
     }
 
-    // Waits until the other worker has passed often enough, or the turns run out: whether it has passed.
+    // Waits until the other worker has passed often enough, or the turns run out. Returns whether it has passed.
     fn hold<R: Wait>(&self, rt: &R) -> bool {
         for _ in 0..self.turns {
             if self.is_open(rt) {

@@ -15,7 +15,7 @@ use std::rt::Files;
 use std::time::{Clock, Duration};
 use tick_units::Local;
 
-// For how many seconds a link hears nothing before it says so.
+// For how many seconds a link waits before it reports silence.
 const SILENCE: u64 = 2;
 
 /// Why the host refuses an opening.
@@ -23,13 +23,13 @@ const SILENCE: u64 = 2;
 pub enum Refusal {
     NotThere,
     NoRight,
-    /// The port is another socket's.
+    /// Another socket has the port.
     Taken,
     Other,
 }
 
 impl Refusal {
-    /// The reason that an error of this kind gives.
+    /// The reason that stands for an error of this kind.
     pub fn of(kind: ErrorKind) -> Refusal {
         match kind {
             ErrorKind::NotFound => Refusal::NotThere,
@@ -40,7 +40,7 @@ impl Refusal {
     }
 }
 
-/// The host's files and sockets. It counts its faults and tells nothing of its openings.
+/// The host's files and sockets. It counts its faults and reports nothing of its openings.
 #[derive(Drop)]
 pub struct HostOutside<'a, R: Files + Net + Clock> {
     rt: &'a R,
@@ -51,8 +51,7 @@ pub struct HostOutside<'a, R: Files + Net + Clock> {
 }
 
 impl<'a, R: Files + Net + Clock> HostOutside<'a, R> {
-    /// The files and sockets that this runtime reaches, none of which has failed to open yet. The moments of its links are counted
-    /// from now on.
+    /// The files and sockets that this runtime reaches; no opening has failed yet. The moments of its links count from now on.
     pub fn new(rt: &'a R) -> HostOutside<'a, R>
         ensures faults { result.faults ≡ 0 }
         ensures gate { result.is_out ≡ false }
@@ -66,7 +65,7 @@ impl<'a, R: Files + Net + Clock> HostOutside<'a, R> {
         }
     }
 
-    /// Why the last opening that failed was refused. It is for people to read, and no clause speaks of it.
+    /// Why the last opening that failed was refused. It is for people to read, and no clause states it.
     pub fn refusal(&self) -> Option<Refusal> {
         self.refusal
     }
@@ -84,7 +83,7 @@ impl<'a, R: Files + Net + Clock> HostOutside<'a, R> {
     }
 }
 
-// A socket on this port of all addresses of the host, or on a free one where it is 0, that waits so long for a datagram.
+// A socket on this port of all addresses of the host, or on a free port where it is 0. It waits `SILENCE` seconds for a datagram.
 fn bind<R: Net>(rt: &R, port: u16) -> io::Result<UdpSocket> {
     let all = IpAddr::V4(Ipv4Addr::UNSPECIFIED);
     let socket = rt.bind_udp(SocketAddr::new(all, port))?;

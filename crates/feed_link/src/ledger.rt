@@ -11,7 +11,7 @@ use std::alloc::{AllocError, Global};
 use std::marker::Model;
 use std::snapshot::Snapshot;
 
-// What a log or a link tells at one moment. It has no bytes: contracts alone read it.
+// What a log or a link reports at one moment. It has no bytes, since only contracts read it.
 #[derive(Drop)]
 pub enum Seen {
     Log(Snapshot<MemorySource>),
@@ -25,7 +25,8 @@ pub struct Port {
     pub start: u64,
 }
 
-// One opening: a link's port, or where a log's name stands; and what the object told when it was opened, and when it was back.
+// One opening: a link's port, or the place of a log's name. Also what the object reported when it was opened, and when it was
+// given back.
 #[derive(Drop)]
 pub struct Row {
     pub port: Option<Port>,
@@ -35,7 +36,7 @@ pub struct Row {
     pub back: Option<Seen>,
 }
 
-// How many openings are told, and how many bytes of their names.
+// How many openings are reported, and how many bytes of their names.
 #[derive(Clone, Copy)]
 pub struct Room {
     pub openings: usize,
@@ -109,7 +110,7 @@ impl Ledger {
         }
     }
 
-    /// Notes that the object of this opening is back.
+    /// Notes that the object of this opening was given back.
     pub fn put_back(&mut self, number: u64, seen: Seen)
         requires { IsOut self.old.openings number }
         ensures { PutsBack self.old self.new number (state_of seen) }
@@ -121,7 +122,7 @@ impl Ledger {
     }
 }
 
-// A row and its name fit.
+// Whether there is room for a row and its name.
 fn has_room(names: &[u8], rows: &[Row], room: Room, name: &str) -> bool
     ensures names { OnTrue result (length names.now + length name.now ≤ room.names) }
     ensures rows { OnTrue result (length rows.now < room.openings) }
@@ -132,7 +133,7 @@ fn has_room(names: &[u8], rows: &[Row], room: Room, name: &str) -> bool
         && rows.len() < room.openings
 }
 
-// Adds a name and its row where there is room. Names that stand stay where they are, and so do rows.
+// Adds a name and its row where there is room. Earlier names and rows stay where they are.
 fn note_row(
     names: &mut Vec<u8>,
     rows: &mut Vec<Row>,
@@ -166,7 +167,7 @@ fn note_row(
     true
 }
 
-// Notes in its row what an object tells that is back.
+// Notes in its row what an object reports as it is given back.
 fn set_back(rows: &mut Vec<Row>, place: usize, seen: Seen)
     requires { place < vec_len rows.old }
     ensures row { (row : Row) × (slice_get rows.old.items place ≡ Some row) × (rows.new.items ≡ slice_set rows.old.items place (record row { back = Some seen })) }

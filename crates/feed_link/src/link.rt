@@ -8,7 +8,7 @@ use crate::{Address, Failed};
 use std::sync::Wait;
 use tick_units::Local;
 
-/// A datagram that came: from whom, how many bytes of it were heard, and when it came.
+/// A datagram that came: its sender, how many bytes of it were received, and when it came.
 #[derive(Drop)]
 pub struct Arrival {
     pub from: Address,
@@ -17,10 +17,10 @@ pub struct Arrival {
     pub at: Local,
 }
 
-/// What a link heard.
+/// What a link received.
 #[derive(Drop)]
 pub enum Hearing {
-    /// A datagram, whose bytes stand at the front of the piece.
+    /// A datagram, whose bytes stand at the beginning of the piece.
     Datagram(Arrival),
     /// Nothing came for a while.
     Quiet,
@@ -30,13 +30,13 @@ pub enum Hearing {
 
 /// Datagrams that come and go.
 pub trait Link: Send {
-    /// What it tells: its events in order, its last moment or arrival, and how often it has failed.
+    /// What it reports: its events in order, its last moment or arrival, and how often it has failed.
     ghost state: { Self → LinkState };
 
     /// The number of its opening at its outside.
     ghost opening: { Self → ℕ };
 
-    /// Hears once. Of a longer datagram the first 1024 bytes are heard.
+    /// Receives a datagram, or reports silence or the end. Of a longer datagram it receives the first 1024 bytes.
     fn hear(&mut self, piece: &mut [u8; 1024]) -> Result<Hearing, Failed>
         ensures heard { MatchResult result
             (λ hearing. Hears (state self.old) (state self.new) hearing piece.new)
@@ -58,7 +58,7 @@ pub trait Link: Send {
 
 /// Where a test may hold a worker. Workers of feeds pass it with the number of their feed, responders with 100 and their number.
 pub trait Gate: Sync {
-    /// A worker passes a place: 1 before a feed's entry is appended, 4 after it; 2 after a responder has heard a datagram, 3 after
-    /// it has sent a reply. It changes nothing, and may wait.
+    /// A worker passes a place: 1 before it appends a feed's entry, 4 after that. A responder passes 2 after it has received a
+    /// datagram, 3 after it has sent a reply. The call changes nothing, and may wait.
     fn pass<R: Wait>(&self, rt: &R, worker: u32, place: u8);
 }

@@ -12,8 +12,8 @@ use crate::{Address, Arrival, Failed, FakeOpen, Hearing, Link, LinkEvent, Planne
 use std::alloc::Global;
 use tick_units::Local;
 
-/// A link in memory, of which stated calls of `hear` and `send` fail, counted together. It hears what was planned, then its end. It
-/// tells the moments that were stated, then the last one again. It tells its events until its room for them or for their bytes is
+/// A link in memory, of which stated calls of `hear` and `send` fail, counted together. It gives the planned hearings, then its
+/// end. It gives the stated moments, then the last one again. It reports its events until its room for them or for their bytes is
 /// used up.
 #[derive(Drop)]
 pub struct MemoryLink {
@@ -36,7 +36,7 @@ fn later(a: Local, b: Local) -> Local
     if a.get() < b.get() { b } else { a }
 }
 
-// Copies the first 1024 bytes of a datagram to the front of a piece: how many there are.
+// Copies the first 1024 bytes of a datagram to the beginning of a piece, and returns how many there are.
 fn copy_front(piece: &mut [u8; 1024], bytes: &[u8]) -> usize
     ensures copied { take result piece.new ≡ take 1024 bytes.now }
     ensures most { result ≤ 1024 }
@@ -51,8 +51,8 @@ impl MemoryLink {
     ghost use Rattle.feed_link.specs.Book.{NotesEvent};
     ghost use Rattle.feed_link.specs.MemoryLink.{link_state, link_calls, link_book, hearings_of, moments_of, next_event, next_moment};
 
-    /// A link with these hearings and moments, whose calls of `hear` and `send` of these numbers fail, counted from 1, and with room
-    /// for so many events and bytes of their datagrams.
+    /// A link with these hearings and moments, and with room for this many events and bytes of their datagrams. Its calls of
+    /// `hear` and `send` of these numbers fail, counted from 1.
     pub fn new(
         alloc: Global,
         hearings: Vec<Planned>,
@@ -80,7 +80,7 @@ impl MemoryLink {
         })
     }
 
-    /// How many events it tells: none, once its room was used up.
+    /// How many events it reports: none, once its room was used up.
     pub fn count(&self) -> usize
         ensures { result ≡ length (unwrap_or (link_state self.now).events []) }
     {
@@ -94,7 +94,7 @@ impl MemoryLink {
         self.book.get(place)
     }
 
-    // The next moment that was stated, or the last one that was told.
+    // The next stated moment, or the last one that it gave.
     fn next_moment(&mut self) -> Local
         ensures moment { result ≡ next_moment self.old.latest (moments_of self.old) }
         ensures moments { moments_of self.new ≡ drop 1 (moments_of self.old) }
@@ -108,7 +108,7 @@ impl MemoryLink {
         later(self.latest, moment)
     }
 
-    // Hears what was planned next, or the end.
+    // Gives the next planned hearing, or the end.
     fn hear_next(&mut self, piece: &mut [u8; 1024]) -> Hearing
         ensures heard { Hears (link_state self.old) (link_state self.new) result piece.new }
         ensures planned { event_of result piece.new ≡ next_event self.old.latest (hearings_of self.old) }
@@ -161,7 +161,7 @@ impl Link for MemoryLink {
         ensures cause { HasCause self.old.faults self.new.faults result }
         ensures number { self.new.opening ≡ self.old.opening }
 
-        // It fails exactly where it was stated, and else hears what was planned next.
+        // It fails exactly where that was stated, and else gives the next planned hearing.
         ensures called { IsCalled (link_calls self.old) (link_calls self.new) }
         ensures fails { is_ok result ≡ not (fails_next (link_calls self.old)) }
         ensures planned { MatchResult result
@@ -181,7 +181,7 @@ impl Link for MemoryLink {
         ensures told { TellsMoment (link_state self.old) (link_state self.new) result }
         ensures number { self.new.opening ≡ self.old.opening }
 
-        // It tells the moment that was stated next.
+        // It gives the next stated moment.
         ensures called { link_calls self.new ≡ link_calls self.old }
         ensures stated { result ≡ next_moment self.old.latest (moments_of self.old) }
         ensures moments { moments_of self.new ≡ drop 1 (moments_of self.old) }
@@ -199,7 +199,7 @@ impl Link for MemoryLink {
         ensures cause { HasCause self.old.faults self.new.faults result }
         ensures number { self.new.opening ≡ self.old.opening }
 
-        // It fails exactly where it was stated.
+        // It fails exactly where that was stated.
         ensures called { IsCalled (link_calls self.old) (link_calls self.new) }
         ensures fails { is_ok result ≡ not (fails_next (link_calls self.old)) }
         ensures hearings { hearings_of self.new ≡ hearings_of self.old }

@@ -11,7 +11,7 @@ use std::alloc::{AllocError, AllocFailed, Global};
 use std::snapshot::Snapshot;
 use tick_units::Local;
 
-/// Want of memory, as a fake is made.
+/// There is no memory to make a fake.
 #[derive(Clone, Copy, Debug, PartialEq, Eq)]
 pub enum FakeOpen {
     Memory,
@@ -45,8 +45,8 @@ impl NamedLog {
     }
 }
 
-/// Logs in memory under their names, and links in their order, each of which is handed out once; and a gate. Stated openings fail.
-/// It tells its openings until its room for them or for their names is used up.
+/// Logs in memory under their names, links in their order, and a gate. Each log and each link is handed out once. Stated openings
+/// fail. It reports its openings until its room for them or for their names is used up.
 #[derive(Drop)]
 pub struct MemoryOutside<G: Drop> {
     logs: Vec<NamedLog>,
@@ -81,8 +81,8 @@ fn take_at(places: &mut Vec<Option<MemoryLink>>, place: usize) -> Option<MemoryL
 impl<G: Drop> MemoryOutside<G> {
     ghost use Rattle.feed_link.specs.MemoryOutside.{TakesFirst, TakesNone, TakesLink, TakesNoLink, outside_state, outside_calls, logs_of, links_of, gate_of, next_link, has_name, stands_at};
 
-    /// An outside with these logs, links and this gate, whose openings of these numbers fail, counted from 1, and with room for so many
-    /// openings and bytes of their names.
+    /// An outside with these logs, links and this gate, and with room for this many openings and bytes of their names. Its
+    /// openings of these numbers fail, counted from 1.
     pub fn new(
         alloc: Global,
         logs: Vec<NamedLog>,
@@ -233,7 +233,7 @@ impl<G: Gate + Drop> Outside for MemoryOutside<G> {
         ensures cause { HasCause self.old.faults self.new.faults result }
         ensures gate { is_gate_out self.new ≡ is_gate_out self.old }
 
-        // It hands out the first log of this name, and fails exactly where that was stated or where none is left.
+        // It hands out the first log of this name. It fails exactly where that was stated or where none is left.
         ensures called { IsCalled (outside_calls self.old) (outside_calls self.new) }
         ensures handed { MatchResult result
             (λ log. (fails_next (outside_calls self.old) ≡ false) × HandsOut name.now (logs_of self.old) (logs_of self.new) log)
@@ -296,7 +296,7 @@ impl<G: Gate + Drop> Outside for MemoryOutside<G> {
         ensures same { outside_state self.new ≡ outside_state self.old }
         ensures gate { is_gate_out self.new ≡ true }
 
-        // It is the gate that it was made with.
+        // It hands out the gate that it was made with.
         ensures is { gate_of self.old ≡ Some result }
         ensures others { self.new ≡ record self.old { gate = None } }
     {

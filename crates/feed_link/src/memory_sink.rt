@@ -8,7 +8,7 @@ use crate::calls::Calls;
 use crate::{Failed, Sink};
 use std::alloc::Global;
 
-/// An output in memory, of which stated calls of `write` fail. A refused growth is a fault too.
+/// An output in memory, of which stated calls of `write` fail. It is a fault too where there is no memory to grow.
 #[derive(Drop)]
 pub struct MemorySink {
     bytes: Vec<u8>,
@@ -40,7 +40,7 @@ impl MemorySink {
         &self.bytes
     }
 
-    // Adds a piece, unless memory is wanting.
+    // Adds a piece, unless there is no memory for it.
     fn add(&mut self, piece: &[u8]) -> bool
         ensures calls { self.new.calls ≡ self.old.calls }
         ensures faults { self.new.faults ≡ self.old.faults }
@@ -74,7 +74,7 @@ impl Sink for MemorySink {
         ensures bytes { Writes (sink_state self.old) (sink_state self.new) result piece.now }
         ensures cause { HasCause self.old.faults self.new.faults result }
 
-        // It takes all of the piece, and fails exactly where it was stated or where memory is wanting.
+        // It takes all of the piece. It fails exactly where that was stated or where there is no memory.
         ensures whole { IfOk result (λ n. n ≡ length piece.now) }
         ensures called { IsCalled (sink_calls self.old) (sink_calls self.new) }
         ensures passes { OnOk result (fails_next (sink_calls self.old) ≡ false) }

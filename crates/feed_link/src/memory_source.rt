@@ -49,7 +49,7 @@ impl Source for MemorySource {
         ensures cause { HasCause self.old.faults self.new.faults result }
         ensures number { self.new.opening ≡ self.old.opening }
 
-        // It fails exactly where it was stated.
+        // It fails exactly where that was stated.
         ensures called { IsCalled (source_calls self.old) (source_calls self.new) }
         ensures fails { is_ok result ≡ not (fails_next (source_calls self.old)) }
     {

@@ -22,13 +22,13 @@ pub struct Address {
 
 /// Bytes that come in, as a log does.
 pub trait Source: Send {
-    /// What it tells: the bytes that are left, and how often it has failed.
+    /// What it reports: the bytes that are left, and how often it has failed.
     ghost state: { Self → SourceState };
 
     /// The number of its opening at its outside.
     ghost opening: { Self → ℕ };
 
-    /// Takes the next bytes and answers how many. 0 is the end.
+    /// Takes the next bytes and returns how many. 0 is the end.
     fn read(&mut self, piece: &mut [u8]) -> Result<usize, Failed>
         ensures within { IfOk result (λ n. n ≤ length piece.new) }
         ensures bytes { Reads (state self.old) (state self.new) result piece.new }
@@ -38,10 +38,10 @@ pub trait Source: Send {
 
 /// Where bytes are written to.
 pub trait Sink {
-    /// What it tells: the bytes that it holds, and how often it has failed.
+    /// What it reports: the bytes that it holds, and how often it has failed.
     ghost state: { Self → SinkState };
 
-    /// Appends the first bytes of the piece and answers how many, at least one where there is one.
+    /// Appends the first bytes of the piece and returns how many, at least one where there is one.
     fn write(&mut self, piece: &[u8]) -> Result<usize, Failed>
         ensures within { IfOk result (λ n. n ≤ length piece.now) }
         ensures some { IfOk result (λ n. 0 < length piece.now → 0 < n) }
@@ -57,7 +57,7 @@ pub trait Outside {
 
     type Turns: Gate + Drop;
 
-    /// What it tells: its openings in order, its room for them, and how often it has failed.
+    /// What it reports: its openings in order, its room for them, and how often it has failed.
     ghost state: { Self → OutsideState };
 
     /// Whether its gate is out.

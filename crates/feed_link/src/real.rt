@@ -1,4 +1,4 @@
-// A real file and a real stream: each counts its faults, and tells nothing of its contents.
+// A real file and a real stream. Each counts its faults, and reports nothing of its contents.
 ghost use Rattle.std.specs.Prelude.{◌≡◌, ℕ, ◌<◌, ◌≤◌, None, length, IfOk};
 ghost use Rattle.std.specs.Io.KnownBytes.{ReadConsumes, WriteAppends};
 ghost use Rattle.feed_link.specs.Faults.{HasCause};
@@ -8,7 +8,7 @@ ghost use Rattle.feed_link.specs.Real.{file_state, file_number, stream_state};
 use crate::{Failed, Sink, Source};
 use std::io::{ErrorKind, Read, Write};
 
-/// A file, read from its start. It counts its faults and tells nothing of its contents.
+/// A file, read from its start. It counts its faults and reports nothing of its contents.
 #[derive(Drop)]
 pub struct FileSource<F: Read + Drop> {
     file: F,
@@ -16,7 +16,7 @@ pub struct FileSource<F: Read + Drop> {
 }
 
 impl<F: Read + Drop> FileSource<F> {
-    /// The source of an opened file, which hasn't failed yet.
+    /// The source of an opened file, which has not failed yet.
     pub fn new(file: F) -> FileSource<F>
         ensures { result ≡ record { file = file; faults = 0 } }
     {
@@ -24,7 +24,7 @@ impl<F: Read + Drop> FileSource<F> {
     }
 }
 
-// Takes the next bytes of a file. A call that is interrupted is made again.
+// Takes the next bytes of a file. It repeats an interrupted call.
 #[tactic(auto, using(crate::proofs::RealLaws::keeps_on, crate::proofs::RealLaws::keeps_same, crate::proofs::RealLaws::consumes_on))]
 fn read_some<F: Read>(file: &mut F, piece: &mut [u8]) -> Result<usize, Failed>
     ensures within { IfOk result (λ n. n ≤ length piece.new) }
@@ -51,7 +51,7 @@ impl<F: Read + Drop + Send> Source for FileSource<F> {
         ensures cause { HasCause self.old.faults self.new.faults result }
         ensures number { file_number ≡ file_number }
 
-        // What it gives are the bytes of the file.
+        // It gives the bytes of the file.
         ensures file { ReadConsumes (F.remaining self.old.file) (F.remaining self.new.file) result piece.new }
     {
         match read_some(&mut self.file, piece) {
@@ -64,7 +64,7 @@ impl<F: Read + Drop + Send> Source for FileSource<F> {
     }
 }
 
-/// A stream that is written to, as standard output. It counts its faults and tells nothing of its contents.
+/// A stream that is written to, as standard output. It counts its faults and reports nothing of its contents.
 #[derive(Drop)]
 pub struct StreamSink<W: Write + Drop> {
     stream: W,
@@ -72,7 +72,7 @@ pub struct StreamSink<W: Write + Drop> {
 }
 
 impl<W: Write + Drop> StreamSink<W> {
-    /// The sink of a stream, which hasn't failed yet.
+    /// The sink of a stream, which has not failed yet.
     pub fn new(stream: W) -> StreamSink<W>
         ensures { result ≡ record { stream = stream; faults = 0 } }
     {
@@ -87,7 +87,7 @@ impl<W: Write + Drop> StreamSink<W> {
     }
 }
 
-// Writes the first bytes of a piece, at least one where there is one. A call that is interrupted is made again.
+// Writes the first bytes of a piece, at least one where there is one. It repeats an interrupted call.
 #[tactic(auto, using(crate::proofs::RealLaws::keeps_on, crate::proofs::RealLaws::keeps_same, crate::proofs::RealLaws::appends_on))]
 fn write_some<W: Write>(stream: &mut W, piece: &[u8]) -> Result<usize, Failed>
     ensures within { IfOk result (λ n. n ≤ length piece.now) }
@@ -114,7 +114,7 @@ impl<W: Write + Drop> Sink for StreamSink<W> {
         ensures bytes { Writes (stream_state self.old.faults) (stream_state self.new.faults) result piece.now }
         ensures cause { HasCause self.old.faults self.new.faults result }
 
-        // What it takes stands in the stream.
+        // The stream holds what it takes.
         ensures stream { WriteAppends (W.contents self.old.stream) (W.contents self.new.stream) result piece.now }
     {
         match write_some(&mut self.stream, piece) {

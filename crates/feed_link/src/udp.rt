@@ -12,7 +12,7 @@ use std::net::{IpAddr, Ipv4Addr, SocketAddr, UdpSocket};
 use std::time::{Clock, Duration, Instant};
 use tick_units::Local;
 
-// How often a datagram is sent anew where the host was interrupted or told of the fate of an earlier one.
+// How often a datagram is sent again where the host was interrupted or reported an error of an earlier one.
 const TRIES: u32 = 1000;
 
 // The number of the greatest moment.
@@ -20,7 +20,7 @@ const GREATEST_MOMENT: u64 = (1 << 50) - 1;
 
 /// A socket that gives and takes datagrams, with a bound on how long it waits for one.
 pub trait DatagramSocket {
-    /// What it gave and took so far, where that is known. Of the host's own socket it is not.
+    /// What it gave and took so far, where that is known. It is not known of the host's own socket.
     ghost passed: { Self → Option (List Passed) } = { λ _. None };
 
     /// The next datagram: how many of its bytes stand in the piece, and who sent it.
@@ -52,7 +52,7 @@ pub struct Counter<'a, R: Clock> {
 }
 
 impl<'a, R: Clock> Counter<'a, R> {
-    /// It counts from now on, or stands still where the clock can't be read.
+    /// It counts from now on, or stands still where nothing can read the clock.
     pub fn new(rt: &'a R) -> Counter<'a, R>
         ensures { result.rt.now ≡ rt.now }
     {
@@ -87,8 +87,8 @@ fn whole_microseconds(elapsed: Duration) -> u64
     u64::try_from(elapsed.as_micros()).unwrap_or(u64::MAX)
 }
 
-// The moment of a counter that was at `start` this number of microseconds ago. It is the latest one again where the counter can't
-// be read, or has stood still.
+// The moment of a counter that was at `start` this many microseconds ago. It is the latest one again where nothing can read the
+// counter, or where it has stood still.
 fn moment_at(start: Local, latest: Local, counted: Option<u64>) -> Local
     ensures { result ≡ moment_of start latest counted }
 {
@@ -102,7 +102,7 @@ fn moment_at(start: Local, latest: Local, counted: Option<u64>) -> Local
     }
 }
 
-/// A socket as a link. It counts its faults and tells nothing of what it hears and sends.
+/// A socket as a link. It counts its faults and reports nothing of what it receives and sends.
 #[derive(Drop)]
 pub struct UdpLink<'a, R: Clock, S: DatagramSocket + Drop> {
     socket: S,
@@ -132,7 +132,7 @@ fn receiver(to: Address) -> SocketAddr
     SocketAddr::new(IpAddr::V4(Ipv4Addr::from_bits(to.ip)), to.port)
 }
 
-// Whether the host tells of the fate of an earlier datagram, or was interrupted: the call is then made again.
+// Whether the host reports an error of an earlier datagram, or was interrupted. The call is then repeated.
 fn is_of_another(kind: ErrorKind) -> bool {
     matches!(
         kind,
@@ -144,7 +144,7 @@ fn is_of_another(kind: ErrorKind) -> bool {
     )
 }
 
-// Whether there is no way to this receiver now, so that the datagram is lost, as any may be on its way. The link has no fault.
+// Whether there is no route to this receiver now. The datagram is then lost, as any datagram may be; the link has no fault.
 fn is_lost(kind: ErrorKind) -> bool {
     matches!(
         kind,
@@ -156,8 +156,8 @@ fn is_lost(kind: ErrorKind) -> bool {
     )
 }
 
-// Waits for a datagram that can be answered: its sender and how many bytes of it were heard, or None where nothing came for the
-// time of the socket.
+// Waits for a datagram that can be answered. Returns its sender and how many bytes of it were received, or None where the
+// socket's time ran out.
 #[tactic(auto, using(crate::proofs::SocketLaws::no_call, crate::proofs::SocketLaws::one_more))]
 fn hear_some<S: DatagramSocket>(
     socket: &mut S,
@@ -186,7 +186,7 @@ fn hear_some<S: DatagramSocket>(
     Err(Failed)
 }
 
-// Sends a datagram whole. It is lost where there is no way to its receiver. It is a fault where a part of it was taken.
+// Sends a datagram whole. It is lost where there is no route to its receiver. It is a fault where the socket took only a part.
 #[tactic(auto, using(crate::proofs::SocketLaws::no_call, crate::proofs::SocketLaws::one_more))]
 fn send_whole<S: DatagramSocket>(socket: &mut S, to: Address, bytes: &[u8]) -> Result<(), Failed>
     ensures { Posts (S.passed socket.old) (S.passed socket.new) result to bytes.now }
@@ -249,7 +249,7 @@ impl<R: Clock + Sync, S: DatagramSocket + Send + Drop> Link for UdpLink<'_, R, S
         ensures cause { HasCause self.old.faults self.new.faults result }
         ensures number { file_number ≡ file_number }
 
-        // What it hears is what the socket gave.
+        // It receives what the socket gave.
         ensures socket { MatchResult result
             (λ hearing. GivesHearing (S.passed self.old.socket) (S.passed self.new.socket) hearing piece.new)
             (λ _. Repeats is_passed_over (S.passed self.old.socket) (S.passed self.new.socket)) }
@@ -274,7 +274,7 @@ impl<R: Clock + Sync, S: DatagramSocket + Send + Drop> Link for UdpLink<'_, R, S
         ensures told { TellsMoment (socket_state self.old.latest self.old.faults) (socket_state self.new.latest self.new.faults) result }
         ensures number { file_number ≡ file_number }
 
-        // The counter is read anew, and the socket stays as it is.
+        // It reads the counter again, and the socket stays as it is.
         ensures value { (counted : Option ℕ) × (result ≡ moment_of self.old.start self.old.latest counted) }
         ensures others { self.new ≡ record self.old { latest = result } }
     {
@@ -287,7 +287,7 @@ impl<R: Clock + Sync, S: DatagramSocket + Send + Drop> Link for UdpLink<'_, R, S
         ensures cause { HasCause self.old.faults self.new.faults result }
         ensures number { file_number ≡ file_number }
 
-        // What it sends the socket took whole, where there was a way.
+        // The socket took the whole datagram, where there was a route.
         ensures socket { Posts (S.passed self.old.socket) (S.passed self.new.socket) result to bytes.now }
         ensures counter { self.new.counter ≡ self.old.counter }
         ensures start { self.new.start ≡ self.old.start }

@@ -1,11 +1,11 @@
 -- The bytes of a leap second file, one by one and piece by piece.
-use Rattle.std.proofs.Common.{◌≡◌, ℕ, zero, suc, ◌+◌, ◌-◌, ◌^◌, ◌<◌, ◌≤◌, Option, None, Some, Result, Ok, Err, Bool, true, false, inl, inr, List, [], ◌∷◌, ◌++◌, length, map, take, drop, refl, ap, sym, ◌∙◌, subst, append_assoc, arith, eqb}
-use Rattle.std.specs.Prelude.{min, option_map, if◌then◌else◌}
+use Rattle.std.proofs.Common.{◌≡◌, ℕ, suc, ◌+◌, ◌^◌, ◌<◌, ◌≤◌, Option, None, Some, Result, Ok, Err, Bool, true, false, inl, inr, List, [], ◌∷◌, ◌++◌, length, take, drop, refl, ap, sym, ◌∙◌, subst, append_assoc, arith, eqb}
+use Rattle.std.specs.Prelude.{option_map, if◌then◌else◌}
 use Rattle.std.specs.Option.{option_to_list}
 use Rattle.std.proofs.Math.Seq.{take-suc}
 use Rattle.std.specs.Prelude.{slice_index_or}
 use Rattle.std.proofs.lemmas.Bool.{cases_Bool, eqb-true}
-use Rattle.std.proofs.lemmas.List.{append-nil, length-append, length-map, map-append, take-append-drop}
+use Rattle.std.proofs.lemmas.List.{append-nil, length-append, map-append, take-append-drop}
 use Rattle.atomic_table.specs.Seated.{TableId}
 use Rattle.feed_link.specs.Told.{SourceState}
 use Rattle.file_reader.specs.Ends.{EndsReading}
@@ -16,7 +16,7 @@ use Rattle.leap_file.proofs.ReaderLaws.{says, says_end, says_more, says_whole}
 use Rattle.leap_file.specs.Lines.{line_says}
 use Rattle.leap_file.specs.Reading.{Finishes, HasRead, Takes, counted}
 use Rattle.tick_units.specs.Log.{lines_of}
-use Rattle.leap_file.specs.Rows.{bad_behind, bad_line, leap_seconds, lines_read, may_stand}
+use Rattle.leap_file.specs.Rows.{bad_behind, bad_line, leap_seconds, may_stand}
 use Rattle.leap_file.specs.declared.part.LeapLine.{LeapLine}
 use Rattle.leap_file.specs.declared.part.LeapLine.TheVariants.{Nothing, Numbers, Bad}
 use Rattle.leap_file.specs.declared.reader.BadLeap.{BadLeap}
@@ -24,7 +24,7 @@ use Rattle.leap_file.specs.declared.reader.LeapReader.{LeapReader}
 use Rattle.leap_file.specs.declared.row.Row.{Row}
 use Rattle.page_cell.specs.Passes.{Known, claim_of}
 use Rattle.page_cell.specs.declared.view.Claim.{Claim}
-use Rattle.feed_workers.specs.Keeping.{IsOfFeed, Keeps}
+use Rattle.feed_workers.specs.Keeping.{IsOfFeed, Keeps, Share}
 use Rattle.feed_workers.specs.Leaps.{EndsLeap, due_leap, notices_of}
 use Rattle.feed_workers.specs.Logs.{EndsAt}
 use Rattle.feed_workers.specs.Noticing.{EndsList, HasNoticed, HasPassed}
@@ -42,7 +42,7 @@ same_feed table sources feed pass now h k = record { table_is = k.table_is; feed
 -- ---- one byte more
 
 -- nothing is read yet
-pub noticed_none : (reader : LeapReader) (start : ℕ) (claim : Claim) (limit : ℕ) → HasRead reader [] → HasNoticed reader start claim claim limit false []
+pub noticed_none : (reader : LeapReader) (start : ℕ) (claim : Claim) (limit : ℕ) → HasRead reader [] → HasNoticed reader start (record { begun = claim; claim = claim; limit = limit; full = false }) []
 noticed_none reader start claim limit h = record { read = h; kept = keeps_none claim limit; good = refl }
 
 -- leap seconds more are notices more
@@ -50,55 +50,55 @@ due_more : (feed start : ℕ) (whole : Bool) (longer bytes seconds : List ℕ) �
     due_leap feed start whole longer ≡ due_leap feed start false bytes ++ notices_of feed start seconds
 due_more feed start whole longer bytes seconds is = ap (notices_of feed start) is ∙ map-append _ (leap_seconds false bytes) seconds
 
-module _ (reader new : LeapReader) (start : ℕ) (begin claim : Claim) (limit : ℕ) (full : Bool) (bytes : List ℕ) (h : HasNoticed reader start begin claim limit full bytes) where
+module _ (reader new : LeapReader) (start : ℕ) (share : Share) (bytes : List ℕ) (h : HasNoticed reader start share bytes) where
   -- what was due and these notices are kept
   kept_more : (whole : Bool) (longer : List ℕ) (found : Option ℕ) (now : Claim) (full_now : Bool) → leap_seconds whole longer ≡ leap_seconds false bytes ++ option_to_list found →
-      ((due : List Entry) → Keeps begin claim limit full due → Keeps begin now limit full_now (due ++ notices_of claim.number start (option_to_list found))) →
-      Keeps begin now limit full_now (due_leap begin.number start whole longer)
+      ((due : List Entry) → Keeps share due → Keeps (record share { claim = now; full = full_now }) (due ++ notices_of share.claim.number start (option_to_list found))) →
+      Keeps (record share { claim = now; full = full_now }) (due_leap share.begun.number start whole longer)
   kept_more whole longer found now full_now is keeps =
-      subst (λ (due : List Entry). Keeps begin now limit full_now due) (sym (due_more begin.number start whole longer bytes (option_to_list found) is))
-      (subst (λ n. Keeps begin now limit full_now (due_leap begin.number start false bytes ++ notices_of n start (option_to_list found))) h.kept.number (keeps (due_leap begin.number start false bytes) h.kept))
+      subst (λ (due : List Entry). Keeps (record share { claim = now; full = full_now }) due) (sym (due_more share.begun.number start whole longer bytes (option_to_list found) is))
+      (subst (λ n. Keeps (record share { claim = now; full = full_now }) (due_leap share.begun.number start false bytes ++ notices_of n start (option_to_list found))) h.kept.number (keeps (due_leap share.begun.number start false bytes) h.kept))
 
   -- nothing more was due
-  kept_same : (whole : Bool) (longer : List ℕ) → leap_seconds whole longer ≡ leap_seconds false bytes → Keeps begin claim limit full (due_leap begin.number start whole longer)
-  kept_same whole longer is = subst (λ seconds. Keeps begin claim limit full (notices_of begin.number start seconds)) (sym is) h.kept
+  kept_same : (whole : Bool) (longer : List ℕ) → leap_seconds whole longer ≡ leap_seconds false bytes → Keeps share (due_leap share.begun.number start whole longer)
+  kept_same whole longer is = subst (λ seconds. Keeps share (notices_of share.begun.number start seconds)) (sym is) h.kept
 
   pub noticed_on : (byte : ℕ) (result : Result (Option ℕ) BadLeap) (found : Option ℕ) (now : Claim) (full_now : Bool) → Takes new bytes byte result → result ≡ Ok found →
-      ((due : List Entry) → Keeps begin claim limit full due → Keeps begin now limit full_now (due ++ notices_of claim.number start (option_to_list found))) →
-      HasNoticed new start begin now limit full_now (bytes ++ byte ∷ [])
+      ((due : List Entry) → Keeps share due → Keeps (record share { claim = now; full = full_now }) (due ++ notices_of share.claim.number start (option_to_list found))) →
+      HasNoticed new start (record share { claim = now; full = full_now }) (bytes ++ byte ∷ [])
   noticed_on byte result found now full_now any same keeps =
       let took = subst (λ r. Takes new bytes byte r) same any in
       record { read = took.read; kept = kept_more false (bytes ++ byte ∷ []) found now full_now took.found.1 keeps; good = took.found.0 }
 
-  pub passed_on : (byte : ℕ) (result : Result (Option ℕ) BadLeap) (bad : BadLeap) → Takes new bytes byte result → result ≡ Err bad → HasPassed start begin claim limit full (bytes ++ byte ∷ []) bad.line
+  pub passed_on : (byte : ℕ) (result : Result (Option ℕ) BadLeap) (bad : BadLeap) → Takes new bytes byte result → result ≡ Err bad → HasPassed start share (bytes ++ byte ∷ []) bad.line
   passed_on byte result bad any same =
       let took = subst (λ r. Takes new bytes byte r) same any in
       record { kept = kept_same false (bytes ++ byte ∷ []) took.found.1; bad = took.found.0 }
 
   pub ends_well : (result : Result (Option ℕ) BadLeap) (found : Option ℕ) (now : Claim) (full_now : Bool) → Finishes new bytes result → result ≡ Ok found →
-      ((due : List Entry) → Keeps begin claim limit full due → Keeps begin now limit full_now (due ++ notices_of claim.number start (option_to_list found))) →
-      EndsList start begin now limit full_now bytes Whole
+      ((due : List Entry) → Keeps share due → Keeps (record share { claim = now; full = full_now }) (due ++ notices_of share.claim.number start (option_to_list found))) →
+      EndsList start (record share { claim = now; full = full_now }) bytes Whole
   ends_well result found now full_now any same keeps =
       let took = subst (λ r. Finishes new bytes r) same any in
       record { kept = kept_more true bytes found now full_now took.found.1 keeps; ends = ap (option_map counted) took.found.0 }
 
-  pub ends_badly : (result : Result (Option ℕ) BadLeap) (bad : BadLeap) → Finishes new bytes result → result ≡ Err bad → EndsList start begin claim limit full bytes (BadLine bad.line)
+  pub ends_badly : (result : Result (Option ℕ) BadLeap) (bad : BadLeap) → Finishes new bytes result → result ≡ Err bad → EndsList start share bytes (BadLine bad.line)
   ends_badly result bad any same =
       let took = subst (λ r. Finishes new bytes r) same any in
       record { kept = kept_same true bytes took.found.1; ends = took.found.0 }
 
 -- ---- a piece
 
--- bytes behind a bad line change neither that line nor what is due
-pub passed_stays : (start : ℕ) (begin claim : Claim) (limit : ℕ) (full : Bool) (front more : List ℕ) (line : ℕ) → HasPassed start begin claim limit full front line → HasPassed start begin claim limit full (front ++ more) line
-passed_stays start begin claim limit full front more line h = by (bad_line false front) refl h.bad
+-- bytes after a bad line change neither that line nor what is due
+pub passed_stays : (start : ℕ) (share : Share) (front more : List ℕ) (line : ℕ) → HasPassed start share front line → HasPassed start share (front ++ more) line
+passed_stays start share front more line h = by (bad_line false front) refl h.bad
   where
-    by : (told : Option ℕ) → bad_line false front ≡ told → option_map counted told ≡ Some line → HasPassed start begin claim limit full (front ++ more) line
+    by : (told : Option ℕ) → bad_line false front ≡ told → option_map counted told ≡ Some line → HasPassed start share (front ++ more) line
     by None is counts = cc
     by (Some number) is counts =
         let stays = stays_bad front more number is in
         record {
-          kept = subst (λ seconds. Keeps begin claim limit full (notices_of begin.number start seconds)) (sym stays.seconds) h.kept;
+          kept = subst (λ seconds. Keeps share (notices_of share.begun.number start seconds)) (sym stays.seconds) h.kept;
           bad = ap (option_map counted) stays.bad ∙ counts;
         }
 
@@ -136,7 +136,7 @@ line_small true bytes bad is =
     let small = bad_small None 1 (says (bytes ++ 10 ∷ [])) bad (sym (ap (bad_behind None 1) (says_whole bytes)) ∙ is) in
     omega (arith, length-append bytes (10 ∷ []))
 
--- so it is told as it is
+-- so it is reported as it is
 pub exact : (whole : Bool) (bytes : List ℕ) (line : ℕ) → length bytes ≤ 2 ^ 16 → option_map counted (bad_line whole bytes) ≡ Some line → bad_line whole bytes ≡ Some line
 exact whole bytes line most counts = by (bad_line whole bytes) refl counts
   where
@@ -163,7 +163,7 @@ list_ends log log_now bytes Long at read good = absurd at
 
 -- ---- places of a piece
 
--- with the byte at a place the front up to it is one longer, and the rest stands behind
+-- with the byte at a place the beginning up to it is one longer, and the rest stands after
 pub up_to : (bytes piece : List ℕ) (place : ℕ) → place < length piece → (bytes ++ take place piece) ++ slice_index_or piece place 0 ∷ [] ≡ bytes ++ take (place + 1) piece
 up_to bytes piece place within = append_assoc bytes (take place piece) (slice_index_or piece place 0 ∷ []) ∙ ap (λ (l : List ℕ). bytes ++ l) (sym (ap (λ n. take n piece) (one_on place) ∙ take-suc piece place 0 within))
   where

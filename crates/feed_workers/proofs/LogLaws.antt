@@ -16,11 +16,11 @@ use Rattle.tick_units.specs.declared.marks.Reduction.{Reduction}
 use Rattle.feed_link.specs.Told.{SourceState}
 use Rattle.file_reader.specs.Ends.{EndsReading}
 use Rattle.file_reader.specs.declared.reader.FileEnd.TheVariants as file
-use Rattle.feed_workers.specs.Keeping.{Keeps}
+use Rattle.feed_workers.specs.Keeping.{Keeps, Share}
 use Rattle.feed_workers.specs.Logs.{EndsAt, EndsLog}
 use Rattle.feed_workers.specs.declared.work.LogEnd.{LogEnd}
 use Rattle.feed_workers.specs.declared.work.LogEnd.TheVariants.{Whole, BadLine, Fault, Long}
-use Rattle.feed_workers.specs.Hearing.{HasHeard, HasHeardUpTo, HasMissed}
+use Rattle.feed_workers.specs.Hearing.{HasHeard, HasHeardUpTo, HasMissed, HearsPiece, Tuning}
 use Rattle.feed_workers.proofs.KeepLaws.{keeps_none}
 
 due_none : (feed : ℕ) (plan : Plan) (delay : ℕ) → due_log feed plan delay [] ≡ []
@@ -28,78 +28,90 @@ due_none feed Dcf delay = refl
 due_none feed Msf delay = refl
 due_none feed Wwvb delay = refl
 
--- bytes behind a bad line change neither that line nor what is due
+-- bytes after a bad line change neither that line nor what is due
 due_same : (feed : ℕ) (plan : Plan) (delay : ℕ) (bytes more : List ℕ) → pulses more ≡ pulses bytes → due_log feed plan delay more ≡ due_log feed plan delay bytes
 due_same feed plan delay bytes more same = ap (λ (rs : List Reduction). map (entry_of feed) (answers_of (record { plan = plan; delay = delay; reductions = rs }))) same
 
 module _ {B : Type 0} (stands : B → History → Type 0) where
   -- nothing is heard yet
-  pub heard_none : (d : LogDecoder B) (plan : Plan) (delay : ℕ) (claim : Claim) (limit : ℕ) → HasDecoded stands d claim.number plan delay [] → HasHeard stands d plan delay claim claim limit false [] None
-  heard_none d plan delay claim limit h = record {
+  pub heard_none : (d : LogDecoder B) (tuning : Tuning) (claim : Claim) (limit : ℕ) → HasDecoded stands d claim.number tuning.plan tuning.delay [] →
+      HasHeard stands d tuning (record { begun = claim; claim = claim; limit = limit; full = false }) [] None
+  heard_none d tuning claim limit h = record {
     decoded = h;
-    kept = subst (λ (due : List Entry). Keeps claim claim limit false due) (sym (due_none claim.number plan delay)) (keeps_none claim limit);
+    kept = subst (λ (due : List Entry). Keeps (record { begun = claim; claim = claim; limit = limit; full = false }) due) (sym (due_none claim.number tuning.plan tuning.delay)) (keeps_none claim limit);
     bad_is = refl;
   }
 
-  module _ (d now : LogDecoder B) (plan : Plan) (delay : ℕ) (start old : Claim) (limit : ℕ) (full : Bool) (before front : List ℕ) (h : HasHeard stands d plan delay start old limit full before None) where
-    -- a front of what comes completes no entry
-    pub heard_nothing : (found : Result (Option Entry) Bad) → DecodesFront stands now start.number plan delay before front found → found ≡ Ok None →
-        HasHeard stands now plan delay start old limit full (before ++ front) None
-    heard_nothing found any same = let took = subst (λ f. DecodesFront stands now start.number plan delay before front f) same any in record {
+  module _ (d now : LogDecoder B) (tuning : Tuning) (share : Share) (before front : List ℕ) (h : HasHeard stands d tuning share before None) where
+    -- a beginning of what comes completes no entry
+    pub heard_nothing : (found : Result (Option Entry) Bad) → DecodesFront stands now share.begun.number tuning.plan tuning.delay before front found → found ≡ Ok None →
+        HasHeard stands now tuning share (before ++ front) None
+    heard_nothing found any same = let took = subst (λ f. DecodesFront stands now share.begun.number tuning.plan tuning.delay before front f) same any in record {
       decoded = took.decoded;
-      kept = subst (λ (due : List Entry). Keeps start old limit full due) (sym (took.finds.1 ∙ append-nil (due_log start.number plan delay before))) h.kept;
+      kept = subst (λ (due : List Entry). Keeps share due) (sym (took.finds.1 ∙ append-nil (due_log share.begun.number tuning.plan tuning.delay before))) h.kept;
       bad_is = took.finds.0;
     }
 
     -- it completes an entry, which is kept
-    pub heard_entry : (found : Result (Option Entry) Bad) (entry : Entry) (claim : Claim) (full_now : Bool) → DecodesFront stands now start.number plan delay before front found → found ≡ Ok (Some entry) →
-        ((due : List Entry) → Keeps start old limit full due → Keeps start claim limit full_now (due ++ entry ∷ [])) → HasHeard stands now plan delay start claim limit full_now (before ++ front) None
-    heard_entry found entry claim full_now any same keeps = let took = subst (λ f. DecodesFront stands now start.number plan delay before front f) same any in record {
+    pub heard_entry : (found : Result (Option Entry) Bad) (entry : Entry) (claim : Claim) (full_now : Bool) → DecodesFront stands now share.begun.number tuning.plan tuning.delay before front found → found ≡ Ok (Some entry) →
+        ((due : List Entry) → Keeps share due → Keeps (record share { claim = claim; full = full_now }) (due ++ entry ∷ [])) → HasHeard stands now tuning (record share { claim = claim; full = full_now }) (before ++ front) None
+    heard_entry found entry claim full_now any same keeps = let took = subst (λ f. DecodesFront stands now share.begun.number tuning.plan tuning.delay before front f) same any in record {
       decoded = took.decoded;
-      kept = subst (λ (due : List Entry). Keeps start claim limit full_now due) (sym took.finds.1) (keeps (due_log start.number plan delay before) h.kept);
+      kept = subst (λ (due : List Entry). Keeps (record share { claim = claim; full = full_now }) due) (sym took.finds.1) (keeps (due_log share.begun.number tuning.plan tuning.delay before) h.kept);
       bad_is = took.finds.0;
     }
 
     -- it has a bad line
-    pub heard_bad : (found : Result (Option Entry) Bad) (bad : Bad) → DecodesFront stands now start.number plan delay before front found → found ≡ Err bad →
-        HasHeard stands now plan delay start old limit full (before ++ front) (Some bad.line)
-    heard_bad found bad any same = let took = subst (λ f. DecodesFront stands now start.number plan delay before front f) same any in record {
+    pub heard_bad : (found : Result (Option Entry) Bad) (bad : Bad) → DecodesFront stands now share.begun.number tuning.plan tuning.delay before front found → found ≡ Err bad →
+        HasHeard stands now tuning share (before ++ front) (Some bad.line)
+    heard_bad found bad any same = let took = subst (λ f. DecodesFront stands now share.begun.number tuning.plan tuning.delay before front f) same any in record {
       decoded = took.decoded;
-      kept = subst (λ (due : List Entry). Keeps start old limit full due) (sym took.finds.1) h.kept;
+      kept = subst (λ (due : List Entry). Keeps share due) (sym took.finds.1) h.kept;
       bad_is = took.finds.0;
     }
 
   -- one line more of a piece
-  pub heard_on : (d now : LogDecoder B) (plan : Plan) (delay : ℕ) (start old claim : Claim) (limit : ℕ) (full full_now : Bool) (all rest : List ℕ) (count : ℕ) →
-      (so_far : HasHeardUpTo stands d plan delay start old limit full all rest) →
-      (bad : Option ℕ) → HasHeard stands now plan delay start claim limit full_now (so_far.front ++ take count rest) bad → bad ≡ None →
-      HasHeardUpTo stands now plan delay start claim limit full_now all (drop count rest)
-  heard_on d now plan delay start old claim limit full full_now all rest count so_far bad any same = let heard = subst (λ b. HasHeard stands now plan delay start claim limit full_now (so_far.front ++ take count rest) b) same any in record {
+  pub heard_on : (d now : LogDecoder B) (tuning : Tuning) (share share_now : Share) (all rest : List ℕ) (count : ℕ) →
+      (so_far : HasHeardUpTo stands d tuning share all rest) →
+      (bad : Option ℕ) → HasHeard stands now tuning share_now (so_far.front ++ take count rest) bad → bad ≡ None →
+      HasHeardUpTo stands now tuning share_now all (drop count rest)
+  heard_on d now tuning share share_now all rest count so_far bad any same = let heard = subst (λ b. HasHeard stands now tuning share_now (so_far.front ++ take count rest) b) same any in record {
     front = so_far.front ++ take count rest;
     is = append_assoc so_far.front (take count rest) (drop count rest) ∙ ap (λ (b : List ℕ). so_far.front ++ b) (take-append-drop count rest) ∙ so_far.is;
     heard = heard;
   }
 
   -- a bad line in a piece
-  pub missed : (d now : LogDecoder B) (plan : Plan) (delay : ℕ) (start old claim : Claim) (limit : ℕ) (full full_now : Bool) (all rest : List ℕ) (count line : ℕ) →
-      (so_far : HasHeardUpTo stands d plan delay start old limit full all rest) →
-      (bad : Option ℕ) → HasHeard stands now plan delay start claim limit full_now (so_far.front ++ take count rest) bad → bad ≡ Some line →
-      HasMissed plan delay start claim limit full_now all line
-  missed d now plan delay start old claim limit full full_now all rest count line so_far bad any same =
-      let heard = subst (λ b. HasHeard stands now plan delay start claim limit full_now (so_far.front ++ take count rest) b) same any in
+  pub missed : (d now : LogDecoder B) (tuning : Tuning) (share share_now : Share) (all rest : List ℕ) (count line : ℕ) →
+      (so_far : HasHeardUpTo stands d tuning share all rest) →
+      (bad : Option ℕ) → HasHeard stands now tuning share_now (so_far.front ++ take count rest) bad → bad ≡ Some line →
+      HasMissed tuning share_now all line
+  missed d now tuning share share_now all rest count line so_far bad any same =
+      let heard = subst (λ b. HasHeard stands now tuning share_now (so_far.front ++ take count rest) b) same any in
       let front = so_far.front ++ take count rest in
       let is : front ++ drop count rest ≡ all = append_assoc so_far.front (take count rest) (drop count rest) ∙ ap (λ (b : List ℕ). so_far.front ++ b) (take-append-drop count rest) ∙ so_far.is in
       let stays = bad_stays front (drop count rest) line heard.bad_is in
-      subst (λ (b : List ℕ). HasMissed plan delay start claim limit full_now b line) is (record {
-        kept = subst (λ (due : List Entry). Keeps start claim limit full_now due) (sym (due_same start.number plan delay front (front ++ drop count rest) stays.1)) heard.kept;
+      subst (λ (b : List ℕ). HasMissed tuning share_now b line) is (record {
+        kept = subst (λ (due : List Entry). Keeps share_now due) (sym (due_same share_now.begun.number tuning.plan tuning.delay front (front ++ drop count rest) stays.1)) heard.kept;
         bad_is = stays.0;
       })
 
   -- all of a piece
-  pub heard_all : (d : LogDecoder B) (plan : Plan) (delay : ℕ) (start claim : Claim) (limit : ℕ) (full : Bool) (all rest : List ℕ) → HasHeardUpTo stands d plan delay start claim limit full all rest →
-      rest ≡ [] → HasHeard stands d plan delay start claim limit full all None
-  heard_all d plan delay start claim limit full all rest so_far none =
-      subst (λ (b : List ℕ). HasHeard stands d plan delay start claim limit full b None) (sym (append-nil so_far.front) ∙ ap (λ (b : List ℕ). so_far.front ++ b) (sym none) ∙ so_far.is) so_far.heard
+  pub heard_all : (d : LogDecoder B) (tuning : Tuning) (share : Share) (all rest : List ℕ) → HasHeardUpTo stands d tuning share all rest →
+      rest ≡ [] → HasHeard stands d tuning share all None
+  heard_all d tuning share all rest so_far none =
+      subst (λ (b : List ℕ). HasHeard stands d tuning share b None) (sym (append-nil so_far.front) ∙ ap (λ (b : List ℕ). so_far.front ++ b) (sym none) ∙ so_far.is) so_far.heard
+
+  -- a piece that was heard, by what its bytes are and by what came of it
+  pub all_of_piece : (d : LogDecoder B) (tuning : Tuning) (share : Share) (before piece bytes : List ℕ) (bad : Option ℕ) → HearsPiece stands d tuning share (before ++ piece) bad → piece ≡ bytes → bad ≡ None →
+      HasHeard stands d tuning share (before ++ bytes) None
+  all_of_piece d tuning share before piece bytes bad heard is none =
+      subst (λ (b : List ℕ). HasHeard stands d tuning share (before ++ b) None) is (subst (λ (o : Option ℕ). HearsPiece stands d tuning share (before ++ piece) o) none heard)
+
+  pub bad_in_piece : (d : LogDecoder B) (tuning : Tuning) (share : Share) (before piece bytes : List ℕ) (bad : Option ℕ) (line : ℕ) → HearsPiece stands d tuning share (before ++ piece) bad → piece ≡ bytes → bad ≡ Some line →
+      HasMissed tuning share (before ++ bytes) line
+  bad_in_piece d tuning share before piece bytes bad line heard is some =
+      subst (λ (b : List ℕ). HasMissed tuning share (before ++ b) line) is (subst (λ (o : Option ℕ). HearsPiece stands d tuning share (before ++ piece) o) some heard)
 
 -- how the reading of a log that came to the end ends
 pub ends_at : (most : ℕ) (log log_now : SourceState) (bytes : List ℕ) (end : LogEnd) → EndsAt end (bad_at_end bytes) → EndsReading file.Whole most log log_now bytes → bad_line bytes ≡ None →

@@ -16,7 +16,7 @@ use Rattle.poll_core.specs.Polling.{HasPolled}
 use Rattle.poll_core.specs.declared.poll.Poll.{Poll}
 use Rattle.feed_workers.specs.Asking.{HasDone, Polled}
 use Rattle.feed_workers.specs.Keeping.{Keeps}
-use Rattle.feed_workers.specs.Polling.{RunsPolls}
+use Rattle.feed_workers.specs.Polling.{RunsPolls, Session, session_at}
 use Rattle.feed_workers.specs.Polls.{Round, events_of, events_in, exchanges_of, history_of, entry_after, due_after, due_link, ends_round, is_hearing, GoOn, IsWhole, AreWhole, IsOpen, IsCut}
 use Rattle.feed_workers.specs.declared.work.PollEnd.TheVariants.{Rounds, LinkEnd, LinkFault}
 use Rattle.feed_workers.proofs.KeepLaws.{keeps_none}
@@ -55,82 +55,86 @@ AreWhole-push-behind server before (first ∷ rounds) round are is =
 pub AreWhole-push : (server : Address) (rounds : List Round) (round : Round) → AreWhole server [] rounds → IsWhole server (events_in server rounds) round → AreWhole server [] (rounds ++ round ∷ [])
 AreWhole-push server rounds round are is = AreWhole-push-behind server [] rounds round are is
 
-module _ (server : Address) (link : LinkState) (start : Claim) (limit : ℕ) where
-  -- nothing is done yet
-  pub polled_none : (poll : Poll) → HasPolled poll server [] → Polled poll server link link start start limit false 0
-  polled_none poll polled = record {
-    made = [];
-    done = record { told = Adds-none link.events; polled = polled; kept = keeps_none start limit; no_fault = refl };
-    whole = tt;
-    size = refl;
-    open_all = All-nil IsOpen;
-  }
+-- the same polls, with the link and the claim as they are now
+abbrev pub on_to : Session → LinkState → Claim → (full : Bool) → Session
+on_to session link claim full = record session { link = link; share = record session.share { claim = claim; full = full } }
 
+-- nothing is done yet
+pub polled_none : (server : Address) (link : LinkState) (claim : Claim) (limit : ℕ) (poll : Poll) → HasPolled poll server [] →
+    Polled poll (session_at server link link (record { begun = claim; claim = claim; limit = limit; full = false })) 0
+polled_none server link claim limit poll polled = record {
+  made = [];
+  done = record { told = Adds-none link.events; polled = polled; kept = keeps_none claim limit; no_fault = refl };
+  whole = tt;
+  size = refl;
+  open_all = All-nil IsOpen;
+}
+
+module _ (session : Session) where
   -- an event that has no entry
-  pub done_more : (poll now : Poll) (mid last : LinkState) (claim : Claim) (full : Bool) (events : List NetEvent) (event : NetEvent) → HasDone poll server link mid start claim limit full events →
-      entry_after start.number server events event ≡ [] → Adds mid.events last.events (event ∷ []) → last.faults ≡ mid.faults → HasPolled now server (history_of events ++ exchanges_of event) →
-      HasDone now server link last start claim limit full (events ++ event ∷ [])
-  done_more poll now mid last claim full events event h none told same polled = record {
-    told = Adds-more link.events mid.events last.events events (event ∷ []) h.told told;
-    polled = subst (λ (l : List Event). HasPolled now server l) (sym (history-push events event)) polled;
-    kept = subst (λ (due : List Entry). Keeps start claim limit full due)
-        (sym (due_link-push start.number server events event ∙ ap (λ (l : List Entry). due_link start.number server events ++ l) none ∙ append-nil (due_link start.number server events))) h.kept;
+  pub done_more : (poll now : Poll) (last : LinkState) (events : List NetEvent) (event : NetEvent) → HasDone poll session events →
+      entry_after session.share.begun.number session.server events event ≡ [] → Adds session.link.events last.events (event ∷ []) → last.faults ≡ session.link.faults →
+      HasPolled now session.server (history_of events ++ exchanges_of event) → HasDone now (record session { link = last }) (events ++ event ∷ [])
+  done_more poll now last events event h none told same polled = record {
+    told = Adds-more session.begun.events session.link.events last.events events (event ∷ []) h.told told;
+    polled = subst (λ (l : List Event). HasPolled now session.server l) (sym (history-push events event)) polled;
+    kept = subst (λ (due : List Entry). Keeps session.share due)
+        (sym (due_link-push session.share.begun.number session.server events event ∙ ap (λ (l : List Entry). due_link session.share.begun.number session.server events ++ l) none ∙ append-nil (due_link session.share.begun.number session.server events))) h.kept;
     no_fault = same ∙ h.no_fault;
   }
 
   -- an event whose entry was kept
-  pub done_kept : (poll now : Poll) (mid last : LinkState) (old claim : Claim) (full full_now : Bool) (events : List NetEvent) (event : NetEvent) (entry : Entry) →
-      HasDone poll server link mid start old limit full events → entry_after start.number server events event ≡ entry ∷ [] → Adds mid.events last.events (event ∷ []) → last.faults ≡ mid.faults →
-      HasPolled now server (history_of events ++ exchanges_of event) →
-      ((due : List Entry) → Keeps start old limit full due → Keeps start claim limit full_now (due ++ entry ∷ [])) →
-      HasDone now server link last start claim limit full_now (events ++ event ∷ [])
-  done_kept poll now mid last old claim full full_now events event entry h one told same polled keeps = record {
-    told = Adds-more link.events mid.events last.events events (event ∷ []) h.told told;
-    polled = subst (λ (l : List Event). HasPolled now server l) (sym (history-push events event)) polled;
-    kept = subst (λ (due : List Entry). Keeps start claim limit full_now due)
-        (sym (due_link-push start.number server events event ∙ ap (λ (l : List Entry). due_link start.number server events ++ l) one)) (keeps (due_link start.number server events) h.kept);
+  pub done_kept : (poll now : Poll) (last : LinkState) (claim : Claim) (full : Bool) (events : List NetEvent) (event : NetEvent) (entry : Entry) →
+      HasDone poll session events → entry_after session.share.begun.number session.server events event ≡ entry ∷ [] → Adds session.link.events last.events (event ∷ []) → last.faults ≡ session.link.faults →
+      HasPolled now session.server (history_of events ++ exchanges_of event) →
+      ((due : List Entry) → Keeps session.share due → Keeps (record session.share { claim = claim; full = full }) (due ++ entry ∷ [])) →
+      HasDone now (on_to session last claim full) (events ++ event ∷ [])
+  done_kept poll now last claim full events event entry h one told same polled keeps = record {
+    told = Adds-more session.begun.events session.link.events last.events events (event ∷ []) h.told told;
+    polled = subst (λ (l : List Event). HasPolled now session.server l) (sym (history-push events event)) polled;
+    kept = subst (λ (due : List Entry). Keeps (record session.share { claim = claim; full = full }) due)
+        (sym (due_link-push session.share.begun.number session.server events event ∙ ap (λ (l : List Entry). due_link session.share.begun.number session.server events ++ l) one)) (keeps (due_link session.share.begun.number session.server events) h.kept);
     no_fault = same ∙ h.no_fault;
   }
 
-  module _ (made : List Round) (count : ℕ) (are : AreWhole server [] made) (size : length made ≡ count) (all : All IsOpen made) where
+  module _ (made : List Round) (count : ℕ) (are : AreWhole session.server [] made) (size : length made ≡ count) (all : All IsOpen made) where
     -- one whole round more
-    pub polled_more : (poll : Poll) (last : LinkState) (claim : Claim) (full : Bool) (round : Round) → HasDone poll server link last start claim limit full (events_in server made ++ events_of server round) →
-        IsWhole server (events_in server made) round → IsOpen round → Polled poll server link last start claim limit full (count + 1)
-    polled_more poll last claim full round done whole open_one = record {
+    pub polled_more : (poll : Poll) (round : Round) → HasDone poll session (events_in session.server made ++ events_of session.server round) →
+        IsWhole session.server (events_in session.server made) round → IsOpen round → Polled poll session (count + 1)
+    polled_more poll round done whole open_one = record {
       made = made ++ round ∷ [];
-      done = subst (λ (l : List NetEvent). HasDone poll server link last start claim limit full l) (sym (events_in-push server made round)) done;
-      whole = AreWhole-push server made round are whole;
+      done = subst (λ (l : List NetEvent). HasDone poll session l) (sym (events_in-push session.server made round)) done;
+      whole = AreWhole-push session.server made round are whole;
       size = omega (arith, size, length-append made (round ∷ []));
       open_all = All-push IsOpen made round all open_one;
     }
 
     -- the last round, which heard the link's end
-    pub ends_link : (poll : Poll) (last : LinkState) (claim : Claim) (full : Bool) (polls : ℕ) (round : Round) → count < polls →
-        HasDone poll server link last start claim limit full (events_in server made ++ events_of server round) → IsWhole server (events_in server made) round → round.last ≡ Ended →
-        RunsPolls server polls link last start claim limit (record { end = LinkEnd; full = full })
-    ends_link poll last claim full polls round lt done whole ended = record {
-      events = events_in server made ++ events_of server round;
+    pub ends_link : (poll : Poll) (polls : ℕ) (round : Round) → count < polls →
+        HasDone poll session (events_in session.server made ++ events_of session.server round) → IsWhole session.server (events_in session.server made) round → round.last ≡ Ended →
+        RunsPolls session polls LinkEnd
+    ends_link poll polls round lt done whole ended = record {
+      events = events_in session.server made ++ events_of session.server round;
       told = done.told;
       kept = done.kept;
-      ends = (made, round, sym (events_in-push server made round), AreWhole-push server made round are whole, omega (arith, size, lt), all, ended, done.no_fault);
+      ends = (made, round, sym (events_in-push session.server made round), AreWhole-push session.server made round are whole, omega (arith, size, lt), all, ended, done.no_fault);
     }
 
     -- a round that was cut
-    pub ends_cut : (last : LinkState) (claim : Claim) (full : Bool) (polls : ℕ) (cut : List NetEvent) → count < polls → Adds link.events last.events (events_in server made ++ cut) →
-        Keeps start claim limit full (due_link start.number server (events_in server made ++ cut)) → IsCut server (events_in server made) cut → RoseByOne link.faults last.faults →
-        RunsPolls server polls link last start claim limit (record { end = LinkFault; full = full })
-    ends_cut last claim full polls cut lt told kept is rose = record {
-      events = events_in server made ++ cut;
+    pub ends_cut : (polls : ℕ) (cut : List NetEvent) → count < polls → Adds session.begun.events session.link.events (events_in session.server made ++ cut) →
+        Keeps session.share (due_link session.share.begun.number session.server (events_in session.server made ++ cut)) → IsCut session.server (events_in session.server made) cut →
+        RoseByOne session.begun.faults session.link.faults → RunsPolls session polls LinkFault
+    ends_cut polls cut lt told kept is rose = record {
+      events = events_in session.server made ++ cut;
       told = told;
       kept = kept;
       ends = (made, cut, refl, are, omega (arith, size, lt), all, is, rose);
     }
 
   -- all polls were made
-  pub ends_all : (poll : Poll) (last : LinkState) (claim : Claim) (full : Bool) (polls : ℕ) → Polled poll server link last start claim limit full polls →
-      RunsPolls server polls link last start claim limit (record { end = Rounds; full = full })
-  ends_all poll last claim full polls p = record {
-    events = events_in server p.made;
+  pub ends_all : (poll : Poll) (polls : ℕ) → Polled poll session polls → RunsPolls session polls Rounds
+  ends_all poll polls p = record {
+    events = events_in session.server p.made;
     told = p.done.told;
     kept = p.done.kept;
     ends = (p.made, refl, p.whole, p.size, p.open_all, p.done.no_fault);

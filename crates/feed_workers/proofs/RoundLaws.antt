@@ -22,12 +22,12 @@ use Rattle.poll_core.specs.Polling.{HasPolled}
 use Rattle.poll_core.specs.declared.poll.Poll.{Poll}
 use Rattle.feed_workers.specs.Asking.{HasDone, Polled, InRound, HearsOne}
 use Rattle.feed_workers.specs.Keeping.{Keeps}
-use Rattle.feed_workers.specs.Polling.{RunsPolls}
+use Rattle.feed_workers.specs.Polling.{RunsPolls, Session}
 use Rattle.feed_workers.specs.Polls.{Round, events_in, asking, history_of, what_of, entry_after, due_link, ends_round, is_hearing, is_ended, GoOn}
 use Rattle.feed_workers.specs.declared.poller.Heard.TheVariants.{On, Over, Fault}
 use Rattle.feed_workers.specs.declared.poller.Heard.TheVariants as how
 use Rattle.feed_workers.specs.declared.work.PollEnd.TheVariants.{LinkEnd, LinkFault}
-use Rattle.feed_workers.proofs.PollLaws.{due_link-push, GoOn-push, done_more, done_kept, polled_more, ends_link, ends_cut}
+use Rattle.feed_workers.proofs.PollLaws.{due_link-push, GoOn-push, done_more, done_kept, on_to, polled_more, ends_link, ends_cut}
 
 abbrev only : Entry → List Entry
 only entry = entry ∷ []
@@ -39,7 +39,7 @@ is_timely asked moment latest x is same e = let same_moment : moment ≡ x = cc 
 event_is : (mid last : LinkState) (hearing is : Hearing) (piece : List ℕ) → Hears mid last hearing piece → hearing ≡ is → Adds mid.events last.events (event_of is piece ∷ [])
 event_is mid last hearing is piece hears same = subst (λ (h : Hearing). Adds mid.events last.events (event_of h piece ∷ [])) same hears.event
 
--- what does not end a round isn't the link's end
+-- what does not end a round is not the link's end
 not_ended : (server : Address) (before : List NetEvent) (event : NetEvent) → ends_round server before event ≡ false → is_ended event ≡ false
 not_ended server before (Came from at bytes) on = refl
 not_ended server before Silent on = refl
@@ -47,7 +47,7 @@ not_ended server before Ended on = absurd (true≢false on)
 not_ended server before (Timed moment) on = refl
 not_ended server before (Went to bytes) on = refl
 
--- a list that isn't empty has a last item
+-- a list that is not empty has a last item
 record Ended_by (events : List NetEvent) : Type 0 where
   pub front : List NetEvent
   pub last : NetEvent
@@ -64,62 +64,69 @@ GoOn-last server before (first ∷ front) last go =
     let rest = GoOn-last server (before ++ first ∷ []) front last go.2 in
     ((go.0, go.1, rest.0), rest.1, subst (λ (l : List NetEvent). ends_round server l last ≡ false) (append_assoc before (first ∷ []) front) rest.2)
 
-module _ (server : Address) (link : LinkState) (start : Claim) (limit : ℕ) where
+no_exchange : (server : Address) (poll : Poll) (events : List NetEvent) → HasPolled poll server (history_of events) → HasPolled poll server (history_of events ++ [])
+no_exchange server poll events polled = subst (λ (l : List Event). HasPolled poll server l) (sym (append-nil (history_of events))) polled
+
+longer : (server : Address) (made : List Round) (moment : ℕ) (earlier : List NetEvent) (event : NetEvent) →
+    (events_in server made ++ (asking server moment ++ earlier)) ++ event ∷ [] ≡ events_in server made ++ (asking server moment ++ (earlier ++ event ∷ []))
+longer server made moment earlier event =
+    append_assoc (events_in server made) (asking server moment ++ earlier) (event ∷ []) ∙ ap (λ (l : List NetEvent). events_in server made ++ l) (append_assoc (asking server moment) earlier (event ∷ []))
+
+module _ (session : Session) where
   -- a datagram, whose entry was kept
-  pub hears_datagram : (poll now : Poll) (mid last : LinkState) (old claim : Claim) (full full_now accepted : Bool) (events : List NetEvent) (hearing : Hearing) (arrival : Arrival) (piece : List ℕ) (feed : ℕ) (what : What) →
-      HasDone poll server link mid start old limit full events → start.number ≡ feed → Hears mid last hearing piece → hearing ≡ Datagram arrival → last.faults ≡ mid.faults →
-      HasPolled now server (history_of events ++ Answered arrival.at arrival.from (take arrival.length piece) ∷ []) →
-      what ≡ what_of (judge server (history_of events) arrival.at arrival.from (take arrival.length piece)) →
-      accepted ≡ is_ok (judge server (history_of events) arrival.at arrival.from (take arrival.length piece)) →
-      ((due : List Entry) → Keeps start old limit full due → Keeps start claim limit full_now (due ++ record { feed = feed; at = arrival.at; what = what } ∷ [])) →
-      (ends_round server events (Came arrival.from arrival.at (take arrival.length piece)) ≡ accepted)
-      × HasDone now server link last start claim limit full_now (events ++ Came arrival.from arrival.at (take arrival.length piece) ∷ [])
-  hears_datagram poll now mid last old claim full full_now accepted events hearing arrival piece feed what done same hears is faults polled what_is accepted_is keeps =
+  pub hears_datagram : (poll now : Poll) (last : LinkState) (claim : Claim) (full accepted : Bool) (events : List NetEvent) (hearing : Hearing) (arrival : Arrival) (piece : List ℕ) (feed : ℕ) (what : What) →
+      HasDone poll session events → session.share.begun.number ≡ feed → Hears session.link last hearing piece → hearing ≡ Datagram arrival → last.faults ≡ session.link.faults →
+      HasPolled now session.server (history_of events ++ Answered arrival.at arrival.from (take arrival.length piece) ∷ []) →
+      what ≡ what_of (judge session.server (history_of events) arrival.at arrival.from (take arrival.length piece)) →
+      accepted ≡ is_ok (judge session.server (history_of events) arrival.at arrival.from (take arrival.length piece)) →
+      ((due : List Entry) → Keeps session.share due → Keeps (record session.share { claim = claim; full = full }) (due ++ record { feed = feed; at = arrival.at; what = what } ∷ [])) →
+      (ends_round session.server events (Came arrival.from arrival.at (take arrival.length piece)) ≡ accepted)
+      × HasDone now (on_to session last claim full) (events ++ Came arrival.from arrival.at (take arrival.length piece) ∷ [])
+  hears_datagram poll now last claim full accepted events hearing arrival piece feed what done same hears is faults polled what_is accepted_is keeps =
       let event = Came arrival.from arrival.at (take arrival.length piece) in
       let entry : Entry = record { feed = feed; at = arrival.at; what = what } in
-      let one : entry_after start.number server events event ≡ entry ∷ [] =
-      ap (λ (n : ℕ). only (record { feed = n; at = arrival.at; what = what_of (judge server (history_of events) arrival.at arrival.from (take arrival.length piece)) })) same
+      let one : entry_after session.share.begun.number session.server events event ≡ entry ∷ [] =
+      ap (λ (n : ℕ). only (record { feed = n; at = arrival.at; what = what_of (judge session.server (history_of events) arrival.at arrival.from (take arrival.length piece)) })) same
       ∙ ap (λ (w : What). only (record { feed = feed; at = arrival.at; what = w })) (sym what_is) in
-      (sym accepted_is, done_kept server link start limit poll now mid last old claim full full_now events event entry done one (event_is mid last hearing (Datagram arrival) piece hears is) faults polled keeps)
-
-  no_exchange : (poll : Poll) (events : List NetEvent) → HasPolled poll server (history_of events) → HasPolled poll server (history_of events ++ [])
-  no_exchange poll events polled = subst (λ (l : List Event). HasPolled poll server l) (sym (append-nil (history_of events))) polled
+      (sym accepted_is, done_kept session poll now last claim full events event entry done one (event_is session.link last hearing (Datagram arrival) piece hears is) faults polled keeps)
 
   -- nothing came, or the link's end
-  pub hears_quiet : (poll : Poll) (mid last : LinkState) (old : Claim) (full : Bool) (events : List NetEvent) (hearing : Hearing) (piece : List ℕ) →
-      HasDone poll server link mid start old limit full events → Hears mid last hearing piece → hearing ≡ Quiet → last.faults ≡ mid.faults →
-      HasDone poll server link last start old limit full (events ++ Silent ∷ [])
-  hears_quiet poll mid last old full events hearing piece done hears is faults =
-      done_more server link start limit poll poll mid last old full events Silent done refl (event_is mid last hearing Quiet piece hears is) faults (no_exchange poll events done.polled)
+  pub hears_quiet : (poll : Poll) (last : LinkState) (events : List NetEvent) (hearing : Hearing) (piece : List ℕ) →
+      HasDone poll session events → Hears session.link last hearing piece → hearing ≡ Quiet → last.faults ≡ session.link.faults →
+      HasDone poll (record session { link = last }) (events ++ Silent ∷ [])
+  hears_quiet poll last events hearing piece done hears is faults =
+      done_more session poll poll last events Silent done refl (event_is session.link last hearing Quiet piece hears is) faults (no_exchange session.server poll events done.polled)
 
-  pub hears_end : (poll : Poll) (mid last : LinkState) (old : Claim) (full : Bool) (events : List NetEvent) (hearing : Hearing) (piece : List ℕ) →
-      HasDone poll server link mid start old limit full events → Hears mid last hearing piece → hearing ≡ End → last.faults ≡ mid.faults →
-      HasDone poll server link last start old limit full (events ++ Ended ∷ [])
-  hears_end poll mid last old full events hearing piece done hears is faults =
-      done_more server link start limit poll poll mid last old full events Ended done refl (event_is mid last hearing End piece hears is) faults (no_exchange poll events done.polled)
+  pub hears_end : (poll : Poll) (last : LinkState) (events : List NetEvent) (hearing : Hearing) (piece : List ℕ) →
+      HasDone poll session events → Hears session.link last hearing piece → hearing ≡ End → last.faults ≡ session.link.faults →
+      HasDone poll (record session { link = last }) (events ++ Ended ∷ [])
+  hears_end poll last events hearing piece done hears is faults =
+      done_more session poll poll last events Ended done refl (event_is session.link last hearing End piece hears is) faults (no_exchange session.server poll events done.polled)
 
   -- the request was not sent
-  pub unsent : (poll : Poll) (mid told last : LinkState) (old : Claim) (full : Bool) (count polls moment : ℕ) → count < polls → Polled poll server link mid start old limit full count →
-      TellsMoment mid told moment → Adds told.events last.events [] → RoseByOne told.faults last.faults →
-      RunsPolls server polls link last start old limit (record { end = LinkFault; full = full })
-  unsent poll mid told last old full count polls moment lt p tells none rose =
-      let events = events_in server p.made in
-      let kept : Keeps start old limit full (due_link start.number server (events ++ Timed moment ∷ [])) =
-      subst (λ (due : List Entry). Keeps start old limit full due) (sym (due_link-push start.number server events (Timed moment) ∙ append-nil (due_link start.number server events))) p.done.kept in
-      ends_cut server link start limit p.made count p.whole p.size p.open_all last old full polls (Timed moment ∷ []) lt
-      (Adds-more link.events mid.events last.events events (Timed moment ∷ []) p.done.told (Adds-more mid.events told.events last.events (Timed moment ∷ []) [] tells.event none))
+  pub unsent : (poll : Poll) (told last : LinkState) (count polls moment : ℕ) → count < polls → Polled poll session count →
+      TellsMoment session.link told moment → Adds told.events last.events [] → RoseByOne told.faults last.faults →
+      RunsPolls (record session { link = last }) polls LinkFault
+  unsent poll told last count polls moment lt p tells none rose =
+      let events = events_in session.server p.made in
+      let feed = session.share.begun.number in
+      let kept : Keeps session.share (due_link feed session.server (events ++ Timed moment ∷ [])) =
+      subst (λ (due : List Entry). Keeps session.share due) (sym (due_link-push feed session.server events (Timed moment) ∙ append-nil (due_link feed session.server events))) p.done.kept in
+      ends_cut (record session { link = last }) p.made count p.whole p.size p.open_all polls (Timed moment ∷ []) lt
+      (Adds-more session.begun.events session.link.events last.events events (Timed moment ∷ []) p.done.told (Adds-more session.link.events told.events last.events (Timed moment ∷ []) [] tells.event none))
       kept (moment, inl refl) (subst (λ (n : ℕ). RoseByOne n last.faults) (tells.no_fault ∙ p.done.no_fault) rose)
 
   -- the request was sent
-  pub asked : (poll now : Poll) (mid told last : LinkState) (old : Claim) (full : Bool) (count moment : ℕ) (request : List ℕ) → Polled poll server link mid start old limit full count →
-      TellsMoment mid told moment → ((history : List Event) → HasPolled poll server history → HasPolled now server (history ++ Asked moment ∷ [])) →
-      Adds told.events last.events (Went server request ∷ []) → last.faults ≡ told.faults → request ≡ layout (request_header moment) →
-      InRound now server link last start old limit full count 0
-  asked poll now mid told last old full count moment request p tells polled sent same is =
+  pub asked : (poll now : Poll) (told last : LinkState) (count moment : ℕ) (request : List ℕ) → Polled poll session count →
+      TellsMoment session.link told moment → ((history : List Event) → HasPolled poll session.server history → HasPolled now session.server (history ++ Asked moment ∷ [])) →
+      Adds told.events last.events (Went session.server request ∷ []) → last.faults ≡ told.faults → request ≡ layout (request_header moment) →
+      InRound now (record session { link = last }) count 0
+  asked poll now told last count moment request p tells polled sent same is =
+      let server = session.server in
       let events = events_in server p.made in
-      let timed = done_more server link start limit poll now mid told old full events (Timed moment) p.done refl tells.event tells.no_fault (polled (history_of events) p.done.polled) in
-      let went = done_more server link start limit now now told last old full (events ++ Timed moment ∷ []) (Went server (layout (request_header moment))) timed refl
-      (subst (λ (bytes : List ℕ). Adds told.events last.events (Went server bytes ∷ [])) is sent) same (no_exchange now (events ++ Timed moment ∷ []) timed.polled) in
+      let timed = done_more session poll now told events (Timed moment) p.done refl tells.event tells.no_fault (polled (history_of events) p.done.polled) in
+      let went = done_more (record session { link = told }) now now last (events ++ Timed moment ∷ []) (Went server (layout (request_header moment))) timed refl
+      (subst (λ (bytes : List ℕ). Adds told.events last.events (Went server bytes ∷ [])) is sent) same (no_exchange server now (events ++ Timed moment ∷ []) timed.polled) in
       record {
         made = p.made;
         whole = p.whole;
@@ -129,76 +136,66 @@ module _ (server : Address) (link : LinkState) (start : Claim) (limit : ℕ) whe
         earlier = [];
         goes = tt;
         heard_is = refl;
-        done = subst (λ (l : List NetEvent). HasDone now server link last start old limit full l) (append_assoc events (Timed moment ∷ []) (Went server (layout (request_header moment)) ∷ [])) went;
+        done = subst (λ (l : List NetEvent). HasDone now (record session { link = last }) l) (append_assoc events (Timed moment ∷ []) (Went server (layout (request_header moment)) ∷ [])) went;
       }
 
-  longer : (made : List Round) (moment : ℕ) (earlier : List NetEvent) (event : NetEvent) →
-      (events_in server made ++ (asking server moment ++ earlier)) ++ event ∷ [] ≡ events_in server made ++ (asking server moment ++ (earlier ++ event ∷ []))
-  longer made moment earlier event =
-      append_assoc (events_in server made) (asking server moment ++ earlier) (event ∷ []) ∙ ap (λ (l : List NetEvent). events_in server made ++ l) (append_assoc (asking server moment) earlier (event ∷ []))
+  module _ (poll now : Poll) (last : LinkState) (claim : Claim) (full : Bool) (count heard : ℕ) (r : InRound poll session count heard) where
+    -- a hearing after which the round goes on
+    pub round_on : HearsOne now (on_to session last claim full) (events_in session.server r.made ++ (asking session.server r.moment ++ r.earlier)) On →
+        InRound now (on_to session last claim full) count (heard + 1)
+    round_on h = record {
+      made = r.made;
+      whole = r.whole;
+      size = r.size;
+      open_all = r.open_all;
+      moment = r.moment;
+      earlier = r.earlier ++ h.0 ∷ [];
+      goes = GoOn-push session.server (events_in session.server r.made ++ asking session.server r.moment) r.earlier h.0 r.goes h.1
+          (subst (λ (l : List NetEvent). ends_round session.server l h.0 ≡ false) (sym (append_assoc (events_in session.server r.made) (asking session.server r.moment) r.earlier)) h.2);
+      heard_is = omega (arith, r.heard_is, length-append r.earlier (h.0 ∷ []));
+      done = subst (λ (l : List NetEvent). HasDone now (on_to session last claim full) l) (longer session.server r.made r.moment r.earlier h.0) h.4;
+    }
 
-  -- a hearing after which the round goes on
-  pub round_on : (poll now : Poll) (mid last : LinkState) (old claim : Claim) (full full_now : Bool) (count heard : ℕ) → (r : InRound poll server link mid start old limit full count heard) →
-      HearsOne now server link last start claim limit full_now (events_in server r.made ++ (asking server r.moment ++ r.earlier)) On →
-      InRound now server link last start claim limit full_now count (heard + 1)
-  round_on poll now mid last old claim full full_now count heard r h = record {
-    made = r.made;
-    whole = r.whole;
-    size = r.size;
-    open_all = r.open_all;
-    moment = r.moment;
-    earlier = r.earlier ++ h.0 ∷ [];
-    goes = GoOn-push server (events_in server r.made ++ asking server r.moment) r.earlier h.0 r.goes h.1
-        (subst (λ (l : List NetEvent). ends_round server l h.0 ≡ false) (sym (append_assoc (events_in server r.made) (asking server r.moment) r.earlier)) h.2);
-    heard_is = omega (arith, r.heard_is, length-append r.earlier (h.0 ∷ []));
-    done = subst (λ (l : List NetEvent). HasDone now server link last start claim limit full_now l) (longer r.made r.moment r.earlier h.0) h.4;
-  }
+    -- a hearing that ends the round
+    pub round_over : heard ≤ 7 → HearsOne now (on_to session last claim full) (events_in session.server r.made ++ (asking session.server r.moment ++ r.earlier)) Over →
+        Polled now (on_to session last claim full) (count + 1)
+    round_over few h =
+        let round : Round = record { moment = r.moment; earlier = r.earlier; last = h.0 } in
+        polled_more (on_to session last claim full) r.made count r.whole r.size r.open_all now round
+        (subst (λ (l : List NetEvent). HasDone now (on_to session last claim full) l) (longer session.server r.made r.moment r.earlier h.0) h.4)
+        (record { goes = r.goes; hearing = h.1; few = omega (arith, few, r.heard_is); ends = inl h.2 }) h.3
 
-  -- a hearing that ends the round
-  pub round_over : (poll now : Poll) (mid last : LinkState) (old claim : Claim) (full full_now : Bool) (count heard : ℕ) → heard ≤ 7 → (r : InRound poll server link mid start old limit full count heard) →
-      HearsOne now server link last start claim limit full_now (events_in server r.made ++ (asking server r.moment ++ r.earlier)) Over →
-      Polled now server link last start claim limit full_now (count + 1)
-  round_over poll now mid last old claim full full_now count heard few r h =
-      let round : Round = record { moment = r.moment; earlier = r.earlier; last = h.0 } in
-      polled_more server link start limit r.made count r.whole r.size r.open_all now last claim full_now round
-      (subst (λ (l : List NetEvent). HasDone now server link last start claim limit full_now l) (longer r.made r.moment r.earlier h.0) h.4)
-      (record { goes = r.goes; hearing = h.1; few = omega (arith, few, r.heard_is); ends = inl h.2 }) h.3
+    -- the link's end
+    pub round_end : (polls : ℕ) → count < polls → heard ≤ 7 → HearsOne now (on_to session last claim full) (events_in session.server r.made ++ (asking session.server r.moment ++ r.earlier)) how.End →
+        RunsPolls (on_to session last claim full) polls LinkEnd
+    round_end polls lt few h =
+        let round : Round = record { moment = r.moment; earlier = r.earlier; last = Ended } in
+        ends_link (on_to session last claim full) r.made count r.whole r.size r.open_all now polls round lt
+        (subst (λ (l : List NetEvent). HasDone now (on_to session last claim full) l) (longer session.server r.made r.moment r.earlier Ended) h)
+        (record { goes = r.goes; hearing = refl; few = omega (arith, few, r.heard_is); ends = inl refl }) refl
 
-  -- the link's end
-  pub round_end : (poll now : Poll) (mid last : LinkState) (old claim : Claim) (full full_now : Bool) (count polls heard : ℕ) → count < polls → heard ≤ 7 →
-      (r : InRound poll server link mid start old limit full count heard) →
-      HearsOne now server link last start claim limit full_now (events_in server r.made ++ (asking server r.moment ++ r.earlier)) how.End →
-      RunsPolls server polls link last start claim limit (record { end = LinkEnd; full = full_now })
-  round_end poll now mid last old claim full full_now count polls heard lt few r h =
-      let round : Round = record { moment = r.moment; earlier = r.earlier; last = Ended } in
-      ends_link server link start limit r.made count r.whole r.size r.open_all now last claim full_now polls round lt
-      (subst (λ (l : List NetEvent). HasDone now server link last start claim limit full_now l) (longer r.made r.moment r.earlier Ended) h)
-      (record { goes = r.goes; hearing = refl; few = omega (arith, few, r.heard_is); ends = inl refl }) refl
-
-  -- a hearing that failed
-  pub round_cut : (poll now : Poll) (mid last : LinkState) (old claim : Claim) (full full_now : Bool) (count polls heard : ℕ) → count < polls → heard ≤ 7 →
-      (r : InRound poll server link mid start old limit full count heard) →
-      HearsOne now server link last start claim limit full_now (events_in server r.made ++ (asking server r.moment ++ r.earlier)) Fault →
-      RunsPolls server polls link last start claim limit (record { end = LinkFault; full = full_now })
-  round_cut poll now mid last old claim full full_now count polls heard lt few r h =
-      ends_cut server link start limit r.made count r.whole r.size r.open_all last claim full_now polls (asking server r.moment ++ r.earlier) lt h.0 h.2
-      (r.moment, inr (r.earlier, refl, r.goes, omega (arith, few, r.heard_is))) h.1
+    -- a hearing that failed
+    pub round_cut : (polls : ℕ) → count < polls → heard ≤ 7 → HearsOne now (on_to session last claim full) (events_in session.server r.made ++ (asking session.server r.moment ++ r.earlier)) Fault →
+        RunsPolls (on_to session last claim full) polls LinkFault
+    round_cut polls lt few h =
+        ends_cut (on_to session last claim full) r.made count r.whole r.size r.open_all polls (asking session.server r.moment ++ r.earlier) lt h.0 h.2
+        (r.moment, inr (r.earlier, refl, r.goes, omega (arith, few, r.heard_is))) h.1
 
   -- eight hearings, none of which ends the round: the eighth does
-  pub round_full : (poll : Poll) (last : LinkState) (claim : Claim) (full : Bool) (count heard : ℕ) → heard ≡ 8 → InRound poll server link last start claim limit full count heard →
-      Polled poll server link last start claim limit full (count + 1)
-  round_full poll last claim full count heard all_eight r = eighth r.earlier refl
+  pub round_full : (poll : Poll) (count heard : ℕ) → heard ≡ 8 → InRound poll session count heard → Polled poll session (count + 1)
+  round_full poll count heard all_eight r = eighth r.earlier refl
     where
-      eighth : (earlier : List NetEvent) → r.earlier ≡ earlier → Polled poll server link last start claim limit full (count + 1)
+      eighth : (earlier : List NetEvent) → r.earlier ≡ earlier → Polled poll session (count + 1)
       eighth [] none = absurd (let size = ap (λ (l : List NetEvent). length l) none in omega (arith, r.heard_is, size, all_eight))
       eighth (first ∷ events) is =
           let by = ended_by first events in
           let same : r.earlier ≡ by.front ++ by.last ∷ [] = is ∙ by.is in
           let sizes = ap (λ (l : List NetEvent). length l) same in
-          let goes = GoOn-last server (events_in server r.made ++ asking server r.moment) by.front by.last (subst (λ (l : List NetEvent). GoOn server (events_in server r.made ++ asking server r.moment) l) same r.goes) in
+          let before = events_in session.server r.made ++ asking session.server r.moment in
+          let goes = GoOn-last session.server before by.front by.last (subst (λ (l : List NetEvent). GoOn session.server before l) same r.goes) in
           let round : Round = record { moment = r.moment; earlier = by.front; last = by.last } in
           let seven : length by.front ≡ 7 = omega (arith, r.heard_is, all_eight, sizes, length-append by.front (by.last ∷ [])) in
-          polled_more server link start limit r.made count r.whole r.size r.open_all poll last claim full round
-          (subst (λ (l : List NetEvent). HasDone poll server link last start claim limit full (events_in server r.made ++ (asking server r.moment ++ l))) same r.done)
+          polled_more session r.made count r.whole r.size r.open_all poll round
+          (subst (λ (l : List NetEvent). HasDone poll session (events_in session.server r.made ++ (asking session.server r.moment ++ l))) same r.done)
           (record { goes = goes.0; hearing = goes.1; few = omega (arith, seven); ends = inr seven })
-          (not_ended server ((events_in server r.made ++ asking server r.moment) ++ by.front) by.last goes.2)
+          (not_ended session.server (before ++ by.front) by.last goes.2)

@@ -1,32 +1,36 @@
 -- The bytes of a log piece by piece: scaffolding for the proof of a radio's worker, which no public clause needs.
-use Rattle.std.specs.Prelude.{◌≡◌, ℕ, Option, None, Some, List, ◌++◌, Bool}
+use Rattle.std.specs.Prelude.{◌≡◌, ℕ, Option, None, Some, List, ◌++◌}
 use Rattle.log_decoder.specs.Decoding.{HasDecoded}
 use Rattle.log_decoder.specs.Due.{due_log}
 use Rattle.log_decoder.specs.declared.decoder.LogDecoder.{LogDecoder}
-use Rattle.page_cell.specs.declared.view.Claim.{Claim}
 use Rattle.radio_receiver.specs.Histories.{History}
 use Rattle.tick_units.specs.Log.{bad_line}
 use Rattle.tick_units.specs.declared.marks.Plan.{Plan}
-use Rattle.feed_workers.specs.Keeping.{Keeps}
+use Rattle.feed_workers.specs.Keeping.{Keeps, Share}
+
+-- how a radio's log is decoded: by this code plan, and with this delay
+pub record Tuning : Type 0 where
+  pub plan : Plan
+  pub delay : ℕ
 
 -- these bytes were decoded, what is due for them was kept, and this is their bad line
-pub record HasHeard {B : Type 0} (stands : B → History → Type 0) (decoder : LogDecoder B) (plan : Plan) (delay : ℕ) (start now : Claim) (limit : ℕ) (full : Bool) (bytes : List ℕ) (bad : Option ℕ) : Type 0 where
-  pub decoded : HasDecoded stands decoder start.number plan delay bytes
-  pub kept : Keeps start now limit full (due_log start.number plan delay bytes)
+pub record HasHeard {B : Type 0} (stands : B → History → Type 0) (decoder : LogDecoder B) (tuning : Tuning) (share : Share) (bytes : List ℕ) (bad : Option ℕ) : Type 0 where
+  pub decoded : HasDecoded stands decoder share.begun.number tuning.plan tuning.delay bytes
+  pub kept : Keeps share (due_log share.begun.number tuning.plan tuning.delay bytes)
   pub bad_is : bad_line bytes ≡ bad
 
 -- these bytes have this bad line, and what is due for them was kept
-pub record HasMissed (plan : Plan) (delay : ℕ) (start now : Claim) (limit : ℕ) (full : Bool) (bytes : List ℕ) (line : ℕ) : Type 0 where
-  pub kept : Keeps start now limit full (due_log start.number plan delay bytes)
+pub record HasMissed (tuning : Tuning) (share : Share) (bytes : List ℕ) (line : ℕ) : Type 0 where
+  pub kept : Keeps share (due_log share.begun.number tuning.plan tuning.delay bytes)
   pub bad_is : bad_line bytes ≡ Some line
 
--- a piece was heard behind these bytes: all of it, or up to a bad line
-abbrev pub HearsPiece : {B : Type 0} → (B → History → Type 0) → LogDecoder B → Plan → ℕ → Claim → Claim → ℕ → Bool → List ℕ → Option ℕ → Type 0
-HearsPiece stands decoder plan delay start now limit full bytes None = HasHeard stands decoder plan delay start now limit full bytes None
-HearsPiece stands decoder plan delay start now limit full bytes (Some line) = HasMissed plan delay start now limit full bytes line
+-- a piece was read after these bytes: all of it, or up to a bad line
+abbrev pub HearsPiece : {B : Type 0} → (B → History → Type 0) → LogDecoder B → Tuning → Share → List ℕ → Option ℕ → Type 0
+HearsPiece stands decoder tuning share bytes None = HasHeard stands decoder tuning share bytes None
+HearsPiece stands decoder tuning share bytes (Some line) = HasMissed tuning share bytes line
 
 -- of these bytes the rest is still to be heard
-pub record HasHeardUpTo {B : Type 0} (stands : B → History → Type 0) (decoder : LogDecoder B) (plan : Plan) (delay : ℕ) (start now : Claim) (limit : ℕ) (full : Bool) (all rest : List ℕ) : Type 0 where
+pub record HasHeardUpTo {B : Type 0} (stands : B → History → Type 0) (decoder : LogDecoder B) (tuning : Tuning) (share : Share) (all rest : List ℕ) : Type 0 where
   pub front : List ℕ
   pub is : front ++ rest ≡ all
-  pub heard : HasHeard stands decoder plan delay start now limit full front None
+  pub heard : HasHeard stands decoder tuning share front None

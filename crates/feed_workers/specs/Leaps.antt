@@ -6,8 +6,10 @@ use Rattle.file_reader.specs.declared.reader.FileEnd.TheVariants as file
 use Rattle.journal_entry.specs.declared.entry.Entry.{Entry}
 use Rattle.journal_entry.specs.declared.entry.What.TheVariants.{Notice}
 use Rattle.leap_file.specs.Rows.{bad_line, leap_seconds}
-use Rattle.page_cell.specs.declared.view.Claim.{Claim}
-use Rattle.feed_workers.specs.Keeping.{Keeps}
+use Rattle.page_cell.specs.Passes.{claim_of}
+use Rattle.feed_workers.specs.Keeping.{Keeps, share_of}
+use Rattle.feed_workers.specs.Logs.{Intake, intake_of}
+use Rattle.feed_workers.specs.declared.leap.LeapWorker.{LeapWorker}
 use Rattle.feed_workers.specs.declared.work.LogEnd.{LogEnd}
 use Rattle.feed_workers.specs.declared.work.LogEnd.TheVariants.{Whole, BadLine, Fault, Long}
 use Rattle.feed_workers.specs.declared.work.LogWork.{LogWork}
@@ -24,9 +26,9 @@ notices_of feed start seconds = map (λ second. record { feed = feed; at = start
 abbrev pub due_leap : ℕ → ℕ → (whole : Bool) → List ℕ → List Entry
 due_leap feed start whole bytes = notices_of feed start (leap_seconds whole bytes)
 
--- These bytes were read of a file of at most so many, and the reading ended so. Whole: at the file's end, with no bad line. BadLine: at the
+-- These bytes were read of a file of at most this many, and the reading ended so. Whole: at the file's end, with no bad line. BadLine: at the
 -- first bad line, which stands among the bytes or is the last one, without its line feed, at the file's end. Fault: a read failed. Long:
--- there is another byte behind as many as a file may have. In the last two no line was bad so far
+-- there is another byte after as many as a file may have. In the last two no line was bad so far
 abbrev pub EndsLeap : ℕ → SourceState → SourceState → List ℕ → (whole : Bool) → LogEnd → Type 0
 EndsLeap most log log_now bytes whole Whole = (whole ≡ true) × EndsReading file.Whole most log log_now bytes × (bad_line true bytes ≡ None)
 EndsLeap most log log_now bytes whole (BadLine line) =
@@ -35,9 +37,14 @@ EndsLeap most log log_now bytes whole (BadLine line) =
 EndsLeap most log log_now bytes whole Fault = (whole ≡ false) × EndsReading file.Fault most log log_now bytes × (bad_line false bytes ≡ None)
 EndsLeap most log log_now bytes whole Long = (whole ≡ false) × EndsReading file.TooLong most log log_now bytes × (bad_line false bytes ≡ None)
 
+-- the file of a leap second file's worker, from before its run to after it
+abbrev pub leap_intake : {L : Type 0} → (L → SourceState) → (limit : ℕ) → LeapWorker L → LeapWorker L → LogWork → Intake
+leap_intake state limit before now work =
+    intake_of (state before.log) (state now.log) most_of_a_list (share_of (claim_of before.pass.view) now.pass limit work.full)
+
 -- these bytes were read, and the entries that are due for them were kept
-pub record RunsLeap (start most : ℕ) (log log_now : SourceState) (claim claim_now : Claim) (limit : ℕ) (work : LogWork) : Type 0 where
+pub record RunsLeap (start : ℕ) (intake : Intake) (end : LogEnd) : Type 0 where
   pub bytes : List ℕ
   pub whole : Bool
-  pub kept : Keeps claim claim_now limit work.full (due_leap claim.number start whole bytes)
-  pub ends : EndsLeap most log log_now bytes whole work.end
+  pub kept : Keeps intake.share (due_leap intake.share.begun.number start whole bytes)
+  pub ends : EndsLeap intake.most intake.begun intake.file bytes whole end

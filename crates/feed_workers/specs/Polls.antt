@@ -1,5 +1,5 @@
 -- The rounds of a poller, and the entries that are due for the events of its link (RFC 5905, section 8; the rounds are this project's
--- own: no pacing, and up to eight hearings a round, so that a late or a strange datagram doesn't spoil the polls after it).
+-- own: no pacing, and up to eight hearings a round, so that a late or a strange datagram does not spoil the polls after it).
 use Rattle.std.specs.Prelude.{◌≡◌, ℕ, ◌≤◌, ◌⊎◌, Bool, true, false, is_ok, Result, Ok, Err, List, [], ◌∷◌, ◌++◌, length}
 use Rattle.std.specs.List.{flat_map}
 use Rattle.feed_link.specs.Told.{NetEvent}
@@ -16,7 +16,7 @@ use Rattle.poll_core.specs.Refusals.{code_of}
 use Rattle.poll_core.specs.declared.refusal.PollRefusal.{PollRefusal}
 use Rattle.tick_units.specs.declared.sample.Sample.{Sample as SampleFields}
 
--- a poller's request is made at the moment that its link tells; a datagram that comes is an answer to be judged
+-- a poller's request is made at the moment that its link gives; a datagram that comes is an answer to be judged
 abbrev pub exchanges_of : NetEvent → List Event
 exchanges_of (Came from at bytes) = Answered at from bytes ∷ []
 exchanges_of Silent = []
@@ -97,7 +97,6 @@ abbrev pub AreWhole : Address → List NetEvent → List Round → Type 0
 AreWhole server before [] = Unit {0}
 AreWhole server before (round ∷ rounds) = IsWhole server before round × AreWhole server (before ++ events_of server round) rounds
 
--- a round after which another may come
 abbrev pub is_ended : NetEvent → Bool
 is_ended (Came from at bytes) = false
 is_ended Silent = false
@@ -105,6 +104,7 @@ is_ended Ended = true
 is_ended (Timed moment) = false
 is_ended (Went to bytes) = false
 
+-- a round after which another may come
 abbrev pub IsOpen : Round → Type 0
 IsOpen round = is_ended round.last ≡ false
 

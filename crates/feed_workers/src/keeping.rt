@@ -1,10 +1,9 @@
-//! Keeping an entry that is due.
+//! Keeps an entry that is due.
 ghost use Rattle.std.specs.Prelude.{◌≡◌, ◌++◌, ◌∷◌, [], List, length};
 ghost use Rattle.journal_entry.specs.Lawful.{IsLawfulWhat};
 ghost use Rattle.journal_entry.specs.declared.entry.Entry.{Entry};
-ghost use Rattle.feed_workers.specs.Keeping.{IsOfFeed, Keeps};
+ghost use Rattle.feed_workers.specs.Keeping.{IsOfFeed, Keeps, share_of};
 ghost use Rattle.page_cell.specs.declared.view.Claim.{Claim};
-ghost use Rattle.page_cell.specs.Passes.{claim_of};
 
 use feed_link::Gate;
 use journal_entry::Entry;
@@ -28,7 +27,9 @@ fn offer<N: HubName, R: Wait>(
     requires pass { IsOfFeed N.table (length N.settings.sources) entry.feed pass.old }
     requires lawful { IsLawfulWhat entry.what }
     ensures pass { IsOfFeed N.table (length N.settings.sources) entry.feed pass.new }
-    ensures kept { (start : Claim) (due : List Entry) → Keeps start (claim_of pass.old.view) N.limit full.old due → Keeps start (claim_of pass.new.view) N.limit full.new (due ++ entry ∷ []) }
+    ensures kept { (begun : Claim) (due : List Entry) →
+        Keeps (share_of begun pass.old N.limit full.old) due →
+        Keeps (share_of begun pass.new N.limit full.new) (due ++ entry ∷ []) }
 {
     match hub.append(rt, pass, entry) {
         Ok(_) => {}
@@ -36,7 +37,7 @@ fn offer<N: HubName, R: Wait>(
     }
 }
 
-// Keeps an entry that is due, where there is room, and passes the gate before it and behind it.
+// Keeps an entry that is due, where there is room, and passes the gate before it and after it.
 pub fn keep<N: HubName, R: Wait, G: Gate>(
     rt: &R,
     hub: &Hub<N>,
@@ -48,7 +49,9 @@ pub fn keep<N: HubName, R: Wait, G: Gate>(
     requires pass { IsOfFeed N.table (length N.settings.sources) entry.feed pass.old }
     requires lawful { IsLawfulWhat entry.what }
     ensures pass { IsOfFeed N.table (length N.settings.sources) entry.feed pass.new }
-    ensures kept { (start : Claim) (due : List Entry) → Keeps start (claim_of pass.old.view) N.limit full.old due → Keeps start (claim_of pass.new.view) N.limit full.new (due ++ entry ∷ []) }
+    ensures kept { (begun : Claim) (due : List Entry) →
+        Keeps (share_of begun pass.old N.limit full.old) due →
+        Keeps (share_of begun pass.new N.limit full.new) (due ++ entry ∷ []) }
 {
     let feed = entry.feed;
     gate.pass(rt, feed, BEFORE);

@@ -1,8 +1,9 @@
 //! The worker of a leap second file, which reads the list of leap seconds in it.
 ghost use Rattle.std.specs.Prelude.{◌≡◌, ◌≤◌, ◌<◌, ◌++◌, ◌∷◌, [], ℕ, IfSome, List, Option, length};
 ghost use Rattle.std.specs.Option.{option_to_list};
-ghost use Rattle.feed_workers.specs.Keeping.{IsOfFeed, Keeps};
-ghost use Rattle.feed_workers.specs.Leaps.{RunsLeap, most_of_a_list, notices_of};
+ghost use Rattle.feed_workers.specs.Keeping.{IsOfFeed, Keeps, share_of};
+ghost use Rattle.feed_workers.specs.Leaps.{RunsLeap, leap_intake, most_of_a_list, notices_of};
+ghost use Rattle.feed_workers.specs.Logs.{intake_of};
 ghost use Rattle.feed_workers.specs.Noticing.{EndsList, HasNoticed, NoticesByte, NoticesPiece};
 ghost use Rattle.journal_entry.specs.declared.entry.Entry.{Entry};
 ghost use Rattle.page_cell.specs.declared.view.Claim.{Claim};
@@ -36,8 +37,10 @@ fn notice<N: HubName, R: Wait, G: Gate>(
     requires pass { IsOfFeed N.table (length N.settings.sources) (claim_of pass.old.view).number pass.old }
     requires told { IfSome found (λ second. second < end_of_told) }
     ensures pass { IsOfFeed N.table (length N.settings.sources) (claim_of pass.old.view).number pass.new }
-    ensures kept { (begin : Claim) (due : List Entry) → Keeps begin (claim_of pass.old.view) N.limit full.old due →
-        Keeps begin (claim_of pass.new.view) N.limit full.new (due ++ notices_of (claim_of pass.old.view).number start (option_to_list found)) }
+    ensures kept { (begun : Claim) (due : List Entry) →
+        Keeps (share_of begun pass.old N.limit full.old) due →
+        let more = notices_of (claim_of pass.old.view).number start (option_to_list found) in
+        Keeps (share_of begun pass.new N.limit full.new) (due ++ more) }
 {
     if let Some(second) = found {
         let entry = Entry {
@@ -62,8 +65,9 @@ fn take_byte<N: HubName, R: Wait, G: Gate>(
 ) -> Result<(), BadLeap>
     requires pass { IsOfFeed N.table (length N.settings.sources) (claim_of pass.old.view).number pass.old }
     ensures pass { IsOfFeed N.table (length N.settings.sources) (claim_of pass.old.view).number pass.new }
-    ensures noticed { (begin : Claim) (bytes : List ℕ) → HasNoticed reader.old start begin (claim_of pass.old.view) N.limit full.old bytes →
-        NoticesByte reader.new start begin (claim_of pass.new.view) N.limit full.new (bytes ++ byte ∷ []) result }
+    ensures noticed { (begun : Claim) (bytes : List ℕ) →
+        HasNoticed reader.old start (share_of begun pass.old N.limit full.old) bytes →
+        NoticesByte reader.new start (share_of begun pass.new N.limit full.new) (bytes ++ byte ∷ []) result }
 {
     match reader.take(byte) {
         Ok(found) => {
@@ -74,7 +78,7 @@ fn take_byte<N: HubName, R: Wait, G: Gate>(
     }
 }
 
-// Takes a piece of a file, up to a bad line: that line, where there is one.
+// Takes a piece of a file, up to a bad line, and answers with that line, where there is one.
 fn take_piece<N: HubName, R: Wait, G: Gate>(
     rt: &R,
     hub: &Hub<N>,
@@ -87,8 +91,9 @@ fn take_piece<N: HubName, R: Wait, G: Gate>(
 ) -> Option<u64>
     requires pass { IsOfFeed N.table (length N.settings.sources) (claim_of pass.old.view).number pass.old }
     ensures pass { IsOfFeed N.table (length N.settings.sources) (claim_of pass.old.view).number pass.new }
-    ensures noticed { (begin : Claim) (bytes : List ℕ) → HasNoticed reader.old start begin (claim_of pass.old.view) N.limit full.old bytes →
-        NoticesPiece reader.new start begin (claim_of pass.new.view) N.limit full.new (bytes ++ piece.now) result }
+    ensures noticed { (begun : Claim) (bytes : List ℕ) →
+        HasNoticed reader.old start (share_of begun pass.old N.limit full.old) bytes →
+        NoticesPiece reader.new start (share_of begun pass.new N.limit full.new) (bytes ++ piece.now) result }
 {
     for place in 0..piece.len() {
         match take_byte(rt, hub, gate, reader, start, pass, piece[place], full) {
@@ -99,7 +104,7 @@ fn take_piece<N: HubName, R: Wait, G: Gate>(
     None
 }
 
-// The file has come to its end: keeps the notice of a last line without its line feed. How the file ends.
+// At the end of the file: keeps the notice of a last line without its line feed, and answers how the file ends.
 fn finish_list<N: HubName, R: Wait, G: Gate>(
     rt: &R,
     hub: &Hub<N>,
@@ -111,8 +116,9 @@ fn finish_list<N: HubName, R: Wait, G: Gate>(
 ) -> LogEnd
     requires pass { IsOfFeed N.table (length N.settings.sources) (claim_of pass.old.view).number pass.old }
     ensures pass { IsOfFeed N.table (length N.settings.sources) (claim_of pass.old.view).number pass.new }
-    ensures ended { (begin : Claim) (bytes : List ℕ) → HasNoticed reader.old start begin (claim_of pass.old.view) N.limit full.old bytes →
-        EndsList start begin (claim_of pass.new.view) N.limit full.new bytes result }
+    ensures ended { (begun : Claim) (bytes : List ℕ) →
+        HasNoticed reader.old start (share_of begun pass.old N.limit full.old) bytes →
+        EndsList start (share_of begun pass.new N.limit full.new) bytes result }
 {
     match reader.finish() {
         Ok(found) => {
@@ -123,7 +129,7 @@ fn finish_list<N: HubName, R: Wait, G: Gate>(
     }
 }
 
-// Reads a file to its end, to its first bad line, to its first fault or to 2^16 bytes, and keeps the entries that are due.
+// Reads a file to its end, a bad line, a fault or 2^16 bytes, whichever comes first, and keeps the entries that are due.
 fn read_list<L: Source, N: HubName, R: Wait, G: Gate>(
     rt: &R,
     hub: &Hub<N>,
@@ -135,7 +141,8 @@ fn read_list<L: Source, N: HubName, R: Wait, G: Gate>(
     requires pass { IsOfFeed N.table (length N.settings.sources) (claim_of pass.old.view).number pass.old }
     ensures log { L.opening log.new ≡ L.opening log.old }
     ensures pass { IsOfFeed N.table (length N.settings.sources) (claim_of pass.old.view).number pass.new }
-    ensures runs { RunsLeap start most_of_a_list (L.state log.old) (L.state log.new) (claim_of pass.old.view) (claim_of pass.new.view) N.limit result }
+    ensures runs { let share = share_of (claim_of pass.old.view) pass.new N.limit result.full in
+        RunsLeap start (intake_of (L.state log.old) (L.state log.new) most_of_a_list share) result.end }
 {
     let mut full = false;
     let mut list = LeapReader::new();
@@ -174,8 +181,8 @@ fn read_list<L: Source, N: HubName, R: Wait, G: Gate>(
     }
 }
 
-/// The worker of a leap second file: it reads the published list of leap seconds, and keeps a notice of each at the station's first
-/// moment.
+/// The worker of a leap second file: it reads the published list of leap seconds, and keeps a notice of each at the station's
+/// first moment.
 #[derive(Drop)]
 pub struct LeapWorker<L: Drop> {
     pub(crate) log: L,
@@ -191,20 +198,22 @@ impl<L: Source + Drop> LeapWorker<L> {
         LeapWorker { log, start, pass }
     }
 
-    /// Reads the file to its end, to its first bad line, to its first fault or to 65536 bytes, and keeps a notice of each leap second
-    /// where there is room.
+    /// Reads the file to its end, a bad line, a fault or 65536 bytes, whichever comes first. It keeps a notice of each leap
+    /// second where there is room.
     pub fn run<N: HubName, R: Wait, G: Gate>(&mut self, rt: &R, hub: &Hub<N>, gate: &G) -> LogWork
-        requires pass { IsOfFeed N.table (length N.settings.sources) (claim_of self.old.pass.view).number self.old.pass }
+        requires pass { let feed = (claim_of self.old.pass.view).number in
+            IsOfFeed N.table (length N.settings.sources) feed self.old.pass }
         ensures log { L.opening self.new.log ≡ L.opening self.old.log }
         ensures start { self.new.start ≡ self.old.start }
-        ensures pass { IsOfFeed N.table (length N.settings.sources) (claim_of self.old.pass.view).number self.new.pass }
-        ensures runs { RunsLeap self.old.start most_of_a_list (L.state self.old.log) (L.state self.new.log) (claim_of self.old.pass.view) (claim_of self.new.pass.view) N.limit result }
+        ensures pass { let feed = (claim_of self.old.pass.view).number in
+            IsOfFeed N.table (length N.settings.sources) feed self.new.pass }
+        ensures runs { RunsLeap self.old.start (leap_intake L.state N.limit self.old self.new result) result.end }
     {
         let LeapWorker { log, start, pass } = self;
         read_list(rt, hub, gate, log, *start, pass)
     }
 
-    /// Gives the file and the pass back.
+    /// Gives back the file and the pass.
     pub fn give_back(self) -> (L, FeedPass)
         ensures { (result.0 ≡ self.log) × (result.1 ≡ self.pass) }
     {

@@ -1,4 +1,5 @@
-//! The worker of a leap second file over fakes. The rows are those of the published list: second since 1900, and TAI less UTC from then on.
+//! The worker of a leap second file over fakes. The rows are those of the published list: a second since 1900, and TAI less UTC
+//! from then on.
 ghost use Rattle.std.specs.Prelude.{◌≡◌, ◌<◌, ◌≤◌, [], All};
 ghost use Rattle.page_cell.specs.Passes.{key_of};
 ghost use Rattle.system_fold.specs.Settings.{AreLawful};
@@ -15,7 +16,7 @@ use std::test::Fail;
 use system_fold::{Settings, SourceKind};
 use verdict_journal::{Hub, HubName, HubParts, Journal};
 
-// The leap seconds of the middle of 2012, of that of 2015 and of the end of 2016.
+// The leap seconds of the middle of 2012, of the middle of 2015 and of the end of 2016.
 const LIST: &str =
     "# list\n3550089600\t35\t# 1 Jul 2012\n3644697600\t36\t# 1 Jul 2015\n3692217600\t37\t# 1 Jan 2017\n";
 
@@ -26,7 +27,7 @@ const WHOLE: LogWork = LogWork {
     full: false,
 };
 
-// Runs a worker over a file whose reading of this number fails, in a hub for so many entries: what it did, and the journal.
+// Runs a worker over a file whose reading of this number fails, in a hub for this many entries: what it did, and the journal.
 fn run_list<N: HubName, R: Wait>(
     rt: &R,
     alloc: Global,
@@ -64,7 +65,7 @@ fn run_list<N: HubName, R: Wait>(
     Some((work, hub.close(passes, Vec::new(alloc))))
 }
 
-// A file of this text gives these entries, and its reading ends so.
+// A file of this text gives these entries, and its reading ends in this way.
 fn reads<R: Abort + Wait>(
     rt: &R,
     alloc: Global,
@@ -142,7 +143,7 @@ fn rows_before_a_bad_line_stand(rt: HostRuntime) -> Result<(), Fail> {
         "0 5000000 notice 3644697600\n",
         bad,
     )?;
-    // The last line is bad at the end alone.
+    // The last line is bad only at the end of the file.
     let cut = b"3550089600 35\n3644697600";
     let bad = LogWork {
         end: LogEnd::BadLine { line: 2 },
@@ -168,7 +169,7 @@ fn a_full_journal_keeps_the_first(rt: HostRuntime) -> Result<(), Fail> {
     )
 }
 
-// The second notice finds it full, and behind a comment of 600 bytes, in a later piece, stands the bad line.
+// The second notice finds the journal full. The bad line follows a comment of 600 bytes, in a later piece.
 #[test]
 fn a_list_is_read_on_to_a_bad_line_behind_a_lost_notice(rt: HostRuntime) -> Result<(), Fail> {
     let alloc = rt.alloc();
@@ -192,7 +193,7 @@ fn a_list_is_read_on_to_a_bad_line_behind_a_lost_notice(rt: HostRuntime) -> Resu
     )
 }
 
-// A comment stands before the last row, which ends at byte 65536 of the file. Then there is a byte more.
+// A comment comes before the last row, which ends at byte 65536 of the file. Then there is one byte more.
 #[test]
 fn a_list_of_65536_bytes_is_whole(rt: HostRuntime) -> Result<(), Fail> {
     let alloc = rt.alloc();

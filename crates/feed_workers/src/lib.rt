@@ -1,5 +1,5 @@
-//! The workers of feeds: a radio's, which reads its log, a server's, which polls it, and a leap second file's, which reads it. Each keeps the entries that are due in the
-//! journal.
+//! The workers of feeds: a radio's reads its log, a server's polls it, and a leap second file's reads it. Each keeps the entries
+//! that are due in the journal.
 #![tactic(auto)]
 
 mod keeping;

@@ -4,8 +4,8 @@ ghost use Rattle.std.specs.Option.{ForSome};
 ghost use Rattle.feed_link.specs.Told.{NetEvent, LinkState};
 ghost use Rattle.feed_link.specs.declared.outside.Address.{Address};
 ghost use Rattle.feed_workers.specs.Asking.{HasDone, HearsOne, Polled};
-ghost use Rattle.feed_workers.specs.Keeping.{IsOfFeed};
-ghost use Rattle.feed_workers.specs.Polling.{RunsPolls};
+ghost use Rattle.feed_workers.specs.Keeping.{IsOfFeed, share_of};
+ghost use Rattle.feed_workers.specs.Polling.{RunsPolls, session_at, session_of};
 ghost use Rattle.feed_workers.specs.Polls.{what_of};
 ghost use Rattle.journal_entry.specs.Lawful.{IsLawfulWhat};
 ghost use Rattle.page_cell.specs.declared.view.Claim.{Claim};
@@ -26,7 +26,7 @@ use verdict_journal::{Hub, HubName};
 // The most hearings of a round.
 const HEARINGS: u32 = 8;
 
-/// The worker of a server: it polls it so many times, and keeps the entries of its feed.
+/// The worker of a server: it polls it this many times, and keeps the entries of its feed.
 #[derive(Drop)]
 pub struct PollWorker<L: Drop> {
     pub(crate) server: Address,
@@ -35,7 +35,7 @@ pub struct PollWorker<L: Drop> {
     pub(crate) pass: FeedPass,
 }
 
-// What one hearing of a round came to.
+// The result of one hearing of a round.
 #[derive(Clone, Copy)]
 enum Heard {
     // A datagram that was refused: the round goes on.
@@ -48,7 +48,7 @@ enum Heard {
     Fault,
 }
 
-// What a datagram is in the journal, and whether it is an answer that was accepted.
+// What a datagram is in the journal, and whether it is an accepted answer.
 #[derive(Drop)]
 struct Judged {
     what: What,
@@ -79,7 +79,7 @@ fn judge_datagram(poll: &mut Poll, arrival: &Arrival, bytes: &[u8]) -> Judged
     }
 }
 
-// Hears once, and keeps the entry of a datagram.
+// One hearing; keeps the entry of a datagram.
 fn hear_once<L: Link, N: HubName, R: Wait, G: Gate>(
     rt: &R,
     hub: &Hub<N>,
@@ -95,9 +95,11 @@ fn hear_once<L: Link, N: HubName, R: Wait, G: Gate>(
     ensures link { L.opening link.new ≡ L.opening link.old }
     ensures pass { IsOfFeed N.table (length N.settings.sources) feed pass.new }
     ensures asked { ForSome (asked_at poll.new) (λ moment. moment ≤ (L.state link.new).latest) }
-    ensures hears { (server : Address) (before : LinkState) (start : Claim) (events : List NetEvent) →
-        HasDone poll.old server before (L.state link.old) start (claim_of pass.old.view) N.limit full.old events → start.number ≡ feed →
-        HearsOne poll.new server before (L.state link.new) start (claim_of pass.new.view) N.limit full.new events result }
+    ensures hears { (server : Address) (before : LinkState) (begun : Claim) (events : List NetEvent) →
+        let had = share_of begun pass.old N.limit full.old in
+        let has = share_of begun pass.new N.limit full.new in
+        HasDone poll.old (session_at server before (L.state link.old) had) events → begun.number ≡ feed →
+        HearsOne poll.new (session_at server before (L.state link.new) has) events result }
 {
     let mut piece = [0u8; 1024];
     match link.hear(&mut piece) {
@@ -114,7 +116,7 @@ fn hear_once<L: Link, N: HubName, R: Wait, G: Gate>(
     }
 }
 
-// Makes one poll: why the polling ends with it, if it does.
+// Makes one poll, and answers why the polling ends with it, if it does.
 fn poll_once<L: Link, N: HubName, R: Wait, G: Gate>(
     rt: &R,
     hub: &Hub<N>,
@@ -129,12 +131,17 @@ fn poll_once<L: Link, N: HubName, R: Wait, G: Gate>(
     requires pass { IsOfFeed N.table (length N.settings.sources) feed pass.old }
     ensures link { L.opening link.new ≡ L.opening link.old }
     ensures pass { IsOfFeed N.table (length N.settings.sources) feed pass.new }
-    ensures goes { IfNone result ((before : LinkState) (start : Claim) (count : ℕ) →
-        Polled poll.old server before (L.state link.old) start (claim_of pass.old.view) N.limit full.old count → start.number ≡ feed →
-        Polled poll.new server before (L.state link.new) start (claim_of pass.new.view) N.limit full.new (count + 1)) }
-    ensures stops { IfSome result (λ end. (before : LinkState) (start : Claim) (count polls : ℕ) → count < polls →
-        Polled poll.old server before (L.state link.old) start (claim_of pass.old.view) N.limit full.old count → start.number ≡ feed →
-        RunsPolls server polls before (L.state link.new) start (claim_of pass.new.view) N.limit (record { end = end; full = full.new })) }
+    ensures goes { IfNone result ((before : LinkState) (begun : Claim) (count : ℕ) →
+        let had = share_of begun pass.old N.limit full.old in
+        let has = share_of begun pass.new N.limit full.new in
+        Polled poll.old (session_at server before (L.state link.old) had) count → begun.number ≡ feed →
+        Polled poll.new (session_at server before (L.state link.new) has) (count + 1)) }
+    ensures stops { IfSome result (λ end. (before : LinkState) (begun : Claim) (count polls : ℕ) →
+        count < polls →
+        let had = share_of begun pass.old N.limit full.old in
+        let has = share_of begun pass.new N.limit full.new in
+        Polled poll.old (session_at server before (L.state link.old) had) count → begun.number ≡ feed →
+        RunsPolls (session_at server before (L.state link.new) has) polls end) }
 {
     let moment = link.moment();
     let request = poll.ask(moment);
@@ -154,7 +161,7 @@ fn poll_once<L: Link, N: HubName, R: Wait, G: Gate>(
 }
 
 impl<L: Link + Drop> PollWorker<L> {
-    /// A worker that polls this server so many times over a link, with the pass of its feed.
+    /// A worker that polls this server this many times over a link, with the pass of its feed.
     pub fn new(server: Address, polls: u32, link: L, pass: FeedPass) -> PollWorker<L>
         ensures is { (result.link ≡ link) × (result.pass ≡ pass) }
         ensures asks { (result.server ≡ server) × (result.polls ≡ polls) }
@@ -167,15 +174,15 @@ impl<L: Link + Drop> PollWorker<L> {
         }
     }
 
-    /// Makes its polls, until the link ends or fails, and keeps each entry that is due where there is room. A poll takes the link's
-    /// moment, sends a request to the server, and hears until an answer is accepted, nothing comes for a while, or eight hearings were
-    /// made.
+    /// Makes its polls, until the link ends or fails, and keeps each entry that is due where there is room. A poll takes the
+    /// link's moment and sends a request to the server. It goes on until it accepts an answer, a hearing gives nothing, or it has
+    /// made eight hearings.
     pub fn run<N: HubName, R: Wait, G: Gate>(&mut self, rt: &R, hub: &Hub<N>, gate: &G) -> PollWork
         requires { IsOfFeed N.table (length N.settings.sources) (claim_of self.old.pass.view).number self.old.pass }
         ensures link { L.opening self.new.link ≡ L.opening self.old.link }
         ensures pass { IsOfFeed N.table (length N.settings.sources) (claim_of self.old.pass.view).number self.new.pass }
         ensures asks { (self.new.server ≡ self.old.server) × (self.new.polls ≡ self.old.polls) }
-        ensures runs { RunsPolls self.old.server self.old.polls (L.state self.old.link) (L.state self.new.link) (claim_of self.old.pass.view) (claim_of self.new.pass.view) N.limit result }
+        ensures runs { RunsPolls (session_of L.state N.limit self.old self.new result) self.old.polls result.end }
     {
         let feed = self.pass.number();
         let PollWorker {
@@ -200,7 +207,7 @@ impl<L: Link + Drop> PollWorker<L> {
         }
     }
 
-    /// Gives the link and the pass back.
+    /// Gives back the link and the pass.
     pub fn give_back(self) -> (L, FeedPass)
         ensures { (result.0 ≡ self.link) × (result.1 ≡ self.pass) }
     {

@@ -1,9 +1,9 @@
 //! The worker of a radio, which reads its log.
 ghost use Rattle.std.specs.Prelude.{◌≡◌, ◌≤◌, ◌<◌, ◌^◌, ◌++◌, [], ℕ, List, Option, Some, None, length, take};
 ghost use Rattle.log_decoder.specs.Decoding.{HasDecoded, IsReady, feed_of};
-ghost use Rattle.feed_workers.specs.Hearing.{HasHeard, HearsPiece};
-ghost use Rattle.feed_workers.specs.Keeping.{IsOfFeed};
-ghost use Rattle.feed_workers.specs.Logs.{EndsAt, RunsLog, most_of_a_log};
+ghost use Rattle.feed_workers.specs.Hearing.{HasHeard, HearsPiece, Tuning};
+ghost use Rattle.feed_workers.specs.Keeping.{IsOfFeed, share_of};
+ghost use Rattle.feed_workers.specs.Logs.{EndsAt, RunsLog, intake_of, log_intake};
 ghost use Rattle.page_cell.specs.declared.view.Claim.{Claim};
 ghost use Rattle.page_cell.specs.Passes.{claim_of};
 ghost use Rattle.tick_units.specs.Log.{bad_at_end};
@@ -33,7 +33,7 @@ pub struct WorkerOf<L: Drop, R: Drop> {
 /// The worker of a radio: it decodes a log, and keeps the entries of its feed.
 pub type RadioWorker<L> = WorkerOf<L, BoxedReceiver>;
 
-// How many bytes were taken, and the line that isn't lawful, where there is one among them.
+// How many bytes were taken, and the first invalid line among them, where there is one.
 #[derive(Clone, Copy)]
 struct Took {
     count: usize,
@@ -58,9 +58,10 @@ fn take_line<N: HubName, R: Wait, G: Gate>(
     ensures ready { IsReady least_start decoder.new }
     ensures feed { feed_of decoder.new ≡ feed_of decoder.old }
     ensures pass { IsOfFeed N.table (length N.settings.sources) (feed_of decoder.old) pass.new }
-    ensures heard { (plan : Plan) (delay : ℕ) (start : Claim) (before : List ℕ) →
-        HasHeard stands_for decoder.old plan delay start (claim_of pass.old.view) N.limit full.old before None →
-        HasHeard stands_for decoder.new plan delay start (claim_of pass.new.view) N.limit full.new (before ++ take result.count bytes.now) result.bad }
+    ensures heard { (tuning : Tuning) (begun : Claim) (before : List ℕ) →
+        HasHeard stands_for decoder.old tuning (share_of begun pass.old N.limit full.old) before None →
+        let taken = take result.count bytes.now in
+        HasHeard stands_for decoder.new tuning (share_of begun pass.new N.limit full.new) (before ++ taken) result.bad }
 {
     let Step { count, found } = decoder.take(bytes);
     match found {
@@ -76,7 +77,7 @@ fn take_line<N: HubName, R: Wait, G: Gate>(
     }
 }
 
-// Takes a piece of a log, up to a bad line: that line, where there is one.
+// Takes a piece of a log, up to a bad line, and answers with that line, where there is one.
 fn hear_piece<N: HubName, R: Wait, G: Gate>(
     rt: &R,
     hub: &Hub<N>,
@@ -91,9 +92,10 @@ fn hear_piece<N: HubName, R: Wait, G: Gate>(
     ensures ready { IsReady least_start decoder.new }
     ensures feed { feed_of decoder.new ≡ feed_of decoder.old }
     ensures pass { IsOfFeed N.table (length N.settings.sources) (feed_of decoder.old) pass.new }
-    ensures heard { (plan : Plan) (delay : ℕ) (start : Claim) (bytes : List ℕ) →
-        HasHeard stands_for decoder.old plan delay start (claim_of pass.old.view) N.limit full.old bytes None →
-        HearsPiece stands_for decoder.new plan delay start (claim_of pass.new.view) N.limit full.new (bytes ++ piece.now) result }
+    ensures heard { (tuning : Tuning) (begun : Claim) (bytes : List ℕ) →
+        HasHeard stands_for decoder.old tuning (share_of begun pass.old N.limit full.old) bytes None →
+        let longer = bytes ++ piece.now in
+        HearsPiece stands_for decoder.new tuning (share_of begun pass.new N.limit full.new) longer result }
 {
     let mut rest = piece;
     'rest: while !rest.is_empty() {
@@ -108,7 +110,8 @@ fn hear_piece<N: HubName, R: Wait, G: Gate>(
 
 // How a log ends that was read to its end.
 fn at_end(decoder: &LogDecoder<BoxedReceiver>) -> LogEnd
-    ensures { (feed : ℕ) (plan : Plan) (delay : ℕ) (bytes : List ℕ) → HasDecoded stands_for decoder.now feed plan delay bytes → EndsAt result (bad_at_end bytes) }
+    ensures { (feed : ℕ) (plan : Plan) (delay : ℕ) (bytes : List ℕ) →
+        HasDecoded stands_for decoder.now feed plan delay bytes → EndsAt result (bad_at_end bytes) }
 {
     match decoder.finish() {
         Ok(()) => LogEnd::Whole,
@@ -116,7 +119,7 @@ fn at_end(decoder: &LogDecoder<BoxedReceiver>) -> LogEnd
     }
 }
 
-// Reads a log of at most so many bytes, to its end, to its first bad line or to its first fault, and keeps the entries that are due.
+// Reads a log of at most this many bytes, to its end, a bad line or a fault, and keeps the entries that are due.
 pub fn read_log<L: Source, N: HubName, R: Wait, G: Gate>(
     rt: &R,
     hub: &Hub<N>,
@@ -132,8 +135,10 @@ pub fn read_log<L: Source, N: HubName, R: Wait, G: Gate>(
     ensures ready { IsReady least_start decoder.new }
     ensures feed { feed_of decoder.new ≡ feed_of decoder.old }
     ensures pass { IsOfFeed N.table (length N.settings.sources) (feed_of decoder.old) pass.new }
-    ensures runs { (plan : Plan) (delay : ℕ) → HasDecoded stands_for decoder.old (claim_of pass.old.view).number plan delay [] →
-        RunsLog plan delay limit (L.state log.old) (L.state log.new) (claim_of pass.old.view) (claim_of pass.new.view) N.limit result }
+    ensures runs { (plan : Plan) (delay : ℕ) →
+        HasDecoded stands_for decoder.old (claim_of pass.old.view).number plan delay [] →
+        let share = share_of (claim_of pass.old.view) pass.new N.limit result.full in
+        RunsLog plan delay (intake_of (L.state log.old) (L.state log.new) limit share) result.end }
 {
     let mut full = false;
     let mut reader = FileReader::new(limit);
@@ -173,34 +178,36 @@ pub fn read_log<L: Source, N: HubName, R: Wait, G: Gate>(
 }
 
 impl<L: Source + Drop> WorkerOf<L, BoxedReceiver> {
-    /// A worker over a log, with a receiver that has heard nothing and the pass of its feed.
+    /// A worker over a log, with a receiver that has received nothing and the pass of its feed.
     pub fn new(receiver: BoxedReceiver, log: L, pass: FeedPass) -> RadioWorker<L>
         requires { least_start receiver ≡ 0 }
         ensures is { (result.log ≡ log) × (result.pass ≡ pass) }
         ensures ready { IsReady least_start result.decoder }
         ensures feed { feed_of result.decoder ≡ (claim_of pass.view).number }
-        ensures start { (plan : Plan) (delay : ℕ) → stands_for receiver (record { plan = plan; delay = delay; reductions = [] }) →
+        ensures start { (plan : Plan) (delay : ℕ) →
+            stands_for receiver (record { plan = plan; delay = delay; reductions = [] }) →
             HasDecoded stands_for result.decoder (claim_of pass.view).number plan delay [] }
     {
         let decoder = LogDecoder::new(pass.number(), receiver);
         WorkerOf { decoder, log, pass }
     }
 
-    /// Reads the log to its end, to its first bad line, to its first fault or to 2^30 bytes, and keeps each entry that is due where there
-    /// is room. A worker that has decoded nothing yet keeps the entries of all that it reads.
+    /// Reads the log to its end, a bad line, a fault or 2^30 bytes, whichever comes first. It keeps each entry that is due where
+    /// there is room. A worker that has decoded nothing yet keeps the entries of all that it reads.
     pub fn run<N: HubName, R: Wait, G: Gate>(&mut self, rt: &R, hub: &Hub<N>, gate: &G) -> LogWork
         requires ready { IsReady least_start self.old.decoder }
         requires pass { IsOfFeed N.table (length N.settings.sources) (feed_of self.old.decoder) self.old.pass }
         ensures log { L.opening self.new.log ≡ L.opening self.old.log }
         ensures pass { IsOfFeed N.table (length N.settings.sources) (feed_of self.old.decoder) self.new.pass }
-        ensures runs { (plan : Plan) (delay : ℕ) → HasDecoded stands_for self.old.decoder (claim_of self.old.pass.view).number plan delay [] →
-            RunsLog plan delay most_of_a_log (L.state self.old.log) (L.state self.new.log) (claim_of self.old.pass.view) (claim_of self.new.pass.view) N.limit result }
+        ensures runs { (plan : Plan) (delay : ℕ) →
+            HasDecoded stands_for self.old.decoder (claim_of self.old.pass.view).number plan delay [] →
+            RunsLog plan delay (log_intake L.state N.limit self.old self.new result) result.end }
     {
         let WorkerOf { decoder, log, pass } = self;
         read_log(rt, hub, gate, decoder, log, pass, LIMIT)
     }
 
-    /// Gives the log and the pass back. The receiver is dropped.
+    /// Gives back the log and the pass. The receiver is dropped.
     pub fn give_back(self) -> (L, FeedPass)
         ensures { (result.0 ≡ self.log) × (result.1 ≡ self.pass) }
     {

@@ -1,5 +1,5 @@
-//! Workers over fakes: a log of DCF77 by PTB's table of 1 January 2026, 13:00 and 13:01, and answers of a server that were worked by hand
-//! from RFC 5905, section 8; and a poller on the loopback beside a server's thread.
+//! Workers over fakes. The log is of DCF77 by PTB's table of 1 January 2026, 13:00 and 13:01. The answers of a server were
+//! computed by hand from RFC 5905, section 8. One poller runs on the loopback beside a server's thread.
 ghost use Rattle.std.specs.Prelude.{◌≡◌, ◌<◌, ◌≤◌, [], All, length};
 ghost use Rattle.page_cell.specs.Passes.{key_of};
 ghost use Rattle.system_fold.specs.Settings.{AreLawful};
@@ -26,7 +26,7 @@ use system_fold::{Settings, SourceKind};
 use tick_units::{Local, Plan};
 use verdict_journal::{Hub, HubName, HubParts, Journal};
 
-// What `assert_eq!` does, as a call: where many stand in a test, calls are proved in a third of the time.
+// What `assert_eq!` does, as a call: where a test has many, calls are proved in a third of the time.
 pub(crate) fn same<T: PartialEq + Debug + Drop>(rt: &impl Abort, left: T, right: T) {
     assert_eq!(*rt; left, right);
 }
@@ -79,7 +79,7 @@ pub(crate) fn text_of(alloc: Global, journal: &Journal) -> Result<String, Fail> 
     Ok(text)
 }
 
-// Runs a radio's worker over a log, in a hub for so many entries: what it did, and the journal.
+// Runs a radio's worker over a log, in a hub for this many entries: what it did, and the journal.
 fn run_radio<N: HubName, R: Wait, L: Source + Drop>(
     rt: &R,
     alloc: Global,
@@ -119,7 +119,7 @@ fn run_radio<N: HubName, R: Wait, L: Source + Drop>(
     Some((work, hub.close(passes, Vec::new(alloc))))
 }
 
-// Reads a log of at most so many bytes, in a hub with room for all: what was done, and the journal.
+// Reads a log of at most this many bytes, in a hub with room for all: what was done, and the journal.
 fn run_log<N: HubName, R: Wait>(
     rt: &R,
     alloc: Global,
@@ -168,7 +168,7 @@ fn run_log<N: HubName, R: Wait>(
     Some((work, hub.close(passes, Vec::new(alloc))))
 }
 
-// Runs a poller's worker over a link, in a hub for so many entries: what it did, the journal, and the link.
+// Runs a poller's worker over a link, in a hub for this many entries: what it did, the journal, and the link.
 fn run_poller<N: HubName, R: Wait, L: Link + Drop>(
     rt: &R,
     alloc: Global,
@@ -217,8 +217,8 @@ pub(crate) fn settings_of(kind: SourceKind) -> Settings
     settings
 }
 
-// What a radio's worker does with a log of which stated reads fail, where the journal may have so many entries: what it did, and the
-// lines of the journal.
+// What a radio's worker does with a log of which given reads fail, where the journal may have this many entries. The answer is
+// what it did, and the lines of the journal.
 fn read<R: Wait>(
     rt: &R,
     alloc: Global,
@@ -265,7 +265,7 @@ fn a_log_is_read_to_its_end_or_to_its_first_bad_line(rt: HostRuntime) -> Result<
     Ok(())
 }
 
-// The log has 1,927 bytes, so its reads are of 512, 512, 512, 391 and none.
+// The log has 1,927 bytes, so its reads are of 512, 512, 512, 391 and no bytes.
 #[test]
 fn a_read_that_fails_ends_the_reading(rt: HostRuntime) -> Result<(), Fail> {
     let log = two_frames(rt.alloc(), "122000000 100000\n")?;
@@ -279,7 +279,7 @@ fn a_read_that_fails_ends_the_reading(rt: HostRuntime) -> Result<(), Fail> {
     Ok(())
 }
 
-// What is done with a log of which at most so many bytes are read, and the lines of the journal.
+// What the worker does with a log of which it reads at most this many bytes, and the lines of the journal.
 fn read_up_to<R: Wait>(
     rt: &R,
     alloc: Global,
@@ -329,7 +329,8 @@ fn a_full_journal_keeps_a_front_and_the_log_is_read_on(rt: HostRuntime) -> Resul
     Ok(())
 }
 
-// The second minute's entry finds it full, and a frame behind that, in a later piece, stands the bad line: 1 and three times 59 before it.
+// The second minute's entry finds the journal full. The bad line follows one more frame, in a later piece: 1 and three times 59
+// lines before it.
 #[test]
 fn a_log_is_read_on_to_a_bad_line_behind_a_lost_entry(rt: HostRuntime) -> Result<(), Fail> {
     let mut log = two_frames(rt.alloc(), "")?;
@@ -342,7 +343,8 @@ fn a_log_is_read_on_to_a_bad_line_behind_a_lost_entry(rt: HostRuntime) -> Result
     Ok(())
 }
 
-// The answer of a server of stratum 2 to the request of 1 s, received at 2026-01-01 12:05:05 UTC and answered half a millisecond later.
+// The answer of a server of stratum 2 to the request of 1 s, received at 2026-01-01 12:05:05 UTC and answered half a millisecond
+// later.
 const ANSWER: [u8; 48] = [
     0x24, 0x02, 0x06, 0xec, 0x00, 0x00, 0x01, 0x00, 0x00, 0x00, 0x02, 0x00, 0x0a, 0x00, 0x00, 0x01, // to the refid
     0x00, 0x00, 0x00, 0x00, 0x00, 0x00, 0x00, 0x00, 0x80, 0x00, 0x00, 0x01, 0x00, 0x00, 0x00, 0x00, // to the origin
@@ -373,7 +375,7 @@ fn link_of(alloc: Global, hearings: Vec<Planned>, failing: u64) -> Result<Memory
     Ok(MemoryLink::new(alloc, hearings, moments, fails, 40, 4000)?)
 }
 
-// What a poller's worker does on a link: what it did, the lines of the journal, and how many events the link tells.
+// What a poller's worker does on a link: what it did, the lines of the journal, and how many events the link reports.
 fn poll<R: Wait>(
     rt: &R,
     alloc: Global,
@@ -425,7 +427,7 @@ fn silence_ends_a_round_without_an_entry(rt: HostRuntime) -> Result<(), Fail> {
     Ok(())
 }
 
-// So many datagrams that are too short, and then the answer.
+// This many datagrams that are too short, and then the answer.
 fn short_ones(alloc: Global, count: u32) -> Result<Vec<Planned>, Fail> {
     let mut hearings = Vec::new(alloc);
     for _ in 0..count {
@@ -478,7 +480,7 @@ fn eight_wrong_datagrams_end_a_round(rt: HostRuntime) -> Result<(), Fail> {
     Ok(())
 }
 
-// Two polls: of the sending, the hearing, the sending and the hearing of the end one fails.
+// Two polls: one of the sending, the hearing, the second sending and the hearing of the end fails.
 #[test]
 fn a_fault_of_the_link_ends_the_polling(rt: HostRuntime) -> Result<(), Fail> {
     let table = [
@@ -507,7 +509,7 @@ fn a_full_journal_keeps_a_front_and_the_polling_goes_on(rt: HostRuntime) -> Resu
     Ok(())
 }
 
-// A server that answers one request with the origin that was asked with: how many bytes the request had.
+// A server that answers one request with the origin of that request: how many bytes the request had.
 fn serve_once(socket: &UdpSocket) -> io::Result<usize> {
     let mut piece = [0u8; 1024];
     let (length, client) = socket.recv_from(&mut piece)?;

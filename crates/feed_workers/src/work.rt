@@ -5,7 +5,7 @@
 pub enum LogEnd {
     /// The file was read to its end.
     Whole,
-    /// The line of this number, from 1, isn't lawful.
+    /// The line of this number, from 1, is not valid.
     BadLine { line: u64 },
     /// A read failed.
     Fault,

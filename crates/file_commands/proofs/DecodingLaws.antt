@@ -53,7 +53,7 @@ module _ {B : Type 0} (stands : B → History → Type 0) where
         ∙ sym (flat_map-append entry_line (due_log 0 plan 0 before) (entry ∷ []))
         ∙ sym (ap lines_of_entries more)
 
-    -- a front of what comes was taken, and what was found in it is given
+    -- a beginning of what comes was taken, and what was found in it is given
     pub decoded_on : (found : Result (Option Entry) BadLine) (gives : Gives) → DecodesFront stands now 0 plan 0 before front found → IsFound found gives line →
         IsDecodedBy stands now plan (before ++ front) (text ++ given gives line) (bad_of gives)
     decoded_on (Ok None) gives took is = subst (λ (k : Gives). IsDecodedBy stands now plan (before ++ front) (text ++ given k line) (bad_of k)) (sym is)
@@ -72,7 +72,7 @@ module _ {B : Type 0} (stands : B → History → Type 0) where
   pub late_line : (d : LogDecoder B) (plan : Plan) (bytes text : List ℕ) (late : Option ℕ) → IsDecodedBy stands d plan bytes text None → bad_at_end bytes ≡ late → bad_in_the_end None bytes ≡ late
   late_line d plan bytes text late h is = ap (λ (b : Option ℕ). or_unfinished b (lines_of bytes)) h.bad_is ∙ is
 
-  -- bytes behind a bad line change neither that line nor the text
+  -- bytes after a bad line change neither that line nor the text
   text_same : (plan : Plan) (bytes more : List ℕ) → pulses more ≡ pulses bytes → log_text plan more ≡ log_text plan bytes
   text_same plan bytes more same = ap (λ (rs : List Reduction). lines_of_entries (map (entry_of 0) (answers_of (record { plan = plan; delay = 0; reductions = rs })))) same
 

@@ -22,7 +22,7 @@ use Rattle.file_commands.specs.declared.reading.Reach.{Reach}
 use Rattle.file_commands.specs.declared.reading.Reach.TheVariants.{AtEnd, AtBadLine}
 use Rattle.file_commands.proofs.OpeningLaws.{one_opened, one_failed}
 
--- the bytes read of a file that told its bytes are a front of them
+-- the bytes read of a file that reported its bytes are a beginning of them
 pub front_of : (left left_now : Option (List ℕ)) (text bytes : List ℕ) → left ≡ Some text → IsSome left_now → Takes left left_now bytes → (rest : List ℕ) × (left_now ≡ Some rest) × (text ≡ bytes ++ rest)
 front_of left None text bytes told tells takes = absurd (false≢true tells)
 front_of None (Some rest) text bytes told tells takes = absurd takes
@@ -38,7 +38,7 @@ good_line : (bytes : List ℕ) (o : Option ℕ) → bad_line bytes ≡ o → or_
 good_line bytes None is e = is
 good_line bytes (Some n) is e = cc
 
--- a front of a log without a bad line has none
+-- a beginning of a log without a bad line has none
 no_bad_front : (bytes extra rest text : List ℕ) (n : ℕ) → text ≡ (bytes ++ extra) ++ rest → bad_at_end text ≡ None → bad_line bytes ≡ Some n → ⊥
 no_bad_front bytes extra rest text n e good is =
     let stays = bad_stays bytes (extra ++ rest) n is in
@@ -52,7 +52,7 @@ whole_text bytes extra rest text e none nothing =
 
 -- such a log is read to its end
 module _ (opened back : SourceState) (good : IsGoodLog opened back) (bytes : List ℕ) where
-  -- a reading that ended so took a front of the text
+  -- a reading that ended so took a beginning of the text
   pub front_by : (end : FileEnd) (read : EndsReading end most_of_a_log opened back bytes) → (rest : List ℕ) × (back.left ≡ Some rest) × (good.text ≡ (bytes ++ read.extra) ++ rest)
   front_by end read = front_of opened.left back.left good.text (bytes ++ read.extra) good.told good.tells read.taken
 

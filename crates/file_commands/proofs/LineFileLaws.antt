@@ -40,7 +40,7 @@ use Rattle.file_commands.proofs.OpeningLaws.{two_failed_first, two_only_first, t
 
 -- ---- the end of a run
 
--- bytes behind a bad line change neither that line nor the items before it
+-- bytes after a bad line change neither that line nor the items before it
 items_stay : (f : LineFile) (items : List f.Item) (front behind : List ℕ) (bad : Option ℕ) → HasItemsOf f front items bad → (bad ≡ None → behind ≡ []) → HasItemsOf f (front ++ behind) items bad
 items_stay f items front behind None h none = subst (λ (b : List ℕ). HasItemsOf f b items None) (sym (ap (λ (b : List ℕ). front ++ b) (none refl) ∙ append-nil front)) h
 items_stay f items front behind (Some n) h none = bad_stays f.says f.too_long items n front behind h
@@ -96,7 +96,7 @@ runs_stopped f file file_now out out_now h =
 -- ---- the station, and then the file
 
 module _ (what : Subject) (file_of : StationFields → LineFile) (name file_name : List ℕ) (outside outside_now : OutsideState) (out out_now : SinkState) (result : Status) where
-  -- the station couldn't be opened
+  -- the station could not be opened
   pub station_failed : MakesOpenings (LogOf name ∷ []) outside outside_now [] (Some (LogOf name)) →
       Answers (status_of (NotOpened Station)) result out out_now (status_line (NotOpened Station)) → RunsAgainst what file_of name file_name outside outside_now out out_now result
   station_failed opens answers = inl (record { opens = opens_front (LogOf name ∷ []) (LogOf file_name ∷ []) outside outside_now [] (Some (LogOf name)) opens; written = answers })
@@ -164,7 +164,7 @@ module _ (f : LineFile) (readable : IsReadable f) (opened back : SourceState) (g
   same_whole : good.text ≡ bytes → ((reach : Reach) → f.ending reach items ≡ f.ending reach good.items) × (bad ≡ None)
   same_whole same = readable.ends bytes items good.items bad said (subst (λ (b : List ℕ). HasItemsOf f b good.items None) same good.said)
 
-  -- a front of it has no bad line
+  -- a beginning of it has no bad line
   no_bad_front : (n : ℕ) (rest : List ℕ) → good.text ≡ bytes ++ rest → bad ≡ Some n → ⊥
   no_bad_front n rest e is =
       let longer = bad_stays f.says f.too_long items n bytes rest (subst (λ (b : Option ℕ). HasItemsOf f bytes items b) is said) in
@@ -177,7 +177,7 @@ module _ (f : LineFile) (readable : IsReadable f) (opened back : SourceState) (g
       let wrong : ◌≡◌ {A = Option ℕ} None (Some n) = sym (no_tail bad bytes none (ap has_tail (sym same) ∙ good.finished)) ∙ is in
       cc
 
-  -- a reading that ended so took a front of the text
+  -- a reading that ended so took a beginning of the text
   front_by : (end : FileEnd) (read : EndsReading end f.most opened back bytes) → (rest : List ℕ) × (back.left ≡ Some rest) × (good.text ≡ (bytes ++ read.extra) ++ rest)
   front_by end read = front_of opened.left back.left good.text (bytes ++ read.extra) good.told good.tells read.taken
 

@@ -25,7 +25,7 @@ no_tail_by false n e = refl
 no_tail_by true n e = cc
 
 module _ {T : Type 0} (f : LineFile) (stands : T → List f.Item → Option ℕ → Type 0) (room : ℕ) (some : (n : ℕ) → 0 < f.too_long n) (ends : (taker : T) (items : List f.Item) (n : ℕ) → stands taker items None → stands taker items (Some n)) (taker : T) (cutter : LineCutter) (lines : ℕ) where
-  -- the end, with bytes behind the last line feed or none
+  -- the end, with bytes after the last line feed or none
   pub tail_bad : (bytes text : List ℕ) (found : Bool) → IsTakenBy f stands room taker cutter lines bytes text None → ((b : List ℕ) → HasTaken cutter room b → found ≡ has_tail b) → found ≡ true →
       bad_in_the_end None bytes ≡ Some (lines + 1)
   tail_bad bytes text found h tail is =
@@ -38,7 +38,7 @@ module _ {T : Type 0} (f : LineFile) (stands : T → List f.Item → Option ℕ 
   no_tail bytes text found h tail is = no_tail_by (has_tail bytes) (length (lines_of bytes).complete + 1) (sym (tail bytes (h.cut refl)) ∙ is)
 
   module _ (bytes : List ℕ) (taken : Taken) (cutter_now : LineCutter) (takes : (b : List ℕ) → HasTaken cutter room b → TakesPiece cutter_now room b bytes taken) where
-    -- so many bytes were cut, in this way
+    -- this many bytes were cut, in this way
     cut_by : (before : List ℕ) (cut : Cut) → taken.cut ≡ cut → HasTaken cutter room before → IsCut cut cutter_now room before bytes (take taken.count bytes)
     cut_by before cut is h = subst (λ (k : Cut). IsCut k cutter_now room before bytes (take taken.count bytes)) is (takes before h).cut
 
@@ -108,7 +108,7 @@ module _ {T : Type 0} (f : LineFile) (stands : T → List f.Item → Option ℕ 
     took_line before text later lines_now final line gives h is same takes_line =
         took_one before text h later lines_now final same line (cut_by before Line is (h.cut refl)) gives (takes_line h.items (h.count refl) h.taken)
 
-  -- behind the last line that there may be any byte makes a bad one
+  -- after the last line that there may be any byte makes a bad one
   pub took_none : (bytes before text : List ℕ) → IsTakenBy f stands room taker cutter lines before text None → 0 < length bytes → f.too_long lines ≡ 1 →
       ((items : List f.Item) (t : List ℕ) (item : f.Item) → lines ≡ length items → f.says items t item → ⊥) →
       IsTakenBy f stands room taker cutter lines (before ++ take 1 bytes) (text ++ []) (Some (lines + 1))

@@ -50,7 +50,7 @@ some_room n = room_by (nat_eq n most_lines)
 pub short_line : (settings : SettingsFields) (before : List JournalLine) (text : List ℕ) (x : JournalLine) → says_line settings before text x → length text < journal_line_limit (length before)
 short_line settings before text x h = (let short = short_text text x h.0 in let limit = limit_within (length before) h.1.room in omega arith)
 
--- behind as many lines as there may be none says anything
+-- after as many lines as there may be none says anything
 pub none_behind : (of : StationFields) (before : List JournalLine) (text : List ℕ) (x : JournalLine) → length before ≡ most_lines → says_line (settings_of of) before text x → ⊥
 none_behind of before text x full h = (let room = h.1.room in absurd (omega arith))
 
@@ -110,7 +110,7 @@ number_is settings before line number e page n count entry_is page_is is =
     let rate_is : page.rate ≡ (page_of settings (entries_of before ++ entry_of line ∷ [])).rate = ap (λ (p : PageFields). p.rate) page_is ∙ ap (λ (x : Entry). (page_of settings (entries_of before ++ x ∷ [])).rate) entry_is in
     is ∙ (λ i. record { length = length_is i; rate = rate_is i; entry = entry_is i })
 
--- a line that tells another place
+-- a line that names another place
 pub refuses_place : (settings : SettingsFields) (before : List JournalLine) (line : JournalLine) (number : ℕ) (m now : MoverFields) (n : NumberedEntry) (told : Bool) → HasMoved m settings before None → now.page ≡ m.page →
     n ≡ numbered_behind settings (entries_of before) (entry_of line) → (TellsNumber line n → told ≡ true) → told ≡ false → MovesLine now settings before line number None
 refuses_place settings before line number m now n told h same is tells not = (

@@ -1,4 +1,4 @@
--- The openings that a command has made, and those that an outside tells.
+-- The openings that a command has made, and those that an outside reports.
 use Rattle.std.proofs.Common.{◌≡◌, Option, Some, None, List, [], ◌∷◌, ◌++◌, map, ap, sym, ◌∙◌}
 use Rattle.std.specs.Prelude.{ℕ}
 use Rattle.std.proofs.lemmas.List.{append_cancel_left}
@@ -7,7 +7,7 @@ use Rattle.feed_link.specs.Openings.{Opening, OutsideState, State, Wanted, Makes
 use Rattle.feed_link.specs.Openings.State.{OfLog}
 use Rattle.feed_link.specs.Openings.Wanted.{LogOf}
 
--- what was added is what is told behind those that were there
+-- what was added is what is reported after those that were there
 pub same_more : (was now : Option (List Opening)) (before more told : List Opening) → Adds was now more → was ≡ Some before → now ≡ Some (before ++ told) → more ≡ told
 same_more was None before more told adds were are = cc
 same_more None (Some now) before more told adds were are = absurd adds
@@ -28,11 +28,11 @@ first_of a b front back e = cc
 pub rest_of : (a b : Opening) (front back : List Opening) → a ∷ front ≡ b ∷ back → front ≡ back
 rest_of a b front back e = cc
 
--- openings that are equal told the same
+-- openings that are equal reported the same
 pub same_states : (name : List ℕ) (a b c d : SourceState) → visited (log_visit name a b) ≡ visited (log_visit name c d) → (a ≡ c) × (b ≡ d)
 same_states name a b c d e = (log_states a c (ap (λ (o : Opening). o.opened) e), log_states b d (ap (λ (o : Opening). o.back) e))
 
--- an opening that was answered isn't one that failed
+-- an opening that was answered is not one that failed
 pub not_failed : (name other : List ℕ) (a b : SourceState) → failed (LogOf name) ≡ visited (log_visit other a b) → ⊥
 not_failed name other a b e = unopened (OfLog a) (ap (λ (o : Opening). o.opened) e)
 

@@ -20,7 +20,7 @@ module _ (start out : SinkState) (all rest : List ℕ) (before : Holds) (h : IsT
   cut_at : (count : ℕ) → (h.front ++ take count rest) ++ drop count rest ≡ all
   cut_at count = append_assoc h.front (take count rest) (drop count rest) ∙ ap (λ (t : List ℕ). h.front ++ t) (take-append-drop count rest) ∙ h.is
 
-  -- so many bytes more, whose text is written
+  -- this many bytes more, whose text is written
   pub taken_on : (holds : Holds) (now : SinkState) (count : ℕ) (text : List ℕ) (bad : Option ℕ) →
       holds (h.front ++ take count rest) (h.text ++ text) bad → bad ≡ None → WritesAll out now text → IsTakenSoFar holds start now all (drop count rest)
   taken_on holds now count text bad held none written = record {

@@ -1,4 +1,4 @@
--- An ending's text behind another.
+-- An ending's text after another.
 use Rattle.std.proofs.Common.{ℕ, List, ◌++◌, inl, inr, refl}
 use Rattle.feed_link.specs.Told.{SinkState}
 use Rattle.file_commands.specs.Writing.{Answers}

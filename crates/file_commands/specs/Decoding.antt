@@ -22,7 +22,7 @@ use Rattle.file_commands.specs.declared.reading.Reach.{Reach}
 abbrev pub most_of_a_log : ℕ
 most_of_a_log = 2 ^ 30
 
--- the reading ended by itself: the lines of the answers are written, and then the status line, of which a write may fail
+-- the reading ended by itself: the lines of the answers are written, and then the status line; a write of it may fail
 pub record EndsByCause (plan : Plan) (file file_now : SourceState) (out out_now : SinkState) (result : Status) : Type 0 where
   pub bytes : List ℕ
   pub due : Reach
@@ -31,8 +31,8 @@ pub record EndsByCause (plan : Plan) (file file_now : SourceState) (out out_now 
   pub lines : WritesAll out between (log_text plan bytes)
   pub written : Answers (status_of (ending_at (Feed 0) due)) result between out_now (status_line (ending_at (Feed 0) due))
 
--- a write failed in the lines that the next bytes add, and nothing was read or written after it: the lines of those before them are
--- written whole, and these came in one piece, which has at most 512
+-- a write failed in the lines that the next bytes add, and nothing was read or written after it. The lines of the bytes before
+-- are written whole. The next bytes came in one piece, which has at most 512
 pub record EndsByWriting (plan : Plan) (file file_now : SourceState) (out out_now : SinkState) (result : Status) : Type 0 where
   pub earlier : List ℕ
   pub next : List ℕ
@@ -45,7 +45,7 @@ pub record EndsByWriting (plan : Plan) (file file_now : SourceState) (out out_no
   pub failed : WritesFront between out_now more
   pub answer : result ≡ WriteFault
 
--- a log was decoded: what it and the sink told before and now, and the answer
+-- a log was decoded: what it and the sink reported before and now, and the answer
 abbrev pub Decodes : Plan → SourceState → SourceState → SinkState → SinkState → Status → Type 0
 Decodes plan file file_now out out_now result = EndsByCause plan file file_now out out_now result ⊎ EndsByWriting plan file file_now out out_now result
 
@@ -66,7 +66,7 @@ RunsDecode plan name outside outside_now out out_now result =
     CannotOpen (needed_by_decode name) [] (LogOf name) (Feed 0) outside outside_now out out_now result
     ⊎ OpensAndDecodes plan name outside outside_now out out_now result
 
--- a log that has no fault, and that told its bytes before and after
+-- a log that has no fault, and that reported its bytes before and after
 pub record IsGoodLog (opened back : SourceState) : Type 0 where
   pub text : List ℕ
   pub told : opened.left ≡ Some text

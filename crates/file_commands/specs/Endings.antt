@@ -1,4 +1,4 @@
--- How a command ends: its status with the number of it, and the status line. The numbers and lines are this project's own.
+-- How a command ends: its status with its number, and the status line. The numbers and lines are this project's own.
 use Rattle.std.specs.Prelude.{ℕ, List, ◌++◌, codes, decimal}
 use Rattle.file_reader.specs.declared.reader.FileEnd.TheVariants as file
 use Rattle.file_commands.specs.declared.ending.Ending.{Ending}
@@ -42,7 +42,7 @@ name_of subject.Journal = codes "journal"
 name_of (subject.Feed number) = codes "feed " ++ decimal number
 name_of (subject.Link number) = codes "link " ++ decimal number
 
--- where a line of it stands: a log's line is told by its feed
+-- where a line of it stands: a line of a log is named by its feed
 abbrev pub place_of : Subject → List ℕ
 place_of (subject.Feed number) = codes "line " ++ decimal number
 place_of subject.Station = codes "station"

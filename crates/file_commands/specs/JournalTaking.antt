@@ -8,12 +8,12 @@ use Rattle.file_commands.specs.Moving.{HasMoved, MoverFields}
 use Rattle.file_commands.specs.declared.migrate.mover.JournalMover.{JournalMover}
 use Rattle.file_commands.specs.declared.reading.Gives.{Gives}
 
--- no more entries were taken than lines, and no more lines than there may be
+-- at most as many entries were taken as lines, and at most as many lines as there may be
 pub record IsEven (m : JournalMover) : Type 0 where
   pub entries : m.mover.fold.length ≤ m.lines
   pub most : m.lines ≤ 4194304
 
--- it has taken these bytes, has moved their lines and given the text of these, and has met this bad line
+-- it has taken these bytes, has converted their lines and given the text of these, and has met this bad line
 abbrev pub IsMovedBy : JournalMover → StationFields → List ℕ → List ℕ → Option ℕ → Type 0
 IsMovedBy m of bytes text bad = IsTakenBy (journal_of of) (λ mover lines bad. HasMoved mover (settings_of of) lines bad) 300 m.mover m.cutter m.lines bytes text bad
 
@@ -21,7 +21,7 @@ IsMovedBy m of bytes text bad = IsTakenBy (journal_of of) (λ mover lines bad. H
 abbrev pub journal_says : StationFields → List ℕ → List ℕ → Type 0
 journal_says of = file_says (journal_of of)
 
--- a text was moved as the next line, with the lines counted
+-- a text was converted as the next line, with the lines counted
 abbrev pub IsMovedLine : ℕ → ℕ → MoverFields → StationFields → List JournalLine → List ℕ → List ℕ → Gives → Type 0
 IsMovedLine count count_now m of before text given gives =
     TakesLine (journal_of of) (λ mover lines bad. HasMoved mover (settings_of of) lines bad) count count_now m before text given gives

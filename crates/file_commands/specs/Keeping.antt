@@ -1,4 +1,4 @@
--- Scaffolding: what private functions say of one opening alone.
+-- Scaffolding: what private functions say of a single opening.
 use Rattle.std.specs.Prelude.{ℕ, ◌⊎◌, None, Some, List, [], ◌∷◌, Result, MatchResult}
 use Rattle.feed_link.specs.Told.{SourceState, SinkState}
 use Rattle.feed_link.specs.Openings.{OutsideState, MakesOpenings, log_visit}
@@ -18,7 +18,7 @@ pub record OpensStation (name : List ℕ) (outside outside_now : OutsideState) (
   pub opens : MakesOpenings (LogOf name ∷ []) outside outside_now (log_visit name opened back ∷ []) None
   pub read : EndsReading end most_of_a_station opened back bytes
 
--- or it couldn't be opened
+-- or it could not be opened
 abbrev pub TriesStation : {E : Type 0} → List ℕ → OutsideState → OutsideState → List ℕ → Result FileEnd E → Type 0
 TriesStation name outside outside_now bytes result = MatchResult result
     (λ end. OpensStation name outside outside_now end bytes)
@@ -31,7 +31,7 @@ pub record RunsFile (f : LineFile) (name : List ℕ) (outside outside_now : Outs
   pub opens : MakesOpenings (LogOf name ∷ []) outside outside_now (log_visit name opened back ∷ []) None
   pub runs : RunsThrough f opened back out out_now result
 
--- or it couldn't be opened
+-- or it could not be opened
 abbrev pub TriesFile : Subject → LineFile → List ℕ → OutsideState → OutsideState → SinkState → SinkState → Status → Type 0
 TriesFile what f name outside outside_now out out_now result =
     CannotOpen (LogOf name ∷ []) [] (LogOf name) what outside outside_now out out_now result

@@ -1,6 +1,7 @@
--- What a reader has to believe, in this order: Endings (statuses and status lines), Writing (what is written, and what a failed write
--- leaves), Unopened (a command that opens nothing), Reading (why a reading ended), Opening, Text, Decoding, StationFile, LineFiles (what it
--- is to run through a file of lines), Script, Replaying, Migrating. The other files are scaffolding of private functions.
+-- What a reader has to believe, in this order. First come Endings (statuses and status lines), Writing (what is written, and what
+-- a failed write leaves) and Unopened (a command that opens nothing). Then come Reading (why a reading ended), Opening, Text,
+-- Decoding and StationFile. Last come LineFiles (what it is to run through a file of lines), Script, Replaying and Migrating. The
+-- other files are scaffolding of private functions.
 pub mod Endings
 pub mod Writing
 pub mod Unopened

@@ -1,5 +1,5 @@
--- What it is to run through a file of lines against a station: what each line may say, what all of them give, how it ends; what is
--- opened, the bytes read, why the reading ended, and what is written.
+-- What it is to run through a file of lines against a station: what each line may say, what all of them give, and how it ends.
+-- Also what is opened, the bytes read, why the reading ended, and what is written.
 use Rattle.std.specs.Prelude.{◌≡◌, ℕ, ◌⊎◌, ◌≤◌, false, IsSome, Option, Some, None, List, [], ◌∷◌, ◌++◌, length, map}
 use Rattle.clock_page.specs.Page.{PageFields}
 use Rattle.feed_link.specs.Faults.{Rose}
@@ -27,8 +27,8 @@ use Rattle.file_commands.specs.declared.ending.subject.Subject.TheVariants.{Stat
 use Rattle.file_commands.specs.declared.reading.Reach.{Reach}
 use Rattle.file_commands.specs.declared.reading.Reach.TheVariants.{AtEnd}
 
--- a kind of file: what its lines say, the length at which a line is too long and the most bytes of the file; the text that its lines
--- give, the page behind it, and how a command ends whose reading came so far
+-- a kind of file: what its lines say, the length at which a line is too long, and the most bytes of the file. Then the text that
+-- its lines give, the page after it, and how a command ends whose reading came this far
 pub record LineFile : Type 1 where
   pub Item : Type 0
   pub says : Saying Item
@@ -42,7 +42,7 @@ pub record LineFile : Type 1 where
 abbrev pub HasItemsOf : (f : LineFile) → List ℕ → List f.Item → Option ℕ → Type 0
 HasItemsOf f = HasItems f.says f.too_long
 
--- the reading ended by itself: what the lines give is written, and then the page and the status line, of which a write may fail
+-- the reading ended by itself: what the lines give is written, and then the page and the status line; a write of these may fail
 pub record EndsRunning (f : LineFile) (file file_now : SourceState) (out out_now : SinkState) (result : Status) : Type 0 where
   pub bytes : List ℕ
   pub items : List f.Item
@@ -56,8 +56,8 @@ pub record EndsRunning (f : LineFile) (file file_now : SourceState) (out out_now
   pub given : WritesAll out between (f.text items)
   pub written : Answers (status_of due) result between out_now (page_text (f.page items) ++ status_line due)
 
--- a write failed in what the lines of the next bytes give, and nothing was read or written after it: what the lines before them give is
--- written whole. The bytes behind them that came in the same piece, which has at most 512, were not looked at
+-- a write failed in what the lines of the next bytes give, and nothing was read or written after it. What the lines before them
+-- give is written whole. The bytes after them that came in the same piece, which has at most 512, were not looked at
 pub record StopsRunning (f : LineFile) (file file_now : SourceState) (out out_now : SinkState) (result : Status) : Type 0 where
   pub earlier : List ℕ
   pub next : List ℕ
@@ -75,7 +75,7 @@ pub record StopsRunning (f : LineFile) (file file_now : SourceState) (out out_no
   pub failed : WritesFront between out_now more
   pub answer : result ≡ WriteFault
 
--- a file was run through: what it and the sink told before and now, and the answer
+-- a file was run through: what it and the sink reported before and now, and the answer
 abbrev pub RunsThrough : LineFile → SourceState → SourceState → SinkState → SinkState → Status → Type 0
 RunsThrough f file file_now out out_now result = EndsRunning f file file_now out out_now result ⊎ StopsRunning f file file_now out out_now result
 
@@ -83,7 +83,7 @@ RunsThrough f file file_now out out_now result = EndsRunning f file file_now out
 abbrev pub needed_by : List ℕ → List ℕ → List Wanted
 needed_by name file_name = LogOf name ∷ LogOf file_name ∷ []
 
--- the station was read to its end, and the file couldn't be opened
+-- the station was read to its end, and the file could not be opened
 pub record LacksFile (what : Subject) (name file_name : List ℕ) (outside outside_now : OutsideState) (out out_now : SinkState) (result : Status) : Type 0 where
   pub of : StationFields
   pub opened : SourceState
@@ -110,8 +110,8 @@ RunsAgainst what file_of name file_name outside outside_now out out_now result =
     ⊎ (LacksFile what name file_name outside outside_now out out_now result
     ⊎ OpensAndRuns file_of name file_name outside outside_now out out_now result))
 
--- a file that has no fault, and that told its bytes before and after: none of its lines is bad, the last is finished, and nothing that
--- they say ends a command otherwise
+-- a file that has no fault, and that reported its bytes before and after: none of its lines is bad, the last is finished, and
+-- nothing that they say ends a command otherwise
 pub record IsGoodFile (f : LineFile) (opened back : SourceState) : Type 0 where
   pub text : List ℕ
   pub told : opened.left ≡ Some text

@@ -1,4 +1,5 @@
--- What it is to move a journal over: a file of lines of either form, which is read against a station and written in the second form.
+-- What it is to convert a journal: a file of lines of either form, which is read against a station and written in the second
+-- form.
 use Rattle.std.specs.Prelude.{◌≡◌, ℕ, ◌+◌, ◌<◌, ◌^◌, ◌==◌, List, [], ◌∷◌, ◌++◌, codes, length, map, if◌then◌else◌}
 use Rattle.std.specs.List.{flat_map}
 use Rattle.feed_link.specs.Told.{SinkState}
@@ -28,7 +29,7 @@ use Rattle.file_commands.specs.declared.reading.Reach.TheVariants.{AtEnd, AtBadL
 abbrev pub most_lines : ℕ
 most_lines = 4194304
 
--- the entries that lines tell
+-- the entries that lines have
 abbrev pub entries_of : List JournalLine → List Entry
 entries_of lines = map entry_of lines
 
@@ -37,17 +38,17 @@ abbrev pub HasFormOf : List JournalLine → JournalLine → Type 0
 HasFormOf [] line = Unit {0}
 HasFormOf (first ∷ more) line = form_of line ≡ form_of first
 
--- a line tells this number and this rate, or tells none
+-- a line has this number and this rate, or has neither
 abbrev pub TellsNumber : JournalLine → NumberedEntry → Type 0
 TellsNumber (Bare e) n = Unit {0}
 TellsNumber (Numbered told) n = (told.length ≡ n.length) × (told.rate ≡ n.rate)
 
--- those of its place: where its entry stands behind those before, and the rate of the page after it
+-- those of its place: where its entry stands after those before, and the rate of the page after it
 abbrev pub TellsItsPlace : SettingsFields → List Entry → JournalLine → Type 0
 TellsItsPlace settings before line = TellsNumber line (numbered_behind settings before (entry_of line))
 
--- a line may stand behind the lines before it: there are not as many yet as there may be, it has their form, its entry is lawful for
--- the station, and it tells its place where it tells one
+-- a line may stand after the lines before it: there are fewer so far than there may be, and it has their form. Its entry is valid
+-- for the station, and it names its place where it names one
 pub record MayStand (settings : SettingsFields) (before : List JournalLine) (line : JournalLine) : Type 0 where
   pub room : length before < most_lines
   pub form : HasFormOf before line
@@ -57,7 +58,7 @@ pub record MayStand (settings : SettingsFields) (before : List JournalLine) (lin
 abbrev pub says_line : SettingsFields → Saying JournalLine
 says_line settings before text line = IsLineText text line × MayStand settings before line
 
--- a line is too long at its 300th byte; behind the last that there may be, at its first
+-- a line is too long at its 300th byte; after the last that there may be, at its first
 abbrev pub journal_line_limit : ℕ → ℕ
 journal_line_limit lines = if lines == most_lines then 1 else 300
 
@@ -65,7 +66,8 @@ journal_line_limit lines = if lines == most_lines then 1 else 300
 abbrev pub journal_text : SettingsFields → List Entry → List ℕ
 journal_text settings entries = flat_map (λ n. numbered_text n ++ codes "\n") (numbered settings entries)
 
--- how a command ends that has moved the lines so far: bytes behind the last line that there may be are told as a full journal
+-- how a command ends that has converted the lines so far: bytes after the last line that there may be are reported as a full
+-- journal
 abbrev pub migrate_ending : Reach → Ending
 migrate_ending (AtEnd end) = ending_at Journal (AtEnd end)
 migrate_ending (AtBadLine line) = if line == most_lines + 1 then Full most_lines else ending_at Journal (AtBadLine line)
@@ -82,7 +84,7 @@ journal_of station = record {
   ending = λ reach lines. migrate_ending reach;
 }
 
--- what becomes of a command to move a journal over, and when all that it opens has no fault
+-- what becomes of a command to convert a journal, and when all that it opens has no fault
 abbrev pub RunsMigrate : List ℕ → List ℕ → OutsideState → OutsideState → SinkState → SinkState → Status → Type 0
 RunsMigrate name journal_name = RunsAgainst Journal journal_of name journal_name
 

@@ -13,14 +13,14 @@ use Rattle.system_fold.specs.Page.{page_of}
 use Rattle.system_fold.specs.Settings.{SettingsFields}
 use Rattle.file_commands.specs.Migrating.{MayStand, entries_of, says_line}
 
--- the fold of the entries taken, the page after the last that was moved, the form of the lines, and the number of feeds
+-- the fold of the entries taken, the page after the last that was converted, the form of the lines, and the number of feeds
 pub record MoverFields : Type 0 where
   pub fold : FoldFields
   pub page : PageFields
   pub form : Option Form
   pub sources : ℕ
 
--- the fold stands for some journal of so many feeds
+-- the fold stands for some journal of this many feeds
 pub record IsMoving (fold : FoldFields) (sources : ℕ) : Type 0 where
   pub settings : SettingsFields
   pub journal : List Entry
@@ -34,13 +34,13 @@ IsFormOf None (line ∷ more) = ⊥
 IsFormOf (Some form) [] = ⊥
 IsFormOf (Some form) (line ∷ more) = form ≡ form_of line
 
--- more lines may come behind these
+-- more lines may come after these
 pub record GoesOn (m : MoverFields) (settings : SettingsFields) (lines : List JournalLine) : Type 0 where
   pub fold : StandsForJournal m.fold settings (entries_of lines)
   pub form : IsFormOf m.form lines
   pub sources : m.sources ≡ length settings.sources
 
--- these lines were moved, and this bad line was met: then the fold may have taken its entry, and no line comes behind it
+-- these lines were converted, and this bad line was met: then the fold may have taken its entry, and no line comes after it
 pub record HasMoved (m : MoverFields) (settings : SettingsFields) (lines : List JournalLine) (bad : Option ℕ) : Type 0 where
   pub page : m.page ≡ page_of settings (entries_of lines)
   pub going : bad ≡ None → GoesOn m settings lines

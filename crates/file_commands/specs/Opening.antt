@@ -8,7 +8,7 @@ use Rattle.file_commands.specs.declared.ending.Ending.TheVariants.{NotOpened}
 use Rattle.file_commands.specs.declared.ending.status.Status.{Status}
 use Rattle.file_commands.specs.declared.ending.subject.Subject.{Subject}
 
--- it is the last one, and the status line alone is written
+-- it is the last one, and only the status line is written
 pub record CannotOpen (needed : List Wanted) (visits : List Visit) (wanted : Wanted) (what : Subject) (outside outside_now : OutsideState) (out out_now : SinkState) (result : Status) : Type 0 where
   pub opens : MakesOpenings needed outside outside_now visits (Some wanted)
   pub written : Answers (status_of (NotOpened what)) result out out_now (status_line (NotOpened what))

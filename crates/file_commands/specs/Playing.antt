@@ -13,7 +13,7 @@ use Rattle.file_commands.specs.Script.{says_played}
 use Rattle.file_commands.specs.declared.reading.Gives.{Gives}
 use Rattle.file_commands.specs.declared.replay.replayer.Replayer.{Replayer}
 
--- what a script is played for: a station, with at most so many entries
+-- what a script is played for: a station, with at most this many entries
 pub record ReplayCase : Type 0 where
   pub station : StationFields
   pub limit : ℕ

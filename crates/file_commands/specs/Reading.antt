@@ -7,13 +7,14 @@ use Rattle.tick_units.specs.Log.{lines_of, or_unfinished}
 use Rattle.file_commands.specs.declared.reading.Reach.{Reach}
 use Rattle.file_commands.specs.declared.reading.Reach.TheVariants.{AtEnd, AtBadLine}
 
--- the first bad line of a file that has ended, where this one is the first while more may come: an unfinished line is bad too
+-- the first bad line of a file that has ended, where this one is the first while more may come: then an unfinished line is bad
+-- too
 abbrev pub bad_in_the_end : Option ℕ → List ℕ → Option ℕ
 bad_in_the_end bad bytes = or_unfinished bad (lines_of bytes)
 
--- these bytes were read of a file of at most so many, this is their first bad line while more may come, and the reading ended so:
--- at the end, where no line is bad; at a read that failed or at the limit, with no bad line so far; or at a bad line, which stands
--- among the bytes or is the unfinished one at the end
+-- these bytes were read of a file of at most this many. This is their first bad line while more may come, and the reading ended
+-- so. At the end no line is bad. At a read that failed, or at the limit, no line is bad so far. A bad line stands among the bytes
+-- or is the unfinished one at the end
 abbrev pub ReadsLines : Reach → ℕ → SourceState → SourceState → List ℕ → Option ℕ → Type 0
 ReadsLines (AtEnd Whole) limit file file_now bytes bad = EndsReading Whole limit file file_now bytes × (bad_in_the_end bad bytes ≡ None)
 ReadsLines (AtEnd Fault) limit file file_now bytes bad = EndsReading Fault limit file file_now bytes × (bad ≡ None)

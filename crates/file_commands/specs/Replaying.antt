@@ -16,8 +16,8 @@ use Rattle.file_commands.specs.declared.ending.subject.Subject.TheVariants.{Scri
 use Rattle.file_commands.specs.declared.reading.Reach.{Reach}
 use Rattle.file_commands.specs.declared.reading.Reach.TheVariants.{AtEnd, AtBadLine}
 
--- how a command ends that has played a script so far, where entries were lost or not: of two causes the one with the least
--- number is told
+-- how a command ends that has played a script so far, where entries were lost or not: of two causes the status line reports the
+-- one with the lesser number
 abbrev pub replay_ending : Reach → Bool → ℕ → Ending
 replay_ending reach false limit = ending_at Script reach
 replay_ending (AtEnd Whole) true limit = Full limit
@@ -25,7 +25,7 @@ replay_ending (AtEnd Fault) true limit = ending_at Script (AtEnd Fault)
 replay_ending (AtEnd TooLong) true limit = Full limit
 replay_ending (AtBadLine line) true limit = ending_at Script (AtBadLine line)
 
--- a script of at most 2^26 bytes, played with at most so many entries: what its lines give, and the page of the entries kept
+-- a script of at most 2^26 bytes, played with at most this many entries: what its lines give, and the page of the entries kept
 abbrev pub script_of : ℕ → StationFields → LineFile
 script_of limit station = record {
   Item = Played;

@@ -1,4 +1,4 @@
--- The lines of a replay script, up to the first that is bad.
+-- The lines of a replay script, up to the first bad one.
 use Rattle.std.specs.Prelude.{◌≡◌, ℕ, true}
 use Rattle.line_cutter.specs.Items.{Saying}
 use Rattle.script_line.specs.Texts.{IsTextOf}
@@ -6,7 +6,7 @@ use Rattle.script_line.specs.declared.line.ScriptLine.{ScriptLine}
 use Rattle.script_player.specs.Replay.{Played, MayBePlayed, is_lawful, lines_of}
 use Rattle.station_config.specs.Station.{StationFields}
 
--- a text says a line that may stand behind the lines before it
+-- a text says a line that may stand after the lines before it
 abbrev pub says_line : StationFields → Saying ScriptLine
 says_line station before text line = IsTextOf text line × (is_lawful station before line ≡ true)
 

@@ -39,7 +39,7 @@ abbrev pub IsNamed : StationFault → Type 0
 IsNamed fault.Memory = ⊥
 IsNamed _ = Unit {0}
 
--- an obstacle that a status line tells
+-- an obstacle that a status line reports
 abbrev pub IsTold : Obstacle → Type 0
 IsTold (Ends ending) = Unit {0}
 IsTold (Faulty fault) = IsNamed fault
@@ -52,14 +52,14 @@ abbrev pub line_at : Obstacle → List ℕ
 line_at (Ends ending) = status_line ending
 line_at (Faulty fault) = station_line fault
 
--- what keeps the station of a file from being used whose bytes were read so far: a read that failed, bytes past the limit, a
--- fault of the text; or no memory was found, which is free once the file was read
+-- what keeps the station of a file from being used whose bytes were read so far: a read that failed, bytes past the limit, or a
+-- fault of the text. Or there was not enough memory, which is free once the file was read
 abbrev pub IsObstacle : FileEnd → List ℕ → Obstacle → Type 0
 IsObstacle file.Fault bytes obstacle = obstacle ≡ Ends (NotRead Station)
 IsObstacle file.TooLong bytes obstacle = obstacle ≡ Ends (Long Station)
 IsObstacle file.Whole bytes obstacle = (obstacle ≡ Ends NoMemory) ⊎ ((fault : StationFault) × (obstacle ≡ Faulty fault) × IsNamed fault × RefusesStation bytes fault)
 
--- something kept the station from being used: nothing more is opened, and the status line alone is written
+-- an obstacle kept the station from being used: nothing more is opened, and only the status line is written
 pub record EndsAtStation (needed : List Wanted) (name : List ℕ) (outside outside_now : OutsideState) (out out_now : SinkState) (result : Status) : Type 0 where
   pub opened : SourceState
   pub back : SourceState
@@ -77,7 +77,7 @@ pub record HasStation (opened back : SourceState) (of : StationFields) : Type 0 
   pub read : EndsReading file.Whole most_of_a_station opened back bytes
   pub says : Says bytes of
 
--- a file that says a station, and that told its bytes before and after
+-- a file that says a station, and that reported its bytes before and after
 pub record IsStation (of : StationFields) (opened back : SourceState) : Type 0 where
   pub text : List ℕ
   pub told : opened.left ≡ Some text

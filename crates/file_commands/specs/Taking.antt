@@ -1,5 +1,5 @@
--- Scaffolding: what the loops over the bytes of a file keep. Something stands for the bytes that it has taken, for the text that
--- it has given for them, and for their first bad line.
+-- Scaffolding: what the loops over the bytes of a file keep. A taker stands for the bytes that it has taken, for the text that it
+-- has given for them, and for their first bad line.
 use Rattle.std.specs.Prelude.{◌≡◌, ℕ, ◌≤◌, Option, None, Some, List, [], ◌++◌, length, take, Result, MatchResult}
 use Rattle.feed_link.specs.Told.{SourceState, SinkState}
 use Rattle.file_reader.specs.declared.reader.FileEnd.TheVariants.{Whole, Fault, TooLong}
@@ -17,11 +17,11 @@ use Rattle.file_commands.specs.declared.reading.Taken.TheVariants as taken
 abbrev pub Holds : Type 1
 Holds = List ℕ → List ℕ → Option ℕ → Type 0
 
--- the text that bytes give which have no bad line
+-- the text that bytes without a bad line give
 abbrev pub Says : Type 1
 Says = List ℕ → List ℕ → Type 0
 
--- the text that a front of bytes gives, in a line of this content, and the bad line that it has
+-- the text that the first bytes give, in a line of this content, and the bad line that they have
 abbrev pub given : Gives → List ℕ → List ℕ
 given Nothing line = []
 given (Text length) line = take length line
@@ -50,7 +50,8 @@ EndsAt (AtEnd Fault) bad = ⊥
 EndsAt (AtEnd TooLong) bad = ⊥
 EndsAt (AtBadLine line) bad = bad ≡ Some line
 
--- all of a piece was taken, or its bytes up to a bad line, and the text of them is written since the start; or a write of it failed
+-- all of a piece was taken, or its bytes up to a bad line, and the text of them is written since the start; or a write of it
+-- failed
 pub record TakesAll (holds : Holds) (start out : SinkState) (bytes : List ℕ) : Type 0 where
   pub text : List ℕ
   pub held : holds bytes text None
@@ -64,8 +65,8 @@ pub record MeetsBad (holds : Holds) (number : ℕ) (start out : SinkState) (byte
   pub held : holds front text (Some number)
   pub written : WritesAll start out text
 
--- a write failed in the text that the next bytes add; the text of those before them is written whole, and at most so many bytes
--- come behind these
+-- a write failed in the text that the next bytes add; the text of those before them is written whole, and at most this many bytes
+-- come after these
 pub record Stops (says : Says) (start out : SinkState) (bytes : List ℕ) (most : ℕ) : Type 0 where
   pub earlier : List ℕ
   pub next : List ℕ
@@ -85,7 +86,7 @@ TakesPiece holds says taken.All start out bytes most = TakesAll holds start out 
 TakesPiece holds says (taken.Bad number) start out bytes most = MeetsBad holds number start out bytes
 TakesPiece holds says taken.Stopped start out bytes most = Stops says start out bytes most
 
--- the reading ended by itself, with the text of the bytes taken written; bytes were read behind them only where they have
+-- the reading ended by itself, with the text of the bytes taken written; bytes were read after them only where they have
 -- a bad line
 pub record EndsItself (holds : Holds) (limit : ℕ) (file file_now : SourceState) (out out_now : SinkState) (reach : Reach) : Type 0 where
   pub front : List ℕ
@@ -97,7 +98,7 @@ pub record EndsItself (holds : Holds) (limit : ℕ) (file file_now : SourceState
   pub read : ReadsLines reach limit file file_now (front ++ behind) bad
   pub written : WritesAll out out_now text
 
--- a write failed in the text of the bytes taken, of which those behind the text that stands came in one piece of 512 bytes
+-- a write failed in the text of the bytes taken, of which those after the written text came in one piece of 512 bytes
 pub record EndsStopped (says : Says) (limit : ℕ) (file file_now : SourceState) (out out_now : SinkState) : Type 0 where
   pub bytes : List ℕ
   pub read : HasReadFront limit file file_now bytes

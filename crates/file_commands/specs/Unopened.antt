@@ -8,15 +8,15 @@ use Rattle.file_commands.specs.declared.ending.Ending.{Ending}
 use Rattle.file_commands.specs.declared.ending.Ending.TheVariants.{WrongWords, NoMemory}
 use Rattle.file_commands.specs.declared.ending.status.Status.{Status}
 
--- nothing is opened, and the status line alone is written
+-- nothing is opened, and only the status line is written
 pub record EndsUnopened (ending : Ending) (outside outside_now : OutsideState) (out out_now : SinkState) (result : Status) : Type 0 where
   pub unchanged : outside_now ≡ outside
   pub written : Answers (status_of ending) result out out_now (status_line ending)
 
--- words that ask for nothing
+-- arguments that ask for nothing
 abbrev pub Refuses : OutsideState → OutsideState → SinkState → SinkState → Status → Type 0
 Refuses = EndsUnopened WrongWords
 
--- no memory was found, before anything was opened
+-- there was not enough memory, before anything was opened
 abbrev pub Lacks : OutsideState → OutsideState → SinkState → SinkState → Status → Type 0
 Lacks = EndsUnopened NoMemory

@@ -1,4 +1,4 @@
-//! `decode`: a log is decoded, and a line is written for each entry that it is due.
+//! `decode`: decodes a log, and writes a line for each entry that is due to it.
 ghost use Rattle.std.specs.Prelude.{◌≡◌};
 ghost use Rattle.file_commands.specs.Decoding.{Decodes, RunsDecode};
 ghost use Rattle.file_commands.specs.LogTaking.{IsFound};
@@ -23,7 +23,7 @@ use tick_units::Plan;
 // The most bytes of a log.
 const LIMIT: usize = 1 << 30;
 
-// What a decoder found: the line of an entry, which is then the front of `line`, nothing, or a bad line.
+// What a decoder found: the line of an entry, which is then the beginning of `line`, nothing, or a bad line.
 fn give_found(found: Result<Option<Entry>, BadLine>, line: &mut Line) -> Gives
     ensures fits { Fits result }
     ensures gives { IsFound found result line.new }
@@ -69,7 +69,7 @@ impl<R: Receiver> Taker for LogDecoder<R> {
     ghost held_says = { λ decoder plan bytes text held. held.text_is };
 }
 
-// Decodes a log with a blank receiver: the lines of its entries and the status line are written.
+// Decodes a log with a blank receiver, and writes the lines of its entries and the status line.
 fn decode_with<S: Source, R: Receiver, K: Sink>(log: &mut S, receiver: R, out: &mut K) -> Status
     requires { R.least_start receiver ≡ 0 }
     ensures number { S.opening log.new ≡ S.opening log.old }
@@ -83,7 +83,8 @@ fn decode_with<S: Source, R: Receiver, K: Sink>(log: &mut S, receiver: R, out: &
     }
 }
 
-// Decodes the log of a plan. Its receiver stands here and in no box, since a call through a box for each reduction is felt.
+// Decodes the log of a plan. Its receiver is here and not in a box, since a call through a box for each reduction costs much
+// time.
 fn decode<S: Source, K: Sink>(log: &mut S, plan: Plan, out: &mut K) -> Status
     ensures number { S.opening log.new ≡ S.opening log.old }
     ensures decodes { Decodes plan (S.state log.old) (S.state log.new) (K.state out.old) (K.state out.new) result }
@@ -95,7 +96,7 @@ fn decode<S: Source, K: Sink>(log: &mut S, plan: Plan, out: &mut K) -> Status
     }
 }
 
-/// Opens a log, decodes it and gives it back: a line for each entry that it is due, and then the status line.
+/// Opens a log, decodes it and gives it back. Writes a line for each entry that is due to it, and then the status line.
 pub fn open_and_decode<O: Outside, K: Sink>(
     plan: Plan,
     name: &str,

@@ -1,4 +1,4 @@
-//! How a command ends: its status, and the line that tells it.
+//! How a command ends: its status, and the line that reports it.
 ghost use Rattle.std.specs.Prelude.{◌≡◌};
 ghost use Rattle.file_commands.specs.Endings.{status_of};
 
@@ -16,19 +16,19 @@ use subject::Subject;
 pub enum Ending {
     /// All was read to its end without a fault.
     Whole,
-    /// The words aren't lawful.
+    /// The arguments are not valid.
     WrongWords,
     /// The opening failed.
     NotOpened(Subject),
     /// A read failed.
     NotRead(Subject),
-    /// The line of this number isn't lawful; the first is number 1.
+    /// The line of this number is not valid; the first is number 1.
     WrongLine(Subject, u64),
-    /// The journal held this many entries, its limit, and an entry more was due.
+    /// The journal held this many entries, its limit, and one more entry was due.
     Full(u32),
     /// A link failed.
     LinkFailed(Subject),
-    /// No memory was found.
+    /// There was not enough memory.
     NoMemory,
     /// A file is longer than its limit.
     Long(Subject),

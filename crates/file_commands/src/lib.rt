@@ -1,4 +1,5 @@
-//! The commands that run through a file line by line: `decode`, `replay` and `migrate`. And how each command ends, and what is written then.
+//! The commands that run through a file line by line, `decode`, `replay` and `migrate`, how each command ends, and what it writes
+//! then.
 #![tactic(auto)]
 
 mod decode;

@@ -7,7 +7,7 @@ ghost use Rattle.log_decoder.specs.Due.{entry_line};
 use crate::reading::Line;
 use journal_entry::{Entry, Numbered, write_numbered, write_unnumbered};
 
-// Writes the line of an entry at the front of `line`. The answer is its number of bytes.
+// Writes the line of an entry at the beginning of `line`. The answer is its number of bytes.
 pub fn write_entry_line(entry: &Entry, line: &mut Line) -> usize
     ensures text { take result line.new ≡ entry_line entry.now }
     ensures within { result ≤ LINE_ROOM }
@@ -17,7 +17,7 @@ pub fn write_entry_line(entry: &Entry, line: &mut Line) -> usize
     end + 1
 }
 
-/// Writes the line of a numbered entry at the front of `line`. The answer is its number of bytes.
+/// Writes the line of a numbered entry at the beginning of `line`. The answer is its number of bytes.
 pub fn write_numbered_line(numbered: &Numbered, line: &mut Line) -> usize
     ensures text { take result line.new ≡ numbered_text numbered.now ++ codes "\n" }
     ensures within { result ≤ LINE_ROOM }

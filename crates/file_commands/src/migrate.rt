@@ -1,4 +1,4 @@
-//! `migrate`: a journal of either form is read against a station, line by line, and written in the second form.
+//! `migrate`: reads a journal of either form against a station, line by line, and writes it in the second form.
 ghost use Rattle.std.specs.Prelude.{◌≡◌, ◌⊎◌, [], None, IfOk, MatchResult};
 ghost use Rattle.file_reader.specs.declared.reader.FileEnd.TheVariants.{Whole};
 ghost use Rattle.file_commands.specs.Keeping.{TriesFile};
@@ -30,12 +30,12 @@ use std::alloc::Global;
 // The most bytes of a journal.
 const LIMIT: usize = 1 << 30;
 
-// The line behind the last that a journal may have, and how many it may have.
+// The line after the last that a journal may have, and how many it may have.
 const BEHIND: u64 = 4_194_305;
 
 const MOST: u32 = 4_194_304;
 
-// How a command ends that has moved the lines of a journal so far.
+// How a command ends that has converted the lines of a journal so far.
 fn migrate_ending(reach: Reach) -> Ending
     ensures { result ≡ migrate_ending reach }
 {
@@ -45,7 +45,7 @@ fn migrate_ending(reach: Reach) -> Ending
     }
 }
 
-// Moves a journal to its end: its lines are written in the second form, then the page of their entries and the status line.
+// Converts a journal to its end: writes its lines in the second form, then the page of their entries and the status line.
 fn move_whole<S: Source, K: Sink>(journal: &mut S, mover: &mut JournalMover, out: &mut K) -> Status
     requires { IsEven mover.old }
     ensures number { S.opening journal.new ≡ S.opening journal.old }
@@ -58,7 +58,7 @@ fn move_whole<S: Source, K: Sink>(journal: &mut S, mover: &mut JournalMover, out
     }
 }
 
-// Opens a journal, moves it over and gives it back.
+// Opens a journal, converts it and gives it back.
 fn open_and_move<O: Outside, K: Sink>(
     name: &str,
     mover: JournalMover,
@@ -79,7 +79,7 @@ fn open_and_move<O: Outside, K: Sink>(
     status
 }
 
-// The mover for a station file whose reading ended so, or what keeps it from being used.
+// The mover for a station file whose reading ended in this way, or what keeps the station from being used.
 fn prepare(alloc: Global, end: FileEnd, text: &[u8]) -> Result<JournalMover, Obstacle>
     ensures even { IfOk result IsEven }
     ensures judged { MatchResult result (λ mover. (end ≡ Whole) × ((of : StationFields) × Says text.now of × IsMovedBy mover of [] [] None))
@@ -91,7 +91,7 @@ fn prepare(alloc: Global, end: FileEnd, text: &[u8]) -> Result<JournalMover, Obs
     }
 }
 
-/// Moves a journal of a station over to the second form. All memory is taken before the first line is written.
+/// Converts a journal of a station to the second form. All memory is taken before the first line is written.
 pub fn run_migrate<O: Outside, K: Sink>(
     alloc: Global,
     station: &str,

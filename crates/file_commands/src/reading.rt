@@ -16,7 +16,7 @@ pub use taking::{Taker, read_lines};
 /// A line that is written, in its room.
 pub type Line = [u8; LINE_ROOM];
 
-// How far the reading of a file of lines came: until its reading ended, or to a bad line.
+// How far the reading of a file of lines came: to the end of the reading, or to a bad line.
 #[derive(Clone, Copy, Debug)]
 pub enum Reach {
     AtEnd(FileEnd),
@@ -35,7 +35,7 @@ pub fn ending_at(subject: Subject, reach: Reach) -> Ending
     }
 }
 
-// What a front of bytes gives: no text, a text of so many bytes at the front of the line, or a bad line of this number.
+// What the first bytes give: no text, a text of this many bytes at the beginning of the line, or a bad line of this number.
 #[derive(Clone, Copy, Debug)]
 pub enum Gives {
     Nothing,
@@ -50,7 +50,7 @@ pub struct Took {
     pub gives: Gives,
 }
 
-// What became of the bytes of a piece.
+// The result for the bytes of a piece.
 pub enum Taken {
     All,
     Bad(u64),

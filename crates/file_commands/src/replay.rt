@@ -1,4 +1,4 @@
-//! `replay`: a script is played against a station, line by line.
+//! `replay`: plays a script against a station, line by line.
 ghost use Rattle.std.specs.Prelude.{◌≡◌, ◌≤◌, ◌^◌, ◌⊎◌, [], None, IfOk, MatchResult};
 ghost use Rattle.file_reader.specs.declared.reader.FileEnd.TheVariants.{Whole};
 ghost use Rattle.file_commands.specs.Keeping.{TriesFile};
@@ -42,7 +42,7 @@ fn replay_ending(reach: Reach, lost: bool, limit: u32) -> Ending
     }
 }
 
-// Plays a script to its end: what its lines give is written, then the page of the entries kept and the status line.
+// Plays a script to its end: writes what its lines give, then the page of the entries kept and the status line.
 fn play_whole<S: Source, K: Sink>(
     script: &mut S,
     replayer: &mut Replayer<BoxedReceiver>,
@@ -102,7 +102,7 @@ fn open_and_play<O: Outside, K: Sink>(
     status
 }
 
-// The player of a station file whose reading ended so, or what keeps it from being played.
+// The player of a station file whose reading ended in this way, or what keeps the station from being used.
 fn prepare(
     alloc: Global,
     end: FileEnd,
@@ -126,7 +126,7 @@ fn prepare(
     }
 }
 
-/// Runs a script against a station, with at most so many entries. All memory is taken before the first line is written.
+/// Runs a script against a station, with at most this many entries. All memory is taken before the first line is written.
 pub fn run_replay<O: Outside, K: Sink>(
     alloc: Global,
     station: &str,

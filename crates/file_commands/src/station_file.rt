@@ -1,4 +1,4 @@
-//! The station file: it is opened, read whole and given back, and its station is judged.
+//! The station file: opens it, reads it whole, gives it back, and checks its station.
 ghost use Rattle.std.specs.Prelude.{◌≡◌, ◌≤◌, [], MatchResult, vec_capacity};
 ghost use Rattle.file_reader.specs.declared.reader.FileEnd.TheVariants.{Whole};
 ghost use Rattle.file_commands.specs.Keeping.{TriesStation};
@@ -18,7 +18,8 @@ use std::alloc::Global;
 /// The most bytes of a station file.
 pub const STATION_LIMIT: usize = 1 << 16;
 
-/// Opens a station file, reads it whole into a text for which there is room, and gives it back: how the reading ended.
+/// Opens a station file, reads it whole into a text for which there is room, and gives it back. The answer is how the reading
+/// ended.
 ///
 /// # Errors
 /// The opening failed.
@@ -40,7 +41,7 @@ pub fn open_station<O: Outside>(
     Ok(end)
 }
 
-/// The station of a file whose reading ended so.
+/// The station of a file whose reading ended in this way.
 ///
 /// # Errors
 /// What keeps it from being used.

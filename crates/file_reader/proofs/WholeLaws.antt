@@ -1,4 +1,4 @@
--- A file that is within the limit, tells its bytes and doesn't fail is read whole.
+-- A file that is within the limit, reports its bytes and does not fail is read whole.
 use Rattle.std.proofs.Common.{◌≡◌, ◌≤◌, ℕ, Option, Some, List, [], ◌++◌, length, refl, ap, sym, ◌∙◌, subst, arith}
 use Rattle.std.proofs.lemmas.List.{append-nil, length-append}
 use Rattle.feed_link.specs.Faults.{Rose}
@@ -8,7 +8,7 @@ use Rattle.file_reader.specs.Ends.{EndsReading}
 use Rattle.file_reader.specs.declared.reader.FileEnd.{FileEnd}
 use Rattle.file_reader.specs.declared.reader.FileEnd.TheVariants.{Whole, Fault, TooLong}
 
--- what was taken is the front of what was told
+-- what was taken is the beginning of what was reported
 pub taken_front : (before now : Option (List ℕ)) (bytes text left : List ℕ) → Takes before now bytes → before ≡ Some text → now ≡ Some left → text ≡ bytes ++ left
 taken_front before now bytes text left taken were are =
     subst (λ b. Takes b (Some left) bytes) were (subst (λ n. Takes before n bytes) are taken)

@@ -1,4 +1,4 @@
--- What was read of a file of which at most so many bytes are taken, and how its reading ended.
+-- What was read of a file of which at most `limit` bytes are taken, and how its reading ended.
 use Rattle.std.specs.Prelude.{◌≡◌, ◌≤◌, ℕ, List, [], ◌++◌, length}
 use Rattle.feed_link.specs.Faults.{RoseByOne}
 use Rattle.feed_link.specs.Told.{SourceState, Takes, NoneLeft}
@@ -11,14 +11,13 @@ pub record HasReadFront (limit : ℕ) (file file_now : SourceState) (bytes : Lis
   pub most : length bytes ≤ limit
   pub no_fault : file_now.faults ≡ file.faults
 
--- why a reading ended: nothing is left; a read failed, which took nothing; or all bytes up to the limit were read, and one
--- byte behind it
+-- why a reading ended: nothing is left; a read failed, which took nothing; or all bytes up to the limit and one more were read
 abbrev pub Cause : FileEnd → ℕ → SourceState → SourceState → List ℕ → List ℕ → Type 0
 Cause Whole limit file file_now bytes extra = (extra ≡ []) × NoneLeft file_now.left × (file_now.faults ≡ file.faults)
 Cause Fault limit file file_now bytes extra = (extra ≡ []) × RoseByOne file.faults file_now.faults
 Cause TooLong limit file file_now bytes extra = (length bytes ≡ limit) × (length extra ≡ 1) × (file_now.faults ≡ file.faults)
 
--- these bytes were read, and then the reading ended so; the byte that was asked for past the limit is none of them
+-- these bytes were read, and then the reading ended for this cause; the byte past the limit is none of them
 pub record EndsReading (end : FileEnd) (limit : ℕ) (file file_now : SourceState) (bytes : List ℕ) : Type 0 where
   pub extra : List ℕ
   pub taken : Takes file.left file_now.left (bytes ++ extra)

@@ -22,7 +22,7 @@ pub record HasPulled (reader : FileReader) (file file_now : SourceState) (bytes 
   pub front : HasReadFront (limit_of reader) file file_now bytes
   pub counted : length bytes + room_of reader ≡ limit_of reader
 
--- what one more read of a file gives of which these bytes were read since its start: a piece behind them, or the end
+-- what one more read gives of a file of which these bytes were read since its start: the piece after them, or the end
 abbrev pub Gives : Pulled → FileReader → SourceState → SourceState → List ℕ → Type 0
 Gives Piece reader file file_now bytes = HasPulled reader file file_now (bytes ++ piece_of reader)
 Gives (Ended end) reader file file_now bytes = EndsReading end (limit_of reader) file file_now bytes

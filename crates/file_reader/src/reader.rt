@@ -1,4 +1,4 @@
-// A reader of a file, which is asked for one piece after another.
+// A reader of a file, which gives one piece after another.
 ghost use Rattle.std.specs.Prelude.{◌≡◌, ◌+◌, ◌<◌, ◌≤◌, ℕ, List, [], length, IfOk};
 ghost use Rattle.feed_link.specs.Faults.{HasCause};
 ghost use Rattle.feed_link.specs.Told.{SourceState, Reads};
@@ -28,7 +28,7 @@ pub enum Pulled {
     Ended(FileEnd),
 }
 
-/// Reads a file of at most so many bytes.
+/// Reads a file of at most `limit` bytes.
 #[derive(Drop)]
 pub struct FileReader {
     piece: [u8; PIECE],
@@ -39,7 +39,7 @@ pub struct FileReader {
     ghost within: { taken ≤ limit },
 }
 
-// Reads at most so many bytes into the front of the piece.
+// Reads at most `most` bytes into the beginning of the piece.
 fn read_piece<S: Source>(file: &mut S, piece: &mut [u8], most: usize) -> Result<usize, Failed>
     requires some { 0 < most }
     requires fits { most ≤ length piece.old }
@@ -55,7 +55,7 @@ impl FileReader {
     ghost use Rattle.file_reader.specs.Reader.{limit_of, room_of, piece_of, HasPulled, Gives};
     ghost use Rattle.file_reader.specs.declared.reader.Pulled.TheVariants.{Piece};
 
-    /// A reader of a file from its start, of which it takes at most so many bytes.
+    /// A reader of a file from its start, which takes at most `limit` bytes.
     pub fn new(limit: usize) -> FileReader
         ensures limit { limit_of result ≡ limit }
         ensures room { room_of result ≡ limit }
@@ -77,8 +77,8 @@ impl FileReader {
         &self.piece[..self.count]
     }
 
-    /// Reads the next piece. At the limit one byte more is asked for, to tell a file that ends there from one that is too
-    /// long; that byte is none of the file's bytes that were taken.
+    /// Reads the next piece. At the limit it asks for one byte more, to distinguish a file that ends there from one that is too
+    /// long. That byte does not count as taken.
     pub fn pull<S: Source>(&mut self, file: &mut S) -> Pulled
         ensures number { S.opening file.new ≡ S.opening file.old }
         ensures limit { limit_of self.new ≡ limit_of self.old }

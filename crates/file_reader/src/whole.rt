@@ -5,7 +5,7 @@ ghost use Rattle.file_reader.specs.Ends.{EndsReading};
 use crate::reader::{FileEnd, FileReader, Pulled};
 use feed_link::Source;
 
-/// Reads a file of at most so many bytes into a text for which there is room.
+/// Reads a file of at most `limit` bytes into a text that has room for them.
 pub fn read_whole<S: Source>(file: &mut S, limit: usize, text: &mut Vec<u8>) -> FileEnd
     requires empty { text.old.items ≡ [] }
     requires room { limit ≤ vec_capacity text.old }

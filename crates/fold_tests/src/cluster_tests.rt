@@ -1,4 +1,4 @@
-//! Which survivors are left, and their mean, on small numbers that can be reckoned by hand.
+//! Which survivors are left, and their mean, on small numbers that can be computed by hand.
 ghost use Rattle.std.specs.Prelude.{◌≡◌, ◌<◌, ◌≤◌, ◌^◌, All, length, pos, neg_ℤ, ◌≤ℤ◌};
 ghost use Rattle.cluster_core.specs.Bounds.{AreNear, IsWeighable};
 
@@ -7,7 +7,7 @@ use std::process::Abort;
 use std::test::Fail;
 use tick_units::Span;
 
-// A survivor, but for its feed. Its distance is one unit more than is said here.
+// A survivor without its feed. Its distance is one unit more than the given one.
 #[derive(Clone, Copy)]
 struct Part {
     stratum: u8,
@@ -131,7 +131,7 @@ fn survivors_stand_by_stratum_distance_and_feed(rt: HostRuntime) -> Result<(), F
     )
 }
 
-// Two at 0 and two at 10 are all as far from the others.
+// Two at 0 and two at 10: all are equally far from the others.
 #[test]
 fn the_later_of_equally_far_ones_is_discarded(rt: HostRuntime) -> Result<(), Fail> {
     let low = of_a_radio(0, 0);
@@ -163,7 +163,7 @@ fn one_after_another_is_discarded(rt: HostRuntime) -> Result<(), Fail> {
     check(&rt, &six, &[0, 2, 4], 1)
 }
 
-// Weights are 2^62 by the distance, and the mean is rounded down.
+// Weights are 2^62 divided by the distance, and the mean is rounded down.
 #[test]
 fn the_nearer_weighs_more(rt: HostRuntime) -> Result<(), Fail> {
     check(&rt, &[at(0, 0), at(1, 3)], &[0, 1], 1)?;

@@ -1,4 +1,4 @@
-//! Samples of a source and what they say, on numbers that can be reckoned by hand.
+//! Samples of a source and what they say, on numbers that can be computed by hand.
 use crate::shared::{moment, same, span};
 use clock_filter::{Figures, Filter, distance, is_fit, root_delay, root_dispersion};
 use std::test::Fail;
@@ -107,7 +107,7 @@ fn minutes_of_a_radio(rt: HostRuntime) -> Result<(), Fail> {
     Ok(())
 }
 
-// A sample from the cut itself is held, one from a microsecond before it isn't; stages without a sample count as 16 s.
+// A sample from the cut itself is held, but not one from a microsecond before it; stages without a sample count as 16 s.
 const CUTS: [(u64, u64); 4] = [
     (182_000_000, 8_327_189_969),
     (182_000_001, 16_915_621_322),
@@ -115,7 +115,7 @@ const CUTS: [(u64, u64); 4] = [
     (302_000_000, 34_093_450_396),
 ];
 
-// Whichever cut a filter looks from, before its samples came or behind them, it tells of each cut what it says.
+// Whichever cut a filter looks from, before its samples came or after them, it gives for each cut what it says.
 #[test]
 fn a_filter_may_look_from_any_cut(rt: HostRuntime) -> Result<(), Fail> {
     for (from, dispersion) in CUTS {
@@ -169,8 +169,8 @@ fn one_sample_has_no_jitter(rt: HostRuntime) -> Result<(), Fail> {
     Ok(())
 }
 
-// The best sample is the one of least delay, and of two such the later one. The others are 30, 20 and 10 units apart from
-// it: 1400 / 3.
+// The best sample is the one of least delay, and of two such the later one. The others are 30, 20 and 10 units apart from it:
+// 1400 / 3.
 #[test]
 fn the_later_of_equal_delays_comes_first(rt: HostRuntime) -> Result<(), Fail> {
     let mut filter = Filter::new();
@@ -216,7 +216,7 @@ fn the_last_eight_count(rt: HostRuntime) -> Result<(), Fail> {
     Ok(())
 }
 
-// The eight are taken first: a ninth that isn't from before the cut doesn't come back.
+// The eight are taken first: a ninth that is not from before the cut does not come back.
 #[test]
 fn the_cut_comes_after_the_eight(rt: HostRuntime) -> Result<(), Fail> {
     let mut filter = Filter::new();
@@ -271,7 +271,7 @@ fn the_lowest_dispersions_are_counted(rt: HostRuntime) -> Result<(), Fail> {
     Ok(())
 }
 
-// The best sample is as old as can be.
+// The best sample is as old as possible.
 #[test]
 fn the_longest_time_is_counted(rt: HostRuntime) -> Result<(), Fail> {
     let none = Span::from(0);
@@ -288,7 +288,7 @@ fn the_longest_time_is_counted(rt: HostRuntime) -> Result<(), Fail> {
     Ok(())
 }
 
-// At 1 s a source is fit, and a unit farther it isn't; nor is one of stratum 15. Half of the least delay is 10737419 units.
+// At 1 s a source is fit, and a unit farther it is not; nor is one of stratum 15. Half of the least delay is 10737419 units.
 #[test]
 fn a_source_is_fit_to_a_second(rt: HostRuntime) -> Result<(), Fail> {
     let at = moment(7_000_000)?;
@@ -318,7 +318,7 @@ fn a_source_is_fit_to_a_second(rt: HostRuntime) -> Result<(), Fail> {
     Ok(())
 }
 
-// What the rate is where the offset is the first number of units, and the second number so many microseconds later.
+// The rate where the offset is the first number of units, and then the second number this many microseconds later.
 fn rate_after(apart: u64, before: u64, after: u64) -> Result<i32, Fail> {
     let none = Span::from(0);
     let mut filter = Filter::new();
@@ -331,7 +331,7 @@ fn rate_after(apart: u64, before: u64, after: u64) -> Result<i32, Fail> {
     Ok(figures_at(&filter, 0)?.rate)
 }
 
-// Units a second, rounded down; 30 s at least are looked at.
+// Units a second, rounded down; the samples have to span at least 30 s.
 #[test]
 fn a_rate_is_rounded_down(rt: HostRuntime) -> Result<(), Fail> {
     same(&rt, rate_after(29_999_999, 1_000, 901_000)?, 0);
@@ -384,8 +384,8 @@ fn a_rate_is_held_to_its_bound(rt: HostRuntime) -> Result<(), Fail> {
     Ok(())
 }
 
-// Of equal moments the first counts at the beginning and the last at the end, whatever their delays and in whatever order the
-// moments come: 6000 units in 30 s.
+// Of equal moments the first counts at the beginning and the last at the end, whatever their delays and order: 6000 units in 30
+// s.
 #[test]
 fn a_rate_is_from_the_first_moment_to_the_last(rt: HostRuntime) -> Result<(), Fail> {
     let mut filter = Filter::new();
@@ -399,7 +399,7 @@ fn a_rate_is_from_the_first_moment_to_the_last(rt: HostRuntime) -> Result<(), Fa
     Ok(())
 }
 
-// The first of nine samples, and those from before the cut, tell no rate.
+// The first of nine samples, and those from before the cut, give no rate.
 #[test]
 fn a_rate_is_of_the_held_samples(rt: HostRuntime) -> Result<(), Fail> {
     let mut filter = Filter::new();

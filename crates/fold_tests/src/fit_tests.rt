@@ -6,8 +6,8 @@ use std::test::Fail;
 use system_fold::SourceKind;
 use tick_units::Kind;
 
-// After how many entries the page tells the time. At each number `page_after` finds that the interval of the sweep leads to the
-// same page as a selection made anew.
+// After how many entries the page gives the time. At each number `page_after` finds that the interval of the sweep leads to the
+// same page as a new selection.
 fn told_after(
     rt: &HostRuntime,
     kinds: &[SourceKind],
@@ -24,7 +24,7 @@ fn told_after(
     Ok(told)
 }
 
-// A minute that a radio told so many seconds off.
+// A minute of a radio that is this many seconds off.
 fn minute(feed: u32, number: u32, off: u32) -> Result<Entry, Fail> {
     let at = 122_000_000 + 60_000_000 * u64::from(number);
     let second = 3_976_257_660 + 60 * u64::from(number) + u64::from(off);
@@ -35,7 +35,7 @@ fn minute(feed: u32, number: u32, off: u32) -> Result<Entry, Fail> {
     })
 }
 
-// The leap second ends at 3692217600, and what was told before no longer counts.
+// The leap second ends at 3692217600, and samples from before no longer count.
 #[test]
 fn a_source_is_unfit_after_a_leap_and_fit_again(rt: HostRuntime) -> Result<(), Fail> {
     let journal = journal_of(

@@ -1,4 +1,4 @@
-//! Journals and settings of tests.
+//! Journals and settings for tests.
 ghost use Rattle.std.specs.Prelude.{◌≡◌, ◌≤◌, ◌<◌, ◌^◌, true, length};
 ghost use Rattle.journal_entry.specs.Lawful.{IsLawfulKind, IsLawfulVerdict, IsLawfulWhat, IsTold};
 ghost use Rattle.tick_units.specs.Samples as samples;
@@ -102,7 +102,7 @@ fn is_journal(settings: &Settings, journal: &[Entry]) -> bool
     true
 }
 
-// Whether the bound is one of so many milliseconds.
+// Whether the bound is this many milliseconds.
 fn is_bound(settings: &Settings, milliseconds: u64) -> bool
     ensures { result ≡ true → AreLawful settings.now }
 {
@@ -121,7 +121,7 @@ fn are_lawful(settings: &Settings) -> bool
     )
 }
 
-/// The page of a journal, where it is one of lawful entries: by steps and from scratch, which come to the same.
+/// The page of a journal, where it is one of valid entries: by steps and from scratch, which give the same.
 pub fn page_after(settings: &Settings, journal: &[Entry]) -> Result<Page, Fail> {
     if !are_lawful(settings) {
         return Err("no lawful settings")?;
@@ -177,7 +177,7 @@ pub fn text_after(rt: &HostRuntime, settings: &Settings, texts: &[&str]) -> Resu
     line_of(rt, &page)
 }
 
-/// A journal, and the line of its page, which was worked out from the rules by another program.
+/// A journal, and the line of its page, which another program computed from the rules.
 pub struct Odd<'a> {
     pub why: &'a str,
     pub kinds: &'a [SourceKind],

@@ -1,8 +1,8 @@
-//! Pages of odd journals that speak of leap seconds.
+//! Pages of odd journals with leap seconds.
 use crate::journals::{DCF, LEAP, MSF, Odd, SERVER, is_the_page};
 use std::test::Fail;
 
-// The leap second of these ends at 3692217600, 2017-01-01 00:00, which is the moment 362000000 where a radio announces it.
+// Their leap second ends at 3692217600, 2017-01-01 00:00, which is the moment 362000000 where a radio announces it.
 const LEAPS: [Odd<'static>; 18] = [
     Odd {
         why: "a leap second passes while its radio is silent",

@@ -1,5 +1,5 @@
-//! Tests of the fold and of what it stands on: the clock filter, selection, clustering, pages, and the orders of a journal. They stand in
-//! a crate of their own, so that none of these is proved once more with them.
+//! Tests of the fold and of the crates below it: the clock filter, selection, clustering, pages, and the orders of a journal.
+//! They have a crate of their own, so that none of these crates is proved once more with them.
 #![tactic(auto)]
 
 #[cfg(test)]

@@ -22,7 +22,7 @@ const MINUTES: [&str; 5] = [
     "0 302000000 verdict 3976257840 0",
 ];
 
-// The first four samples make the page tell the time.
+// The first four samples make the page give the time.
 #[test]
 fn a_radio_is_believed_after_four_minutes(rt: HostRuntime) -> Result<(), Fail> {
     let settings = of_one_radio()?;
@@ -63,7 +63,7 @@ const OVER_A_LEAP: [&str; 9] = [
     "0 543000000 verdict 3692217780 0",
 ];
 
-// A page ends with the leap second that is announced; four minutes later there is another.
+// A page ends with the announced leap second; four minutes later there is another.
 #[test]
 fn a_page_ends_with_a_leap_second(rt: HostRuntime) -> Result<(), Fail> {
     let settings = of_one_radio()?;
@@ -91,8 +91,8 @@ fn a_page_ends_with_a_leap_second(rt: HostRuntime) -> Result<(), Fail> {
     Ok(())
 }
 
-// The exchange of a number with the server of a number. The greater its number, the farther a server is from the truth, and
-// the nearer it is to the host.
+// The exchange of a number with the server of a number. The greater its number, the farther a server is from the truth, and the
+// nearer it is to the host.
 fn exchange(number: u64, server: u32) -> Result<Entry, Fail>
     requires number { number < 4 }
     requires server { server < 16 }
@@ -183,8 +183,8 @@ fn a_page_is_trusted_up_to_the_bound(rt: HostRuntime) -> Result<(), Fail> {
     Ok(())
 }
 
-// The page after eight answers at one moment of a server that is as far from the truth as it tells, with a bound of 125 ms, which
-// are 8192 units of 2^-16 s.
+// The page after eight answers at one moment from a server that is as far from the truth as it reports. The bound of 125 ms is
+// 8192 units of 2^-16 s.
 fn page_told_by(rt: &HostRuntime, root_disp: u32) -> Result<String, Fail> {
     let mut journal = Vec::new(rt.alloc());
     for _ in 0..8 {
@@ -205,7 +205,8 @@ fn page_told_by(rt: &HostRuntime, root_disp: u32) -> Result<String, Fail> {
     line_of(rt, &page_after(&settings_of(125, &[SERVER])?, &journal)?)
 }
 
-// At the bound itself a page is trusted for one microsecond, with a unit less for a second and 17253 more, with one more not at all.
+// At the bound itself a page is trusted for one microsecond. With a unit less it is trusted for a second and 17253 microseconds
+// more, with one more not at all.
 #[test]
 fn a_page_ends_at_the_least_moment(rt: HostRuntime) -> Result<(), Fail> {
     same(

@@ -1,4 +1,4 @@
-//! Intervals of a few sources, on small numbers that can be reckoned by hand.
+//! Intervals of a few sources, on small numbers that can be computed by hand.
 use crate::shared::{between, same, source};
 use select_core::select;
 use std::test::Fail;
@@ -82,7 +82,7 @@ fn two_of_five_stand_outside(rt: HostRuntime) -> Result<(), Fail> {
     Ok(())
 }
 
-// All three meet in one point alone; each two share more.
+// All three meet only in one point; each two share more.
 #[test]
 fn one_point_is_no_interval(rt: HostRuntime) -> Result<(), Fail> {
     let sources = [source(0, 5, 5)?, source(1, 15, 5)?, source(2, 10, 5)?];
@@ -90,7 +90,7 @@ fn one_point_is_no_interval(rt: HostRuntime) -> Result<(), Fail> {
     Ok(())
 }
 
-// The interval of the second begins where that of the first ends, and all that the second and the third share lies beyond: the
+// The interval of the second begins where that of the first ends, and all that the second and the third share lies beyond. The
 // end where the first two touch counts.
 #[test]
 fn where_two_touch_an_interval_may_begin_or_end(rt: HostRuntime) -> Result<(), Fail> {

@@ -1,4 +1,4 @@
-//! Pages of odd journals of radios and servers, none of which speaks of a leap second.
+//! Pages of odd journals of radios and servers, none of them with leap seconds.
 use crate::journals::{DCF, MSF, Odd, SERVER, WWVB, is_the_page};
 use std::test::Fail;
 

@@ -106,7 +106,7 @@ fn a_candidate_that_is_removed_counts_no_longer(rt: HostRuntime) -> Result<(), F
     Ok(())
 }
 
-// Of feed 0 the second alone stands.
+// Of feed 0 only the second candidate is there.
 #[test]
 fn a_feed_has_one_candidate(rt: HostRuntime) -> Result<(), Fail> {
     let mut sweep = Sweep::new();
@@ -147,7 +147,7 @@ fn the_sweep_gives_what_select_gives(rt: HostRuntime) -> Result<(), Fail> {
     Ok(())
 }
 
-// All contain what lies from -85 to 100.
+// All contain the points from -85 to 100.
 #[test]
 fn sixteen_that_rise(rt: HostRuntime) -> Result<(), Fail> {
     let sources = [

@@ -103,7 +103,7 @@ module _ (places : PlaceBits) (marks : List Mark) (mark : Mark) (h : HasBits pla
     long_behind = behind_now;
   }
 
--- a place behind the 61 whose bits are kept
+-- a place after the 61 whose bits are kept
 pub bits_full : (places : PlaceBits) (marks : List Mark) (mark : Mark) (behind : Bool) → HasBits places marks → 61 ≤ places.count → behind ≡ (places.long_behind || is_long mark.symbol) →
     HasBits (record { count = places.count; bits_a = places.bits_a; bits_b = places.bits_b; longs = places.longs; long_behind = behind }) (marks ++ mark ∷ [])
 bits_full places marks mark behind h le e =

@@ -5,7 +5,7 @@ use Rattle.frame_rules.specs.Digits.{bit_symbol}
 use Rattle.tick_units.specs.declared.marks.Symbol.{Symbol}
 use Rattle.tick_units.specs.declared.marks.Symbol.TheVariants.{Zero, One}
 
--- a bit that tells One from Zero
+-- a bit that distinguishes One from Zero
 pub record Tells (bit : Symbol → Bool) : Type 0 where
   pub of_one : bit One ≡ true
   pub of_zero : bit Zero ≡ false
@@ -29,7 +29,7 @@ three_worth bit tells n h = omega (arith, bit_worth bit tells (n / 4), bit_worth
 pub digit_worth : (bit : Symbol → Bool) → Tells bit → (n : ℕ) → n < 16 → 8 * worth bit (n / 8 % 2) + (4 * worth bit (n / 4 % 2) + (2 * worth bit (n / 2 % 2) + (1 * worth bit (n / 1 % 2) + 0))) ≡ n
 digit_worth bit tells n h = omega (arith, bit_worth bit tells (n / 8), bit_worth bit tells (n / 4), bit_worth bit tells (n / 2), bit_worth bit tells (n / 1))
 
--- the digit of the tens, of so many bits
+-- the digit of the tens, of this many bits
 pub tens_worth_1 : (bit : Symbol → Bool) → Tells bit → (n : ℕ) → n < 2 → 10 * worth bit (n / 1 % 2) + 0 ≡ 10 * n
 tens_worth_1 bit tells n h = omega (arith, bit_worth bit tells (n / 1))
 

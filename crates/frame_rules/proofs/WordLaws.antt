@@ -77,7 +77,7 @@ word_with test marks mark word place b lt e len bit =
     below : word < 2 ^ place
     below = rw (e, ← len) (word_below test marks)
 
--- the bit of DCF77 and WWVB is bit A where bit B isn't 1
+-- the bit of DCF77 and WWVB is bit A where bit B is not 1
 with_a : (symbol : Symbol) → has_a symbol ≡ true → not (has_b symbol) ≡ is_one symbol
 with_a Zero e = cc
 with_a One e = refl

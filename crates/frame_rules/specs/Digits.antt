@@ -7,11 +7,11 @@ abbrev pub bit_symbol : Bool → Symbol
 bit_symbol false = Zero
 bit_symbol true = One
 
--- so many low bits of a number
+-- this many low bits of a number
 abbrev pub high_bits_of : ℕ → ℕ → List Symbol
 high_bits_of zero number = []
 high_bits_of (suc count) number = bit_symbol (number / 2 ^ count % 2 == 1) ∷ high_bits_of count number
 
--- a number of two digits: so many bits of its tens, and four of its ones
+-- a number of two digits: this many bits of its tens, and four of its ones
 abbrev pub high_digits_of : ℕ → ℕ → List Symbol
 high_digits_of tens number = high_bits_of tens (number / 10) ++ high_bits_of 4 (number % 10)

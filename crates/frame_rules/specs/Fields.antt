@@ -37,7 +37,7 @@ has_b Odd = false
 abbrev pub symbols_of : List Mark → List Symbol
 symbols_of marks = map (λ mark. mark.symbol) marks
 
--- whether the bit of a place is 1; a place that the segment doesn't have counts as Zero
+-- whether the bit of a place is 1; a place that the segment does not have counts as Zero
 abbrev pub is_set : (Symbol → Bool) → List Mark → ℕ → Bool
 is_set bit marks place = bit (slice_index_or (symbols_of marks) place Zero)
 

@@ -1,5 +1,5 @@
 -- Read Fields (bits, weights, counts of a segment's places), Rules and MarkRules (what breaks a rule) and First (which rule is
--- named); Numbers, Digits and Bits are small words of theirs. Frames and Words are scaffolding.
+-- named). Numbers, Digits and Bits are small terms that they use. Frames and Words are scaffolding.
 pub mod Fields
 pub mod Rules
 pub mod MarkRules

@@ -5,11 +5,11 @@ use Rattle.frame_rules.specs.Rules.{starts_of, are_spaced, are_spaced_to, has_od
 use Rattle.tick_units.specs.declared.marks.Mark.{Mark}
 use Rattle.tick_units.specs.declared.marks.Symbol.{Symbol}
 
--- two neighbouring marks don't start 900000 to 1100000 microseconds apart
+-- two neighbouring marks do not start 900000 to 1100000 microseconds apart
 abbrev pub breaks_spacing : List Mark → Bool
 breaks_spacing marks = not (are_spaced (starts_of marks))
 
--- or the last mark and the mark that closes the segment don't
+-- or the last mark and the mark that closes the segment do not
 abbrev pub breaks_spacing_to : List Mark → ℕ → Bool
 breaks_spacing_to marks close = not (are_spaced_to marks close)
 
@@ -21,7 +21,7 @@ breaks_width marks = has_odd_symbol marks
 abbrev pub breaks_length : List Mark → Bool
 breaks_length marks = not (length marks == 60)
 
--- marks that may stand for a spelling: their spacing is lawful, so is each width, and they are as many as its symbols
+-- marks that may stand for a spelling: their spacing and each width are valid, and they are as many as its symbols
 pub record MayStandFor (is_spaced : Bool) (marks : List Mark) (symbols : List Symbol) : Type 0 where
   pub spacing : IsTrue is_spaced
   pub width : IsFalse (breaks_width marks)

@@ -31,6 +31,6 @@ is_odd Long = false
 abbrev pub has_odd_symbol : List Mark → Bool
 has_odd_symbol marks = list_any (λ mark. is_odd mark.symbol) marks
 
--- a number of two digits is none: its ones digit is above 9, or it isn't in its range
+-- a number of two digits is invalid: its ones digit is above 9, or it is not in its range
 abbrev pub is_out_of : ℕ → ℕ → ℕ → ℕ → Bool
 is_out_of least most ones number = nat_lt 9 ones || not (is_between least most number)

@@ -1,6 +1,6 @@
--- Scaffolding, which contracts use: the marks of a segment as a few numbers. No rule of a code plan speaks of a place behind
--- the 61st of a segment that is as long as a minute, so the bits of 61 places are kept, and of the marks behind them what a
--- rule on all marks asks.
+-- Scaffolding, which contracts use: the marks of a segment as a few numbers. No rule of a code plan concerns a place after the
+-- 61st of a segment that is as long as a minute. So the bits of 61 places are kept, and of later marks only what a rule on all
+-- marks needs.
 use Rattle.std.specs.Prelude.{◌≡◌, ℕ, ◌+◌, ◌*◌, Bool, true, min, Option, Some, None, List, [], ◌∷◌, length, take, drop, if◌then◌else◌}
 use Rattle.std.specs.List.{last_or, list_any}
 use Rattle.frame_rules.specs.Fields.{has_a, has_b}
@@ -16,7 +16,7 @@ abbrev pub is_near : Option Mark → ℕ → Bool
 is_near None start = true
 is_near (Some last) start = is_between (last.at + 900000) (last.at + 1100000) start
 
--- one bit of each mark, as a number: the bit of the first mark is worth 1, and that of each next one twice as much
+-- one bit of each mark, as a number: the bit of the first mark counts 1, and that of each next one twice as much
 abbrev pub word_of : (Symbol → Bool) → List Mark → ℕ
 word_of bit [] = 0
 word_of bit (mark ∷ marks) = (if bit mark.symbol then 1 else 0) + 2 * word_of bit marks
@@ -25,8 +25,8 @@ word_of bit (mark ∷ marks) = (if bit mark.symbol then 1 else 0) + 2 * word_of 
 abbrev pub has_long : List Mark → Bool
 has_long marks = list_any (λ mark. is_long mark.symbol) marks
 
--- these are the bits of the places of marks: how many there are, up to 61; bits A, bits B and which are Long, of the first 61;
--- and whether one behind them is Long
+-- these are the bits of the places of marks. They say how many there are, up to 61, and of the first 61 the bits A, the bits B
+-- and which are Long. Also whether a later one is Long.
 pub record HasBits (places : PlaceBits) (marks : List Mark) : Type 0 where
   pub count : places.count ≡ min (length marks) 61
   pub bits_a : places.bits_a ≡ word_of has_a (take 61 marks)
@@ -34,8 +34,7 @@ pub record HasBits (places : PlaceBits) (marks : List Mark) : Type 0 where
   pub longs : places.longs ≡ word_of is_long (take 61 marks)
   pub long_behind : places.long_behind ≡ has_long (drop 61 marks)
 
--- these are the numbers of the marks that were added: the bits of their places, whether spacing or a width is broken, and the
--- last of them
+-- these numbers stand for the added marks: the bits of their places, whether spacing or a width is broken, and the last of them
 pub record HasAdded (words : MarkWords) (marks : List Mark) : Type 0 where
   pub bits : HasBits words.places marks
   pub spacing : words.spacing_broken ≡ breaks_spacing marks

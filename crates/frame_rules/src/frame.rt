@@ -23,13 +23,13 @@ pub trait CodePlan {
     /// The number of the least rule that they break.
     ghost first: { List Mark → ℕ → Option ℕ };
 
-    /// What marks say that break no rule.
+    /// What marks say, where they break no rule.
     ghost coded: { List Mark → Coded };
 
-    /// What holds of all that is said.
+    /// What holds of every minute that is said.
     ghost holds: { Coded → Type 0 };
 
-    /// What a segment says, however its marks are kept; or the least number of a rule that it breaks.
+    /// What a segment says, however its marks are kept, or the least number of a rule that it breaks.
     fn judge<P: Places>(segment: &P, close: Local) -> Result<Coded, Broken>
         ensures ok { (marks : List Mark) → P.stands_for segment.now marks → IfOk result (λ c. (first marks close ≡ None) × (c ≡ coded marks)) }
         ensures err { (marks : List Mark) → P.stands_for segment.now marks → IfErr result (λ broken. first marks close ≡ Some broken.rule) }
@@ -37,7 +37,7 @@ pub trait CodePlan {
         ensures holds { IfOk result holds };
 }
 
-/// A segment that is read mark by mark. It keeps a few numbers, however many marks it hears.
+/// A segment that is read mark by mark. It keeps a few numbers, however many marks it reads.
 #[derive(Clone, Copy, Debug)]
 pub struct Frame<C> {
     words: MarkWords,

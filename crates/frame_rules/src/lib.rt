@@ -1,5 +1,5 @@
-//! What the frames of the three code plans share: a segment whose marks lie in a slice or are kept as numbers, the bits of
-//! its places, the values that they spell, and the rules on marks that every plan has.
+//! What the frames of the three code plans share: a segment, the bits of its places, their values, and the common rules on marks.
+//! The marks of a segment lie in a slice or are kept as numbers.
 #![tactic(auto)]
 
 mod bits;

@@ -10,11 +10,11 @@ use crate::places::Places;
 use crate::rules::is_a_second_on;
 use tick_units::{Local, Mark};
 
-/// The marks of a segment, added one by one and kept as numbers alone.
+/// The marks of a segment, added one by one and kept only as numbers.
 #[derive(Clone, Copy, Debug)]
 pub struct MarkWords {
     places: PlaceBits,
-    // Of all marks: whether two neighbours don't start about a second apart, whether a width is in no class, and the last.
+    // Of all marks: whether two neighbours do not start about a second apart, whether a width is in no class, and the last.
     spacing_broken: bool,
     width_broken: bool,
     last: Option<Mark>,

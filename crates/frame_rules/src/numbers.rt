@@ -3,8 +3,8 @@ ghost use Rattle.std.specs.Prelude.{◌≡◌, ◌^◌, ◌<◌};
 ghost use Rattle.frame_rules.specs.Rules.{is_out_of};
 ghost use Rattle.frame_rules.specs.Numbers.{both_digits};
 
-/// A number of two digits as the places of a frame say it: the sum of the weights of its tens, as 10, 20, 40 and 80, and
-/// that of its ones, 1, 2, 4 and 8.
+/// A number of two digits as the places of a frame say it, as two sums of weights. Those of its tens are 10, 20, 40 and 80, those
+/// of its ones 1, 2, 4 and 8.
 #[derive(Clone, Copy, Debug, PartialEq, Eq)]
 pub struct Number {
     pub tens: u16,
@@ -20,7 +20,7 @@ impl Number {
         u32::from(self.tens) + u32::from(self.ones)
     }
 
-    /// Whether its ones digit is above 9, or it isn't from `least` to `most`.
+    /// Whether its ones digit is above 9, or it is not from `least` to `most`.
     pub fn is_out_of(self, least: u32, most: u32) -> bool
         ensures { result ≡ is_out_of least most self.ones (both_digits self) }
     {
@@ -28,8 +28,7 @@ impl Number {
     }
 }
 
-/// Whether a number whose ones digit is this one is none: that digit is above 9, or the number isn't from `least` to
-/// `most`.
+/// Whether a number with this ones digit is invalid: that digit is above 9, or the number is not from `least` to `most`.
 pub fn is_out_of(least: u32, most: u32, ones: u16, number: u32) -> bool
     ensures { result ≡ is_out_of least most ones number }
 {

@@ -25,7 +25,7 @@ pub struct PlaceBits {
     long_behind: bool,
 }
 
-// A word with the bit of the place behind its marks.
+// A word with the bit of the place after its marks.
 #[inline]
 fn with_bit(word: u64, bit: bool, place: usize) -> u64
     requires { place < 61 }

@@ -1,4 +1,4 @@
-//! What the rules of the code plans ask of a segment.
+//! What the rules of the code plans need of a segment.
 ghost use Rattle.std.specs.Prelude.{◌≡◌, ◌<◌, min, List, length, drop};
 ghost use Rattle.frame_rules.specs.Fields.{is_set};
 ghost use Rattle.tick_units.specs.Marks.{is_long};
@@ -10,14 +10,14 @@ ghost use Rattle.frame_rules.specs.Words.{has_long};
 use crate::bits::Bit;
 use tick_units::Local;
 
-/// How many places of a segment can be asked one by one. A minute has 59 or 60 marks: a segment with more is too long, whatever
-/// they are.
+/// How many places of a segment are kept one by one. A minute has 59 or 60 marks; a segment with more is too long, whatever they
+/// are.
 pub const KEPT_PLACES: usize = 61;
 
-/// A segment of marks, as far as rules ask of it. Places count from 0, and those up to 60 can be asked one by one; a place
-/// that the segment doesn't have counts as `Zero`.
+/// A segment of marks, as far as the rules need it. Places count from 0, and those up to 60 are kept one by one. A place that the
+/// segment does not have counts as `Zero`.
 pub trait Places {
-    /// It stands for a list of marks: what it answers is what the definitions say of that list.
+    /// It stands for a list of marks: it answers as the definitions do for that list.
     ghost stands_for: { Self → List Mark → Type 0 };
 
     /// How many marks there are, where 61 stands for any number from 61 on.
@@ -38,11 +38,11 @@ pub trait Places {
     fn has_long_behind(&self) -> bool
         ensures { (marks : List Mark) → stands_for self.now marks → result ≡ has_long (drop 61 marks) };
 
-    /// Whether two neighbouring marks don't start 900000 to 1100000 microseconds apart.
+    /// Whether two neighbouring marks do not start 900000 to 1100000 microseconds apart.
     fn breaks_spacing(&self) -> bool
         ensures { (marks : List Mark) → stands_for self.now marks → result ≡ breaks_spacing marks };
 
-    /// Whether two neighbouring marks, or the last mark and the mark that closes them, don't start 900000 to 1100000
+    /// Whether two neighbouring marks, or the last mark and the mark that closes them, do not start 900000 to 1100000
     /// microseconds apart.
     fn breaks_spacing_to(&self, close: Local) -> bool
         ensures { (marks : List Mark) → stands_for self.now marks → result ≡ breaks_spacing_to marks close };

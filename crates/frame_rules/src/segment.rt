@@ -52,7 +52,7 @@ impl<'a> Places for Segment<'a> {
     }
 }
 
-// Whether a mark behind the first 61 is Long.
+// Whether a mark after the first 61 is Long.
 fn has_long_behind(marks: &[Mark]) -> bool
     ensures { result ≡ has_long (drop 61 marks.now) }
 {
@@ -69,7 +69,7 @@ fn has_odd(marks: &[Mark]) -> bool
     marks.iter().any(|mark| is_odd(mark.symbol))
 }
 
-// Whether two neighbouring marks don't start 900000 to 1100000 microseconds apart.
+// Whether two neighbouring marks do not start 900000 to 1100000 microseconds apart.
 fn breaks_spacing(marks: &[Mark]) -> bool
     ensures { result ≡ breaks_spacing marks.now }
 {
@@ -85,8 +85,8 @@ fn breaks_spacing(marks: &[Mark]) -> bool
     false
 }
 
-// Whether two neighbouring marks, or the last mark and the mark that closes them, don't start 900000 to 1100000
-// microseconds apart.
+// Whether two neighbouring marks, or the last mark and the mark that closes them, do not start 900000 to 1100000 microseconds
+// apart.
 fn breaks_spacing_to(marks: &[Mark], close: Local) -> bool
     ensures { result ≡ breaks_spacing_to marks.now close }
 {

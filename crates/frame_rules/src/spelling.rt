@@ -58,7 +58,7 @@ impl Spelling {
         }
     }
 
-    /// Puts so many low bits of a number at the end, the highest of them first.
+    /// Puts `count` low bits of a number at the end, the highest of them first.
     pub fn push_high_bits(&mut self, count: usize, number: u32)
         requires room { length self.old + count ≤ 61 }
         requires few { count ≤ 32 }
@@ -72,7 +72,7 @@ impl Spelling {
         }
     }
 
-    /// Puts so many bits of the tens of a number at the end, and the four bits of its ones, each the highest first.
+    /// Puts `count` bits of the tens of a number at the end, and the four bits of its ones, each the highest first.
     pub fn push_high_digits(&mut self, tens: usize, number: u32)
         requires room { length self.old + tens + 4 ≤ 61 }
         requires few { tens ≤ 32 }
@@ -90,7 +90,7 @@ impl Spelling {
         &self.symbols[..self.count]
     }
 
-    /// Writes the symbols to the front of `out`, whose rest stays, and gives their number.
+    /// Writes the symbols to the beginning of `out`, and returns their number. The rest of `out` stays.
     pub fn write_to(&self, out: &mut [Symbol; 61]) -> usize
         ensures count { result ≡ length self.now }
         ensures written { out.new ≡ self.now ++ drop (length self.now) out.old }

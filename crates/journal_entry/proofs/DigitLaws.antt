@@ -54,7 +54,7 @@ pub no_space_in_span : (z : ℤ) → unsigned_abs z < 2 ^ 70 → has_space (sign
 no_space_in_span (pos n) small = no_space n (omega arith)
 no_space_in_span (negsuc n) small = no_space (suc n) (omega arith)
 
--- a text whose first byte is a sign is that of a negative span, with the digits behind it
+-- a text whose first byte is a sign is that of a negative span, with the digits after it
 pub signed_behind : (text : List ℕ) (z size result : ℤ) → unsigned_abs z < 2 ^ 70 → text ≡ signed_decimal z → get_or text 0 0 ≡ 45 →
     ((n : ℕ) → n < 2 ^ 70 → take (length text - 1) (drop 1 text) ≡ decimal n → size ≡ pos n) → result ≡ neg_ℤ size → result ≡ z
 signed_behind text (pos n) size result small e sign says is =

@@ -1,4 +1,4 @@
--- The two forms of a line are told apart by their first byte.
+-- The two forms of a line are distinguished by their first byte.
 use Rattle.std.proofs.Common.{◌≡◌, ℕ, ◌<◌, true, eqb, List, [], ◌∷◌, ◌++◌, length, get_or, decimal, refl, ap, subst, sym, ◌∙◌, arith}
 use Rattle.std.specs.Char.{digit_value}
 use Rattle.std.specs.List.{starts_with}

@@ -26,7 +26,7 @@ pub span_length : (z : ℤ) → unsigned_abs z < 2 ^ 70 → length (signed_decim
 span_length (pos n) small = omega (arith, length-decimal-le_wide 22 n (omega arith) (omega arith) (omega arith))
 span_length (negsuc n) small = omega (arith, length-decimal-le_wide 22 (suc n) (omega arith) (omega arith) (omega arith))
 
--- a field, and those behind it
+-- a field, and those after it
 pub spaced_more : (field : List ℕ) (fields : List (List ℕ)) → length (spaced (field ∷ fields)) ≡ 1 + length field + length (spaced fields)
 spaced_more field fields = omega (arith, length-append field (spaced fields))
 
@@ -36,7 +36,7 @@ number_length n small = length-decimal-le 20 n (omega arith) (omega arith) (omeg
 address_length : (n : ℕ) → length (address_text n) ≡ 8
 address_length n = length-encode_with lower_digits (to_be_bytes w32 n)
 
--- numbers of 64 bits behind each other
+-- numbers of 64 bits one after the other
 one_length : (n : ℕ) → n < 2 ^ 64 → length (spaced (decimal n ∷ [])) ≤ 21
 one_length n a = let long = number_length n a in let all = spaced_more (decimal n) [] in omega arith
 

@@ -9,11 +9,11 @@ use Rattle.journal_entry.specs.Texts.{spaced, text_of}
 use Rattle.journal_entry.specs.declared.entry.Entry.{Entry}
 use Rattle.journal_entry.specs.declared.numbered.Numbered.{Numbered}
 
--- the fields of its entry stand one behind the other
+-- the fields of its entry stand one after the other
 pub spaced_entry : (e : Entry) → spaced (text_of e ∷ []) ≡ spaced (entry_fields e)
 spaced_entry e = ap (λ (t : List ℕ). 32 ∷ t) (append-nil (text_of e))
 
--- all fields of a numbered entry, behind the word
+-- all fields of a numbered entry, after the word
 abbrev pub number_fields : Numbered → List (List ℕ)
 number_fields n = decimal n.length ∷ signed_decimal n.rate ∷ entry_fields n.entry
 

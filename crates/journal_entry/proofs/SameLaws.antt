@@ -44,7 +44,7 @@ fields_same (c ∷ x) (d ∷ y) fields others px py e =
     let more = fields_same x y fields others (or_parts (eqb c 32) (has_space x) px).1 (or_parts (eqb d 32) (has_space y) py).1 (ap (drop 1) e) in
     record { first = (λ i. head i ∷ more.first i); rest = more.rest }
 
--- a number, and what stands behind it
+-- a number, and what stands after it
 pub record IsSame (n m : ℕ) (fields others : List (List ℕ)) : Type 0 where
   pub number : n ≡ m
   pub rest : spaced fields ≡ spaced others
@@ -72,7 +72,7 @@ signed_same (pos m) (negsuc n) a b e = absurd (no_sign m (suc n) a e)
 signed_same (negsuc m) (pos n) a b e = absurd (no_sign n (suc m) b (sym e))
 signed_same (negsuc m) (negsuc n) a b e = let same = digits_same (suc m) (suc n) a b (ap (drop 1) e) in ap negsuc (omega arith)
 
--- a span, and what stands behind it
+-- a span, and what stands after it
 record IsSameSpan (y z : ℤ) (fields others : List (List ℕ)) : Type 0 where
   span : y ≡ z
   rest : spaced fields ≡ spaced others

@@ -1,4 +1,4 @@
--- An entry is told apart by its word, and a word by its fourth letter.
+-- An entry is known by its word, and a word by its fourth letter.
 use Rattle.std.proofs.Common.{◌≡◌, ℕ, ◌^◌, ◌<◌, Bool, true, false, List, [], ◌∷◌, get_or, drop, codes, refl, ap, sym, ◌∙◌, arith}
 use Rattle.std.specs.Cmp.Lexicographic.{pointwise}
 use Rattle.std.specs.Prelude.{nat_eq}

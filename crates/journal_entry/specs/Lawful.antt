@@ -9,12 +9,12 @@ use Rattle.journal_entry.specs.declared.entry.Entry.{Entry}
 use Rattle.journal_entry.specs.declared.entry.What.{What}
 use Rattle.journal_entry.specs.declared.entry.What.TheVariants.{Heard, Sample, Declined, Notice}
 
--- a second of the years that seconds are told in, 1999-12-31 00:00 UTC up to 2100-01-03 00:00 UTC
+-- a second of the supported years, 1999-12-31 00:00 UTC up to 2100-01-03 00:00 UTC
 pub record IsTold (second : ℕ) : Type 0 where
   pub least : first_told ≤ second
   pub below : second < end_of_told
 
--- a minute that was told: its second, and the end of an announced leap second, 0 where none is announced
+-- a minute that a radio reported: its second, and the end of an announced leap second, 0 where none is announced
 pub record IsLawfulVerdict (second leap_at : ℕ) : Type 0 where
   pub told : IsTold second
   pub leap : leap_at ≢ 0 → IsTold leap_at
@@ -31,7 +31,7 @@ IsLawfulWhat (Sample s) = IsLawfulSample s
 IsLawfulWhat (Declined code) = ⊤
 IsLawfulWhat (Notice leap_at) = leap_at < end_of_told
 
--- of a station with so many sources
+-- of a station with this many sources
 pub record IsLawful (sources : ℕ) (e : Entry) : Type 0 where
   pub feed : e.feed < sources
   pub what : IsLawfulWhat e.what

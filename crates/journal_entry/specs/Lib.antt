@@ -1,6 +1,6 @@
--- Read Entries (what an entry is), then Texts (its one text), then Numbers (the text with its number in front) and Lines (the
--- two forms of a line), then Lawful (the entries that receivers and pollers make), then Writing (how a text grows in its room).
--- Reading is scaffolding.
+-- Read Entries (what an entry is), then Texts (its one text), Numbers (the text after its number) and Lines (the two forms of a
+-- line). Then read Lawful (the entries that receivers and pollers make) and Writing (how a text grows in its room). Reading is
+-- scaffolding.
 pub mod Entries
 pub mod Lawful
 pub mod Lines

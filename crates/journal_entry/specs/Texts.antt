@@ -46,11 +46,11 @@ what_fields (Sample s) = codes "sample" ∷ sample_fields s
 what_fields (Declined code) = codes "declined" ∷ decimal code ∷ []
 what_fields (Notice leap_at) = codes "notice" ∷ decimal leap_at ∷ []
 
--- fields, each behind a space
+-- fields, each after a space
 abbrev pub spaced : List (List ℕ) → List ℕ
 spaced fields = flat_map (λ field. 32 ∷ field) fields
 
--- its feed, its moment, and what was told
+-- its feed, its moment, and what was reported
 abbrev pub text_of : Entry → List ℕ
 text_of e = decimal e.feed ++ spaced (decimal e.at ∷ what_fields e.what)
 

@@ -9,7 +9,7 @@ use Rattle.journal_entry.specs.declared.writer.TheConstants.{LINE_ROOM}
 abbrev pub written : TextWriter → ℕ
 written w = w.length
 
--- all bytes of the room, those behind the text too
+-- all bytes of the room, those after the text too
 abbrev pub room_of : TextWriter → List ℕ
 room_of w = w.out.now
 
@@ -17,7 +17,7 @@ room_of w = w.out.now
 abbrev pub text_in : TextWriter → List ℕ
 text_in w = take (written w) (room_of w)
 
--- so many bytes more have room
+-- there is room for this many bytes more
 abbrev pub HasRoom : TextWriter → ℕ → Type 0
 HasRoom w more = written w + more ≤ LINE_ROOM
 
@@ -25,13 +25,13 @@ HasRoom w more = written w + more ≤ LINE_ROOM
 abbrev pub room_name : TextWriter → GName
 room_name w = w.out.ghost_name
 
--- in the same room a piece stands behind the text, and nothing behind it has changed
+-- in the same room a piece stands after the text, and nothing after it has changed
 pub record Adds (old new : TextWriter) (piece : List ℕ) : Type 0 where
   pub room : room_name new ≡ room_name old
   pub length : written new ≡ written old + length piece
   pub text : text_in new ≡ text_in old ++ piece
   pub rest : drop (written new) (room_of new) ≡ drop (written new) (room_of old)
 
--- fields, each behind a space
+-- fields, each after a space
 pub record AddsFields (old new : TextWriter) (fields : List (List ℕ)) : Type 0 where
   pub adds : Adds old new (spaced fields)

@@ -12,8 +12,8 @@ use tick_units::{Local, Span};
 // No number of an entry is as great as this.
 const TOO_GREAT: u128 = 1 << 70;
 
-// The fields of a text that aren't read yet. They are read loosely: a number may begin with a zero, and what is no number,
-// or too great, reads as 0. Whoever reads them writes what they say again, and compares.
+// The fields of a text that are not read yet. They are read loosely: a number may begin with a zero, and what is no number, or
+// too great, reads as 0. The reader writes what they say again, and compares.
 #[derive(Drop)]
 pub struct Fields<'a> {
     rest: &'a [u8],
@@ -153,7 +153,7 @@ fn unsigned_span_of(digits: &[u8]) -> Span
     Span::new(value_of(digits) as i128).unwrap_or(Span::from(0))
 }
 
-// The span that decimal digits say behind a sign, if there is one.
+// The span that decimal digits say after a sign, if there is one.
 fn span_of(text: &[u8]) -> Span
     ensures { (z : ℤ) → unsigned_abs z < 2 ^ 70 → text.now ≡ signed_decimal z → result ≡ z }
 {

@@ -1,4 +1,4 @@
-//! Whether an entry is such as receivers and pollers make.
+//! Whether receivers and pollers can make an entry.
 ghost use Rattle.std.specs.Prelude.{IsTrue, ◌↔◌};
 ghost use Rattle.tick_units.specs.Samples.{IsLength};
 ghost use Rattle.tick_units.specs.Samples.{IsLawful as IsLawfulSample};
@@ -48,7 +48,7 @@ fn is_lawful_what(what: &What) -> bool
     }
 }
 
-/// Whether an entry may stand in the journal of a station with so many sources.
+/// Whether an entry may stand in the journal of a station with this many sources.
 pub fn is_lawful(entry: &Entry, sources: u32) -> bool
     ensures { IsTrue result ↔ IsLawful sources entry.now }
 {

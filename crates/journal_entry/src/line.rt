@@ -6,7 +6,7 @@ ghost use Rattle.journal_entry.specs.declared.line.JournalLine as line;
 use crate::words::VERSION_2;
 use crate::{Entry, Numbered, read_entry, read_numbered};
 
-/// A line of a journal: an entry by itself, as the first form has it, or with its number and rate, as the second has it.
+/// A line of a journal: an entry by itself, as in the first form, or with its number and rate, as in the second.
 #[derive(Clone, Copy, Debug, PartialEq, Eq)]
 pub enum JournalLine {
     Bare(Entry),
@@ -33,7 +33,7 @@ impl JournalLine {
         }
     }
 
-    /// The entry that it tells.
+    /// Its entry.
     pub fn entry(&self) -> &Entry
         ensures { result.now ≡ entry_of self.now }
     {
@@ -44,7 +44,7 @@ impl JournalLine {
     }
 }
 
-/// The line whose text this is, in either form, and `None` where it is no line's.
+/// The line whose text this is, in either form. `None` where no line has this text.
 pub fn read_line(text: &[u8]) -> Option<JournalLine>
     ensures line { IfSome result (λ l. IsLineText text.now l) }
     ensures every { (l : line.JournalLine) → IsLineText text.now l → result ≡ Some l }

@@ -13,7 +13,7 @@ use crate::fields::Fields;
 use crate::{Entry, LINE_ROOM, MOST_RATE, Numbered, What, words, write_numbered, write_unnumbered};
 use tick_units::{Kind, Sample, Short};
 
-/// The entry whose text this is, and `None` where it is no entry's.
+/// The entry whose text this is. `None` where no entry has this text.
 pub fn read_entry(text: &[u8]) -> Option<Entry>
     ensures entry { IfSome result (λ e. IsTextOf text.now e) }
     ensures every { (e : entry.Entry) → IsTextOf text.now e → result ≡ Some e }
@@ -28,8 +28,8 @@ pub fn read_entry(text: &[u8]) -> Option<Entry>
     }
 }
 
-/// The numbered entry whose text this is, and `None` where it is none's: where the number is 0, or the rate greater than a
-/// page's, too.
+/// The numbered entry whose text this is. `None` where no numbered entry has this text, as where the number is 0 or the rate is
+/// greater than a page's.
 pub fn read_numbered(text: &[u8]) -> Option<Numbered>
     ensures numbered { IfSome result (λ n. IsNumberedTextOf text.now n) }
     ensures every { (n : numbered.Numbered) → IsNumberedTextOf text.now n → result ≡ Some n }
@@ -87,7 +87,7 @@ fn read_fields(fields: &mut Fields<'_>) -> Option<Entry>
     Some(Entry { feed, at, what })
 }
 
-// What was told, by its word and the fields behind it.
+// What the feed reported, by its word and the fields after it.
 fn read_what(fields: &mut Fields<'_>) -> Option<What>
     ensures { (w : what.What) → IsWhat w → HasFields fields.old (what_fields w) → result ≡ Some w }
 {

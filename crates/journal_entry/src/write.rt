@@ -10,8 +10,8 @@ use crate::{Entry, Numbered, What, words};
 use itoa::Buffer;
 use tick_units::{Kind, Sample};
 
-/// Writes the text of an entry at the beginning of `out`, without a line feed, and leaves the rest as it was. The answer is the
-/// number of bytes written, at most 141.
+/// Writes the text of an entry at the beginning of `out`, without a line feed, and leaves the rest as it was. Returns the number
+/// of bytes written, at most 141.
 #[tactic(auto, using(std::proofs::lemmas::Slice::overwrites))]
 pub fn write_entry(e: &Entry, out: &mut [u8; ENTRY_ROOM]) -> usize
     ensures text { take result out.new ≡ text_of e.now }
@@ -26,8 +26,8 @@ pub fn write_entry(e: &Entry, out: &mut [u8; ENTRY_ROOM]) -> usize
     length
 }
 
-/// Writes the text of an entry as `write_entry` does, in the room of a line.
-// It isn't inlined: an entry is rare among pulses, and its text's room and registers would cost each of them.
+// It is not inlined: an entry is rare among pulses, and the room and registers of its text would slow down each of them.
+/// Writes the text of an entry as `write_entry` does, in the room of a line. Returns the number of bytes written, at most 141.
 #[inline(never)]
 pub fn write_unnumbered(e: &Entry, out: &mut [u8; LINE_ROOM]) -> usize
     ensures text { take result out.new ≡ text_of e.now }
@@ -43,8 +43,8 @@ pub fn write_unnumbered(e: &Entry, out: &mut [u8; LINE_ROOM]) -> usize
     text.len()
 }
 
-/// Writes the text of a numbered entry at the front of `out`, without a line feed, and leaves the rest as it was. The answer is
-/// the number of bytes written, at most 177.
+/// Writes the text of a numbered entry at the beginning of `out`, without a line feed, and leaves the rest as it was. Returns the
+/// number of bytes written, at most 177.
 pub fn write_numbered(n: &Numbered, out: &mut [u8; LINE_ROOM]) -> usize
     ensures text { take result out.new ≡ numbered_text n.now }
     ensures rest { drop result out.new ≡ drop result out.old }
@@ -63,7 +63,7 @@ pub fn write_numbered(n: &Numbered, out: &mut [u8; LINE_ROOM]) -> usize
     text.len()
 }
 
-// Writes what an entry tells.
+// Writes what an entry says.
 fn write_what(what: &What, text: &mut TextWriter<'_>)
     requires { HasRoom text.old 114 }
     ensures text { AddsFields text.old text.new (what_fields what.now) }

@@ -12,7 +12,7 @@ pub const LINE_ROOM: usize = 300;
 /// The room for the text of one entry, or of one page, in bytes.
 pub const ENTRY_ROOM: usize = 256;
 
-/// Writes the fields of a text at the front of its room.
+/// Writes the fields of a text at the beginning of its room.
 #[derive(Drop)]
 pub struct TextWriter<'a> {
     out: &'a mut [u8; LINE_ROOM],

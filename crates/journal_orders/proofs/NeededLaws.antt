@@ -1,4 +1,4 @@
--- Where a leap second is named, the order of the feeds counts: a Notice is reckoned from the last Verdict of any feed.
+-- Where a leap second is named, the order of the feeds counts: a Notice is computed from the last Verdict of any feed.
 use Rattle.std.proofs.Common.{◌≡◌, ◌≢◌, ℕ, ◌==◌, Bool, true, false, List, [], ◌∷◌, if◌then◌else◌, refl, ap, arith}
 use Rattle.std.specs.Prelude.{Option, None, Some}
 use Rattle.std.proofs.lemmas.Bool.Decides.{nat_tests}
@@ -22,7 +22,7 @@ keeps-swap d e journal apart feed = by_tests (d.feed == feed) (e.feed == feed) r
     by_tests false true here there = refl
     by_tests false false here there = refl
 
--- the minute before a leap second, as two radios told it one microsecond apart, and the Notice of a leap second file
+-- the minute before a leap second, as two radios gave it one microsecond apart, and the Notice of a leap second file
 abbrev early : Entry
 early = record { feed = 1; at = 100000000; what = Heard (Verdict 3692217540 0) }
 

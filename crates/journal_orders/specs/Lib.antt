@@ -1,2 +1,2 @@
--- Read Orders (journals that differ in order alone, and journals that name no leap second).
+-- Read Orders (journals that differ only in order, and journals that name no leap second).
 pub mod Orders

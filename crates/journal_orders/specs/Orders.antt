@@ -1,5 +1,5 @@
--- Journals that differ only in how the entries of several feeds are mingled, and journals that name no leap second. All of it is this
--- project's own.
+-- Journals that differ only in how the entries of several feeds are mingled, and journals that name no leap second. All of it is
+-- this project's own.
 use Rattle.std.specs.Prelude.{◌≡◌, ℕ, List, All}
 use Rattle.tick_units.specs.declared.verdicts.Kind.{Kind}
 use Rattle.tick_units.specs.declared.verdicts.Kind.TheVariants.{Verdict, Lone, Differs, Refused}
@@ -8,7 +8,7 @@ use Rattle.journal_entry.specs.declared.entry.What.{What}
 use Rattle.journal_entry.specs.declared.entry.What.TheVariants.{Heard, Sample, Declined, Notice}
 use Rattle.page_cell.specs.Claims.{of_feed}
 
--- the leap second that a minute names: a Verdict names the one that is announced with it, and 0 where none is
+-- the leap second that a minute names: a Verdict names the one that is announced with it, and 0 where there is none
 abbrev pub leap_in : Kind → ℕ
 leap_in (Verdict second leap_at) = leap_at
 leap_in (Lone second) = 0

@@ -32,8 +32,8 @@ fn leap_of_what(what: &What) -> u64
     }
 }
 
-/// Whether no entry of a journal names a leap second. Then its page is that of every other order of its entries in which those of each
-/// feed stand in the same order.
+/// Whether no entry of a journal names a leap second. Then its page is the same in every other order of its entries that keeps
+/// the entries of each feed in order.
 pub fn names_no_leap(journal: &[Entry]) -> bool
     ensures names { IsTrue result ↔ NamesNoLeap journal.now }
     ensures page { IsTrue result

@@ -94,7 +94,7 @@ count_after gate ip at n Pass few grows = elim (cases_Bool (gate.gap == 0)) [
   | inr on ↦ let more = grows refl on in rw on (omega (arith, length-take {A = ℕ × ℕ}))
 ]
 
--- only a client that isn't denied passes
+-- only a client that is not denied passes
 not_denied : (denied : Bool) (gap at : ℕ) (last : Option ℕ) → code_by denied gap at last ≡ Pass → denied ≡ false
 not_denied true gap at last h = cc
 not_denied false gap at last h = refl
@@ -115,7 +115,7 @@ some_sender r older = elim (cases_Bool (list_any (nat_eq r.ip) (senders older)))
     by [] h = cc
     by (id ∷ ids) h = omega arith
 
--- a client that isn't denied and has been judged has a moment
+-- a client that is not denied and has been judged has a moment
 stays_some : (gap at : ℕ) (last : Option ℕ) → (gap == 0) ≡ false → is_some (moment_by (code_by false gap at last) gap at last) ≡ true
 stays_some gap at None on = elim (cases_Bool (nat_lt 0 gap)) [
   | inl positive ↦ rw (positive, on) refl

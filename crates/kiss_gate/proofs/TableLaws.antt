@@ -43,7 +43,7 @@ promoted-by : (ip : ℕ) (es : Table) (o : Option (ℕ × ℕ)) → lookup_entry
 promoted-by ip es None h = refl
 promoted-by ip es (Some e) h = ap (λ (k : ℕ). (k, e.1) ∷ remove_entry (nat_eq ip) es) (sym (entry_key ip es e h))
 
--- `promote` brings the client's pair to the front
+-- `promote` brings the client's pair to the beginning
 pub promoted-in_front : (ip : ℕ) (es : Table) → promoted (nat_eq ip) es ≡ in_front ip (lookup (nat_eq ip) es) es
 promoted-in_front ip es = promoted-by ip es (lookup_entry (nat_eq ip) es) refl ∙ ap (λ o. in_front ip o es) (sym (lookup-entry ip es))
 
@@ -68,7 +68,7 @@ one_left ip (e ∷ es) h = elim (cases_Bool (nat_eq ip e.0)) [
   | inr other ↦ let rest = one_left ip es (rw other at h) in rw other (omega arith)
 ]
 
--- a moment that is written through `get_mut` stands at the front
+-- a moment that is written through `get_mut` stands at the beginning
 pub set-in_front : (ip last at : ℕ) (es : Table) → Some last ≡ lookup (nat_eq ip) es → set_value (nat_eq ip) (promoted (nat_eq ip) es) at ≡ (ip, at) ∷ remove_entry (nat_eq ip) es
 set-in_front ip last at es found =
     ap (λ l. set_value (nat_eq ip) l at) (promoted-in_front ip es ∙ ap (λ o. in_front ip o es) (sym found)) ∙ rw (nat_eq_equiv.refl ip) refl

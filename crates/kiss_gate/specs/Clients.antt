@@ -20,7 +20,7 @@ code_by false gap at last = if nat_lt 0 gap && is_soon gap at last then Rate els
 abbrev pub code_of : Gate → ℕ → ℕ → Code
 code_of gate ip at = code_by (is_denied ip gate.denied) gate.gap at (lookup (nat_eq ip) gate.table)
 
--- the client's pair at the front, its moment as it was
+-- the client's pair in the first place, its moment as it was
 abbrev pub in_front : ℕ → Option ℕ → List (ℕ × ℕ) → List (ℕ × ℕ)
 in_front ip None table = table
 in_front ip (Some last) table = (ip, last) ∷ remove_entry (nat_eq ip) table
@@ -36,7 +36,8 @@ abbrev pub after : Gate → ℕ → ℕ → (kept : Bool) → Gate
 after gate ip at true = with_table gate (table_after (code_of gate ip at) gate ip at)
 after gate ip at false = gate
 
--- a client that passes isn't kept only where the gate keeps a table and the client is new to it: it takes memory for such a client
+-- a client that passes stays unkept only where the gate keeps a table and the client is new to it. The gate takes memory for such
+-- a client.
 abbrev pub MayBeKept : Gate → ℕ → ℕ → (kept : Bool) → Type 0
 MayBeKept gate ip at kept = kept ≡ false → (code_of gate ip at ≡ Pass) × (0 < gate.gap) × (lookup (nat_eq ip) gate.table ≡ None)
 

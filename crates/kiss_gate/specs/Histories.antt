@@ -1,5 +1,5 @@
--- All that a gate has judged since it was opened, the last request first; and what a sender would get if it alone had asked. It is
--- the project's own law.
+-- All that a gate has judged since it was opened, the last request first; and what a sender would get if it alone had asked. The
+-- rule is this project's own.
 use Rattle.std.specs.Prelude.{ℕ, true, nat_eq, List, [], ◌∷◌, filter, if◌then◌else◌}
 use Rattle.std.specs.List.{list_any}
 use Rattle.reply_core.specs.declared.code.Code.{Code}
@@ -24,6 +24,6 @@ senders (request ∷ older) = if list_any (nat_eq request.ip) (senders older) th
 abbrev pub only : ℕ → List Request → List Request
 only ip requests = filter (λ request. nat_eq ip request.ip) requests
 
--- the code that a sender would get behind these requests if it alone had asked
+-- the code that a sender would get after these requests if it alone had asked
 abbrev pub code_alone : Gate → List Request → ℕ → ℕ → Code
 code_alone gate requests ip at = code_of (gate_after gate (only ip requests)) ip at

@@ -11,16 +11,17 @@ use std::marker::Model;
 use std::num::NonZeroUsize;
 use tick_units::Local;
 
-/// Why a gate can't be opened.
+/// Why a gate cannot be opened.
 #[derive(Clone, Copy, Debug, PartialEq, Eq)]
 pub enum GateOpen {
-    /// No memory was found.
+    /// There is no memory.
     Memory,
 }
 
 /// Judges the requests of clients: by the nets that are denied, and by when it last let each client pass.
 ///
-/// It keeps a pair of address and moment of each of the last clients that it let pass, so many at most. Where the gap is 0 it keeps none.
+/// It keeps a pair of address and moment for each of the last clients that it let pass, up to the size of its table. Where the
+/// gap is 0 it keeps none.
 #[derive(Drop)]
 pub struct ClientGate {
     denied: DenyList,
@@ -45,12 +46,12 @@ impl ClientGate {
     ghost use Rattle.kiss_gate.specs.Histories.{code_alone, gate_after, senders, Request};
     ghost use Rattle.kiss_gate.specs.Nets.{nets_of};
 
-    /// The gate that has judged nothing. It denies these nets, lets a client pass once in `gap` microseconds, and remembers so many
-    /// clients; a gap of 0 lets all pass that aren't denied.
+    /// The gate that has judged nothing. It denies these nets, lets a client pass once in `gap` microseconds, and remembers this
+    /// many clients. A gap of 0 lets all pass that are not denied.
     ///
     /// # Errors
     ///
-    /// `Memory` where no memory is found.
+    /// `Memory` where there is no memory.
     pub fn open(
         alloc: Global,
         deny: &DenyList,
@@ -75,11 +76,12 @@ impl ClientGate {
         }
     }
 
-    /// Judges a request from an address at a moment of the host's counter: `Deny` where the address is in a denied net, `Rate` where the
-    /// client was let pass less than the gap ago, else `Pass`. A client that gets `Rate` may ask again when the gap is over since it was
-    /// last let pass.
+    /// Judges a request from an address at a moment of the host's counter. It is `Deny` where the address is in a denied net,
+    /// `Rate` where the client was let pass less than the gap ago, else `Pass`. A client that gets `Rate` may ask again when the
+    /// gap since it last passed is over.
     ///
-    /// It takes memory for a client that it doesn't know. Where there is none, the client passes and isn't kept, and nothing else changes.
+    /// It takes memory for a client that it does not know. Where there is none, the client passes and is not kept, and nothing
+    /// else changes.
     pub fn judge(&mut self, ip: u32, at: Local) -> Judged
         ensures judged { IsJudged self.old ip at result }
         ensures table { self.new ≡ after self.old ip at result.kept }
@@ -88,7 +90,7 @@ impl ClientGate {
         ensures history { (requests : List Request) → result.kept ≡ true → self.old ≡ gate_after self.old requests
             → self.new ≡ gate_after self.new (record { ip = ip; at = at } ∷ requests) }
 
-        // While there are no more senders than there is room for, each is judged as if it alone had asked.
+        // While there is room for all senders, each is judged as if it alone had asked.
         ensures alone { (requests : List Request) → self.old ≡ gate_after self.old requests
             → length (senders (record { ip = ip; at = at } ∷ requests)) ≤ self.old.clients
             → result.code ≡ code_alone self.old requests ip at }

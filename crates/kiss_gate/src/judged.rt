@@ -1,4 +1,4 @@
-//! What the gate says of a request.
+//! The gate's answer to a request.
 
 use reply_core::Code;
 

@@ -1,5 +1,5 @@
-//! Who is answered, and who gets a kiss code: nets that are denied, and a least gap between the requests of a client (RFC 5905,
-//! section 7.4).
+//! Who gets an answer, and who gets a kiss code (RFC 5905, section 7.4). There are denied nets, and a least gap between the
+//! requests of a client.
 #![tactic(auto)]
 
 mod gate;

@@ -1,10 +1,10 @@
-//! Which addresses a list of nets denies, alone: the gate shows it only behind a request.
+//! Which addresses a list of nets denies, tested alone: the gate shows it only through requests.
 ghost use Rattle.std.specs.Prelude.{◌≡◌, ◌≤◌, ◌<◌, [], length};
 ghost use Rattle.kiss_gate.specs.Nets.{nets_of};
 
 use crate::DenyList;
 
-// Python's ipaddress said which addresses are in which net; of some nets bits behind the prefix are set.
+// Python's ipaddress gave which addresses are in which net; some nets have bits set after the prefix.
 #[test]
 fn nets_have_their_addresses(rt: HostRuntime) {
     for (net, bits, addresses) in [

@@ -26,7 +26,7 @@ impl Net {
     }
 }
 
-/// Nets whose clients aren't served, at most 16.
+/// Nets whose clients are not served, at most 16.
 #[derive(Clone, Copy, Debug, PartialEq, Eq)]
 pub struct DenyList {
     nets: [Net; MOST],
@@ -51,7 +51,8 @@ impl DenyList {
         }
     }
 
-    /// Puts a net behind the others: the addresses whose first `bits` bits are those of `net`, whose later bits don't count.
+    /// Puts a net after the others: the addresses whose first `bits` bits are those of `net`. The later bits of `net` do not
+    /// count.
     pub fn add(&mut self, net: u32, bits: u8)
         requires bits { bits ≤ 32 }
         requires room { length (nets_of self.old) ≤ 15 }

@@ -10,7 +10,7 @@ use lru::LruCache;
 use reply_core::Code;
 use tick_units::Local;
 
-// The code of a client that was last let pass at a moment: `Rate` where the new moment lies less than the gap after that, else
+// The code of a client that last passed at a moment: `Rate` where the new moment lies less than the gap after that. Else it is
 // `Pass`, and the new moment takes its place.
 fn renew(last: &mut Local, gap: u64, at: Local) -> Code
     requires { gap ≤ 60000000 }
@@ -24,8 +24,8 @@ fn renew(last: &mut Local, gap: u64, at: Local) -> Code
     Code::Pass
 }
 
-// The code of a client that is in the table, whose pair goes to the front: with its moment as it was where the code is `Rate`, and
-// with the new one where it is `Pass`. A client that isn't in it has none, and nothing changes.
+// The code of a client that is in the table. Its pair moves to the first place. It keeps its moment where the code is `Rate`, and
+// gets the new one where it is `Pass`. A client that is not in the table has no code, and nothing changes.
 pub(crate) fn judge_known(
     clients: &mut LruCache<u32, Local>,
     ip: u32,
@@ -38,7 +38,7 @@ pub(crate) fn judge_known(
     ensures passed { result ≡ Some Pass → clients.new ≡ lru_cache (take clients.old.cap ((ip, at) ∷ remove_entry (nat_eq ip) clients.old.entries)) clients.old.cap }
     ensures unknown { result ≡ None → clients.new ≡ clients.old }
 {
-    // This says that there are no more pairs than there is room for.
+    // There is room for all pairs.
     let _few = clients.len();
     match clients.get_mut(&ip) {
         Some(last) => Some(renew(last, gap, at)),
@@ -46,14 +46,14 @@ pub(crate) fn judge_known(
     }
 }
 
-// A client's pair goes to the front, with a new moment; the last pair is dropped where there would be too many. The answer is whether
-// there was memory for it.
+// Puts a client's pair in the first place, with a new moment, and drops the last pair where there would be too many. Returns
+// whether there was memory for it.
 pub(crate) fn put_in_front(clients: &mut LruCache<u32, Local>, ip: u32, at: Local) -> bool
     ensures stored { result ≡ true → clients.new ≡ lru_cache (take clients.old.cap ((ip, at) ∷ remove_entry (nat_eq ip) clients.old.entries)) clients.old.cap }
     ensures left { result ≡ false → clients.new ≡ clients.old }
     ensures known { result ≡ false → lookup (nat_eq ip) clients.old.entries ≡ None }
 {
-    // This says that there are no more pairs than there is room for.
+    // There is room for all pairs.
     let _within = clients.len();
     match clients.put(ip, at) {
         Ok(_) => true,

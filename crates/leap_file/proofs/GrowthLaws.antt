@@ -1,5 +1,5 @@
 -- The leap seconds of more bytes of a file begin with those of fewer, and its bad line stays: for whoever counts bytes as read that
--- stand behind the bad line, or keeps a front of what is due.
+-- stand after the bad line, or keeps a beginning of what is due.
 use Rattle.std.proofs.Common.{◌≡◌, ℕ, true, false, Option, Some, None, List, [], ◌∷◌, ◌++◌, map, eqb, refl, sym, ap, ◌∙◌, inl, inr, append_assoc}
 use Rattle.std.specs.List.{last_or}
 use Rattle.std.proofs.lemmas.Bool.{cases_Bool, eqb-true}
@@ -11,7 +11,7 @@ use Rattle.leap_file.specs.Rows.{bad_behind, bad_line, leap_seconds, rows, rows_
 use Rattle.leap_file.proofs.RowLaws.{goes_on}
 use Rattle.leap_file.proofs.ReaderLaws.{says, seconds_of, says_more, says_end, says_whole, kept}
 
--- the bad line of a file stays whatever comes behind it, and nothing more is due
+-- the bad line of a file stays whatever comes after it, and nothing more is due
 pub record StaysBad (bytes more : List ℕ) (line : ℕ) : Type 0 where
   pub bad : bad_line false (bytes ++ more) ≡ Some line
   pub seconds : leap_seconds false (bytes ++ more) ≡ leap_seconds false bytes

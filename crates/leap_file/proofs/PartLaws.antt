@@ -1,4 +1,4 @@
--- How far a line has come tells what it says.
+-- How far a line has come determines what it says.
 use Rattle.std.proofs.Common.{◌≡◌, ℕ, suc, ◌+◌, ◌*◌, ◌≤◌, ◌&&◌, ◌||◌, Bool, true, false, nat_le, nat_lt, List, [], ◌∷◌, length, if◌then◌else◌, refl, sym, subst, ◌∙◌, inl, inr, arith}
 use Rattle.std.specs.Char.{is_ascii_digit, digit_value}
 use Rattle.std.specs.List.{list_all, fold}
@@ -83,7 +83,7 @@ gap_on second (b ∷ text) = elim (cases_Bool (is_blank b)) [
   ]
 ]
 
--- from the blanks behind the second on
+-- from the blanks after the second on
 abbrev gap_from : ℕ → List ℕ → LeapLine
 gap_from second text = if begins is_blank text then row_from second (behind is_blank text) else Bad
 

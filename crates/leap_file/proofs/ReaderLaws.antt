@@ -23,7 +23,7 @@ says bytes = map line_says (lines_of bytes).complete
 abbrev pub seconds_of : List Row → List ℕ
 seconds_of some = map (λ r. r.second) (drop 1 some)
 
--- a line that goes on says nothing yet, and one that ends is said behind the others; so it is at the end of the file
+-- a line that goes on says nothing yet, and one that ends is said after the others; so it is at the end of the file
 pub says_more : (bytes : List ℕ) (byte : ℕ) → eqb byte 10 ≡ false → says (bytes ++ byte ∷ []) ≡ says bytes
 says_more bytes byte other = ap (λ (l : Lines). map line_says l.complete) (lines_more bytes byte other)
 

@@ -9,7 +9,7 @@ use Rattle.leap_file.specs.declared.part.LeapLine.TheVariants.{Nothing, Numbers,
 use Rattle.leap_file.specs.declared.row.Row.{Row}
 use Rattle.leap_file.specs.Rows.{may_stand, rows_behind, bad_behind}
 
--- a bad line stays, and no more rows come behind it
+-- a bad line stays, and no more rows come after it
 pub record Stays (before : Option Row) (number : ℕ) (lines : List LeapLine) (line : LeapLine) (bad : ℕ) : Type 0 where
   pub stays : bad_behind before number (lines ++ line ∷ []) ≡ Some bad
   pub rows : rows_behind before (lines ++ line ∷ []) ≡ rows_behind before lines
@@ -23,7 +23,7 @@ bad_stays before number (Numbers row ∷ more) line bad h = elim (cases_Bool (ma
   | inr not_so ↦ record { stays = rw not_so (rw not_so at h); rows = rw not_so refl }
 ]
 
--- lines of which none is bad go on behind their last row
+-- lines of which none is bad go on after their last row
 pub record GoesOn (before : Option Row) (number : ℕ) (lines : List LeapLine) (line : LeapLine) : Type 0 where
   pub bad : bad_behind before number (lines ++ line ∷ []) ≡ bad_behind (last_or before (rows_behind before lines)) (number + length lines) (line ∷ [])
   pub rows : rows_behind before (lines ++ line ∷ []) ≡ rows_behind before lines ++ rows_behind (last_or before (rows_behind before lines)) (line ∷ [])

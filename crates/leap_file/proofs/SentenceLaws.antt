@@ -11,7 +11,7 @@ use Rattle.leap_file.specs.declared.part.LeapLine.TheVariants.{Nothing, Numbers,
 use Rattle.leap_file.specs.declared.row.Row.{Row}
 use Rattle.leap_file.specs.Lines.{is_blank, is_hash, begins, says_nothing, IsNumber, IsEnd, IsRow, IsSaid, front, behind, is_empty, is_short, is_end, row_from, row_of, said}
 
--- a front that passes, and what doesn't begin so
+-- a beginning that passes, and what does not begin so
 pub front_is : (test : ℕ → Bool) (xs rest : List ℕ) → list_all test xs ≡ true → begins test rest ≡ false → front test (xs ++ rest) ≡ xs
 front_is test [] [] all none = refl
 front_is test [] (b ∷ rest) all none = rw none refl

@@ -20,11 +20,11 @@ abbrev pub begins : (ℕ → Bool) → List ℕ → Bool
 begins test [] = false
 begins test (byte ∷ text) = test byte
 
--- a line that has blanks alone, or nothing, or begins with `#`
+-- a line that has only blanks, or nothing, or begins with `#`
 abbrev pub says_nothing : List ℕ → Bool
 says_nothing line = list_all is_blank line || begins is_hash line
 
--- a number in at most so many decimal digits
+-- a number in at most this many decimal digits
 pub record IsNumber (longest : ℕ) (text : List ℕ) (number : ℕ) : Type 0 where
   pub digits : IsTrue (list_all is_ascii_digit text)
   pub least : 1 ≤ length text
@@ -35,14 +35,14 @@ pub record IsBlanks (text : List ℕ) : Type 0 where
   pub blank : IsTrue (list_all is_blank text)
   pub least : 1 ≤ length text
 
--- blanks, at least one, and behind them a remark
+-- blanks, at least one, and after them a remark
 pub record IsRemark (text : List ℕ) : Type 0 where
   pub blanks : List ℕ
   pub remark : List ℕ
   pub parts : text ≡ blanks ++ 35 ∷ remark
   pub are_blanks : IsBlanks blanks
 
--- what may stand behind the numbers of a row: blanks or nothing, or a remark
+-- what may stand after the numbers of a row: blanks or nothing, or a remark
 abbrev pub IsEnd : List ℕ → Type 0
 IsEnd text = IsTrue (list_all is_blank text) ⊎ IsRemark text
 
@@ -58,13 +58,13 @@ pub record IsRow (line : List ℕ) (row : Row) : Type 0 where
   pub is_dtai : IsNumber 3 dtai row.dtai
   pub is_end : IsEnd end
 
--- what a line says; a bad one says neither nothing nor a row
+-- what a line says; a bad one is neither a line that says nothing nor a row
 abbrev pub IsSaid : List ℕ → LeapLine → Type 0
 IsSaid line Nothing = says_nothing line ≡ true
 IsSaid line (Numbers row) = IsRow line row
 IsSaid line Bad = (says_nothing line ≡ false) × ((row : Row) → IsRow line row → ⊥)
 
--- the bytes from the front on that pass, and those behind them
+-- the longest prefix whose bytes pass, and the bytes after it
 abbrev pub front : (ℕ → Bool) → List ℕ → List ℕ
 front test [] = []
 front test (byte ∷ text) = if test byte then byte ∷ front test text else []
@@ -77,7 +77,7 @@ abbrev pub is_empty : List ℕ → Bool
 is_empty [] = true
 is_empty (byte ∷ text) = false
 
--- at least one byte, and at most so many
+-- at least one byte, and at most this many
 abbrev pub is_short : ℕ → List ℕ → Bool
 is_short most text = nat_le 1 (length text) && nat_le (length text) most
 
@@ -100,6 +100,6 @@ row_of line = if is_short 10 (front is_ascii_digit line) && begins is_blank (beh
 abbrev pub said : List ℕ → LeapLine
 said line = if says_nothing line then Nothing else row_of line
 
--- a carriage return at the end of a line isn't read
+-- a carriage return at the end of a line is not read
 abbrev pub line_says : List ℕ → LeapLine
 line_says line = said (strip_carriage_return line)

@@ -1,4 +1,5 @@
--- What a reader of a leap second file stands for: the bytes that it has taken (the form is that of `leap-seconds.list` of IERS and NIST).
+-- What a reader of a leap second file stands for: the bytes that it has taken. The form is that of `leap-seconds.list` of IERS
+-- and NIST.
 use Rattle.std.specs.Prelude.{◌≡◌, ℕ, Bool, true, false, ◌-◌, ◌^◌, min, Option, None, Some, List, [], ◌∷◌, ◌++◌, length, Result, MatchResult, is_some, if◌then◌else◌}
 use Rattle.std.specs.List.{last_or}
 use Rattle.std.specs.Option.{option_map, option_to_list}
@@ -12,16 +13,16 @@ use Rattle.leap_file.specs.declared.reader.BadLeap.{BadLeap}
 use Rattle.leap_file.specs.declared.reader.LeapReader.{LeapReader}
 use Rattle.leap_file.specs.declared.row.Row.{Row}
 
--- a text that ends with a carriage return has come so far in front of it, and another text so far
+-- how far a text has come; where it ends with a carriage return, how far it had come before that
 abbrev pub EndsIn : (returned : Bool) → Part → List ℕ → Type 0
 EndsIn true part text = (front : List ℕ) × (text ≡ front ++ 13 ∷ []) × (part ≡ part_of front)
 EndsIn false part text = (strip_carriage_return text ≡ text) × (part ≡ part_of text)
 
--- what is kept of a line is what it has come to
+-- what is kept of a line is how far it has come
 abbrev pub IsLine : Line → List ℕ → Type 0
 IsLine line text = EndsIn line.returned line.part text
 
--- how a number of lines is told; the greatest number of 64 bits stands for itself and all above it
+-- a number of lines as it is counted; the greatest number of 64 bits stands for itself and all above it
 abbrev pub counted : ℕ → ℕ
 counted number = min number (2 ^ 64 - 1)
 
@@ -32,14 +33,14 @@ pub record HasRead (reader : LeapReader) (bytes : List ℕ) : Type 0 where
   pub lines : reader.bad ≡ None → reader.lines ≡ counted (length (lines_of bytes).complete)
   pub before : reader.bad ≡ None → reader.before ≡ last_or None (rows false bytes)
 
--- one byte more is taken, and the answer tells what it adds: a leap second, or the bad line that the file has from then on
+-- one byte more is taken. The result says what it adds: a leap second, or the bad line that the file has from then on.
 pub record Takes (new : LeapReader) (bytes : List ℕ) (byte : ℕ) (result : Result (Option ℕ) BadLeap) : Type 0 where
   pub read : HasRead new (bytes ++ byte ∷ [])
   pub found : MatchResult result
       (λ found. (bad_line false (bytes ++ byte ∷ []) ≡ None) × (leap_seconds false (bytes ++ byte ∷ []) ≡ leap_seconds false bytes ++ option_to_list found))
       (λ bad. (option_map counted (bad_line false (bytes ++ byte ∷ [])) ≡ Some bad.line) × (leap_seconds false (bytes ++ byte ∷ []) ≡ leap_seconds false bytes))
 
--- so it is at the end of the file, where a last line counts that has no line feed
+-- the same at the end of the file, where a last line without a line feed counts
 pub record Finishes (new : LeapReader) (bytes : List ℕ) (result : Result (Option ℕ) BadLeap) : Type 0 where
   pub read : HasRead new (bytes ++ 10 ∷ [])
   pub found : MatchResult result

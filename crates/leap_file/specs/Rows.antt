@@ -1,5 +1,5 @@
--- The rows of a leap second file, the leap seconds that they tell of, and its first bad line (the form is that of `leap-seconds.list`
--- of IERS and NIST; which rows may stand in a file is this project's own).
+-- The rows of a leap second file, the leap seconds that they name, and its first bad line. The form is that of
+-- `leap-seconds.list` of IERS and NIST; which rows may stand in a file is this project's own.
 use Rattle.std.specs.Prelude.{ℕ, ◌+◌, ◌==◌, ◌&&◌, Bool, true, nat_le, nat_lt, Option, None, Some, List, [], ◌∷◌, ◌++◌, map, drop, if◌then◌else◌}
 use Rattle.civil_minute.specs.Months.{begins_month}
 use Rattle.tick_units.specs.Log.{lines_of}
@@ -9,11 +9,11 @@ use Rattle.leap_file.specs.declared.part.LeapLine.{LeapLine}
 use Rattle.leap_file.specs.declared.part.LeapLine.TheVariants.{Nothing, Numbers, Bad}
 use Rattle.leap_file.specs.declared.row.Row.{Row}
 
--- its second is told and begins a month of UTC, and its difference has one byte
+-- its second lies in the supported years and begins a month of UTC, and its difference has one byte
 abbrev pub is_lawful : Row → Bool
 is_lawful row = nat_lt row.second end_of_told && begins_month row.second && nat_le row.dtai 255
 
--- behind the row before it, if there is one, its second rises, and its difference is one more
+-- after the row before it, if there is one: its second is later, and its difference is one more
 abbrev pub follows : Option Row → Row → Bool
 follows None row = true
 follows (Some before) row = nat_lt before.second row.second && row.dtai == before.dtai + 1
@@ -21,22 +21,23 @@ follows (Some before) row = nat_lt before.second row.second && row.dtai == befor
 abbrev pub may_stand : Option Row → Row → Bool
 may_stand before row = is_lawful row && follows before row
 
--- of what lines say, the rows before the first bad line, behind the row before them
+-- of what lines say, the rows before the first bad line; they follow the row before them
 abbrev pub rows_behind : Option Row → List LeapLine → List Row
 rows_behind before [] = []
 rows_behind before (Nothing ∷ more) = rows_behind before more
 rows_behind before (Bad ∷ more) = []
 rows_behind before (Numbers row ∷ more) = if may_stand before row then row ∷ rows_behind (Some row) more else []
 
--- the number of the first bad line, where the first has this number: it is bad by itself, or a row that may not stand there
+-- the number of the first bad line, where the first line has this number. A line is bad by itself, or as a row that may not stand
+-- there.
 abbrev pub bad_behind : Option Row → ℕ → List LeapLine → Option ℕ
 bad_behind before number [] = None
 bad_behind before number (Nothing ∷ more) = bad_behind before (number + 1) more
 bad_behind before number (Bad ∷ more) = Some number
 bad_behind before number (Numbers row ∷ more) = if may_stand before row then bad_behind (Some row) (number + 1) more else Some number
 
--- the lines of a file of which these bytes were read: those that line feeds end, and the last one without its line feed only where
--- the end of the file was read
+-- the lines of a file of which these bytes were read: those that line feeds end. A last one without a line feed counts only where
+-- the end of the file was read.
 abbrev pub lines_read : (whole : Bool) → List ℕ → List (List ℕ)
 lines_read whole bytes = if whole then (lines_of bytes).complete ++ (lines_of bytes).unfinished ∷ [] else (lines_of bytes).complete
 
@@ -47,6 +48,6 @@ rows whole bytes = rows_behind None (map line_says (lines_read whole bytes))
 abbrev pub bad_line : Bool → List ℕ → Option ℕ
 bad_line whole bytes = bad_behind None 1 (map line_says (lines_read whole bytes))
 
--- the seconds at which leap seconds end: those of the rows but the first
+-- the seconds at which leap seconds end: those of the rows except the first
 abbrev pub leap_seconds : Bool → List ℕ → List ℕ
 leap_seconds whole bytes = map (λ row. row.second) (drop 1 (rows whole bytes))

@@ -5,7 +5,7 @@ ghost use Rattle.leap_file.specs.Parts.{is_small, next};
 
 use crate::part::{LeapLine, Part, ends, next};
 
-/// What is kept of a line that isn't finished: how far it has come, and not its text.
+/// What is kept of an unfinished line: how far it has come, and not its text.
 #[derive(Clone, Copy, Debug, PartialEq, Eq)]
 pub struct Line {
     // Without the carriage return that may end it.

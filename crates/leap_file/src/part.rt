@@ -7,7 +7,7 @@ ghost use Rattle.leap_file.specs.Parts.{after_dtai, after_gap, after_row, after_
 
 use crate::row::Row;
 
-// A first number has at most so many digits, and a second one.
+// The most digits of a row's first number, and of its second one.
 const SECOND_DIGITS: u8 = 10;
 
 const DTAI_DIGITS: u8 = 3;
@@ -15,7 +15,7 @@ const DTAI_DIGITS: u8 = 3;
 /// What a line says.
 #[derive(Clone, Copy, Debug, PartialEq, Eq)]
 pub enum LeapLine {
-    /// No row: it has blanks alone, or begins with `#`.
+    /// No row: it has only blanks, or begins with `#`.
     Nothing,
     /// A row.
     Numbers(Row),
@@ -28,21 +28,21 @@ pub enum LeapLine {
 pub enum Part {
     /// It has no byte.
     Start,
-    /// It has blanks alone.
+    /// It has only blanks.
     Blank,
     /// It begins with `#`.
     Remark,
-    /// It has so many digits, which write the second.
+    /// It has digits, which write the second.
     Second(u8, u64),
-    /// Blanks stand behind the second.
+    /// Blanks stand after the second.
     Gap(u64),
-    /// Behind the second and blanks so many digits stand, which write the difference.
+    /// After the second and blanks it has digits, which write the difference.
     Dtai(u64, u8, u16),
-    /// Blanks stand behind the row's two numbers.
+    /// Blanks stand after the row's two numbers.
     Behind(Row),
-    /// A remark stands behind them.
+    /// A remark stands after them.
     Noted(Row),
-    /// No lawful line begins so.
+    /// No valid line begins in this way.
     Lost,
 }
 
@@ -77,7 +77,7 @@ fn starts(byte: u8) -> Part
     }
 }
 
-// A byte behind digits of the second.
+// A byte after digits of the second.
 fn after_second(digits: u8, second: u64, byte: u8) -> Part
     requires small { is_small (Second digits second) ≡ true }
     ensures next { result ≡ after_second digits second byte }
@@ -96,7 +96,7 @@ fn after_second(digits: u8, second: u64, byte: u8) -> Part
     }
 }
 
-// A byte behind the blanks between the two numbers.
+// A byte after the blanks between the two numbers.
 fn after_gap(second: u64, byte: u8) -> Part
     ensures next { result ≡ after_gap second byte }
     ensures small { is_small result ≡ true }
@@ -110,7 +110,7 @@ fn after_gap(second: u64, byte: u8) -> Part
     }
 }
 
-// A byte behind digits of the difference.
+// A byte after digits of the difference.
 fn after_dtai(second: u64, digits: u8, dtai: u16, byte: u8) -> Part
     requires small { is_small (Dtai second digits dtai) ≡ true }
     ensures next { result ≡ after_dtai second digits dtai byte }
@@ -129,7 +129,7 @@ fn after_dtai(second: u64, digits: u8, dtai: u16, byte: u8) -> Part
     }
 }
 
-// A byte behind the blanks that follow a row's numbers.
+// A byte after the blanks that follow a row's numbers.
 fn after_row(row: Row, byte: u8) -> Part
     ensures next { result ≡ after_row row byte }
     ensures small { is_small result ≡ true }

@@ -7,13 +7,13 @@ use crate::line::Line;
 use crate::part::LeapLine;
 use crate::row::{Row, may_stand};
 
-/// The number, from 1, of the first bad line of a file. At 2^64 - 1 it stands still.
+/// The number, from 1, of the first bad line of a file. It stops at 2^64 - 1.
 #[derive(Clone, Copy, Debug, PartialEq, Eq)]
 pub struct BadLeap {
     pub line: u64,
 }
 
-// One line more than so many; the greatest number stands still.
+// One line more; the count stops at the greatest number.
 fn one_more(lines: u64) -> u64
     ensures { result ≡ counted (lines + 1) }
 {
@@ -22,11 +22,12 @@ fn one_more(lines: u64) -> u64
 
 /// Reads a leap second file byte by byte, up to its first bad line.
 ///
-/// A row is a second since 1900-01-01 of 1 to 10 digits, spaces or tabs, TAI less UTC from then on in 1 to 3 digits, and nothing more
-/// but spaces and tabs and, behind at least one of these, a remark that begins with `#`. Lines that begin with `#`, lines of spaces and
-/// tabs and empty lines are no rows. A carriage return at the end of a line is passed over. Any other line is bad, and so is a row whose
-/// second isn't before 2100-01-03, begins no month of UTC or doesn't rise, or whose difference is above 255 or isn't one more than that
-/// of the row before. The first row says what held before the leap seconds of the list, so it tells of none.
+/// A row is two numbers with spaces or tabs between them. The first is a second since 1900-01-01 in 1 to 10 digits. The second is
+/// TAI less UTC from then on, in 1 to 3 digits. Spaces and tabs may follow, and after at least one of these a remark that begins
+/// with `#`. Lines that begin with `#`, lines of spaces and tabs and empty lines are no rows. A carriage return at the end of a
+/// line is passed over. Any other line is bad. A row is bad too where its second is not before 2100-01-03, begins no month of UTC
+/// or does not rise. So is a row whose difference is above 255 or is not one more than that of the row before. The first row says
+/// what held before the leap seconds of the list, so it names none.
 #[derive(Drop)]
 pub struct LeapReader {
     line: Line,
@@ -50,11 +51,11 @@ impl LeapReader {
         }
     }
 
-    /// Takes the next byte. The answer is the second of the row that it ends, or None where it ends none or the first.
+    /// Takes the next byte. Returns the second of the row that it ends, or None where it ends no row or the first one.
     ///
     /// # Errors
     ///
-    /// `BadLeap` where the line that it ends is bad. From then on each call answers the same.
+    /// `BadLeap` where the line that it ends is bad. From then on each call returns the same.
     pub fn take(&mut self, byte: u8) -> Result<Option<u64>, BadLeap>
         ensures taken { (bytes : List ℕ) → HasRead self.old bytes → Takes self.new bytes byte result }
         ensures told { IfOk result (λ found. IfSome found (λ second. second < end_of_told)) }
@@ -111,12 +112,12 @@ impl LeapReader {
         bad
     }
 
-    /// The file has ended. The answer is the second of the row of a last line without its line feed, or None where that is none or the
-    /// first.
+    /// The file has ended. Returns the second of a last row without its line feed, or None where there is none or it is the first
+    /// row.
     ///
     /// # Errors
     ///
-    /// `BadLeap` where one was answered, or where that line is bad. From then on each call answers the same.
+    /// `BadLeap` where one was returned, or where that line is bad. From then on each call returns the same.
     pub fn finish(&mut self) -> Result<Option<u64>, BadLeap>
         ensures finished { (bytes : List ℕ) → HasRead self.old bytes → Finishes self.new bytes result }
         ensures told { IfOk result (λ found. IfSome found (λ second. second < end_of_told)) }

@@ -17,7 +17,7 @@ pub struct Row {
     pub dtai: u16,
 }
 
-// Whether a row may stand behind the row before it.
+// Whether a row may stand after the row before it.
 pub(crate) fn may_stand(before: Option<Row>, row: Row) -> bool
     ensures { result ≡ may_stand before row }
 {

@@ -43,7 +43,7 @@ lines_plain bytes (byte ∷ piece) plain =
     ∙ ap (λ (l : Lines). longer l piece) one
     ∙ ap (λ (t : List ℕ). record { complete = (lines_of bytes).complete; unfinished = t }) (append_assoc (lines_of bytes).unfinished (byte ∷ []) piece)
 
--- and a line feed behind them ends it
+-- and a line feed after them ends it
 lines_fed : (bytes piece : List ℕ) → list_any is_feed piece ≡ false →
     lines_of (bytes ++ piece ++ 10 ∷ []) ≡ record { complete = (lines_of bytes).complete ++ ((lines_of bytes).unfinished ++ piece) ∷ []; unfinished = [] }
 lines_fed bytes piece plain =

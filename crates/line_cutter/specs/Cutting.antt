@@ -15,12 +15,12 @@ line_in cutter = take cutter.length cutter.room
 abbrev pub unfinished_in : LineCutter → List ℕ
 unfinished_in cutter = if cutter.ended then [] else line_in cutter
 
--- these bytes of a file have been taken, a line of so many bytes being too long
+-- these bytes of a file have been taken, a line of this many bytes being too long
 pub record HasTaken (cutter : LineCutter) (too_long : ℕ) (bytes : List ℕ) : Type 0 where
   pub limit : cutter.too_long ≡ too_long
   pub unfinished : unfinished_in cutter ≡ (lines_of bytes).unfinished
 
--- what of a piece was taken: all of it, and no line ended; or up to a line feed, and the line is kept; or up to the byte that
+-- what was taken of a piece: all of it, and no line ended; or up to a line feed, and the line is kept; or up to the byte that
 -- makes the line too long
 abbrev pub IsCut : Cut → LineCutter → (too_long : ℕ) → (bytes piece taken : List ℕ) → Type 0
 IsCut More new too_long bytes piece taken =

@@ -6,7 +6,7 @@ ghost use Rattle.tick_units.specs.Log.{has_tail};
 // The room for a line.
 const ROOM: usize = 4096;
 
-/// What a piece of a file did to the line that it goes on with.
+/// What a piece of a file did to the line that it continues.
 #[derive(Clone, Copy, Debug, PartialEq, Eq)]
 pub enum Cut {
     /// The line goes on after the piece.
@@ -20,8 +20,7 @@ pub enum Cut {
 /// How much of a piece was taken, and what it did.
 #[derive(Clone, Copy, Debug, PartialEq, Eq)]
 pub struct Taken {
-    /// The number of bytes up to and with the line feed, or up to and with the one that made the line too long, or of the whole
-    /// piece.
+    /// The number of bytes up to and including the line feed, or the one that made the line too long, or of the whole piece.
     pub count: usize,
     pub cut: Cut,
 }
@@ -54,8 +53,8 @@ impl LineCutter {
         }
     }
 
-    /// Takes of a piece what stands up to and with its first line feed, or all of it. Where the line would be too long it takes
-    /// nothing, and says up to which byte that shows.
+    /// Takes from a piece what stands up to and including its first line feed, or all of it. Where the line would be too long it
+    /// takes nothing, and says at which byte that shows.
     pub fn take(&mut self, piece: &[u8]) -> Taken
         ensures taken { (too_long : ℕ) (bytes : List ℕ) → HasTaken self.old too_long bytes → TakesPiece self.new too_long bytes piece.now result }
         ensures within { result.count ≤ length piece.now }
@@ -109,7 +108,7 @@ impl LineCutter {
         if self.ended { 0 } else { self.length }
     }
 
-    // Puts a piece behind so many bytes.
+    // Puts a piece after this many bytes.
     fn put(&mut self, held: usize, piece: &[u8])
         requires { held + length piece.now < self.old.too_long }
         ensures same { self.new.too_long ≡ self.old.too_long }

@@ -1,5 +1,5 @@
-//! Tests of units, and of links and outsides: the fakes in memory, files and sockets. They use public items alone. They stand in a crate of
-//! their own, so that the crates that nearly all others stand on are not proved once more with them.
+//! Tests of units, and of links and outsides: the fakes in memory, files and sockets. They use only public items. They stand in a
+//! crate of their own: a change in them then re-proves none of the crates that nearly all others need.
 #![tactic(auto)]
 
 #[cfg(test)]

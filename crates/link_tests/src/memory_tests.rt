@@ -10,7 +10,7 @@ use std::fmt::Debug;
 use std::process::Abort;
 use std::test::Fail;
 
-// What `assert_eq!` does, as a call: where many stand in a test, calls are proved in a third of the time.
+// Does what `assert_eq!` does, as a call. In a test with many of them, calls are proved in a third of the time.
 pub(crate) fn same<T: PartialEq + Debug + Drop>(rt: &impl Abort, left: T, right: T) {
     assert_eq!(*rt; left, right);
 }
@@ -61,7 +61,7 @@ fn a_sink_in_memory_fails_at_its_calls_and_adds_nothing(rt: HostRuntime) -> Resu
     Ok(())
 }
 
-// Two logs in memory, of which the opening of this number fails.
+// An outside with two logs in memory; its opening of this number fails.
 fn two_logs(alloc: Global, failing: u64) -> Result<MemoryOutside<OpenGate>, Fail> {
     let mut logs = Vec::new(alloc);
     for (name, text) in [("a", "1"), ("b", "2")] {

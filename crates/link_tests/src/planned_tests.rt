@@ -1,4 +1,4 @@
-// Links in memory: what was planned comes in order, and each fault, bound and room shows where it was stated.
+// Links in memory: the planned hearings come in order, and each fault, bound and room shows where it was stated.
 use crate::memory_tests::same;
 use feed_link::{
     Address, Arrival, Failed, Gate, Hearing, HoldGate, Link, LinkEvent, MemoryLink, MemoryOutside,
@@ -13,7 +13,7 @@ const CLIENT: Address = Address {
     port: 5000,
 };
 
-// A moment of so many microseconds.
+// A moment of this many microseconds.
 fn moment(microseconds: u32) -> Local {
     Local::new(u64::from(microseconds)).unwrap()
 }
@@ -39,7 +39,7 @@ const AMPLE: Space = Space {
     bytes: 4000,
 };
 
-// A link that hears "ab" at 7, nothing, "cde" at 5, and then its end; with the moments 6 and 9; of which one call fails.
+// A link that receives "ab" at 7, nothing, "cde" at 5, and then its end. It has the moments 6 and 9, and one of its calls fails.
 fn link(alloc: Global, failing: u64, space: Space) -> Result<MemoryLink, Fail> {
     let mut hearings = Vec::new(alloc);
     hearings.push(datagram(alloc, 7, b"ab")?)?;
@@ -52,7 +52,7 @@ fn link(alloc: Global, failing: u64, space: Space) -> Result<MemoryLink, Fail> {
     Ok(MemoryLink::new(alloc, hearings, moments, fails, space.events, space.bytes)?)
 }
 
-// Adds the text of what a link hears next: the datagram with its moment, or a word.
+// Adds the text of what a link receives next: the datagram with its moment, or a word.
 fn hear_into(text: &mut String, link: &mut MemoryLink) -> Result<(), Fail> {
     let mut piece = [0u8; 1024];
     match link.hear(&mut piece) {
@@ -71,7 +71,7 @@ fn hear_into(text: &mut String, link: &mut MemoryLink) -> Result<(), Fail> {
     Ok(())
 }
 
-// What a link tells.
+// What a link reports.
 fn told(alloc: Global, link: &MemoryLink) -> Result<String, Fail> {
     let mut text = String::new(alloc);
     write!(text, "{}: ", link.count())?;
@@ -97,7 +97,7 @@ fn add_event(text: &mut String, event: &LinkEvent<'_>) -> Result<(), Fail> {
     Ok(())
 }
 
-// Hears, tells a moment, hears on and sends, as a text; and what the link tells of it.
+// Receives, asks for a moment, receives on and sends, as a text; and what the link reports of it.
 fn talk(alloc: Global, failing: u64, space: Space) -> Result<(String, String), Fail> {
     let mut link = link(alloc, failing, space)?;
     let mut text = String::new(alloc);
@@ -219,7 +219,7 @@ fn of_a_longer_datagram_1024_bytes_are_heard(rt: HostRuntime) -> Result<(), Fail
     Ok(())
 }
 
-// An outside with two links, whose opening of this number fails.
+// An outside with two links; its opening of this number fails.
 fn two_links(alloc: Global, failing: u64) -> Result<MemoryOutside<OpenGate>, Fail> {
     let mut links = Vec::new(alloc);
     links.push(link(alloc, 0, AMPLE)?)?;
@@ -228,7 +228,7 @@ fn two_links(alloc: Global, failing: u64) -> Result<MemoryOutside<OpenGate>, Fai
     Ok(MemoryOutside::new(alloc, Vec::new(alloc), links, OpenGate::new(), fails, 4, 0)?)
 }
 
-// Opens a link, hears once and gives it back.
+// Opens a link, receives once and gives it back.
 fn visit(outside: &mut MemoryOutside<OpenGate>) -> Result<(), Failed> {
     let mut net = outside.open_link(123, moment(3))?;
     let mut piece = [0u8; 1024];
@@ -240,7 +240,7 @@ fn visit(outside: &mut MemoryOutside<OpenGate>) -> Result<(), Failed> {
     }
 }
 
-// How many events the links of the outside tell, where they stand in their places.
+// How many events the links of the outside report, where they stand in their places.
 fn counts(outside: &MemoryOutside<OpenGate>) -> [Option<usize>; 3] {
     [count(outside, 0), count(outside, 1), count(outside, 2)]
 }

@@ -20,7 +20,8 @@ fn loopback(port: u16) -> SocketAddr {
     SocketAddr::new(IpAddr::V4(Ipv4Addr::LOCALHOST), port)
 }
 
-// A socket whose first calls fail so, as many as are stated; then it gives a datagram from a port, and takes all that is sent.
+// A socket whose first calls fail in a stated way, a stated number of times. Then it gives a datagram from a port, and takes all
+// that is sent.
 #[derive(Drop)]
 struct Shaky {
     kind: ErrorKind,
@@ -58,7 +59,7 @@ impl DatagramSocket for Shaky {
     }
 }
 
-// What a link hears over a socket whose first calls fail: the sender's port, or 0 where nothing came.
+// What a link receives over a socket whose first calls fail: the sender's port, or 0 where nothing came.
 fn heard(rt: &HostRuntime, socket: Shaky) -> Result<u16, Failed> {
     let mut link = UdpLink::new(socket, Counter::new(rt), moment(5));
     let mut piece = [0u8; 1024];

@@ -40,7 +40,7 @@ due_grows feed plan delay bytes more =
           ∙ entries_append feed delay (answers plan old) later,
     )
 
--- their text is a front of its text
+-- their text is a beginning of its text
 pub lines_grow : (feed : ℕ) (plan : Plan) (delay : ℕ) (bytes more : List ℕ) →
     (rest : List ℕ) × (lines_of_entries (due_log feed plan delay (bytes ++ more)) ≡ lines_of_entries (due_log feed plan delay bytes) ++ rest)
 lines_grow feed plan delay bytes more =

@@ -1,4 +1,4 @@
--- What a receiver answers is lawful in a journal.
+-- What a receiver answers is valid in a journal.
 use Rattle.std.specs.Prelude.{ℕ}
 use Rattle.tick_units.specs.declared.verdicts.Kind.{Kind}
 use Rattle.tick_units.specs.declared.verdicts.Kind.TheVariants.{Verdict, Lone, Differs, Refused}

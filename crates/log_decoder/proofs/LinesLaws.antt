@@ -1,4 +1,4 @@
--- Lines that give no entry, and one more behind them.
+-- Lines that give no entry, and one more after them.
 use Rattle.std.proofs.Common.{◌≤◌, ◌≡◌, ◌<◌, ◌+◌, ℕ, Option, None, Result, Ok, Err, List, [], ◌++◌, length, take, drop, ap, sym, ◌∙◌, subst, arith, append_assoc}
 use Rattle.std.specs.Option.{option_to_list}
 use Rattle.std.proofs.Math.Seq.{take-add}
@@ -15,7 +15,7 @@ use Rattle.log_decoder.specs.Steps.{HearsLine}
 use Rattle.log_decoder.specs.Due.{due_log}
 use Rattle.log_decoder.specs.declared.decoder.LogDecoder.{LogDecoder}
 
--- a front was taken that gave no entry
+-- a beginning was taken that gave no entry
 pub record GoesOn {B : Type 0} (stands : B → History → Type 0) (decoder : LogDecoder B) (feed : ℕ) (plan : Plan) (delay : ℕ) (bytes front : List ℕ) : Type 0 where
   pub decoded : HasDecoded stands decoder feed plan delay (bytes ++ front)
   pub good : 0 < length front → bad_line (bytes ++ front) ≡ None
@@ -42,7 +42,7 @@ module _ {B : Type 0} (stands : B → History → Type 0) (feed : ℕ) (plan : P
     due = ap (due_log feed plan delay) (append-nil bytes);
   }
 
-  -- the next bytes behind a front
+  -- the next bytes after a beginning
   regroup : (all : List ℕ) (count more : ℕ) → (bytes ++ take count all) ++ take more (drop count all) ≡ bytes ++ take (count + more) all
   regroup all count more = append_assoc bytes (take count all) (take more (drop count all)) ∙ ap (λ (t : List ℕ). bytes ++ t) (sym (take-add count more all))
 

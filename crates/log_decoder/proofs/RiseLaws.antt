@@ -7,7 +7,7 @@ use Rattle.tick_units.specs.Log.{lawful, lines_of, pulses, reduction_of}
 use Rattle.tick_units.specs.declared.marks.Reduction.{Reduction}
 use Rattle.radio_receiver.specs.Histories.{least_after, least_behind}
 
--- the first of lawful reductions is the first
+-- the first of valid reductions is the first
 first_is : (first : Reduction) (more : List (Option Reduction)) (r : Reduction) (rest : List Reduction) → lawful (Some first ∷ more) ≡ r ∷ rest → first ≡ r
 first_is first [] r rest e = cc
 first_is first (None ∷ more) r rest e = cc
@@ -49,6 +49,6 @@ lawful_rise (Some r ∷ more) (first ∷ before) last e =
     subst (λ (x : Reduction). least_behind (last_or (Some x) before) ≤ last.at) same
     (rises_behind r more before last (e ∙ ap (λ (x : Reduction). x ∷ (before ++ last ∷ [])) (sym same)))
 
--- a reduction that a longer log adds starts behind the last one
+-- a reduction that a longer log adds starts after the last one
 pub pulses_rise : (bytes longer : List ℕ) (r : Reduction) → pulses longer ≡ pulses bytes ++ r ∷ [] → least_after (pulses bytes) ≤ r.at
 pulses_rise bytes longer r e = lawful_rise (map reduction_of (lines_of longer).complete) (pulses bytes) r e

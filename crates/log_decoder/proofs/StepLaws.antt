@@ -1,4 +1,4 @@
--- What a receiver may hear, and what it can hear then.
+-- What a receiver may take, and what it can take then.
 use Rattle.std.proofs.Common.{◌≡◌, ◌≤◌, ◌+◌, ℕ, Option, Some, None, Result, Ok, Err, List, [], ◌∷◌, ◌++◌, ap, ◌∙◌, arith}
 use Rattle.std.specs.Option.{option_to_list}
 use Rattle.tick_units.specs.Log.{pulses}
@@ -18,7 +18,7 @@ may_hear least reader bytes front (Ok None) le takes = tt
 may_hear least reader bytes front (Ok (Some r)) le takes = let rise = pulses_rise bytes (bytes ++ front) r takes.found.1 in omega (arith, le, rise)
 may_hear least reader bytes front (Err bad) le takes = tt
 
--- one that has heard it can hear what comes behind it
+-- one that has taken it can take what comes after it
 pub least_on : (least : ℕ) (bytes longer : List ℕ) (found : Option Reduction) (r : Reduction) → least ≡ r.at + 1 → found ≡ Some r →
     pulses longer ≡ pulses bytes ++ option_to_list found → least ≤ least_after (pulses longer)
 least_on least bytes longer found r is some longer_is =

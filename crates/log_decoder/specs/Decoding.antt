@@ -11,7 +11,7 @@ use Rattle.radio_receiver.specs.Histories.{History, least_after}
 use Rattle.log_decoder.specs.Due.{due_log}
 use Rattle.log_decoder.specs.declared.decoder.LogDecoder.{LogDecoder}
 
--- a receiver with this plan and this delay has heard the reductions of these bytes
+-- a receiver with this plan and this delay has received the reductions of these bytes
 abbrev pub history_of : Plan → ℕ → List ℕ → History
 history_of plan delay bytes = record { plan = plan; delay = delay; reductions = pulses bytes }
 
@@ -24,25 +24,25 @@ pub record IsEntryOf (feed : ℕ) (entry : Entry) : Type 0 where
   pub of_feed : entry.feed ≡ feed
   pub lawful : IsLawfulWhat entry.what
 
--- the decoder of a feed has taken these bytes: its reader has read them, and its receiver has heard their reductions
+-- the decoder of a feed has taken these bytes: its reader has read them, and its receiver has received their reductions
 pub record HasDecoded {B : Type 0} (stands : B → History → Type 0) (decoder : LogDecoder B) (feed : ℕ) (plan : Plan) (delay : ℕ) (bytes : List ℕ) : Type 0 where
   pub of_feed : decoder.feed ≡ feed
   pub read : HasRead decoder.reader bytes
   pub heard : stands decoder.receiver (history_of plan delay bytes)
 
--- it can take more: no line that may come starts before its receiver can hear it
+-- it can take more: no line that may come starts before its receiver can take it
 pub record IsReady {B : Type 0} (least : B → ℕ) (decoder : LogDecoder B) : Type 0 where
   pub bytes : List ℕ
   pub read : HasRead decoder.reader bytes
   pub rises : least decoder.receiver ≤ least_after (pulses bytes)
 
--- bytes grow to these, which have no bad line, and give one entry more or none; or they have this bad line, and give none
+-- the bytes become these, which have no bad line and give one entry more or none; or they have this bad line, and give none
 abbrev pub FindsEntry : ℕ → Plan → ℕ → List ℕ → List ℕ → Result (Option Entry) BadLine → Type 0
 FindsEntry feed plan delay bytes longer found = MatchResult found
     (λ entry. (bad_line longer ≡ None) × (due_log feed plan delay longer ≡ due_log feed plan delay bytes ++ option_to_list entry))
     (λ bad. (bad_line longer ≡ Some bad.line) × (due_log feed plan delay longer ≡ due_log feed plan delay bytes))
 
--- a front of what comes is taken
+-- a prefix of what comes is taken
 pub record DecodesFront {B : Type 0} (stands : B → History → Type 0) (decoder : LogDecoder B) (feed : ℕ) (plan : Plan) (delay : ℕ) (bytes front : List ℕ) (found : Result (Option Entry) BadLine) : Type 0 where
   pub decoded : HasDecoded stands decoder feed plan delay (bytes ++ front)
   pub finds : FindsEntry feed plan delay bytes (bytes ++ front) found

@@ -1,5 +1,5 @@
--- The entries that a log gives in the journal, and the lines of their texts. The code plans are those of PTB (DCF77), NPL
--- (MSF) and NIST (WWVB); that a journal keeps their answers so is this project's own.
+-- The entries that a log gives in the journal, and the lines of their texts. The code plans are those of PTB (DCF77), NPL (MSF)
+-- and NIST (WWVB); how a journal keeps their answers is this project's own.
 use Rattle.std.specs.Prelude.{ℕ, List, ◌++◌, codes, map}
 use Rattle.std.specs.List.{flat_map}
 use Rattle.tick_units.specs.Log.{pulses}
@@ -14,8 +14,8 @@ use Rattle.radio_receiver.specs.Histories.{answers_of}
 abbrev pub entry_of : ℕ → Heard → Entry
 entry_of feed heard = record { feed = feed; at = heard.at; what = what.Heard heard.kind }
 
--- the entries of a feed: one for each answer to the reductions of its log, at the moment of the answer less the path delay in
--- microseconds, and not below 0
+-- the entries of a feed: one for each answer to the reductions of its log. Its moment is that of the answer less the path delay
+-- in microseconds, and not below 0.
 abbrev pub due_log : ℕ → Plan → ℕ → List ℕ → List Entry
 due_log feed plan delay bytes = map (entry_of feed) (answers_of (record { plan = plan; delay = delay; reductions = pulses bytes }))
 

@@ -15,11 +15,11 @@ IsFound bytes longer found = MatchResult found
     (λ found. (bad_line longer ≡ None) × (pulses longer ≡ pulses bytes ++ option_to_list found))
     (λ bad. (bad_line longer ≡ Some bad.line) × (pulses longer ≡ pulses bytes))
 
--- a receiver that can hear from this start on may hear what was found
+-- a receiver that can take reductions from this start on may take what was found
 abbrev pub MayHear : ℕ → Result (Option Reduction) BadLine → Type 0
 MayHear least found = MatchResult found (λ some. IfSome some (λ r. least ≤ r.at)) (λ bad. Unit {0})
 
--- what was found was heard
+-- the receiver took what was found
 pub record HearsLine {B : Type 0} (stands : B → History → Type 0) (receiver : B) (feed : ℕ) (plan : Plan) (delay : ℕ) (bytes longer : List ℕ) (found : Result (Option Entry) BadLine) : Type 0 where
   pub heard : stands receiver (history_of plan delay longer)
   pub finds : FindsEntry feed plan delay bytes longer found

@@ -1,4 +1,4 @@
-// A reader of lines, and the receiver behind it.
+// A reader of lines, and the receiver that takes its reductions.
 ghost use Rattle.std.specs.Prelude.{◌≡◌, ◌+◌, ◌++◌, ◌<◌, ◌≤◌, ℕ, List, [], length, map, take, None, Some, IfOk, IfSome, MatchResult};
 ghost use Rattle.std.specs.Option.{option_to_list};
 ghost use Rattle.tick_units.specs.Log.{bad_at_end, pulses};
@@ -14,17 +14,17 @@ use pulse_log::{BadLine, LineReader};
 use radio_receiver::Receiver;
 use tick_units::{Heard, Reduction};
 
-/// What a decoder took of some bytes, and what that came to.
+/// What a decoder took of some bytes, and what it found in them.
 #[derive(Clone, Copy, Debug, PartialEq, Eq)]
 pub struct Step {
     /// How many of them it took, from the first on.
     pub count: usize,
-    /// The entry that they complete, or None where they complete none; or the line that isn't lawful.
+    /// The entry that they complete, or None where they complete none; or the bad line.
     pub found: Result<Option<Entry>, BadLine>,
 }
 
-/// Decodes the log of a radio with a receiver. Where the receiver's type is known its calls can be inlined; those of a boxed one cost some
-/// forty instructions more a line.
+/// Decodes the log of a radio with a receiver. Where the receiver's type is known, its calls can be inlined; those of a boxed one
+/// cost some forty instructions more a line.
 #[derive(Drop)]
 pub struct LogDecoder<R: Drop> {
     reader: LineReader,
@@ -32,8 +32,8 @@ pub struct LogDecoder<R: Drop> {
     feed: u32,
 }
 
-// An answer as an entry of a feed. It isn't inlined: a call is made only where there is an answer, so that none of an entry's words
-// are written where a reduction completes nothing.
+// An answer as an entry of a feed. It is not inlined: it is called only where there is an answer, so a reduction that completes
+// nothing writes no words of an entry.
 #[inline(never)]
 fn entry_of(feed: u32, heard: Heard) -> Entry
     requires { BelievesYears heard.kind }
@@ -48,7 +48,7 @@ fn entry_of(feed: u32, heard: Heard) -> Entry
 }
 
 impl<R: Receiver> LogDecoder<R> {
-    /// A decoder for this feed that has taken no byte, with a receiver that has heard nothing.
+    /// A decoder for this feed that has taken no byte, with a receiver that has received nothing.
     pub fn new(feed: u32, receiver: R) -> LogDecoder<R>
         requires { R.least_start receiver ≡ 0 }
         ensures ready { IsReady R.least_start result }
@@ -63,8 +63,9 @@ impl<R: Receiver> LogDecoder<R> {
         }
     }
 
-    /// Takes bytes up to the end of the first line that completes an entry, up to the byte that makes a line bad, or all of them. No clause
-    /// says how many bytes are taken at a time: what is given is due for those that were, and the caller goes on with the rest.
+    /// Takes bytes up to the end of the first line that completes an entry, or up to the byte that makes a line bad. Takes all of
+    /// them where there is neither. No clause says how many bytes one call takes. The result belongs to the bytes that were
+    /// taken, and the caller goes on with the rest.
     #[inline(always)]
     pub fn take(&mut self, bytes: &[u8]) -> Step
         requires some { 0 < length bytes.now }
@@ -97,7 +98,7 @@ impl<R: Receiver> LogDecoder<R> {
     ///
     /// # Errors
     ///
-    /// `BadLine` where one was answered, or where bytes stand after the last line feed.
+    /// `BadLine` where one was returned, or where bytes stand after the last line feed.
     pub fn finish(&self) -> Result<(), BadLine>
         ensures { (feed : ℕ) (plan : Plan) (delay : ℕ) (bytes : List ℕ) → HasDecoded R.stands_for self.now feed plan delay bytes → MatchResult result
             (λ _. bad_at_end bytes ≡ None)
@@ -106,8 +107,8 @@ impl<R: Receiver> LogDecoder<R> {
         self.reader.finish()
     }
 
-    // Hears what a line says that the reader has taken. It is all in one function, and each None is met at once, so that a value
-    // of many words is made only where there is an entry.
+    // Passes on what the reader found in a line. It is one function that handles each None at once, so it makes a value of many
+    // words only where there is an entry.
     #[inline(always)]
     fn hear_found(
         &mut self,

@@ -78,7 +78,7 @@ closed_push [] current mark = refl
 closed_push (piece ∷ []) current mark = refl
 closed_push (piece ∷ next ∷ done) current mark = ap (λ segments. record { marks = piece; close = start_of next } ∷ segments) (closed_push (next ∷ done) current mark)
 
--- a boundary closes the last piece, where that isn't the first
+-- a boundary closes the last piece, where that is not the first
 pub segments_close : (plan : Plan) (marks : List Mark) (mark : Mark) (piece : List Mark) (done : List (List Mark)) (current : List Mark) → is_boundary plan (last_or None marks) mark ≡ true → cut plan None marks ≡ (piece ∷ done) ++ current ∷ [] →
     segments_of plan (marks ++ mark ∷ []) ≡ segments_of plan marks ++ record { marks = current; close = mark.at } ∷ []
 segments_close plan marks mark piece done current b pieces =
@@ -98,7 +98,7 @@ start_same : (current : List Mark) (mark last : Mark) → last_or None current �
 start_same [] mark last e = cc
 start_same (x ∷ xs) mark last e = refl
 
--- a mark that goes on leaves the segments; the last piece has a mark where it isn't the first one
+-- a mark that goes on leaves the segments; the last piece has a mark where it is not the first one
 pub segments_same : (plan : Plan) (marks : List Mark) (mark : Mark) (done : List (List Mark)) (current : List Mark) → is_boundary plan (last_or None marks) mark ≡ false → cut plan None marks ≡ done ++ current ∷ [] → last_or None current ≡ last_or None marks →
     segments_of plan (marks ++ mark ∷ []) ≡ segments_of plan marks
 segments_same plan marks mark [] current b pieces ends = rw (cut_goes_on plan marks mark [] current b pieces, pieces) refl

@@ -1,5 +1,5 @@
--- What each segment of a log comes to, by itself and by the one just before it. That two frames in a row have to agree is
--- this project's own rule; what a frame says is told by the code plans.
+-- What each segment of a log comes to, by itself and by the one just before it. That two frames in a row have to agree is this
+-- project's own rule; the code plans define what a frame says.
 use Rattle.std.specs.Prelude.{ℕ, ◌+◌, ◌-◌, ◌*◌, Bool, false, ◌&&◌, ◌||◌, ◌==◌, nat_le, Option, None, Some, Result, Ok, Err, List, [], ◌∷◌, length, if◌then◌else◌}
 use Rattle.minute_pair.specs.Segments.{Segment}
 use Rattle.tick_units.specs.declared.marks.Plan.{Plan}
@@ -26,7 +26,7 @@ judged Dcf segment = judged_by (dcf_rules.first segment.marks) (dcf_fields.coded
 judged Msf segment = judged_by (msf_rules.first segment.marks segment.close) (msf_fields.coded segment.marks)
 judged Wwvb segment = judged_by (wwvb_rules.first segment.marks segment.close) (wwvb_fields.coded segment.marks)
 
--- a distance in microseconds is so many seconds, within 100 ms either way
+-- a distance in microseconds is this many seconds, within 100 ms either way
 abbrev pub is_apart : ℕ → ℕ → Bool
 is_apart seconds apart = nat_le (seconds * 1000000) (apart + 100000) && nat_le apart (seconds * 1000000 + 100000)
 
@@ -47,7 +47,7 @@ are_timely plan before now = is_apart 60 (apart_of before now) || (has_leap_seco
 abbrev pub agreed_leap : ℕ → ℕ → ℕ
 agreed_leap was is = if was == is then is else 0
 
--- a valid segment behind a valid one: they agree, or they differ
+-- a valid segment after a valid one: they agree, or they differ
 abbrev pub kind_of_both : Plan → Segment → Segment → Coded → Coded → Kind
 kind_of_both plan before now was is = if is.minute == was.minute + 60 && are_timely plan before now
     then Verdict is.minute (agreed_leap was.leap_at is.leap_at)
@@ -74,7 +74,7 @@ kind_after plan (Some before) now = kind_behind plan before now (judged plan now
 abbrev pub answer_after : Plan → Option Segment → Segment → Heard
 answer_after plan before now = record { at = now.close; kind = kind_after plan before now }
 
--- the answers to segments, the first of which stands behind this one
+-- the answers to segments, the first of which stands after this one
 abbrev pub answers_after : Plan → Option Segment → List Segment → List Heard
 answers_after plan before [] = []
 answers_after plan before (now ∷ more) = answer_after plan before now ∷ answers_after plan (Some now) more

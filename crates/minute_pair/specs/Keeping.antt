@@ -1,5 +1,5 @@
 -- Scaffolding, which contracts use: what the fields of the keeper of segments stand for, its plan and the marks that it has
--- heard.
+-- received.
 use Rattle.std.specs.Prelude.{◌≡◌, nat_lt, None, List, [], ◌∷◌, ◌++◌, length}
 use Rattle.std.specs.List.{last_or}
 use Rattle.minute_pair.specs.Segments.{Segment, cut, segments_of}
@@ -10,7 +10,7 @@ use Rattle.minute_pair.specs.PlanFrames.{HasMarksOf}
 use Rattle.minute_pair.specs.declared.keeper.SegmentKeeper.{SegmentKeeper}
 use Rattle.minute_pair.specs.declared.keeper.Closed.{Closed}
 
--- the keeper has heard these marks: of their pieces the frame has read the last, and it is an open segment where there are
+-- the keeper has received these marks: of their pieces the frame has read the last, and it is an open segment where there are
 -- others
 pub record HasKept (k : SegmentKeeper) (plan : Plan) (marks : List Mark) : Type 0 where
   pub done : List (List Mark)

@@ -1,4 +1,4 @@
--- Scaffolding, which contracts use: what the fields of a pairing stand for, the marks that it has heard; and the answer by
+-- Scaffolding, which contracts use: what the fields of a pairing stand for, the marks that it has received; and the answer by
 -- these fields.
 use Rattle.std.specs.Prelude.{◌≡◌, ℕ, ◌-◌, ◌&&◌, ◌||◌, ◌==◌, nat_le, Option, None, Some, Result, Ok, Err, List, if◌then◌else◌}
 use Rattle.std.specs.List.{last_or}
@@ -45,7 +45,7 @@ judged_kind before closed (Ok is) = valid_by before closed is
 abbrev pub answer_by : Before → Closed → Kind
 answer_by before closed = judged_kind before closed closed.judged
 
--- the pairing has heard these marks of a plan: it keeps their last segment as far as it needs it
+-- the pairing has received these marks of a plan, and keeps what it needs of their last segment
 pub record HasPaired (p : Pairing) (plan : Plan) (marks : List Mark) : Type 0 where
   pub heard : HasKept p.keeper plan marks
   pub before : p.before ≡ before_of plan (last_or None (segments_of plan marks))

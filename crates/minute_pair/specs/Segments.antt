@@ -11,9 +11,9 @@ pub record Segment : Type 0 where
   pub marks : List Mark
   pub close : ℕ
 
--- a mark begins a minute, by the mark just before it: DCF77 leaves out the last second of a minute (PTB), so there it
--- starts 1900000 to 2100000 microseconds after that one; the first second of an MSF minute is long (NPL); and a WWVB minute
--- begins with a marker directly behind the marker that ends the one before (NIST)
+-- a mark begins a minute, by the mark just before it. DCF77 leaves out the last second of a minute (PTB), so there it starts
+-- 1900000 to 2100000 microseconds after that one. The first second of an MSF minute is long (NPL). A WWVB minute begins with a
+-- marker directly after the marker that ends the one before (NIST).
 abbrev pub is_boundary_behind : Plan → Mark → Mark → Bool
 is_boundary_behind Dcf before mark = is_between (before.at + 1900000) (before.at + 2100000) mark.at
 is_boundary_behind Msf before mark = is_long mark.symbol
@@ -29,7 +29,7 @@ abbrev pub is_boundary : Plan → Option Mark → Mark → Bool
 is_boundary plan None mark = is_first_boundary plan mark
 is_boundary plan (Some before) mark = is_boundary_behind plan before mark
 
--- the marks behind this one, cut before each boundary; the first piece goes on from there, and may be empty
+-- the marks after this one, cut before each boundary; the first piece goes on from there, and may be empty
 abbrev pub cut : Plan → Option Mark → List Mark → List (List Mark)
 cut plan before [] = [] ∷ []
 cut plan before (mark ∷ marks) = if is_boundary plan before mark
@@ -40,7 +40,7 @@ abbrev pub start_of : List Mark → ℕ
 start_of [] = 0
 start_of (mark ∷ marks) = mark.at
 
--- each piece but the last, with the start of the piece behind it
+-- each piece except the last, with the start of the piece after it
 abbrev pub closed : List (List Mark) → List Segment
 closed [] = []
 closed (piece ∷ []) = []

@@ -1,4 +1,4 @@
--- That minutes lie in the years that seconds are told in.
+-- That minutes lie in the supported years.
 use Rattle.std.specs.Prelude.{◌≢◌, ℕ, ◌<◌, ◌≤◌}
 use Rattle.tick_units.specs.Years.{first_told, end_of_told}
 use Rattle.tick_units.specs.declared.verdicts.Coded.{Coded}
@@ -16,7 +16,7 @@ pub record HasYears (second leap_at : ℕ) : Type 0 where
 abbrev pub SaysYears : Coded → Type 0
 SaysYears coded = HasYears coded.minute coded.leap_at
 
--- so it is of an answer that believes a minute
+-- the same of an answer that believes a minute
 abbrev pub BelievesYears : Kind → Type 0
 BelievesYears (Verdict second leap_at) = HasYears second leap_at
 BelievesYears (Lone second) = Unit {0}

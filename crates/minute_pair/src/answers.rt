@@ -1,4 +1,4 @@
-//! The answer to a closed segment, by what stands before it.
+//! The answer to a closed segment, by the segment before it.
 ghost use Rattle.std.specs.Prelude.{◌≡◌, ◌+◌, ◌-◌, ◌*◌, ◌<◌, ◌^◌, IfOk};
 ghost use Rattle.minute_pair.specs.Answers.{is_apart, agreed_leap};
 ghost use Rattle.minute_pair.specs.Pairing.{answer_by, both_by, before_of_closed};
@@ -27,7 +27,7 @@ pub fn before_by(closed: &Closed) -> Before
     }
 }
 
-// Whether a distance in microseconds is so many seconds, within 100 ms either way.
+// Whether a distance in microseconds is this many seconds, within 100 ms either way.
 fn lasts(seconds: u64, apart: u64) -> bool
     requires seconds { seconds < 2 ^ 10 }
     requires apart { apart < 2 ^ 50 }
@@ -44,7 +44,7 @@ pub fn leap_of_both(was: u64, is: u64) -> u64
     if was == is { is } else { 0 }
 }
 
-// The answer to a valid segment behind a valid one.
+// The answer to a valid segment after a valid one.
 fn answer_to_both(before: Local, was: &Coded, closed: &Closed, is: &Coded) -> Kind
     requires { SaysYears is.now }
     ensures kind { result ≡ both_by before was.now closed.now is.now }

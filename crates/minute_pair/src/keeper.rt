@@ -11,8 +11,8 @@ ghost use Rattle.minute_pair.specs.Keeping.{HasKept, Closes};
 use crate::plans::Frame;
 use tick_units::{Broken, Coded, Local, Mark, Plan, Symbol};
 
-// A segment that a mark closed: that mark's start, what the segment says or the least rule that it breaks, and whether it
-// has the 60th mark of a minute with a leap second.
+// A segment that a mark closed: that mark's start, what the segment says or the least rule that it breaks. Also whether it has
+// the 60th mark of a minute with a leap second.
 #[derive(Clone, Copy, Debug)]
 pub struct Closed {
     pub close: Local,
@@ -55,7 +55,7 @@ fn is_boundary(plan: Plan, before: &Option<Mark>, mark: &Mark) -> bool
 }
 
 impl SegmentKeeper {
-    // A keeper that has heard no mark.
+    // A keeper that has received no mark.
     pub fn new(plan: Plan) -> SegmentKeeper
         ensures { HasKept result plan [] }
     {
@@ -84,7 +84,7 @@ impl SegmentKeeper {
         self.is_open = true;
     }
 
-    // Hears the next mark: the segment that it closes, if it closes one.
+    // Takes the next mark, and returns the segment that it closes, if it closes one.
     #[inline(always)]
     pub fn hear(&mut self, mark: Mark) -> Option<Closed>
         ensures heard { (plan : Plan) (marks : List Mark) → HasKept self.old plan marks → HasKept self.new plan (marks ++ mark ∷ []) }

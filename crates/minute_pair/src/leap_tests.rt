@@ -1,7 +1,7 @@
 //! A leap second is believed where both of two neighbouring frames announce it. Valid frames of neighbouring minutes never
-//! announce two different ones: DCF77's leap second ends at the next UTC midnight that begins a month, and WWVB's where the
-//! next month begins, which is the same second for both minutes, or else the former minute is refused; and MSF announces none.
-//! So two that differ are tried at the function that compares them.
+//! announce two different ones. DCF77's leap second ends at the next UTC midnight that begins a month, and WWVB's where the next
+//! month begins. That is the same second for both minutes, or else the former minute is refused. MSF announces none. So two that
+//! differ are tried at the function that compares them.
 use crate::answers::leap_of_both;
 
 // The ends of 2016 and of June 2015, each with a leap second before it (IERS Bulletins C 52 and C 49).

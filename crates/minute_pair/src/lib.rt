@@ -1,5 +1,5 @@
-//! Minutes of a log: its marks are cut into segments, each closed segment is judged by its code plan, and a minute is
-//! believed where two valid frames in a row agree by their code and by the host's counter.
+//! Minutes of a log. Its marks are cut into segments, and the code plan judges each closed segment. A minute is believed where
+//! two valid frames in a row agree by their code and by the host's counter.
 #![tactic(auto)]
 
 mod answers;

@@ -11,7 +11,7 @@ use crate::answers::{Before, answer, before_by};
 use crate::keeper::SegmentKeeper;
 use tick_units::{Heard, Mark, Plan};
 
-/// Pairs the segments of a plan's marks: what each comes to is told by it and by the one just before it.
+/// Pairs the segments of a plan's marks: the answer to each depends on it and on the one just before it.
 #[derive(Drop)]
 pub struct Pairing {
     keeper: SegmentKeeper,
@@ -21,7 +21,7 @@ pub struct Pairing {
 impl Pairing {
     ghost use Rattle.minute_pair.specs.Pairing.{HasPaired};
 
-    /// A pairing of a plan's marks that has heard none.
+    /// A pairing of a plan's marks that has received none.
     pub fn new(plan: Plan) -> Pairing
         ensures { HasPaired result plan [] }
     {
@@ -39,14 +39,14 @@ impl Pairing {
         self.keeper.plan()
     }
 
-    /// Hears the next mark: the answer to the segment that it closes, if it closes one, at this mark's start.
+    /// Takes the next mark, and returns the answer to the segment that it closes, if it closes one, at this mark's start.
     #[inline(always)]
     pub fn hear(&mut self, mark: Mark) -> Option<Heard>
         ensures heard { (plan : Plan) (marks : List Mark) → HasPaired self.old plan marks → HasPaired self.new plan (marks ++ mark ∷ []) }
         ensures answered { (plan : Plan) (marks : List Mark) → HasPaired self.old plan marks →
             answers plan (segments_of plan (marks ++ mark ∷ [])) ≡ answers plan (segments_of plan marks) ++ option_to_list result }
 
-        // A second that is believed, and its leap second, lie in the years 2000 to 2099, within a day or two.
+        // A believed second, and its leap second, lie in the supported years, 2000 to 2099 and a day or two around them.
         ensures years { IfSome result (λ heard. BelievesYears heard.kind) }
     {
         let Some(closed) = self.keeper.hear(mark) else {

@@ -1,4 +1,4 @@
--- A list that is read from a place on, or whose front is written piece after piece.
+-- A list that is read from a place on, or whose beginning is written piece after piece.
 use Rattle.std.proofs.Common.{◌≡◌, ℕ, zero, suc, ◌+◌, ◌-◌, ◌*◌, ◌%◌, ◌^◌, ◌<◌, ◌≤◌, bit_or, List, [], ◌∷◌, ◌++◌, length, take, drop, set, slice_index, refl, ap, ◌∙◌, arith, add-suc, add-zero, append-nil, length-take, get_or-drop}
 use Rattle.std.proofs.lemmas.List.{drop_all}
 use Rattle.std.proofs.lemmas.Nat.{or_shifted}
@@ -15,11 +15,11 @@ big_from-drop i (suc n) place xs =
     let rest : big_from (suc i) n (drop place xs) ≡ big_from (suc (place + i)) n xs = rw (← add-suc place i) (big_from-drop (suc i) n place xs) in
     rw (byte, rest) refl
 
--- the number at the front of what stands from a place on
+-- the number at the beginning of what stands from a place on
 pub number_at : (place n : ℕ) (xs : List ℕ) → place + n ≤ length xs → big_from 0 n (take (length xs - place) (drop place xs)) ≡ big_from place n xs
 number_at place n xs room = big_from-take 0 n (length xs - place) (drop place xs) (omega arith) ∙ (rw add-zero at (big_from-drop 0 n place xs))
 
--- where a piece of k places now holds the k numbers of ys, these stand behind the front
+-- where a piece of k places now holds the k numbers of ys, these stand after the beginning
 pub front_more : (xs ys piece : List ℕ) (front k : ℕ) → front + k ≤ length xs → length ys ≡ k → piece ≡ ys ++ drop k (mid_of front (front + k - front) xs) → take (front + k) (put_mid front (front + k - front) xs piece) ≡ take front xs ++ ys
 front_more xs ys piece front k room long is =
     let few : length (mid_of front (front + k - front) xs) ≤ k = omega (arith, length-take {A = ℕ}) in

@@ -4,14 +4,14 @@ use tick_units::{Short, Stamp};
 /// The fields of a packet's header, in the order in which they stand on the wire.
 #[derive(Clone, Copy, Debug, PartialEq, Eq)]
 pub struct Header {
-    /// The leap indicator, 0 to 3: no warning, the day's last minute has 61 seconds, or 59, not synchronised.
+    /// The leap indicator: 0 no warning, 1 the day's last minute has 61 seconds, 2 it has 59, 3 not synchronised.
     pub leap: u8,
     /// The protocol's version, 0 to 7.
     pub version: u8,
     /// The mode, 0 to 7: 3 is a client's, 4 a server's.
     pub mode: u8,
-    /// The sender's stratum: 1 where its own clock is set by a reference clock, and one more than that of the server that it
-    /// takes its time from where it isn't. 0 where it isn't synchronised, or says nothing of it.
+    /// The sender's stratum: 1 where a reference clock sets its own clock, else one more than that of its server. It is 0 where
+    /// the sender is not synchronised, or says nothing of it.
     pub stratum: u8,
     /// The interval between polls, in log2 seconds.
     pub poll: i8,

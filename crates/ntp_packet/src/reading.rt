@@ -23,7 +23,7 @@ fn u64_at(bytes: &[u8], place: usize) -> u64
     BigEndian::read_u64(&bytes[place..])
 }
 
-/// The header that the first 48 bytes spell, and `None` where there are fewer. Bytes after the 48th are passed over.
+/// The header that the first 48 bytes spell. `None` where there are fewer. Bytes after the 48th are passed over.
 pub fn read(bytes: &[u8]) -> Option<Header>
     ensures whole { IsSome result ↔ (48 ≤ length bytes.now) }
     ensures fields { IfSome result (λ h. h ≡ fields bytes.now) }

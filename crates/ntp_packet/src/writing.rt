@@ -6,7 +6,7 @@ ghost use Rattle.ntp_packet.specs.Layout.{fields, layout};
 use crate::Header;
 use byteorder::{BigEndian, ByteOrder};
 
-// Writes a number of four bytes behind those at the front.
+// Writes a number of four bytes after those at the beginning.
 fn put_u32(out: &mut [u8; 48], front: usize, n: u32)
     requires { front + 4 ≤ 48 }
     ensures piece { take (front + 4) out.new ≡ take front out.old ++ big_bytes 4 n }
@@ -15,7 +15,7 @@ fn put_u32(out: &mut [u8; 48], front: usize, n: u32)
     BigEndian::write_u32(&mut out[front..front + 4], n);
 }
 
-// Writes a number of eight bytes behind those at the front.
+// Writes a number of eight bytes after those at the beginning.
 fn put_u64(out: &mut [u8; 48], front: usize, n: u64)
     requires { front + 8 ≤ 48 }
     ensures piece { take (front + 8) out.new ≡ take front out.old ++ big_bytes 8 n }

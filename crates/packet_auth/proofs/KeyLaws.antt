@@ -36,7 +36,7 @@ big_from-drop i (suc n) place xs =
     let rest : big_from (suc i) n (drop place xs) ≡ big_from (suc (place + i)) n xs = rw (← add-suc place i) (big_from-drop (suc i) n place xs) in
     rw (byte, rest) refl
 
--- the identifier behind a header
+-- the identifier after a header
 id-named : (d : List ℕ) → big_from 0 4 (take 4 (drop 48 d)) ≡ big_from 48 4 d
 id-named d = big_from-take 0 4 4 (drop 48 d) (omega arith) ∙ big_from-drop 0 4 48 d
 

@@ -1,4 +1,4 @@
--- The keys that a server shares with its clients: each is an identifier of 32 bits and the bytes of a secret (RFC 5905, section 7.3).
+-- The keys that a server shares with its clients (RFC 5905, section 7.3): each is an identifier of 32 bits and a secret.
 use Rattle.std.specs.Prelude.{◌≡◌, ℕ, ◌==◌, Bool, false, List, [], map, take, Option, Some, None, slice_get}
 use Rattle.std.specs.List.{find, list_any}
 use Rattle.packet_auth.specs.declared.key.Key.{Key}

@@ -7,10 +7,10 @@ use crate::key::Key;
 use crate::lookup::{digest_by, vouches};
 use byteorder::{BigEndian, ByteOrder};
 
-/// How many bytes a header has. The key's identifier stands behind it.
+/// How many bytes a header has. The key's identifier stands after it.
 pub const HEADER_LENGTH: usize = 48;
 
-// Behind the identifier stands the digest.
+// The digest stands after the identifier.
 const DIGEST_PLACE: usize = 52;
 
 /// How many bytes a packet has that carries an identifier and a digest.
@@ -19,7 +19,7 @@ pub const SEALED_LENGTH: usize = 68;
 // A ring has at most this number of keys.
 const MOST: usize = 8;
 
-// Writes an identifier behind a header, its highest byte first.
+// Writes an identifier after a header, its highest byte first.
 fn put_id(out: &mut [u8; SEALED_LENGTH], id: u32)
     ensures piece { take 52 out.new ≡ take 48 out.old ++ big_bytes 4 id }
     ensures fits { id < 2 ^ 32 }
@@ -49,7 +49,7 @@ impl KeyRing {
         }
     }
 
-    /// Adds a key of an identifier that isn't 0 and that no other key has, with a secret of 1 to 32 bytes. There is room for 8 keys.
+    /// Adds a key with a secret of 1 to 32 bytes. Its identifier is not 0, and no other key has it. There is room for 8 keys.
     pub fn add(&mut self, id: u32, secret: &[u8])
         requires some { 0 < id }
         requires other { IsFalse (has_id id (keys_of self.old)) }
@@ -69,8 +69,9 @@ impl KeyRing {
         &self.keys[..self.count]
     }
 
-    /// The identifier by which a datagram is authentic: it has 68 bytes, and one of the keys has the identifier in bytes 48 to 51, its
-    /// highest byte first, and makes of the first 48 bytes the digest in bytes 52 to 67. `None` exactly where it isn't so.
+    /// The identifier by which a datagram is authentic. Such a datagram has 68 bytes. One of the keys has the identifier in bytes
+    /// 48 to 51, its highest byte first. That key makes of the first 48 bytes the digest in bytes 52 to 67. `None` for any other
+    /// datagram.
     pub fn authentic(&self, datagram: &[u8]) -> Option<u32>
         ensures value { result ≡ authentic (keys_of self.now) datagram.now }
         ensures known { IfSome result (λ id. IsTrue (has_id id (keys_of self.now))) }
@@ -84,8 +85,8 @@ impl KeyRing {
         vouches(self.keys(), id, header, claimed).then_some(id)
     }
 
-    /// Writes a header, the identifier of one of the keys behind it, its highest byte first, and the digest that this key makes of the
-    /// header.
+    /// Writes a header, then the identifier of one of the keys, its highest byte first, then the digest that this key makes of
+    /// the header.
     pub fn seal(&self, id: u32, header: &[u8; HEADER_LENGTH], out: &mut [u8; SEALED_LENGTH])
         requires { IsTrue (has_id id (keys_of self.now)) }
         ensures bytes { out.new ≡ sealed (keys_of self.now) id header.now }

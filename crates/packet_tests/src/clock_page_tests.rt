@@ -7,14 +7,14 @@ use clock_page::Page;
 use std::test::Fail;
 use tick_units::{Short, Span, Stamp};
 
-// A server with one DCF77 radio, 302 s after its start, which hears nothing for ten minutes.
+// A server with one DCF77 radio, 302 s after its start, which receives nothing for ten minutes.
 fn of_a_radio(offset: Span, leap_at: u64) -> Result<Page, Fail>
     requires { pos 0 ≤ℤ offset }
 {
     with_rate(offset, leap_at, 0)
 }
 
-// The same, where the host's counter loses so many units a second.
+// The same, where the host's counter loses this many units a second.
 fn with_rate(offset: Span, leap_at: u64, rate: i32) -> Result<Page, Fail>
     requires offset { pos 0 ≤ℤ offset }
     requires rate { IsRate rate }
@@ -80,7 +80,7 @@ fn an_offset_of_two_words(rt: HostRuntime) -> Result<(), Fail> {
     Ok(())
 }
 
-// A page that isn't synchronised has no rate.
+// A page that is not synchronised has no rate.
 #[test]
 fn a_rate_where_nothing_tells_the_time(rt: HostRuntime) {
     let words = [4, 0x494e_4954, 0, 242_000_000, 0, 0x0010_0000, 0, 0, 0, 1];
@@ -176,7 +176,7 @@ fn a_warning_follows_the_rate(rt: HostRuntime) -> Result<(), Fail> {
     Ok(())
 }
 
-// One word changed: a word past its range, or a word of a page that says more than that it isn't synchronised.
+// One word changed: a word past its range, or a word of a page that says more than that it is not synchronised.
 #[test]
 fn words_of_no_page(rt: HostRuntime) {
     for (place, word) in [

@@ -8,7 +8,7 @@ use clock_page::Page;
 use reply_core::{Code, Dropped, kiss};
 use std::test::Fail;
 
-// What a client gets with the code, of which a drop leaves nothing.
+// What a client gets with the code; a drop leaves nothing of it.
 fn kissed(
     code: Code,
     page: &Page,
@@ -78,7 +78,7 @@ fn a_client_is_denied(rt: HostRuntime) -> Result<(), Fail> {
     Ok(())
 }
 
-// A request of version 1 to a server that never knew the time, and one of version 3 with a poll of 17 after a page's end.
+// A request of version 1 to a server that never knew the time. Then one of version 3 with a poll of 17 after a page's end.
 #[test]
 fn a_server_that_is_not_synchronised_has_the_same_codes(rt: HostRuntime) -> Result<(), Fail> {
     let denied = [
@@ -137,7 +137,7 @@ fn a_code_has_the_stamps_of_the_answer(rt: HostRuntime) -> Result<(), Fail> {
     Ok(())
 }
 
-// What isn't answered gets no code either, and what follows the 48th byte is passed over.
+// What is not answered gets no code either, and what follows the 48th byte is passed over.
 #[test]
 fn codes_are_dropped_as_answers_are(rt: HostRuntime) -> Result<(), Fail> {
     let page = of_a_radio()?;

@@ -82,8 +82,8 @@ fn a_table_of_one_forgets(rt: HostRuntime) -> Result<(), Fail> {
     Ok(())
 }
 
-// Five clients at a table of three. Python's OrderedDict gave the codes; a table of two or four, one that doesn't bring a client that
-// gets RATE to the front, and one that renews its moment, each give four other codes or more.
+// Five clients at a table of three. Python's OrderedDict gave the codes. A table of two or four gives four other codes or more.
+// So does one that does not move a client that gets RATE to the first place, and one that renews its moment.
 #[test]
 fn a_table_of_three_forgets_the_one_that_asked_longest_ago(rt: HostRuntime) -> Result<(), Fail> {
     let requests = [

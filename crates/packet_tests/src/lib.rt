@@ -1,5 +1,5 @@
-//! Tests of packets: headers and digests, who is answered, replies, exchanges with a server, and the page that replies are made of. They
-//! stand in a crate of their own, so that none of it is proved once more with them.
+//! Tests of packets: headers and digests, who is answered, replies, exchanges with a server, and the page that replies are made
+//! of. They stand in a crate of their own: a change in them then re-proves none of the crates that they test.
 #![tactic(auto)]
 
 #[cfg(test)]

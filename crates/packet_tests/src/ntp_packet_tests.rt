@@ -1,4 +1,4 @@
-//! Headers that were dissected by hand, and their bytes.
+//! Headers that were decoded by hand, and their bytes.
 use ntp_packet::{Header, read, write};
 use std::process::Abort;
 use tick_units::{Short, Stamp};
@@ -13,8 +13,8 @@ fn assert_spells(rt: &impl Abort, bytes: [u8; 48], header: Header) {
     }
 }
 
-// A request as `ntpdate` lays it out: not synchronised, version 4, a poll of 16 s, a precision of 1/64 s, a root delay and a
-// root dispersion of a second.
+// A request as `ntpdate` lays it out: not synchronised, version 4, a poll of 16 s, a precision of 1/64 s. Root delay and root
+// dispersion are a second each.
 #[test]
 fn a_request_of_ntpdate(rt: HostRuntime) {
     let bytes = [
@@ -43,7 +43,7 @@ fn a_request_of_ntpdate(rt: HostRuntime) {
     assert_spells(&rt, bytes, header);
 }
 
-// A request that `systemd-timesyncd` 252 sent: the version and the mode, and a transmit timestamp by chance.
+// A request that `systemd-timesyncd` 252 sent: the version and the mode, and a random transmit timestamp.
 #[test]
 fn a_request_of_timesyncd(rt: HostRuntime) {
     let mut bytes = [0; 48];
@@ -67,8 +67,8 @@ fn a_request_of_timesyncd(rt: HostRuntime) {
     assert_spells(&rt, bytes, header);
 }
 
-// An answer of a server of stratum 2, dissected by hand: a leap second at the end of the day, a root delay of 1/256 s, a
-// root dispersion of 1/128 s, its clock last set from 10.0.0.1 at noon of 2026-01-01, each number with bytes of its own.
+// An answer of a server of stratum 2, decoded by hand. It has a leap second at the end of the day, a root delay of 1/256 s, a
+// root dispersion of 1/128 s. Its clock was last set from 10.0.0.1 at noon of 2026-01-01. Each number has bytes of its own.
 #[test]
 fn an_answer_of_a_server(rt: HostRuntime) {
     let bytes = [

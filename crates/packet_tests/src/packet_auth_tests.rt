@@ -15,7 +15,7 @@ const OF_ONE_BYTE: [u8; 16] = [
     0x5a, 0xc8, 0x36, 0xae, 0xed, 0x24, 0x72, 0x9b, 0x2e, 0x5f, 0x19, 0x40, 0x00, 0xaa, 0x3d, 0xfe,
 ];
 
-// The request with an identifier and a digest behind it, on the wire.
+// The request, followed by an identifier and a digest, on the wire.
 fn packet(id: [u8; 4], digest: [u8; 16]) -> [u8; SEALED_LENGTH] {
     let mut bytes = [0; SEALED_LENGTH];
     bytes[..48].copy_from_slice(&REQUEST);
@@ -142,7 +142,7 @@ fn a_seal_is_that_of_the_key_that_was_asked_for(rt: HostRuntime) {
     same(&rt, out, packet([1, 2, 3, 4], OF_ONE_BYTE));
 }
 
-// A ring is a value: what is added to a copy isn't in it.
+// A ring is a value: what is added to a copy is not in it.
 #[test]
 fn a_copy_of_a_ring(rt: HostRuntime) {
     let empty = KeyRing::new();

@@ -1,4 +1,4 @@
-//! Exchanges with a server, right ones and refused ones.
+//! Exchanges with a server, accepted ones and refused ones.
 ghost use Rattle.std.specs.Prelude.{◌≡◌};
 ghost use Rattle.poll_core.specs.Polling.{asked_at};
 
@@ -23,7 +23,7 @@ const OTHER_HOST: Address = Address {
     port: 123,
 };
 
-// The request of a counter that has run for a second: version 4 of a client, a poll of 64 s, a precision of 2^-20 s.
+// The request of a counter that has run for a second: version 4, a client's mode, a poll of 64 s, a precision of 2^-20 s.
 const REQUEST: [u8; 48] = [
     0x23, 0x00, 0x06, 0xec, 0x00, 0x00, 0x00, 0x00, 0x00, 0x00, 0x00, 0x00, 0x00, 0x00, 0x00, 0x00, // to the refid
     0x00, 0x00, 0x00, 0x00, 0x00, 0x00, 0x00, 0x00, 0x00, 0x00, 0x00, 0x00, 0x00, 0x00, 0x00, 0x00, // to the origin
@@ -258,7 +258,7 @@ fn of_two_faults_the_lesser_number_counts(rt: HostRuntime) -> Result<(), Fail> {
     Ok(())
 }
 
-// The same of an answer that was accepted before: first it answers another request, then its clock isn't synchronised.
+// The same of an answer that was accepted before: first it answers another request, then its clock is not synchronised.
 #[test]
 fn a_duplicate_with_another_fault(rt: HostRuntime) -> Result<(), Fail> {
     let mut poll = asked(moment(1_000_000)?);

@@ -7,7 +7,7 @@ use reply_core::{Dropped, reply};
 use std::test::Fail;
 use tick_units::{Short, Span, Stamp};
 
-// What is answered, of which a drop leaves nothing.
+// What is answered; a drop leaves nothing of it.
 pub(crate) fn answered(
     page: &Page,
     datagram: &[u8],
@@ -196,8 +196,8 @@ fn each_version_is_answered(rt: HostRuntime) -> Result<(), Fail> {
     Ok(())
 }
 
-// The page is from 302 s, and the host's counter drifts 15 us in a second: 590 units of 2^-16 s in ten minutes, up to a whole
-// second at its end, and nothing before the page was made.
+// The page is from 302 s, and the host's counter drifts 15 us in a second. That is 590 units of 2^-16 s in ten minutes, up to a
+// whole second at its end, and nothing before the page was made.
 #[test]
 fn a_dispersion_grows_from_the_page_on(rt: HostRuntime) -> Result<(), Fail> {
     let page = of_a_radio()?;

@@ -38,7 +38,7 @@ const ANSWER_BY_SHORTWAVE: [u8; 16] = [
     0xd5, 0xa6, 0xb4, 0xf0, 0x4f, 0x46, 0xf7, 0x59, 0x1a, 0xed, 0x52, 0x86, 0xff, 0x34, 0x14, 0x1c,
 ];
 
-// A header with an identifier and a digest behind it, on the wire.
+// A header, followed by an identifier and a digest, on the wire.
 fn packet(header: [u8; 48], id: u8, digest: [u8; 16]) -> [u8; 68] {
     let mut bytes = [0; 68];
     bytes[..48].copy_from_slice(&header);
@@ -56,7 +56,7 @@ fn ring_of_two() -> KeyRing
     ring
 }
 
-// The reply that a client gets by its code for a datagram half a millisecond behind it.
+// The reply that a client gets by its code, half a millisecond after its datagram.
 fn reply_by(
     code: Code,
     datagram: &[u8],
@@ -95,7 +95,8 @@ fn a_reply_is_sealed_as_its_request_is(rt: HostRuntime) -> Result<(), Fail> {
     Ok(())
 }
 
-// The last byte is changed, the identifier is another's or nobody's, the length is that of a crypto-NAK, or a byte is one too many or few.
+// The last byte is changed, or the identifier is another's or nobody's. Or the length is that of a crypto-NAK, or one byte too
+// many or too few.
 #[test]
 fn a_request_that_is_not_authentic(rt: HostRuntime) -> Result<(), Fail> {
     let mut changed = packet(REQUEST, 1, BY_LONGWAVE);

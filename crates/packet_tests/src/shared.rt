@@ -1,4 +1,4 @@
-//! What the tests of packets share: a moment, a request, the page of a radio, and what its server replies.
+//! What the tests of packets share: a moment, a request, the page of a radio, and its server's replies.
 ghost use Rattle.std.specs.Prelude.{◌≡◌, IfOk};
 
 use clock_page::Page;
@@ -7,7 +7,7 @@ use std::process::Abort;
 use std::test::Fail;
 use tick_units::{Local, Short, Span, Stamp};
 
-// What `assert_eq!` does, as a call: where many stand in a test, calls are proved in a third of the time.
+// Does what `assert_eq!` does, as a call. In a test with many of them, calls are proved in a third of the time.
 pub(crate) fn same<T: PartialEq + Debug + Drop>(rt: &impl Abort, left: T, right: T) {
     assert_eq!(*rt; left, right);
 }
@@ -58,7 +58,7 @@ pub(crate) const ANSWER: [u8; 48] = [
     0xed, 0x00, 0xe1, 0x31, 0x00, 0x00, 0x00, 0x00, 0xed, 0x00, 0xe1, 0x31, 0x00, 0x20, 0xc4, 0x9b,
 ];
 
-// What a client gets at the same moments that is denied.
+// What a denied client gets at the same moments.
 pub(crate) const DENY: [u8; 48] = [
     0xe4, 0x00, 0x06, 0xec, 0x00, 0x00, 0x00, 0x00, 0x00, 0x10, 0x00, 0x00, 0x44, 0x45, 0x4e, 0x59, // `DENY`
     0x00, 0x00, 0x00, 0x00, 0x00, 0x00, 0x00, 0x00, 0x11, 0x22, 0x33, 0x44, 0x55, 0x66, 0x77, 0x88, // the origin

@@ -24,7 +24,7 @@ same-page w p q h g = by_state (dec_le 256 (slice_index w 1 / 2 ^ 32))
         let less : slice_index w 1 / 2 ^ 32 < 256 = omega arith in
         unsynced-page w p h less ∙ sym (unsynced-page w q g less)
 
--- the page that a reading has is the page of so many entries
+-- the page that a reading has is the page of this many entries
 pub reading-page : (s : SettingsFields) (log : List Entry) (n : ℕ) (p : PageFields) → IsReading s log (n, words p) → IsPage p → p ≡ page_of s (take n log)
 unfolding page_at
 reading-page s log n p h page = same-page (words p) p (page_at s log n) (record { page = page; words = refl }) h.page

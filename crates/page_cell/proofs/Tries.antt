@@ -105,7 +105,7 @@ try-other i first second ten v w x lt t great is told =
     let a = subst (λ (b : Bool). MatchBool b ((x ≡ succeeds (with_loaded ten 10 (begins first w))) × (w.seen ≤ first) × ((p : PageFields) × AreWords ten p)) ((x ≡ fails_at second (with_loaded ten 10 (begins first w))) × (w.seen ≤ first) × (first < second))) is told in
     (subst (Tried (i + 1) v) (sym a.0) (tried_more i first second ten v w lt a.1 a.2 great t), (pairs_of w, ap (λ (u : View). u.watch.pairs) a.0))
 
--- what callers are told of a call that read a page
+-- what callers learn of a call that read a page
 pub reads-page : (n : ℕ) (p : PageFields) (v w : View) → ReadsOnce v n (words p) w → IsPage p → ReadsPage v w p
 reads-page n p v w r page =
     let seen : w.seen ≡ n = ap (λ (u : View). u.seen) r.same in

@@ -6,11 +6,11 @@ use Rattle.page_cell.specs.declared.view.Claim.{Claim}
 use Rattle.page_cell.specs.declared.view.View.{View}
 use Rattle.system_fold.specs.Settings.{SettingsFields}
 
--- which table a cell is
+-- the table of a cell
 pub record CellFields : Type 0 where
   pub table : TableId
 
--- a pass: of which cell it is, and what it knows
+-- a pass: its cell, and what it knows
 pub record Known : Type 0 where
   pub table : TableId
   pub view : View
@@ -21,7 +21,7 @@ pub record KnownReader : Type 0 where
   pub view : View
   pub number : ℕ
 
--- the settings by which a pass means pages
+-- the settings of the pages that a pass knows
 abbrev pub key_of : View → SettingsFields
 key_of v = v.settings
 
@@ -33,21 +33,21 @@ first_claim (c ∷ cs) = c
 abbrev pub claim_of : View → Claim
 claim_of v = first_claim v.feeds
 
--- between two calls no pass stands in a try, or in the middle of a reading
+-- between two calls no pass is in a try, or in the middle of a reading
 pub record IsResting (v : View) : Type 0 where
   pub live : v.spent ≡ false
   pub trying : v.watch.trying ≡ false
   pub fails : v.watch.fails ≡ 0
   pub finished : v.watch.unfinished ≡ false
 
--- the pass with the baton: its list has so many entries
+-- the pass with the baton: its list has this many entries
 pub record IsBaton (n : ℕ) (v : View) : Type 0 where
   pub rests : IsResting v
   pub baton : v.baton ≡ true
   pub feeds : v.feeds ≡ []
   pub length : n ≡ length v.list
 
--- a feed's pass: of this number, which has seen so many entries
+-- a feed's pass: of this number, which has seen this many entries
 pub record IsFeed (feed n : ℕ) (v : View) : Type 0 where
   pub rests : IsResting v
   pub baton : v.baton ≡ false
@@ -63,14 +63,14 @@ pub record IsPublisher (feed n : ℕ) (v : View) : Type 0 where
   pub number : feed ≡ (claim_of v).number
   pub length : n ≡ length v.list
 
--- a reader's pass, which has seen so many entries
+-- a reader's pass, which has seen this many entries
 pub record IsReader (n : ℕ) (v : View) : Type 0 where
   pub rests : IsResting v
   pub baton : v.baton ≡ false
   pub feeds : v.feeds ≡ []
   pub seen : n ≡ v.seen
 
--- a receipt of so many entries
+-- a receipt of this many entries
 pub record IsReceipt (n : ℕ) (v : View) : Type 0 where
   pub live : v.spent ≡ false
   pub baton : v.baton ≡ false

@@ -3,12 +3,12 @@ use Rattle.std.specs.Prelude.{◌≡◌, ℕ, ◌+◌, ◌*◌, ◌<◌, ◌≤�
 use Rattle.clock_page.specs.Page.{IsPage, PageFields, words}
 use Rattle.page_cell.specs.declared.view.View.{View}
 
--- of the two counts of a try the second was above the first: something was published in between
+-- the second of the two counts of a try was above the first: an entry was published in between
 abbrev pub IsRising : ℕ × ℕ → Type 0
 IsRising pair = pair.0 < pair.1
 
--- A page was read. It is one reading more, of at least as many entries as were seen, and so many are seen then. In the last of at most
--- four tries the count stood still, in each one before it rose. Each try is twelve loads
+-- A page was read. It is one more reading, of at least as many entries as were seen, and this many are seen then. In the last of
+-- at most four tries the count was the same twice; in each one before, it rose. Each try is twelve loads
 pub record ReadsPage (v w : View) (p : PageFields) : Type 0 where
   pub later : v.seen ≤ w.seen
   pub reading : w.readings ≡ v.readings ++ (w.seen, words p) ∷ []
@@ -19,7 +19,7 @@ pub record ReadsPage (v w : View) (p : PageFields) : Type 0 where
   pub torn : w.watch.torn ≡ v.watch.torn
   pub greatest : v.watch.greatest ≤ w.watch.greatest
 
--- In each of four tries the count rose; these are the last two counts. Nothing was read, and no more is seen than before
+-- In each of four tries the count rose; these are the last two counts. No page was read, and no more is seen than before
 pub record ReadsAgain (v w : View) (first second : ℕ) : Type 0 where
   pub seen : w.seen ≡ v.seen
   pub readings : w.readings ≡ v.readings

@@ -1,5 +1,5 @@
--- The rule of a cell: what holds of its words and of all passes between any two steps. All of it is this project's own; the two banks
--- stand in the place of the one bank of a sequence lock.
+-- The rule of a cell: what holds of its words and of all passes between any two steps. All of it is this project's own; two banks
+-- replace the one bank of a sequence lock.
 use Rattle.std.specs.Prelude.{◌≡◌, ℕ, suc, ◌+◌, ◌*◌, ◌%◌, ◌<◌, ◌≤◌, true, false, List, length, All, slice_index}
 use mathlib.Core.Option.{some}
 use lib.ListN.{get_elem?}
@@ -11,7 +11,7 @@ use Rattle.page_cell.specs.declared.view.View.{View}
 use Rattle.page_cell.specs.declared.view.Watch.{Watch}
 use Rattle.system_fold.specs.Settings.{SettingsFields}
 
--- of the 21 words the first is the count; where the word i of the bank of a count stands
+-- of the 21 words the first is the count; this is the place of the word i of the bank of a count
 abbrev pub bank_word : ℕ → ℕ → ℕ
 bank_word n i = 1 + 10 * (n % 2) + i
 
@@ -19,23 +19,23 @@ bank_word n i = 1 + 10 * (n % 2) + i
 abbrev pub HasBank : List ℕ → ℕ → List ℕ → Type 0
 HasBank words n xs = (i : ℕ) → i < length xs → i < 10 → slice_index words (bank_word n i) ≡ slice_index xs i
 
--- a claim is true, and stands at the one place of its number: 0 where it was gathered, and else the pass's number and 1. So no two
--- passes claim one number, and none that wasn't given
+-- a claim is true, and is at the one place of its number: 0 where it was gathered, and else the pass's number plus 1. So no two
+-- passes claim one number, and no claim has a number that was not given
 pub record Stands (log : List Entry) (given : ℕ) (home : ℕ → ℕ) (place : ℕ) (c : Claim) : Type 0 where
   pub numbered : c.number < given
   pub placed : home c.number ≡ place
   pub holds : IsTrueOf log c
 
--- of n entries, what a reader does: no count that it loads is above n. Each call that answered Again, and each failed try of the call
--- that it is in, saw the count rise, so four times the one and the other are no more than the greatest count. In a try it loaded the
--- greatest count first, and where that is still the count, the words that it loaded are those of its bank
+-- of n entries, what a reader does: no count that it loads is above n. Each call that answered Again, and each failed try of the
+-- call that it is in, saw the count rise. So four times the first number, plus the second, is at most the greatest count. In a
+-- try it loaded the greatest count first. Where that is still the count, the words that it loaded are those of its bank
 pub record IsWatch (words : List ℕ) (n seen : ℕ) (w : Watch) : Type 0 where
   pub most : w.greatest ≤ n
   pub torn : 4 * w.torn + w.fails ≤ w.greatest
   pub trying : w.trying ≡ true → (seen ≤ w.first) × (w.greatest ≡ w.first) × (w.first ≡ n → HasBank words n w.loaded)
 
--- what holds of one pass. With the baton it knows the list, and the words that it stored of the next page are the first ones of the
--- other bank
+-- what holds of one pass. With the baton it knows the list, and the words that it stored of the next page are the first ones of
+-- the other bank
 pub record Fits (settings : SettingsFields) (words : List ℕ) (log : List Entry) (given : ℕ) (home : ℕ → ℕ) (seat by : ℕ) (v : View) : Type 0 where
   pub keyed : v.spent ≡ false → v.settings ≡ settings
   pub baton : v.baton ≡ true → (by ≡ seat) × (v.list ≡ log) × (v.given ≡ given) × HasBank words (suc (length log)) v.stored
@@ -50,8 +50,9 @@ pub record Fits (settings : SettingsFields) (words : List ℕ) (log : List Entry
 abbrev pub HoldsBaton : List View → ℕ → Type 0
 HoldsBaton views seat = (v : View) × (get_elem? views seat ≡ some v) × (v.baton ≡ true)
 
--- There is one list of entries. The count is its length, and the count's bank has the words of its page. So many feeds' passes were
--- given, each of one of the settings' feeds, and no entry is of another feed. One pass has the baton, and each pass fits
+-- There is one list of entries. The count is its length, and the count's bank has the words of its page. This many feeds' passes
+-- were given, each of one of the settings' feeds, and no entry is of another feed. One pass has the baton, and the rule holds of
+-- each pass
 pub record Opened (settings : SettingsFields) (words : List ℕ) (views : List View) : Type 0 where
   pub log : List Entry
   pub given : ℕ

@@ -1,4 +1,4 @@
--- Scaffolding: what each kind of step tells the pass that makes it.
+-- Scaffolding: what each kind of step shows the pass that makes it.
 use Rattle.std.specs.Prelude.{◌≡◌, ℕ, ◌<◌, ◌≤◌, ◌==◌, length, All, MatchBool}
 use mathlib.Core.List.{IsPrefix}
 use Rattle.atomic_table.specs.Table.{Me, Step}
@@ -20,7 +20,7 @@ Begins st m x m' = (m'.1 ≡ m.1) × (m'.0 ≡ begins x m.0) × (m.0.watch.great
 abbrev pub Loads : Step ℕ → Me ℕ View → ℕ → Me ℕ View → Type 0
 Loads st m x m' = (m'.1 ≡ m.1) × (m'.0 ≡ loads_word x m.0)
 
--- the same count shows that the words are a page's, of no fewer entries than were seen; else the count is above
+-- the same count shows that the words are a page's, of at least as many entries as were seen; else the count is above
 abbrev pub Ends : Step ℕ → Me ℕ View → ℕ → Me ℕ View → Type 0
 Ends st m x m' =
     (m'.1 ≡ m.1)

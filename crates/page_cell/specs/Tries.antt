@@ -13,7 +13,7 @@ TellsTry first second ten v w =
     ((w ≡ succeeds (with_loaded ten 10 (begins first v))) × (v.seen ≤ first) × ((p : PageFields) × AreWords ten p))
     ((w ≡ fails_at second (with_loaded ten 10 (begins first v))) × (v.seen ≤ first) × (first < second))
 
--- so many tries of a call failed, each with a second count above its first
+-- this many tries of a call failed, each with a second count above its first
 pub record Tried (i : ℕ) (v w : View) : Type 0 where
   pub same : w ≡ record v { watch = w.watch }
   pub trying : w.watch.trying ≡ false

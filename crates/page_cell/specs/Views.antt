@@ -1,4 +1,4 @@
--- Scaffolding: what each step makes of what a pass knows.
+-- Scaffolding: what each step makes of a pass's knowledge.
 use Rattle.std.specs.Prelude.{◌≡◌, ℕ, ◌+◌, ◌==◌, ◌||◌, Bool, true, false, List, [], ◌∷◌, ◌++◌, map, length, max, if◌then◌else◌}
 use Rattle.journal_entry.specs.declared.entry.Entry.{Entry}
 use Rattle.journal_entry.specs.declared.entry.What.TheVariants.{Notice}
@@ -7,7 +7,7 @@ use Rattle.page_cell.specs.declared.view.View.{View}
 use Rattle.page_cell.specs.declared.view.Watch.{Watch}
 use Rattle.system_fold.specs.Settings.{SettingsFields}
 
--- what stands where no entry and no settings are meant
+-- a filler where no entry and no settings are meant
 abbrev pub no_entry : Entry
 no_entry = record { feed = 0; at = 0; what = Notice 0 }
 
@@ -18,7 +18,7 @@ no_settings = record { bound = 0; sources = [] }
 abbrev pub still : Watch
 still = record { trying = false; first = 0; loaded = []; loads = 0; greatest = 0; torn = 0; fails = 0; unfinished = false; pairs = [] }
 
--- a pass that knows the settings alone
+-- a pass that knows only the settings
 abbrev pub with_settings : SettingsFields → View
 with_settings s = record { spent = false; settings = s; baton = false; list = []; given = 0; stored = []; feeds = []; gathered = []; seen = 0; readings = []; watch = still; tallies = [] }
 
@@ -109,7 +109,7 @@ fails_at n v = record v {
   watch = record { trying = false; first = v.watch.first; loaded = []; loads = v.watch.loads + 1; greatest = n; torn = if v.watch.fails == 3 then v.watch.torn + 1 else v.watch.torn; fails = if v.watch.fails == 3 then 0 else v.watch.fails + 1; unfinished = if v.watch.fails == 3 then false else true; pairs = v.watch.pairs ++ (v.watch.first, n) ∷ [] };
 }
 
--- so many words are stored
+-- this many words are stored
 abbrev pub with_stored : List ℕ → View → View
 with_stored xs v = record v { stored = xs }
 

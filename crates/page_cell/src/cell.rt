@@ -14,8 +14,8 @@ use clock_page::Page;
 use journal_entry::Entry;
 use std::marker::{Brand, Model};
 
-/// The page that threads share, in two banks of ten words beside a count, which is the number of entries. Its words are read without
-/// a lock. Contracts know it by its table: a pass is of this cell where its table is the cell's.
+/// The page that threads share, in two banks of ten words beside a count, which is the number of entries. Threads read its words
+/// without a lock. Contracts know it by its table: a pass is of this cell where its table is the cell's.
 #[derive(Drop)]
 pub struct PageCell {
     pub(crate) banks: Banks,
@@ -33,8 +33,8 @@ impl Model for PageCell {
 }
 
 impl PageCell {
-    /// Puts an entry behind the list, and makes its page the page that is read: ten stores into the idle bank, and then one of the
-    /// count. Answers how many entries there are with it, at most 2^22.
+    /// Puts an entry after the list, and makes its page the page that is read. It makes ten stores into the idle bank, and then
+    /// one of the count. It answers how many entries there are with it, at most 2^22.
     pub fn publish(&self, b: &mut BatonPass, f: &mut FeedPass, e: &Entry, p: &Page) -> u64
         requires baton { b.old.table ≡ self.now.table }
         requires feed { f.old.table ≡ self.now.table }
@@ -86,8 +86,8 @@ impl PageCell {
         }
     }
 
-    /// The page of the first so many entries, no fewer than the pass had seen, or `Again` where each of four tries met a publishing.
-    /// It takes no lock, waits for nobody, and makes at most 48 loads.
+    /// The page of this many first entries, no fewer than the pass had seen, or `Again` where each of four tries met a
+    /// publishing. It takes no lock, waits for no thread, and makes at most 48 loads.
     pub fn try_read(&self, r: &mut ReadPass) -> Result<Page, Again>
         requires { r.old.table ≡ self.now.table }
         ensures cell { (r.new.table ≡ r.old.table) × (r.new.number ≡ r.old.number) }
@@ -111,7 +111,7 @@ impl PageCell {
         }
     }
 
-    /// A reader's pass has then seen at least as much as the receipt speaks of.
+    /// Afterwards a reader's pass has seen at least as many entries as the receipt says.
     pub fn learn(&self, r: &mut ReadPass, t: Receipt)
         requires reader { r.old.table ≡ self.now.table }
         requires receipt { t.table ≡ self.now.table }
@@ -127,7 +127,7 @@ impl PageCell {
         }
     }
 
-    /// A feed's pass has then seen the whole list.
+    /// Afterwards a feed's pass has seen the whole list.
     pub fn show(&self, b: &mut BatonPass, f: &mut FeedPass)
         requires baton { b.old.table ≡ self.now.table }
         requires feed { f.old.table ≡ self.now.table }
@@ -146,7 +146,7 @@ impl PageCell {
         f.length = b.length;
     }
 
-    /// Takes a feed's pass back: what it claims is true of the whole list.
+    /// Takes back a feed's pass: what it claims is true of the whole list.
     pub fn gather_feed(&self, b: &mut BatonPass, f: FeedPass)
         requires baton { b.old.table ≡ self.now.table }
         requires feed { f.table ≡ self.now.table }
@@ -162,7 +162,7 @@ impl PageCell {
         look(&self.banks, &mut b.token);
     }
 
-    /// Takes a reader's pass back: each of its readings is of the page of a beginning of the whole list.
+    /// Takes back a reader's pass: each of its readings is of the page of a beginning of the whole list.
     pub fn gather_reader(&self, b: &mut BatonPass, r: ReadPass)
         requires baton { b.old.table ≡ self.now.table }
         requires reader { r.table ≡ self.now.table }

@@ -1,4 +1,4 @@
-//! The page that threads share: anyone reads it without a lock, and one pass at a time publishes the next.
+//! The page that threads share: any thread reads it without a lock, and one pass at a time publishes the next.
 #![tactic(auto)]
 
 mod cell;

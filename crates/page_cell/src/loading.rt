@@ -10,7 +10,7 @@ ghost use Rattle.page_cell.specs.Views.{with_loaded};
 use crate::steps::{Banks, BeginsTry, EndsTry, LoadsWord, LooksOver, Token};
 use clock_page::Page;
 
-/// Each of four tries of a reading met a publishing: the two counts of the last one.
+/// A publishing met each of four tries of a reading: the two counts of the last one.
 #[derive(Clone, Copy, Debug, PartialEq, Eq)]
 pub struct Again {
     pub first: u64,
@@ -64,7 +64,7 @@ fn attempt<M: Meanwhile>(
     (first, second, ten)
 }
 
-// The page of ten words that are a page's.
+// The page whose words these ten are.
 fn page_in(ten: &[u64; 10]) -> Page
     requires { (p : PageFields) × AreWords ten.now p }
     ensures { AreWords ten.now result }

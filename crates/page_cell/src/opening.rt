@@ -12,7 +12,7 @@ use crate::steps::{Banks, GivesFeed, GivesReader};
 use std::alloc::Global;
 use system_fold::{FoldState, Settings};
 
-/// A cell and all of its passes: one with the baton, one for each feed in the order of the settings, and the readers'.
+/// A cell and all of its passes: one with the baton, one for each feed in the order of the settings, and one for each reader.
 #[derive(Drop)]
 pub struct CellParts {
     pub cell: PageCell,
@@ -21,14 +21,14 @@ pub struct CellParts {
     pub readers: Vec<ReadPass>,
 }
 
-/// Why a cell wasn't opened.
+/// Why a cell was not opened.
 #[derive(Clone, Copy, Debug, PartialEq, Eq)]
 pub enum CellOpen {
     /// There was not enough memory.
     Memory,
 }
 
-// The words of a table whose bank of the count 0 has these ten.
+// The words of a table in which the bank of the count 0 has these ten.
 fn first_words(ten: &[u64; 10]) -> [u64; 21]
     requires { length ten.now ≡ 10 }
     ensures { (length result ≡ 21) × (slice_index result 0 ≡ 0) × HasBank result 0 ten.now }
@@ -112,7 +112,7 @@ impl PageCell {
         Ok(feeds)
     }
 
-    // Passes for so many readers.
+    // Passes for this many readers.
     fn give_readers(
         &self,
         alloc: Global,
@@ -135,7 +135,7 @@ impl PageCell {
         Ok(readers)
     }
 
-    /// Opens a cell with the page of no entry: a pass for each feed of the settings, and for so many readers, at most 8.
+    /// Opens a cell with the page of no entry: a pass for each feed of the settings, and for this many readers, at most 8.
     pub fn open(alloc: Global, s: &Settings, readers: u32) -> Result<CellParts, CellOpen>
         requires lawful { AreLawful s.now }
         requires few { readers ≤ 8 }

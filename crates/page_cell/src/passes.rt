@@ -1,11 +1,11 @@
-//! The passes of a cell. Each is a number or two at run time; what it stands for is known in proofs.
+//! The passes of a cell. Each is one or two numbers at run time; what it stands for is known in proofs.
 ghost use Rattle.std.specs.Prelude.{◌≡◌, length};
 ghost use Rattle.page_cell.specs.Passes.{claim_of};
 
 use crate::steps::Token;
 use std::marker::Model;
 
-/// Whoever has it may publish. It stands for the whole list of entries that were published.
+/// The pass that may publish. It stands for the whole list of published entries.
 #[derive(Drop)]
 pub struct BatonPass {
     pub(crate) length: u64,
@@ -23,7 +23,8 @@ impl Model for BatonPass {
     ghost invariant = { λ p. (p.token.me.1 ≡ []) × IsBaton p.length p.token.me.0 };
 }
 
-/// A feed's pass. It stands for the feed's number, the list of the feed's own entries, and the list of all entries that it has seen.
+/// A feed's pass. It stands for the feed's number, the list of the feed's own entries, and the list of all entries that it has
+/// seen.
 #[derive(Drop)]
 pub struct FeedPass {
     pub(crate) number: u32,
@@ -42,7 +43,7 @@ impl Model for FeedPass {
     ghost invariant = { λ p. (p.token.me.1 ≡ []) × IsFeed p.number p.length p.token.me.0 };
 }
 
-/// A reader's pass. It stands for how much of the list it has seen, and for its readings.
+/// A reader's pass. It stands for the number of entries that it has seen, and for its readings.
 #[derive(Drop)]
 pub struct ReadPass {
     pub(crate) number: u32,
@@ -61,7 +62,7 @@ impl Model for ReadPass {
     ghost invariant = { λ p. (p.token.me.1 ≡ []) × IsReader p.seen p.token.me.0 };
 }
 
-/// Says that a feed's pass has seen so many entries.
+/// Says that a feed's pass has seen this many entries.
 #[derive(Drop)]
 pub struct Receipt {
     pub(crate) length: u64,
@@ -105,7 +106,7 @@ impl ReadPass {
 }
 
 impl Receipt {
-    /// How many entries it speaks of.
+    /// How many entries it says.
     pub fn length(&self) -> u64
         ensures { result ≡ self.now.view.seen }
     {

@@ -1,4 +1,4 @@
-//! The rule of the table, and its kinds of step: what each tells, how passes are cut and how they are joined.
+//! The rule of the table, and its kinds of step: what each shows, how passes are split and joined.
 use crate::view::View;
 use atomic_table::{Join, Play, Seat, Split, Table, TableRule};
 use journal_entry::Entry;
@@ -21,7 +21,7 @@ impl TableRule<u64, View, Settings> for PageRule {
 /// The table: a count and two banks of ten words, and the settings as its key.
 pub type Banks = Table<u64, View, Settings, PageRule, Global>;
 
-/// What a pass steps with. It has no bytes.
+/// The pass with which a step is made. It has no bytes.
 pub type Token = Seat<u64, View>;
 
 /// Names the entry that a store of the count publishes.
@@ -93,7 +93,7 @@ impl Play<u64, View> for LooksOver {
     ghost then = { Looks };
 }
 
-// The baton's pass gives the next feed's.
+// The baton's pass gives the next feed's pass.
 pub struct GivesFeed;
 
 impl Split<View> for GivesFeed {
@@ -104,7 +104,7 @@ impl Split<View> for GivesFeed {
     ghost right = { new_feed };
 }
 
-// A pass gives one that knows the settings alone.
+// A pass gives one that knows only the settings.
 pub struct GivesReader;
 
 impl Split<View> for GivesReader {

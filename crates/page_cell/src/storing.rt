@@ -1,4 +1,4 @@
-//! The stores of a publishing: the words of the next page go to the idle bank, and the count after them.
+//! The stores of a publishing: the words of the next page go to the idle bank, and the count follows them.
 ghost use Rattle.std.specs.Prelude.{◌≡◌, ◌+◌, ◌<◌, ◌≤◌, ◌^◌, ◌++◌, ◌∷◌, [], true, length, take, All};
 ghost use mathlib.Core.List.{IsPrefix};
 ghost use Rattle.clock_page.specs.Page.{AreWords};
@@ -24,7 +24,7 @@ fn store_words(banks: &Banks, token: &mut Token, total: u64, ten: &[u64; 10], co
     }
 }
 
-/// A feed's pass takes the baton, and stores so many words of the next page.
+/// A feed's pass takes the baton, and stores this many words of the next page.
 pub(crate) fn begin(
     banks: &Banks,
     baton: &mut Token,

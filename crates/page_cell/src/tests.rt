@@ -1,4 +1,4 @@
-//! One thread that publishes and reads, also in the middle of the other.
+//! One thread that publishes and reads, also in the middle of a publishing or a reading.
 use crate::loading::Again;
 use crate::writer::{Interrupting, of_one_radio, opened};
 use crate::{CellParts, PageCell};
@@ -7,12 +7,12 @@ use std::process::Abort;
 use std::test::*;
 use system_fold::FoldState;
 
-// What `assert_eq!` does, as a call: where many stand in a test, calls are proved in a third of the time.
+// What `assert_eq!` does, as a call: where a test has many, calls are proved in a third of the time.
 fn same<T: PartialEq + Debug + Drop>(rt: &impl Abort, left: T, right: T) {
     assert_eq!(*rt; left, right);
 }
 
-// The page of no entry, and then that of one, is read.
+// Reads the page of no entry, and then that of one.
 #[test]
 fn a_reading_after_a_publishing(rt: HostRuntime) -> Result<(), Fail> {
     let (cell, mut writer, mut readers) = opened(&rt, 1)?;
@@ -25,7 +25,7 @@ fn a_reading_after_a_publishing(rt: HostRuntime) -> Result<(), Fail> {
     Ok(())
 }
 
-// A receipt says how much a feed's pass has seen, and a reader's pass has then seen as much.
+// A receipt says how much a feed's pass has seen; then a reader's pass has seen as much.
 #[test]
 fn a_receipt_is_learnt(rt: HostRuntime) -> Result<(), Fail> {
     let (cell, mut writer, mut readers) = opened(&rt, 2)?;
@@ -58,7 +58,7 @@ fn an_older_receipt_is_learnt(rt: HostRuntime) -> Result<(), Fail> {
     Ok(())
 }
 
-// The words of a page that isn't published yet aren't read.
+// No reading gives the words of a page that is not published yet.
 #[test]
 fn half_a_publishing_is_not_seen(rt: HostRuntime) -> Result<(), Fail> {
     let (cell, writer, mut readers) = opened(&rt, 1)?;
@@ -70,7 +70,7 @@ fn half_a_publishing_is_not_seen(rt: HostRuntime) -> Result<(), Fail> {
     Ok(())
 }
 
-// What a reading answers of whose tries so many are torn, how much the pass has then seen, and what the reading after it answers.
+// A reading of which this many tries are torn: its answer, how much the pass has seen then, and the answer of the next reading.
 fn torn(rt: &HostRuntime, tries: u32) -> Result<(Result<u64, Again>, u64, u64), Fail> {
     let (cell, writer, mut readers) = opened(rt, 1)?;
     let mut reader = readers.pop().ok_or("no reader")?;
@@ -85,7 +85,7 @@ fn torn(rt: &HostRuntime, tries: u32) -> Result<(Result<u64, Again>, u64, u64), 
     Ok((answer.map(|page| page.length), seen, after.length))
 }
 
-// A try between whose two loads of the count something was published is made again, up to three times.
+// A try is made again where an entry was published between its two loads of the count, up to three times.
 #[test]
 fn four_torn_tries_are_told(rt: HostRuntime) -> Result<(), Fail> {
     same(&rt, torn(&rt, 0)?, (Ok(0), 0, 0));

@@ -1,4 +1,4 @@
-//! Whoever publishes in tests.
+//! The writer that publishes in tests.
 ghost use Rattle.std.specs.Prelude.{◌≡◌, ◌≤◌, ◌<◌, [], length, All, IfOk};
 ghost use Rattle.page_cell.specs.Passes.{key_of};
 ghost use Rattle.system_fold.specs.Settings.{AreLawful};
@@ -34,7 +34,7 @@ impl Model for Writer {
     ghost invariant = { λ w. (w.feed.table ≡ w.baton.table) × StandsForJournal w.fold (key_of w.baton.view) w.baton.view.list × (w.feeds ≡ length (key_of w.baton.view).sources) × (w.published ≡ length w.baton.view.list) };
 }
 
-// The beginning of the counter.
+// The zero of the counter.
 fn beginning() -> Local {
     match Local::new(0) {
         Some(moment) => moment,
@@ -82,8 +82,8 @@ impl Writer {
         self.published += 1;
     }
 
-    /// Stores so many words of a page that is never published. There is nothing to ensure: the writer is gone, and of the words of a
-    /// cell that isn't at rest no contract speaks.
+    /// Stores this many words of a page that is never published. There is nothing to ensure: the writer is gone, and no contract
+    /// speaks of the words of a cell between two steps of a publishing.
     pub fn stop_half_way(self, cell: &PageCell, ten: &[u64; 10], count: usize)
         requires own { self.table ≡ cell.now.table }
         requires count { count ≤ 10 }
@@ -106,7 +106,7 @@ impl Writer {
     }
 }
 
-/// Settings with so many feeds, 1 to 16, the first of which is a radio.
+/// Settings with this many feeds, 1 to 16, the first of which is a radio.
 pub fn of_one_radio(feeds: u32) -> Settings
     ensures { AreLawful result }
 {
@@ -120,7 +120,7 @@ pub fn of_one_radio(feeds: u32) -> Settings
     settings
 }
 
-/// A cell over one radio, whoever publishes in it, and so many readers.
+/// A cell over one radio, its writer, and this many readers.
 pub fn opened(rt: &HostRuntime, readers: u32) -> Result<(PageCell, Writer, Vec<ReadPass>), Fail>
     requires { readers ≤ 8 }
     ensures { IfOk result (λ r. (r.1.table ≡ r.0.table) × All (λ x. x.table ≡ r.0.table) r.2.items) }
@@ -141,7 +141,7 @@ pub fn opened(rt: &HostRuntime, readers: u32) -> Result<(PageCell, Writer, Vec<R
     Ok((cell, Writer::new(baton, feed, &settings), readers))
 }
 
-/// A writer that publishes in the middle of so many tries.
+/// A writer that publishes in the middle of this many tries.
 #[derive(Drop)]
 pub struct Interrupting<'a> {
     pub cell: &'a PageCell,

@@ -16,7 +16,7 @@ use Rattle.plan_dcf.specs.Fields.{is_summer, is_standard, announces_leap, said}
 use Rattle.plan_dcf.specs.Spelling.{digits_of, date_of, frame_of, IsPassedOver}
 use Rattle.plan_dcf.proofs.SpeltBits.{digit_worth, three_worth, tens_worth_1, tens_worth_2, tens_worth_3, tens_worth_4, even_with_parity}
 
--- the last mark of a leap minute is Zero, as a place that isn't there counts
+-- the last mark of a leap minute is Zero, as a place that is not there counts
 last_zero : (long : Bool) → get_or (if long then Zero ∷ [] else []) 0 Zero ≡ Zero
 last_zero true = refl
 last_zero false = refl
@@ -78,7 +78,7 @@ HasNumbers-spelt c civil weekday marks e minute hour day week month = record {
 
 -- ---- marks that agree at the places that are read
 
--- two segments have the same symbols at the places that aren't passed over
+-- two segments have the same symbols at the places that are not passed over
 abbrev pub IsReadAs : List Mark → List Mark → Type 0
 IsReadAs a b = (place : ℕ) → ¬ (IsPassedOver place) → get_or (symbols_of a) place Zero ≡ get_or (symbols_of b) place Zero
 

@@ -1,4 +1,4 @@
--- A segment that has the symbols of a spelling, and lawful spacing, is valid and says what was spelt.
+-- A segment that has the symbols of a spelling, and valid spacing, is valid and says what was spelt.
 use Rattle.std.proofs.Common.{◌≡◌, ℕ, ◌+◌, ◌/◌, ◌%◌, ◌<◌, ◌≤◌, inl, inr, Bool, true, false, not, ◌&&◌, ◌==◌, None, List, length, get_or, refl, sym, ap, subst, ◌∙◌, arith}
 use Rattle.std.specs.Prelude.{if◌then◌else◌}
 use Rattle.std.specs.Bool.{beq}

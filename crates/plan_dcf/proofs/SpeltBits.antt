@@ -21,7 +21,7 @@ digit_worth n h = omega (arith, low-mod n, low-mod (n / 2), low-mod (n / 2 / 2),
 pub three_worth : (n : ℕ) → n < 8 → 1 * low n + (2 * low (n / 2) + (4 * low (n / 2 / 2) + 0)) ≡ n
 three_worth n h = omega (arith, low-mod n, low-mod (n / 2), low-mod (n / 2 / 2))
 
--- the digit of the tens, of so many bits
+-- the digit of the tens, of this many bits
 pub tens_worth_1 : (n : ℕ) → n < 2 → 10 * low n + 0 ≡ 10 * n
 tens_worth_1 n h = omega (arith, low-mod n)
 

@@ -25,7 +25,7 @@ announces_leap marks = is_set is_one marks 19
 abbrev pub hours_ahead : Bool → ℕ
 hours_ahead summer = if summer then 2 else 1
 
--- the date and the time; the weekday is Monday 1 to Sunday 7, and 0 is none
+-- the date and the time; the weekday is Monday 1 to Sunday 7, and 0 is invalid
 unfoldable pub said : List Mark → CivilTime
 said marks = record {
   time = record {

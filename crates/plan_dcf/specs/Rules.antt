@@ -1,5 +1,5 @@
--- The rules of DCF77. Each is a test of the whole segment that is true where the rule is broken; what it wants of the
--- code is PTB's, the numbers and the bounds are this project's.
+-- The rules of DCF77. Each is a test of the whole segment that is true where the rule is broken. What it requires of the code is
+-- PTB's; the numbers and the bounds are this project's.
 use Rattle.std.specs.Prelude.{ℕ, Bool, not, ◌&&◌, ◌||◌, ◌==◌, Option, List, [], ◌∷◌, length}
 use Rattle.std.specs.Bool.{beq}
 use Rattle.frame_rules.specs.Fields.{is_one, is_set, is_odd_over}
@@ -38,12 +38,12 @@ breaks_hour_parity marks = is_odd_over is_one marks 29 35
 abbrev pub breaks_date_parity : List Mark → Bool
 breaks_date_parity marks = is_odd_over is_one marks 36 58
 
--- a minute that ends with a leap second has a mark more, and only that one has
+-- a minute that ends with a leap second has a mark more, and no other has
 abbrev pub is_leap_minute : List Mark → Bool
 is_leap_minute marks = announces_leap marks && begins_month (minute_start (said marks))
 
--- the 60th mark is there without reason or is wanting, or it is 1; where no minute of a civil date is said, the rule counts
--- as unbroken
+-- the 60th mark is there without reason or is missing, or it is 1. Where no minute of a civil date is said, the rule counts as
+-- unbroken.
 abbrev pub breaks_leap_minute : List Mark → Bool
 breaks_leap_minute marks = names_minute (said marks) && (not (beq (length marks == 60) (is_leap_minute marks)) || is_set is_one marks 59)
 

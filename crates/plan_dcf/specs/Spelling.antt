@@ -16,18 +16,18 @@ use Rattle.frame_rules.specs.MarkRules.{MayStandFor}
 use Rattle.civil_frame.specs.Seconds.{local_second, IsInCentury}
 use Rattle.plan_dcf.specs.Fields.{hours_ahead}
 
--- a whole minute of the years 2000 to 2099 by German time, and no leap second or one at the next UTC midnight, which begins
--- a month
+-- a whole minute of the years 2000 to 2099 by German time. It has no leap second, or one at the next UTC midnight, which begins a
+-- month.
 pub record IsSpellable (c : Coded) : Type 0 where
   pub minute : IsInCentury c.minute (local_second hours_ahead c)
   pub leap : (c.leap_at ≡ 0) ⊎ ((c.leap_at ≡ midnight_from c.minute) × IsTrue (begins_month c.leap_at))
 
--- so many low bits of a number
+-- this many low bits of a number
 abbrev pub bits_of : ℕ → ℕ → List Symbol
 bits_of zero number = []
 bits_of (suc count) number = bit_symbol (number % 2 == 1) ∷ bits_of count (number / 2)
 
--- a number of two digits: four bits of its ones, and so many of its tens
+-- a number of two digits: four bits of its ones, and this many of its tens
 abbrev pub digits_of : ℕ → ℕ → List Symbol
 digits_of tens number = bits_of 4 (number % 10) ++ bits_of tens (number / 10)
 
@@ -57,11 +57,11 @@ frame_of c civil weekday = head_of c ++ with_parity (digits_of 3 civil.minute) +
 unfoldable pub spelt : Coded → List Symbol
 spelt c = frame_of c (civil_of (local_second hours_ahead c)) (weekday_of (local_second hours_ahead c))
 
--- what places 1 to 16 carry is no matter of the minute
+-- places 1 to 16 say nothing of the minute
 abbrev pub IsPassedOver : ℕ → Type 0
 IsPassedOver place = (1 ≤ place) × (place ≤ 16)
 
--- lawful marks that agree with these symbols in their number and at each place that isn't passed over
+-- valid marks that agree with these symbols in their number and at each place that is not passed over
 pub record Agrees (marks : List Mark) (symbols : List Symbol) : Type 0 where
   pub shape : MayStandFor (are_spaced (starts_of marks)) marks symbols
   pub places : (place : ℕ) → ¬ (IsPassedOver place) → slice_index_or (symbols_of marks) place Zero ≡ slice_index_or symbols place Zero

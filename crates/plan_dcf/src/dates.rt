@@ -26,7 +26,7 @@ fn ends_with_leap<P: Places>(segment: &P, second: u64) -> bool
     announces_leap(segment) && begins_month(second)
 }
 
-// Whether a 60th mark is there without reason or is wanting in a minute that begins at this second.
+// Whether a 60th mark is there without reason or is missing in a minute that begins at this second.
 fn has_wrong_length<P: Places>(segment: &P, second: u64) -> bool
     requires from { first_told ≤ second }
     requires below { second < end_of_told }
@@ -36,7 +36,7 @@ fn has_wrong_length<P: Places>(segment: &P, second: u64) -> bool
     (segment.count() == 60) != ends_with_leap(segment, second)
 }
 
-// The 60th mark is there without reason or is wanting, or it is 1.
+// The 60th mark is there without reason or is missing, or it is 1.
 pub(crate) fn breaks_leap_minute<P: Places>(segment: &P, civil: &CivilTime) -> bool
     requires read { (marks : List Mark) → P.stands_for segment.now marks → civil.now ≡ said marks }
     requires ahead { civil.now.hours_ahead ≤ 2 }

@@ -15,7 +15,7 @@ use tick_units::{Broken, Coded, Local, Mark};
 #[derive(Clone, Copy, Debug)]
 pub struct Dcf;
 
-/// A segment of DCF77 that is read mark by mark. It keeps a few numbers, however many marks it hears.
+/// A segment of DCF77 that is read mark by mark. It keeps a few numbers, however many marks it reads.
 pub type Frame = frame_rules::Frame<Dcf>;
 
 impl CodePlan for Dcf {
@@ -41,8 +41,8 @@ impl CodePlan for Dcf {
     }
 }
 
-/// The minute that a segment says, which begins at the mark that closes it; or the least number of a rule that the
-/// segment breaks. In DCF77 no rule speaks of the closing mark.
+/// The minute that a segment says, which begins at the mark that closes it; or the least number of a rule that the segment
+/// breaks. In DCF77 no rule concerns the closing mark.
 pub fn read(segment: &[Mark], close: Local) -> Result<Coded, Broken>
     ensures ok { IfOk result (λ c. (first segment.now ≡ None) × (c ≡ coded segment.now)) }
     ensures err { IfErr result (λ broken. first segment.now ≡ Some broken.rule) }

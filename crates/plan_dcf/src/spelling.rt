@@ -13,7 +13,7 @@ use civil_minute::{CivilMinute, civil_at, weekday};
 use frame_rules::{Spelling, bit_symbol};
 use tick_units::{Coded, Symbol};
 
-// Puts so many low bits of a number at the end, the lowest first.
+// Puts this many low bits of a number at the end, the lowest first.
 fn push_bits(frame: &mut Spelling, count: usize, number: u32)
     requires { length frame.old + count ≤ 61 }
     ensures bits { frame.new ≡ frame.old ++ bits_of count number }
@@ -26,7 +26,7 @@ fn push_bits(frame: &mut Spelling, count: usize, number: u32)
     }
 }
 
-// Puts the four bits of the ones of a number, and so many of its tens.
+// Puts the four bits of the ones of a number, and this many of its tens.
 fn push_digits(frame: &mut Spelling, tens: usize, number: u32)
     requires { length frame.old + 4 + tens ≤ 61 }
     ensures digits { frame.new ≡ frame.old ++ digits_of tens number }
@@ -104,18 +104,18 @@ fn frame_of(c: &Coded, civil: &CivilMinute, weekday: u32) -> Spelling
     frame
 }
 
-/// Writes the frame that says this minute to the front of `out`, and gives the number of its symbols: 59, and 60 in a
-/// minute that ends with a leap second. The rest of `out` stays.
+/// Writes the frame that says this minute to the beginning of `out`. Returns the number of its symbols: 59, and 60 in a minute
+/// that ends with a leap second. The rest of `out` stays.
 pub fn spell(c: &Coded, out: &mut [Symbol; 61]) -> usize
     requires { IsSpellable c.now }
     ensures count { result ≡ length (spelt c.now) }
     ensures written { out.new ≡ spelt c.now ++ drop (length (spelt c.now)) out.old }
 
-    // Lawfully spaced marks with these symbols are a valid frame, which says this minute.
+    // Marks of valid spacing with these symbols are a valid frame, which says this minute.
     ensures valid { (marks : List Mark) → symbols_of marks ≡ spelt c.now
         → IsTrue (are_spaced (starts_of marks)) → (first marks ≡ None) × (coded marks ≡ c.now) }
 
-    // And so are marks that differ from them only in what places 1 to 16 carry.
+    // So are marks that differ from them only in what places 1 to 16 carry.
     ensures read_back { (marks : List Mark) → Agrees marks (spelt c.now)
         → (first marks ≡ None) × (coded marks ≡ c.now) }
 {

@@ -28,7 +28,7 @@ has_b-with_b : (bit : Bool) → has_b (with_b bit) ≡ bit
 has_b-with_b true = refl
 has_b-with_b false = refl
 
--- a count with its parity bit isn't even
+-- a count with its parity bit is not even
 parity_odd : (even : Bool) (count : ℕ) → (count % 2 == 0) ≡ even → ((count + (if has_b (with_b even) then 1 else 0)) % 2 == 0) ≡ false
 parity_odd true count e = grind (arith, nat_tests)
 parity_odd false count e = grind (arith, nat_tests)
@@ -83,7 +83,7 @@ HasNumbers-spelt summer civil weekday marks e minute hour day week month = recor
 
 -- ---- marks that agree in the bits that are read
 
--- two segments have the same bits at the places that aren't passed over
+-- two segments have the same bits at the places that are not passed over
 pub record IsReadAs (a b : List Mark) : Type 0 where
   pub bits_a : (place : ℕ) → 17 ≤ place → is_set has_a a place ≡ is_set has_a b place
   pub bits_b : (place : ℕ) → 54 ≤ place → place ≤ 58 → is_set has_b a place ≡ is_set has_b b place

@@ -1,4 +1,4 @@
--- A segment that has the symbols of a spelling, and lawful spacing, is valid and says what was spelt.
+-- A segment that has the symbols of a spelling, and valid spacing, is valid and says what was spelt.
 use Rattle.std.proofs.Common.{◌≡◌, ℕ, ◌%◌, ◌<◌, ◌≤◌, Bool, true, None, List, length, get_or, refl, sym, ap, subst, ◌∙◌, arith}
 use Rattle.std.proofs.lemmas.List.{length-map}
 use Rattle.frame_rules.specs.Fields.{has_a, has_b, symbols_of}

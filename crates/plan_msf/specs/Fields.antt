@@ -15,7 +15,7 @@ is_summer marks = is_set has_b marks 58
 abbrev pub hours_ahead : Bool → ℕ
 hours_ahead summer = if summer then 1 else 0
 
--- the date and the time; the weekday is Sunday 0 to Saturday 6, and 7 is none
+-- the date and the time; the weekday is Sunday 0 to Saturday 6, and 7 is invalid
 unfoldable pub said : List Mark → CivilTime
 said marks = record {
   year = record { tens = value has_a marks 17 (80 ∷ 40 ∷ 20 ∷ 10 ∷ []); ones = value has_a marks 21 (8 ∷ 4 ∷ 2 ∷ 1 ∷ []) };

@@ -1,5 +1,5 @@
--- The rules of MSF. Each is a test of the whole segment, and of the start of the mark that closes it, that is true where the
--- rule is broken; what it wants of the code is NPL's, the numbers and the bounds are this project's.
+-- The rules of MSF. Each tests the whole segment, and the start of the mark that closes it; it is true where the rule is broken.
+-- What it requires of the code is NPL's; the numbers and the bounds are this project's.
 use Rattle.std.specs.Prelude.{ℕ, ◌+◌, ◌%◌, Bool, true, false, not, ◌==◌, Option, List, [], ◌∷◌}
 use Rattle.frame_rules.specs.Fields.{has_a, has_b, bit_at, ones, has_pattern}
 use Rattle.tick_units.specs.declared.marks.Mark.{Mark}
@@ -10,11 +10,11 @@ use Rattle.civil_frame.specs.CivilDates.{breaks_date, breaks_weekday}
 use Rattle.civil_frame.specs.Ranges.{breaks_minute_range, breaks_hour_range, breaks_day_range, breaks_weekday_range, breaks_month_range, breaks_year_range}
 use Rattle.plan_msf.specs.Fields.{said}
 
--- bits A of places 52 to 59 aren't the minute identifier
+-- bits A of places 52 to 59 are not the minute identifier
 abbrev pub breaks_identifier : List Mark → Bool
 breaks_identifier marks = not (has_pattern has_a marks 52 (false ∷ true ∷ true ∷ true ∷ true ∷ true ∷ true ∷ false ∷ []))
 
--- of the bits A from the first place to the last and one bit B an even number is 1, where an odd number should be
+-- of the bits A from the first place to the last and one bit B an even number is 1, where it should be odd
 abbrev pub is_even_with : List Mark → ℕ → ℕ → ℕ → Bool
 is_even_with marks first last parity = (ones has_a marks first last + bit_at has_b marks parity) % 2 == 0
 

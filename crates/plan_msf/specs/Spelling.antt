@@ -50,8 +50,8 @@ frame_of summer civil weekday = Long ∷ replicate 16 Zero ++ year_of civil ++ d
 unfoldable pub spelt : Coded → List Symbol
 spelt c = frame_of c.summer (civil_of (local_second hours_ahead c)) (weekday_of (local_second hours_ahead c) % 7)
 
--- lawful marks that agree with these symbols in their number and in each bit that isn't passed over: bits A from place 17
--- on, and bits B of places 54 to 58
+-- valid marks that agree with these symbols in their number and in each bit that is not passed over. These are bits A from place
+-- 17 on, and bits B of places 54 to 58.
 pub record Agrees (marks : List Mark) (close : ℕ) (symbols : List Symbol) : Type 0 where
   pub shape : MayStandFor (are_spaced_to marks close) marks symbols
   pub bits_a : (place : ℕ) → 17 ≤ place → is_set has_a marks place ≡ has_a (slice_index_or symbols place Zero)

@@ -12,7 +12,7 @@ use tick_units::Local;
 // The bits A of places 52 to 59.
 const IDENTIFIER: [bool; 8] = [false, true, true, true, true, true, true, false];
 
-// The minute identifier isn't there.
+// The minute identifier is not there.
 fn breaks_identifier<P: Places>(segment: &P) -> bool
     ensures { (marks : List Mark) → P.stands_for segment.now marks → result ≡ breaks_identifier marks }
 {

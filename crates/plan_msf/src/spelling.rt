@@ -107,19 +107,19 @@ fn frame_of(summer: bool, civil: &CivilMinute, weekday: u32) -> Spelling
     frame
 }
 
-/// Writes the frame that says this minute to the front of `out`, and gives the number of its symbols, which is 60. The rest
+/// Writes the frame that says this minute to the beginning of `out`, and returns the number of its symbols, which is 60. The rest
 /// of `out` stays.
 pub fn spell(c: &Coded, out: &mut [Symbol; 61]) -> usize
     requires { IsSpellable c.now }
     ensures count { result ≡ length (spelt c.now) }
     ensures written { out.new ≡ spelt c.now ++ drop (length (spelt c.now)) out.old }
 
-    // Lawfully spaced marks with these symbols are a valid frame, which says this minute.
+    // Marks of valid spacing with these symbols are a valid frame, which says this minute.
     ensures valid { (marks : List Mark) → (close : ℕ) → symbols_of marks ≡ spelt c.now
         → IsTrue (are_spaced_to marks close)
         → (first marks close ≡ None) × (coded marks ≡ c.now) }
 
-    // And so are marks that differ from them only in bits that are passed over.
+    // So are marks that differ from them only in bits that are passed over.
     ensures read_back { (marks : List Mark) → (close : ℕ) → Agrees marks close (spelt c.now)
         → (first marks close ≡ None) × (coded marks ≡ c.now) }
 {

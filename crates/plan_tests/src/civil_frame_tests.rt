@@ -63,7 +63,7 @@ fn dates_have_seconds(rt: HostRuntime) {
     }
 }
 
-// Numbers that are none, and those beside them.
+// Invalid numbers, and the valid ones next to them.
 #[test]
 fn numbers_have_their_ranges(rt: HostRuntime) {
     let ten = Number { tens: 0, ones: 10 };
@@ -97,7 +97,7 @@ fn numbers_have_their_ranges(rt: HostRuntime) {
     }
 }
 
-// Where a number is none, the rules that speak of the date count as unbroken.
+// Where a number is invalid, the rules on the date count as unbroken.
 #[test]
 fn a_number_that_is_none_hides_the_date(rt: HostRuntime) {
     let mut civil = new_year();

@@ -201,7 +201,7 @@ fn seventy() -> Result<[Mark; 70], Fail> {
     Ok(marks)
 }
 
-// Whether both forms answer alike on each of the places that are kept.
+// Whether both forms answer alike on each kept place.
 fn have_the_same_places(segment: &Segment<'_>, words: &MarkWords) -> bool {
     for place in 0..61 {
         let alike = segment.is_set(Bit::Only, place) == words.is_set(Bit::Only, place)
@@ -230,7 +230,7 @@ fn words_keep_the_places_of_a_slice(rt: HostRuntime) -> Result<(), Fail> {
     Ok(())
 }
 
-// A Long mark behind the 61st is remembered, and one before it isn't taken for it.
+// A Long mark after the 61st is remembered, and one before it is not taken for it.
 #[test]
 fn a_long_mark_behind_is_remembered(rt: HostRuntime) -> Result<(), Fail> {
     for (place, wanted) in [(60, false), (61, true), (62, true), (69, true)] {

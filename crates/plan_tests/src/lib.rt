@@ -1,5 +1,5 @@
-//! Tests of the code plans, and of what they stand on: civil minutes, what the frames share, and the frames of DCF77, MSF and WWVB. They
-//! stand in a crate of their own, so that none of the crates that they test is proved once more with them.
+//! Tests of the code plans, and of what they stand on: civil minutes, what the frames share, and the frames of DCF77, MSF and
+//! WWVB. They stand in a crate of their own: a change in them then re-proves none of the crates that they test.
 #![tactic(auto)]
 
 #[cfg(test)]

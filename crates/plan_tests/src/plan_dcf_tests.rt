@@ -52,7 +52,7 @@ fn frame(ones: &[usize]) -> Result<[Mark; 70], Fail> {
     Ok(marks)
 }
 
-// What a segment comes to. The moment of the closing mark is of no account.
+// What a segment comes to. The moment of the closing mark does not matter.
 fn read_closed(segment: &[Mark]) -> Result<Result<Coded, Broken>, Fail> {
     Ok(read(segment, moment(90_000_000)?))
 }
@@ -185,8 +185,8 @@ fn each_rule_is_broken_alone(rt: HostRuntime) -> Result<(), Fail> {
     Ok(())
 }
 
-// Changes of the frame of NEW_YEAR, each of which breaks the rule beside it alone. The rules 21 and 22, and 22 and 23, are
-// never broken at once: a rule on a date counts as unbroken where no date is said.
+// Changes of the frame of NEW_YEAR. Each breaks the rule beside it and no other. The rules 21 and 22, and 22 and 23, are never
+// broken at once. A rule on a date counts as unbroken where no date is said.
 const BREAKS: [(&[usize], u8); 12] = [
     (&[0], 10),
     (&[17], 11),
@@ -220,7 +220,7 @@ fn of_two_rules_the_lesser_is_named(rt: HostRuntime) -> Result<(), Fail> {
     lesser_is_named(&rt, &BREAKS)
 }
 
-// A frame whose start bit is 1, with a mark too many, then an odd width too, then a mark that is late too.
+// A frame whose start bit is 1, with a mark too many, then an odd width too, then a late mark too.
 #[test]
 fn spacing_comes_before_width_and_width_before_length(rt: HostRuntime) -> Result<(), Fail> {
     let mut marks = with_changes(&rt, &[0])?;
@@ -233,7 +233,7 @@ fn spacing_comes_before_width_and_width_before_length(rt: HostRuntime) -> Result
     Ok(())
 }
 
-// Rules that aren't neighbours: the zone bits, the parity of the minute and the weekday.
+// Rules that are not neighbours: the zone bits, the parity of the minute and the weekday.
 #[test]
 fn the_least_broken_rule_is_named(rt: HostRuntime) -> Result<(), Fail> {
     let mut marks = with_changes(&rt, &[17, 21, 44, 58])?;
@@ -285,7 +285,7 @@ fn what_is_passed_over_changes_nothing(rt: HostRuntime) -> Result<(), Fail> {
     Ok(())
 }
 
-// The symbols of a minute are these places One, up to that many; the rest of the room stays.
+// In the symbols of a minute these places are One, up to this number of symbols; the rest of the room stays.
 fn spells(rt: &impl Abort, c: &Coded, ones: &[usize], count: usize)
     requires { IsSpellable c.now }
 {

@@ -71,7 +71,7 @@ fn symbol(a: bool, b: bool) -> Symbol {
     }
 }
 
-// Marks a second apart, of which these bits are 1, but for those that are changed. The first is the minute mark.
+// Marks a second apart, of which these bits are 1, except for the changed ones. The first is the minute mark.
 fn frame(ones: Ones, changed: Ones) -> Result<[Mark; 61], Fail> {
     let mut marks = [Mark {
         at: moment(0)?,
@@ -88,7 +88,7 @@ fn frame(ones: Ones, changed: Ones) -> Result<[Mark; 61], Fail> {
     Ok(marks)
 }
 
-// What a segment comes to that is closed a minute behind its first mark.
+// What a segment comes to that is closed a minute after its first mark.
 fn read_closed(segment: &[Mark]) -> Result<Result<Coded, Broken>, Fail> {
     Ok(read(segment, moment(62_000_000)?))
 }
@@ -177,8 +177,8 @@ fn each_rule_is_broken_alone(rt: HostRuntime) -> Result<(), Fail> {
     Ok(())
 }
 
-// Changes of the frame of NEW_YEAR, each of which breaks the rule beside it alone. The rules 40 and 41, and 41 and 42, are
-// never broken at once: a rule on a date counts as unbroken where no date is said.
+// Changes of the frame of NEW_YEAR. Each breaks the rule beside it and no other. The rules 40 and 41, and 41 and 42, are never
+// broken at once. A rule on a date counts as unbroken where no date is said.
 const BREAKS: [(Ones, u8); 11] = [
     (Ones { a: &[52], b: &[] }, 30),
     (Ones { a: &[17], b: &[] }, 31),
@@ -240,7 +240,7 @@ fn of_two_rules_the_lesser_is_named(rt: HostRuntime) -> Result<(), Fail> {
     lesser_is_named(&rt, &BREAKS)
 }
 
-// A day that its month doesn't have, in a year that is none, and on another weekday.
+// A day that its month does not have, in an invalid year, and on another weekday.
 #[test]
 fn a_date_is_judged_where_there_is_one(rt: HostRuntime) -> Result<(), Fail> {
     let rows = [
@@ -254,7 +254,7 @@ fn a_date_is_judged_where_there_is_one(rt: HostRuntime) -> Result<(), Fail> {
     Ok(())
 }
 
-// A frame without its identifier, with a mark too few, then an odd width too, then a closing mark that is late too.
+// A frame without its identifier, with a mark too few, then an odd width too, then a late closing mark too.
 #[test]
 fn spacing_comes_before_width_and_width_before_length(rt: HostRuntime) -> Result<(), Fail> {
     let mut marks = frame(NEW_YEAR, Ones { a: &[52], b: &[] })?;
@@ -307,7 +307,7 @@ fn a_mark_too_many_is_spaced_wrongly(rt: HostRuntime) -> Result<(), Fail> {
     Ok(())
 }
 
-// Bits A up to place 16 and bits B up to place 53 carry other things, and no rule speaks of the minute mark's width.
+// Bits A up to place 16 and bits B up to place 53 carry other things, and no rule concerns the minute mark's width.
 #[test]
 fn what_is_passed_over_changes_nothing(rt: HostRuntime) -> Result<(), Fail> {
     let passed = Ones {

@@ -40,7 +40,7 @@ const JUNE: [usize; 16] = [1, 6, 7, 13, 16, 17, 18, 23, 25, 33, 36, 38, 48, 51, 
 
 const MARKERS: [usize; 7] = [0, 9, 19, 29, 39, 49, 59];
 
-// Marks a second apart with the markers, of which these are One, but for those that are changed.
+// Marks a second apart with the markers, of which these are One, except for the changed ones.
 fn frame(ones: &[usize], changed: &[usize]) -> Result<[Mark; 61], Fail> {
     let mut marks = [Mark {
         at: moment(0)?,
@@ -57,7 +57,7 @@ fn frame(ones: &[usize], changed: &[usize]) -> Result<[Mark; 61], Fail> {
     Ok(marks)
 }
 
-// What a segment comes to that is closed a minute behind its first mark.
+// What a segment comes to that is closed a minute after its first mark.
 fn read_closed(segment: &[Mark]) -> Result<Result<Coded, Broken>, Fail> {
     Ok(read(segment, moment(62_000_000)?))
 }
@@ -129,7 +129,7 @@ fn each_rule_is_broken_alone(rt: HostRuntime) -> Result<(), Fail> {
     Ok(())
 }
 
-// 2024 has a day 366, and 2025 hasn't.
+// 2024 has a day 366, and 2025 has not.
 #[test]
 fn a_common_year_has_365_days(rt: HostRuntime) -> Result<(), Fail> {
     let marks = frame(&DAY_366, &[53])?;
@@ -168,8 +168,8 @@ fn markers_are_long_and_no_other_place(rt: HostRuntime) -> Result<(), Fail> {
     Ok(())
 }
 
-// Changes of the frame of NEW_YEAR, each of which breaks the rule beside it alone. The rules 56 and 58 are never broken at
-// once: a rule on a date counts as unbroken where no date is said.
+// Changes of the frame of NEW_YEAR. Each breaks the rule beside it and no other. The rules 56 and 58 are never broken at once. A
+// rule on a date counts as unbroken where no date is said.
 const BREAKS: [(&[usize], u8); 6] = [
     (&[4], 51),
     (&[38], 52),
@@ -208,8 +208,8 @@ fn of_two_rules_the_lesser_is_named(rt: HostRuntime) -> Result<(), Fail> {
     lesser_is_named(&rt, &BREAKS)
 }
 
-// A frame with a reserved place that is 1 and a marker that is wanting, with a mark too few, then an odd width too, then a
-// closing mark that is late too.
+// A frame with a reserved place that is 1, a missing marker and a mark too few. Then an odd width too, then a late closing mark
+// too.
 #[test]
 fn spacing_comes_before_width_and_width_before_length(rt: HostRuntime) -> Result<(), Fail> {
     let mut marks = frame(&NEW_YEAR, &[4])?;
@@ -254,7 +254,7 @@ fn what_is_passed_over_changes_nothing(rt: HostRuntime) -> Result<(), Fail> {
     Ok(())
 }
 
-// The symbols of a minute are the markers and these places One; the rest of the room stays.
+// In the symbols of a minute these places are One, besides the markers; the rest of the room stays.
 fn spells(rt: &impl Abort, c: &Coded, ones: &[usize])
     requires { IsSpellable c.now }
 {

@@ -1,4 +1,4 @@
--- A Long place that is no marker's, among the first places or behind them.
+-- A Long place that is no marker's, among the first places or after them.
 use Rattle.std.proofs.Common.{◌≡◌, ℕ, zero, suc, ◌+◌, ◌-◌, ◌<◌, ◌≤◌, Bool, true, false, not, ◌&&◌, ◌||◌, List, [], ◌∷◌, length, get_or, drop, refl, ap, sym, ◌∙◌, inl, inr, arith}
 use Rattle.std.specs.List.{list_any, range_with_len}
 use Rattle.std.proofs.lemmas.Bool.{cases_lt}
@@ -35,7 +35,7 @@ symbol_past [] place le = refl
 symbol_past (m ∷ ms) zero le = absurd (omega arith)
 symbol_past (m ∷ ms) (suc place) le = symbol_past ms place (omega arith)
 
--- behind the first places each Long is a stray one
+-- after the first places each Long is a stray one
 strays_behind : (marks : List Mark) (place count : ℕ) → 61 ≤ place → place + count ≡ length marks → list_any (is_stray marks) (range_with_len place count) ≡ has_long (drop place marks)
 strays_behind marks place zero le e = ap has_long (sym (drop_all place marks (omega arith)))
 strays_behind marks place (suc count) le e = some_mark marks marks (λ mark.
@@ -90,7 +90,7 @@ all_kept marks n le =
     ∙ ap (λ b. has_stray_marker marks || b) (no_strays marks (0 + len) (n - len) (omega arith))
     ∙ or_false (has_stray_marker marks)
 
--- where some are behind them
+-- where some are after them
 some_behind : (marks : List Mark) (n : ℕ) → 61 ≤ n → n < length marks → (list_any (is_stray marks) (range_with_len 0 n) || has_long (drop n marks)) ≡ has_stray_marker marks
 some_behind marks n le lt =
     let len = length marks in
@@ -101,7 +101,7 @@ some_behind marks n le lt =
     ∙ sym (any_split (is_stray marks) 0 n (len - n))
     ∙ ap (λ (k : ℕ). list_any (is_stray marks) (range_with_len 0 k)) len_is
 
--- the first 61 places and what is behind them
+-- the first 61 places and what is after them
 pub strays_kept : (marks : List Mark) (n : ℕ) → 61 ≤ n → (list_any (is_stray marks) (range_with_len 0 n) || has_long (drop n marks)) ≡ has_stray_marker marks
 strays_kept marks n le = elim (cases_lt n (length marks)) [
   | inl behind ↦ some_behind marks n le behind

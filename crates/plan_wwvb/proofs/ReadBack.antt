@@ -101,7 +101,7 @@ none_from p first (suc count) h =
     let here : p first ≡ false = h first (omega arith) (omega arith) in
     rw (here, none_from p (first + 1) count (λ place low high. h place (omega arith) (omega arith))) refl
 
--- ---- marks that agree at the places that aren't free
+-- ---- marks that agree at the places that are not free
 
 abbrev pub IsReadAs : List Mark → List Mark → Type 0
 IsReadAs a b = (place : ℕ) → is_free place ≡ false → get_or (symbols_of a) place Zero ≡ get_or (symbols_of b) place Zero

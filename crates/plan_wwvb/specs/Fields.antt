@@ -41,7 +41,7 @@ said marks = record {
 abbrev pub day_of_year : OrdinalTime → ℕ
 day_of_year ordinal = ordinal.hundreds + both_digits ordinal.day
 
--- the absolute second at which the minute begins that is said, which is the one in which the segment is sent
+-- the absolute second at which the said minute begins, in which the segment is sent
 unfoldable pub sent_start : OrdinalTime → ℕ
 sent_start ordinal = second_of (2000 + both_digits ordinal.year) 1 1 (both_digits ordinal.time.hour) (both_digits ordinal.time.minute) + 86400 * (day_of_year ordinal - 1)
 

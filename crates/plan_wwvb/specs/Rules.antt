@@ -1,6 +1,5 @@
--- The rules of WWVB. Each is a test of the whole segment, and of the start of the mark that closes it, that is true where
--- the rule is broken; what it wants of the code is NIST's (Special Publication 432), the numbers and the bounds are this
--- project's.
+-- The rules of WWVB. Each tests the whole segment, and the start of the mark that closes it; it is true where the rule is broken.
+-- What it requires of the code is NIST's (Special Publication 432); the numbers and the bounds are this project's.
 use Rattle.std.specs.Prelude.{ℕ, ◌+◌, Bool, true, false, not, ◌&&◌, ◌||◌, nat_lt, Option, List, [], ◌∷◌, length}
 use Rattle.std.specs.List.{list_any, range_with_len}
 use Rattle.frame_rules.specs.Fields.{is_one, is_set, has_pattern}
@@ -17,7 +16,7 @@ use Rattle.civil_frame.specs.Ranges.{breaks_minute_range, breaks_hour_range, bre
 use Rattle.plan_wwvb.specs.Fields.{marker_places, is_marker_place, zero_places, announces_leap, said, day_of_year, sent_start}
 use Rattle.plan_wwvb.specs.declared.fields.OrdinalTime.{OrdinalTime}
 
--- a marker place isn't Long
+-- a marker place is not Long
 abbrev pub lacks_marker : List Mark → Bool
 lacks_marker marks = list_any (λ place. not (is_set is_long marks place)) marker_places
 

@@ -1,5 +1,5 @@
--- How WWVB spells a minute (NIST SP 432): UTC of the minute in which the frame is sent, which is the one before, the highest
--- bits first. Each ten seconds end with a marker. What the code carries besides is left 0, and DUT1 is plus.
+-- How WWVB spells a minute (NIST SP 432): as UTC of the minute before, in which the frame is sent, the highest bits first. Each
+-- ten seconds end with a marker. What the code carries besides is left 0, and DUT1 is plus.
 use Rattle.std.specs.Prelude.{◌≡◌, ◌⊎◌, ℕ, ◌-◌, ◌/◌, ◌%◌, ◌<◌, Bool, false, true, not, ◌||◌, ◌==◌, IsTrue, IsFalse, List, [], ◌∷◌, ◌++◌, replicate, slice_index_or}
 use Rattle.frame_rules.specs.Digits.{bit_symbol, high_bits_of}
 use Rattle.frame_rules.specs.Fields.{is_one, is_set, has_pattern, symbols_of}
@@ -19,8 +19,8 @@ use Rattle.civil_frame.specs.Seconds.{IsInCentury}
 abbrev pub sent_second : Coded → ℕ
 sent_second c = c.minute - 60
 
--- a whole minute whose frame is sent in the years 2000 to 2099, no summer time, and no leap second or one at the end of the
--- month in which the frame is sent, past the minute
+-- a whole minute whose frame is sent in the years 2000 to 2099, without summer time. It has no leap second, or one at the end of
+-- the month in which the frame is sent, past the minute.
 pub record IsSpellable (c : Coded) : Type 0 where
   pub minute : IsInCentury c.minute (sent_second c)
   pub summer : c.summer ≡ false
@@ -30,7 +30,8 @@ pub record IsSpellable (c : Coded) : Type 0 where
 abbrev pub minute_of : CivilMinute → List Symbol
 minute_of civil = Long ∷ high_bits_of 3 (civil.minute / 10) ++ Zero ∷ high_bits_of 4 (civil.minute % 10) ++ Long ∷ []
 
--- two bits and four bits: the digits of the hour in places 10 to 19, those of the day's hundreds and tens in 20 to 29
+-- two bits and four bits. They are the digits of the hour in places 10 to 19, and those of the day's hundreds and tens in 20 to
+-- 29.
 abbrev pub pair_of : ℕ → ℕ → List Symbol
 pair_of two four = Zero ∷ Zero ∷ high_bits_of 2 two ++ Zero ∷ high_bits_of 4 four ++ Long ∷ []
 
@@ -53,13 +54,13 @@ frame_of leap civil day = minute_of civil ++ pair_of (civil.hour / 10) (civil.ho
 unfoldable pub spelt : Coded → List Symbol
 spelt c = frame_of (not (c.leap_at == 0)) (civil_of (sent_second c)) (day_of_year_of (sent_second c))
 
--- the places of DUT1's sign, which has two spellings, and those that are passed over: DUT1's value, the bit of a leap year
--- and those of daylight time
+-- the places of DUT1's sign, which has two spellings, and those that are passed over. The latter are DUT1's value, the bit of a
+-- leap year and those of daylight time.
 abbrev pub is_free : ℕ → Bool
 is_free place = is_between 36 38 place || is_between 40 43 place || place == 55 || is_between 57 58 place
 
--- lawful marks that agree with these symbols in their number and at each place that isn't free, and have a sign of DUT1 and
--- no Long at those that are
+-- valid marks that agree with these symbols in their number and at each place that is not free. At the free places they have a
+-- sign of DUT1 and no Long.
 pub record Agrees (marks : List Mark) (close : ℕ) (symbols : List Symbol) : Type 0 where
   pub shape : MayStandFor (are_spaced_to marks close) marks symbols
   pub places : (place : ℕ) → IsFalse (is_free place) → slice_index_or (symbols_of marks) place Zero ≡ slice_index_or symbols place Zero

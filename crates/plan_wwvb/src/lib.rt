@@ -5,13 +5,13 @@
 //!
 //! | rule | broken where |
 //! |---|---|
-//! | 1 | two neighbouring marks, or the last and the closing one, don't start 900000 to 1100000 microseconds apart |
+//! | 1 | two neighbouring marks, or the last and the closing one, do not start 900000 to 1100000 microseconds apart |
 //! | 2 | a width is in no class |
 //! | 3 | there are not 60 marks |
-//! | 50 | a marker isn't Long, or another place is |
+//! | 50 | a marker is not Long, or another place is |
 //! | 51 | a place that is always 0 is 1 |
 //! | 52 | the sign of DUT1 is neither plus nor minus |
-//! | 53, 54, 55 | the minute, the hour or the year is none |
+//! | 53, 54, 55 | the minute, the hour or the year is invalid |
 //! | 56 | the year has no such day |
 //! | 58 | a leap second is announced in the last minute of a month |
 //!

@@ -15,7 +15,7 @@ use tick_units::{Broken, Coded, Local, Mark};
 #[derive(Clone, Copy, Debug)]
 pub struct Wwvb;
 
-/// A segment of WWVB that is read mark by mark. It keeps a few numbers, however many marks it hears.
+/// A segment of WWVB that is read mark by mark. It keeps a few numbers, however many marks it reads.
 pub type Frame = frame_rules::Frame<Wwvb>;
 
 impl CodePlan for Wwvb {

@@ -28,7 +28,7 @@ const PLUS: [bool; 3] = [true, false, true];
 
 const MINUS: [bool; 3] = [false, true, false];
 
-// One of these places isn't Long.
+// One of these places is not Long.
 fn lacks_long<P: Places>(segment: &P, places: &[usize]) -> bool
     requires { IsTrue (list_all (λ place. nat_lt place 61) places.now) }
     ensures { (marks : List Mark) → P.stands_for segment.now marks → result ≡ list_any (λ place. not (is_set is_long marks place)) places.now }
@@ -54,7 +54,7 @@ fn has_one<P: Places>(segment: &P, places: &[usize]) -> bool
     false
 }
 
-// A marker place isn't Long.
+// A marker place is not Long.
 fn lacks_marker<P: Places>(segment: &P) -> bool
     ensures { (marks : List Mark) → P.stands_for segment.now marks → result ≡ lacks_marker marks }
 {

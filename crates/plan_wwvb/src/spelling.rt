@@ -93,19 +93,19 @@ fn frame_of(leap: bool, civil: &CivilMinute, day: u32) -> Spelling
     frame
 }
 
-/// Writes the frame that says this minute, and is sent before it, to the front of `out`, and gives the number of its
-/// symbols, which is 60. The rest of `out` stays.
+/// Writes the frame that says this minute, and is sent before it, to the beginning of `out`. Returns the number of its symbols,
+/// which is 60. The rest of `out` stays.
 pub fn spell(c: &Coded, out: &mut [Symbol; 61]) -> usize
     requires { IsSpellable c.now }
     ensures count { result ≡ length (spelt c.now) }
     ensures written { out.new ≡ spelt c.now ++ drop (length (spelt c.now)) out.old }
 
-    // Lawfully spaced marks with these symbols are a valid frame, which says this minute.
+    // Marks of valid spacing with these symbols are a valid frame, which says this minute.
     ensures valid { (marks : List Mark) → (close : ℕ) → symbols_of marks ≡ spelt c.now
         → IsTrue (are_spaced_to marks close)
         → (first marks close ≡ None) × (coded marks ≡ c.now) }
 
-    // And so are marks that differ from them only where no Long is hidden: in what is passed over, or in a DUT1 of minus.
+    // So are marks that differ from them only in places that are passed over, without a Long there, or in a DUT1 of minus.
     ensures read_back { (marks : List Mark) → (close : ℕ) → Agrees marks close (spelt c.now)
         → (first marks close ≡ None) × (coded marks ≡ c.now) }
 {

@@ -1,4 +1,4 @@
-//! Tests of recorded scripts: what their lines give, one after the other. They stand in a crate of their own, so that what plays scripts is
+//! Tests of recorded scripts: what their lines give, one after the other. They have a crate of their own, so that the player is
 //! not proved once more with them.
 #![tactic(auto)]
 

@@ -1,4 +1,4 @@
-// What clients get that ask too often or are denied, behind the five minutes of DCF77 from noon on.
+// What clients get that ask too often or are denied, after the five minutes of DCF77 from noon on.
 use crate::script_tests::{gives, noon};
 use crate::shared::same;
 use journal_entry::LINE_ROOM;
@@ -27,7 +27,7 @@ fn ask(script: &mut String, of: &str, digits: &str) -> Result<(), AllocError> {
     script.push_str("\n")
 }
 
-// Requests give this text, at a station of one radio with more in its file before it.
+// At a station of one radio whose file begins with this text, these requests give this text.
 fn are_answered(
     rt: &impl Abort,
     alloc: Global,
@@ -47,7 +47,7 @@ fn are_answered(
     gives(rt, alloc, station.as_str(), script.as_str(), want.as_str())
 }
 
-// 2 s are the gap. The stamps and the drift of 15 in a million, by Python: 1.0005 s and 3.0005 s behind the page's anchor.
+// The gap is 2 s. The stamps and the drift of 15 in a million, by Python: 1.0005 s and 3.0005 s after the page's anchor.
 #[test]
 fn a_client_that_asks_too_often(rt: HostRuntime) -> Result<(), Fail> {
     are_answered(
@@ -66,7 +66,7 @@ reply 240106ec000000000000f06944434600ed00e130000000001122334455667788ed00e13300
     )
 }
 
-// The second client takes the place of the first, which is 1.5 s behind its own request then.
+// The second client takes the place of the first, which is then 1.5 s after its own request.
 #[test]
 fn a_table_of_one_client(rt: HostRuntime) -> Result<(), Fail> {
     are_answered(
@@ -103,7 +103,7 @@ drop short\n",
     )
 }
 
-// A table of one would forget the first client, were the second one's datagrams judged. The gap counts from arrival to arrival.
+// A table of one would forget the first client if the second one's datagrams were judged. The gap counts from arrival to arrival.
 #[test]
 fn what_is_dropped_is_not_judged(rt: HostRuntime) -> Result<(), Fail> {
     are_answered(
@@ -143,7 +143,7 @@ reply e40006ec0000000000100000524154450000000000000000\
     )
 }
 
-// The reply of 48 bytes 0, to a client that was kept and to one that wasn't.
+// The reply of 48 bytes 0, to a client that was kept and to one that was not.
 #[test]
 fn the_line_behind_a_reply(rt: HostRuntime) -> Result<(), Fail> {
     let reply = sealed_like(&KeyRing::new(), b"", [0; 48]);

@@ -1,4 +1,4 @@
-// Leap seconds that the leap second file tells of.
+// Leap seconds that the leap second file announces.
 use crate::script_tests::{gives, keeps, noon, play};
 use crate::shared::same;
 use std::process::Abort;
@@ -64,7 +64,7 @@ fn a_station_without_a_file_has_no_leap_seconds(rt: HostRuntime) -> Result<(), F
     gives(&rt, rt.alloc(), NO_FILE, script, want)
 }
 
-// Neither a pulse nor a server's line moves the last moment of the file, and its lines don't move that of the server.
+// Neither a pulse nor a server's line moves the last moment of the file, and its lines do not move that of the server.
 #[test]
 fn moments_of_the_file_do_not_fall(rt: HostRuntime) -> Result<(), Fail> {
     let script =
@@ -75,7 +75,7 @@ j2 5 0 2 6 notice 0\n8 is not lawful\nj2 6 0 2 8 notice 1\nj2 7 0 1 9 declined 2
     gives(&rt, rt.alloc(), ALL, script, want)
 }
 
-// A leap second that finds no room is told of all the same: its moment stays.
+// The file has announced a leap second also where it finds no room: its moment stays.
 #[test]
 fn a_full_journal_drops_leap_seconds(rt: HostRuntime) -> Result<(), Fail> {
     let script = "leap 1 10 3644697600\nleap 1 20 3692217600\nleap 1 19 0\nleap 1 20 0\n";

@@ -1,4 +1,4 @@
-// What lines give behind the lines before them, and the page that is kept of them.
+// What lines give after the lines before them, and the page that is kept of them.
 ghost use Rattle.std.specs.Prelude.{◌≡◌, ◌≤◌, ◌^◌};
 ghost use Rattle.receiver_rack.specs.Racks.{IsRack};
 ghost use Rattle.script_player.specs.KeptPlayer.{IsReady};
@@ -16,7 +16,7 @@ use std::process::Abort;
 use std::test::Fail;
 use tick_units::{Plan, Short, Span, Stamp};
 
-// What a script comes to: the text of its lines and the numbers of those that aren't lawful, and what is kept of its entries.
+// The result of a script: the text of its lines, the numbers of the invalid ones, and what is kept of its entries.
 #[derive(Drop)]
 pub struct Played {
     pub text: Vec<u8>,
@@ -24,21 +24,17 @@ pub struct Played {
     pub is_full: bool,
 }
 
+// The receivers of each plan.
+const OF_A_PLAN: usize = 4;
+
 // Plays a script with four receivers of each plan.
 pub fn play(alloc: Global, station: &str, limit: u16, script: &str) -> Result<Played, Fail> {
     let mut rack: Vec<BoxedReceiver> = Vec::new(alloc);
-    put_in_rack(&mut rack, Box::new(alloc, DcfReceiver::new())?, Plan::Dcf)?;
-    put_in_rack(&mut rack, Box::new(alloc, MsfReceiver::new())?, Plan::Msf)?;
-    put_in_rack(&mut rack, Box::new(alloc, WwvbReceiver::new())?, Plan::Wwvb)?;
-    put_in_rack(&mut rack, Box::new(alloc, DcfReceiver::new())?, Plan::Dcf)?;
-    put_in_rack(&mut rack, Box::new(alloc, MsfReceiver::new())?, Plan::Msf)?;
-    put_in_rack(&mut rack, Box::new(alloc, WwvbReceiver::new())?, Plan::Wwvb)?;
-    put_in_rack(&mut rack, Box::new(alloc, DcfReceiver::new())?, Plan::Dcf)?;
-    put_in_rack(&mut rack, Box::new(alloc, MsfReceiver::new())?, Plan::Msf)?;
-    put_in_rack(&mut rack, Box::new(alloc, WwvbReceiver::new())?, Plan::Wwvb)?;
-    put_in_rack(&mut rack, Box::new(alloc, DcfReceiver::new())?, Plan::Dcf)?;
-    put_in_rack(&mut rack, Box::new(alloc, MsfReceiver::new())?, Plan::Msf)?;
-    put_in_rack(&mut rack, Box::new(alloc, WwvbReceiver::new())?, Plan::Wwvb)?;
+    for _ in 0..OF_A_PLAN {
+        put_in_rack(&mut rack, Box::new(alloc, DcfReceiver::new())?, Plan::Dcf)?;
+        put_in_rack(&mut rack, Box::new(alloc, MsfReceiver::new())?, Plan::Msf)?;
+        put_in_rack(&mut rack, Box::new(alloc, WwvbReceiver::new())?, Plan::Wwvb)?;
+    }
     play_with(alloc, rack, station, u32::from(limit), script)
 }
 
@@ -65,7 +61,7 @@ fn play_with(
     })
 }
 
-// The text of each line of a script that is lawful, and the number of each that isn't.
+// The text of each line of a script that is valid, and the number of each that is not.
 fn play_lines(
     alloc: Global,
     player: &mut Player<BoxedReceiver>,
@@ -114,7 +110,7 @@ pub fn gives(
 }
 
 // Minute marks with no second between them: each of them closes a segment of one mark, which the third rule of DCF77 refuses.
-// Behind the swap the mark at 4 s has none before it, the one at 6 s is the first that begins a minute.
+// After the swap the mark at 4 s has none before it, and the one at 6 s is the first that begins a minute.
 #[test]
 fn a_swap_loses_what_was_heard_and_keeps_the_delay(rt: HostRuntime) -> Result<(), Fail> {
     let station = "[[radio]]\nplan = \"dcf\"\nlog = \"log\"\ndelay = 1400\n";
@@ -211,13 +207,13 @@ fn lines_of_other_feeds_are_not_lawful(rt: HostRuntime) -> Result<(), Fail> {
     )
 }
 
-// A page is of so many entries, the latest of this moment.
+// A page is of this many entries, the latest of this moment.
 pub fn keeps(rt: &impl Abort, page: &Page, length: u64, anchor: u64) {
     same(&rt, page.length, length);
     same(&rt, page.anchor.get(), anchor);
 }
 
-// An entry that is dropped is heard all the same: the moment of its server stays.
+// An entry that is dropped counts for its server all the same: the server's moment stays.
 #[test]
 fn a_full_journal_drops_what_is_due(rt: HostRuntime) -> Result<(), Fail> {
     let mut script = String::from_str(rt.alloc(), "ask 0 1000000\n")?;
@@ -285,7 +281,7 @@ reply 240106ec000000000000f06744434600ed00e130000000001122334455667788ed00e13100
 const REQUEST: &str =
     "230006ec0000000000000000000000000000000000000000000000000000000000000000000000001122334455667788";
 
-// A request stands before the pulse that closes the fifth frame, and one behind it.
+// One request comes before the pulse that closes the fifth frame, and one after it.
 #[test]
 fn a_reply_is_of_the_entries_so_far(rt: HostRuntime) -> Result<(), Fail> {
     let mut script = String::from_str(rt.alloc(), "pulse 0 0 100000\n")?;
@@ -310,8 +306,8 @@ fn a_reply_is_of_the_entries_so_far(rt: HostRuntime) -> Result<(), Fail> {
     Ok(())
 }
 
-// Behind the requests stand an identifier and MD5 of `longwave` and the request, by Python's `hashlib`, once with its last byte changed.
-// The first reply ends with MD5 of `longwave` and its own header.
+// The requests are followed by an identifier and MD5 of `longwave` and the request, by Python's `hashlib`, once with its last
+// byte changed. The first reply ends with MD5 of `longwave` and its own header.
 const SEALED: &str =
     "j2 1 0 0 62000000 lone 3976257600\nj2 2 0 0 122000000 verdict 3976257660 0\nj2 3 0 0 182000000 verdict 3976257720 0\nj2 4 0 0 242000000 verdict 3976257780 0\n\
 j2 5 0 0 302000000 verdict 3976257840 0\n\

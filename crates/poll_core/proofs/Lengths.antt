@@ -34,7 +34,7 @@ offset-is_length sent arrived received answered s a r t = half-is_length ((recei
 delay-is_length : (sent arrived : ℕ) (received answered : ℤ) → arrived < 2 ^ 63 → IsInEra received → IsInEra answered → IsLength (delay_of (pos sent) received answered (pos arrived))
 delay-is_length sent arrived received answered a r t = record { least = omega (arith, ints, clamps); below = omega (arith, ints, clamps) }
 
--- the sample of an exchange is lawful, where its moments and its timestamps are in their ranges
+-- the sample of an exchange is valid, where its moments and its timestamps are in their ranges
 pub sample_of-is_lawful : (server : Address) (asked at : ℕ) (h : Header) → asked ≤ at → at < 2 ^ 50 → h.receive.0 < 2 ^ 64 → h.transmit.0 < 2 ^ 64 → IsLawful (sample_of server asked at h)
 sample_of-is_lawful server asked at h after below receive transmit =
     let received = span_of-is_in_era h.receive receive in

@@ -1,6 +1,6 @@
--- The request of a poll, and what an exchange says of the time (RFC 5905, section 8; that the clock's own precision is 2^-20 s
--- and the bounds of the server's are this project's own choice). Moments are microseconds of the host's counter, and lengths
--- are units of 2^-32 s.
+-- The request of a poll, and what an exchange says of the time (RFC 5905, section 8). The clock's own precision of 2^-20 s and
+-- the bounds of the server's are this project's own choice. Moments are microseconds of the host's counter, and lengths are units
+-- of 2^-32 s.
 use Rattle.std.specs.Prelude.{ℕ, ◌+◌, ◌-◌, ◌*◌, ◌/◌, ◌%◌, ◌^◌, min, ℤ, pos, negsuc, ◌+ℤ◌, ◌-ℤ◌}
 use Rattle.std.specs.Int.{int_max}
 use Rattle.tick_units.specs.Units.{floor_div, local_span, phi}
@@ -32,8 +32,8 @@ request_header moment = record {
   transmit = request_stamp moment;
 }
 
--- the one second with these low 32 bits among the 2^32 that begin at 2000-01-01 (section 6, on eras; `Unwraps` of civil_minute):
--- it is as far after that moment as its low bits are ahead of that moment's, modulo 2^32
+-- the one second with these low 32 bits among the 2^32 that begin at 2000-01-01 (section 6, on eras; `Unwraps` of civil_minute).
+-- It is as far after that moment as its low bits are ahead of that moment's, modulo 2^32.
 abbrev pub unwrapped_second : ℕ → ℕ
 unwrapped_second low = 3155673600 + (low + (2 ^ 32 - 3155673600)) % 2 ^ 32
 
@@ -54,11 +54,11 @@ abbrev pub precision_units : ℤ → ℕ
 precision_units (pos p) = 2 ^ (32 + min p 4)
 precision_units (negsuc p) = 2 ^ (31 - p)
 
--- both precisions, and the drift of the host's counter over so many microseconds
+-- both precisions, and the drift of the host's counter over this many microseconds
 abbrev pub dispersion_of : ℤ → ℕ → ℤ
 dispersion_of precision waited = pos (own_precision_units + precision_units precision + phi waited)
 
--- what an answer of a server says that arrived at a moment, to the request asked at another
+-- what a server's answer says that arrived at one moment, to the request made at another
 abbrev pub sample_of : Address → (asked at : ℕ) → Header → Sample
 sample_of server asked at h = record {
   offset = offset_of (pos (local_span asked)) (span_of h.receive) (span_of h.transmit) (pos (local_span at));

@@ -13,13 +13,13 @@ pub data Event : Type 0 where
   Asked : ℕ → Event
   Answered : ℕ → Address → List ℕ → Event
 
--- an event with what it came to: a request, an answer that was accepted, with its transmit timestamp, or one that was refused
+-- an event with what it came to: a request; an accepted answer, with its transmit timestamp; or a refused one
 pub data Step : Type 0 where
   Request : ℕ → Step
   Accepted : Stamp → Step
   Refused : Step
 
--- the last request, where no answer stands after it that was accepted; the steps go back in time
+-- the last request, where no accepted answer stands after it; the steps go back in time
 abbrev pub outstanding_in : List Step → Option ℕ
 outstanding_in [] = None
 outstanding_in (Request moment ∷ before) = Some moment
@@ -62,6 +62,6 @@ outstanding server history = outstanding_in (steps server history)
 abbrev pub last_accepted : Address → List Event → Option Stamp
 last_accepted server history = accepted_in (steps server history)
 
--- what a datagram comes to that arrives after a history: the refusal of the first row of the table that holds, else the sample
+-- what a datagram comes to after a history: the refusal of the first row of the table that holds, else the sample
 abbrev pub judge : Address → List Event → ℕ → Address → List ℕ → Result Sample PollRefusal
 judge server history at from bytes = judge_by server (outstanding server history) (last_accepted server history) at from bytes

@@ -1,5 +1,5 @@
--- Read Formulas (the request, and what an exchange says of the time), then Refusals (why an answer is refused, as a table), then
--- Histories (what datagrams come to over a whole history). Polling says what a poller stands for.
+-- Read Formulas (the request, and what an exchange says of the time), then Refusals (why an answer is refused, as a table).
+-- Histories is what datagrams come to over a whole history. Polling says what a poller stands for.
 pub mod Formulas
 pub mod Histories
 pub mod Polling

@@ -57,8 +57,8 @@ exchange_rows asked accepted h =
     ∷ row (is_last_accepted accepted h.transmit) (Duplicate h.transmit)
     ∷ []
 
--- rows 8 to 10: whether the server can be used; half of its root delay and its root dispersion are together below 16 s, which
--- is 2^20 shorts
+-- rows 8 to 10: whether the server can be used. Half of its root delay and its root dispersion are together below 16 s, which is
+-- 2^20 shorts.
 abbrev pub server_rows : Header → List Row
 server_rows h =
     row (h.leap == 3 || (h.stratum == 0 || nat_lt 15 h.stratum)) (Unsynchronised h.leap h.stratum)
@@ -66,8 +66,8 @@ server_rows h =
     ∷ row (nat_le (2 * 1048576) (h.root_delay.0 + 2 * h.root_disp.0)) (Distance h.root_delay h.root_disp)
     ∷ []
 
--- the table for a datagram: the server, the moment of the outstanding request, the transmit timestamp of the last accepted
--- answer, the sender and the bytes. Where no request is outstanding row 3 holds, and no row after it counts
+-- the table for a datagram, by the server, the outstanding request's moment, the last accepted answer's transmit timestamp, the
+-- sender and the bytes. Where no request is outstanding, row 3 holds, and no row after it counts.
 abbrev pub table : Address → Option ℕ → Option Stamp → Address → List ℕ → List Row
 table server asked accepted from bytes =
     datagram_rows server asked from bytes ++ exchange_rows (request_stamp (unwrap_or asked 0)) accepted (fields bytes) ++ server_rows (fields bytes)

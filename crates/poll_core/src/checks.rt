@@ -6,7 +6,7 @@ use crate::PollRefusal;
 use ntp_packet::{Header, SERVER, VERSION};
 use tick_units::Stamp;
 
-// The leap indicator of a clock that isn't synchronised.
+// The leap indicator of a clock that is not synchronised.
 const NOT_SYNCHRONISED: u8 = 3;
 
 // The greatest stratum of a server that can be used.

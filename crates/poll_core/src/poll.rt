@@ -17,8 +17,8 @@ use tick_units::{Local, Sample, Stamp};
 
 /// The exchanges of one poller with one server (RFC 5905, section 8).
 ///
-/// A request is outstanding from when it is made until an answer to it is accepted or another request is made. A refused
-/// answer changes nothing, so a late or a strange datagram doesn't spoil the exchange.
+/// A request is outstanding until an answer to it is accepted or another request is made. A refused answer changes nothing, so a
+/// late or a strange datagram does not spoil the exchange.
 #[derive(Debug, Drop)]
 pub struct Poll {
     server: Address,
@@ -43,7 +43,7 @@ impl Poll {
         }
     }
 
-    /// Makes the request of this moment: the bytes to be sent to the server. It takes the place of an outstanding one.
+    /// Makes the request of this moment: the bytes to send to the server. It takes the place of an outstanding one.
     pub fn ask(&mut self, moment: Local) -> [u8; 48]
         ensures polled { (server : Address) (history : List Event) → HasPolled self.old server history →
             HasPolled self.new server (history ++ Asked moment ∷ []) }
@@ -54,7 +54,7 @@ impl Poll {
         request::bytes(moment)
     }
 
-    /// Takes a datagram that arrived at this moment from this sender: what it says of the time, where it is the answer to
+    /// Takes a datagram that arrived at this moment from this sender. Returns what it says of the time, where it is the answer to
     /// the outstanding request. It arrived no earlier than the request was made. Bytes after the 48th are passed over.
     ///
     /// # Errors

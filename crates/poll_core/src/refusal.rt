@@ -5,25 +5,25 @@ ghost use Rattle.poll_core.specs.Refusals.{code_of, TableIsByNumber};
 use feed_link::Address;
 use tick_units::{Short, Stamp};
 
-/// Why a datagram isn't taken as the answer to a poll; of several reasons the first (RFC 5905, section 8 and appendix
-/// A.5.1.1; the order is this project's own).
+/// Why a datagram is not taken as the answer to a poll (RFC 5905, section 8 and appendix A.5.1.1). Of several reasons the first
+/// counts; the order is this project's own.
 #[derive(Clone, Copy, Debug, PartialEq, Eq)]
 pub enum PollRefusal {
-    /// The sender isn't the poller's server.
+    /// The sender is not the poller's server.
     Stranger { from: Address },
     /// It has fewer than 48 bytes.
     Short { length: usize },
     /// No request is outstanding.
     NotAsked,
-    /// Its version isn't 1 to 4.
+    /// Its version is not 1 to 4.
     Version { version: u8 },
-    /// Its mode isn't that of a server.
+    /// Its mode is not that of a server.
     Mode { mode: u8 },
-    /// Its origin timestamp isn't the transmit timestamp of the outstanding request.
+    /// Its origin timestamp is not the transmit timestamp of the outstanding request.
     Bogus { origin: Stamp, asked: Stamp },
     /// Its transmit timestamp is that of the last answer that was accepted.
     Duplicate { transmit: Stamp },
-    /// Its server isn't synchronised: the leap indicator is 3, or the stratum isn't 1 to 15.
+    /// Its server is not synchronised: the leap indicator is 3, or the stratum is not 1 to 15.
     Unsynchronised { leap: u8, stratum: u8 },
     /// Its receive or its transmit timestamp is 0.
     ZeroStamp,

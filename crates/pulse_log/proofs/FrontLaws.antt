@@ -1,4 +1,4 @@
--- What begins a line: its text goes on, or no lawful line begins so.
+-- What begins a line: its text goes on, or no valid line begins so.
 use Rattle.std.proofs.Common.{◌≡◌, ℕ, zero, suc, ◌+◌, ◌-◌, ◌*◌, ◌/◌, ◌%◌, ◌^◌, ◌<◌, ◌≤◌, true, Some, None, List, [], ◌∷◌, ◌++◌, length, get_or, take, decimal, refl, ap, sym, ◌∙◌, subst, inl, inr, ◌⊎◌, arith, append_assoc}
 use Rattle.std.specs.Int.{IsInRange}
 use Rattle.std.specs.Str.{all_ascii_digits}
@@ -110,7 +110,7 @@ digit_of before byte n rest small fits e =
 dead_by : (text : List ℕ) → ((more : List ℕ) (r : Reduction) → text ++ more ≡ decimal r.at ++ 32 ∷ decimal r.width → r.at < 2 ^ 50 → 1 ≤ r.width → r.width ≤ 2000000 → ⊥) → IsDead text
 dead_by text never = λ more. none_of (text ++ more) (λ r e. let line = spells (text ++ more) r e in never more r line.text line.at line.least line.most)
 
--- a text that no lawful line begins with, and one byte more
+-- a text that no valid line begins with, and one byte more
 pub dead_push : (text : List ℕ) (byte : ℕ) → IsDead text → IsDead (text ++ byte ∷ [])
 dead_push text byte dead = λ more. let regroup : (text ++ byte ∷ []) ++ more ≡ text ++ byte ∷ more = append_assoc text (byte ∷ []) more in ap reduction_of regroup ∙ dead (byte ∷ more)
 
@@ -118,7 +118,7 @@ so_far_length : (n : ℕ) → 0 < length (digits_so_far n) → 0 < n
 so_far_length zero some = absurd (omega arith)
 so_far_length (suc m) some = omega arith
 
--- behind digits of the start only a digit may come that keeps it in range, or a space behind at least one
+-- after digits of the start only a digit may come that keeps it in range, or a space after at least one
 pub start_dead : (start byte : ℕ) → start < 2 ^ 50 → (byte ≡ 32 → 0 < start → ⊥) → (IsInRange 48 57 byte → start * 10 + (byte - 48) < 2 ^ 50 → ⊥) → IsDead (digits_so_far start ++ byte ∷ [])
 start_dead start byte small no_space no_digit = dead_by (digits_so_far start ++ byte ∷ []) (λ more r e below least most.
     let regroup : (digits_so_far start ++ byte ∷ []) ++ more ≡ digits_so_far start ++ byte ∷ more = append_assoc (digits_so_far start) (byte ∷ []) more in
@@ -136,7 +136,7 @@ after_zero n byte rest fits e =
     let same : decimal n ≡ decimal 0 = ap decimal none in
     cc
 
--- behind a start of 0 only a space may come
+-- after a start of 0 only a space may come
 pub zero_dead : (byte : ℕ) → (byte ≡ 32 → ⊥) → IsDead (decimal 0 ++ byte ∷ [])
 zero_dead byte no_space = dead_by (decimal 0 ++ byte ∷ []) (λ more r e below least most.
     let regroup : (decimal 0 ++ byte ∷ []) ++ more ≡ decimal 0 ++ byte ∷ more = append_assoc (decimal 0) (byte ∷ []) more in
@@ -150,7 +150,7 @@ space_within n start rest fits e =
     let digit = digits_within (decimal start) 32 rest (ap all_ascii_digits (sym e) ∙ digits_decimal own n fits) in
     absurd (omega arith)
 
--- behind the space only a digit may come that keeps the width in range
+-- after the space only a digit may come that keeps the width in range
 pub width_dead : (start width byte : ℕ) → start < 2 ^ 50 → width ≤ 2000000 → (IsInRange 48 57 byte → 0 < width * 10 + (byte - 48) → width * 10 + (byte - 48) ≤ 2000000 → ⊥) → IsDead ((decimal start ++ 32 ∷ digits_so_far width) ++ byte ∷ [])
 width_dead start width byte small narrow no_digit = dead_by ((decimal start ++ 32 ∷ digits_so_far width) ++ byte ∷ []) (λ more r e below least most.
     let inner : ((decimal start ++ 32 ∷ digits_so_far width) ++ byte ∷ []) ++ more ≡ (decimal start ++ 32 ∷ digits_so_far width) ++ byte ∷ more = append_assoc (decimal start ++ 32 ∷ digits_so_far width) (byte ∷ []) more in
@@ -203,7 +203,7 @@ says_it Start start width text small narrow ends is some = cc
 says_it Zero start width text small narrow ends is some = cc
 says_it Unlawful start width text small narrow ends is some = cc
 
--- a byte of each kind, behind a text that ends in each part
+-- a byte of each kind, after a text that ends in each part
 pub start_push : (start digit n : ℕ) (text : List ℕ) → start < 2 ^ 50 → digit < 10 → n ≡ start * 10 + digit → 0 < n → text ≡ digits_so_far start → text ++ (48 + digit) ∷ [] ≡ digits_so_far n
 start_push start digit n text small low n_is some e =
     ap (λ (t : List ℕ). t ++ (48 + digit) ∷ []) e ∙ so_far_push start digit small low (omega arith) ∙ ap decimal (sym n_is) ∙ sym (so_far_some n some)

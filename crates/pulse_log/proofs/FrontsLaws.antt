@@ -12,7 +12,7 @@ use Rattle.pulse_log.proofs.ReaderLaws.{goes_on}
 abbrev pub with_line : LineReader → Line → LineReader
 with_line reader line = record reader { line = line }
 
--- of a piece so many bytes were taken, and the line is that after them
+-- of a piece this many bytes were taken, and the line is that after them
 pub record GoesSo (reader : LineReader) (line : Line) (piece : List ℕ) (count index : ℕ) : Type 0 where
   pub counted : count ≡ index
   pub bad : reader.bad ≡ None

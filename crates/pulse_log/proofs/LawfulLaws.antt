@@ -1,4 +1,4 @@
--- The reductions of lines, up to the first that isn't lawful, with one more line.
+-- The reductions of lines, up to the first that is not valid, with one more line.
 use Rattle.std.proofs.Common.{◌≡◌, ℕ, ◌+◌, ◌<◌, ◌≤◌, Bool, true, false, cond, ltb, leb, Option, Some, None, List, [], ◌∷◌, ◌++◌, length, refl, ap, sym, ◌∙◌, inl, inr, arith}
 use Rattle.std.specs.Option.{option_to_list}
 use Rattle.std.proofs.lemmas.Bool.{cases_Bool, ltb-true, ltb-false, le-leb, lt-leb}
@@ -40,7 +40,7 @@ least_of_more next [] first = refl
 least_of_more next (None ∷ more) first = refl
 least_of_more next (Some r ∷ more) first = elim (ltb next.at r.at) as (λ rises. least_after (first ∷ pair rises next (lawful (Some r ∷ more))) ≡ least_after (pair rises next (lawful (Some r ∷ more)))) [ true ↦ refl | false ↦ refl ]
 
--- what one more line adds, after lines that are all lawful
+-- what one more line adds, after lines that are all valid
 pub lawful_push : (says : List (Option Reduction)) (last : Option Reduction) → length (lawful says) ≡ length says →
     lawful (says ++ last ∷ []) ≡ lawful says ++ option_to_list (at_least (least_after (lawful says)) last)
 lawful_push [] None all = refl
@@ -56,7 +56,7 @@ lawful_push (Some r ∷ Some next ∷ more) last all = elim (cases_Bool (ltb r.a
   | inr ge ↦ (let all' : length (r ∷ []) ≡ length (Some r ∷ Some next ∷ more) = rw ge at all in absurd (omega arith))
 ]
 
--- no line adds anything behind one that isn't lawful
+-- no line adds anything after one that is not valid
 pub lawful_stop : (says : List (Option Reduction)) (last : Option Reduction) → length (lawful says) < length says → lawful (says ++ last ∷ []) ≡ lawful says
 lawful_stop [] last lt = absurd (omega arith)
 lawful_stop (None ∷ more) last lt = refl

@@ -1,4 +1,4 @@
--- The lines and reductions of a log, with one more byte, and with any that come behind.
+-- The lines and reductions of a log, with one more byte, and with any that come after.
 use Rattle.std.proofs.Common.{◌≡◌, ℕ, ◌+◌, ◌<◌, ◌≤◌, Bool, true, false, cond, eqb, ltb, leb, Option, Some, None, List, [], ◌∷◌, ◌++◌, length, map, refl, ap, sym, ◌∙◌, inl, inr, ◌⊎◌, arith, append_assoc}
 use Rattle.std.specs.Option.{option_to_list}
 use Rattle.std.proofs.lemmas.Bool.{cases_Bool, lt-ltb, le-ltb, ltb-true, ltb-false, le-leb, lt-leb, leb-true, leb-false}
@@ -111,7 +111,7 @@ split_none p c u e = elim (cases_Bool (ltb p c)) [
   ]
 ]
 
--- its complete lines are all lawful, and its unfinished one is short
+-- its complete lines are all valid, and its unfinished one is short
 pub good_of : (bytes : List ℕ) → bad_line bytes ≡ None → IsGood bytes
 good_of bytes e =
     let parts = split_none (length (pulses bytes)) (length (lines_of bytes).complete) (length (lines_of bytes).unfinished) e in
@@ -127,7 +127,7 @@ good_more bytes byte other good short =
     let longer = unfinished_more bytes byte other in
     bad_none (bytes ++ byte ∷ []) (omega arith) (omega arith)
 
--- where its line ends and isn't lawful
+-- where its line ends and is not valid
 pub bad_end : (bytes : List ℕ) (byte : ℕ) → eqb byte 10 ≡ true → length (pulses bytes) ≡ length (lines_of bytes).complete →
     at_least (least_after (pulses bytes)) (reduction_of (lines_of bytes).unfinished) ≡ None →
     (bad_line (bytes ++ byte ∷ []) ≡ Some (length (lines_of bytes).complete + 1)) × (pulses (bytes ++ byte ∷ []) ≡ pulses bytes)
@@ -147,7 +147,7 @@ bad_reach bytes byte other good long =
     let more = unfinished_more bytes byte other in
     (bad_long (bytes ++ byte ∷ []) (omega arith) (omega arith) ∙ ap (λ (n : ℕ). Some (n + 1)) lines, same)
 
--- where its line ends and is lawful
+-- where its line ends and is valid
 pub record GoesOn (bytes : List ℕ) (byte : ℕ) (r : Reduction) : Type 0 where
   pub good : bad_line (bytes ++ byte ∷ []) ≡ None
   pub pulses : pulses (bytes ++ byte ∷ []) ≡ pulses bytes ++ r ∷ []
@@ -165,7 +165,7 @@ good_end bytes byte r feed good line le =
     let empty = unfinished_end bytes byte feed in
     record { good = bad_none (bytes ++ byte ∷ []) (omega arith) (omega arith); pulses = longer }
 
--- the bad line stays whatever comes behind it
+-- the bad line stays whatever comes after it
 bad_split : (p c u n : ℕ) → cond (ltb p c) (Some (p + 1)) (cond (leb 32 u) (Some (c + 1)) None) ≡ Some n → ((p < c) × (n ≡ p + 1)) ⊎ ((c ≤ p) × (32 ≤ u) × (n ≡ c + 1))
 bad_split p c u n e = elim (cases_Bool (ltb p c)) [
   | inl lt ↦ (let e' : Some (p + 1) ≡ Some n = rw lt at e in inl (ltb-true p c lt, cc))
@@ -238,7 +238,7 @@ pulses_grow bytes (byte ∷ more) =
     let regroup : (bytes ++ byte ∷ []) ++ more ≡ bytes ++ byte ∷ more = append_assoc bytes (byte ∷ []) more in
     (one.0 ++ rest.0, ap pulses (sym regroup) ∙ rest.1 ∙ ap (λ (rs : List Reduction). rs ++ rest.0) one.1 ∙ append_assoc (pulses bytes) one.0 rest.0)
 
--- a log with a bad line at its end was bad before, or became so at some byte: a front of a log without one has none
+-- a log with a bad line at its end was bad before, or became so at some byte: a beginning of a log without one has none
 bad_or_not : (o : Option ℕ) (bytes more : List ℕ) → bad_line bytes ≡ o → bad_line (bytes ++ more) ≡ None → bad_line bytes ≡ None
 bad_or_not None bytes more e none = e
 bad_or_not (Some n) bytes more e none = (let stays = bad_stays bytes more n e in cc)

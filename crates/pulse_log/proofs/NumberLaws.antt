@@ -11,14 +11,14 @@ use Rattle.std.proofs.lemmas.Str.Parse.{IsNumeralModel, numerals_by_value, tells
 own : IsNumeralModel (AllDigits 10) (digits_value 10)
 own = numerals_by_value (AllDigits 10) tells_digits
 
--- so many digits are below that power of ten
+-- this many digits are below that power of ten
 pub small : (bytes : List ℕ) (count number most : ℕ) → SpellsFront bytes count number → count ≤ most → number < 10 ^ most
 small bytes count number most spells short =
     let value = spells.value in
     let below = digits_value_short own (take count bytes) most spells.digits (omega (arith, length-take count bytes)) in
     omega arith
 
--- with no 0 in front they are that number in decimal
+-- with no leading 0 they are that number in decimal
 pub is_decimal : (bytes : List ℕ) (count number : ℕ) → SpellsFront bytes count number → count ≢ 0 → number < 2 ^ 64 → get_or bytes 0 0 ≢ 48 → take count bytes ≡ decimal number
 is_decimal bytes count number spells some fits other =
     let value = spells.value in
@@ -30,7 +30,7 @@ all_append : (ds es : List ℕ) → AllDigits 10 ds → AllDigits 10 es → AllD
 all_append [] es all more = more
 all_append (d ∷ ds) es all more = (all.0, all_append ds es all.1 more)
 
--- eight digits and those behind them
+-- eight digits and those after them
 pub joined : (bytes eight rest next : List ℕ) (front count back : ℕ) → eight ≡ take 8 bytes → rest ≡ drop 8 bytes → next ≡ take 8 rest → SpellsFront eight 8 front → SpellsFront next count back → count ≤ 8 →
     8 + length rest ≡ length bytes → SpellsFront bytes (8 + count) (front * 10 ^ count + back)
 joined bytes eight rest next front count back eight_is rest_is next_is first last few long =
@@ -49,7 +49,7 @@ joined bytes eight rest next front count back eight_is rest_is next_is first las
           ∙ sym (digits_value-append (take 8 eight) (take count next)) ∙ sym (ap (digits_value 10) both);
     }
 
--- and it isn't 0
+-- and it is not 0
 pub is_some : (bytes : List ℕ) (count number : ℕ) → count ≢ 0 → get_or bytes 0 0 ≢ 48 → take count bytes ≡ decimal number → 0 < number
 is_some bytes count zero some other is =
     let nought : decimal 0 ≡ 48 ∷ [] = decimal_digit 0 (omega arith) in
@@ -57,7 +57,7 @@ is_some bytes count zero some other is =
     absurd (other (sym first ∙ ap (λ (t : List ℕ). get_or t 0 0) (is ∙ nought)))
 is_some bytes count (suc m) some other is = omega arith
 
--- digits in front of the first eight bytes are in front of all
+-- digits at the beginning of the first eight bytes are at the beginning of all
 pub in_all : (bytes eight : List ℕ) (count number : ℕ) → eight ≡ take 8 bytes → count ≤ 8 → SpellsFront eight count number → SpellsFront bytes count number
 in_all bytes eight count number is few spells =
     let same : take count eight ≡ take count bytes = ap (λ (t : List ℕ). take count t) is ∙ take-take count 8 bytes few in

@@ -28,7 +28,7 @@ stays reader bytes byte bad h kept =
     let next = bad_stays_one bytes byte bad.line (sym h.bad ∙ ap number_of_bad kept) in
     record { read = stopped reader (bytes ++ byte ∷ []) bad kept next.0; found = next }
 
--- a line that ends and isn't lawful
+-- a line that ends and is not valid
 pub ends_badly : (old new : LineReader) (bytes : List ℕ) (bad : BadLine) → HasRead old bytes → old.bad ≡ None →
     at_least (least_after (pulses bytes)) (reduction_of (lines_of bytes).unfinished) ≡ None →
     new.bad ≡ Some bad → bad.line ≡ old.lines + 1 → TakesByte new bytes 10 (Err bad)
@@ -70,7 +70,7 @@ goes_on old new bytes byte h none other short line lines least still =
       found = (next, same ∙ sym (append-nil (pulses bytes)));
     }
 
--- a line that ends and is lawful
+-- a line that ends and is valid
 pub ends_well : (old new : LineReader) (bytes : List ℕ) (r : Reduction) → HasRead old bytes → old.bad ≡ None →
     reduction_of (lines_of bytes).unfinished ≡ Some r → old.least ≤ r.at → IsLine new.line [] → new.lines ≡ old.lines + 1 → new.least ≡ r.at + 1 → new.bad ≡ None →
     TakesByte new bytes 10 (Ok (Some r))

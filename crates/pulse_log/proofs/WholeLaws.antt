@@ -67,7 +67,7 @@ lengthens bytes (byte ∷ front) no_feed good short =
           ∙ ap (λ (text : List ℕ). record { complete = (lines_of bytes).complete; unfinished = text }) (append_assoc (lines_of bytes).unfinished (byte ∷ []) front);
     }
 
--- a lawful line that comes whole, behind a log whose last line has ended
+-- a valid line that comes whole, after a log whose last line has ended
 pub takes_whole : (old new : LineReader) (bytes : List ℕ) (r : Reduction) → HasRead old bytes → old.bad ≡ None → old.line.length ≡ 0 → old.least ≤ r.at →
     r.at < 2 ^ 50 → 1 ≤ r.width → r.width ≤ 2000000 → new.line ≡ old.line → new.lines ≡ old.lines + 1 → new.least ≡ r.at + 1 → new.bad ≡ None →
     TakesFront new bytes (line_of r ++ 10 ∷ []) (Ok (Some r))
@@ -101,7 +101,7 @@ takes_whole old new bytes r h none empty late below least most line lines start 
       found = (bad_is, pulses_are);
     }
 
--- two numbers with a space and a line feed behind them are a line and its end
+-- two numbers with a space and a line feed after them are a line and its end
 pub line_is : (bytes rest : List ℕ) (space feed at width : ℕ) → rest ≡ drop (space + 1) bytes → take space bytes ≡ decimal at → space < length bytes → get_or bytes space 0 ≡ 32 →
     take feed rest ≡ decimal width → feed < length rest → get_or rest feed 0 ≡ 10 → take (space + feed + 2) bytes ≡ (decimal at ++ 32 ∷ decimal width) ++ 10 ∷ []
 line_is bytes rest space feed at width rest_is start start_in space_is last last_in feed_is =

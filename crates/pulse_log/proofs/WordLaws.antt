@@ -1,4 +1,4 @@
--- Eight bytes as one word, and the digits in front of them.
+-- Eight bytes as one word, and the digits at their beginning.
 use Rattle.std.proofs.Common.{◌≡◌, ℕ, zero, suc, ◌+◌, ◌<◌, ◌≤◌, Bool, true, false, cond, List, [], ◌∷◌, length, take, get_or, refl, arith}
 use Rattle.std.specs.Str.Parse.{AllDigits}
 use Rattle.core.specs.Char.{is_ascii_digit}
@@ -9,7 +9,7 @@ use Rattle.std.specs.Int.{w64, from_le_bytes}
 use Rattle.pulse_log.specs.Words.{IsWordOf}
 use Rattle.std.proofs.lemmas.Str.{digit_value_digit}
 
--- the digits in front are digits
+-- the digits at the beginning are digits
 pub are_digits : (bytes : List ℕ) (n : ℕ) → n ≤ digits_len bytes → AllDigits 10 (take n bytes)
 are_digits bytes zero h = tt
 are_digits [] (suc n) h = tt

@@ -6,7 +6,7 @@ use Rattle.pulse_log.specs.declared.line.Line.{Line}
 use Rattle.pulse_log.specs.declared.line.Part.{Part}
 use Rattle.pulse_log.specs.declared.line.Part.TheVariants.{Start, Zero, Width, Unlawful}
 
--- no line that begins with this text is lawful
+-- no line that begins with this text is valid
 abbrev pub IsDead : List ℕ → Type 0
 IsDead text = (more : List ℕ) → reduction_of (text ++ more) ≡ None
 

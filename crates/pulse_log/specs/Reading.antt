@@ -24,18 +24,18 @@ pub record HasRead (reader : LineReader) (bytes : List ℕ) : Type 0 where
   pub lines : bad_line bytes ≡ None → reader.lines ≡ length (lines_of bytes).complete
   pub least : bad_line bytes ≡ None → reader.least ≡ least_after (pulses bytes)
 
--- a front of what comes is taken, and the answer tells what it adds: a reduction, or the bad line that the log has from then on
+-- a prefix of what comes is taken. The result says what it adds: a reduction, or the bad line that the log has from then on.
 pub record TakesFront (new : LineReader) (bytes front : List ℕ) (result : Result (Option Reduction) BadLine) : Type 0 where
   pub read : HasRead new (bytes ++ front)
   pub found : MatchResult result
       (λ found. (bad_line (bytes ++ front) ≡ None) × (pulses (bytes ++ front) ≡ pulses bytes ++ option_to_list found))
       (λ bad. (bad_line (bytes ++ front) ≡ Some bad.line) × (pulses (bytes ++ front) ≡ pulses bytes))
 
--- so it is with the next byte alone
+-- the same with only the next byte
 abbrev pub TakesByte : LineReader → List ℕ → ℕ → Result (Option Reduction) BadLine → Type 0
 TakesByte new bytes byte result = TakesFront new bytes (byte ∷ []) result
 
--- a front of what comes ends no line and makes none bad
+-- a prefix of what comes ends no line and makes none bad
 pub record GoesOn (new : LineReader) (bytes front : List ℕ) : Type 0 where
   pub read : HasRead new (bytes ++ front)
   pub bad : bad_line (bytes ++ front) ≡ bad_line bytes

@@ -1,4 +1,4 @@
--- Eight bytes as one word, the first of them the lowest, and the digits in front of them.
+-- Eight bytes as one word, the first of them the lowest, and the digits at their beginning.
 use Rattle.std.specs.Prelude.{◌≡◌, ℕ, ◌<◌, ◌≤◌, List, length, take, nat_le}
 use Rattle.std.specs.Str.Parse.{digits_value, AllDigits}
 use Rattle.core.specs.Dec2flt.Digits.{IsEightBytes, IsEightDigits}
@@ -18,7 +18,7 @@ FlagsFromTen word flags = (byte : ℕ → ℕ) → ((k : ℕ) → byte k < 256) 
 abbrev pub WritesNumber : ℕ → ℕ → Type 0
 WritesNumber word number = (digits : List ℕ) → IsEightDigits digits → word ≡ number_l 256 digits → number ≡ number_from_digits 10 digits
 
--- the first so many bytes are digits, and this is the number that they write
+-- the first `count` bytes are digits, and this is the number that they write
 pub record SpellsFront (bytes : List ℕ) (count number : ℕ) : Type 0 where
   pub within : count ≤ length bytes
   pub digits : AllDigits 10 (take count bytes)

@@ -1,4 +1,4 @@
-//! The digits at the front of eight bytes, which are read as one word.
+//! The digits at the beginning of eight bytes, which are read as one word.
 ghost use Rattle.std.specs.Prelude.{◌≡◌, ◌+◌, ◌*◌, ◌%◌, ◌-◌, ◌^◌, ◌<◌, ◌≤◌, ℕ, List, IfSome};
 ghost use Rattle.pulse_log.specs.Words.{IsWordOf, FlagsFromTen, WritesNumber, SpellsFront};
 
@@ -41,7 +41,7 @@ fn value_of_eight(word: u64) -> u64
     odd.wrapping_add(even) >> 32
 }
 
-// The first so many bytes moved to the end, with zeros in front of them.
+// The first `count` bytes moved to the end, with zeros before them.
 #[inline]
 fn keep_first(word: u64, count: u32) -> u64
     requires { count < 8 }
@@ -71,7 +71,7 @@ fn digits_of(word: u64) -> Digits
     }
 }
 
-// The digits at the front of eight bytes.
+// The digits at the beginning of eight bytes.
 #[inline]
 fn digits_in_eight(bytes: &[u8; 8]) -> Digits
     ensures most { result.count ≤ 8 }
@@ -98,7 +98,7 @@ fn ten_to(power: usize) -> u64
     }
 }
 
-// Eight digits and fewer than eight behind them.
+// Eight digits and fewer than eight after them.
 #[inline]
 fn joined(front: Digits, back: Digits) -> Digits
     requires eight { front.value < 10 ^ 8 }
@@ -113,8 +113,8 @@ fn joined(front: Digits, back: Digits) -> Digits
     }
 }
 
-/// The digits at the front of some bytes. None where there are more than fifteen, and where the bytes end less than eight behind
-/// the last whole eight of them.
+/// The digits at the beginning of some bytes. None where there are more than fifteen, or where fewer than eight bytes follow the
+/// last whole group of eight digits.
 #[inline(always)]
 pub fn digits_in_front(bytes: &[u8]) -> Option<Digits>
     ensures most { IfSome result (λ digits. digits.count ≤ 15) }

@@ -18,13 +18,13 @@ pub enum Part {
     Start,
     /// A start that is the one digit 0.
     Zero,
-    /// The space, or the digits of the width behind it.
+    /// The space, or the digits of the width after it.
     Width,
-    /// No lawful line begins as this one does.
+    /// No valid line begins as this one does.
     Unlawful,
 }
 
-/// What is kept of a line that isn't finished: its numbers so far and its length, and not its text.
+/// What is kept of an unfinished line: its numbers so far and its length, and not its text.
 #[derive(Clone, Copy, Debug, PartialEq, Eq)]
 pub struct Line {
     part: Part,

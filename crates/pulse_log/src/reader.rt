@@ -8,24 +8,24 @@ use tick_units::Reduction;
 // A line has at most this number of bytes before its line feed.
 const LONGEST: u32 = 31;
 
-/// The number, from 1, of the first line of a log that isn't lawful.
+/// The number, from 1, of the first bad line of a log.
 #[derive(Clone, Copy, Debug, PartialEq, Eq)]
 pub struct BadLine {
     pub line: u64,
 }
 
-/// What a reader took of some bytes, and what that came to.
+/// What a reader took of some bytes, and what it found in them.
 #[derive(Clone, Copy, Debug, PartialEq, Eq)]
 pub struct Front {
     /// How many of them it took, from the first on.
     pub count: usize,
-    /// The reduction of the line that they end, or None where they end none; or the line that isn't lawful.
+    /// The reduction of the line that they end, or None where they end none; or the bad line.
     pub found: Result<Option<Reduction>, BadLine>,
 }
 
-/// Reads a log byte by byte or line by line. A line is the start and the width of a reduction, each in decimal without
-/// leading zeros, with one space between them and a line feed behind them. The start is below 2^50 microseconds and above
-/// that of the line before, the width 1 to 2000000 microseconds. The reader stops at the first line that isn't so.
+/// Reads a log byte by byte or line by line. A line is the start and the width of a reduction, each in decimal without leading
+/// zeros. One space stands between them and a line feed after them. The start is below 2^50 microseconds and above that of the
+/// line before; the width is 1 to 2000000 microseconds. The reader stops at the first bad line.
 #[derive(Drop)]
 pub struct LineReader {
     line: Line,
@@ -54,12 +54,11 @@ impl LineReader {
         }
     }
 
-    /// Takes the next byte. The answer is the reduction of the line that it ends, or None where it ends no line.
+    /// Takes the next byte. Returns the reduction of the line that it ends, or None where it ends no line.
     ///
     /// # Errors
     ///
-    /// `BadLine` where the line that it ends, or brings to 32 bytes, isn't lawful. From then on each call answers the
-    /// same.
+    /// `BadLine` where the line that it ends, or brings to 32 bytes, is bad. From then on each call returns the same.
     #[inline]
     pub fn take(&mut self, byte: u8) -> Result<Option<Reduction>, BadLine>
         ensures { (bytes : List ℕ) → HasRead self.old bytes → TakesByte self.new bytes byte result }
@@ -77,7 +76,8 @@ impl LineReader {
         Ok(None)
     }
 
-    /// Takes bytes up to the end of the first line that ends among them, up to the byte that makes a line bad, or all of them.
+    /// Takes bytes up to the end of the first line that ends among them, or up to the byte that makes it bad. Takes all of them
+    /// where there is neither.
     #[inline(always)]
     pub fn take_line(&mut self, bytes: &[u8]) -> Front
         requires { 0 < length bytes.now }
@@ -120,7 +120,7 @@ impl LineReader {
         }
     }
 
-    // Takes the bytes of a line that can't be taken at once.
+    // Takes the bytes of a line that cannot be taken at once.
     #[inline(never)]
     fn take_by_bytes(&mut self, bytes: &[u8]) -> Front
         requires { 0 < length bytes.now }
@@ -151,7 +151,7 @@ impl LineReader {
         if self.bad.is_some() {
             return 0;
         }
-        // The line is worked on by itself, so that its numbers can stay in registers.
+        // The loop works on a copy of the line, so that its numbers can stay in registers.
         let mut line = self.line;
         let mut count = 0;
         'bytes: for byte in bytes {
@@ -183,7 +183,7 @@ impl LineReader {
         Ok(Some(found))
     }
 
-    // The line that isn't finished is bad.
+    // The line that is not finished is bad.
     fn stop(&mut self) -> BadLine
         ensures line { result.line ≡ self.old.lines + 1 }
         ensures bad { self.new.bad ≡ Some result }
@@ -193,7 +193,7 @@ impl LineReader {
         bad
     }
 
-    // The number of the line that isn't finished.
+    // The number of the line that is not finished.
     fn unfinished(&self) -> BadLine
         ensures { result.line ≡ self.now.lines + 1 }
     {
@@ -206,7 +206,7 @@ impl LineReader {
     ///
     /// # Errors
     ///
-    /// `BadLine` where one was answered, or where bytes stand after the last line feed.
+    /// `BadLine` where one was returned, or where bytes stand after the last line feed.
     pub fn finish(&self) -> Result<(), BadLine>
         ensures { (bytes : List ℕ) → HasRead self.now bytes → MatchResult result
             (λ _. bad_at_end bytes ≡ None)

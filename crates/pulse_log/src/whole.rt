@@ -1,4 +1,4 @@
-//! The fast way for a line that lies whole in what was read.
+//! The fast way for a line that lies whole in the bytes that were read.
 ghost use Rattle.std.specs.Prelude.{◌≡◌, ◌+◌, ◌<◌, ◌≤◌, ◌^◌, ◌∷◌, ◌++◌, [], length, take, decimal, IfSome};
 ghost use Rattle.pulse_log.specs.Writing.{line_of};
 
@@ -8,7 +8,7 @@ use tick_units::{Local, Reduction};
 // Each number of at most this number of digits is below 2000000.
 const WIDTHS: usize = 6;
 
-/// What the line at the front of some bytes says, where it stands there whole.
+/// What the line at the beginning of some bytes says, where it stands there whole.
 #[derive(Clone, Copy, Debug)]
 pub struct WholeLine {
     pub found: Reduction,
@@ -18,9 +18,9 @@ pub struct WholeLine {
     ghost most: { found.width ≤ 2000000 },
 }
 
-/// The line at the front of these bytes, where it's a lawful one that starts at `least` or later. None also where it goes on
-/// behind them or stands at their very end, and where its start is 0 or has 16 digits or its width has 7: such a line is left to who
-/// reads byte by byte.
+/// The line at the beginning of these bytes, where it is valid and starts at `least` or later. None also where it goes on after
+/// them or stands at their very end. None too where its start is 0 or has 16 digits, or its width has 7. Such a line is left to
+/// the byte-by-byte reader.
 #[inline(always)]
 pub fn line_in_front(bytes: &[u8], least: u64) -> Option<WholeLine>
     ensures within { IfSome result (λ line. line.count ≤ length bytes.now) }
@@ -53,8 +53,8 @@ pub fn line_in_front(bytes: &[u8], least: u64) -> Option<WholeLine>
     })
 }
 
-// The number whose digits are the first of these bytes. None where there is no digit, where the first is 0, and where they aren't
-// read in one go.
+// The number whose digits are the first of these bytes. None where there is no digit, where the first is 0, and where they cannot
+// be read at once.
 #[inline(always)]
 fn number_in_front(bytes: &[u8]) -> Option<Digits>
     ensures within { IfSome result (λ number. number.count ≤ length bytes.now) }

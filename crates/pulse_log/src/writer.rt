@@ -5,8 +5,8 @@ ghost use Rattle.pulse_log.specs.Writing.{line_of, IsTheLine};
 use itoa::Buffer;
 use tick_units::Reduction;
 
-/// Writes the line of a reduction, with its line feed, at the front of `out`, and leaves the rest as it was. The answer
-/// is the number of bytes written. The width is 1 to 2000000 microseconds.
+/// Writes the line of a reduction, with its line feed, at the beginning of `out`, and leaves the rest as it was. Returns the
+/// number of bytes written. The width is 1 to 2000000 microseconds.
 pub fn write_line(r: Reduction, out: &mut [u8; 40]) -> usize
     requires some { 1 ≤ r.width }
     requires most { r.width ≤ 2000000 }
@@ -21,7 +21,7 @@ pub fn write_line(r: Reduction, out: &mut [u8; 40]) -> usize
     put(out, feed, b"\n")
 }
 
-// Puts a text at a place. The answer is the place behind it.
+// Puts a text at a place. Returns the place after it.
 fn put(out: &mut [u8; 40], place: usize, text: &[u8]) -> usize
     requires { place + length text.now ≤ 40 }
     ensures text { out.new ≡ take place out.old ++ text.now ++ drop result out.old }

@@ -12,7 +12,7 @@ use Rattle.sink_text.specs.Writing.{WritesAll, WritesFront}
 use Rattle.pulse_maker.proofs.ProgressLaws.{text_append}
 use Rattle.sink_text.proofs.WritingLaws.{writes_front, front_of_both}
 
--- what stands at the front of a piece in which a line was written
+-- what stands at the beginning of a piece in which a line was written
 pub front_is_line : (r : Reduction) (count : ℕ) (piece rest : List ℕ) → piece ≡ line_of r ++ 10 ∷ [] ++ rest → count ≡ length (line_of r) + 1 → take count piece ≡ text_of (r ∷ [])
 front_is_line r count piece rest is size =
     let line = line_of r ++ 10 ∷ [] in

@@ -2,7 +2,7 @@
 use Rattle.std.proofs.Common.{◌≡◌, ℕ, zero, suc, List, [], ◌∷◌, refl, ap, take}
 use Rattle.std.specs.Prelude.{set}
 
--- of a front of a list the same item is changed
+-- of a beginning of a list the same item is changed
 pub front_set : {A : Type 0} (n : ℕ) (xs : List A) (i : ℕ) (x : A) → take n (set xs i x) ≡ set (take n xs) i x
 front_set zero xs i x = refl
 front_set (suc n) [] i x = refl

@@ -13,7 +13,7 @@ use Rattle.pulse_maker.specs.declared.seconds.Second.{Second}
 use Rattle.pulse_maker.specs.declared.writer.LogWriter.{LogWriter}
 use Rattle.sink_text.proofs.WritingLaws.{writes_more, writes_front, front_of_both}
 
--- the reductions of some seconds and of those behind them
+-- the reductions of some seconds and of those after them
 pub reductions_append : (plan : Plan) (start j n : ℕ) (xs ys : List Second) → n ≡ j + length xs
     → reductions_from plan start j (xs ++ ys) ≡ reductions_from plan start j xs ++ reductions_from plan start n ys
 reductions_append plan start j n [] ys e = let same : j ≡ n = omega (arith, e) in ap (λ k. reductions_from plan start k ys) same
@@ -81,7 +81,7 @@ stopped_push plan start now begin out out_now log seconds second number text h =
     (writes_front begin out out_now (text_from plan start seconds) (text_of (next_parts plan start seconds second)) h.text
     (subst (λ (l : List Reduction). WritesFront out out_now (text_of l)) (parts_same plan log.plan start log.number now seconds second h.by h.number number) text))
 
--- a front of the text of some seconds is one of the text of more of them
+-- a beginning of the text of some seconds is one of the text of more of them
 pub stopped_more : (plan : Plan) (start : ℕ) (begin out_now : SinkState) (xs ys : List Second) → HasStopped plan start begin out_now xs → HasStopped plan start begin out_now (xs ++ ys)
 stopped_more plan start begin out_now xs ys h =
     let behind = reductions_from plan start (suc (length xs)) ys in

@@ -16,7 +16,7 @@ take_suc index n [] i d lt e = absurd (omega (arith, lt))
 take_suc index n (y ∷ ys) zero d lt e = let same : index ≡ n = omega (arith, e) in ap (λ (k : ℕ). record { index = k; symbol = y } ∷ []) same
 take_suc index n (y ∷ ys) (suc i) d lt e = ap (λ (l : List Second). record { index = index; symbol = y } ∷ l) (take_suc (index + 1) n ys i d (omega (arith, lt)) (omega (arith, e)))
 
--- the same behind other seconds
+-- the same after other seconds
 pub next_second : (before : List Second) (index n : ℕ) (symbols : List Symbol) (i : ℕ) (symbol : Symbol) → i < length symbols → n ≡ index + i → symbol ≡ get_or symbols i symbol
     → (before ++ seconds_from index (take i symbols)) ++ record { index = n; symbol = symbol } ∷ [] ≡ before ++ seconds_from index (take (i + 1) symbols)
 next_second before index n symbols i symbol lt e is =

@@ -1,6 +1,6 @@
--- A made log: the reductions of its seconds, each late by a number of a generator, and its text. The generator is the one that
--- the C standard (ISO/IEC 9899, `rand`) gives as an example, modulo 2^31; the widths lie inside the classes of the three plans,
--- and which of them are taken is this project's own choice. Moments and widths are in microseconds.
+-- A made log: the reductions of its seconds, each late by a number of a generator, and its text. The generator is the one in an
+-- example of the C standard (ISO/IEC 9899, `rand`), modulo 2^31. The widths lie inside the classes of the three plans; the choice
+-- among these is this project's own. Moments and widths are in microseconds.
 use Rattle.std.specs.Prelude.{◌≡◌, ℕ, zero, suc, None, ◌+◌, ◌*◌, ◌%◌, ◌^◌, List, [], ◌∷◌, ◌++◌}
 use Rattle.std.specs.List.{flat_map}
 use Rattle.tick_units.specs.Log.{pulses, bad_at_end}
@@ -42,7 +42,7 @@ dcf_width Both = odd_width
 dcf_width Long = odd_width
 dcf_width Odd = odd_width
 
--- that of OnlyB is the width of each of its two parts
+-- for OnlyB this is the width of each of its two parts
 abbrev pub msf_width : Symbol → ℕ
 msf_width Zero = 100000
 msf_width One = 200000
@@ -59,7 +59,7 @@ wwvb_width Both = odd_width
 wwvb_width Long = 800000
 wwvb_width Odd = odd_width
 
--- the width that says a symbol; one in no class stands for a symbol that the plan doesn't have
+-- the width that says a symbol; one in no class stands for a symbol that the plan does not have
 abbrev pub width_of : Plan → Symbol → ℕ
 width_of Dcf symbol = dcf_width symbol
 width_of Msf symbol = msf_width symbol
@@ -91,11 +91,11 @@ reductions_of plan start seconds = reductions_from plan start 1 seconds
 abbrev pub text_of : List Reduction → List ℕ
 text_of reductions = flat_map (λ r. line_of r ++ 10 ∷ []) reductions
 
--- the made log of so many minutes, the first of which begins at the absolute second `first`
+-- the made log of this many minutes, the first of which begins at the absolute second `first`
 abbrev pub made : Plan → ℕ → ℕ → ℕ → List Reduction
 made plan first minutes seed = reductions_of plan (seeded plan seed) (seconds_of plan first minutes seed)
 
--- who reads this text as a log finds these reductions, and no bad line
+-- a reader of this text as a log finds these reductions, and no bad line
 pub record IsReadAs (text : List ℕ) (reductions : List Reduction) : Type 0 where
   pub found : pulses text ≡ reductions
   pub bad : bad_at_end text ≡ None

@@ -1,5 +1,5 @@
--- What a made log says at each of its seconds: minutes as PTB (DCF77), NPL (MSF) and NIST (SP 432, WWVB) spell them, one after
--- another, and what stands before the first and behind the last of them. Which minutes are spoilt is this project's own choice.
+-- What a made log says at each of its seconds, before the first minute and after the last. Minutes are as PTB (DCF77), NPL (MSF)
+-- and NIST (SP 432, WWVB) spell them, one after another. The choice of spoilt minutes is this project's own.
 use Rattle.std.specs.Prelude.{ℕ, ◌+◌, ◌*◌, ◌%◌, Bool, false, not, ◌&&◌, ◌==◌, List, [], ◌∷◌, ◌++◌, set, if◌then◌else◌}
 use Rattle.std.specs.List.{flat_map, range_with_len}
 use Rattle.tick_units.specs.declared.marks.Plan.{Plan}
@@ -16,7 +16,7 @@ use Rattle.pulse_maker.specs.declared.seconds.Second.{Second}
 abbrev pub is_spoilt : ℕ → ℕ → Bool
 is_spoilt seed minute = not (minute == 0) && minute % 50 == seed % 50
 
--- what the frame of a minute says: the second at which the minute behind it begins
+-- what the frame of a minute says: the second at which the minute after it begins
 abbrev pub coded_of : ℕ → ℕ → Coded
 coded_of first minute = record { minute = first + 60 * (minute + 1); leap_at = 0; summer = false }
 
@@ -37,8 +37,8 @@ abbrev pub seconds_from : ℕ → List Symbol → List Second
 seconds_from index [] = []
 seconds_from index (symbol ∷ more) = record { index = index; symbol = symbol } ∷ seconds_from (index + 1) more
 
--- what stands before the first minute, so that its begin can be told: in DCF77 the last mark of the minute before, behind which
--- one second has none; in WWVB the last marker
+-- what stands before the first minute, so that its beginning can be found: in DCF77 the last mark of the minute before, after
+-- which one second has none; in WWVB the last marker
 abbrev pub opening_symbols : Plan → List Symbol
 opening_symbols Dcf = Zero ∷ []
 opening_symbols Msf = []
@@ -49,8 +49,8 @@ opening_index Dcf = 0
 opening_index Msf = 0
 opening_index Wwvb = 1
 
--- what stands behind the last minute: the first mark of the next, which closes it; and in MSF one more, since only the reduction
--- behind a mark tells that it has no second part
+-- what stands after the last minute: the first mark of the next, which closes it; in MSF also one more, since only the reduction
+-- after a mark shows that it has no second part
 abbrev pub closing_symbols : Plan → List Symbol
 closing_symbols Dcf = Zero ∷ []
 closing_symbols Msf = Long ∷ Zero ∷ []

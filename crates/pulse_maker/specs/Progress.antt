@@ -11,13 +11,13 @@ use Rattle.pulse_maker.specs.declared.writer.LogWriter.{LogWriter}
 abbrev pub text_from : Plan → ℕ → List Second → List ℕ
 text_from plan start seconds = text_of (reductions_of plan start seconds)
 
--- these seconds are written since the sink was so, with the numbers that come after `start`
+-- these seconds are written since the sink was in this state, with the numbers that come after `start`
 pub record HasWritten (plan : Plan) (start : ℕ) (out : SinkState) (log : LogWriter) (out_now : SinkState) (seconds : List Second) : Type 0 where
   pub by : log.plan ≡ plan
   pub number : log.number ≡ number_from start (length seconds)
   pub lines : log.lines ≡ length (reductions_of plan start seconds)
   pub text : WritesAll out out_now (text_from plan start seconds)
 
--- a write failed: a front of their text is held
+-- a write failed: the sink holds a prefix of their text
 abbrev pub HasStopped : Plan → ℕ → SinkState → SinkState → List Second → Type 0
 HasStopped plan start out out_now seconds = WritesFront out out_now (text_from plan start seconds)

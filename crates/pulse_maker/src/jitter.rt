@@ -1,4 +1,4 @@
-//! The numbers by which the starts of marks are late.
+//! The numbers that say how late the starts of marks are.
 ghost use Rattle.std.specs.Prelude.{◌≡◌, ◌^◌, ◌<◌};
 ghost use Rattle.pulse_maker.specs.Made.{seeded, number_after};
 
@@ -6,7 +6,7 @@ use tick_units::Plan;
 
 const MODULUS: u64 = 1 << 31;
 
-// The number before the first one. Each plan has numbers of its own at one seed.
+// The number before the first one. At one seed each plan has its own numbers.
 pub fn seeded(plan: Plan, seed: u32) -> u32
     ensures value { result ≡ seeded plan seed }
     ensures below { result < 2 ^ 31 }
@@ -19,7 +19,7 @@ pub fn seeded(plan: Plan, seed: u32) -> u32
     ((u64::from(seed) + number_of_plan) % MODULUS) as u32
 }
 
-// The number after this one: the generator that the C standard gives as an example.
+// The number after this one: the generator in an example of the C standard.
 pub fn number_after(number: u32) -> u32
     ensures value { result ≡ number_after number }
     ensures below { result < 2 ^ 31 }

@@ -1,5 +1,5 @@
-//! Makes pulse logs: what a receiver would have heard of a sender that sends a run of minutes, with starts that jitter and a
-//! spoilt second in some of the minutes.
+//! Makes pulse logs: what a receiver would have received from a sender that sends a run of minutes. The starts jitter, and some
+//! of the minutes have a spoilt second.
 #![tactic(auto)]
 
 mod jitter;

@@ -18,11 +18,11 @@ fn index_of(minute: u32) -> u32
     2 + 60 * minute
 }
 
-/// Writes the log of so many minutes, the first of which begins at the absolute second `first`, and gives the number of its
+/// Writes the log of this many minutes, the first of which begins at the absolute second `first`, and gives the number of its
 /// lines. Its jitter and its spoilt minutes come from the seed.
 ///
-/// `first` is a whole minute from 2000-01-02 00:00 to 2099-12-30 00:00 UTC, and there are at most as many minutes as a day has. Failed
-/// where a write failed: the sink's count rose, and what was written is a front of the log.
+/// `first` is a whole minute from 2000-01-02 00:00 to 2099-12-30 00:00 UTC, and there are at most as many minutes as a day has.
+/// Failed where a write failed: the sink's count rose, and what was written is a prefix of the log.
 pub fn make<K: Sink>(
     plan: Plan,
     first: u64,
@@ -38,7 +38,7 @@ pub fn make<K: Sink>(
     ensures written { OnOk result (WritesAll (K.state out.old) (K.state out.new) (text_of (made plan first minutes seed))) }
     ensures lines { IfOk result (λ n. n ≡ length (made plan first minutes seed)) }
 
-    // It is a lawful log, in which a reader finds just these reductions.
+    // It is a valid log, in which a reader finds exactly these reductions.
     ensures read { IfOk result (λ _. IsReadAs (text_of (made plan first minutes seed)) (made plan first minutes seed)) }
     ensures failed { OnErr result (WritesFront (K.state out.old) (K.state out.new) (text_of (made plan first minutes seed))) }
 {

@@ -1,10 +1,10 @@
-//! What a log says in each of its minutes, and before and behind them.
+//! What a log says in each of its minutes, and before and after them.
 ghost use Rattle.std.specs.Prelude.{◌≡◌, ◌+◌, ◌*◌, ◌%◌, ◌≤◌, ◌<◌, ◌++◌, false, length, take, drop};
 ghost use Rattle.pulse_maker.specs.Minutes.{is_spoilt, coded_of, spelt_by, symbols_of, opening_symbols, opening_index, closing_symbols};
 
 use tick_units::{Coded, Plan, Symbol};
 
-/// The longest frame that there is, and one symbol more.
+/// One more than the number of symbols of the longest frame.
 pub const FRAME_ROOM: usize = 61;
 
 // The place whose width is in no class in a spoilt minute.
@@ -17,7 +17,7 @@ fn is_spoilt(seed: u32, minute: u32) -> bool
     minute != 0 && minute % 50 == seed % 50
 }
 
-// Writes the frame of this minute to the front of `out`, and gives the number of its symbols.
+// Writes the frame of this minute to the beginning of `out`, and gives the number of its symbols.
 fn spell(plan: Plan, c: &Coded, out: &mut [Symbol; 61]) -> usize
     requires whole { c.now.minute % 60 ≡ 0 }
     requires from { 3155760060 ≤ c.now.minute }
@@ -34,8 +34,8 @@ fn spell(plan: Plan, c: &Coded, out: &mut [Symbol; 61]) -> usize
     }
 }
 
-/// Writes what the log says in a minute, counted from 0, to the front of `out`, and gives the number of its symbols. The first
-/// minute of the log begins at the absolute second `first`.
+/// Writes what the log says in a minute, counted from 0, to the beginning of `out`, and gives the number of its symbols. The
+/// first minute of the log begins at the absolute second `first`.
 pub fn write_symbols(
     plan: Plan,
     first: u64,
@@ -85,7 +85,7 @@ pub fn opening_index(plan: Plan) -> u32
     }
 }
 
-/// The symbols behind the last minute.
+/// The symbols after the last minute.
 pub fn closing_symbols(plan: Plan) -> &'static [Symbol]
     ensures symbols { result.now ≡ closing_symbols plan }
     ensures few { length result.now ≤ 61 }

@@ -7,7 +7,7 @@ use std::process::Abort;
 use std::test::Fail;
 use tick_units::{Plan, Symbol};
 
-// What `assert_eq!` does, as a call: where many stand in a test, calls are proved in a third of the time.
+// What `assert_eq!` does, as a call: where a test has many, calls are proved in a third of the time.
 fn same<T: PartialEq + Debug + Drop>(rt: &impl Abort, left: T, right: T) {
     assert_eq!(*rt; left, right);
 }
@@ -15,8 +15,8 @@ fn same<T: PartialEq + Debug + Drop>(rt: &impl Abort, left: T, right: T) {
 // 2026-03-01 00:00 UTC.
 const FIRST: u64 = 3_981_312_000;
 
-// Bit B alone, which no minute of a made log has. By NPL's table the carrier is off for 100 ms, on for 100 ms and off for 100 ms more. The
-// first number of the generator for MSF is 238199713, which is 673 modulo 2001.
+// Bit B alone, which no minute of a made log has. By NPL's table the carrier is off for 100 ms, on for 100 ms and off for 100 ms
+// more. The first number of the generator for MSF is 238199713, which is 673 modulo 2001.
 #[test]
 fn a_second_in_two_parts(rt: HostRuntime) -> Result<(), Fail> {
     let mut out = MemorySink::new(rt.alloc(), Vec::new(rt.alloc()));
@@ -31,7 +31,7 @@ fn a_second_in_two_parts(rt: HostRuntime) -> Result<(), Fail> {
     Ok(())
 }
 
-// Every fiftieth minute is spoilt, from the seed's own on, and the first of all never.
+// Every fiftieth minute is spoilt, beginning with the seed's own one; the first of all never is.
 #[test]
 fn a_minute_is_spoilt_by_the_seed(rt: HostRuntime) {
     for (seed, minute, spoilt) in [

@@ -22,7 +22,7 @@ const PARTS_APART: u64 = 200_000;
 #[derive(Clone, Copy, Debug)]
 pub struct LogWriter {
     plan: Plan,
-    // The number by which the last mark is late.
+    // The number that says how late the last mark is.
     number: u32,
     // How many lines there are.
     lines: u64,

@@ -27,7 +27,7 @@ answered : (due result : Status) (out out_now : SinkState) (text : List ℕ) →
 answered due result out out_now text no_write (inl all) = all.0
 answered due result out out_now text no_write (inr failed) = absurd (no_write (rose_by_one out.faults out_now.faults failed.1.3))
 
--- openings that were told are there
+-- openings that were reported are there
 not_more : (told : Option (List Opening)) (before more : List Opening) (one : Opening) → told ≡ Some before → told ≡ Some (before ++ one ∷ more) → ⊥
 not_more told before more one were are =
     let same : before ≡ before ++ one ∷ more = (let e = sym were ∙ are in cc) in

@@ -1,13 +1,16 @@
--- Scaffolding: what the crew of a station leaves, all in one.
-use Rattle.std.specs.Prelude.{ℕ}
-use Rattle.feed_link.specs.Told.{SourceState, LinkState}
+-- Scaffolding: all that the crew of a station leaves, as one value.
+use Rattle.crew_work.specs.Served.{Sights}
 use Rattle.station_config.specs.Station.{StationFields}
 use Rattle.station_crew.specs.declared.named.Ended.{Ended}
 use Rattle.station_gear.specs.declared.gear.Gear.{Gear}
 use Rattle.station_report.specs.Crewing.{LeavesAll}
+use Rattle.station_report.specs.declared.done.Done.{Done}
 use Rattle.station_report.specs.declared.done.Orders.{Orders}
 
+-- what is told of it, but for its logs and links
+abbrev pub done_of : {L T : Type 0} → Ended L T → Done
+done_of ended = record { journal = ended.journal; radios = ended.radios; servers = ended.servers; leap = ended.leap; links = ended.links }
+
 -- the workers of a station have run
-abbrev pub EndsAll : {L T : Type 0} → (L → SourceState) → (L → ℕ) → (T → LinkState) → (T → ℕ) → StationFields → Orders → Gear L T → Ended L T → Type 0
-EndsAll log_state log_opening state opening of orders gear ended =
-    LeavesAll log_state log_opening state opening of orders gear ended.gear ended.journal ended.radios.items ended.servers.items ended.leap ended.links.items
+abbrev pub EndsAll : {L T : Type 0} → Sights L T → StationFields → Orders → Gear L T → Ended L T → Type 0
+EndsAll sights of orders gear ended = LeavesAll sights of orders gear (done_of ended) ended.gear

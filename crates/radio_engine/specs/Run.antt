@@ -1,4 +1,4 @@
--- What the program does: each command that words may ask for, what becomes of it, and when nothing has a fault.
+-- What the program does: each command that arguments may ask for, what becomes of it, and when nothing has a fault.
 use Rattle.std.specs.Prelude.{◌≡◌, ℕ, ◌≤◌, ◌⊎◌, List}
 use Rattle.command_words.specs.Commands.{Asked, AskFor}
 use Rattle.command_words.specs.Commands.Asked.{decode, drill, migrate, replay, serve}
@@ -14,7 +14,7 @@ use Rattle.file_commands.specs.Unopened.{Refuses, Lacks}
 use Rattle.file_commands.specs.declared.ending.status.Status.{Status}
 use Rattle.file_commands.specs.declared.ending.status.Status.TheVariants.{Done, Memory}
 
--- what becomes of a command, once its memory is found
+-- what becomes of a command, once there is enough memory for it
 abbrev pub Runs : Asked → OutsideState → OutsideState → SinkState → SinkState → Status → Type 0
 Runs (decode plan log) outside outside_now out out_now result = RunsDecode plan log outside outside_now out out_now result
 Runs (replay station script limit) outside outside_now out out_now result = RunsReplay station script limit outside outside_now out out_now result
@@ -22,8 +22,8 @@ Runs (drill seed limit) outside outside_now out out_now result = Drills seed lim
 Runs (migrate station journal) outside outside_now out out_now result = RunsMigrate station journal outside outside_now out out_now result
 Runs (serve station during after limit) outside outside_now out out_now result = RunsServe station during after limit outside outside_now out out_now result
 
--- all that a command opens was opened and given back, told its bytes, and has no fault. A drill opens nothing; its journal has room for what
--- is due
+-- all that a command opens was opened and given back, reported its bytes, and has no fault. A drill opens nothing; its journal
+-- has room for what is due
 abbrev pub IsFaultless : Asked → OutsideState → OutsideState → Type 0
 IsFaultless (decode plan log) outside outside_now = HasGoodLog log outside outside_now
 IsFaultless (replay station script limit) outside outside_now = HasGoodScript station script limit outside outside_now
@@ -31,7 +31,8 @@ IsFaultless (drill seed limit) outside outside_now = 4320 ≤ limit
 IsFaultless (migrate station journal) outside outside_now = HasGoodJournal station journal outside outside_now
 IsFaultless (serve station during after limit) outside outside_now = HasGoodStation station limit outside outside_now
 
--- then all is done. A command to serve takes memory once all is open, and may find none then; a drill may find none at all
+-- then all is done. A command to serve takes memory once all is open, and may find too little then; a drill may find too little
+-- at any time
 abbrev pub IsComplete : Asked → Status → Type 0
 IsComplete (decode plan log) result = result ≡ Done
 IsComplete (replay station script limit) result = result ≡ Done
@@ -39,7 +40,8 @@ IsComplete (drill seed limit) result = (result ≡ Done) ⊎ (result ≡ Memory)
 IsComplete (migrate station journal) result = result ≡ Done
 IsComplete (serve station during after limit) result = (result ≡ Done) ⊎ (result ≡ Memory)
 
--- all that the one call promises of these words: `run_station` says it clause by clause, and who hands its words on says it so
+-- all that the one call promises for these arguments. `run_station` says it clause by clause, and so does each caller that hands
+-- its arguments on
 pub record IsRun (words : List (List ℕ)) (outside outside_now : OutsideState) (out out_now : SinkState) (result : Status) : Type 0 where
   pub refused : ((asked : Asked) → AskFor words asked → ⊥) → Refuses outside outside_now out out_now result ⊎ Lacks outside outside_now out out_now result
   pub runs : (asked : Asked) → AskFor words asked → Lacks outside outside_now out out_now result ⊎ Runs asked outside outside_now out out_now result

@@ -1,4 +1,4 @@
-//! `drill`: a day of three radios is made up in memory and served, and what became of it is told.
+//! `drill`: makes up a day of three radios in memory, serves it, and reports the result.
 ghost use Rattle.std.specs.Prelude.{◌≡◌, ◌<◌, ◌≤◌, ◌⊎◌, IfOk, false};
 ghost use Rattle.station_report.specs.DrillScaffold.{HasDayGear, HasDrilled};
 ghost use Rattle.station_report.specs.Drilling.{Drills};
@@ -123,7 +123,7 @@ fn drill<R: Threads + Wait + Sync, O: Outside>(
     serve_day(rt, alloc, station, orders, kit, seed, outside)
 }
 
-// Runs a drill with a rack of receivers: what it writes comes behind that.
+// Runs a drill with a rack of receivers, and writes its report after that.
 pub fn run_drill<R: Threads + Wait + Sync, O: Outside, K: Sink>(
     rt: &R,
     alloc: Global,

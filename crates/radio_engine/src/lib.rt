@@ -1,4 +1,4 @@
-//! What the station does: the one call that the program makes, from its words to its status.
+//! The one call that the program makes, from its arguments to its status.
 #![tactic(auto)]
 
 mod drill;

@@ -21,21 +21,22 @@ use std::alloc::Global;
 use std::sync::Wait;
 use std::thread::Threads;
 
-/// Ends a command for which no memory was found before anything was opened: the status line is written.
+/// Ends a command where there was not enough memory before anything was opened: writes the status line.
 pub fn end_without_memory<K: Sink>(out: &mut K) -> Status
     ensures { Answers (status_of NoMemory) result (K.state out.old) (K.state out.new) (status_line NoMemory) }
 {
     finish(Ending::NoMemory, out)
 }
 
-/// Runs the command that the words spell. `decode` opens its log once, writes a line for each answer as it comes and then
-/// the status line, and gives the log back. `replay` reads its station, plays its script line by line with receivers of the
-/// rack, and writes what each line gives, then the page of the entries kept and the status line. `migrate` reads its station and
-/// moves its journal over line by line, and writes the page of the entries and the status line behind it. `serve` reads its station,
-/// opens the logs and links of it in order, runs the workers of its feeds beside the responders of its serving links, and then these
-/// alone; it gives all back, the outside's gate too, and writes the journal, a line for each serving link, the page of the journal and the
-/// status line. `drill` makes up a day of three radios in memory, runs the workers of these radios with the outside's gate, and writes how
-/// often each was answered in which way, the page of the journal and the status line; it opens nothing.
+/// Runs the command that the arguments spell. `decode` opens its log once, writes a line for each answer as it comes and then the
+/// status line, and gives back the log. `replay` reads its station, plays its script line by line with receivers of the rack, and
+/// writes what each line gives. Then it writes the page of the entries kept and the status line. `migrate` reads its station,
+/// converts its journal line by line, and then writes the page of the entries and the status line. `serve` reads its station, and
+/// opens its logs and links in order. It runs the workers of its feeds beside the responders of its serving links, and then these
+/// alone. It gives back all, also the outside's gate. Then it writes the journal, a line for each serving link, the page of the
+/// journal and the status line. `drill` makes up a day of three radios in memory, and runs the workers of these radios with the
+/// outside's gate. It writes how many answers of each kind each radio got, the page of the journal and the status line; it opens
+/// nothing.
 ///
 /// The rack holds at least four blank receivers of each plan. Those of a plan are used in the rack's order.
 pub fn run_station<R: Threads + Wait + Sync, O: Outside, K: Sink>(
@@ -50,12 +51,12 @@ pub fn run_station<R: Threads + Wait + Sync, O: Outside, K: Sink>(
     requires gate { O.gate_out outside.old ≡ false }
     ensures gate { O.gate_out outside.new ≡ O.gate_out outside.old }
 
-    // Words that ask for no command are refused, and nothing is opened.
+    // Refuses arguments that ask for no command, and opens nothing.
     ensures refused { ((asked : Asked) → AskFor (map (λ w. w.now) words.now) asked → ⊥) →
         Refuses (O.state outside.old) (O.state outside.new) (K.state out.old) (K.state out.new) result
         ⊎ Lacks (O.state outside.old) (O.state outside.new) (K.state out.old) (K.state out.new) result }
 
-    // The command that they ask for is run: what it opens, reads, writes and gives back, and the cause of its answer.
+    // Runs the command that they ask for: what it opens, reads, writes and gives back, and the cause of its answer.
     ensures runs { (asked : Asked) → AskFor (map (λ w. w.now) words.now) asked →
         Lacks (O.state outside.old) (O.state outside.new) (K.state out.old) (K.state out.new) result
         ⊎ Runs asked (O.state outside.old) (O.state outside.new) (K.state out.old) (K.state out.new) result }

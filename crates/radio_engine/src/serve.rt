@@ -1,13 +1,13 @@
-//! `serve`: a station is served, and then its journal is written, what became of its links, and the page of the journal.
+//! `serve`: serves a station, and then writes its journal, how its links ended, and the page of the journal.
 ghost use Rattle.std.specs.Prelude.{◌≡◌, ◌<◌, ◌≤◌, ◌⊎◌, [], All, IfOk, MatchResult, false, true, length, vec_len};
 ghost use Rattle.radio_engine.specs.Ended.{EndsAll};
-ghost use Rattle.station_report.specs.Crewing.{GivesServed, GivesUnused, TriesServe, subject_of};
+ghost use Rattle.station_report.specs.Crewing.{GivesServed, GivesUnused, LeavesAll, TriesServe, subject_of};
 ghost use Rattle.file_commands.specs.Unopened.{Lacks};
 ghost use Rattle.feed_link.specs.ManyOut.{AreOut};
 ghost use Rattle.station_report.specs.Serving.{RunsServe};
 ghost use Rattle.receiver_rack.specs.Racks.{IsRack};
 ghost use Rattle.station_config.specs.Station.{IsStation};
-ghost use Rattle.crew_work.specs.Served.{AreBlank};
+ghost use Rattle.crew_work.specs.Served.{AreBlank, seen, sights_of};
 ghost use Rattle.station_gear.specs.Gears.{IsEmptyFor, numbers_of};
 ghost use Rattle.station_gear.specs.Opens.{IsWhole};
 
@@ -25,14 +25,14 @@ use std::alloc::{AllocError, Global};
 use std::sync::Wait;
 use std::thread::Threads;
 
-// What a station is served with: the receivers of its radios, and its logs and links or room for them.
+// The equipment for serving a station: the receivers of its radios, and its logs and links or room for them.
 #[derive(Drop)]
 pub struct Kit<L: Drop, T: Drop> {
     pub receivers: Vec<BoxedReceiver>,
     pub gear: Gear<L, T>,
 }
 
-// What stands for a missing log or link in the status line.
+// The subject of the status line for a missing log or link.
 fn subject_of(station: &Station, missing: Missing) -> Subject
     ensures { result ≡ subject_of station.now missing }
 {
@@ -73,9 +73,8 @@ pub fn serve_gated<R: Threads + Wait + Sync, O: Outside, L: Source + Drop, T: Li
     requires gate { O.gate_out outside.old ≡ false }
     ensures same { O.state outside.new ≡ O.state outside.old }
     ensures gate { O.gate_out outside.new ≡ O.gate_out outside.old }
-    ensures served { MatchResult result
-        (λ ended. EndsAll (λ log. L.state log) (λ log. L.opening log) (λ net. T.state net) (λ net. T.opening net) station.now orders kit.gear ended)
-        (λ gear. gear ≡ kit.gear) }
+    ensures served { let sights = sights_of (seen L.state L.opening) (seen T.state T.opening) in
+        MatchResult result (λ ended. EndsAll sights station.now orders kit.gear ended) (λ gear. gear ≡ kit.gear) }
 {
     let Kit { receivers, gear } = kit;
     let gate = outside.gate();
@@ -108,9 +107,12 @@ fn serve_open<R: Threads + Wait + Sync, O: Outside>(
     requires gate { O.gate_out outside.old ≡ false }
     requires out { AreOut (O.state outside.old).openings (numbers_of (λ log. O.Log.opening log) (λ net. O.Net.opening net) kit.gear) }
     ensures gate { O.gate_out outside.new ≡ O.gate_out outside.old }
-    ensures served { MatchResult result
-        (λ done. GivesServed (λ log. O.Log.state log) (λ log. O.Log.opening log) (λ net. O.Net.state net) (λ net. O.Net.opening net) station.now orders kit.gear (O.state outside.old) (O.state outside.new) done)
-        (λ due. GivesUnused (λ log. O.Log.state log) (λ log. O.Log.opening log) (λ net. O.Net.state net) (λ net. O.Net.opening net) kit.gear (O.state outside.old) (O.state outside.new) due) }
+    ensures served { let logs = seen (λ log. O.Log.state log) (λ log. O.Log.opening log) in
+        let sights = sights_of logs (seen (λ net. O.Net.state net) (λ net. O.Net.opening net)) in
+        MatchResult result
+        (λ done. let Left = LeavesAll sights station.now orders kit.gear done in
+        GivesServed sights Left (O.state outside.old) (O.state outside.new))
+        (λ due. GivesUnused sights kit.gear (O.state outside.old) (O.state outside.new) due) }
 {
     match serve_gated(rt, alloc, station, orders, kit, outside) {
         Ok(ended) => {
@@ -185,7 +187,7 @@ fn serve<R: Threads + Wait + Sync, O: Outside>(
     }
 }
 
-// Serves a station by its name: what was done is written once all is given back.
+// Serves a station by its name, and writes what was done once all is given back.
 pub fn run_serve<R: Threads + Wait + Sync, O: Outside, K: Sink>(
     rt: &R,
     alloc: Global,

@@ -1,5 +1,6 @@
-//! A stratum 1 NTP server whose reference clocks are longwave radios. The program hands its arguments and its receivers to the one
-//! call that does all, and ends with that call's status. What a person needs to know of it follows on standard error.
+//! A stratum 1 NTP server whose reference clocks are longwave radios. The program hands its arguments and its receivers to the
+//! one call that does everything, and ends with that call's status. Then what a person needs to know of it follows on standard
+//! error.
 #![tactic(auto)]
 
 ghost use Rattle.std.specs.Prelude.{◌≡◌, IfOk, IfErr, IsOkAnd, Err, MatchResult, [], alloc_error, drop, false, map};
@@ -44,8 +45,8 @@ fn main(rt: HostRuntime) -> ExitCode {
     code
 }
 
-// Runs the program: the command that the arguments ask for; or, where no memory was found for them, the status line alone. It ends with
-// the number of its status.
+// Runs the program: the command that the arguments ask for. Where there was not enough memory for them, it writes only the status
+// line. It ends with the number of its status.
 fn run_program<R: Threads + Wait + Sync, O: Outside, K: Sink>(
     rt: &R,
     alloc: Global,
@@ -87,8 +88,8 @@ fn exit_code(status: Status) -> ExitCode
     ExitCode::from(status.number())
 }
 
-// Files that hold the numbers of those of standard input, output and error that were closed when the program began. Else the next
-// file that is opened would take such a number, and what is written to standard output would go there.
+// Files that take the numbers of those of standard input, output and error that were closed when the program began. Without them
+// the next opened file would take such a number, and would receive what the program writes to standard output.
 fn hold_standard_streams<R: Files>(rt: &R) -> [Option<R::File>; 3]
 where
     R::File: AsRawFd,
@@ -96,7 +97,8 @@ where
     [hold(rt), hold(rt), hold(rt)]
 }
 
-// The root folder, which is always there and can't be written to, as an open file, where it got the number of a standard stream.
+// The root folder as an open file, where it got the number of a standard stream. It is always there, and no process can write to
+// it.
 fn hold<R: Files>(rt: &R) -> Option<R::File>
 where
     R::File: AsRawFd,
@@ -108,7 +110,7 @@ where
     Some(file)
 }
 
-// The arguments after the program's name. There are none where one of them isn't UTF-8, since no valid argument is such a one.
+// The arguments after the program's name. There are none where one of them is not UTF-8, since every valid argument is UTF-8.
 fn words_of(alloc: Global, all: io::Result<Args>) -> Result<Vec<String>, AllocError>
     ensures given { IfOk all (λ args. IfOk result (λ words. words.items ≡ drop 1 (into_iter_items args))) }
     ensures memory { IfErr all (λ e. error_kind e ≡ ErrorKind.OutOfMemory → result ≡ Err alloc_error) }
@@ -123,7 +125,7 @@ fn words_of(alloc: Global, all: io::Result<Args>) -> Result<Vec<String>, AllocEr
     }
 }
 
-// The words after the program's name.
+// The arguments after the program's name.
 fn behind_the_name(alloc: Global, all: Args) -> Result<Vec<String>, AllocError>
     ensures { IfOk result (λ words. words.items ≡ drop 1 (into_iter_items all)) }
 {
@@ -152,7 +154,7 @@ fn without_first(words: Vec<String>) -> Vec<String>
     words
 }
 
-// Words as their texts.
+// Arguments as their texts.
 fn texts_of<'a>(alloc: Global, words: &'a [String]) -> Result<Vec<&'a str>, AllocError>
     ensures { IfOk result (λ texts. map (λ t. t.now) texts.items ≡ map (λ w. string_bytes w) words.now) }
 {
@@ -163,7 +165,8 @@ fn texts_of<'a>(alloc: Global, words: &'a [String]) -> Result<Vec<&'a str>, Allo
     Ok(texts)
 }
 
-// Runs the command that words ask for. Where no memory is found before it begins, nothing is opened and the status line is written.
+// Runs the command that arguments ask for. Where there is not enough memory before it begins, it opens nothing and writes the
+// status line.
 fn run_words<R: Threads + Wait + Sync, O: Outside, K: Sink>(
     rt: &R,
     alloc: Global,
@@ -183,7 +186,7 @@ fn run_words<R: Threads + Wait + Sync, O: Outside, K: Sink>(
 // The receivers of each plan.
 const OF_A_PLAN: usize = 4;
 
-// Runs the words with four receivers of each plan, where there is memory for them.
+// Runs the command with four receivers of each plan, where there is memory for them.
 fn run<R: Threads + Wait + Sync, O: Outside, K: Sink>(
     rt: &R,
     alloc: Global,

@@ -1,5 +1,5 @@
--- The type of a boxed receiver in definitions: which receivers a program boxes is known where it is linked alone, so a type that
--- holds a box has two parameters more, and a definition over it takes what its receiver stands for as an argument.
+-- The type of a boxed receiver in definitions. Only the linked program knows which receivers it boxes. So a type that holds a box
+-- has two parameters more, and a definition over it takes what its receiver stands for as an argument.
 use Rattle.std.specs.declared.alloc.Global.{Global}
 use Rattle.std.specs.declared.dyn_box.DynBox.{DynBox}
 

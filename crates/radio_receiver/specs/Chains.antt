@@ -1,5 +1,4 @@
--- Scaffolding, which contracts use: what a marker and the pairing behind it stand for, which is all that their receiver has
--- heard.
+-- Scaffolding, which contracts use: what a marker and its pairing stand for, which is all that their receiver has received.
 use Rattle.std.specs.Prelude.{◌≡◌}
 use Rattle.tick_units.specs.Marks.{marks_of}
 use Rattle.tick_units.specs.declared.marks.Plan.{Plan}

@@ -1,11 +1,11 @@
--- A receiver round a receiver, which counts what it hears. That it stands for what its inner one stands for is this project's
--- own.
+-- A receiver around a receiver, which counts the reductions that it receives. That it stands for what its inner one stands for is
+-- this project's own.
 use Rattle.std.specs.Prelude.{◌≡◌, ◌-◌, ◌^◌, ℕ, List, length, min}
 use Rattle.tick_units.specs.declared.marks.Reduction.{Reduction}
 use Rattle.radio_receiver.specs.Histories.{History}
 use Rattle.radio_receiver.specs.declared.counting.CountingReceiver.{CountingReceiver}
 
--- how many reductions there are, as far as 64 bits can tell
+-- how many reductions there are, at most the greatest number of 64 bits
 abbrev pub count_of : List Reduction → ℕ
 count_of reductions = min (length reductions) (2 ^ 64 - 1)
 

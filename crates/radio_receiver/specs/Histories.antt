@@ -1,5 +1,5 @@
--- What a receiver of longwave time signals answers to the reductions of the carrier that it hears. The code plans are those
--- of PTB (DCF77), NPL (MSF) and NIST (WWVB); the path delay, which is taken off each moment, is this project's own.
+-- What a receiver of longwave time signals answers to the reductions of the carrier. The code plans are those of PTB (DCF77), NPL
+-- (MSF) and NIST (WWVB). The path delay, which is subtracted from each moment, is this project's own.
 use Rattle.std.specs.Prelude.{ℕ, ◌+◌, ◌-◌, Bool, true, false, Option, None, Some, List, [], ◌∷◌, ◌++◌, map}
 use Rattle.std.specs.List.{last_or}
 use Rattle.tick_units.specs.Marks.{marks_of}
@@ -9,13 +9,13 @@ use Rattle.tick_units.specs.declared.marks.Reduction.{Reduction}
 use Rattle.tick_units.specs.declared.verdicts.Heard.{Heard}
 use Rattle.minute_pair.specs.Answers.{answers}
 
--- the code plan, the path delay in microseconds, and the reductions heard so far
+-- the code plan, the path delay in microseconds, and the reductions received so far
 pub record History : Type 0 where
   pub plan : Plan
   pub delay : ℕ
   pub reductions : List Reduction
 
--- nothing was heard, and no delay is known
+-- nothing was received, and no delay is known
 abbrev pub blank_of : Plan → History
 blank_of plan = record { plan = plan; delay = 0; reductions = [] }
 
@@ -25,7 +25,7 @@ with_reduction h r = record { plan = h.plan; delay = h.delay; reductions = h.red
 abbrev pub with_delay : History → ℕ → History
 with_delay h delay = record { plan = h.plan; delay = delay; reductions = h.reductions }
 
--- a signal leaves its sender by the path delay before it is heard; no moment is below 0
+-- a signal leaves its sender earlier than it is received, by the path delay; no moment is below 0
 abbrev pub sent : ℕ → Heard → Heard
 sent delay heard = record { at = heard.at - delay; kind = heard.kind }
 
@@ -41,6 +41,6 @@ abbrev pub least_behind : Option Reduction → ℕ
 least_behind None = 0
 least_behind (Some r) = r.at + 1
 
--- the least start that may come next where starts rise: behind that of the last reduction, and 0 where there is none
+-- the least start that may come next where starts rise: above that of the last reduction, and 0 where there is none
 abbrev pub least_after : List Reduction → ℕ
 least_after reductions = least_behind (last_or None reductions)

@@ -1,5 +1,5 @@
--- Read Histories (what a receiver answers), and Answers and Years of `minute_pair`. Counting is a
--- receiver round a receiver. Boxes is the type of a boxed receiver. Chains is scaffolding.
+-- Read Histories (what a receiver answers), and Answers and Years of `minute_pair`. Counting is a receiver around a receiver.
+-- Boxes is the type of a boxed receiver. Chains is scaffolding.
 pub mod Boxes
 pub mod Histories
 pub mod Chains

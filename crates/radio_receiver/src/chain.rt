@@ -1,4 +1,4 @@
-//! A marker and a pairing behind it, with a path delay.
+//! A marker and the pairing that takes its marks, with a path delay.
 ghost use Rattle.std.specs.Prelude.{◌≡◌, ◌+◌, ◌++◌, ◌-◌, ◌==◌, true, IfSome};
 ghost use Rattle.std.specs.Option.{option_to_list};
 ghost use Rattle.tick_units.specs.declared.marks.Plan.{Plan};
@@ -9,17 +9,17 @@ use minute_pair::Pairing;
 use second_marks::Marker;
 use tick_units::{Heard, Local, Plan, Reduction};
 
-// A marker and, behind it, a pairing of its marks; what every receiver is made of.
+// A marker and the pairing that takes its marks: every receiver is made of these two.
 #[derive(Drop)]
 pub struct Chain {
     marker: Marker,
     pairing: Pairing,
     delay_us: u32,
-    // One more than the start of the last reduction, and 0 where none was heard.
+    // One more than the start of the last reduction, and 0 where it has received none.
     least_start: u64,
 }
 
-// A moment less a delay, and not below 0. It isn't inlined, so that it is worked out only where there is an answer.
+// A moment less a delay, and not below 0. It is not inlined, so that it is computed only where there is an answer.
 #[inline(never)]
 fn sent(at: Local, delay_us: u32) -> Local
     ensures { result ≡ at - delay_us }
@@ -30,7 +30,7 @@ fn sent(at: Local, delay_us: u32) -> Local
 impl Chain {
     ghost use Rattle.radio_receiver.specs.Chains.{HasChained};
 
-    // A chain that has heard nothing.
+    // A chain that has received nothing.
     pub fn new(plan: Plan) -> Chain
         ensures chained { HasChained result (blank_of plan) }
         ensures least { result.least_start ≡ 0 }
@@ -43,6 +43,7 @@ impl Chain {
         }
     }
 
+    // Sets the path delay, in microseconds. The chain has to be blank.
     pub fn fit(&mut self, delay_us: u32)
         requires { self.old.least_start ≡ 0 }
         ensures fitted { (h : History) → HasChained self.old h → HasChained self.new (with_delay h delay_us) }
@@ -51,6 +52,7 @@ impl Chain {
         self.delay_us = delay_us;
     }
 
+    // Takes the next reduction, and returns the answer that it completes, at its moment less the path delay.
     #[tactic(auto, using(crate::proofs::LastLaws::least_push))]
     #[inline(always)]
     pub fn hear(&mut self, reduction: Reduction) -> Option<Heard>
@@ -80,7 +82,8 @@ impl Chain {
         self.marker.plan() == plan && self.pairing.plan() == plan
     }
 
-    // Hears a reduction as a chain of this plan, which it is. Once that is asked, the compiler leaves out what the other plans would do.
+    // Takes a reduction as a chain of this plan, which it is. The plan is known here, so the compiler leaves out what the other
+    // plans would do.
     #[inline(always)]
     pub fn hear_as(&mut self, plan: Plan, reduction: Reduction) -> Option<Heard>
         ensures heard { (h : History) → h.plan ≡ plan → HasChained self.old h → HasChained self.new (with_reduction h reduction) }
@@ -95,6 +98,7 @@ impl Chain {
         self.hear(reduction)
     }
 
+    // Whether it has received nothing.
     #[tactic(auto, using(crate::proofs::LastLaws::blank_is))]
     pub fn is_blank(&self) -> bool
         ensures nothing { (h : History) → HasChained self.now h → result ≡ is_blank h.reductions }

@@ -1,4 +1,4 @@
-//! A receiver round a receiver, which counts what it hears.
+//! A receiver around a receiver, which counts the reductions that it receives.
 ghost use Rattle.std.specs.Prelude.{◌≡◌};
 ghost use Rattle.radio_receiver.specs.Histories.{History};
 ghost use Rattle.radio_receiver.specs.Counting.{count_of};
@@ -6,7 +6,7 @@ ghost use Rattle.radio_receiver.specs.Counting.{count_of};
 use crate::receiver::Receiver;
 use tick_units::{Heard, Plan, Reduction};
 
-/// A receiver round a receiver. It passes on each call and what is answered to it, and counts the reductions that it hears.
+/// A receiver around a receiver. It passes on each call and each answer, and counts the reductions that it receives.
 #[derive(Drop)]
 pub struct CountingReceiver<T> {
     inner: T,
@@ -14,18 +14,18 @@ pub struct CountingReceiver<T> {
 }
 
 impl<T: Receiver> CountingReceiver<T> {
-    /// A receiver round this blank one, which stands for what that one stands for.
+    /// A receiver around this blank one, which stands for what that one stands for.
     pub fn new(inner: T) -> CountingReceiver<T>
         requires blank { T.least_start inner ≡ 0 }
         ensures stands { (h : History) → T.stands_for inner h → ⟦<CountingReceiver<T> as Receiver>⟧.stands_for result h }
         ensures least { ⟦<CountingReceiver<T> as Receiver>⟧.least_start result ≡ 0 }
     {
-        // A blank receiver has heard nothing, so that nothing is to be counted.
+        // A blank receiver has received nothing, so there is nothing to count.
         let _blank = inner.blank();
         CountingReceiver { inner, count: 0 }
     }
 
-    /// How many reductions it has heard, or `u64::MAX` where there were more.
+    /// How many reductions it has received, or `u64::MAX` where there were more.
     pub fn count(&self) -> u64
         ensures { (h : History) → ⟦<CountingReceiver<T> as Receiver>⟧.stands_for self.now h → result ≡ count_of h.reductions }
     {

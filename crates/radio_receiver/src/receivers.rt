@@ -1,4 +1,4 @@
-//! Receivers of each code plan: a chain, and behind a name the plan that it is of.
+//! Receivers of each code plan: a chain, and a type that names its plan.
 ghost use Rattle.std.specs.Prelude.{◌≡◌};
 ghost use Rattle.radio_receiver.specs.Histories.{blank_of};
 

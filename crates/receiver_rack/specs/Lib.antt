@@ -1,3 +1,3 @@
--- Read Racks (what a rack is, and the receivers of a station's radios), then Made (how many of each plan a rack has that is being made).
+-- Read Racks (what a rack is, and the receivers of a station's radios), then Made (how many of each plan an unfinished rack has).
 pub mod Made
 pub mod Racks

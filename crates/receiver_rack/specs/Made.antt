@@ -1,4 +1,4 @@
--- A rack of receivers that nothing was heard of yet: how many it has of each plan.
+-- A rack of receivers that have received nothing yet: how many it has of each plan.
 use Rattle.std.specs.Prelude.{◌≡◌, ℕ, ◌+◌, List, if◌then◌else◌}
 use Rattle.std.specs.List.{count_by}
 use Rattle.tick_units.specs.declared.marks.Plan.{Plan}
@@ -7,7 +7,7 @@ use Rattle.radio_receiver.specs.Histories.{History}
 use Rattle.station_config.specs.Station.{is_same_plan}
 use Rattle.receiver_rack.specs.Racks.{AreOf, is_blank_of}
 
--- each receiver stands for a history, and so many of them are blank ones of DCF77, MSF and WWVB
+-- each receiver stands for a history, and this many of them are blank ones of DCF77, MSF and WWVB
 pub record HasOfEach {B : Type 0} (stands : B → History → Type 0) (d m w : ℕ) (rack : List B) : Type 0 where
   pub histories : List History
   pub are : AreOf stands rack histories

@@ -1,4 +1,4 @@
--- What a rack of receivers is, which of them are kept, and which are left. All of it is this project's own.
+-- What a rack of receivers is, which of them a station keeps, and which are left. All of it is this project's own.
 use Rattle.std.specs.Prelude.{◌≡◌, ℕ, ◌+◌, ◌≤◌, ◌&&◌, Bool, true, Some, List, [], ◌∷◌, All, map, if◌then◌else◌}
 use Rattle.std.specs.List.{count_by, slice_get}
 use Rattle.tick_units.specs.declared.marks.Plan.{Plan}
@@ -16,7 +16,7 @@ AreOf stands (b ∷ more) (h ∷ others) = stands b h × AreOf stands more other
 abbrev pub is_blank_of : Plan → History → Bool
 is_blank_of plan h = is_same_plan plan h.plan && is_blank h.reductions
 
--- receivers of whatever history, among them at least four blank ones of each plan
+-- receivers of any history, among them at least four blank ones of each plan
 pub record IsRack {B : Type 0} (stands : B → History → Type 0) (rack : List B) : Type 0 where
   pub histories : List History
   pub are : AreOf stands rack histories
@@ -44,7 +44,7 @@ pub record IsBlankOf {B : Type 0} (stands : B → History → Type 0) (plan : Pl
 abbrev pub one_of : Plan → Plan → ℕ
 one_of plan other = if is_same_plan plan other then 1 else 0
 
--- of the receivers that were left one of a plan was taken
+-- one receiver of a plan was taken of those that were left
 pub record HasPicked {B : Type 0} (stands : B → History → Type 0) (old new : List (Spare B)) (plan : Plan) (receiver : B) : Type 0 where
   pub receiver_is : All (IsSpare stands) old → IsBlankOf stands plan receiver
   pub others : All (IsSpare stands) old → All (IsSpare stands) new
@@ -55,7 +55,7 @@ pub record AreFour {B : Type 0} (stands : B → History → Type 0) (spares : Li
   pub blank : All (IsSpare stands) spares
   pub four : (plan : Plan) → left_of plan spares ≡ 4
 
--- of a rack some receivers were looked at, and these kept; the others are still to come
+-- this many receivers of a rack were looked at, and these kept; the others are still to come
 pub record HasSorted {B : Type 0} (stands : B → History → Type 0) (spares : List (Spare B)) (rest : List B) : Type 0 where
   pub histories : List History
   pub are : AreOf stands rest histories
@@ -63,7 +63,7 @@ pub record HasSorted {B : Type 0} (stands : B → History → Type 0) (spares : 
   pub most : (plan : Plan) → left_of plan spares ≤ 4
   pub enough : (plan : Plan) → 4 ≤ left_of plan spares + count_by (is_blank_of plan) histories
 
--- what the receiver of a radio stands for that has heard nothing
+-- what the receiver of a radio stands for that has received nothing
 abbrev pub silent : RadioFields → History
 silent radio = record { plan = radio.plan; delay = radio.delay; reductions = [] }
 

@@ -1,4 +1,4 @@
-//! Receivers are fitted with the delays of a station's radios.
+//! Fits receivers with the delays of a station's radios.
 ghost use Rattle.std.specs.Prelude.{◌≡◌, ◌≤◌, ◌++◌, ◌∷◌, [], ◌+◌, ◌<◌, All, IfOk, List, map, vec_len, vec_capacity};
 ghost use Rattle.radio_receiver.specs.Histories.{History, with_delay};
 ghost use Rattle.station_config.specs.Station.{RadioFields};
@@ -10,7 +10,7 @@ use station_config::Station;
 use std::alloc::{AllocError, Global};
 use tick_units::Plan;
 
-/// A blank receiver is fitted with a delay, in microseconds.
+/// Fits a blank receiver with a delay, in microseconds.
 pub fn fit(receiver: BoxedReceiver, delay_us: u32) -> BoxedReceiver
     requires blank { least_start receiver ≡ 0 }
     requires delay { delay_us ≤ 100000 }
@@ -22,7 +22,7 @@ pub fn fit(receiver: BoxedReceiver, delay_us: u32) -> BoxedReceiver
     receiver
 }
 
-// One radio more, with this plan and this delay: the first receiver of its plan that is left, fitted.
+// One more radio, with this plan and this delay: the first receiver of its plan that is left, fitted.
 fn add(
     spares: &mut Vec<Spare<BoxedReceiver>>,
     receivers: &mut Vec<BoxedReceiver>,
@@ -46,8 +46,8 @@ fn add(
     receivers.push_reserved(fit(receiver, delay_us));
 }
 
-/// The receivers of a station's radios, in the station's order: each is of its radio's plan and is fitted with its delay. Of each plan
-/// the first blank receivers of the rack are used, in its order; the others are dropped.
+/// The receivers of a station's radios, in the station's order: each is of its radio's plan and fitted with its delay. This takes
+/// the first blank receivers of each plan from the rack, in its order, and drops the others.
 ///
 /// # Errors
 /// There is no memory.

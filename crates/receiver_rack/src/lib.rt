@@ -1,4 +1,4 @@
-//! A rack of receivers: which of them are kept for a station, and the one of each radio, fitted with its delay.
+//! A rack of receivers: which of them a station keeps, and the one of each radio, fitted with its delay.
 #![tactic(auto)]
 
 mod fitting;

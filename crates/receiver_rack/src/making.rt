@@ -1,4 +1,4 @@
-//! A rack that is made, one receiver after the other.
+//! Makes a rack, one receiver after the other.
 ghost use Rattle.std.specs.Prelude.{◌≡◌, ℕ, [], OnOk};
 ghost use Rattle.tick_units.specs.declared.marks.Plan.TheVariants.{Dcf, Msf, Wwvb};
 ghost use Rattle.radio_receiver.specs.Histories.{blank_of};
@@ -8,7 +8,7 @@ use radio_receiver::{BoxedReceiver, Receiver};
 use std::alloc::AllocError;
 use tick_units::Plan;
 
-/// Puts one blank receiver of a plan more into a rack.
+/// Puts one more blank receiver of a plan into a rack.
 ///
 /// # Errors
 /// There is no memory.

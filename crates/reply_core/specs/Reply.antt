@@ -1,5 +1,5 @@
--- The answer to a datagram (RFC 5905, appendix A.5.3.1, `fast_xmit`), from a page, the moment of arrival and that of sending; and
--- the kiss-o'-death packet that a client gets in its place (section 7.4).
+-- The answer to a datagram (RFC 5905, appendix A.5.3.1, `fast_xmit`), from a page, the moment of arrival and that of sending.
+-- Also the kiss-o'-death packet that a client gets in its place (section 7.4).
 use Rattle.std.specs.Prelude.{ℕ, ◌-◌, ◌*◌, ◌+◌, Bool, true, false, ◌==◌, ◌||◌, not, nat_lt, List, length, Result, Ok, Err, pos, if◌then◌else◌}
 use Rattle.std.specs.Result.{result_map_both}
 use Rattle.tick_units.specs.Units.{phi, to_short}
@@ -13,19 +13,19 @@ use Rattle.reply_core.specs.declared.code.Code.TheVariants.{Pass, Deny, Rate}
 use Rattle.reply_core.specs.declared.dropped.Dropped.{Dropped}
 use Rattle.reply_core.specs.declared.dropped.Dropped.TheVariants.{Short, Version, Mode}
 
--- the request in a datagram: its first 48 bytes, where they are a client's and of a version from 1 to 4; of several reasons
--- for a drop the first counts
+-- the request in a datagram: its first 48 bytes, where their mode is a client's and their version is 1 to 4. Of several reasons
+-- for a drop the first counts.
 abbrev pub request_of : List ℕ → Result Header Dropped
 request_of datagram = if nat_lt (length datagram) 48 then Err Short
     else if (fields datagram).version == 0 || nat_lt latest_version (fields datagram).version then Err Version
     else if not ((fields datagram).mode == client_mode) then Err Mode
     else Ok (fields datagram)
 
--- the root dispersion of a page, aged by the drift of the host's counter since the page was reckoned
+-- the root dispersion of a page, aged by the drift of the host's counter since the page was computed
 abbrev pub root_disp_at : PageFields → ℕ → ℕ
 root_disp_at p sent = to_short (pos (p.root_disp.0 * 65536 + phi (sent - p.anchor)))
 
--- the header of an answer that tells no time: not synchronised, of unknown dispersion, with a reference ID that says why
+-- the header of an answer that gives no time: not synchronised, of unknown dispersion, with a reference ID that says why
 abbrev pub untimed : ℕ → PageFields → Header → ℕ → ℕ → Header
 untimed refid p request arrived sent = record {
   leap = 3;
@@ -43,7 +43,7 @@ untimed refid p request arrived sent = record {
   transmit = record { 0 = time_at p sent };
 }
 
--- the header of the answer where the page is synchronised at the moment of sending, and where it isn't
+-- the header of the answer where the page is synchronised at the moment of sending, and where it is not
 abbrev pub header_by : Bool → PageFields → Header → ℕ → ℕ → Header
 header_by true p request arrived sent = record {
   leap = if leap_is_near p sent then 1 else 0;
@@ -72,13 +72,13 @@ deny_id = 0x44454e59
 abbrev pub rate_id : ℕ
 rate_id = 0x52415445
 
--- the header of what a client gets by its code: the answer, or a kiss-o'-death packet, which never tells the time
+-- the header of what a client gets by its code: the answer, or a kiss-o'-death packet, which never gives the time
 abbrev pub header_for : Code → PageFields → Header → ℕ → ℕ → Header
 header_for Pass p request arrived sent = header_of p request arrived sent
 header_for Deny p request arrived sent = untimed deny_id p request arrived sent
 header_for Rate p request arrived sent = untimed rate_id p request arrived sent
 
--- the 48 bytes that a client gets by its code, or why there are none, which no code has a part in
+-- the 48 bytes that a client gets by its code, or why there are none; the code does not change that
 abbrev pub answer_for : Code → PageFields → List ℕ → ℕ → ℕ → Result (List ℕ) Dropped
 answer_for code p datagram arrived sent =
     result_map_both (λ request. layout (header_for code p request arrived sent)) (λ dropped. dropped) (request_of datagram)

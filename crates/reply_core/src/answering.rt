@@ -12,7 +12,7 @@ use tick_units::{Local, Short, Span, Stamp, phi, to_short};
 /// How many bytes a reply has.
 pub const REPLY_LENGTH: usize = 48;
 
-// The leap indicator of a server that isn't synchronised (RFC 5905, section 7.3).
+// The leap indicator of a server that is not synchronised (RFC 5905, section 7.3).
 const UNSYNCHRONISED: u8 = 3;
 
 // `DENY` as a reference ID (RFC 5905, section 7.4).
@@ -21,10 +21,10 @@ const DENY: u32 = 0x4445_4e59;
 // `RATE` as a reference ID.
 const RATE: u32 = 0x5241_5445;
 
-/// The request in a datagram; what stands behind its first 48 bytes is passed over.
+/// The request in a datagram; what stands after its first 48 bytes is passed over.
 ///
 /// # Errors
-/// A datagram that is no request of a client: it has fewer than 48 bytes, a version that isn't 1 to 4, or another mode.
+/// A datagram that is no client's request: it has fewer than 48 bytes, a version outside 1 to 4, or another mode.
 pub fn read_request(datagram: &[u8]) -> Result<Header, Dropped>
     ensures read { result ≡ request_of datagram.now }
     ensures version { IfOk result (λ request. request.version < 8) }
@@ -50,7 +50,7 @@ fn root_disp(page: &Page, sent: Local) -> Short
     to_short(Span::from(page.root_disp) + phi(waited))
 }
 
-// The header of an answer that tells no time, with a reference ID that says why.
+// The header of an answer that gives no time, with a reference ID that says why.
 fn untimed(refid: u32, page: &Page, request: &Header, arrived: Local, sent: Local) -> Header
     ensures header { result ≡ untimed refid page.now request.now arrived sent }
     ensures leap { result.leap < 4 }
@@ -104,8 +104,9 @@ fn header(code: Code, page: &Page, request: &Header, arrived: Local, sent: Local
     }
 }
 
-/// Writes the 48 bytes that a client gets by its code for a request that `read_request` has read, from a page, the moment when the
-/// request arrived and the moment when they are sent: the answer for `Pass`, and a kiss-o'-death packet for the others.
+/// Writes the 48 bytes that a client gets by its code for a request that `read_request` has read. They are the answer for `Pass`,
+/// and a kiss-o'-death packet for the others. They depend on a page, the moment when the request arrived and the moment when they
+/// are sent.
 pub fn write_reply(
     code: Code,
     page: &Page,
@@ -141,11 +142,11 @@ fn write_by_code(
     Ok(())
 }
 
-/// Writes the 48 bytes that answer a datagram, from a page, the moment when the datagram arrived and the moment when the
-/// answer is sent.
+/// Writes the 48 bytes that answer a datagram. They depend on a page, the moment when the datagram arrived and the moment when
+/// the answer is sent.
 ///
-/// Whether the page is synchronised, and whether a leap second is announced, is judged at the moment of sending. Bytes of
-/// the datagram after the 48th are passed over.
+/// It judges at the moment of sending whether the page is synchronised, and whether a leap second is announced. Bytes of the
+/// datagram after the 48th are passed over.
 ///
 /// # Errors
 /// A datagram that is no request of a client is dropped, and `out` stays as it was.
@@ -165,8 +166,8 @@ pub fn reply(
     write_by_code(Code::Pass, page, datagram, arrived, sent, out)
 }
 
-/// Writes the 48 bytes of a kiss-o'-death packet (RFC 5905, section 7.4), where `reply` would write an answer: the code's letters
-/// stand as its reference ID, and whatever the page says, it isn't synchronised and has stratum 0.
+/// Writes the 48 bytes of a kiss-o'-death packet (RFC 5905, section 7.4), where `reply` would write an answer. The code's letters
+/// are its reference ID. Whatever the page says, it is not synchronised and has stratum 0.
 ///
 /// # Errors
 /// A datagram that `reply` drops is dropped for the same reason, and `out` stays as it was.

@@ -3,7 +3,7 @@
 pub enum Code {
     /// The time, where the server knows it.
     Pass,
-    /// The kiss code `DENY`: this server doesn't serve the client (RFC 5905, section 7.4).
+    /// The kiss code `DENY`: this server does not serve the client (RFC 5905, section 7.4).
     Deny,
     /// The kiss code `RATE`: the client asks too often (RFC 5905, section 7.4).
     Rate,

@@ -1,4 +1,4 @@
-//! Answers to requests: from a page, a datagram and two moments to 48 bytes or a drop. The bytes tell the time, or that the
+//! Answers to requests: from a page, a datagram and two moments to 48 bytes or a drop. The bytes give the time, or say that the
 //! client is denied or asks too often.
 #![tactic(auto)]
 

@@ -1,4 +1,4 @@
--- Turns, put one behind another.
+-- Turns, put one after another.
 use Rattle.std.proofs.Common.{◌≡◌, ◌⊎◌, inl, inr, ℕ, zero, suc, ◌+◌, ◌<◌, ◌≤◌, List, [], ◌∷◌, ◌++◌, map, length, refl, sym, ap, ◌∙◌, subst, arith, length-append}
 use Rattle.std.specs.Prelude.{All, Bool, true, false}
 use Rattle.std.specs.Bool.{OnFalse, OnTrue}
@@ -14,6 +14,7 @@ use Rattle.feed_link.proofs.ToldLaws.{Adds-none, Adds-more}
 use Rattle.kiss_gate.specs.Gates.{Gate}
 use Rattle.packet_auth.specs.Keys.{KeyFields}
 use Rattle.page_cell.specs.declared.view.View.{View}
+use Rattle.responder.specs.Desks.{Desk}
 use Rattle.responder.specs.Turns.{Turn, Request, Reading, events_of, readings_of, IsRead, IsTurn, AreTurns, GoesOn, gate_behind, passed, refused, lost, answered_of, dropped_of, torn_of, kissed_of, unkept_of, Rises, kept, came}
 use Rattle.responder.specs.Turns.Turn.{Still, Last, Answered, Dropped, Torn, Unsent}
 use Rattle.feed_link.specs.Faults.{RoseByOne}
@@ -33,7 +34,7 @@ pub rises_le : (n m : ℕ) (rs : List Reading) → Rises n rs m → n ≤ m
 rises_le n m [] p = omega arith
 rises_le n m (r ∷ rs) p = let q = rises_le r.length m rs p.1 in let h = p.0 in omega arith
 
--- turns behind turns, from gate to gate
+-- turns after turns, from gate to gate
 pub turns_both : (keys : List KeyFields) (A B C : Gate) (ts us : List Turn) → AreTurns keys A ts B → AreTurns keys B us C → AreTurns keys A (ts ++ us) C
 turns_both keys A B C [] us p q = subst (λ z. AreTurns keys z us C) (sym p) q
 turns_both keys A B C (t ∷ ts) us p q = (p.0, turns_both keys (gate_behind A t) B C ts us p.1 q)
@@ -42,44 +43,47 @@ none_or_some : (n : ℕ) → (n ≡ 0) ⊎ (0 < n)
 none_or_some zero = inl refl
 none_or_some (suc n) = inr (omega arith)
 
-pub took_none : (keys : List KeyFields) (A : Gate) (a : LinkState) (b : LinkState) (v : View) → Adds a.events b.events [] → Took keys A A a b v v []
-took_none keys A a b v e = record { events = e; lawful = refl; readings = sym (append-nil v.readings); pages = All-nil IsRead; rising = refl; torn = omega arith; greatest = omega arith; above = (λ h. absurd (omega arith)) }
+pub took_none : (a : Desk) (now : LinkState) → Adds a.link.events now.events [] → Took a (record a { link = now }) []
+took_none a now e = record { keys = refl; events = e; lawful = refl; readings = sym (append-nil a.view.readings); pages = All-nil IsRead; rising = refl; torn = omega arith; greatest = omega arith; above = (λ h. absurd (omega arith)) }
 
-pub took_one : (keys : List KeyFields) (A B : Gate) (a b : LinkState) (v w : View) (t : Turn) → TookOne keys A B [] a b v w t → Took keys A B a b v w (t ∷ [])
-took_one keys A B a b v w t o = record {
-  events = subst (λ l. Adds a.events b.events l) (sym o.split ∙ sym (append-nil (events_of t))) o.events;
+pub took_one : (a b : Desk) (t : Turn) → TookOne a b [] t → Took a b (t ∷ [])
+took_one a b t o = record {
+  keys = o.keys;
+  events = subst (λ l. Adds a.link.events b.link.events l) (sym o.split ∙ sym (append-nil (events_of t))) o.events;
   lawful = (o.lawful, sym o.behind);
-  readings = o.readings ∙ ap (λ l. v.readings ++ map kept l) (sym (append-nil (readings_of t)));
+  readings = o.readings ∙ ap (λ l. a.view.readings ++ map kept l) (sym (append-nil (readings_of t)));
   pages = subst (λ l. All IsRead l) (sym (append-nil (readings_of t))) o.pages;
-  rising = subst (λ l. Rises v.seen l w.seen) (sym (append-nil (readings_of t))) o.rising;
+  rising = subst (λ l. Rises a.view.seen l b.view.seen) (sym (append-nil (readings_of t))) o.rising;
   torn = (let e = o.torn in omega arith);
   greatest = o.greatest;
   above = (λ h. o.above (omega arith));
 }
 
-pub took_both : (keys : List KeyFields) (A B C : Gate) (a b c : LinkState) (v w x : View) (ts us : List Turn) → Took keys A B a b v w ts → Took keys B C b c w x us → Took keys A C a c v x (ts ++ us)
-took_both keys A B C a b c v w x ts us p q =
-    let le = rises_le v.seen w.seen (flat_map readings_of ts) p.rising in
+pub took_both : (a b c : Desk) (ts us : List Turn) → Took a b ts → Took b c us → Took a c (ts ++ us)
+took_both a b c ts us p q =
     record {
-      events = subst (λ l. Adds a.events c.events l) (sym (flat_map-append events_of ts us)) (Adds-more a.events b.events c.events (flat_map events_of ts) (flat_map events_of us) p.events q.events);
-      lawful = turns_both keys A B C ts us p.lawful q.lawful;
-      readings = q.readings ∙ ap (λ l. l ++ map kept (flat_map readings_of us)) p.readings ∙ append_assoc v.readings (map kept (flat_map readings_of ts)) (map kept (flat_map readings_of us)) ∙ ap (λ l. v.readings ++ l) (sym (map-append kept (flat_map readings_of ts) (flat_map readings_of us)) ∙ ap (λ l. map kept l) (sym (flat_map-append readings_of ts us)));
+      keys = q.keys ∙ p.keys;
+      events = subst (λ l. Adds a.link.events c.link.events l) (sym (flat_map-append events_of ts us)) (Adds-more a.link.events b.link.events c.link.events (flat_map events_of ts) (flat_map events_of us) p.events q.events);
+      lawful = turns_both a.keys a.gate b.gate c.gate ts us p.lawful (subst (λ ks. AreTurns ks b.gate us c.gate) p.keys q.lawful);
+      readings = q.readings ∙ ap (λ l. l ++ map kept (flat_map readings_of us)) p.readings ∙ append_assoc a.view.readings (map kept (flat_map readings_of ts)) (map kept (flat_map readings_of us)) ∙ ap (λ l. a.view.readings ++ l) (sym (map-append kept (flat_map readings_of ts) (flat_map readings_of us)) ∙ ap (λ l. map kept l) (sym (flat_map-append readings_of ts us)));
       pages = subst (λ l. All IsRead l) (sym (flat_map-append readings_of ts us)) (All-append IsRead (flat_map readings_of ts) (flat_map readings_of us) p.pages q.pages);
-      rising = subst (λ l. Rises v.seen l x.seen) (sym (flat_map-append readings_of ts us)) (rises_both v.seen w.seen x.seen (flat_map readings_of ts) (flat_map readings_of us) p.rising q.rising);
+      rising = subst (λ l. Rises a.view.seen l c.view.seen) (sym (flat_map-append readings_of ts us)) (rises_both a.view.seen b.view.seen c.view.seen (flat_map readings_of ts) (flat_map readings_of us) p.rising q.rising);
       torn = (let e = p.torn in let f = q.torn in omega (arith, sum_by-append torn_of ts us));
       greatest = (let e = p.greatest in let f = q.greatest in omega arith);
       above = (λ h. above_one h (none_or_some (sum_by torn_of ts)));
     }
   where
-    above_one : 0 < sum_by torn_of (ts ++ us) → (sum_by torn_of ts ≡ 0) ⊎ (0 < sum_by torn_of ts) → v.seen < x.watch.greatest
-    above_one h (inl z) = let le = rises_le v.seen w.seen (flat_map readings_of ts) p.rising in let f = q.above (omega (arith, sum_by-append torn_of ts us)) in omega arith
+    above_one : 0 < sum_by torn_of (ts ++ us) → (sum_by torn_of ts ≡ 0) ⊎ (0 < sum_by torn_of ts) → a.view.seen < c.view.watch.greatest
+    above_one h (inl z) = let le = rises_le a.view.seen b.view.seen (flat_map readings_of ts) p.rising in let f = q.above (omega (arith, sum_by-append torn_of ts us)) in omega arith
     above_one h (inr s) = let f = p.above s in let g = q.greatest in omega arith
 
-pub with_past : (keys : List KeyFields) (A B : Gate) (past : List NetEvent) (a b c : LinkState) (v w : View) (t : Turn) → Adds a.events b.events past → TookOne keys A B past b c v w t → TookOne keys A B [] a c v w t
-with_past keys A B past a b c v w t told o = record {
+-- a datagram's turn, of which the hearing was past, whole
+pub with_past : (a b : Desk) (heard : LinkState) (past : List NetEvent) (t : Turn) → Adds a.link.events heard.events past → TookOne (record a { link = heard }) b past t → TookOne a b [] t
+with_past a b heard past t told o = record {
+  keys = o.keys;
   more = events_of t;
   split = refl;
-  events = subst (λ l. Adds a.events c.events l) (sym o.split) (Adds-more a.events b.events c.events past o.more told o.events);
+  events = subst (λ l. Adds a.link.events b.link.events l) (sym o.split) (Adds-more a.link.events heard.events b.link.events past o.more told o.events);
   lawful = o.lawful;
   behind = o.behind;
   readings = o.readings;
@@ -90,10 +94,10 @@ with_past keys A B past a b c v w t told o = record {
   above = o.above;
 }
 
-pub serving_none : (keys : List KeyFields) (A : Gate) (a : LinkState) (v : View) (s : Served) → s.answered ≡ 0 → s.dropped ≡ 0 → s.again ≡ 0 → s.kissed ≡ 0 → s.unkept ≡ 0 → s.end ≡ Count → Serving keys A A a a v v 0 s
-serving_none keys A a v s e f g k u h = record { turns = []; took = took_none keys A a a v (Adds-none a.events); go = All-nil GoesOn; length = refl; faults = refl; answered = e; dropped = f; again = g; kissed = k; unkept = u; end = h; most = (omega arith, omega arith, omega arith, omega arith, omega arith) }
+pub serving_none : (a : Desk) (s : Served) → s.answered ≡ 0 → s.dropped ≡ 0 → s.again ≡ 0 → s.kissed ≡ 0 → s.unkept ≡ 0 → s.end ≡ Count → Serving a a 0 s
+serving_none a s e f g k u h = record { turns = []; took = took_none a a.link (Adds-none a.link.events); go = All-nil GoesOn; length = refl; faults = refl; answered = e; dropped = f; again = g; kissed = k; unkept = u; end = h; most = (omega arith, omega arith, omega arith, omega arith, omega arith) }
 
--- what was counted of some turns, behind what was counted before
+-- what was counted of some turns, after what was counted before
 record Counts (answered dropped again kissed unkept : ℕ) (s r : Served) : Type 0 where
   pub by_answered : r.answered ≡ s.answered + answered
   pub by_dropped : r.dropped ≡ s.dropped + dropped
@@ -175,15 +179,15 @@ most_of (Unsent d r j m reply) = (omega arith, omega arith, omega arith, omega a
 most_more : (n m k i : ℕ) → m ≤ n → i ≤ 1 → k ≡ m + i → k ≤ n + 1
 most_more n m k i a b e = omega (arith, a, b, e)
 
-pub serving_more : (keys : List KeyFields) (A B C : Gate) (a b c : LinkState) (v w x : View) (n : ℕ) (s r : Served) → Serving keys A B a b v w n s → Goes keys B C [] b c w x s r → Serving keys A C a c v x (n + 1) r
+pub serving_more : (a b c : Desk) (n : ℕ) (s r : Served) → Serving a b n s → Goes b c [] s r → Serving a c (n + 1) r
 unfolding CountsTurn
-serving_more keys A B C a b c v w x n s r p g =
+serving_more a b c n s r p g =
     let most = p.most in
     let one = most_of g.turn in
     let k = subst (λ z. CountsTurn g.turn s z) (sym g.counted) (counts_one g.turn s) in
     record {
       turns = p.turns ++ g.turn ∷ [];
-      took = took_both keys A B C a b c v w x p.turns (g.turn ∷ []) p.took (took_one keys B C b c w x g.turn g.took);
+      took = took_both a b c p.turns (g.turn ∷ []) p.took (took_one b c g.turn g.took);
       go = All-append GoesOn p.turns (g.turn ∷ []) p.go (All-cons GoesOn g.turn [] g.goes (All-nil GoesOn));
       length = (let l = p.length in omega (arith, length-append p.turns (g.turn ∷ [])));
       faults = g.faults ∙ p.faults;
@@ -202,12 +206,12 @@ serving_more keys A B C a b c v w x n s r p g =
       );
     }
 
-pub serves_all : (keys : List KeyFields) (A B : Gate) (a b : LinkState) (v w : View) (n : ℕ) (s : Served) → Serving keys A B a b v w n s → Serves keys A B a b v w n s
-serves_all keys A B a b v w n s p = record {
+pub serves_all : (a b : Desk) (n : ℕ) (s : Served) → Serving a b n s → Serves a b n s
+serves_all a b n s p = record {
   turns = p.turns;
   took = p.took;
   most = (let l = p.length in omega arith);
-  ends = subst (λ e. EndsBy n a.faults b.faults p.turns e) (sym p.end) (p.go, p.length, p.faults);
+  ends = subst (λ e. EndsBy n a.link.faults b.link.faults p.turns e) (sym p.end) (p.go, p.length, p.faults);
   answered = p.answered;
   dropped = p.dropped;
   again = p.again;
@@ -229,15 +233,15 @@ ends_by n before mid now ts us LinkFault go lt same l = (ts, us, refl, go, l.0, 
 sum_more : (f : Turn → ℕ) (ts us : List Turn) (s r : ℕ) → r ≡ s + sum_by f us → s ≡ sum_by f ts → r ≡ sum_by f (ts ++ us)
 sum_more f ts us s r e g = omega (arith, e, g, sum_by-append f ts us)
 
-pub serves_some : (keys : List KeyFields) (A B C : Gate) (a b c : LinkState) (v w x : View) (i n : ℕ) (s r : Served) → i < n → Serving keys A B a b v w i s → Stops keys B C b c w x s r → Serves keys A C a c v x n r
-serves_some keys A B C a b c v w x i n s r lt p q =
-    let one = last_count b.faults c.faults q.turns r.end q.last in
+pub serves_some : (a b c : Desk) (i n : ℕ) (s r : Served) → i < n → Serving a b i s → Stops b c s r → Serves a c n r
+serves_some a b c i n s r lt p q =
+    let one = last_count b.link.faults c.link.faults q.turns r.end q.last in
     let k = counts_all q.turns s in
     record {
       turns = p.turns ++ q.turns;
-      took = took_both keys A B C a b c v w x p.turns q.turns p.took q.took;
+      took = took_both a b c p.turns q.turns p.took q.took;
       most = (let l = p.length in omega (arith, l, one, length-append p.turns q.turns));
-      ends = ends_by n a.faults b.faults c.faults p.turns q.turns r.end p.go (let l = p.length in omega (arith, l, lt)) p.faults q.last;
+      ends = ends_by n a.link.faults b.link.faults c.link.faults p.turns q.turns r.end p.go (let l = p.length in omega (arith, l, lt)) p.faults q.last;
       answered = sum_more answered_of p.turns q.turns s.answered r.answered (ap (λ (z : Served). z.answered) q.counted ∙ k.by_answered) p.answered;
       dropped = sum_more dropped_of p.turns q.turns s.dropped r.dropped (ap (λ (z : Served). z.dropped) q.counted ∙ k.by_dropped) p.dropped;
       again = sum_more torn_of p.turns q.turns s.again r.again (ap (λ (z : Served). z.again) q.counted ∙ k.by_again) p.again;
@@ -246,49 +250,54 @@ serves_some keys A B C a b c v w x i n s r lt p q =
     }
 
 -- a datagram for which the pass read no page
-pub torn_goes : (keys : List KeyFields) (A : Gate) (d : Request) (a : LinkState) (v w : View) (s : Served) → w.watch.torn ≡ v.watch.torn + 1 → w.seen ≡ v.seen → w.readings ≡ v.readings → v.seen < w.watch.greatest → v.watch.greatest ≤ w.watch.greatest → Goes keys A A (came d ∷ []) a a v w s (counted (Torn d) s)
-torn_goes keys A d a v w s one seen same above more = record {
+pub torn_goes : (a : Desk) (w : View) (d : Request) (s : Served) → w.watch.torn ≡ a.view.watch.torn + 1 → w.seen ≡ a.view.seen → w.readings ≡ a.view.readings → a.view.seen < w.watch.greatest → a.view.watch.greatest ≤ w.watch.greatest
+    → Goes a (record a { view = w }) (came d ∷ []) s (counted (Torn d) s)
+torn_goes a w d s one seen same above more = record {
   turn = Torn d;
-  took = record { more = []; split = refl; events = Adds-none a.events; lawful = tt; behind = refl; readings = same ∙ sym (append-nil v.readings); pages = All-nil IsRead; rising = sym seen; torn = one; greatest = more; above = (λ _. above) };
+  took = record { keys = refl; more = []; split = refl; events = Adds-none a.link.events; lawful = tt; behind = refl; readings = same ∙ sym (append-nil a.view.readings); pages = All-nil IsRead; rising = sym seen; torn = one; greatest = more; above = (λ _. above) };
   goes = refl;
   counted = refl;
   faults = refl;
 }
 
 -- a datagram for which the pass read a page
-pub read_one : (keys : List KeyFields) (A B : Gate) (t : Turn) (d : Request) (p : PageFields) (more : List NetEvent) (a b : LinkState) (v w : View) → events_of t ≡ came d ∷ more → readings_of t ≡ record { length = w.seen; page = p } ∷ [] → torn_of t ≡ 0 → IsTurn keys A t → B ≡ gate_behind A t → Adds a.events b.events more
-    → w.watch.torn ≡ v.watch.torn → v.seen ≤ w.seen → w.readings ≡ v.readings ++ (w.seen, words p) ∷ [] → IsPage p → v.watch.greatest ≤ w.watch.greatest → TookOne keys A B (came d ∷ []) a b v w t
-read_one keys A B t d p more a b v w split read none lawful behind told torn later readings page great = record {
+pub read_one : (a b : Desk) (t : Turn) (d : Request) (p : PageFields) (more : List NetEvent) → b.keys ≡ a.keys → events_of t ≡ came d ∷ more → readings_of t ≡ record { length = b.view.seen; page = p } ∷ [] → torn_of t ≡ 0 → IsTurn a.keys a.gate t → b.gate ≡ gate_behind a.gate t → Adds a.link.events b.link.events more
+    → b.view.watch.torn ≡ a.view.watch.torn → a.view.seen ≤ b.view.seen → b.view.readings ≡ a.view.readings ++ (b.view.seen, words p) ∷ [] → IsPage p → a.view.watch.greatest ≤ b.view.watch.greatest → TookOne a b (came d ∷ []) t
+read_one a b t d p more keys split read none lawful behind told torn later readings page great = record {
+  keys = keys;
   more = more;
   split = split;
   events = told;
   lawful = lawful;
   behind = behind;
-  readings = readings ∙ ap (λ l. v.readings ++ map kept l) (sym read);
-  pages = subst (λ l. All IsRead l) (sym read) (All-cons IsRead (record { length = w.seen; page = p }) [] page (All-nil IsRead));
-  rising = subst (λ l. Rises v.seen l w.seen) (sym read) (later, refl);
+  readings = readings ∙ ap (λ l. a.view.readings ++ map kept l) (sym read);
+  pages = subst (λ l. All IsRead l) (sym read) (All-cons IsRead (record { length = b.view.seen; page = p }) [] page (All-nil IsRead));
+  rising = subst (λ l. Rises a.view.seen l b.view.seen) (sym read) (later, refl);
   torn = omega arith;
   greatest = great;
   above = (λ h. absurd (omega arith));
 }
 
 -- a datagram's turn, with its hearing
-pub whole_goes : (keys : List KeyFields) (A B : Gate) (past : List NetEvent) (a b c : LinkState) (v w : View) (s r : Served) → Adds a.events b.events past → b.faults ≡ a.faults → Goes keys A B past b c v w s r → Goes keys A B [] a c v w s r
-whole_goes keys A B past a b c v w s r told same g = record {
+pub whole_goes : (a b : Desk) (heard : LinkState) (past : List NetEvent) (s r : Served) → Adds a.link.events heard.events past → heard.faults ≡ a.link.faults → Goes (record a { link = heard }) b past s r → Goes a b [] s r
+whole_goes a b heard past s r told same g = record {
   turn = g.turn;
-  took = with_past keys A B past a b c v w g.turn told g.took;
+  took = with_past a b heard past g.turn told g.took;
   goes = g.goes;
   counted = g.counted;
   faults = g.faults ∙ same;
 }
 
-pub whole_unsent : (keys : List KeyFields) (A B : Gate) (past : List NetEvent) (a b c : LinkState) (v w : View) (s r : Served) → Adds a.events b.events past → b.faults ≡ a.faults → StopsUnsent keys A B past b c v w s r → Stops keys A B a c v w s r
-whole_unsent keys A B past a b c v w s r told same g = record {
-  turns = Unsent g.request g.reading g.judged g.moment g.reply ∷ [];
-  took = took_one keys A B a c v w (Unsent g.request g.reading g.judged g.moment g.reply) (with_past keys A B past a b c v w (Unsent g.request g.reading g.judged g.moment g.reply) told g.took);
-  last = subst (λ e. IsLast a.faults c.faults (Unsent g.request g.reading g.judged g.moment g.reply ∷ []) e) (sym (ap (λ (z : Served). z.end) g.counted)) (inr (g.request, g.reading, g.judged, g.moment, g.reply, refl), subst (λ n. RoseByOne n c.faults) same g.rose);
-  counted = g.counted ∙ ap (λ e. record (with_judged g.judged.kept s) { end = e }) (sym (ap (λ (z : Served). z.end) g.counted));
-}
+pub whole_unsent : (a b : Desk) (heard : LinkState) (past : List NetEvent) (s r : Served) → Adds a.link.events heard.events past → heard.faults ≡ a.link.faults → StopsUnsent (record a { link = heard }) b past s r → Stops a b s r
+whole_unsent a b heard past s r told same g =
+    let turn = Unsent g.request g.reading g.judged g.moment g.reply in
+    let end = ap (λ (z : Served). z.end) g.counted in
+    record {
+      turns = turn ∷ [];
+      took = took_one a b turn (with_past a b heard past turn told g.took);
+      last = subst (λ e. IsLast a.link.faults b.link.faults (turn ∷ []) e) (sym end) (inr (g.request, g.reading, g.judged, g.moment, g.reply, refl), subst (λ n. RoseByOne n b.link.faults) same g.rose);
+      counted = g.counted ∙ ap (λ e. record (with_judged g.judged.kept s) { end = e }) (sym end);
+    }
 
 pub on_false : (b : Bool) (P Q : Type 0) → (P → Q) → OnFalse b P → OnFalse b Q
 on_false true P Q f h = h

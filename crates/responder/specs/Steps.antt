@@ -2,11 +2,9 @@
 use Rattle.std.specs.Prelude.{◌≡◌, ℕ, ◌+◌, ◌-◌, ◌^◌, ◌≤◌, ◌<◌, Bool, true, false, List, [], ◌∷◌, ◌++◌, All, length, map}
 use Rattle.std.specs.List.{sum_by}
 use Rattle.feed_link.specs.Faults.{RoseByOne}
-use Rattle.feed_link.specs.Told.{NetEvent, LinkState, Adds}
-use Rattle.kiss_gate.specs.Gates.{Gate}
+use Rattle.feed_link.specs.Told.{NetEvent, Adds}
 use Rattle.kiss_gate.specs.declared.judged.Judged.{Judged}
-use Rattle.packet_auth.specs.Keys.{KeyFields}
-use Rattle.page_cell.specs.declared.view.View.{View}
+use Rattle.responder.specs.Desks.{Desk}
 use Rattle.responder.specs.Turns.{Turn, Request, Reading, events_of, readings_of, IsRead, IsTurn, GoesOn, gate_behind, answered_of, dropped_of, torn_of, kissed_of, unkept_of, Rises, kept}
 use Rattle.responder.specs.Turns.Turn.{Still, Last, Answered, Dropped, Torn, Unsent}
 use Rattle.responder.specs.Serving.{Took, IsFaulty}
@@ -21,18 +19,19 @@ abbrev pub HasRoom : Served → Type 0
 HasRoom served = (served.answered < 2 ^ 64 - 1) × (served.dropped < 2 ^ 64 - 1) × (served.again < 2 ^ 64 - 1) × (served.kissed < 2 ^ 64 - 1) × (served.unkept < 2 ^ 64 - 1)
 
 -- this turn was taken, of which these events were past
-pub record TookOne (keys : List KeyFields) (gate gate_now : Gate) (past : List NetEvent) (before now : LinkState) (view view_now : View) (turn : Turn) : Type 0 where
+pub record TookOne (before now : Desk) (past : List NetEvent) (turn : Turn) : Type 0 where
+  pub keys : now.keys ≡ before.keys
   pub more : List NetEvent
   pub split : events_of turn ≡ past ++ more
-  pub events : Adds before.events now.events more
-  pub lawful : IsTurn keys gate turn
-  pub behind : gate_now ≡ gate_behind gate turn
-  pub readings : view_now.readings ≡ view.readings ++ map kept (readings_of turn)
+  pub events : Adds before.link.events now.link.events more
+  pub lawful : IsTurn before.keys before.gate turn
+  pub behind : now.gate ≡ gate_behind before.gate turn
+  pub readings : now.view.readings ≡ before.view.readings ++ map kept (readings_of turn)
   pub pages : All IsRead (readings_of turn)
-  pub rising : Rises view.seen (readings_of turn) view_now.seen
-  pub torn : view_now.watch.torn ≡ view.watch.torn + torn_of turn
-  pub greatest : view.watch.greatest ≤ view_now.watch.greatest
-  pub above : 0 < torn_of turn → view.seen < view_now.watch.greatest
+  pub rising : Rises before.view.seen (readings_of turn) now.view.seen
+  pub torn : now.view.watch.torn ≡ before.view.watch.torn + torn_of turn
+  pub greatest : before.view.watch.greatest ≤ now.view.watch.greatest
+  pub above : 0 < torn_of turn → before.view.seen < now.view.watch.greatest
 
 -- one request more that was judged, by whether it was kept
 abbrev pub with_judged : (kept : Bool) → Served → Served
@@ -60,12 +59,12 @@ counted_all [] served = served
 counted_all (turn ∷ turns) served = counted_all turns (counted turn served)
 
 -- a turn was taken after which another may come
-pub record Goes (keys : List KeyFields) (gate gate_now : Gate) (past : List NetEvent) (before now : LinkState) (view view_now : View) (served served_now : Served) : Type 0 where
+pub record Goes (before now : Desk) (past : List NetEvent) (served served_now : Served) : Type 0 where
   pub turn : Turn
-  pub took : TookOne keys gate gate_now past before now view view_now turn
+  pub took : TookOne before now past turn
   pub goes : GoesOn turn
   pub counted : served_now ≡ counted turn served
-  pub faults : now.faults ≡ before.faults
+  pub faults : now.link.faults ≡ before.link.faults
 
 -- the last turns: the link's end, or what a fault of the link ended
 abbrev pub IsLast : ℕ → ℕ → List Turn → End → Type 0
@@ -73,30 +72,31 @@ IsLast faults faults_now turns Count = ⊥
 IsLast faults faults_now turns LinkEnd = (turns ≡ Last ∷ []) × (faults_now ≡ faults)
 IsLast faults faults_now turns LinkFault = IsFaulty turns × RoseByOne faults faults_now
 
-pub record Stops (keys : List KeyFields) (gate gate_now : Gate) (before now : LinkState) (view view_now : View) (served served_now : Served) : Type 0 where
+-- the last turns were taken
+pub record Stops (before now : Desk) (served served_now : Served) : Type 0 where
   pub turns : List Turn
-  pub took : Took keys gate gate_now before now view view_now turns
-  pub last : IsLast before.faults now.faults turns served_now.end
+  pub took : Took before now turns
+  pub last : IsLast before.link.faults now.link.faults turns served_now.end
   pub counted : served_now ≡ record (counted_all turns served) { end = served_now.end }
 
 -- a datagram was not answered, since the sending failed
-pub record StopsUnsent (keys : List KeyFields) (gate gate_now : Gate) (past : List NetEvent) (before now : LinkState) (view view_now : View) (served served_now : Served) : Type 0 where
+pub record StopsUnsent (before now : Desk) (past : List NetEvent) (served served_now : Served) : Type 0 where
   pub request : Request
   pub reading : Reading
   pub judged : Judged
   pub moment : ℕ
   pub reply : List ℕ
-  pub took : TookOne keys gate gate_now past before now view view_now (Unsent request reading judged moment reply)
-  pub rose : RoseByOne before.faults now.faults
+  pub took : TookOne before now past (Unsent request reading judged moment reply)
+  pub rose : RoseByOne before.link.faults now.link.faults
   pub counted : served_now ≡ record (with_judged judged.kept served) { end = LinkFault }
 
 -- the turns so far, after each of which another may come
-pub record Serving (keys : List KeyFields) (gate gate_now : Gate) (before now : LinkState) (view view_now : View) (count : ℕ) (served : Served) : Type 0 where
+pub record Serving (before now : Desk) (count : ℕ) (served : Served) : Type 0 where
   pub turns : List Turn
-  pub took : Took keys gate gate_now before now view view_now turns
+  pub took : Took before now turns
   pub go : All GoesOn turns
   pub length : length turns ≡ count
-  pub faults : now.faults ≡ before.faults
+  pub faults : now.link.faults ≡ before.link.faults
   pub answered : served.answered ≡ sum_by answered_of turns
   pub dropped : served.dropped ≡ sum_by dropped_of turns
   pub again : served.again ≡ sum_by torn_of turns

@@ -44,7 +44,7 @@ pub data Turn : Type 0 where
 abbrev pub came : Request → NetEvent
 came request = Came request.from request.at request.bytes
 
--- what befell the link: a datagram, then the moment, then the reply to its sender
+-- what happened on the link: a datagram, then the moment, then the reply to its sender
 abbrev pub events_of : Turn → List NetEvent
 events_of Still = Silent ∷ []
 events_of Last = Ended ∷ []
@@ -101,7 +101,7 @@ goes_on (Unsent request reading judged sent reply) = false
 abbrev pub GoesOn : Turn → Type 0
 GoesOn turn = goes_on turn ≡ true
 
--- the time was told
+-- the time was given
 abbrev pub passed : Code → ℕ
 passed Pass = 1
 passed Deny = 0

@@ -1,5 +1,5 @@
-//! A responder whose gate denies senders, or lets each pass once in a gap. The page is that of no entry, so an answer has the reference ID
-//! `INIT`; a kiss code stands there in its letters (RFC 5905, section 7.4).
+//! A responder whose gate denies senders, or lets each pass once in a gap. The page is that of no entry, so an answer has the
+//! reference ID `INIT`. A kiss code stands there in its letters (RFC 5905, section 7.4).
 
 use crate::tests::{CLIENT, NONE, bytes_of, gate_of, link_of, moment, opened, same};
 use crate::{Responder, Served};
@@ -15,7 +15,7 @@ const OTHER: Address = Address {
     port: 123,
 };
 
-// A link on which these come: of each its sender, its moment, its first byte and its length.
+// A link on which these come; each has its sender, its moment, its first byte and its length.
 fn hearing(alloc: Global, datagrams: &[(Address, u32, u8, usize)]) -> Result<MemoryLink, Fail> {
     let mut hearings = Vec::new(alloc);
     for (from, at, first, length) in datagrams {
@@ -28,8 +28,8 @@ fn hearing(alloc: Global, datagrams: &[(Address, u32, u8, usize)]) -> Result<Mem
     Ok(link_of(alloc, hearings, 0, 40)?)
 }
 
-// Whether these replies were sent on a link, in order: of each its receiver and its reference ID. Each has 48 bytes and says that the
-// server isn't synchronised.
+// Whether these replies were sent on a link, in order; each has its receiver and its reference ID. Each has 48 bytes and says
+// that the server is not synchronised.
 fn has_sent(link: &MemoryLink, replies: &[(Address, &str)]) -> bool {
     let mut count = 0usize;
     for place in 0..link.count() {
@@ -95,7 +95,7 @@ fn a_client_that_asks_within_the_gap_gets_rate(rt: HostRuntime) -> Result<(), Fa
     Ok(())
 }
 
-// The second request comes 999 us behind the first, and is answered 4.4 ms behind it.
+// The second request comes 999 us after the first, and is answered 4.4 ms after it.
 #[test]
 fn a_client_is_judged_by_when_its_request_came(rt: HostRuntime) -> Result<(), Fail> {
     let alloc = rt.alloc();
@@ -148,7 +148,7 @@ fn a_denied_sender_gets_deny(rt: HostRuntime) -> Result<(), Fail> {
     Ok(())
 }
 
-// So it doesn't keep its sender's next request away.
+// So it does not keep its sender's next request away.
 #[test]
 fn a_dropped_datagram_is_not_judged(rt: HostRuntime) -> Result<(), Fail> {
     let datagrams = [
@@ -173,7 +173,7 @@ fn a_dropped_datagram_is_not_judged(rt: HostRuntime) -> Result<(), Fail> {
     Ok(())
 }
 
-// A client that was let pass by one responder asks the next one, which has its gate.
+// One responder lets a client pass; then the client asks the next one, which has the same gate.
 #[test]
 fn the_table_is_handed_on(rt: HostRuntime) -> Result<(), Fail> {
     let gate = gate_of(rt.alloc(), &DenyList::new(), 1000)?;

@@ -1,5 +1,5 @@
-//! A responder on a link: each datagram that comes is answered from a page that is read for it, or dropped. A sender that is denied or asks
-//! too often gets a kiss code in place of the answer.
+//! A responder on a link: it reads a page for each datagram that comes, and answers it from that page or drops it. A sender that
+//! is denied or asks too often gets a kiss code in place of the answer.
 #![tactic(auto)]
 
 mod responding;

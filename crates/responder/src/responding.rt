@@ -1,9 +1,9 @@
-//! Hearing, reading, answering: turn after turn.
+//! Turn after turn: one hearing, one reading, one answer.
 ghost use Rattle.std.specs.Prelude.{◌≡◌, ◌<◌, ◌-◌, ◌^◌, ◌∷◌, []};
 ghost use Rattle.std.specs.Bool.{OnTrue, OnFalse};
 ghost use Rattle.feed_link.specs.Told.NetEvent.{Came};
-ghost use Rattle.packet_auth.specs.Keys.{keys_of};
-ghost use Rattle.responder.specs.Serving.{IsSame, Serves};
+ghost use Rattle.responder.specs.Desks.{IsSame, desk_of};
+ghost use Rattle.responder.specs.Serving.{Serves};
 ghost use Rattle.responder.specs.Steps.{Goes, Stops, StopsUnsent, HasRoom};
 
 use crate::{End, Responder, Served};
@@ -14,16 +14,17 @@ use page_cell::{PageCell, ReadPass};
 use sealed_reply::Request;
 use std::sync::Wait;
 
-// Responders have these numbers and their own at the gate.
+// The numbers of responders at the gate begin here.
 const AT_GATE: u32 = 100;
 
-// The places of the gate that a responder passes: after it has heard a datagram, and after it has sent a reply.
+// The places of the gate that a responder passes: after it has received a datagram, and after it has sent a reply.
 const HEARD: u8 = 2;
 
 const SENT: u8 = 3;
 
 impl<L: Link + Drop> Responder<L> {
-    /// A responder on a link, with a reader's pass, the keys of the station and a gate of clients. Its number, from 0, is below 8.
+    /// A responder on a link, with a reader's pass, the keys of the station and a gate of clients. Its number, from 0, is below
+    /// 8.
     pub fn new(
         link: L,
         pass: ReadPass,
@@ -32,7 +33,8 @@ impl<L: Link + Drop> Responder<L> {
         clients: ClientGate,
     ) -> Responder<L>
         requires { number < 8 }
-        ensures { (result.link ≡ link) × (result.pass ≡ pass) × (result.number ≡ number) × (result.keys ≡ keys) × (result.clients ≡ clients) }
+        ensures { (result.link ≡ link) × (result.pass ≡ pass) × (result.number ≡ number)
+            × (result.keys ≡ keys) × (result.clients ≡ clients) }
     {
         Responder {
             link,
@@ -43,7 +45,7 @@ impl<L: Link + Drop> Responder<L> {
         }
     }
 
-    // Answers a datagram that came, of which the hearing is past. True where another turn may come.
+    // Answers a datagram that came; its hearing is over. True where another turn may come.
     fn answer<R: Wait, G: Gate>(
         &mut self,
         rt: &R,
@@ -56,9 +58,13 @@ impl<L: Link + Drop> Responder<L> {
         requires pass { self.old.pass.table ≡ cell.now.table }
         requires room { HasRoom served.old }
         requires at { (L.state self.old.link).latest ≡ arrival.now.at }
-        ensures same { IsSame (L.opening self.old.link) (L.opening self.new.link) self.old.pass self.new.pass self.old.number self.new.number self.old.keys self.new.keys }
-        ensures goes { OnTrue result (Goes (keys_of self.old.keys) self.old.clients self.new.clients (Came arrival.now.from arrival.now.at datagram.now ∷ []) (L.state self.old.link) (L.state self.new.link) self.old.pass.view self.new.pass.view served.old served.new) }
-        ensures stops { OnFalse result (StopsUnsent (keys_of self.old.keys) self.old.clients self.new.clients (Came arrival.now.from arrival.now.at datagram.now ∷ []) (L.state self.old.link) (L.state self.new.link) self.old.pass.view self.new.pass.view served.old served.new) }
+        ensures same { IsSame L.opening self.old self.new }
+        ensures goes { let arrived = Came arrival.now.from arrival.now.at datagram.now ∷ [] in
+            let before = desk_of L.state self.old in
+            OnTrue result (Goes before (desk_of L.state self.new) arrived served.old served.new) }
+        ensures stops { let arrived = Came arrival.now.from arrival.now.at datagram.now ∷ [] in
+            let before = desk_of L.state self.old in
+            OnFalse result (StopsUnsent before (desk_of L.state self.new) arrived served.old served.new) }
     {
         gate.pass(rt, AT_GATE + self.number, HEARD);
         let Ok(page) = cell.try_read(&mut self.pass) else {
@@ -97,9 +103,11 @@ impl<L: Link + Drop> Responder<L> {
     ) -> bool
         requires pass { self.old.pass.table ≡ cell.now.table }
         requires room { HasRoom served.old }
-        ensures same { IsSame (L.opening self.old.link) (L.opening self.new.link) self.old.pass self.new.pass self.old.number self.new.number self.old.keys self.new.keys }
-        ensures goes { OnTrue result (Goes (keys_of self.old.keys) self.old.clients self.new.clients [] (L.state self.old.link) (L.state self.new.link) self.old.pass.view self.new.pass.view served.old served.new) }
-        ensures stops { OnFalse result (Stops (keys_of self.old.keys) self.old.clients self.new.clients (L.state self.old.link) (L.state self.new.link) self.old.pass.view self.new.pass.view served.old served.new) }
+        ensures same { IsSame L.opening self.old self.new }
+        ensures goes { let before = desk_of L.state self.old in
+            OnTrue result (Goes before (desk_of L.state self.new) [] served.old served.new) }
+        ensures stops { let before = desk_of L.state self.old in
+            OnFalse result (Stops before (desk_of L.state self.new) served.old served.new) }
     {
         match self.link.hear(piece) {
             Ok(Hearing::Datagram(arrival)) => {
@@ -118,12 +126,12 @@ impl<L: Link + Drop> Responder<L> {
         }
     }
 
-    /// Serves for so many hearings, or until the link ends or fails. Each datagram that comes passes place 2 of the gate; then the page
-    /// is read, then the link's moment is taken. A datagram that is no request of a client is dropped. Else its sender is judged, and gets
-    /// the answer or a kiss code, sealed as the datagram is. After a sending it passes place 3. Where no page could be read, the datagram
-    /// is left.
+    /// Serves for this many hearings, or until the link ends or fails. Each datagram that comes passes place 2 of the gate. Then
+    /// the responder reads the page, and takes the link's moment. It drops a datagram that is no request of a client. It judges
+    /// the sender of any other, which gets the answer or a kiss code, sealed as the datagram is. After a sending it passes place
+    /// 3. Where it could read no page, it leaves the datagram.
     ///
-    /// It takes memory for each client that the table of its gate of clients is to keep and doesn't know.
+    /// It takes memory for each client that the table of its gate of clients is to keep and does not know.
     pub fn serve<R: Wait, G: Gate>(
         &mut self,
         rt: &R,
@@ -132,8 +140,8 @@ impl<L: Link + Drop> Responder<L> {
         budget: u64,
     ) -> Served
         requires { self.old.pass.table ≡ cell.now.table }
-        ensures same { IsSame (L.opening self.old.link) (L.opening self.new.link) self.old.pass self.new.pass self.old.number self.new.number self.old.keys self.new.keys }
-        ensures serves { Serves (keys_of self.old.keys) self.old.clients self.new.clients (L.state self.old.link) (L.state self.new.link) self.old.pass.view self.new.pass.view budget result }
+        ensures same { IsSame L.opening self.old self.new }
+        ensures serves { Serves (desk_of L.state self.old) (desk_of L.state self.new) budget result }
     {
         let mut served = Served {
             answered: 0,
@@ -159,7 +167,7 @@ impl<L: Link + Drop> Responder<L> {
         self.keys
     }
 
-    /// Gives the link and the pass back, and the gate of clients as the calls so far left it.
+    /// Gives back the link and the pass, and the gate of clients as the calls so far left it.
     pub fn give_back(self) -> (L, ReadPass, ClientGate)
         ensures { (result.0 ≡ self.link) × (result.1 ≡ self.pass) × (result.2 ≡ self.clients) }
     {

@@ -7,7 +7,7 @@ use reply_core::Code;
 /// Why a call of `serve` ended.
 #[derive(Clone, Copy, Debug, PartialEq, Eq)]
 pub enum End {
-    /// It has heard as often as was asked for.
+    /// It made as many hearings as the caller asked for.
     Count,
     /// The link has ended.
     LinkEnd,
@@ -18,21 +18,21 @@ pub enum End {
 /// What a call of `serve` did.
 #[derive(Clone, Copy, Debug, PartialEq, Eq)]
 pub struct Served {
-    /// How many datagrams were answered with the time, or with the news that the server doesn't know it.
+    /// How many datagrams it answered with the time, or with the report that the server is not synchronised.
     pub answered: u64,
-    /// How many were dropped, since they are no request of a client.
+    /// How many it dropped, since they are no request of a client.
     pub dropped: u64,
-    /// How many were left, since no page could be read.
+    /// How many it left, since it could read no page.
     pub again: u64,
-    /// How many were answered with a kiss code, since their sender is denied or asks too often.
+    /// How many it answered with a kiss code, since their sender is denied or asks too often.
     pub kissed: u64,
-    /// How many senders couldn't be kept in the table of clients, since there was no memory for them. Each of them was let pass.
+    /// How many senders the table of clients could not keep, since there was no memory for them. Each of them passed the gate.
     pub unkept: u64,
     pub end: End,
 }
 
 impl Served {
-    // A request was judged.
+    // Counts a request that was judged.
     pub(crate) fn count_judged(&mut self, kept: bool)
         requires { HasRoom self.old }
         ensures counted { self.new ≡ with_judged kept self.old }
@@ -43,7 +43,7 @@ impl Served {
         }
     }
 
-    // A reply was sent.
+    // Counts a reply that was sent.
     pub(crate) fn count_sent(&mut self, code: Code)
         requires answered { self.old.answered < 2 ^ 64 - 1 }
         requires kissed { self.old.kissed < 2 ^ 64 - 1 }

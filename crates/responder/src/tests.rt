@@ -1,5 +1,5 @@
-//! A responder over links in memory, and one on the loopback beside a client's thread. The page is that of no entry, so each reply
-//! says that the server isn't synchronised (RFC 5905, section 7.3: leap indicator 3).
+//! A responder over links in memory, and one on the loopback beside a client's thread. The page is that of no entry, so each
+//! reply says that the server is not synchronised (RFC 5905, section 7.3: leap indicator 3).
 ghost use Rattle.std.specs.Prelude.{◌≡◌, IfOk};
 ghost use Rattle.system_fold.specs.Settings.{AreLawful};
 
@@ -21,7 +21,7 @@ use std::{io, thread};
 use system_fold::Settings;
 use tick_units::Local;
 
-// What `assert_eq!` does, as a call: where many stand in a test, calls are proved in a third of the time.
+// What `assert_eq!` does, as a call: where a test has many, calls are proved in a third of the time.
 pub(crate) fn same<T: PartialEq + Debug + Drop>(rt: &impl Abort, left: T, right: T) {
     assert_eq!(*rt; left, right);
 }
@@ -77,7 +77,7 @@ pub(crate) fn moment(microseconds: u32) -> Local {
     Local::new(u64::from(microseconds)).unwrap()
 }
 
-// A datagram of so many bytes that begins as the request, with another first byte.
+// A datagram of this many bytes that begins as the request does, but with another first byte.
 pub(crate) fn bytes_of(alloc: Global, first: u8, length: usize) -> Result<Vec<u8>, Fail> {
     let mut bytes = vec![in alloc; 0u8; length]?;
     let count = length.min(48);
@@ -88,7 +88,7 @@ pub(crate) fn bytes_of(alloc: Global, first: u8, length: usize) -> Result<Vec<u8
     Ok(bytes)
 }
 
-// Such a datagram of the client.
+// Such a datagram from the client.
 fn datagram(alloc: Global, first: u8, length: usize) -> Result<Planned, Fail> {
     Ok(Planned::Datagram {
         from: CLIENT,
@@ -107,7 +107,7 @@ pub(crate) fn link_of(
     MemoryLink::new(alloc, hearings, Vec::new(alloc), fails, events, 4000)
 }
 
-// What a responder does on a link for so many hearings, and the link after it.
+// What a responder does on a link for this many hearings, and the link after it.
 fn serve<R: Wait>(
     rt: &R,
     alloc: Global,
@@ -120,7 +120,7 @@ fn serve<R: Wait>(
     Ok((served, responder.give_back().0))
 }
 
-// What the last event of a link was: the length and the first byte of a datagram that was sent to the client, or None.
+// The last event of a link: the length and the first byte of a datagram that was sent to the client, or None.
 fn sent(link: &MemoryLink) -> Option<(usize, u8)> {
     let last = link.count().saturating_sub(1);
     match link.event(last) {
@@ -180,8 +180,8 @@ const DIGEST: [u8; 16] = [
     0xb4, 0x08, 0xcf, 0x70, 0xf4, 0xde, 0x37, 0x98, 0xe7, 0x13, 0xf3, 0x1a, 0x2a, 0x88, 0x5f, 0x12,
 ];
 
-// The reply of a server that isn't synchronised to a request that came at 7 us and was answered at once; MD5 of `longwave` and its
-// first 48 bytes, by `hashlib`.
+// The reply of a server that is not synchronised to a request that came at 7 us and was answered at once. After it comes MD5 of
+// `longwave` and its first 48 bytes, by `hashlib`.
 const SEALED: [u8; 68] = [
     0xe4, 0x00, 0x06, 0xec, 0x00, 0x00, 0x00, 0x00, 0x00, 0x10, 0x00, 0x00, 0x49, 0x4e, 0x49, 0x54,
     0x00, 0x00, 0x00, 0x00, 0x00, 0x00, 0x00, 0x00, 0x11, 0x22, 0x33, 0x44, 0x55, 0x66, 0x77, 0x88,
@@ -205,7 +205,7 @@ fn asking(alloc: Global, id: u8, digest: [u8; 16]) -> Result<MemoryLink, Fail> {
     Ok(link_of(alloc, hearings, 0, 9)?)
 }
 
-// Whether the last event of a link is that these bytes were sent to the client.
+// Whether the last event of a link is the sending of these bytes to the client.
 fn has_sent(link: &MemoryLink, want: &[u8]) -> bool {
     match link.event(link.count().saturating_sub(1)) {
         Some(LinkEvent::Sent { to, bytes }) => to == CLIENT && bytes == want,
@@ -254,7 +254,7 @@ fn a_reply_has_the_moments_of_its_hearing_and_its_sending(rt: HostRuntime) -> Re
     Ok(())
 }
 
-// A link that hears a request, nothing, a request, and its end.
+// A link that gives a request, nothing, a request, and its end.
 fn two_requests(alloc: Global, failing: u64, events: usize) -> Result<MemoryLink, Fail> {
     let mut hearings = Vec::new(alloc);
     hearings.push(datagram(alloc, 0x23, 48)?)?;
@@ -263,7 +263,7 @@ fn two_requests(alloc: Global, failing: u64, events: usize) -> Result<MemoryLink
     Ok(link_of(alloc, hearings, failing, events)?)
 }
 
-// The calls of hearing and sending are 1 to 6: heard, sent, heard nothing, heard, sent, heard the end.
+// The calls of hearing and sending are 1 to 6: request, reply, nothing, request, reply, end.
 #[test]
 fn a_fault_of_the_link_ends_the_serving(rt: HostRuntime) -> Result<(), Fail> {
     let table = [
@@ -318,8 +318,8 @@ fn a_link_past_its_room_is_served_on(rt: HostRuntime) -> Result<(), Fail> {
     Ok(())
 }
 
-// A client that waits for a word of the server, and then asks three times: how many replies of 48 bytes come that say that the server
-// isn't synchronised.
+// A client that waits for a datagram of the server, and then asks three times. It counts the replies of 48 bytes that say that
+// the server is not synchronised.
 fn ask(socket: &UdpSocket) -> io::Result<u64> {
     let mut piece = [0u8; 1024];
     let (_, server) = socket.recv_from(&mut piece)?;

@@ -15,7 +15,7 @@ no_fields rest empty is e = record { is = nothing rest (eqb-true (length rest) 0
 pub left_over : (rest : List ℕ) (empty : Bool) → empty ≡ eqb (length rest) 0 → empty ≡ false → HasSpaced rest [] → ⊥
 left_over rest empty is e h = both_ways empty e (is ∙ eq-eqb (length rest) 0 (ap length h.is))
 
--- behind a field stands a space, or nothing
+-- after a field stands a space, or nothing
 pub spaced-ends : (fields : List (List ℕ)) → EndsNumber (spaced fields)
 spaced-ends [] = tt
 spaced-ends (field ∷ fields) = refl

@@ -1,4 +1,4 @@
--- The bytes of a datagram, and their text: two small hexadecimal digits each, the high four bits first.
+-- The bytes of a datagram, and their text: two lowercase hexadecimal digits each, the high four bits first.
 use Rattle.std.specs.Prelude.{◌≡◌, ℕ, ◌+◌, ◌-◌, ◌*◌, ◌≤◌, nat_le, Bool, ◌&&◌, ◌||◌, ◌==◌, ◌%◌, List, [], ◌∷◌, length, if◌then◌else◌}
 use Rattle.std.specs.List.{list_all}
 use Rattle.hex.specs.Hex.{IsBytes, encode_lower}
@@ -21,7 +21,7 @@ is_small_digit c = (nat_le 48 c && nat_le c 57) || (nat_le 97 c && nat_le c 102)
 abbrev pub small_digit_value : ℕ → ℕ
 small_digit_value c = if nat_le 97 c then c - 87 else c - 48
 
--- so many digits are two for each of 1 to 1024 bytes
+-- this many digits are two for each of 1 to 1024 bytes
 abbrev pub are_pairs : ℕ → Bool
 are_pairs count = nat_le 2 count && nat_le count 2048 && (count % 2 == 0)
 

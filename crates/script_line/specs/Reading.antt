@@ -4,7 +4,7 @@ use Rattle.journal_entry.specs.Texts.{spaced}
 use Rattle.script_line.specs.Texts.{IsLine, fields_of}
 use Rattle.script_line.specs.declared.line.ScriptLine.{ScriptLine}
 
--- these fields are left, each behind a space
+-- these fields are left, each after a space
 pub record HasSpaced (rest : List ℕ) (fields : List (List ℕ)) : Type 0 where
   pub is : rest ≡ spaced fields
 

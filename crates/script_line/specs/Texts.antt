@@ -1,5 +1,5 @@
--- The lines of a replay script, and the one text of each: a word and its fields, with one space between each two. The form
--- is this project's own; numbers are written as Rust's and C's decimal output writes them.
+-- The lines of a replay script, and the one text of each: a keyword and its fields, separated by one space. The form is this
+-- project's own. Numbers are written as in the decimal output of Rust and C.
 use Rattle.std.specs.Prelude.{◌≡◌, ℕ, ◌<◌, ◌≤◌, ◌^◌, List, [], ◌∷◌, ◌++◌, codes, decimal}
 use Rattle.hex.specs.Hex.{encode_lower}
 use Rattle.journal_entry.specs.Texts.{spaced}
@@ -41,7 +41,7 @@ pub record AreMoments (arrived sent : ℕ) : Type 0 where
   pub order : arrived ≤ sent
   pub below : sent < 2 ^ 50
 
--- what a line says is in range, whatever the station is and whatever lines stand before it
+-- what a line says is in range, whatever the station and the lines before it are
 abbrev pub IsLine : ScriptLine → Type 0
 IsLine (Pulse feed reduction) = (feed < 2 ^ 32) × IsReduction reduction
 IsLine (Ask feed at) = (feed < 2 ^ 32) × (at < 2 ^ 50)

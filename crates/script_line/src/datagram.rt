@@ -7,7 +7,7 @@ ghost use Rattle.script_line.specs.Datagrams.{IsDatagram, IsTextOfDatagram, byte
 use hex::decode_to_slice;
 use std::marker::Model;
 
-/// The bytes of a datagram as they stand in a line of a script: 1 to 1024 of them, each as two small hexadecimal digits.
+/// The bytes of a datagram as they stand in a line of a script: 1 to 1024 of them, each as two lowercase hexadecimal digits.
 /// Contracts see them as the list of bytes.
 #[derive(Drop)]
 pub struct Datagram<'a> {
@@ -38,7 +38,7 @@ impl<'a> Datagram<'a> {
         }
     }
 
-    /// Writes its bytes at the front of `out`, and leaves the rest as it was. The answer is their number.
+    /// Writes its bytes at the beginning of `out`, and leaves the rest as it was. The answer is their number.
     pub fn write(&self, out: &mut [u8; 1024]) -> usize
         ensures bytes { take result out.new ≡ self.now }
         ensures rest { drop result out.new ≡ drop result out.old }
@@ -59,7 +59,7 @@ impl<'a> Datagram<'a> {
     }
 }
 
-// Writes the bytes that digits say over a room of just their number.
+// Writes the bytes that digits say over a room of exactly their number.
 fn decode(digits: &[u8], room: &mut [u8])
     requires text { IsTextOfDatagram digits.now (bytes_said digits.now) }
     requires room { length room.old ≡ length (bytes_said digits.now) }
@@ -68,7 +68,7 @@ fn decode(digits: &[u8], room: &mut [u8])
     let _ = decode_to_slice(digits, room);
 }
 
-// A text of small digits, of which there are two for each of 1 to 1024 bytes.
+// A text of lowercase digits, two for each of 1 to 1024 bytes.
 fn are_digits(digits: &[u8]) -> bool
     ensures { result ≡ datagrams.are_digits digits.now }
 {
@@ -85,7 +85,7 @@ fn are_pairs(count: usize) -> bool
     2 <= count && count <= 2048 && count % 2 == 0
 }
 
-// Digits of which none is a capital letter.
+// Digits without a capital letter.
 fn are_small(digits: &[u8]) -> bool
     ensures { result ≡ list_all datagrams.is_small_digit digits.now }
 {

@@ -21,10 +21,10 @@ const WIDEST: u64 = 2_000_000;
 // The greatest number of a connection.
 const LAST_CONNECTION: u64 = 7;
 
-// The last second that is told, 2100-01-02 23:59:59 UTC.
+// The last second of the range, 2100-01-02 23:59:59 UTC.
 const LAST_SECOND: u64 = 6_311_606_399;
 
-// The number that a text begins with, where it is at most so great, and fields stand behind it, each behind a space.
+// The number at the beginning of a text, where it is at most this great and fields follow it, each after a space.
 fn number_before(text: &[u8], most: u64) -> Option<Number>
     requires { most < 2 ^ 60 }
     ensures number { IfSome result (λ number. BeginsWith text.now most number) }
@@ -34,7 +34,7 @@ fn number_before(text: &[u8], most: u64) -> Option<Number>
     first_number(text, most)
 }
 
-// The fields of a line that aren't read yet, each with a space before it.
+// The fields of a line that are not read yet, each with a space before it.
 #[derive(Drop)]
 pub struct Fields<'a> {
     rest: &'a [u8],
@@ -49,14 +49,14 @@ impl<'a> Model for Fields<'a> {
 }
 
 impl<'a> Fields<'a> {
-    // All fields of a line, behind its word.
+    // All fields of a line, after its keyword.
     pub fn new(rest: &'a [u8]) -> Fields<'a>
         ensures { result ≡ rest.now }
     {
         Fields { rest }
     }
 
-    // The next field as a number that is at most so great.
+    // The next field as a number that is at most this great.
     fn next_number(&mut self, most: u64) -> Option<u64>
         requires { most < 2 ^ 60 }
         ensures number { IfSome result (λ n. (n ≤ most)
@@ -128,7 +128,7 @@ impl<'a> Fields<'a> {
         self.next_number(LAST_SECOND)
     }
 
-    // The one field that is left as a datagram.
+    // The one field that is left, as a datagram.
     pub fn datagram(&self) -> Option<Datagram<'a>>
         ensures datagram { IfSome result (λ bytes. IsDatagram bytes × HasSpaced self.now (encode_lower bytes ∷ [])) }
         ensures every { (bytes : List ℕ) → IsDatagram bytes → HasSpaced self.now (encode_lower bytes ∷ []) → result ≡ Some bytes }

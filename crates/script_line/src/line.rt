@@ -5,7 +5,7 @@ use tick_units::{Local, Reduction};
 /// One line of a replay script: what the outside gives to a station, and when.
 #[derive(Drop)]
 pub enum ScriptLine<'a> {
-    /// A radio's receiver hears a reduction of the carrier.
+    /// A radio's receiver receives a reduction of the carrier.
     Pulse {
         /// The number of the feed, from 0: the radios in the order of the station file, then its servers, then its leap second file.
         feed: u32,
@@ -14,7 +14,7 @@ pub enum ScriptLine<'a> {
     /// A poller asks its server.
     Ask {
         feed: u32,
-        /// When, on the host's counter.
+        /// When, by the host's counter.
         at: Local,
     },
     /// A datagram comes from a server.
@@ -23,26 +23,26 @@ pub enum ScriptLine<'a> {
         at: Local,
         datagram: Datagram<'a>,
     },
-    /// A radio's receiver is dropped and another one fitted in its place.
+    /// A radio's receiver is dropped, and another one takes its place.
     Swap {
         feed: u32,
     },
-    /// A datagram comes from a client, and is answered.
+    /// A datagram comes from a client, and the station answers it.
     Request {
         /// The client's connection, 0 to 7.
         connection: u8,
         /// When it came.
         arrived: Local,
-        /// When it is answered, not before that.
+        /// When the station answers it; not before it came.
         sent: Local,
         datagram: Datagram<'a>,
     },
-    /// The leap second file tells of a leap second.
+    /// The leap second file announces a leap second.
     Leap {
         feed: u32,
-        /// When, on the host's counter.
+        /// When, by the host's counter.
         at: Local,
-        /// The second behind the leap second, counted from 1900-01-01 00:00 UTC, before 2100-01-03 00:00 UTC.
+        /// The second after the leap second, counted from 1900-01-01 00:00 UTC, before 2100-01-03 00:00 UTC.
         leap_at: u64,
     },
 }

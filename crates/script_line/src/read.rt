@@ -9,8 +9,8 @@ use crate::ScriptLine;
 use crate::fields::Fields;
 use tick_units::Reduction;
 
-/// The line whose text this is, and `None` where it is no line's. The text has no line feed. What needs to be known of the
-/// station or of the lines before it isn't judged.
+/// The line with this text, and `None` where no line has it. The text has no line feed. This does not judge what depends on the
+/// station or on the lines before it.
 pub fn read_line<'a>(text: &'a [u8]) -> Option<ScriptLine<'a>>
     ensures line { IfSome result (λ line. IsTextOf text.now line) }
     ensures every { (line : line.ScriptLine) → IsTextOf text.now line → result ≡ Some line }
@@ -32,7 +32,7 @@ pub fn read_line<'a>(text: &'a [u8]) -> Option<ScriptLine<'a>>
     }
 }
 
-// A reduction that a radio's receiver hears.
+// A reduction that a radio's receiver receives.
 fn read_pulse<'a>(mut fields: Fields<'a>) -> Option<ScriptLine<'a>>
     ensures line { IfSome result (λ line. IsOfFields fields.entry line × (word_of line ≡ codes "pulse")) }
     ensures every { (feed : ℕ) (reduction : reduction.Reduction) → IsOfFields fields.entry (ScriptLine.Pulse feed reduction) →
@@ -75,7 +75,7 @@ fn read_answer<'a>(mut fields: Fields<'a>) -> Option<ScriptLine<'a>>
     Some(ScriptLine::Answer { feed, at, datagram })
 }
 
-// A receiver's end.
+// A swap of a receiver.
 fn read_swap<'a>(mut fields: Fields<'a>) -> Option<ScriptLine<'a>>
     ensures line { IfSome result (λ line. IsOfFields fields.entry line × (word_of line ≡ codes "swap")) }
     ensures every { (feed : ℕ) → IsOfFields fields.entry (ScriptLine.Swap feed) → result ≡ Some (ScriptLine.Swap feed) }
@@ -109,7 +109,7 @@ fn read_request<'a>(mut fields: Fields<'a>) -> Option<ScriptLine<'a>>
     })
 }
 
-// A leap second that the file tells of.
+// A leap second that the file announces.
 fn read_leap<'a>(mut fields: Fields<'a>) -> Option<ScriptLine<'a>>
     ensures line { IfSome result (λ line. IsOfFields fields.entry line × (word_of line ≡ codes "leap")) }
     ensures every { (feed at leap_at : ℕ) → IsOfFields fields.entry (ScriptLine.Leap feed at leap_at) → result ≡ Some (ScriptLine.Leap feed at leap_at) }

@@ -13,7 +13,7 @@ use Rattle.script_player.specs.declared.leap.LeapFeed.{LeapFeed}
 use Rattle.script_player.proofs.ListLaws.{filter_map-none, filter_map-some, last_or-push}
 use Rattle.script_player.proofs.RadioLaws.{eqb-no, eqb-yes, nat_le-no, nat_le-yes}
 
--- a line that tells of no leap second
+-- a line that announces no leap second
 pub HasLeap-other : (leap : LeapFeed) (station : StationFields) (lines : List ScriptLine) (line : ScriptLine) → moment_in (leap_feed station) line ≡ None → HasLeap leap station lines → HasLeap leap station (lines ++ line ∷ [])
 HasLeap-other leap station lines line still h = record {
   number_is = h.number_is;
@@ -65,7 +65,7 @@ tells-late leap station lines feed at e late h =
     let last : leap.last ≡ last_moment feed lines = h.last ∙ ap (λ n. last_moment n lines) (sym own.1) in
     ap (λ b. may_tell b feed at lines) own.0 ∙ nat_le-no (last_moment feed lines) at (subst (λ n. at < n) last late)
 
--- the file tells of a leap second
+-- the file announces a leap second
 pub tells : (old new : LeapFeed) (station : StationFields) (lines : List ScriptLine) (feed at leap_at : ℕ) → old.number ≡ Some feed → old.last ≤ at → new.number ≡ old.number → new.last ≡ at → HasLeap old station lines →
     (may_tell (is_leap_feed station feed) feed at lines ≡ true) × HasLeap new station (lines ++ Leap feed at leap_at ∷ [])
 tells old new station lines feed at leap_at e timely number last h =

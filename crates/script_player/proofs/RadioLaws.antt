@@ -29,7 +29,7 @@ use Rattle.script_player.proofs.ListLaws.{filter_map-none, filter_map-some, slic
 with_heard : RadioFields → List Reduction → History
 with_heard fields rs = record { plan = fields.plan; delay = fields.delay; reductions = rs }
 
--- a line that isn't of a radio leaves it as it is
+-- a line that is not of a radio leaves it as it is
 pub HasRadio-other : {B : Type 0} (stands : B → History → Type 0) (radio : Radio B) (fields : RadioFields) (feed : ℕ) (lines : List ScriptLine) (line : ScriptLine) →
     pulse_in feed line ≡ None → is_swap_of feed line ≡ false → HasRadio stands radio fields feed lines → HasRadio stands radio fields feed (lines ++ line ∷ [])
 unfolding with_heard

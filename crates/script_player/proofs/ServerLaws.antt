@@ -20,7 +20,7 @@ use Rattle.script_player.specs.declared.servers.Servers.{Servers}
 use Rattle.script_player.proofs.ListLaws.{filter_map-none, filter_map-some, last_or-push, slice_set-cases}
 use Rattle.script_player.proofs.RadioLaws.{eqb-no, eqb-yes, nat_le-no, nat_le-yes}
 
--- a line that isn't of a server leaves it as it is
+-- a line that is not of a server leaves it as it is
 pub HasServer-other : (server : Server) (fields : ServerFields) (feed : ℕ) (lines : List ScriptLine) (line : ScriptLine) →
     event_in fields.address feed line ≡ None → moment_in feed line ≡ None → HasServer server fields feed lines → HasServer server fields feed (lines ++ line ∷ [])
 HasServer-other server fields feed lines line none still h = record {

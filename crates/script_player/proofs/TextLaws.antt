@@ -1,4 +1,4 @@
--- The room behind a text.
+-- The room after a text.
 use Rattle.std.proofs.Common.{◌≡◌, ◌∙◌, ℕ, ◌+◌, ◌-◌, ◌≤◌, List, drop, sym, ap, arith}
 use Rattle.std.proofs.lemmas.List.{drop-drop}
 

@@ -11,7 +11,7 @@ pub record JournalFields : Type 0 where
   pub limit : ℕ
   pub is_full : Bool
 
--- the fold stands for so many entries of some journal
+-- the fold stands for this many entries of some journal
 pub record IsKeeping (fold : FoldFields) (count limit : ℕ) : Type 0 where
   pub settings : SettingsFields
   pub journal : List Entry

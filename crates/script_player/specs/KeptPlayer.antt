@@ -24,12 +24,12 @@ use Rattle.script_player.specs.declared.server.Server.{Server}
 use Rattle.script_player.specs.declared.servers.Servers.{Servers}
 use Rattle.script_player.specs.declared.player.Player.{Player}
 
--- what a call answers to a line: something exactly where the line is lawful; where it isn't, all is as it was
+-- what a call answers to a line: something exactly where the line is valid; where it is not, all is as it was
 abbrev pub Gives : {A : Type 0} → Bool → (A → Type 0) → Type 0 → Result A NotLawful → Type 0
 Gives lawful Given Same (Ok x) = (lawful ≡ true) × Given x
 Gives lawful Given Same (Err refused) = (lawful ≡ false) × Same
 
--- a radio has the receiver that has heard the pulses since its last swap
+-- a radio has the receiver that has received the pulses since its last swap
 pub record HasRadio {B : Type 0} (stands : B → History → Type 0) (radio : Radio B) (fields : RadioFields) (feed : ℕ) (lines : List ScriptLine) : Type 0 where
   pub plan : radio.plan ≡ fields.plan
   pub delay : radio.delay_us ≡ fields.delay
@@ -61,12 +61,12 @@ first_radios n station = record station { radios = take n station.radios }
 abbrev pub first_servers : ℕ → StationFields → StationFields
 first_servers n station = record station { servers = take n station.servers }
 
--- each receiver can hear what its radio may hear next
+-- each receiver can receive what its radio may receive next
 pub record AreReady {B : Type 0} (least_start : B → ℕ) (radios : Radios B) : Type 0 where
   pub fitted : All (λ radio. least_start radio.receiver ≤ radio.least) radios.fitted.items
   pub left : All (λ spare. least_start spare.receiver ≡ 0) radios.left.items
 
--- a pulse more, and the entry that it was due
+-- one pulse more, and the entry that was due to it
 pub record HasHeardPulse {B : Type 0} (stands : B → History → Type 0) (radios : Radios B) (station : StationFields) (lines : List ScriptLine) (feed : ℕ) (reduction : Reduction) (entry : Option Entry) : Type 0 where
   pub played : HasRadios stands radios station (lines ++ Pulse feed reduction ∷ [])
   pub due_is : entry ≡ due_of_radio (radio_of station feed) feed reduction lines
@@ -77,11 +77,11 @@ pub record HasServer (server : Server) (fields : ServerFields) (feed : ℕ) (lin
   pub address : server.address ≡ fields.address
   pub last : server.last ≡ last_moment feed lines
 
--- a moment isn't below the last one of the server at a place
+-- a moment is not below the last one of the server at a place
 abbrev pub IsTimely : List Server → ℕ → ℕ → Type 0
 IsTimely servers place at = (server : Server) → slice_get servers place ≡ Some server → server.last ≤ at
 
--- the servers of a station, in order; their numbers begin behind those of the radios
+-- the servers of a station, in order; their numbers begin after those of the radios
 pub record HasPolling (servers : List Server) (station : StationFields) (lines : List ScriptLine) : Type 0 where
   pub count : length servers ≡ length station.servers
   pub each : (place : ℕ) (server : Server) (fields : ServerFields) → slice_get servers place ≡ Some server → slice_get station.servers place ≡ Some fields → HasServer server fields (length station.radios + place) lines
@@ -90,7 +90,7 @@ pub record HasServers (servers : Servers) (station : StationFields) (lines : Lis
   pub first_is : servers.first ≡ length station.radios
   pub polling : HasPolling servers.servers.items station lines
 
--- a datagram more, and the entry that it was due
+-- one datagram more, and the entry that was due to it
 pub record HasAnswered (servers : Servers) (station : StationFields) (lines : List ScriptLine) (feed at : ℕ) (datagram : List ℕ) (entry : Entry) : Type 0 where
   pub played : HasServers servers station (lines ++ Answer feed at datagram ∷ [])
   pub due_is : Some entry ≡ due_of_server (server_of station feed) feed at datagram lines
@@ -100,12 +100,12 @@ pub record HasLeap (leap : LeapFeed) (station : StationFields) (lines : List Scr
   pub number_is : leap.number ≡ option_map (λ name. leap_feed station) station.leap_file
   pub last : leap.last ≡ last_moment (leap_feed station) lines
 
--- a leap second more, and the entry that it was due
+-- one leap second more, and the entry that was due to it
 pub record HasTold (leap : LeapFeed) (station : StationFields) (lines : List ScriptLine) (feed at leap_at : ℕ) (entry : Entry) : Type 0 where
   pub played : HasLeap leap station (lines ++ Leap feed at leap_at ∷ [])
   pub due_is : Some entry ≡ due_to station lines (Leap feed at leap_at)
 
--- of the entries that were due the first are kept, up to the limit
+-- the first of the entries that were due are kept, up to the limit
 pub record HasKept (journal : JournalFields) (settings : SettingsFields) (limit : ℕ) (entries : List Entry) : Type 0 where
   pub limit_is : journal.limit ≡ limit
   pub fold : StandsForJournal journal.fold settings (take limit entries)
@@ -128,11 +128,11 @@ pub record HasGiven {B : Type 0} (stands : B → History → Type 0) (player : P
   pub played : HasPlayed stands player station limit (before ++ played_so line was_kept ∷ [])
   pub outcome_is : given ≡ outcome station limit before (played_so line was_kept)
 
--- what a player answers to a line behind these lines
+-- what a player answers to a line after these lines
 abbrev pub Plays : {B : Type 0} → (B → History → Type 0) → Player B → StationFields → ℕ → List Played → ScriptLine → Result Outcome NotLawful → Type 0
 Plays stands player station limit before line result =
     Gives (is_lawful station (lines_of before) line) (HasGiven stands player station limit before line) (HasPlayed stands player station limit before) result
 
--- each receiver of a player can hear what its radio may hear next
+-- each receiver of a player can receive what its radio may receive next
 abbrev pub IsReady : {B : Type 0} → (B → ℕ) → Player B → Type 0
 IsReady least_start player = AreReady least_start player.radios

@@ -1,4 +1,4 @@
--- Read Replay (what each line of a script gives, read off all the lines before it), then Texts (what the lines write). Keeping and
+-- Read Replay (what each line of a script gives, by all the lines before it), then Texts (what the lines write). Keeping and
 -- KeptPlayer are scaffolding.
 pub mod Keeping
 pub mod KeptPlayer

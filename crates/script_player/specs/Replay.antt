@@ -1,6 +1,6 @@
--- What the lines of a recorded script come to. There is no state: what a line does is read off all the lines before it, and off
--- whose judging was kept in them. How a script drives a station is this project's own; the receivers' answers are those of their code
--- plans (PTB, NPL, NIST), the exchanges, the page, the replies and the kiss codes those of RFC 5905.
+-- What the lines of a recorded script give. There is no state: all the lines before a line decide what it does, with whose
+-- judging was kept in them. How a script drives a station is this project's own. The receivers' answers are those of their code
+-- plans (PTB, NPL, NIST). The exchanges, the page, the replies and the kiss codes are those of RFC 5905.
 use Rattle.std.specs.Prelude.{◌≡◌, ℕ, ◌+◌, ◌-◌, ◌==◌, nat_lt, nat_le, Bool, true, false, not, ◌&&◌, Option, None, Some, is_some, Result, Ok, Err, List, [], ◌∷◌, ◌++◌, length, map, fold, take, reverse, unwrap_or, if◌then◌else◌}
 use Rattle.std.specs.List.{count_by, filter_map, last_or, slice_get, take_while}
 use Rattle.std.specs.Option.{option_to_list}
@@ -58,11 +58,11 @@ abbrev pub is_swap_of : ℕ → ScriptLine → Bool
 is_swap_of feed (Swap number) = number == feed
 is_swap_of feed _ = false
 
--- the lines behind a feed's last swap, or all where there is none: from the end back to it
+-- the lines after a feed's last swap, or all where there is none: from the end back to it
 abbrev pub behind_swap : ℕ → List ScriptLine → List ScriptLine
 behind_swap feed lines = reverse (take_while (λ line. not (is_swap_of feed line)) (reverse lines))
 
--- what the receiver that a feed has now has heard: the pulses since its last swap
+-- what the receiver that a feed has now has received: the pulses since its last swap
 abbrev pub reductions_of : ℕ → List ScriptLine → List Reduction
 reductions_of feed lines = pulses_of feed (behind_swap feed lines)
 
@@ -101,7 +101,7 @@ moment_in feed _ = None
 abbrev pub last_moment : ℕ → List ScriptLine → ℕ
 last_moment feed lines = unwrap_or (last_or None (filter_map (moment_in feed) lines)) 0
 
--- a pulse begins behind all earlier ones of its radio, over swaps too
+-- a pulse begins after all earlier ones of its radio, over swaps too
 abbrev pub may_hear : Option RadioFields → ℕ → Reduction → List ScriptLine → Bool
 may_hear None feed reduction lines = false
 may_hear (Some radio) feed reduction lines = nat_le (least_after (pulses_of feed lines)) reduction.at
@@ -120,7 +120,7 @@ abbrev pub may_swap : StationFields → Option RadioFields → List ScriptLine �
 may_swap station None lines = false
 may_swap station (Some radio) lines = nat_lt (fitted station radio.plan lines) 4
 
--- whether a line may stand behind these lines
+-- whether a line may stand after these lines
 abbrev pub is_lawful : StationFields → List ScriptLine → ScriptLine → Bool
 is_lawful station lines (Pulse feed reduction) = may_hear (radio_of station feed) feed reduction lines
 is_lawful station lines (Ask feed at) = may_poll (server_of station feed) feed at lines
@@ -153,15 +153,15 @@ due_of_server None feed at datagram lines = None
 due_of_server (Some server) feed at datagram lines =
     Some (entry_answered feed at (judge server.address (events_of server.address feed lines) at server.address datagram))
 
--- the entry that is due to a line behind these lines: one for each answer of a receiver, one for each datagram of a server, and one for each leap second
--- that the file tells of
+-- the entry that is due to a line after these lines: one for each answer of a receiver, one for each datagram of a server, and
+-- one for each leap second that the file announces
 abbrev pub due_to : StationFields → List ScriptLine → ScriptLine → Option Entry
 due_to station lines (Pulse feed reduction) = due_of_radio (radio_of station feed) feed reduction lines
 due_to station lines (Answer feed at datagram) = due_of_server (server_of station feed) feed at datagram lines
 due_to station lines (Leap feed at leap_at) = Some (record { feed = feed; at = at; what = Notice leap_at })
 due_to station lines _ = None
 
--- what each of some lines comes to, by all the lines before it
+-- what each of some lines gives, by all the lines before it
 abbrev pub each_after : {X A : Type 0} → (List X → X → List A) → List X → List X → List A
 each_after f before [] = []
 each_after f before (line ∷ more) = f before line ++ each_after f (before ++ line ∷ []) more
@@ -174,7 +174,7 @@ due station lines = each_after (λ before line. option_to_list (due_to station b
 abbrev pub kept : StationFields → ℕ → List ScriptLine → List Entry
 kept station limit lines = take limit (due station lines)
 
--- one was due while as many as the limit were kept
+-- an entry was due when the journal had as many as the limit
 abbrev pub is_full : StationFields → ℕ → List ScriptLine → Bool
 is_full station limit lines = nat_lt limit (length (due station lines))
 
@@ -182,12 +182,12 @@ is_full station limit lines = nat_lt limit (length (due station lines))
 abbrev pub page_after : StationFields → ℕ → List ScriptLine → PageFields
 page_after station limit lines = page_of (settings_of station) (kept station limit lines)
 
--- an entry is told where it is kept, with its number and the rate of the page after it
+-- an entry is printed where it is kept, with its number and the rate of the page after it
 abbrev pub outcome_of_due : SettingsFields → ℕ → List Entry → Option Entry → Outcome
 outcome_of_due settings limit before None = Nothing
 outcome_of_due settings limit before (Some e) = if nat_lt (length before) limit then Kept (numbered_behind settings before e) else Nothing
 
--- a line that was played, and whether the judging of its sender was kept; that is true where nothing was judged
+-- a line that was played, and whether the judging of its sender was kept; that is true where there was nothing to judge
 pub record Played : Type 0 where
   pub line : ScriptLine
   pub kept : Bool
@@ -202,21 +202,21 @@ lines_of played = map (λ p. p.line) played
 abbrev pub sender_of : ℕ → ℕ
 sender_of connection = 0x7f000001 + connection
 
--- the gate behind a datagram of a client; one that is dropped isn't judged
+-- the gate after a datagram of a client; one that is dropped is not judged
 abbrev pub gate_behind_datagram : Result Header WhyDropped → Gate → (ip at : ℕ) → Bool → Gate
 gate_behind_datagram (Ok request) gate ip at was_kept = after gate ip at was_kept
 gate_behind_datagram (Err why) gate ip at was_kept = gate
 
--- the gate behind a line: a request is judged as it arrives
+-- the gate after a line: a request is judged as it arrives
 abbrev pub gate_behind : Gate → ScriptLine → Bool → Gate
 gate_behind gate (Request connection arrived sent datagram) was_kept = gate_behind_datagram (request_of datagram) gate (sender_of connection) arrived was_kept
 gate_behind gate _ was_kept = gate
 
--- the station's gate behind all these lines
+-- the station's gate after all these lines
 abbrev pub gate_after : StationFields → List Played → Gate
 gate_after station played = fold (λ gate p. gate_behind gate p.line p.kept) (gate_of station) played
 
--- a judging isn't kept only where the request passes, the gap isn't 0 and the gate's table has no pair of its sender
+-- a judging is not kept only where the request passes, the gap is not 0 and the gate's table has no pair of its sender
 abbrev pub MayKeepSender : Result Header WhyDropped → Gate → (ip at : ℕ) → Bool → Type 0
 MayKeepSender (Ok request) gate ip at was_kept = MayBeKept gate ip at was_kept
 MayKeepSender (Err why) gate ip at was_kept = was_kept ≡ true
@@ -225,7 +225,7 @@ abbrev pub MayKeep : Gate → ScriptLine → Bool → Type 0
 MayKeep gate (Request connection arrived sent datagram) was_kept = MayKeepSender (request_of datagram) gate (sender_of connection) arrived was_kept
 MayKeep gate _ was_kept = was_kept ≡ true
 
--- a line may be played so behind these lines; where both may be, the host's memory decides
+-- a line may be played in this way after these lines; where both ways are open, the host's memory decides
 abbrev pub MayBePlayed : StationFields → List Played → Played → Type 0
 MayBePlayed station before played = MayKeep (gate_after station before) played.line played.kept
 
@@ -233,7 +233,7 @@ abbrev pub outcome_of_request : Result (List ℕ) WhyDropped → Bool → Outcom
 outcome_of_request (Ok bytes) was_kept = Replied bytes was_kept
 outcome_of_request (Err why) was_kept = Dropped why
 
--- what a lawful line gives behind these lines
+-- what a valid line gives after these lines
 abbrev pub outcome_of : StationFields → ℕ → List Played → ScriptLine → Bool → Outcome
 outcome_of station limit before (Pulse feed reduction) was_kept = outcome_of_due (settings_of station) limit (due station (lines_of before)) (due_to station (lines_of before) (Pulse feed reduction))
 outcome_of station limit before (Answer feed at datagram) was_kept = outcome_of_due (settings_of station) limit (due station (lines_of before)) (due_to station (lines_of before) (Answer feed at datagram))

@@ -14,12 +14,12 @@ dropped_text Short = codes "drop short"
 dropped_text Version = codes "drop version"
 dropped_text Mode = codes "drop mode"
 
--- the end of a reply's line, with a line of its own behind it where the client wasn't kept
+-- the end of a reply's line, with a line of its own after it where the client was not kept
 abbrev pub reply_end : Bool → List ℕ
 reply_end true = 10 ∷ []
 reply_end false = 10 ∷ codes "unkept" ++ 10 ∷ []
 
--- a line with its line feed, and nothing where there is nothing to tell
+-- a line with its line feed, and nothing where the line gives nothing
 abbrev pub outcome_text : Outcome → List ℕ
 outcome_text Nothing = []
 outcome_text (Kept n) = numbered_text n ++ 10 ∷ []

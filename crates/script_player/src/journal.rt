@@ -79,7 +79,7 @@ impl Journal {
         self.fold.page()
     }
 
-    // One was dropped.
+    // Whether one was dropped.
     pub fn is_full(&self) -> bool
         ensures { (settings : SettingsFields) (limit : ℕ) (entries : List Entry) → HasKept self.now settings limit entries →
             result ≡ nat_lt limit (length entries) }

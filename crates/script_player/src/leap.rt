@@ -15,9 +15,9 @@ use tick_units::Local;
 // The feed of the leap second file.
 #[derive(Drop)]
 pub struct LeapFeed {
-    // Its number, behind those of the radios and of the servers, where the station names such a file.
+    // Its number, after those of the radios and of the servers, where the station names such a file.
     number: Option<u32>,
-    // The moment of the last leap second that it told of, and 0 at first.
+    // The moment of the last leap second that it announced, and 0 at first.
     last: Local,
 }
 
@@ -36,7 +36,7 @@ impl LeapFeed {
         }
     }
 
-    // The file tells of a leap second: the entry that it is due.
+    // The file announces a leap second: the entry that is due to it.
     pub fn tell(&mut self, feed: u32, at: Local, leap_at: u64) -> Result<Entry, NotLawful>
         requires { leap_at < end_of_told }
         ensures number { self.new.number ≡ self.old.number }

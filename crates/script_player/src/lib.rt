@@ -1,4 +1,4 @@
-//! What a recorded script comes to, line by line, on one thread.
+//! Plays a recorded script, line by line, on one thread.
 #![tactic(auto)]
 
 mod journal;

@@ -6,22 +6,22 @@ use sealed_reply::Reply;
 /// What a line of a script gives.
 #[derive(Clone, Copy, Debug, PartialEq, Eq)]
 pub enum Outcome {
-    /// Nothing is told: no minute was complete, a receiver was swapped, or the journal was full.
+    /// Nothing: no minute was complete, a receiver was swapped, or the journal was full.
     Nothing,
     /// This entry is kept, with this number, and the page after it has this rate.
     Kept(Numbered),
-    /// The server of the feed is asked by these bytes.
+    /// The poller asks the server of the feed with these bytes.
     Asked([u8; 48]),
-    /// The client is answered by this reply.
+    /// This reply answers the client.
     Replied {
         reply: Reply,
-        /// Whether the client's judging was kept. It wasn't where that took memory and there was none.
+        /// Whether the client's judging was kept. It was not where that took memory and there was none.
         kept: bool,
     },
-    /// The client isn't answered.
+    /// The client gets no answer.
     Dropped(WhyDropped),
 }
 
-/// A line that may not stand behind the lines before it.
+/// A line that may not stand after the lines before it.
 #[derive(Clone, Copy, Debug, PartialEq, Eq)]
 pub struct NotLawful;

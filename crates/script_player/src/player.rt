@@ -24,19 +24,21 @@ use station_config::Station;
 use std::alloc::{AllocError, Global};
 use tick_units::{Local, Reduction};
 
-// 127.0.0.1, from which the requests of the first connection come.
+// 127.0.0.1, the address of the first connection's requests.
 const FIRST_CLIENT: u32 = 0x7f00_0001;
 
-// The address of a client: that of its connection, and so many behind the first.
+// The address of a client: that of its connection, and this many after the first.
 fn sender_of(connection: u8) -> u32
     ensures { result ≡ sender_of connection }
 {
     FIRST_CLIENT + u32::from(connection)
 }
 
-/// A station in the middle of a script: it plays the lines one after the other, and keeps the journal's page and the gate of its clients.
+/// A station in the middle of a script: it plays the lines one after the other, and keeps the journal's page and the gate of its
+/// clients.
 ///
-/// It stands for its station, the most entries that are kept, and the lines that it has played, with whether each client's judging was kept.
+/// It stands for its station, the most entries that it keeps, and the lines that it has played, with whether each client's judging
+/// was kept.
 #[derive(Drop)]
 pub struct Player<B: Drop> {
     radios: Radios<B>,
@@ -54,11 +56,11 @@ impl Player<BoxedReceiver> {
     ghost use Rattle.receiver_rack.specs.Racks.{IsRack};
     ghost use Rattle.script_player.specs.KeptPlayer.{HasGiven, HasPlayed, IsReady, Plays};
 
-    /// A station that has played no line yet, and that keeps at most so many entries, up to 4194304. Of each plan the first
-    /// four blank receivers of the rack are used, in its order; the others are dropped.
+    /// A station that has played no line yet, and that keeps at most this many entries, up to 4194304. It uses the first four
+    /// blank receivers of each plan of the rack, in its order; the others are dropped.
     ///
     /// # Errors
-    /// There is no memory. Of the other calls only `play` takes any.
+    /// There is no memory. Of the other calls only `play` takes memory.
     pub fn new(
         alloc: Global,
         station: &Station,
@@ -89,13 +91,13 @@ impl Player<BoxedReceiver> {
         })
     }
 
-    /// The next line: what it gives, where it may stand behind the lines before it.
+    /// The next line: what it gives, where it may stand after the lines before it.
     ///
-    /// A request comes from the address 127.0.0.1 and its connection's number more, and is judged as it arrives. Memory is taken for a
-    /// client that the gate doesn't know, and nothing else; where there is none, the client is answered, and `kept` says so.
+    /// A request comes from the address 127.0.0.1 plus its connection's number, and is judged as it arrives. Only a client that
+    /// the gate does not know takes memory. Where there is none, the client gets its answer, and `kept` says so.
     ///
     /// # Errors
-    /// A line that may not stand there, which changes nothing.
+    /// A line that may not stand there; it changes nothing.
     pub fn play(&mut self, line: &ScriptLine<'_>) -> Result<Outcome, NotLawful>
         requires line { IsLine line.now }
         requires ready { IsReady least_start self.old }
@@ -171,7 +173,7 @@ impl Player<BoxedReceiver> {
         Ok(Outcome::Nothing)
     }
 
-    // The leap second file tells of a leap second.
+    // The leap second file announces a leap second.
     fn tell(&mut self, feed: u32, at: Local, leap_at: u64) -> Result<Outcome, NotLawful>
         requires told { leap_at < end_of_told }
         requires ready { IsReady least_start self.old }
@@ -205,8 +207,8 @@ impl Player<BoxedReceiver> {
         }
     }
 
-    // A client's request is judged as it arrives, and answered by its code from the page of the entries kept so far. The reply is sealed
-    // as the request is.
+    // A client's request is judged as it arrives. The answer is by its code, from the page of the entries kept so far, and is
+    // sealed as the request is.
     fn judge_and_reply(
         &mut self,
         connection: u8,
@@ -236,7 +238,7 @@ impl Player<BoxedReceiver> {
         self.journal.page()
     }
 
-    /// Whether an entry was due while as many were kept as may be.
+    /// Whether an entry was due when the journal was full.
     pub fn is_full(&self) -> bool
         ensures { (station : StationFields) (limit : ℕ) (before : List Played) → HasPlayed stands_for self.now station limit before →
             result ≡ replay.is_full station limit (lines_of before) }

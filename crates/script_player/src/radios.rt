@@ -63,7 +63,7 @@ impl Radios<BoxedReceiver> {
         Ok(radios)
     }
 
-    // One radio more, with this plan and this delay.
+    // One more radio, with this plan and this delay.
     fn add(&mut self, plan: Plan, delay_us: u32) -> Result<(), AllocError>
         requires ready { AreReady least_start self.old }
         requires left { 1 ≤ left_of plan self.old.left.items }
@@ -77,7 +77,7 @@ impl Radios<BoxedReceiver> {
         Ok(())
     }
 
-    // A pulse for a radio: the entry that it is due.
+    // A pulse for a radio: the entry that is due to it.
     pub fn hear(&mut self, feed: u32, reduction: Reduction) -> Result<Option<Entry>, NotLawful>
         requires { AreReady least_start self.old }
         ensures ready { AreReady least_start self.new }
@@ -98,7 +98,7 @@ impl Radios<BoxedReceiver> {
         Ok(entry_heard(feed, heard))
     }
 
-    // A radio's receiver is dropped, and the next of its plan is fitted in its place.
+    // Drops a radio's receiver, and fits the next of its plan in its place.
     pub fn swap(&mut self, feed: u32) -> Result<(), NotLawful>
         requires { AreReady least_start self.old }
         ensures ready { AreReady least_start self.new }

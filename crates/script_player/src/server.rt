@@ -53,7 +53,7 @@ impl Server {
         self.poll.ask(at)
     }
 
-    // A datagram comes from it: what that tells.
+    // A datagram comes from it: what that gives.
     pub fn answer(&mut self, at: Local, datagram: &[u8]) -> What
         requires { self.old.last ≤ at }
         ensures address { self.new.address ≡ self.old.address }

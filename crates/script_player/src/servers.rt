@@ -17,7 +17,7 @@ use station_config::Station;
 use std::alloc::{AllocError, Global};
 use tick_units::Local;
 
-// The servers of the station. Their numbers begin behind those of the radios.
+// The servers of the station. Their numbers begin after those of the radios.
 #[derive(Drop)]
 pub struct Servers {
     first: u32,
@@ -36,7 +36,7 @@ impl Servers {
         }
     }
 
-    // The servers of a station, none of which was asked yet.
+    // The servers of a station, none of which has been asked yet.
     pub fn add_all(&mut self, station: &Station) -> Result<(), AllocError>
         requires first { self.old.first ≡ length station.now.radios }
         requires none { self.old.servers.items ≡ [] }
@@ -54,7 +54,7 @@ impl Servers {
         Ok(())
     }
 
-    // The place of a server, where this moment isn't below its last one.
+    // The place of a server, where this moment is not below its last one.
     fn place_of(&self, feed: u32, at: Local) -> Result<usize, NotLawful>
         ensures lawful { (station : StationFields) (lines : List ScriptLine) → HasServers self.now station lines →
             Gives (may_poll (server_of station feed) feed at lines) (λ place. feed ≡ length station.radios + place) (Unit {0}) result }
@@ -88,7 +88,7 @@ impl Servers {
         Ok(self.servers[place].ask(at))
     }
 
-    // A datagram comes from a server: the entry that it is due.
+    // A datagram comes from a server: the entry that is due to it.
     pub fn answer(&mut self, feed: u32, at: Local, datagram: &[u8]) -> Result<Entry, NotLawful>
         ensures count { vec_len self.new.servers ≡ vec_len self.old.servers }
         ensures first { self.new.first ≡ self.old.first }

@@ -8,7 +8,7 @@ use hex::encode_to_slice;
 use journal_entry::{LINE_ROOM, Numbered, TextWriter, write_numbered};
 use reply_core::Dropped;
 
-// Writes a word and a line feed.
+// Writes a keyword and a line feed.
 fn write_word(word: &[u8], out: &mut [u8; LINE_ROOM]) -> usize
     requires { length word.now ≤ 20 }
     ensures text { take result out.new ≡ word.now ++ 10 ∷ [] }
@@ -21,7 +21,7 @@ fn write_word(word: &[u8], out: &mut [u8; LINE_ROOM]) -> usize
     text.len()
 }
 
-// Writes a word with its space, the bytes in hexadecimal digits, and the end behind them.
+// Writes a keyword with its space, the bytes in hexadecimal digits, and then the end.
 #[tactic(auto, using(crate::proofs::TextLaws::drop_on))]
 fn write_bytes(word: &[u8], bytes: &[u8], end: &[u8], out: &mut [u8; LINE_ROOM]) -> usize
     requires word { length word.now ≤ 20 }
@@ -41,7 +41,7 @@ fn write_bytes(word: &[u8], bytes: &[u8], end: &[u8], out: &mut [u8; LINE_ROOM])
     text.len()
 }
 
-// The end of a reply's line, with a line of its own behind it where the client wasn't kept.
+// The end of a reply's line, with a line of its own after it where the client was not kept.
 fn reply_end(kept: bool) -> &'static [u8]
     ensures text { result.now ≡ reply_end kept }
     ensures most { length result.now ≤ 8 }
@@ -60,8 +60,9 @@ fn write_kept(n: &Numbered, out: &mut [u8; LINE_ROOM]) -> usize
     length + 1
 }
 
-/// Writes what a line of a script gives at the front of `out`, and leaves the rest as it was: a line with its line feed, and behind a
-/// reply whose client wasn't kept the line `unkept`. The answer is the number of bytes written, 0 where nothing is told.
+/// Writes what a line of a script gives at the beginning of `out`, and leaves the rest as it was: a line with its line feed.
+/// After a reply whose client was not kept comes the line `unkept`. The answer is the number of bytes written, 0 where the line
+/// gives nothing.
 pub fn write_outcome(outcome: &Outcome, out: &mut [u8; LINE_ROOM]) -> usize
     ensures text { take result out.new ≡ outcome_text outcome.now }
     ensures rest { drop result out.new ≡ drop result out.old }

@@ -15,7 +15,7 @@ IsPacket (Sealed bytes) = length bytes ≡ 68
 abbrev pub packet_of : List ℕ → Packet
 packet_of bytes = if length bytes == 48 then Plain bytes else Sealed bytes
 
--- which are that packet's
+-- the same bytes are those of that packet
 pub packet_back : (packet : Packet) → IsPacket packet → packet_of (bytes_of packet) ≡ packet
 packet_back (Plain bytes) long = λ i. (if long i == 48 then Plain bytes else Sealed bytes)
 packet_back (Sealed bytes) long = λ i. (if long i == 48 then Plain bytes else Sealed bytes)

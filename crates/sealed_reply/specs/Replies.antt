@@ -1,5 +1,6 @@
--- The reply to a datagram: the header of what the client gets by its code, the answer (RFC 5905, appendix A.5.3.1, `fast_xmit`) or a
--- kiss-o'-death packet (section 7.4), and, where the datagram is authentic, the key's identifier and the digest behind it (section 7.3).
+-- The reply to a datagram. Its header is that of the answer (RFC 5905, appendix A.5.3.1, `fast_xmit`) or of a kiss-o'-death
+-- packet (section 7.4), by the client's code. Where the datagram is authentic, the key's identifier and the digest follow it
+-- (section 7.3).
 use Rattle.std.specs.Prelude.{ℕ, List, Result}
 use Rattle.std.specs.Result.{result_map_both}
 use Rattle.clock_page.specs.Page.{PageFields}

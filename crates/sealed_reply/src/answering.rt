@@ -12,7 +12,7 @@ use packet_auth::{HEADER_LENGTH, KeyRing, SEALED_LENGTH};
 use reply_core::{Code, Dropped, read_request, write_reply};
 use tick_units::Local;
 
-/// A header sealed as a datagram is: by the key by which the datagram is authentic, or not at all where it isn't.
+/// A header sealed as a datagram is: by the key by which the datagram is authentic, or not at all where it is not.
 pub fn sealed_like(keys: &KeyRing, datagram: &[u8], header: [u8; HEADER_LENGTH]) -> Reply
     ensures bytes { result ≡ sealed_like (keys_of keys.now) datagram.now header }
     ensures authentic { authentic (keys_of keys.now) result ≡ authentic (keys_of keys.now) datagram.now }
@@ -49,8 +49,8 @@ impl<'a> Request<'a> {
         Ok(Request { datagram, header })
     }
 
-    /// The reply to the request by the client's code, from a page, the moment when the request arrived and the moment when the reply is
-    /// sent. It is authentic exactly where the request is, and by the same key.
+    /// The reply to the request by the client's code. It depends on a page, the moment when the request arrived and the moment
+    /// when the reply is sent. It is authentic exactly where the request is, and by the same key.
     pub fn reply(
         &self,
         keys: &KeyRing,

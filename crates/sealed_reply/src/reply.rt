@@ -4,7 +4,7 @@ ghost use Rattle.std.specs.Prelude.{◌≡◌, ◌≤◌, length};
 use packet_auth::{HEADER_LENGTH, SEALED_LENGTH};
 use std::marker::Model;
 
-// A header alone, or one with a key's identifier and a digest behind it.
+// A header alone, or one followed by a key's identifier and a digest.
 #[derive(Clone, Copy, Debug, PartialEq, Eq)]
 pub enum Packet {
     Plain([u8; HEADER_LENGTH]),

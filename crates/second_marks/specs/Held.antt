@@ -1,5 +1,5 @@
--- Scaffolding, which contracts use: what an MSF marker holds back of the reductions that it has heard, those of the mark that
--- isn't complete (NPL: a second in which bit B alone is 1 has two reductions).
+-- Scaffolding, which contracts use: what an MSF marker holds back of the reductions that it has received. They are those of the
+-- unfinished mark (NPL: a second in which only bit B is 1 has two reductions).
 use Rattle.std.specs.Prelude.{Option, None, Some, List, [], ◌∷◌, if◌then◌else◌}
 use Rattle.tick_units.specs.Marks.{are_parts, mark_of}
 use Rattle.tick_units.specs.declared.marks.Mark.{Mark}

@@ -1,4 +1,4 @@
--- Scaffolding, which contracts use: what a marker stands for, its plan and the reductions that it has heard.
+-- Scaffolding, which contracts use: what a marker stands for, its plan and the reductions that it has received.
 use Rattle.std.specs.Prelude.{◌≡◌, List}
 use Rattle.tick_units.specs.declared.marks.Plan.{Plan}
 use Rattle.tick_units.specs.declared.marks.Plan.TheVariants.{Dcf, Msf, Wwvb}

@@ -65,7 +65,7 @@ fn is_short(width: u32) -> bool
     (40_000..=149_999).contains(&width)
 }
 
-// Whether two neighbouring reductions are the parts of one MSF second, as far as they themselves tell.
+// Whether two neighbouring reductions can be the parts of one MSF second, by these two alone.
 pub fn are_parts(first: &Reduction, second: &Reduction) -> bool
     ensures { result ≡ are_parts first.now second.now }
 {

@@ -14,7 +14,7 @@ pub enum Held {
     Joined(Local),
 }
 
-// What is held back once this reduction is heard.
+// What is held back after this reduction.
 pub fn held_after(held: &Held, reduction: &Reduction) -> Held
     ensures { result ≡ held_after held.now reduction.now }
 {
@@ -24,7 +24,7 @@ pub fn held_after(held: &Held, reduction: &Reduction) -> Held
     }
 }
 
-// The mark that is complete once this reduction is heard.
+// The mark that this reduction completes.
 pub fn mark_before(held: &Held, reduction: &Reduction) -> Option<Mark>
     ensures { result ≡ mark_before held.now reduction.now }
 {

@@ -9,8 +9,8 @@ use crate::classes::mark_of;
 use crate::held::{Held, held_after, mark_before};
 use tick_units::{Mark, Plan, Reduction};
 
-/// Turns the reductions of a log into marks. In MSF a second may have two reductions, so a mark is given when the
-/// reduction after its last part is heard; the last mark of an MSF log is never given.
+/// Turns the reductions of a log into marks. In MSF a second may have two reductions, so a mark comes with the reduction after
+/// its last part. The last mark of an MSF log never comes.
 #[derive(Drop)]
 pub struct Marker {
     plan: Plan,
@@ -20,7 +20,7 @@ pub struct Marker {
 impl Marker {
     ghost use Rattle.second_marks.specs.Marker.{HasHeard};
 
-    /// A marker of a plan that has heard nothing.
+    /// A marker of a plan that has received nothing.
     pub fn new(plan: Plan) -> Marker
         ensures { HasHeard result plan [] }
     {
@@ -38,7 +38,7 @@ impl Marker {
         self.plan
     }
 
-    /// Hears the next reduction: the mark that it completes, if it completes one.
+    /// Takes the next reduction, and returns the mark that it completes, if it completes one.
     #[inline(always)]
     pub fn hear(&mut self, reduction: Reduction) -> Option<Mark>
         ensures heard { (plan : Plan) (reductions : List Reduction) → HasHeard self.old plan reductions →

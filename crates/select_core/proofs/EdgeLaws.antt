@@ -64,7 +64,7 @@ module _ (from : Side) (begins ends : List ℤ) (wanted : ℕ) (order : AreUpwar
   abbrev open_at : ℤ → Bool
   open_at x = is_open from wanted begins ends x
 
-  -- so many have begun at least, and where the next one is later no more
+  -- this many have begun at least, and where the next one is later no more
   begun-least : (i : ℕ) (d : ℤ) → i < length begins → i + 1 ≤ begun from begins (get_or way i d)
   begun-least i d below =
       let counted = count-least (λ y. not (is_sooner from (get_or way i d) y)) way (i + 1) (omega (arith, length-way from begins))
@@ -153,7 +153,7 @@ module _ (from : Side) (begins ends : List ℤ) (wanted : ℕ) (order : AreUpwar
       by_test j d less false is = is
       by_test j d less true is = absurd (let there = (waits j d (omega (arith, length-way from begins)) is).0 in omega arith)
 
--- of the points so many are sooner, where those in front are and the next isn't
+-- of the points this many are sooner, where those before them are and the next is not
 pub passed-is : (from : Side) (points : List ℤ) (n : ℕ) (at : ℤ) → AreUpward points → n ≤ length points
     → ((k : ℕ) (d : ℤ) → k < n → is_sooner from (get_or (on_the_way from points) k d) at ≡ true) → ((d : ℤ) → n < length points → is_sooner from (get_or (on_the_way from points) n d) at ≡ false) → n ≡ ended from points at
 passed-is from points n at order within front next =

@@ -42,7 +42,7 @@ module _ {Y : Type 0} (f : ℕ → Option Y) where
   one_less : (i n : ℕ) → i < n → n - i ≡ suc (n - (i + 1))
   one_less i n below = omega arith
 
-  -- nothing is found at this number, so what is first stands behind
+  -- nothing is found at this number, so what is first stands after
   pub first-none : (i n : ℕ) → i < n → f i ≡ None → slice_get (filter_map f (range_with_len i (n - i))) 0 ≡ slice_get (filter_map f (range_with_len (i + 1) (n - (i + 1)))) 0
   first-none i n below is = rw (one_less i n below) (rw is refl)
 

@@ -169,7 +169,7 @@ with-set feed (x ∷ xs) (suc i) c below there order =
     ap (λ (ys : List Candidate). x ∷ ys) (with-set feed xs i c (omega arith) there (λ a b d apart less. order (suc a) (suc b) d (omega arith) (omega arith)))
     ∙ (λ j. cond (sym keeps j) (x ∷ before feed xs) (before feed xs) ++ c ∷ cond (sym drops j) (x ∷ after feed xs) (after feed xs))
 
--- a place after those of lesser feeds, where the feed's isn't there, is before those of greater ones
+-- a place after those of lesser feeds, where the feed's is not there, is before those of greater ones
 pub below-place : (feed : ℕ) (cs : List Candidate) (i : ℕ) → IsPartitionPoint (λ x. nat_lt x.feed feed ≡ true) (λ x. nat_lt x.feed feed ≡ false) cs i → i ≤ length cs → (k : ℕ) (d : Candidate) → k < i → (get_or cs k d).feed < feed
 below-place feed cs i point within k d below = let less = point.0 k d (omega arith) below in grind (arith, nat_tests)
 

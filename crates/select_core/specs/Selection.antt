@@ -1,5 +1,5 @@
--- The interval that enough sources agree on (RFC 5905, section 11.2.1). In this project's profile the ends of the sources'
--- intervals are the only points that are looked at, and the offsets outside are counted once the interval is known.
+-- The interval that enough sources agree on (RFC 5905, section 11.2.1). In this project's profile only the ends of the sources'
+-- intervals are considered. The offsets outside are counted once the interval is known.
 use Rattle.std.specs.Prelude.{ℕ, ◌+◌, ◌*◌, ◌^◌, Bool, not, ◌&&◌, nat_lt, nat_le, Option, None, Some, List, length, filter, map, count_by, slice_get, ℤ, pos, ◌+ℤ◌, ◌-ℤ◌, int_le, int_lt, unsigned_abs, if◌then◌else◌}
 use Rattle.std.specs.List.{filter_map, list_all, range_with_len}
 use Rattle.tick_units.specs.Orders.{best}
@@ -31,7 +31,7 @@ contains x c = is_within (lower c) (upper c) x
 abbrev pub cover : List Candidate → ℤ → ℕ
 cover candidates x = count_by (contains x) candidates
 
--- all intervals but so many contain a point, or more do
+-- all intervals but this many contain a point, or more do
 abbrev pub is_held : List Candidate → ℕ → ℤ → Bool
 is_held candidates allowed x = nat_le (length candidates) (cover candidates x + allowed)
 
@@ -41,7 +41,7 @@ least xs = best int_lt xs
 abbrev pub greatest : List ℤ → Option ℤ
 greatest xs = best (λ x y. int_lt y x) xs
 
--- the least lower end that all intervals but so many contain, and the greatest such upper end
+-- the least lower end that all intervals but this many contain, and the greatest such upper end
 abbrev pub low_of : List Candidate → ℕ → Option ℤ
 low_of candidates allowed = least (filter (is_held candidates allowed) (map lower candidates))
 
@@ -52,11 +52,11 @@ high_of candidates allowed = greatest (filter (is_held candidates allowed) (map 
 abbrev pub outside : List Candidate → ℤ → ℤ → ℕ
 outside candidates low high = count_by (λ c. not (is_within low high c.offset)) candidates
 
--- so many may stand outside where they are fewer than half of all; the two ends are apart; no more do stand outside
+-- this many may stand outside where they are fewer than half of all; the two ends are apart; no more than these stand outside
 abbrev pub serves : List Candidate → ℕ → ℤ → ℤ → Bool
 serves candidates allowed low high = nat_lt (2 * allowed) (length candidates) && int_lt low high && nat_le (outside candidates low high) allowed
 
--- the interval of the two ends, where there are both and they serve
+-- the interval of the two ends, where there are both and they satisfy this
 abbrev pub chime_between : List Candidate → ℕ → Option ℤ → Option ℤ → Option Chime
 chime_between candidates allowed None high = None
 chime_between candidates allowed (Some low) None = None

@@ -1,4 +1,4 @@
-//! What selection is told of a source, and the interval that it finds.
+//! What selection receives of a source, and the interval that it finds.
 ghost use Rattle.std.specs.Prelude.{◌≡◌, IsTrue};
 ghost use Rattle.select_core.specs.Selection as selection;
 ghost use Rattle.select_core.specs.Selection.{contains, is_measured, is_within, is_in};
@@ -10,7 +10,7 @@ use tick_units::Span;
 pub struct Candidate {
     /// The number of the source's feed.
     pub feed: u32,
-    /// What is to be added to the host's counter to give the time since 1900; selection takes at most 2^68 units in size.
+    /// The time since 1900 less the host's counter; selection takes at most 2^68 units in size.
     pub offset: Span,
     /// The root distance (RFC 5905, section 11.2.1); selection takes 1 unit to 2^32 units (1 s).
     pub distance: Span,
@@ -22,7 +22,7 @@ pub struct Chime {
     /// The ends of the interval, which contains both.
     pub low: Span,
     pub high: Span,
-    /// How many offsets might have lain outside; no more do.
+    /// How many offsets might have lain outside; no more than these do.
     pub allowed: u32,
 }
 
@@ -63,7 +63,7 @@ impl Candidate {
 }
 
 impl Chime {
-    /// Whether an offset lies in the interval: a source whose offset does survives the selection.
+    /// Whether an offset lies in the interval: then its source survives the selection.
     pub fn holds(&self, offset: Span) -> bool
         ensures { result ≡ is_in self.now offset }
     {

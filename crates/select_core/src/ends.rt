@@ -1,4 +1,4 @@
-//! The point at which enough intervals are open, by the points at which they begin and end.
+//! The first point, from a side, at which enough intervals are open, by the points at which they begin and end.
 ghost use Rattle.std.specs.Prelude.{◌≡◌, ◌+◌, ◌<◌, ◌≤◌, ℕ, ℤ, length, slice_index_or, true};
 ghost use Rattle.select_core.specs.Ends as ends;
 ghost use Rattle.select_core.specs.Ends.{edge, ended, is_sooner, on_the_way};
@@ -6,7 +6,7 @@ ghost use Rattle.select_core.specs.Ends.{edge, ended, is_sooner, on_the_way};
 use crate::points::Points;
 use tick_units::Span;
 
-/// A side of an interval, and the side from which its ends are gone over.
+/// A side of an interval, and the side from which the search visits its ends.
 #[derive(Clone, Copy, Debug, PartialEq, Eq)]
 pub enum Side {
     Lower,
@@ -14,7 +14,7 @@ pub enum Side {
 }
 
 impl Side {
-    // Whether a point is come to before another.
+    // Whether the search visits a point before another.
     fn is_sooner(self, x: Span, y: Span) -> bool
         ensures { result ≡ ends.is_sooner self x y }
     {
@@ -25,7 +25,7 @@ impl Side {
     }
 }
 
-// The point that is come to, from a side, after so many others.
+// The point that the search from a side visits after this many others.
 fn come_to(from: Side, points: &Points, passed: usize) -> Span
     requires { passed < length points.now }
     ensures { result ≡ slice_index_or (on_the_way from points.now) passed result }
@@ -36,7 +36,7 @@ fn come_to(from: Side, points: &Points, passed: usize) -> Span
     }
 }
 
-// How many points are come to before a point, where so many are known to be.
+// How many points the search visits before a point, where this many are known to be.
 fn count_passed(from: Side, points: &Points, known: usize, at: Span) -> usize
     requires known { known ≤ length points.now }
     requires front { (k : ℕ) (d : ℤ) → k < known → is_sooner from (slice_index_or (on_the_way from points.now) k d) at ≡ true }
@@ -53,7 +53,7 @@ fn count_passed(from: Side, points: &Points, known: usize, at: Span) -> usize
     points.len()
 }
 
-/// The first point, from a side, at which an interval begins and so many are open.
+/// The first point, from a side, at which an interval begins and this many are open.
 pub fn edge(from: Side, begins: &Points, ends: &Points, wanted: usize) -> Option<Span>
     requires { wanted ≤ 16 }
     ensures { result ≡ edge from wanted begins.now ends.now }

@@ -7,9 +7,10 @@ use crate::chime::is_within;
 use crate::{Candidate, Chime};
 use tick_units::Span;
 
-/// The interval that enough sources agree on (RFC 5905, section 11.2.1, by the ends of the intervals alone): for the least
-/// number f of sources, fewer than half of all, from the least lower end to the greatest upper end that all intervals but f
-/// contain, where these are apart and at most f offsets lie outside. `None` where no f has one. It is at most 2 s long.
+/// The interval that enough sources agree on (RFC 5905, section 11.2.1, by the ends of the intervals alone). f is the least
+/// number of sources, fewer than half of all, that has an interval. The interval runs from the least lower end to the greatest
+/// upper end that all intervals but f contain. These two are apart, and at most f offsets lie outside. `None` where no f has one.
+/// It is at most 2 s long.
 pub fn select(candidates: &[Candidate]) -> Option<Chime>
     requires few { length candidates.now ≤ 16 }
     requires measured { IsTrue (are_measured candidates.now) }
@@ -40,7 +41,7 @@ fn chime_allowing(candidates: &[Candidate], allowed: u32) -> Option<Chime>
     }
 }
 
-// The least lower end that all intervals but so many contain.
+// The least lower end that all intervals but this many contain.
 fn low_allowing(candidates: &[Candidate], allowed: u32) -> Option<Span>
     requires few { length candidates.now ≤ 16 }
     requires measured { IsTrue (are_measured candidates.now) }
@@ -56,7 +57,7 @@ fn low_allowing(candidates: &[Candidate], allowed: u32) -> Option<Span>
     low
 }
 
-// The greatest upper end that all intervals but so many contain.
+// The greatest upper end that all intervals but this many contain.
 fn high_allowing(candidates: &[Candidate], allowed: u32) -> Option<Span>
     requires few { length candidates.now ≤ 16 }
     requires measured { IsTrue (are_measured candidates.now) }
@@ -72,7 +73,7 @@ fn high_allowing(candidates: &[Candidate], allowed: u32) -> Option<Span>
     high
 }
 
-// The lesser of an end and what was the least before it, and the greater.
+// The lesser of an end and the least before it, and the greater.
 pub(crate) fn lesser(least: Option<Span>, end: Span) -> Option<Span>
     ensures { result ≡ better int_lt least end }
 {
@@ -91,7 +92,7 @@ pub(crate) fn greater(greatest: Option<Span>, end: Span) -> Option<Span>
     }
 }
 
-// Whether all intervals but so many contain a point.
+// Whether all intervals but this many contain a point.
 fn is_held(candidates: &[Candidate], allowed: u32, point: Span) -> bool
     requires few { length candidates.now ≤ 16 }
     requires measured { IsTrue (are_measured candidates.now) }
@@ -116,7 +117,7 @@ fn cover(candidates: &[Candidate], point: Span) -> usize
     count
 }
 
-// Whether two ends are those of an interval for so many sources outside.
+// Whether two ends are those of an interval for this many sources outside.
 pub(crate) fn serves(candidates: &[Candidate], allowed: u32, low: Span, high: Span) -> bool
     requires few { length candidates.now ≤ 16 }
     ensures { result ≡ serves candidates.now allowed low high }

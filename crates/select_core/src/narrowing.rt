@@ -9,7 +9,7 @@ use crate::points::Points;
 use crate::{Candidate, Chime};
 use tick_units::Span;
 
-// The least lower end that all intervals but so many contain.
+// The least lower end that all intervals but this many contain.
 fn low_allowing(
     candidates: &[Candidate],
     lowers: &Points,
@@ -30,7 +30,7 @@ fn low_allowing(
     )
 }
 
-// The greatest upper end that all intervals but so many contain.
+// The greatest upper end that all intervals but this many contain.
 fn high_allowing(
     candidates: &[Candidate],
     lowers: &Points,

@@ -52,9 +52,9 @@ impl Sweep {
         requires measured { IsTrue (is_measured c) }
         ensures { self.new ≡ with_candidate c self.old }
     {
-        // Looked at for what the list keeps: its order.
+        // Read for the list's invariant: its order.
         let _order = &self.standing;
-        // Where each lesser feed has a candidate, that of a feed stands at the feed's number.
+        // Where each lesser feed has a candidate, that of a feed is at the feed's number.
         let number = c.feed as usize;
         if self.has_at(number, c.feed) {
             self.exchange(number, &c);
@@ -63,14 +63,14 @@ impl Sweep {
         }
     }
 
-    // The same, by a search of the place.
+    // The same, by a search for the place.
     #[inline(never)]
     fn put_in_place(&mut self, c: Candidate)
         requires room { length (others c.feed self.old) < 16 }
         requires measured { IsTrue (is_measured c) }
         ensures { self.new ≡ with_candidate c self.old }
     {
-        // Looked at for what the list keeps: its order.
+        // Read for the list's invariant: its order.
         let _order = &self.standing;
         let place = self.place_of(c.feed);
         if self.has_at(place, c.feed) {
@@ -80,11 +80,11 @@ impl Sweep {
         }
     }
 
-    /// Lets the candidate of a feed stand no longer; a feed that has none changes nothing.
+    /// Removes the candidate of a feed; a feed that has none changes nothing.
     pub fn remove(&mut self, feed: u32)
         ensures { self.new ≡ others feed self.old }
     {
-        // Looked at for what the list keeps: its order.
+        // Read for the list's invariant: its order.
         let _order = &self.standing;
         let place = self.place_of(feed);
         if self.has_at(place, feed) {
@@ -124,7 +124,7 @@ impl Sweep {
         set_at(&mut self.standing, place, c);
     }
 
-    // Puts a candidate of a feed of which none stands in its place.
+    // Puts the candidate of a feed that has none in its place.
     fn add(&mut self, place: usize, c: Candidate)
         requires room { length self.old < 16 }
         requires within { place ≤ length self.old }
@@ -138,12 +138,12 @@ impl Sweep {
         self.standing.insert(place, c);
     }
 
-    // Takes the candidate at a place out.
+    // Removes the candidate at a place.
     fn take_out(&mut self, place: usize)
         requires { place < length self.old }
         ensures { self.new ≡ remove self.old place }
     {
-        // Looked at for what it says of every list: that it has at most 16 items.
+        // Read for its bound: every list has at most 16 items.
         let _few = self.standing.len();
         let c = self.standing.remove(place);
         self.lowers.remove(place, c.lower());

@@ -8,7 +8,7 @@ use crate::points::Points;
 use crate::{Candidate, Chime};
 
 /// The interval that all intervals contain, from the greatest lower end to the least upper one, where all offsets lie in it. Most
-/// often there is one, and then it is the one that selection finds; `None` says nothing.
+/// often there is one, and then selection finds the same one. `None` says nothing.
 pub fn unanimous(candidates: &[Candidate], lowers: &Points, uppers: &Points) -> Option<Chime>
     requires few { length candidates.now ≤ 16 }
     requires measured { IsTrue (are_measured candidates.now) }

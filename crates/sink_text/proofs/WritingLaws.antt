@@ -10,7 +10,7 @@ use Rattle.sink_text.specs.Writing.{IsFrontOf, WritesAll, WritesFront}
 pub writes_more : (a b c : SinkState) (x y : List ℕ) → WritesAll a b x → WritesAll b c y → WritesAll a c (x ++ y)
 writes_more a b c x y h k = (Adds-more a.held b.held c.held x y h.0 k.0, k.1 ∙ h.1)
 
--- a text, and then a front of another
+-- a text, and then a beginning of another
 pub writes_front : (a b c : SinkState) (x y : List ℕ) → WritesAll a b x → WritesFront b c y → WritesFront a c (x ++ y)
 writes_front a b c x y h k = (
   x ++ k.0,
@@ -19,7 +19,7 @@ writes_front a b c x y h k = (
   subst (λ (n : ℕ). RoseByOne n c.faults) h.1 k.3,
 )
 
--- a front of a text is one of a longer text
+-- a beginning of a text is one of a longer text
 pub front_of_more : (a b : SinkState) (x y : List ℕ) → IsFrontOf x y → WritesFront a b x → WritesFront a b y
 front_of_more a b x y more h = (
   h.0,

@@ -1,2 +1,2 @@
--- What it is to write a text to a sink.
+-- What writing a text to a sink means.
 pub mod Writing

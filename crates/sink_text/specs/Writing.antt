@@ -1,9 +1,9 @@
--- What it is to write a text to a sink. A write may take a part of what it is given, or fail.
+-- What writing a text to a sink means. A write may take a part of what it is given, or fail.
 use Rattle.std.specs.Prelude.{◌≡◌, ℕ, List, ◌++◌}
 use Rattle.feed_link.specs.Faults.{RoseByOne}
 use Rattle.feed_link.specs.Told.{SinkState, Adds}
 
--- a text is a front of another
+-- a text is a prefix of another
 abbrev pub IsFrontOf : List ℕ → List ℕ → Type 0
 IsFrontOf front whole = (rest : List ℕ) × (whole ≡ front ++ rest)
 
@@ -11,6 +11,6 @@ IsFrontOf front whole = (rest : List ℕ) × (whole ≡ front ++ rest)
 abbrev pub WritesAll : SinkState → SinkState → List ℕ → Type 0
 WritesAll out out_now text = Adds out.held out_now.held text × (out_now.faults ≡ out.faults)
 
--- one write of this text failed: a front of it is held, and the sink's count rose by one
+-- one write of this text failed: the sink holds a prefix of it, and its count rose by one
 abbrev pub WritesFront : SinkState → SinkState → List ℕ → Type 0
 WritesFront out out_now text = (front : List ℕ) × IsFrontOf front text × Adds out.held out_now.held front × RoseByOne out.faults out_now.faults

@@ -6,9 +6,9 @@ ghost use Rattle.sink_text.specs.Writing.{WritesAll, WritesFront};
 
 use feed_link::{Failed, Sink};
 
-/// Writes all of a text, in as many writes as the sink makes of it.
+/// Writes all of a text, in as many writes as the sink needs.
 ///
-/// `Failed` comes with the first write that fails, and that one isn't tried again: the sink then holds a front of the text.
+/// `Failed` comes with the first write that fails, which is not tried again. The sink then holds a prefix of the text.
 pub fn write_all<K: Sink>(out: &mut K, text: &[u8]) -> Result<(), Failed>
     ensures ok { OnOk result (WritesAll (K.state out.old) (K.state out.new) text.now) }
     ensures err { OnErr result (WritesFront (K.state out.old) (K.state out.new) text.now) }

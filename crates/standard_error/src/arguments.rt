@@ -4,7 +4,7 @@ use crate::commands::is_option;
 use std::alloc::{AllocError, Global};
 
 /// An argument, or an option with its value.
-#[derive(Clone, Copy, Debug, PartialEq, Eq)]
+#[derive(Clone, Copy)]
 pub enum Argument<'a> {
     Command(&'a str),
     Option { name: &'a str, value: &'a str },
@@ -13,7 +13,7 @@ pub enum Argument<'a> {
     Unknown(&'a str),
 }
 
-// How the next argument is read: as it is, as the value of an option, or as a command word, since `--` stood before it.
+// How to read the next argument: as it is, as the value of an option, or as a command word, since `--` stood before it.
 #[derive(Clone, Copy)]
 enum State<'a> {
     Open,
@@ -21,7 +21,7 @@ enum State<'a> {
     Words,
 }
 
-// An option with what stands as its value, which is none where it is empty or begins as an option.
+// An option with the next argument as its value; it has none where that is empty or begins as an option.
 fn with_value<'a>(name: &'a str, value: &'a str) -> Argument<'a> {
     if value.is_empty() || value.starts_with('-') {
         Argument::Bare(name)
@@ -30,7 +30,7 @@ fn with_value<'a>(name: &'a str, value: &'a str) -> Argument<'a> {
     }
 }
 
-// An argument that doesn't begin with two dashes.
+// An argument that does not begin with two dashes.
 fn single(argument: &str) -> Argument<'_> {
     if argument.starts_with('-') {
         Argument::Unknown(argument)
@@ -81,7 +81,7 @@ pub fn read_arguments<'a>(
     Ok(read)
 }
 
-/// The value of an option, where it was given.
+/// The value of an option, where the arguments give it.
 pub fn value_of<'a>(arguments: &[Argument<'a>], option: &str) -> Option<&'a str> {
     for argument in arguments {
         if let Argument::Option { name, value } = *argument {

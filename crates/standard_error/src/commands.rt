@@ -5,7 +5,7 @@ pub const OPTIONS: [&str; 9] = [
     "plan", "log", "station", "script", "journal", "during", "after", "seed", "limit",
 ];
 
-/// A command: its word, the options that it needs, and those that it may have besides.
+/// A command: its word, the options that it needs, and the others that it may have.
 #[derive(Clone, Copy)]
 pub struct Shape {
     pub word: &'static str,
@@ -41,7 +41,7 @@ const SHAPES: [Shape; 5] = [
     },
 ];
 
-// Whether a word stands in a row.
+// Whether a word is in a row.
 fn is_in(row: &[&str], word: &str) -> bool {
     for other in row {
         if *other == word {
@@ -56,7 +56,7 @@ pub fn is_option(name: &str) -> bool {
     is_in(&OPTIONS, name)
 }
 
-/// The command of this word.
+/// The command with this word.
 pub fn shape_of(word: &str) -> Option<Shape> {
     for shape in &SHAPES {
         if shape.word == word {
@@ -84,7 +84,7 @@ fn is_number(text: &str, least: u64, most: u64) -> bool {
     }
 }
 
-/// What an option wants, where this value isn't such.
+/// What an option requires, where this value does not satisfy it.
 pub fn wanted(option: &str, value: &str) -> Option<&'static str> {
     let (is_good, wants) = match option {
         "plan" => (is_in(&["dcf", "msf", "wwvb"], value), "dcf, msf or wwvb"),

@@ -2,10 +2,11 @@
 
 use crate::arguments::{Argument, value_of};
 use crate::commands::{OPTIONS, Shape, shape_of, wanted};
+use crate::texts::write_texts;
 use std::fmt;
 
 /// The first fault of the arguments.
-#[derive(Clone, Copy, Debug, PartialEq, Eq)]
+#[derive(Clone, Copy)]
 pub enum Fault<'a> {
     UnknownOption(&'a str),
     NoValue(&'a str),
@@ -27,7 +28,7 @@ pub enum Fault<'a> {
     },
 }
 
-// The first option that there is not, or that has no value.
+// The first option that does not exist, or that has no value.
 fn bad_option<'a>(arguments: &[Argument<'a>]) -> Option<Fault<'a>> {
     for argument in arguments {
         match *argument {
@@ -56,20 +57,23 @@ fn command<'a>(arguments: &[Argument<'a>]) -> Result<Shape, Fault<'a>> {
     shape_of(word).ok_or(Fault::UnknownCommand(word))
 }
 
-// How often an option was given, up to twice.
-fn is_given_twice(arguments: &[Argument<'_>], option: &str) -> bool {
-    let mut is_given = false;
+// Whether an argument gives an option.
+fn gives(argument: &Argument<'_>, option: &str) -> bool {
+    match *argument {
+        Argument::Option { name, .. } => name == option,
+        _ => false,
+    }
+}
+
+// How many times an option was given.
+fn times(arguments: &[Argument<'_>], option: &str) -> usize {
+    let mut count = 0usize;
     for argument in arguments {
-        if let Argument::Option { name, .. } = *argument {
-            if name == option {
-                if is_given {
-                    return true;
-                }
-                is_given = true;
-            }
+        if gives(argument, option) {
+            count = count.saturating_add(1);
         }
     }
-    false
+    count
 }
 
 // What is wrong with an option of a command.
@@ -79,7 +83,7 @@ fn option_fault<'a>(
     option: &'static str,
 ) -> Option<Fault<'a>> {
     let value = value_of(arguments, option)?;
-    if is_given_twice(arguments, option) {
+    if times(arguments, option) > 1 {
         return Some(Fault::Twice(option));
     }
     if !shape.has(option) {
@@ -92,7 +96,7 @@ fn option_fault<'a>(
     Some(Fault::Wants { option, wants })
 }
 
-// The first option that a command needs and has not.
+// The first option that a command needs and does not have.
 fn missing<'a>(arguments: &[Argument<'a>], shape: Shape) -> Option<Fault<'a>> {
     for option in shape.needs {
         if value_of(arguments, option).is_none() {
@@ -105,7 +109,7 @@ fn missing<'a>(arguments: &[Argument<'a>], shape: Shape) -> Option<Fault<'a>> {
     None
 }
 
-/// The first fault of the arguments, where one can be told.
+/// The first fault of the arguments, where one can be named.
 pub fn fault_of<'a>(arguments: &[Argument<'a>]) -> Option<Fault<'a>> {
     if let Some(fault) = bad_option(arguments) {
         return Some(fault);
@@ -122,20 +126,27 @@ pub fn fault_of<'a>(arguments: &[Argument<'a>]) -> Option<Fault<'a>> {
     missing(arguments, shape)
 }
 
-impl fmt::Display for Fault<'_> {
-    fn fmt<W: fmt::Write>(&self, f: &mut fmt::Formatter<W>) -> fmt::Result {
+impl Fault<'_> {
+    /// Writes the sentence on the fault, without a line feed.
+    pub fn write<W: fmt::Write>(&self, f: &mut fmt::Formatter<W>) -> fmt::Result {
         match *self {
-            Fault::UnknownOption(name) => write!(f, "unknown option {name}"),
-            Fault::NoValue(name) => write!(f, "--{name} has no value"),
-            Fault::NoCommand => write!(f, "no command"),
-            Fault::UnknownCommand(word) => write!(f, "unknown command {word}"),
-            Fault::TwoCommands(first, second) => { write!(f, "two commands, {first} and {second}") }
-            Fault::Twice(option) => write!(f, "--{option} is given twice"),
-            Fault::Foreign { command, option } => {
-                write!(f, "{command} has no option --{option}")
+            Fault::UnknownOption(name) => write_texts(f, "unknown option ", name, ""),
+            Fault::NoValue(name) => write_texts(f, "--", name, " has no value"),
+            Fault::NoCommand => f.write_str("no command"),
+            Fault::UnknownCommand(word) => write_texts(f, "unknown command ", word, ""),
+            Fault::TwoCommands(first, second) => {
+                f.write_str("two commands, ")?;
+                write_texts(f, first, " and ", second)
             }
-            Fault::Missing { command, option } => write!(f, "{command} needs --{option}"),
-            Fault::Wants { option, wants } => write!(f, "--{option} wants {wants}"),
+            Fault::Twice(option) => write_texts(f, "--", option, " is given twice"),
+            Fault::Foreign { command, option } => {
+                write_texts(f, command, " has no option --", option)
+            }
+            Fault::Missing { command, option } => write_texts(f, command, " needs --", option),
+            Fault::Wants { option, wants } => {
+                f.write_str("--")?;
+                write_texts(f, option, " wants ", wants)
+            }
         }
     }
 }

@@ -1,20 +1,24 @@
-//! What a person reads on standard error after a command has ended: what is wrong, where that can be told, and the help. No proof
-//! speaks of these texts, and nothing else depends on them.
+//! What a person reads on standard error after a command has ended: what is wrong, where that can be named, and the help. No
+//! proof speaks of these texts, and nothing else depends on them.
 #![tactic(auto)]
 
 mod arguments;
 mod commands;
 mod fault;
+mod fault_line;
 mod message;
 mod outcome;
 mod texts;
 mod watched;
+mod widths;
 
 pub use arguments::{Argument, read_arguments, value_of};
-pub use message::{Place, Report};
-pub use outcome::{Subject, subject_of};
-pub use texts::NO_MEMORY_LINE;
+pub use fault_line::toml_line;
+pub use message::{Detail, Place, Report};
+pub use outcome::{DONE_LINE, Kind, Subject, TOML_LINE, subject_of};
+pub use texts::{NO_MEMORY_LINE, NO_MINUTE};
 pub use watched::Watched;
+pub use widths::{SAMPLE_BYTES, bad_line_text, no_minute_text};
 
 #[cfg(test)]
 mod tests;

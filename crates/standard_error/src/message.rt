@@ -1,11 +1,13 @@
-//! What is said of a run that has ended.
+//! The message about a run that has ended.
 
 use crate::arguments::{Argument, value_of};
 use crate::fault::fault_of;
-use crate::outcome::{Outcome, StationFault, Subject, outcome_of};
+use crate::outcome::{
+    Kind, Subject, bad_line_of, station_fault_of, status_of, subject_of, word_at,
+};
 use crate::texts::{
     COMMAND_LINES, FULL, HELP, JOURNAL_LINE, LEAP_LINE, LINK_FAILED, LOG_LINE, NO_MEMORY,
-    NO_MINUTE, NO_OUTPUT, NO_TOML, NOT_READ, SCRIPT_LINE, VERSION, most_of, range_of,
+    NO_OUTPUT, NO_TOML, NOT_READ, SCRIPT_LINE, VERSION, most_of, range_of, write_texts,
 };
 use feed_link::Refusal;
 use std::fmt;
@@ -17,44 +19,61 @@ pub struct Place {
     pub is_leap_file: bool,
 }
 
-/// A run that has ended. Its `Display` is what is said of it: whole lines, or nothing. It owns its texts, since the borrow checker does
-/// not cover a struct whose parts are lent for different times.
+/// What the files of a run say beside its last line, where they can be read once more.
+#[derive(Drop)]
+pub enum Detail {
+    Nothing,
+    /// The feed or the link that the last line names.
+    Place(Place),
+    /// The line in which the station file stops being TOML, from 1.
+    TomlLine(usize),
+    /// Why a log gave no minute, or why its line is not valid.
+    Hint(&'static str),
+}
+
+/// A run that has ended. Its `Display` is the message about it: whole lines, or nothing. It owns its texts, since the borrow
+/// checker does not cover a struct whose parts are lent for different times.
 #[derive(Drop)]
 pub struct Report<'a> {
     /// What follows the program's name, where that is text.
     pub arguments: Option<Vec<Argument<'a>>>,
-    /// The last line that was written whole, without its line feed; else it is empty.
+    /// The last line that was written whole, without its line feed. It is empty where there is none.
     pub last_line: String,
-    /// Whether a minute was written.
-    pub has_minute: bool,
     /// Why the last opening that failed was refused.
     pub refusal: Option<Refusal>,
-    /// What the last line names, where the station file says more of it.
-    pub place: Option<Place>,
+    pub detail: Detail,
 }
 
-// Whether help is asked for.
+// Whether an argument asks for help.
+fn is_help(argument: &Argument<'_>) -> bool {
+    match *argument {
+        Argument::Unknown(option) => option == "--help" || option == "-h",
+        Argument::Command(word) => word == "help",
+        Argument::Bare(_) | Argument::Option { .. } => false,
+    }
+}
+
+// Whether the arguments ask for help.
 fn asks_help(arguments: &[Argument<'_>]) -> bool {
     for argument in arguments {
-        match *argument {
-            Argument::Unknown("--help" | "-h") | Argument::Command("help") => return true,
-            _ => {}
+        if is_help(argument) {
+            return true;
         }
     }
     arguments.is_empty()
 }
 
-// Whether the version is asked for.
+// Whether the arguments ask for the version.
 fn asks_version(arguments: &[Argument<'_>]) -> bool {
     for argument in arguments {
-        if *argument == Argument::Unknown("--version") {
+        if let Argument::Unknown("--version") = *argument {
             return true;
         }
     }
     false
 }
 
-// What is said of arguments that ask for no command.
+// The message about arguments that ask for no command.
 fn write_usage<W: fmt::Write>(
     arguments: &[Argument<'_>],
     f: &mut fmt::Formatter<W>,
@@ -66,12 +85,14 @@ fn write_usage<W: fmt::Write>(
         return f.write_str(VERSION);
     }
     if let Some(fault) = fault_of(arguments) {
-        writeln!(f, "radio_ntpd: {fault}")?;
+        f.write_str("radio_ntpd: ")?;
+        fault.write(f)?;
+        f.write_str("\n")?;
     }
     f.write_str(COMMAND_LINES)
 }
 
-// The table and the name of a key of a station file: those of `radio.0.plan` are `radio` and `plan`, and `bound` stands in none.
+// The table and the name of a key of a station file: those of `radio.0.plan` are `radio` and `plan`, and `bound` has no table.
 fn key_parts(key: &str) -> (&str, &str) {
     match key.split_once('.') {
         Some((table, rest)) => match rest.split_once('.') {
@@ -82,42 +103,89 @@ fn key_parts(key: &str) -> (&str, &str) {
     }
 }
 
-// What is said of a station file that is refused.
-fn write_station<W: fmt::Write>(fault: StationFault<'_>, f: &mut fmt::Formatter<W>) -> fmt::Result {
-    match fault {
-        StationFault::Toml => f.write_str(NO_TOML),
-        StationFault::Unknown(key) => write!(f, "there is no key {key}"),
-        StationFault::Missing(key) => write!(f, "the key {key} is missing"),
-        StationFault::Many { key, count } => {
-            let most = most_of(key).unwrap_or("fewer");
-            write!(f, "{key} counts {count}, and there may be {most}")
-        }
-        StationFault::Range(key) => {
-            let (table, name) = key_parts(key);
-            let wants = range_of(table, name).unwrap_or("another value");
-            write!(f, "{key} wants {wants}")
-        }
+// What a key of a station file requires.
+fn range_text(key: &str) -> &'static str {
+    let (table, name) = key_parts(key);
+    range_of(table, name).unwrap_or("another value")
+}
+
+// The message about an array of a station file that is too long: its name and how many it has.
+fn write_many<W: fmt::Write>(many: &str, f: &mut fmt::Formatter<W>) -> fmt::Result {
+    let key = word_at(many, 0);
+    write_texts(f, key, " counts ", word_at(many, 1))?;
+    write_texts(
+        f,
+        ", and there may be ",
+        most_of(key).unwrap_or("fewer"),
+        "",
+    )
+}
+
+// Why an opening was refused where a right is missing, of a file or of a link.
+fn no_right_text(kind: Kind) -> &'static str {
+    match kind {
+        Kind::Link => "a port below 1024 needs a right",
+        _ => "there is no right to read it",
     }
 }
 
 // Why an opening was refused, of a file or of a link.
-fn refusal_text(refusal: Option<Refusal>, subject: Subject) -> &'static str {
-    match (refusal, subject) {
-        (Some(Refusal::NotThere), _) => "there is no such file",
-        (Some(Refusal::Taken), _) => "another program or link has the port",
-        (Some(Refusal::NoRight), Subject::Link(_)) => "a port below 1024 needs a right",
-        (Some(Refusal::NoRight), _) => "there is no right to read it",
-        (Some(Refusal::Other), _) | (None, _) => "the host refuses it",
+fn refusal_text(refusal: Option<Refusal>, kind: Kind) -> &'static str {
+    match refusal {
+        Some(Refusal::NotThere) => "there is no such file",
+        Some(Refusal::Taken) => "another program or link has the port",
+        Some(Refusal::NoRight) => no_right_text(kind),
+        Some(Refusal::Other) | None => "the host refuses it",
     }
 }
 
-// The most bytes of a file.
-fn limit_text(subject: Subject, is_leap_file: bool) -> &'static str {
-    match subject {
-        Subject::Station => "65536",
-        Subject::Script => "2^26",
-        Subject::Feed(_) if is_leap_file => "65536",
-        Subject::Journal | Subject::Feed(_) | Subject::Link(_) => "2^30",
+// The most bytes of a leap second file.
+const LEAP_LIMIT: &str = "65536";
+
+// The most bytes of a file that is no leap second file.
+fn limit_text(kind: Kind) -> &'static str {
+    match kind {
+        Kind::Station => "65536",
+        Kind::Script => "2^26",
+        Kind::Journal | Kind::Feed | Kind::Link => "2^30",
+    }
+}
+
+// What a line of a file looks like that is no leap second file.
+fn line_text(kind: Kind) -> &'static str {
+    match kind {
+        Kind::Script => SCRIPT_LINE,
+        Kind::Journal => JOURNAL_LINE,
+        Kind::Feed | Kind::Link | Kind::Station => LOG_LINE,
+    }
+}
+
+// The option that names a file. A log is the one feed of `decode`.
+fn option_of(kind: Kind) -> &'static str {
+    match kind {
+        Kind::Station => "station",
+        Kind::Script => "script",
+        Kind::Journal => "journal",
+        Kind::Feed | Kind::Link => "log",
+    }
+}
+
+// What a file or a link is called, before its number.
+fn kind_text(kind: Kind) -> &'static str {
+    match kind {
+        Kind::Station => "the station file",
+        Kind::Script => "the script",
+        Kind::Journal => "the journal",
+        Kind::Feed => "feed ",
+        Kind::Link => "link ",
+    }
+}
+
+// The number of a feed or a link; the others have none.
+fn number_text(subject: Subject<'_>) -> &str {
+    match subject.kind {
+        Kind::Feed | Kind::Link => subject.number,
+        Kind::Station | Kind::Script | Kind::Journal => "",
     }
 }
 
@@ -132,119 +200,143 @@ impl<'a> Report<'a> {
 
     // Whether the feed that the last line names is a leap second file.
     fn is_leap_file(&self) -> bool {
-        match &self.place {
-            Some(place) => place.is_leap_file,
-            None => false,
+        match &self.detail {
+            Detail::Place(place) => place.is_leap_file,
+            _ => false,
+        }
+    }
+
+    // The most bytes of a file.
+    fn limit_text(&self, kind: Kind) -> &'static str {
+        if self.is_leap_file() {
+            LEAP_LIMIT
+        } else {
+            limit_text(kind)
+        }
+    }
+
+    // Why a line is not valid, or else what a line looks like.
+    fn bad_line_text(&self, kind: Kind) -> &'static str {
+        match self.detail {
+            Detail::Hint(why) => why,
+            _ if self.is_leap_file() => LEAP_LINE,
+            _ => line_text(kind),
         }
     }
 
     // Writes the value of an option, where it has one.
     fn write_value<W: fmt::Write>(&self, option: &str, f: &mut fmt::Formatter<W>) -> fmt::Result {
         match self.value(option) {
-            Some(name) => write!(f, " ({name})"),
+            Some(name) => write_texts(f, " (", name, ")"),
             None => Ok(()),
-        }
-    }
-
-    // Writes the name of a file, the address of a server or the port of a link, where it is known.
-    fn write_name<W: fmt::Write>(
-        &self,
-        subject: Subject,
-        f: &mut fmt::Formatter<W>,
-    ) -> fmt::Result {
-        match subject {
-            Subject::Station => self.write_value("station", f),
-            Subject::Script => self.write_value("script", f),
-            Subject::Journal => self.write_value("journal", f),
-            Subject::Feed(_) | Subject::Link(_) => match &self.place {
-                Some(place) => write!(f, " ({})", place.name.as_str()),
-                None => self.write_value("log", f),
-            },
         }
     }
 
     // What the last line names, with its name where that is known.
     fn write_subject<W: fmt::Write>(
         &self,
-        subject: Subject,
+        subject: Subject<'_>,
         f: &mut fmt::Formatter<W>,
     ) -> fmt::Result {
-        match subject {
-            Subject::Station => f.write_str("the station file")?,
-            Subject::Script => f.write_str("the script")?,
-            Subject::Journal => f.write_str("the journal")?,
-            Subject::Feed(number) => write!(f, "feed {number}")?,
-            Subject::Link(number) => write!(f, "link {number}")?,
-        }
-        self.write_name(subject, f)
-    }
-
-    // What a line of a file looks like.
-    fn line_text(&self, subject: Subject) -> &'static str {
-        match subject {
-            Subject::Feed(_) if self.is_leap_file() => LEAP_LINE,
-            Subject::Script => SCRIPT_LINE,
-            Subject::Journal => JOURNAL_LINE,
-            Subject::Feed(_) | Subject::Link(_) | Subject::Station => LOG_LINE,
+        write_texts(f, kind_text(subject.kind), number_text(subject), "")?;
+        match &self.detail {
+            Detail::Place(place) => write_texts(f, " (", place.name.as_str(), ")"),
+            _ => self.write_value(option_of(subject.kind), f),
         }
     }
 
-    // Whether a log was decoded that gave no minute.
-    fn is_without_minute(&self) -> bool {
-        !self.has_minute && self.value("plan").is_some()
+    // What is wrong with a line of the station file, or with all of it.
+    fn write_no_toml<W: fmt::Write>(&self, f: &mut fmt::Formatter<W>) -> fmt::Result {
+        match self.detail {
+            Detail::TomlLine(line) => write!(f, "line {line}{NO_TOML}"),
+            _ => write_texts(f, "it", NO_TOML, ""),
+        }
     }
 
-    // Writes a sentence on a subject: what stands before it, and why.
-    fn write_about<W: fmt::Write>(
-        &self,
-        before: &str,
-        subject: Subject,
-        why: &str,
-        f: &mut fmt::Formatter<W>,
-    ) -> fmt::Result {
-        write!(f, "radio_ntpd: {before} ")?;
-        self.write_subject(subject, f)?;
-        writeln!(f, ": {why}")
+    // What is wrong with a station file, and with which key.
+    fn write_fault<W: fmt::Write>(&self, f: &mut fmt::Formatter<W>) -> fmt::Result {
+        let (fault, key) = station_fault_of(self.last_line.as_str());
+        match fault {
+            "unknown" => write_texts(f, "there is no key ", key, ""),
+            "missing" => write_texts(f, "the key ", key, " is missing"),
+            "range" => write_texts(f, key, " wants ", range_text(key)),
+            "many" => write_many(key, f),
+            _ => self.write_no_toml(f),
+        }
     }
 
-    // A file that is too long.
-    fn write_long<W: fmt::Write>(
-        &self,
-        subject: Subject,
-        f: &mut fmt::Formatter<W>,
-    ) -> fmt::Result {
-        let limit = limit_text(subject, self.is_leap_file());
-        f.write_str("radio_ntpd: ")?;
-        self.write_subject(subject, f)?;
-        writeln!(f, " has more than {limit} bytes")
-    }
-
-    // A station file that is refused.
-    fn write_refused<W: fmt::Write>(
-        &self,
-        fault: StationFault<'_>,
-        f: &mut fmt::Formatter<W>,
-    ) -> fmt::Result {
-        f.write_str("radio_ntpd: ")?;
-        self.write_subject(Subject::Station, f)?;
+    // The message about a station file that is refused.
+    fn write_refused<W: fmt::Write>(&self, f: &mut fmt::Formatter<W>) -> fmt::Result {
+        f.write_str("radio_ntpd: the station file")?;
+        self.write_value("station", f)?;
         f.write_str(": ")?;
-        write_station(fault, f)?;
+        self.write_fault(f)?;
         f.write_str("\n")
     }
 
-    // A line that is none.
-    fn write_bad_line<W: fmt::Write>(
+    // Writes a sentence on a subject: the text before it, and two after it.
+    fn write_about<W: fmt::Write>(
         &self,
-        subject: Subject,
-        line: &str,
+        before: &str,
+        subject: Subject<'_>,
+        after: &str,
+        why: &str,
         f: &mut fmt::Formatter<W>,
     ) -> fmt::Result {
-        write!(f, "radio_ntpd: line {line} of ")?;
+        write_texts(f, "radio_ntpd: ", before, "")?;
         self.write_subject(subject, f)?;
-        writeln!(f, " is bad: {}", self.line_text(subject))
+        write_texts(f, after, why, "\n")
     }
 
-    // Arguments that ask for no command.
+    // The message about a line that is not valid.
+    fn write_bad_line<W: fmt::Write>(
+        &self,
+        subject: Subject<'_>,
+        f: &mut fmt::Formatter<W>,
+    ) -> fmt::Result {
+        let why = self.bad_line_text(subject.kind);
+        write_texts(
+            f,
+            "radio_ntpd: line ",
+            bad_line_of(self.last_line.as_str()),
+            " of ",
+        )?;
+        self.write_subject(subject, f)?;
+        write_texts(f, " is bad: ", why, "\n")
+    }
+
+    // The message about a file that is too long.
+    fn write_long<W: fmt::Write>(
+        &self,
+        subject: Subject<'_>,
+        f: &mut fmt::Formatter<W>,
+    ) -> fmt::Result {
+        f.write_str("radio_ntpd: ")?;
+        self.write_subject(subject, f)?;
+        let limit = self.limit_text(subject.kind);
+        write_texts(f, " has more than ", limit, " bytes\n")
+    }
+
+    // The message about a subject at fault: 2, 4, 5, 7 or 10 is the status.
+    fn write_at_fault<W: fmt::Write>(
+        &self,
+        status: u8,
+        subject: Subject<'_>,
+        f: &mut fmt::Formatter<W>,
+    ) -> fmt::Result {
+        match status {
+            2 => {
+                let why = refusal_text(self.refusal, subject.kind);
+                self.write_about("cannot open ", subject, ": ", why, f)
+            }
+            4 => self.write_about("cannot read ", subject, ": ", NOT_READ, f),
+            5 => self.write_bad_line(subject, f),
+            7 => self.write_about("the host failed ", subject, ": ", LINK_FAILED, f),
+            _ => self.write_long(subject, f),
+        }
+    }
+
+    // The message about arguments that ask for no command.
     fn write_usage<W: fmt::Write>(&self, f: &mut fmt::Formatter<W>) -> fmt::Result {
         match &self.arguments {
             Some(arguments) => write_usage(arguments.as_slice(), f),
@@ -254,28 +346,40 @@ impl<'a> Report<'a> {
             }
         }
     }
+
+    // The message about a run that was done.
+    fn write_done<W: fmt::Write>(&self, f: &mut fmt::Formatter<W>) -> fmt::Result {
+        match self.detail {
+            Detail::Hint(why) => {
+                write_texts(f, "radio_ntpd: the log gave no minute: ", why, "\n")
+            }
+            _ => Ok(()),
+        }
+    }
+
+    // The message about a run whose last line names no file and no link.
+    fn write_plain<W: fmt::Write>(&self, status: u8, f: &mut fmt::Formatter<W>) -> fmt::Result {
+        match status {
+            0 => self.write_done(f),
+            1 => self.write_usage(f),
+            3 => self.write_refused(f),
+            6 => {
+                write_texts(f, "radio_ntpd: ", FULL, ": ")?;
+                write_texts(f, word_at(self.last_line.as_str(), 3), "\n", "")
+            }
+            9 => write_texts(f, "radio_ntpd: ", NO_MEMORY, "\n"),
+            _ => write_texts(f, "radio_ntpd: ", NO_OUTPUT, "\n"),
+        }
+    }
 }
 
 impl fmt::Display for Report<'_> {
     fn fmt<W: fmt::Write>(&self, f: &mut fmt::Formatter<W>) -> fmt::Result {
-        match outcome_of(self.last_line.as_str()) {
-            Outcome::Done if self.is_without_minute() => writeln!(f, "radio_ntpd: {NO_MINUTE}"),
-            Outcome::Done => Ok(()),
-            Outcome::Usage => self.write_usage(f),
-            Outcome::NotOpened(subject) => {
-                let why = refusal_text(self.refusal, subject);
-                self.write_about("cannot open", subject, why, f)
-            }
-            Outcome::Station(fault) => self.write_refused(fault, f),
-            Outcome::NotRead(subject) => self.write_about("cannot read", subject, NOT_READ, f),
-            Outcome::BadLine { subject, line } => self.write_bad_line(subject, line, f),
-            Outcome::Full(limit) => writeln!(f, "radio_ntpd: {FULL}: {limit}"),
-            Outcome::LinkFailed(subject) => {
-                self.write_about("the host failed", subject, LINK_FAILED, f)
-            }
-            Outcome::NotWritten => writeln!(f, "radio_ntpd: {NO_OUTPUT}"),
-            Outcome::Memory => writeln!(f, "radio_ntpd: {NO_MEMORY}"),
-            Outcome::Long(subject) => self.write_long(subject, f),
+        let line = self.last_line.as_str();
+        let status = status_of(line);
+        match subject_of(line) {
+            Some(subject) => self.write_at_fault(status, subject, f),
+            None => self.write_plain(status, f),
         }
     }
 }

@@ -1,162 +1,112 @@
 //! How a run ended, as the last line of its output says.
 
-use std::str::SplitWhitespace;
+/// The status of a run whose status line was not written whole.
+pub const NOT_WRITTEN: u8 = 8;
 
-/// A file or a link that a status line names.
-#[derive(Clone, Copy, Debug, PartialEq, Eq)]
-pub enum Subject {
+/// The last line of a run that was done.
+pub const DONE_LINE: &str = "status 0";
+
+/// The last line of a run that was refused since its station file is not TOML.
+pub const TOML_LINE: &str = "status 3 station toml";
+
+/// What a status line can name.
+#[derive(Clone, Copy)]
+pub enum Kind {
     Station,
     Script,
     Journal,
-    /// From 0: the radios in order, then the servers, then the leap second file.
-    Feed(u32),
-    /// From 0.
-    Link(u32),
+    Feed,
+    Link,
 }
 
-/// What is wrong with a station file.
-#[derive(Clone, Copy, Debug, PartialEq, Eq)]
-pub enum StationFault<'a> {
-    Toml,
-    Unknown(&'a str),
-    Missing(&'a str),
-    Range(&'a str),
-    Many { key: &'a str, count: &'a str },
-}
-
-/// How a run ended.
-#[derive(Clone, Copy, Debug, PartialEq, Eq)]
-pub enum Outcome<'a> {
-    Done,
-    Usage,
-    NotOpened(Subject),
-    Station(StationFault<'a>),
-    NotRead(Subject),
-    BadLine { subject: Subject, line: &'a str },
-    Full(&'a str),
-    LinkFailed(Subject),
-    Memory,
-    Long(Subject),
-    /// No status line was written whole.
-    NotWritten,
-}
-
-// A subject of one word, or of two.
-fn subject_named(word: &str, number: &str) -> Option<Subject> {
-    match word {
-        "station" => Some(Subject::Station),
-        "script" => Some(Subject::Script),
-        "journal" => Some(Subject::Journal),
-        "feed" => Some(Subject::Feed(number.parse().ok()?)),
-        "link" => Some(Subject::Link(number.parse().ok()?)),
-        _ => None,
-    }
-}
-
-// The first six words of a line; those that it has not are empty.
+/// A file or a link that a status line names.
 #[derive(Clone, Copy)]
-struct Words<'a> {
-    first: &'a str,
-    second: &'a str,
-    third: &'a str,
-    fourth: &'a str,
-    fifth: &'a str,
-    sixth: &'a str,
+pub struct Subject<'a> {
+    pub kind: Kind,
+    /// The place of a feed or a link, from 0. Feeds are the radios in order, then the servers, then the leap second file. It is not
+    /// used for the others.
+    pub number: &'a str,
 }
 
-// A bad line: of a feed with its number, or of the one script or journal.
-fn bad_line<'a>(words: Words<'a>) -> Option<Outcome<'a>> {
-    if words.third == "line" {
-        let number = words.fourth.parse().ok()?;
-        return Some(Outcome::BadLine {
-            subject: Subject::Feed(number),
-            line: words.fifth,
-        });
+impl Subject<'_> {
+    /// The place of a feed or a link, from 0.
+    pub fn place(&self) -> Option<usize> {
+        self.number.parse().ok()
     }
-    let subject = subject_named(words.third, "")?;
-    Some(Outcome::BadLine {
-        subject,
-        line: words.fourth,
+}
+
+// What each word of a status line names. A bad line with a number before its own is one of a feed.
+const KINDS: [(&str, Kind); 6] = [
+    ("station", Kind::Station),
+    ("script", Kind::Script),
+    ("journal", Kind::Journal),
+    ("feed", Kind::Feed),
+    ("line", Kind::Feed),
+    ("link", Kind::Link),
+];
+
+/// The word at a place of a line, from 0. It is empty where there are fewer.
+pub fn word_at(line: &str, place: usize) -> &str {
+    line.split_whitespace().nth(place).unwrap_or("")
+}
+
+/// The status that the last line of an output reports, 0 to 10. The line is empty where none was written whole.
+pub fn status_of(line: &str) -> u8 {
+    if word_at(line, 0) == "status" {
+        word_at(line, 1).parse().unwrap_or(NOT_WRITTEN)
+    } else {
+        NOT_WRITTEN
+    }
+}
+
+// What a word names.
+fn kind_named(word: &str) -> Option<Kind> {
+    for (name, kind) in &KINDS {
+        if *name == word {
+            return Some(*kind);
+        }
+    }
+    None
+}
+
+// The file or the link whose word is at a place of a line.
+fn subject_at(line: &str, place: usize) -> Option<Subject<'_>> {
+    let kind = kind_named(word_at(line, place))?;
+    Some(Subject {
+        kind,
+        number: word_at(line, place.saturating_add(1)),
     })
 }
 
-// What is wrong with a station file. A key may have spaces.
-fn station_fault<'a>(line: &'a str, words: Words<'a>) -> Option<StationFault<'a>> {
-    if let Some(key) = line.strip_prefix("status 3 station unknown ") {
-        return Some(StationFault::Unknown(key));
-    }
-    if let Some(key) = line.strip_prefix("status 3 station missing ") {
-        return Some(StationFault::Missing(key));
-    }
-    if let Some(key) = line.strip_prefix("status 3 station range ") {
-        return Some(StationFault::Range(key));
-    }
-    match words.fourth {
-        "toml" => Some(StationFault::Toml),
-        "many" => Some(StationFault::Many {
-            key: words.fifth,
-            count: words.sixth,
-        }),
-        _ => None,
-    }
-}
-
-// The next word, or none.
-fn next_word<'a>(left: &mut SplitWhitespace<'a>) -> &'a str {
-    left.next().unwrap_or("")
-}
-
-fn words_of<'a>(line: &'a str) -> Words<'a> {
-    let mut left = line.split_whitespace();
-    let first = next_word(&mut left);
-    let second = next_word(&mut left);
-    let third = next_word(&mut left);
-    let fourth = next_word(&mut left);
-    let fifth = next_word(&mut left);
-    let sixth = next_word(&mut left);
-    Words {
-        first,
-        second,
-        third,
-        fourth,
-        fifth,
-        sixth,
-    }
-}
-
-// What a status line of these words says.
-fn said<'a>(line: &'a str, words: Words<'a>) -> Option<Outcome<'a>> {
-    if words.first != "status" {
-        return None;
-    }
-    match words.second {
-        "0" => Some(Outcome::Done),
-        "1" => Some(Outcome::Usage),
-        "2" => Some(Outcome::NotOpened(subject_named(words.fourth, words.fifth)?)),
-        "3" => Some(Outcome::Station(station_fault(line, words)?)),
-        "4" => Some(Outcome::NotRead(subject_named(words.fourth, words.fifth)?)),
-        "5" => bad_line(words),
-        "6" => Some(Outcome::Full(words.fourth)),
-        "7" => Some(Outcome::LinkFailed(subject_named(words.third, words.fourth)?)),
-        "9" => Some(Outcome::Memory),
-        "10" => Some(Outcome::Long(subject_named(words.fourth, words.fifth)?)),
-        _ => None,
-    }
-}
-
-/// How a run ended whose last line is this one, without its line feed. It is empty where none was written whole.
-pub fn outcome_of(line: &str) -> Outcome<'_> {
-    said(line, words_of(line)).unwrap_or(Outcome::NotWritten)
-}
-
 /// The file or the link that a last line names.
-pub fn subject_of(line: &str) -> Option<Subject> {
-    match outcome_of(line) {
-        Outcome::NotOpened(subject)
-        | Outcome::NotRead(subject)
-        | Outcome::BadLine { subject, .. }
-        | Outcome::LinkFailed(subject)
-        | Outcome::Long(subject) => Some(subject),
+pub fn subject_of(line: &str) -> Option<Subject<'_>> {
+    match status_of(line) {
+        2 | 4 | 10 => subject_at(line, 3),
+        5 | 7 => subject_at(line, 2),
         _ => None,
     }
+}
+
+/// The number of the bad line that a last line names: after the number of a feed, or after the one script or journal.
+pub fn bad_line_of(line: &str) -> &str {
+    if word_at(line, 2) == "line" {
+        word_at(line, 4)
+    } else {
+        word_at(line, 3)
+    }
+}
+
+// What follows the first word of a line.
+fn after_word(line: &str) -> &str {
+    match line.split_once(' ') {
+        Some((_, rest)) => rest,
+        None => "",
+    }
+}
+
+/// What is wrong with a station file, and the key at fault with what follows it: the rest of `status 3 station`. A key may have
+/// spaces.
+pub fn station_fault_of(line: &str) -> (&str, &str) {
+    let rest = after_word(after_word(after_word(line)));
+    rest.split_once(' ').unwrap_or((rest, ""))
 }

@@ -1,5 +1,7 @@
 //! The texts, in one table. `docs/STANDARD_ERROR.md` has the same.
 
+use std::fmt;
+
 /// The whole help: one screen.
 pub const HELP: &str = "radio_ntpd: a stratum 1 NTP server; its reference clocks are longwave radios
 
@@ -42,22 +44,46 @@ pub const VERSION: &str = "radio_ntpd 0.3.0
 proved and built with rattle-kit-13f logic dac8208d650f15bf
 ";
 
-/// Where a log gave no minute.
-pub const NO_MINUTE: &str =
-    "the log gave no minute: it has no marks of this plan, or its widths are not in microseconds";
+/// Where a log gave no minute and was a pipe, which is not read again.
+pub const NO_MINUTE: &str = "it has no marks of this plan, or its widths are not in microseconds";
 
-/// Where the output takes no more.
+/// Where a log gave no minute, and its widths are below those of any mark.
+pub const IN_MILLISECONDS: &str = "widths look like milliseconds; the log wants microseconds";
+
+/// Where a line of a log is not valid, and the widths are above those of any mark.
+pub const IN_NANOSECONDS: &str = "widths look like nanoseconds; the log wants microseconds";
+
+/// Where a log gave no minute, and is shorter than one.
+pub const SHORT_LOG: &str = "it has fewer marks than a minute has";
+
+/// Where a log gave no minute, and its marks are those of DCF77.
+pub const LIKE_DCF: &str = "its marks look like those of --plan dcf";
+
+/// Where a log gave no minute, and its marks are those of MSF.
+pub const LIKE_MSF: &str = "its marks look like those of --plan msf";
+
+/// Where a log gave no minute, and its marks are those of WWVB.
+pub const LIKE_WWVB: &str = "its marks look like those of --plan wwvb";
+
+/// Where a log gave no minute, and its marks are those of the plan.
+pub const NOT_WHOLE: &str = "its marks look like those of this plan, but no minute has them all";
+
+/// Where a log gave no minute, and its marks are those of no plan.
+pub const NO_MARKS: &str =
+    "its widths are those of no plan; it is noise, or high where it should be low";
+
+/// Where the output accepts no more.
 pub const NO_OUTPUT: &str = "standard output took no more: it is closed, or its disk is full";
 
-/// Where no memory is found.
+/// Where there is not enough memory.
 pub const NO_MEMORY: &str = "no memory was found, and nothing was done";
 
-/// Where no memory is found for what is to be said.
+/// Where there is not enough memory for the message.
 pub const NO_MEMORY_LINE: &str = "radio_ntpd: no memory was found to say more\n";
 
-/// Where the station file is no TOML.
+/// Where the station file is no TOML, after `it` or the number of the line.
 pub const NO_TOML: &str =
-    "it is not TOML, or not UTF-8: a quote is not closed, or a value is missing";
+    " is not TOML, or not UTF-8: a quote is not closed, or a value is missing";
 
 /// Why a read fails.
 pub const NOT_READ: &str = "it is a folder, or its disk failed";
@@ -84,15 +110,15 @@ pub const SCRIPT_LINE: &str =
 pub const JOURNAL_LINE: &str =
     "docs/FORMATS.md has the lines of a journal; it may be of another station, or cut off";
 
-/// What a key of a station file wants.
+/// What a key of a station file requires.
 pub struct Range {
-    /// The table in which the key stands, or nothing.
+    /// The table of the key, or nothing.
     pub table: &'static str,
     pub name: &'static str,
     pub wants: &'static str,
 }
 
-/// What each key of a station file wants.
+/// What each key of a station file requires.
 pub const RANGES: [Range; 20] = [
     Range {
         table: "",
@@ -214,7 +240,7 @@ impl Range {
     }
 }
 
-/// What the key of this name wants, in this table or in none.
+/// What the key with this name requires, in this table or in none.
 pub fn range_of(table: &str, name: &str) -> Option<&'static str> {
     for range in &RANGES {
         if range.is_of(table, name) {
@@ -232,4 +258,16 @@ pub fn most_of(key: &str) -> Option<&'static str> {
         }
     }
     None
+}
+
+/// Writes three texts, one after the other. A call is proved in less time than a `write!`.
+pub fn write_texts<W: fmt::Write>(
+    f: &mut fmt::Formatter<W>,
+    first: &str,
+    second: &str,
+    third: &str,
+) -> fmt::Result {
+    f.write_str(first)?;
+    f.write_str(second)?;
+    f.write_str(third)
 }

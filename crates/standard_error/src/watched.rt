@@ -6,14 +6,14 @@ use std::io::{self, Write};
 // The most bytes of a line that are kept.
 const ROOM: usize = 512;
 
-/// A writer that keeps the last line of what it took, and whether a line says a minute.
+/// A writer that keeps the last line of what it took, and whether any line is a minute.
 #[derive(Drop)]
 pub struct Watched<W: Write + Drop> {
     inner: W,
     kept: LastLine,
 }
 
-// What is kept of a text: its last line, whether that is whole, and whether a line said a minute.
+// What is kept of a text: its last line, whether that is whole, and whether any line was a minute.
 #[derive(Drop)]
 struct LastLine {
     bytes: [u8; ROOM],
@@ -22,7 +22,7 @@ struct LastLine {
     has_minute: bool,
 }
 
-// Whether a line of a journal says a minute that was read whole.
+// Whether a line of a journal is a minute that was read whole.
 fn says_minute(bytes: &[u8]) -> bool {
     bytes.windows(6).any(|six| six == b" lone ".as_slice())
         || bytes.windows(9).any(|nine| nine == b" verdict ".as_slice())
@@ -56,7 +56,7 @@ impl LastLine {
 }
 
 impl<W: Write + Drop> Watched<W> {
-    /// The writer, of which nothing was taken yet.
+    /// The writer before it has taken anything.
     pub fn new(inner: W) -> Watched<W> {
         Watched {
             inner,
@@ -69,8 +69,8 @@ impl<W: Write + Drop> Watched<W> {
         }
     }
 
-    /// The last line that was taken, without its line feed, or the first 512 bytes of a longer one. It is empty where the line feed was
-    /// not taken, or where it is not UTF-8.
+    /// The last line that was taken, without its line feed, or the first 512 bytes of a longer one. It is empty where the line
+    /// feed was not taken, or where it is not UTF-8.
     pub fn last_line(&self) -> &str {
         match self.kept.bytes.get(..self.kept.length) {
             Some(bytes) if self.kept.is_whole => str::from_utf8(bytes).unwrap_or(""),
@@ -78,7 +78,7 @@ impl<W: Write + Drop> Watched<W> {
         }
     }
 
-    /// Whether a line said a minute: `lone` or `verdict`.
+    /// Whether any line was a minute: `lone` or `verdict`.
     pub fn has_minute(&self) -> bool {
         self.kept.has_minute
     }

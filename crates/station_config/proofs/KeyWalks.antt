@@ -97,7 +97,7 @@ left_last done rest all l e = record {
   apart = λ none. l.apart;
 }
 
--- the key of one table is put behind others
+-- the key of one table is put after others
 pub adds_one : (before after : List KeyFields) (place : ℕ) (d : Data) (m : Members) (key : KeyFields) → table_at place d ≡ (place, m) ∷ [] → key ≡ key_of m → bad_in_key (ids_of before) m ≡ [] → has_id key.id before ≡ false → after ≡ before ++ key ∷ [] → AddsKeys (table_at place d) before after
 adds_one before after place d m key table said good other pushed =
     subst (λ ts. AddsKeys ts before after) (sym table) (record {

@@ -39,7 +39,7 @@ key_in Link place key = codes "link." ++ (decimal place ++ (codes "." ++ key))
 key_in Key place key = codes "key." ++ (decimal place ++ (codes "." ++ key))
 key_in Deny place key = codes "deny." ++ (decimal place ++ (codes "." ++ key))
 
--- a table: which part of the file it is, its place in its array, and its members
+-- a table: the part of the file that it is, its place in its array, and its members
 pub record Sheet : Type 0 where
   pub part : Part
   pub place : ℕ
@@ -51,7 +51,7 @@ sheets part tables = map (λ t. record { part = part; place = t.0; members = t.1
 abbrev pub item_sheets : Members → List Sheet
 item_sheets top = sheets Radio (tables_at radio_row top) ++ (sheets Server (tables_at server_row top) ++ sheets Link (tables_at link_row top))
 
--- the tables that speak of clients
+-- the tables about clients
 abbrev pub client_sheets : Members → List Sheet
 client_sheets top = sheets Key (tables_at key_row top) ++ sheets Deny (tables_at deny_row top)
 
@@ -64,7 +64,7 @@ sheets_of top = top_sheet top ∷ (item_sheets top ++ client_sheets top)
 
 -- ---- the keys at fault in one table, by their bytes
 
--- the keys of a table; those of a document's tables stand by their bytes
+-- the keys of a table; those of a document's tables are in the order of their bytes
 abbrev pub keys_of : Members → List Text
 keys_of no_members = []
 keys_of (member key d members) = key ∷ keys_of members
@@ -80,7 +80,7 @@ is_required optional = false
 abbrev pub required_keys : List Row → List Text
 required_keys rows = map (λ row. row.key) (filter (λ row. is_required row.need) rows)
 
--- there is a value, and it isn't of the type and range of its row
+-- there is a value, and it is not of the type and range of its row
 abbrev pub is_wrong : Form → Option Data → Bool
 is_wrong form None = false
 is_wrong form (Some d) = not (has_form form d)
@@ -113,12 +113,12 @@ bad_id taken members = if is_bad members id_row || is_taken taken members then i
 abbrev pub bad_in_key : List ℕ → Members → List Text
 bad_in_key taken members = bad_id taken members ++ bad_in (secret_row ∷ []) members
 
--- the same of the tables of keys that stand behind others, whose identifiers are taken
+-- the same of the tables of keys that stand after others, whose identifiers are taken
 abbrev pub bad_in_keys : List ℕ → List (ℕ × Members) → List Text
 bad_in_keys taken [] = []
 bad_in_keys taken (t ∷ ts) = map (key_in Key t.0) (bad_in_key taken t.1) ++ bad_in_keys (taken ++ number_at id_row t.1 ∷ []) ts
 
--- the keys come behind the links, and the denied nets last
+-- the keys come after the links, and the denied nets last
 abbrev pub bad_of_clients : Members → List Text
 bad_of_clients top = bad_in_keys [] (tables_at key_row top) ++ keys_at bad_in (sheets Deny (tables_at deny_row top))
 
@@ -157,7 +157,7 @@ faults_of top =
 
 -- ---- the answer
 
--- The fault is the first one of the document. Want of memory says nothing.
+-- The fault is the first one of the document. Lack of memory says nothing.
 abbrev pub IsFirst : List Fault → StationFault → Type 0
 IsFirst faults fault.Memory = ⊤
 IsFirst faults fault.NotToml = ⊥
@@ -171,7 +171,7 @@ pub record IsDocument (bytes : List ℕ) (top : Members) : Type 0 where
   pub utf8 : IsUtf8 bytes
   pub parsed : parse_document bytes ≡ Some top
 
--- Why a text is refused: it is no document, or the document has this fault first. Want of memory says nothing.
+-- Why a text is refused: it is no document, or the document has this fault first. Lack of memory says nothing.
 abbrev pub Refuses : List ℕ → StationFault → Type 0
 Refuses bytes fault.Memory = ⊤
 Refuses bytes fault.NotToml = (top : Members) → IsDocument bytes top → ⊥

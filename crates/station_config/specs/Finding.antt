@@ -30,12 +30,12 @@ abbrev pub tables_seen : Option (Bor (List Value)) → List (ℕ × Members)
 tables_seen None = []
 tables_seen (Some values) = tables_from 0 (items_view values.now)
 
--- what was read of the value at a key: its reading or the default, and nothing just where the value is a fault
+-- what was read of the value at a key: its reading or the default, and nothing exactly where the value is a fault
 pub record IsRead {X : Type 0} (form : Form) (default : X) (reading : Data → Option X) (value : Option Data) (result : Option X) : Type 0 where
   pub said : IfSome result (λ x. x ≡ read_or default reading value)
   pub wrong : is_none result ≡ is_wrong form value
 
--- the first key with a bad value; want of memory says nothing
+-- the first key with a bad value; lack of memory says nothing
 abbrev pub IsMisread : List Text → Misread → Type 0
 IsMisread bad misread.Memory = ⊤
 IsMisread bad (misread.Range key) = slice_get bad 0 ≡ Some key.now
@@ -50,18 +50,18 @@ IsMisreadAt bad key_fault.Memory = ⊤
 IsMisreadAt bad (key_fault.Range spot) = slice_get bad 0 ≡ Some (spot_text spot)
 IsMisreadAt bad _ = ⊥
 
--- the rows of these tables are put behind others, and none of their values is a fault
+-- the rows of these tables follow others, and none of their values is a fault
 pub record Adds {F : Type 0} (part : Part) (row_of : Members → F) (tables : List (ℕ × Members)) (before after : List F) : Type 0 where
   pub rows : after ≡ before ++ map (λ t. row_of t.1) tables
   pub good : keys_at bad_in (sheets part tables) ≡ []
 
--- the keys of these tables are put behind others, none of their values is a fault, and no identifier stands twice
+-- the keys of these tables follow others, none of their values is a fault, and no identifier stands twice
 pub record AddsKeys (tables : List (ℕ × Members)) (before after : List KeyFields) : Type 0 where
   pub rows : after ≡ before ++ map (λ t. key_of t.1) tables
   pub good : bad_in_keys (ids_of before) tables ≡ []
   pub apart : AreApart before → AreApart after
 
--- the key_fault is the first of the faults; want of memory says nothing
+-- the `KeyFault` is the first of the faults; lack of memory says nothing
 abbrev pub IsFirstKeyFault : List Fault → KeyFault → Type 0
 IsFirstKeyFault faults key_fault.Memory = ⊤
 IsFirstKeyFault faults (key_fault.Unknown spot) = slice_get faults 0 ≡ Some (unknown_key (spot_text spot))

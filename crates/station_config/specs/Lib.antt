@@ -1,5 +1,5 @@
--- Read Station (what a station is), then Rows (the keys of its file and what may stand at each), then Values (the station that a
--- document says), then Faults (the faults of a document, in their order). Finding and KeptStation are scaffolding.
+-- Read Station (what a station is), then Rows (the keys of its file and what may stand at each). Then read Values (the station
+-- that a document says) and Faults (the faults of a document, in their order). Finding and KeptStation are scaffolding.
 pub mod Faults
 pub mod Finding
 pub mod KeptStation

@@ -13,14 +13,14 @@ use Rattle.toml.specs.Text.{are_tables}
 abbrev pub Text : Type 0
 Text = List ℕ
 
--- ---- what a value says, where it is of the type and in the range that are asked for
+-- ---- what a value says, where it is of the type and in the range that the row asks for
 
 -- a whole number from `least` to `most`
 abbrev pub whole_in : ℕ → ℕ → Data → Option ℕ
 whole_in least most (integer (pos n)) = if nat_le least n && nat_le n most then Some n else None
 whole_in least most _ = None
 
--- a text that isn't empty
+-- a text that is not empty
 abbrev pub text_in : Data → Option Text
 text_in (string s) = if nat_lt 0 (length s) then Some s else None
 text_in _ = None
@@ -54,14 +54,14 @@ abbrev pub four_of : Option ℕ → Option ℕ → Option ℕ → Option ℕ →
 four_of (Some a) (Some b) (Some c) (Some d) = Some (from_be_bytes w32 (a ∷ b ∷ c ∷ d ∷ []))
 four_of _ _ _ _ = None
 
--- the part of a text before its first dot, and the part behind it
+-- the part of a text before its first dot, and the part after it
 abbrev pub before_dot : Text → Text
 before_dot text = before_first (λ byte. byte == 46) text
 
 abbrev pub after_dot : Text → Text
 after_dot text = after_first (λ byte. byte == 46) text
 
--- four numbers that are parted by dots
+-- four numbers that dots separate
 abbrev pub address_of : Text → Option ℕ
 address_of text = four_of (octet_of (before_dot text)) (octet_of (before_dot (after_dot text))) (octet_of (before_dot (after_dot (after_dot text)))) (octet_of (after_dot (after_dot (after_dot text))))
 
@@ -69,7 +69,7 @@ abbrev pub address_in : Data → Option ℕ
 address_in (string s) = address_of s
 address_in _ = None
 
--- the part of a text before its first slash, and the part behind it
+-- the part of a text before its first slash, and the part after it
 abbrev pub before_slash : Text → Text
 before_slash text = before_first (λ byte. byte == 47) text
 
@@ -80,7 +80,8 @@ after_slash text = after_first (λ byte. byte == 47) text
 abbrev pub prefix_of : Text → Option ℕ
 prefix_of text = at_most 32 (number_of text)
 
--- a net as CIDR writes it (RFC 4632): an address and the length of its prefix, parted by a slash; bits behind the prefix may be set
+-- a net as CIDR writes it (RFC 4632): an address and the length of its prefix, separated by a slash; bits after the prefix may be
+-- set
 abbrev pub net_by : Option ℕ → Option ℕ → Option Net
 net_by (Some address) (Some bits) = Some (record { address = address; bits = bits })
 net_by _ _ = None
@@ -118,7 +119,7 @@ pub data Form : Type 0 where
   net : Form
   tables : Form
 
--- what stands for a key that isn't there: nothing may, or a number, or no text and no tables
+-- what a key that is not there stands for: nothing (the key is required), a number, or no text and no tables
 pub data Need : Type 0 where
   required : Need
   preset : ℕ → Need

@@ -1,5 +1,5 @@
--- What a station is: its radios, its servers, its leap second file, the links that it serves on, the keys that it shares with its clients, and whom it
--- denies. All of it is this project's own.
+-- What a station is: its radios, its servers, its leap second file, its links, the keys that it shares with its clients, and the
+-- nets that it denies. All of it is this project's own.
 use Rattle.std.specs.Prelude.{ℕ, [], ◌∷◌, ◌≤◌, ◌+◌, ◌^◌, Bool, Option, None, Some, List, All, ◌++◌, length, map, count_by, true, false}
 use Rattle.feed_link.specs.declared.outside.Address.{Address}
 use Rattle.packet_auth.specs.Keys.{AreApart, KeyFields}
@@ -19,14 +19,15 @@ pub record RadioFields : Type 0 where
   pub log : List ℕ
   pub delay : ℕ
 
--- a server: its address, and how often it is asked
+-- a server: its address, and how many times it is asked
 pub record ServerFields : Type 0 where
   pub address : Address
   pub polls : ℕ
 
--- a station: the numbers of its top table, which are the bound of its pages in milliseconds, its first moment and the least gap between the requests of a
--- client in microseconds, and how many clients a link remembers; its radios and servers, the name of its leap second file where it has one, the ports that
--- it serves on, its keys, and the nets that it denies
+-- a station: the numbers of its top table, its rows and names. The numbers are the bound of its pages in milliseconds, its first
+-- moment, and the least gap between the requests of a client in microseconds. The fourth is the size of a link's table of clients.
+-- The rows are its radios and servers, the ports of its links, its keys, and the nets that it denies. It may also have the name
+-- of a leap second file.
 pub record StationFields : Type 0 where
   pub top : TopNumbers
   pub radios : List RadioFields
@@ -85,7 +86,7 @@ kind_of_server s = Server s.address
 abbrev pub settings_of : StationFields → SettingsFields
 settings_of station = record { bound = bound_of station.top.bound; sources = map kind_of_radio station.radios ++ map kind_of_server station.servers ++ leap_feeds station.leap_file }
 
--- the gate that a link of the station begins with
+-- the gate of clients with which a link of the station begins
 abbrev pub gate_of : StationFields → Gate
 gate_of station = record { denied = station.deny; gap = station.top.gap; clients = station.top.clients; table = [] }
 

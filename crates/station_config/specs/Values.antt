@@ -1,4 +1,4 @@
--- The station that a document without faults says: its values, and the defaults of the keys that aren't there.
+-- The station that a document without faults says: its values, and the defaults of the keys that are not there.
 use Rattle.std.specs.Prelude.{ℕ, List, [], map, Option, None, Some, unwrap_or}
 use Rattle.tick_units.specs.declared.marks.Plan.TheVariants.{Dcf}
 use Rattle.toml.specs.Data.{Data, Members, get_member}

@@ -12,7 +12,7 @@ fn octet(text: &str) -> Option<u8>
     Some(number as u8)
 }
 
-// The parts of a text before and behind its first dot; all of it and nothing where it has none.
+// The parts of a text before and after its first dot; all of it and nothing where it has none.
 fn parts(text: &str) -> (&str, &str)
     ensures before { result.0.now ≡ before_dot text.now }
     ensures after { result.1.now ≡ after_dot text.now }
@@ -34,7 +34,7 @@ fn joined(
     Some(u32::from_be_bytes([first?, second?, third?, fourth?]))
 }
 
-// The IPv4 address of four such numbers that are parted by dots.
+// The IPv4 address of four such numbers, separated by dots.
 pub fn address(text: &str) -> Option<u32>
     ensures { result ≡ address_of text.now }
 {

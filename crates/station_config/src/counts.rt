@@ -46,7 +46,7 @@ fn feed_count(parts: &Parts) -> usize
     parts.radios.len() + parts.servers.len() + usize::from(parts.leap_file.is_some())
 }
 
-// The first number of rows that is above what there may be.
+// The first number of rows that is above its limit.
 pub fn excess(parts: &Parts) -> Option<Count>
     ensures { option_map count_seen result ≡ find (λ c. nat_lt c.most c.count) (counts_of (parts_fields parts.now)) }
 {

@@ -1,4 +1,4 @@
-//! The station of a document, or what stands against it.
+//! The station of a document, or its first fault.
 ghost use Rattle.std.specs.Prelude.{◌≡◌, ◌≤◌, ◌^◌, [], Some, IfOk, IfErr, option_map, slice_get, string_bytes};
 ghost use Rattle.packet_auth.specs.Keys.{AreApart};
 ghost use Rattle.toml.specs.Data.{get_member};
@@ -18,7 +18,8 @@ use std::alloc::{AllocError, Global};
 use tick_units::Local;
 use toml::{Table, Value};
 
-// The numbers and the text of the top table, and the arrays whose tables aren't read yet. It has no `Debug`, since secrets stand in them.
+// The numbers and the text of the top table, and the arrays whose tables are not read yet. It has no `Debug`, since it holds
+// secrets.
 #[derive(Clone, Copy)]
 pub struct Top<'a> {
     pub numbers: TopNumbers,
@@ -37,7 +38,7 @@ fn start(table: &Table) -> Option<Local>
     Local::new(number(table, "start", 0, 1 << 49, 0)?)
 }
 
-// The top table, or the first of its keys whose value isn't of its type and range.
+// The top table, or the first of its keys whose value is not of its type and range.
 fn read_top<'a>(table: &'a Table) -> Result<Top<'a>, &'static str>
     ensures numbers { IfOk result (λ t. t.numbers ≡ top_of (table_view table.now)) }
     ensures leap_file { IfOk result (λ t. option_map (λ name. name.now) t.leap_file ≡ leap_file_of (table_view table.now)) }
@@ -75,7 +76,7 @@ fn read_top<'a>(table: &'a Table) -> Result<Top<'a>, &'static str>
     })
 }
 
-// A name, to be kept.
+// A name, copied.
 fn kept_name(alloc: Global, name: Option<&str>) -> Result<Option<String>, AllocError>
     ensures { IfOk result (λ kept. option_map string_bytes kept ≡ option_map (λ text. text.now) name.entry) }
 {
@@ -85,7 +86,7 @@ fn kept_name(alloc: Global, name: Option<&str>) -> Result<Option<String>, AllocE
     }
 }
 
-// The values of a document whose tables have all their keys, or its first value that isn't of its type and range.
+// The values of a document whose tables have all their keys, or its first value that is not of its type and range.
 fn read_parts(alloc: Global, table: &Table) -> Result<Parts, KeyFault<'static>>
     requires { keys_at missing_in (sheets_of (table_view table.now)) ≡ [] }
     ensures said { IfOk result (λ p. parts_fields p ≡ station_of (table_view table.now)) }
@@ -122,7 +123,7 @@ fn read_parts(alloc: Global, table: &Table) -> Result<Parts, KeyFault<'static>>
     })
 }
 
-// The station of a document, or what stands against it.
+// The station of a document, or its first fault.
 pub fn read_table<'a>(alloc: Global, table: &'a Table) -> Result<Station, KeyFault<'a>>
     ensures said { IfOk result (λ s. s ≡ station_of (table_view table.now)) }
     ensures good { IfOk result (λ _. faults_of (table_view table.now) ≡ []) }

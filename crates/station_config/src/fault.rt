@@ -19,7 +19,7 @@ impl Model for KeyText {
 }
 
 impl KeyText {
-    // The key of this text.
+    // The key with this text.
     pub(crate) fn new(text: String) -> KeyText
         ensures { result ≡ string_bytes text }
     {
@@ -37,20 +37,19 @@ impl KeyText {
 /// Why a station file was refused: the first of its faults, in this order.
 #[derive(Debug, Drop, Error)]
 pub enum StationFault {
-    /// The text isn't UTF-8, or isn't a TOML document.
+    /// The text is not UTF-8, or is not a TOML document.
     #[error("not a TOML document")]
     NotToml,
-    /// A table has a key that isn't one of its rows.
+    /// A table has a key that is not one of its rows.
     #[error("unknown key")]
     UnknownKey { key: KeyText },
-    /// A key that is required isn't in its table.
+    /// A key that is required is not in its table.
     #[error("missing key")]
     Missing { key: KeyText },
-    /// A value isn't of the type and range of its key.
+    /// A value is not of the type and range of its key.
     #[error("value out of range")]
     Range { key: KeyText },
-    /// There are more radios and servers than 16, more radios of a plan than 4, more links than 8, more keys than 8, or more
-    /// denied nets than 16.
+    /// There are more than 16 radios, servers and leap second files together, 4 radios of a plan, 8 links, 8 keys or 16 denied nets.
     #[error("too many: {count}")]
     TooMany { key: KeyText, count: u64 },
     /// Memory ran out.

@@ -15,7 +15,7 @@ use crate::station::{Radio, ServerRow};
 use std::alloc::Global;
 use toml::Value;
 
-// What stands against a station: its first fault, or want of memory.
+// Why there is no station: its first fault, or lack of memory.
 #[derive(Clone, Copy, Debug)]
 pub enum KeyFault<'a> {
     Unknown(Spot<'a>),
@@ -25,7 +25,7 @@ pub enum KeyFault<'a> {
     Memory,
 }
 
-// What a misread value of a table is among the values of all tables.
+// The fault of a table's misread value, with the table's part and place.
 fn placed(part: Part, place: usize, misread: Misread) -> KeyFault<'static>
     ensures { (bad more : List Text) → IsMisread bad misread → IsMisreadAt (map (key_in part place) bad ++ more) result }
 {
@@ -95,7 +95,7 @@ fn add_link(links: &mut Vec<u16>, place: usize, item: &Value) -> Result<(), KeyF
     }
 }
 
-// Puts a key behind others.
+// Puts a key after others.
 fn push_key(keys: &mut Vec<SharedKey>, key: SharedKey) -> Result<(), KeyFault<'static>>
     ensures pushed { IfOk result (λ _. map key_kept keys.new.items ≡ map key_kept keys.old.items ++ key_kept key ∷ []) }
     ensures full { IfErr result (λ fault. fault ≡ KeyFault.Memory) }
@@ -142,6 +142,7 @@ fn add_net(nets: &mut Vec<DeniedNet>, place: usize, item: &Value) -> Result<(), 
     }
 }
 
+// The radios of these tables, in order; else the first bad value among them, or lack of memory.
 pub fn read_radios(alloc: Global, items: &[Value]) -> Result<Vec<Radio>, KeyFault<'static>>
     requires { keys_at missing_in (sheets Part.Radio (tables_from 0 (items_view items.now))) ≡ [] }
     ensures read { IfOk result (λ v. Adds Part.Radio radio_of (tables_from 0 (items_view items.now)) [] (map radio_kept v.items)) }
@@ -154,6 +155,7 @@ pub fn read_radios(alloc: Global, items: &[Value]) -> Result<Vec<Radio>, KeyFaul
     Ok(radios)
 }
 
+// The servers of these tables, in order; else the first bad value among them, or lack of memory.
 pub fn read_servers(alloc: Global, items: &[Value]) -> Result<Vec<ServerRow>, KeyFault<'static>>
     requires { keys_at missing_in (sheets Part.Server (tables_from 0 (items_view items.now))) ≡ [] }
     ensures read { IfOk result (λ v. Adds Part.Server server_of (tables_from 0 (items_view items.now)) [] (map server_fields v.items)) }
@@ -166,6 +168,7 @@ pub fn read_servers(alloc: Global, items: &[Value]) -> Result<Vec<ServerRow>, Ke
     Ok(servers)
 }
 
+// The ports of the serving links of these tables, in order; else the first bad value among them, or lack of memory.
 pub fn read_links(alloc: Global, items: &[Value]) -> Result<Vec<u16>, KeyFault<'static>>
     requires { keys_at missing_in (sheets Part.Link (tables_from 0 (items_view items.now))) ≡ [] }
     ensures read { IfOk result (λ v. Adds Part.Link (number_at port_row) (tables_from 0 (items_view items.now)) [] v.items) }
@@ -178,6 +181,8 @@ pub fn read_links(alloc: Global, items: &[Value]) -> Result<Vec<u16>, KeyFault<'
     Ok(links)
 }
 
+// The keys of these tables, in order; else the first bad value among them, or lack of memory. An identifier that an earlier
+// key has is bad too.
 pub fn read_keys(alloc: Global, items: &[Value]) -> Result<Vec<SharedKey>, KeyFault<'static>>
     requires { keys_at missing_in (sheets Part.Key (tables_from 0 (items_view items.now))) ≡ [] }
     ensures read { IfOk result (λ v. AddsKeys (tables_from 0 (items_view items.now)) [] (map key_kept v.items)) }
@@ -190,6 +195,7 @@ pub fn read_keys(alloc: Global, items: &[Value]) -> Result<Vec<SharedKey>, KeyFa
     Ok(keys)
 }
 
+// The denied nets of these tables, in order; else the first bad value among them, or lack of memory.
 pub fn read_nets(alloc: Global, items: &[Value]) -> Result<Vec<DeniedNet>, KeyFault<'static>>
     requires { keys_at missing_in (sheets Part.Deny (tables_from 0 (items_view items.now))) ≡ [] }
     ensures read { IfOk result (λ v. Adds Part.Deny net_of (tables_from 0 (items_view items.now)) [] (map net_kept v.items)) }

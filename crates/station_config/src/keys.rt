@@ -13,7 +13,7 @@ ghost use Rattle.station_config.specs.Finding.{keys_for, spot_text, tables_seen}
 use toml::value::Array;
 use toml::{Table, Value};
 
-// A part of a station file: the top table, a radio, a server, a link, a key that is shared with clients or a denied net.
+// A part of a station file: the top table, a radio, a server, a link, a key that is shared with clients, or a denied net.
 #[derive(Clone, Copy, Debug)]
 pub enum Part {
     Top,
@@ -24,7 +24,7 @@ pub enum Part {
     Deny,
 }
 
-// What is asked of the keys of a table before their values are read.
+// What is required of the keys of a table before their values are read.
 #[derive(Clone, Copy, Debug)]
 pub enum Check {
     Unknown,
@@ -191,7 +191,7 @@ fn tables_of(value: &Value) -> Option<&[Value]>
     }
 }
 
-// The values of the array of tables at a key, and none where the key isn't there. Fails where something else stands there.
+// The values of the array of tables at a key, and none where the key is not there. Fails where another value stands there.
 pub fn tables<'a>(table: &'a Table, key: &str) -> Option<&'a [Value]>
     ensures said { tables_seen result ≡ read_or [] tables_in (get_member key.now (table_view table.now)) }
     ensures wrong { is_none result ≡ is_wrong tables (get_member key.now (table_view table.now)) }
@@ -226,7 +226,7 @@ fn first_in_arrays<'a>(check: Check, table: &'a Table) -> Option<Spot<'a>>
     first_in_array(check, Part::Link, table, "link")
 }
 
-// The same of the arrays that speak of clients: the shared keys come first, and then the denied nets.
+// The same of the arrays about clients: the shared keys come first, and then the denied nets.
 fn first_in_clients<'a>(check: Check, table: &'a Table) -> Option<Spot<'a>>
     ensures { option_map spot_text result ≡ slice_get (keys_at (keys_for check) (client_sheets (table_view table.now))) 0 }
 {
@@ -248,8 +248,8 @@ fn first_in_all<'a>(check: Check, table: &'a Table) -> Option<Spot<'a>>
     first_in_clients(check, table)
 }
 
-// The first key that fails a check: the top table comes first, and then the radios, the servers, the links, the shared keys and the
-// denied nets by place.
+// The first key that fails a check: the top table comes first, and then the radios, the servers, the links, the shared keys and
+// the denied nets by place.
 pub fn first_at<'a>(check: Check, table: &'a Table) -> Option<Spot<'a>>
     ensures { option_map spot_text result ≡ slice_get (keys_at (keys_for check) (sheets_of (table_view table.now))) 0 }
 {

@@ -9,10 +9,10 @@ use crate::denied_net::DeniedNet;
 use decimal_text::whole_number;
 use kiss_gate::DenyList;
 
-// An IPv4 address has this number of bits.
+// The number of bits of an IPv4 address.
 const BITS: u64 = 32;
 
-// The length of a prefix that a text is, from 0 to 32.
+// The length of a prefix in a text, from 0 to 32.
 fn prefix(text: &str) -> Option<u8>
     ensures value { result ≡ prefix_of text.now }
     ensures most { IfSome result (λ n. n ≤ 32) }
@@ -21,7 +21,7 @@ fn prefix(text: &str) -> Option<u8>
     Some(number as u8)
 }
 
-// The parts of a text before and behind its first slash; all of it and nothing where it has none.
+// The parts of a text before and after its first slash; all of it and nothing where it has none.
 fn parts(text: &str) -> (&str, &str)
     ensures before { result.0.now ≡ before_slash text.now }
     ensures after { result.1.now ≡ after_slash text.now }
@@ -42,7 +42,7 @@ fn joined(address: Option<u32>, bits: Option<u8>) -> Option<DeniedNet>
     })
 }
 
-// The net of an address and the length of a prefix that are parted by a slash.
+// The net of an address and the length of a prefix, separated by a slash.
 pub fn denied_net(text: &str) -> Option<DeniedNet>
     ensures { option_map net_kept result ≡ cidr_of text.now }
 {

@@ -31,8 +31,8 @@ fn plain_radio(alloc: Global, plan: Plan) -> Result<Radio, AllocError>
 }
 
 impl Station {
-    /// A station of one radio of each plan in the order DCF77, MSF, WWVB, each without delay and with a log named by its plan's word; with
-    /// no server, no leap second file, no link, no key and no denied net, and with the numbers that a file has by default.
+    /// A station of one radio of each plan in the order DCF77, MSF, WWVB. Each has no delay, and a log named by its plan's word.
+    /// The station has no server, leap second file, link, key or denied net, and the numbers that a file has by default.
     pub fn one_of_each(alloc: Global) -> Result<Station, AllocError>
         ensures { IfOk result (λ station. station ≡ one_of_each) }
     {

@@ -27,7 +27,7 @@ fn key_text(alloc: Global, spot: Spot<'_>) -> Result<KeyText, AllocError>
     Ok(KeyText::new(text))
 }
 
-// The fault that an key_fault is.
+// The fault that a `KeyFault` is.
 fn fault(alloc: Global, key_fault: KeyFault<'_>) -> Result<StationFault, AllocError>
     ensures { (faults : List Fault) → IsFirstKeyFault faults key_fault.entry → IfOk result (IsFirst faults) }
 {
@@ -51,10 +51,10 @@ fn fault(alloc: Global, key_fault: KeyFault<'_>) -> Result<StationFault, AllocEr
 
 /// Reads a station file, or refuses it with its first fault.
 ///
-/// The faults come in this order: a text that isn't TOML, unknown keys, missing keys, values that aren't of their type
-/// and range, and too many rows. Of several of one kind the top table's comes first, then those of the radios, the
-/// servers, the links, the keys and the denied nets by their places, and within a table by the bytes of the keys. Fails with
-/// `Memory` where memory runs out.
+/// The faults come in this order: a text that is not TOML, unknown keys, missing keys, values that are not of their type and
+/// range, and too many rows. Of several of one kind the top table's comes first. Then come those of the radios, the servers, the
+/// links, the keys and the denied nets by their places. Within a table they come by the bytes of the keys. Fails with `Memory`
+/// where memory runs out.
 pub fn read_station(alloc: Global, text: &[u8]) -> Result<Station, StationFault>
     ensures said { IfOk result (Says text.now) }
     ensures refused { IfErr result (Refuses text.now) }

@@ -24,7 +24,7 @@ use toml::{Table, Value};
 // A secret has at most this number of bytes.
 const LONGEST: usize = 32;
 
-// Why the values of a table couldn't be read: the value at this key isn't of its type and range, or memory ran out.
+// Why the values of a table could not be read: the value at this key is not of its type and range, or memory ran out.
 #[derive(Clone, Copy, Debug)]
 pub enum Misread {
     Range(&'static str),
@@ -56,7 +56,7 @@ pub fn number(table: &Table, key: &str, least: u64, most: u64, default: u64) -> 
     }
 }
 
-// A text that isn't empty.
+// A text that is not empty.
 fn filled_text(value: &Value) -> Option<&str>
     ensures { option_map (λ t. t.now) result ≡ text_in (view value.now) }
 {
@@ -64,7 +64,7 @@ fn filled_text(value: &Value) -> Option<&str>
     if text.is_empty() { None } else { Some(text) }
 }
 
-// The text at a key where there is a value, which isn't empty.
+// The text at a key where there is a value, which is not empty.
 pub fn some_text<'a>(table: &'a Table, key: &str) -> Option<Option<&'a str>>
     ensures { IsRead text None some_text_in (get_member key.now (table_view table.now)) (option_map (option_map (λ t. t.now)) result) }
 {
@@ -74,7 +74,7 @@ pub fn some_text<'a>(table: &'a Table, key: &str) -> Option<Option<&'a str>>
     }
 }
 
-// The text at a key, which isn't empty.
+// The text at a key, which is not empty.
 fn text<'a>(table: &'a Table, key: &str) -> Option<&'a str>
     requires { IsSome (get_member key.now (table_view table.now)) }
     ensures { IsRead text [] text_in (get_member key.now (table_view table.now)) (option_map (λ t. t.now) result) }
@@ -82,7 +82,7 @@ fn text<'a>(table: &'a Table, key: &str) -> Option<&'a str>
     filled_text(value_at(table, key)?)
 }
 
-// Visible characters of ASCII alone.
+// Only visible characters of ASCII.
 fn is_visible(text: &[u8]) -> bool
     ensures { result ≡ list_all is_visible text.now }
 {
@@ -117,7 +117,7 @@ fn id(table: &Table) -> Option<u32>
     Some(id as u32)
 }
 
-// One of these keys has an identifier.
+// Whether one of these keys has an identifier.
 fn is_taken(keys: &[SharedKey], id: u32) -> bool
     ensures { result ≡ list_any (λ key. key.id == id) keys.now }
 {
@@ -214,7 +214,7 @@ pub fn link(table: &Table) -> Result<u16, Misread>
     }
 }
 
-// The key of a table that has all its keys, behind those of the tables before it.
+// The key of a table that has all its keys, after those of the tables before it.
 pub fn key(alloc: Global, table: &Table, before: &[SharedKey]) -> Result<SharedKey, Misread>
     requires { missing_in key_rows (table_view table.now) ≡ [] }
     ensures said { IfOk result (λ k. key_kept k ≡ key_of (table_view table.now)) }

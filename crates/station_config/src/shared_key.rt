@@ -1,7 +1,7 @@
 //! A key that a station shares with its clients.
 ghost use Rattle.std.specs.Prelude.{◌≤◌, ◌<◌, length, string_bytes};
 
-// A key as a station keeps it. It has no `Debug`, so that the secret stands in no text.
+// A key as a station keeps it. It has no `Debug`, so that no text contains the secret.
 #[derive(Drop)]
 pub struct SharedKey {
     pub id: u32,

@@ -22,7 +22,7 @@ use tick_units::{Local, Plan};
 pub struct RadioRow<'a> {
     /// Its code plan.
     pub plan: Plan,
-    /// The name of its log, which isn't empty.
+    /// The name of its log, which is not empty.
     pub log: &'a str,
     /// The delay from the sender to the receiver in microseconds, 0 to 100000.
     pub delay: u32,
@@ -31,9 +31,9 @@ pub struct RadioRow<'a> {
 /// A server of a station.
 #[derive(Clone, Copy, Debug, PartialEq, Eq)]
 pub struct ServerRow {
-    /// Where it is asked. The port is 1 to 65535.
+    /// Its address and port. The port is 1 to 65535.
     pub address: Address,
-    /// How often it is asked, 0 to 100000.
+    /// How many times it is asked, 0 to 100000.
     pub polls: u32,
 }
 
@@ -44,7 +44,7 @@ pub struct LinkRow {
     pub port: u16,
 }
 
-// A radio as a station keeps it: its log isn't empty, and its delay is at most 100000 microseconds.
+// A radio as a station keeps it: its log is not empty, and its delay is at most 100000 microseconds.
 #[derive(Debug, Drop)]
 pub struct Radio {
     pub plan: Plan,
@@ -55,7 +55,7 @@ pub struct Radio {
 /// The numbers of a station file's top table.
 #[derive(Clone, Copy, Debug)]
 pub struct TopNumbers {
-    /// The root dispersion above which a page isn't trusted, 1 to 16000 milliseconds.
+    /// The root dispersion above which a page is not trusted, 1 to 16000 milliseconds.
     pub bound: u32,
     /// The first moment of the links, at most 2^49 microseconds.
     pub start: Local,
@@ -65,8 +65,8 @@ pub struct TopNumbers {
     pub clients: u32,
 }
 
-// What was read of a station file: the numbers of its top table, the rows, the name of the leap second file, the ports of the links, the keys, and the
-// denied nets. It has no `Debug`, so that no secret stands in any text.
+// What was read of a station file: its top table's numbers, its rows, its leap second file's name, its links' ports, its keys,
+// and its denied nets. It has no `Debug`, so that no text contains a secret.
 #[derive(Drop)]
 pub struct Parts {
     pub top: TopNumbers,
@@ -121,8 +121,8 @@ fn ring_of(keys: &[SharedKey]) -> KeyRing
     ring
 }
 
-/// A station: what it hears, whom it asks, its leap second file, where it serves, the keys that it shares with its clients, and whom it denies. Contracts
-/// see it as a record of these.
+/// A station: its radios, its servers, its leap second file, its links, the keys that it shares with its clients, and the nets
+/// that it denies. Contracts see it as a record of these.
 #[derive(Drop)]
 pub struct Station {
     settings: Settings,
@@ -159,8 +159,8 @@ impl Station {
         }
     }
 
-    /// What a page of the station's feeds is reckoned by: the bound of its root dispersion, and its radios, then its servers and then its leap second file as
-    /// sources.
+    /// The settings for a page of the station's feeds: the bound of its root dispersion, and as sources its radios, then its
+    /// servers and then its leap second file.
     pub fn settings(&self) -> &Settings
         ensures value { result.now ≡ settings_of self.now }
         ensures lawful { AreLawful result.now }
@@ -201,7 +201,7 @@ impl Station {
         self.parts.links.len()
     }
 
-    /// The name of its leap second file, which isn't empty. `None` exactly where the station names none.
+    /// The name of its leap second file, which is not empty. `None` exactly where the station names none.
     pub fn leap_file(&self) -> Option<&str>
         ensures value { option_map (λ name. name.now) result ≡ self.now.leap_file }
         ensures bounds { IsStation self.now }
@@ -247,7 +247,7 @@ impl Station {
         &self.denied
     }
 
-    /// The radio at a place, from 0. `None` exactly where the place isn't below the number of radios.
+    /// The radio at a place, from 0. `None` exactly where the place is not below the number of radios.
     pub fn radio(&self, i: usize) -> Option<RadioRow<'_>>
         ensures { option_map radio_given result ≡ slice_get self.now.radios i }
     {
@@ -261,14 +261,14 @@ impl Station {
         }
     }
 
-    /// The server at a place, from 0. `None` exactly where the place isn't below the number of servers.
+    /// The server at a place, from 0. `None` exactly where the place is not below the number of servers.
     pub fn server(&self, i: usize) -> Option<ServerRow>
         ensures { option_map server_fields result ≡ slice_get self.now.servers i }
     {
         self.parts.servers.get(i).copied()
     }
 
-    /// The link at a place, from 0. `None` exactly where the place isn't below the number of links.
+    /// The link at a place, from 0. `None` exactly where the place is not below the number of links.
     pub fn link(&self, i: usize) -> Option<LinkRow>
         ensures { option_map (λ l. l.port) result ≡ slice_get self.now.links i }
     {

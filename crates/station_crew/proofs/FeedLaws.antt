@@ -1,5 +1,5 @@
--- What closing tells of each feed.
-use Rattle.std.proofs.Common.{◌≡◌, ◌⊎◌, inl, inr, ℕ, ◌+◌, ◌-◌, ◌==◌, ◌<◌, ◌≤◌, List, [], ◌∷◌, ◌++◌, Bool, take, map, length, refl, sym, ap, ◌∙◌, subst, arith, length-append, append_assoc}
+-- What closing reports of each feed.
+use Rattle.std.proofs.Common.{◌≡◌, ◌⊎◌, inl, inr, ℕ, ◌+◌, ◌-◌, ◌==◌, ◌<◌, ◌≤◌, List, [], ◌∷◌, ◌++◌, take, map, length, refl, sym, ap, ◌∙◌, subst, arith, length-append, append_assoc}
 use Rattle.std.specs.Prelude.{Option, Some, None, All, IfSome, get_or, option_map}
 use Rattle.std.specs.Option.{option_to_list}
 use Rattle.std.specs.List.{range_with_len}
@@ -9,7 +9,7 @@ use Rattle.std.proofs.lemmas.List.FromFn.{get_or-map-range_with_len, length-map-
 use mathlib.Core.List.{IsPrefix}
 use Rattle.atomic_table.specs.Seated.{TableId}
 use Rattle.feed_link.specs.Told.{SourceState, LinkState}
-use Rattle.feed_workers.specs.Keeping.{Keeps}
+use Rattle.feed_workers.specs.Keeping.{Keeps, Share, share_of}
 use Rattle.feed_workers.specs.Leaps.{due_leap}
 use Rattle.feed_workers.specs.Polls.{due_link}
 use Rattle.journal_entry.specs.declared.entry.Entry.{Entry}
@@ -29,7 +29,7 @@ use Rattle.crew_work.specs.Due.{HasDue}
 use Rattle.station_crew.specs.Jobs.{IsManned, LeapRan, MayHear, MayNotice, MayPoll, PollRan, RadioRan}
 use Rattle.station_crew.specs.Leaving.{file_of, leap_pass, log_of, passes_of, poll_pass, radio_pass, server_link, server_of}
 use Rattle.crew_work.specs.Lists.{Both, Each, Pairs}
-use Rattle.crew_work.specs.Served.{AreBlank, AsksServer, HearsRadio, IsBlank, LeapServed, NoticesLeaps, RadiosServed, ServersServed}
+use Rattle.crew_work.specs.Served.{AreBlank, AsksServer, HearsRadio, IsBlank, LeapServed, NoticesLeaps, RadiosServed, ServersServed, column_of, seen}
 use Rattle.station_crew.specs.declared.jobs.LeapJob.{LeapJob}
 use Rattle.station_crew.specs.declared.jobs.PollJob.{PollJob}
 use Rattle.station_crew.specs.declared.jobs.RadioJob.{RadioJob}
@@ -39,52 +39,53 @@ prefix_length : {X : Type 0} (xs ys : List X) → IsPrefix xs ys → length xs �
 prefix_length xs ys p = let e = ap length p.1 in omega (arith, e, length-append xs p.0)
 
 -- what was kept of a feed's entries is what the journal has of it
-due_of : (start after : Claim) (limit f : ℕ) (full : Bool) (due : List Entry) (j : List Entry) → start.number ≡ f → start.own ≡ [] → Keeps start after limit full due → IsTrueOf j after → length j ≤ limit → HasDue limit j f full due
-due_of start after limit f full due j number own k t le = record {
+due_of : (share : Share) (f : ℕ) (due j : List Entry) → share.begun.number ≡ f → share.begun.own ≡ [] → Keeps share due → IsTrueOf j share.claim → length j ≤ share.limit → HasDue share.limit j f share.full due
+due_of share f due j number own k t le = record {
   count = k.count;
   most = k.most;
   is = ap (λ n. of_feed n j) (sym (k.number ∙ number)) ∙ sym t.own ∙ k.own ∙ ap (λ l. l ++ take k.count due) own;
   whole = k.whole;
-  lost = (λ e. ((k.lost e).0, let s = (k.lost e).1 in let p = prefix_length after.seen j t.seen in omega (arith, s, p, le)));
+  lost = (λ e. ((k.lost e).0, let s = (k.lost e).1 in let p = prefix_length share.claim.seen j t.seen in omega (arith, s, p, le)));
 }
 
 hears_radio : {L X : Type 0} {F : X → Type 0} (stands : Boxed X F → History → Type 0) (state : L → SourceState) (opening : L → ℕ) (limit : ℕ) (radio : RadioFields) (a b : RadioJob L X F) (j : List Entry) (f : ℕ)
     → claim_of a.worker.pass.view ≡ new_claim f → HasDecoded stands a.worker.decoder (claim_of a.worker.pass.view).number radio.plan radio.delay []
-    → RadioRan stands state opening limit a b → IsTrueOf j (claim_of b.worker.pass.view) → length j ≤ limit → HearsRadio radio f limit j (state a.worker.log) (state b.worker.log) b.work
+    → RadioRan stands state opening limit a b → IsTrueOf j (claim_of b.worker.pass.view) → length j ≤ limit → HearsRadio radio (column_of f limit j) (state a.worker.log) (state b.worker.log) b.work
 hears_radio stands state opening limit radio a b j f is start r t le =
     let runs = r.runs radio.plan radio.delay start in
     let number = ap (λ (c : Claim). c.number) is in
+    let share = share_of (claim_of a.worker.pass.view) b.worker.pass limit b.work.full in
     record {
       bytes = runs.bytes;
       ends = runs.ends;
-      due = due_of (claim_of a.worker.pass.view) (claim_of b.worker.pass.view) limit f b.work.full (due_log f radio.plan radio.delay runs.bytes) j number (ap (λ (c : Claim). c.own) is) (subst (λ n. Keeps (claim_of a.worker.pass.view) (claim_of b.worker.pass.view) limit b.work.full (due_log n radio.plan radio.delay runs.bytes)) number runs.kept) t le;
+      due = due_of share f (due_log f radio.plan radio.delay runs.bytes) j number (ap (λ (c : Claim). c.own) is) (subst (λ n. Keeps share (due_log n radio.plan radio.delay runs.bytes)) number runs.kept) t le;
     }
 
 asks_server : {T : Type 0} (state : T → LinkState) (opening : T → ℕ) (limit : ℕ) (a b : PollJob T) (j : List Entry) (f : ℕ)
-    → claim_of a.worker.pass.view ≡ new_claim f → PollRan state opening limit a b → IsTrueOf j (claim_of b.worker.pass.view) → length j ≤ limit → AsksServer (server_of a) f limit j (state a.worker.link) (state b.worker.link) b.work
+    → claim_of a.worker.pass.view ≡ new_claim f → PollRan state opening limit a b → IsTrueOf j (claim_of b.worker.pass.view) → length j ≤ limit → AsksServer (server_of a) (column_of f limit j) (state a.worker.link) (state b.worker.link) b.work
 asks_server state opening limit a b j f is r t le =
     let number = ap (λ (c : Claim). c.number) is in
+    let share = share_of (claim_of a.worker.pass.view) b.worker.pass limit b.work.full in
     record {
       events = r.runs.events;
       told = r.runs.told;
       ends = r.runs.ends;
-      due = due_of (claim_of a.worker.pass.view) (claim_of b.worker.pass.view) limit f b.work.full (due_link f a.worker.server r.runs.events) j number (ap (λ (c : Claim). c.own) is) (subst (λ n. Keeps (claim_of a.worker.pass.view) (claim_of b.worker.pass.view) limit b.work.full (due_link n a.worker.server r.runs.events)) number r.runs.kept) t le;
+      due = due_of share f (due_link f a.worker.server r.runs.events) j number (ap (λ (c : Claim). c.own) is) (subst (λ n. Keeps share (due_link n a.worker.server r.runs.events)) number r.runs.kept) t le;
     }
 
 notices_leaps : {L : Type 0} (state : L → SourceState) (opening : L → ℕ) (limit : ℕ) (a b : LeapJob L) (j : List Entry) (f start : ℕ) → a.worker.start ≡ start
     → claim_of a.worker.pass.view ≡ new_claim f → LeapRan state opening limit a b → IsTrueOf j (claim_of b.worker.pass.view) → length j ≤ limit
-    → NoticesLeaps start f limit j (state a.worker.log) (state b.worker.log) b.work
+    → NoticesLeaps start (column_of f limit j) (state a.worker.log) (state b.worker.log) b.work
 notices_leaps state opening limit a b j f start begins is r t le =
     let number = ap (λ (c : Claim). c.number) is in
-    let begin = claim_of a.worker.pass.view in
-    let end = claim_of b.worker.pass.view in
+    let share = share_of (claim_of a.worker.pass.view) b.worker.pass limit b.work.full in
     record {
       bytes = r.runs.bytes;
       whole = r.runs.whole;
       ends = r.runs.ends;
-      due = due_of begin end limit f b.work.full (due_leap f start r.runs.whole r.runs.bytes) j number (ap (λ (c : Claim). c.own) is)
-          (subst (λ n. Keeps begin end limit b.work.full (due_leap n start r.runs.whole r.runs.bytes)) number
-          (subst (λ n. Keeps begin end limit b.work.full (due_leap begin.number n r.runs.whole r.runs.bytes)) begins r.runs.kept)) t le;
+      due = due_of share f (due_leap f start r.runs.whole r.runs.bytes) j number (ap (λ (c : Claim). c.own) is)
+          (subst (λ n. Keeps share (due_leap n start r.runs.whole r.runs.bytes)) number
+          (subst (λ n. Keeps share (due_leap share.begun.number n r.runs.whole r.runs.bytes)) begins r.runs.kept)) t le;
     }
 
 -- the claim of the feed at a place
@@ -118,7 +119,7 @@ module _ {L T X : Type 0} {F : X → Type 0} where
     true_poller i d lt = subst (λ (f : Known). IsTrueOf j (claim_of f.view)) (poller_at bs qs m i d lt) (all (length bs + i) (poll_pass d) (omega (arith, lt, feeds_length bs qs m)))
 
     pub radios_served : (least : Boxed X F → ℕ) (radios : List RadioFields) (receivers : List (Boxed X F)) → AreBlank stands least radios receivers → Pairs (IsManned stands least) receivers cs → length j ≤ limit
-        → RadiosServed log_state log_opening radios limit j (map log_of cs) (map log_of bs) (map (λ x. x.work) bs)
+        → RadiosServed (seen log_state log_opening) radios (column_of 0 limit j) (map log_of cs) (map log_of bs) (map (λ x. x.work) bs)
     radios_served least radios receivers blank manned le = record {
       openings = map_both log_opening log_of bs ∙ each_map (λ (x : RadioJob L X F). log_opening x.worker.log) (RadioRan stands log_state log_opening limit) (λ a b r. r.log) cs bs ran same ∙ sym (map_both log_opening log_of cs);
       count = length-map bs (λ x. x.work) ∙ same ∙ sym (length-map cs log_of);
@@ -132,14 +133,15 @@ module _ {L T X : Type 0} {F : X → Type 0} where
           let w = pairs_at (IsManned stands least) receivers cs i e d manned ltr in
           let v = pairs_at (IsBlank stands least) radios receivers i radio e blank ltf in
           let r = get_or radios i radio in
-          subst (λ x. HearsRadio r i limit j (log_state x) (log_state (get_or (map log_of bs) i b)) (get_or (map (λ y. y.work) bs) i work)) (sym (get_or-map log_of cs i d a lt))
-          (subst (λ x. HearsRadio r i limit j (log_state (get_or cs i d).worker.log) (log_state x) (get_or (map (λ y. y.work) bs) i work)) (sym (get_or-map log_of bs i d b ltb))
-          (subst (λ x. HearsRadio r i limit j (log_state (get_or cs i d).worker.log) (log_state (get_or bs i d).worker.log) x) (sym (get_or-map (λ y. y.work) bs i d work ltb))
-          (hears_radio stands log_state log_opening limit r (get_or cs i d) (get_or bs i d) j i (radio_claim cs ps l k i d claims lt) (w.start r.plan r.delay v.stands_for) (ran.at i d lt) (true_radio i d ltb) le))));
+          let from_none : i ≡ 0 + i = omega arith in
+          subst (λ x. HearsRadio r (column_of (0 + i) limit j) (log_state x) (log_state (get_or (map log_of bs) i b)) (get_or (map (λ y. y.work) bs) i work)) (sym (get_or-map log_of cs i d a lt))
+          (subst (λ x. HearsRadio r (column_of (0 + i) limit j) (log_state (get_or cs i d).worker.log) (log_state x) (get_or (map (λ y. y.work) bs) i work)) (sym (get_or-map log_of bs i d b ltb))
+          (subst (λ x. HearsRadio r (column_of (0 + i) limit j) (log_state (get_or cs i d).worker.log) (log_state (get_or bs i d).worker.log) x) (sym (get_or-map (λ y. y.work) bs i d work ltb))
+          (hears_radio stands log_state log_opening limit r (get_or cs i d) (get_or bs i d) j (0 + i) (subst (λ n. claim_of (get_or cs i d).worker.pass.view ≡ new_claim n) from_none (radio_claim cs ps l k i d claims lt)) (w.start r.plan r.delay v.stands_for) (ran.at i d lt) (true_radio i d ltb) le))));
     }
 
     pub servers_served : (servers : List ServerFields) → map server_of ps ≡ servers → length j ≤ limit
-        → ServersServed state opening servers (length cs) limit j (map server_link ps) (map server_link qs) (map (λ x. x.work) qs)
+        → ServersServed (seen state opening) servers (column_of (length cs) limit j) (map server_link ps) (map server_link qs) (map (λ x. x.work) qs)
     servers_served servers are le = record {
       openings = map_both opening server_link qs ∙ each_map (λ (x : PollJob T). opening x.worker.link) (PollRan state opening limit) (λ a b r. r.link) ps qs polled same' ∙ sym (map_both opening server_link ps);
       count = length-map qs (λ x. x.work) ∙ same' ∙ sym (length-map ps server_link);
@@ -148,20 +150,20 @@ module _ {L T X : Type 0} {F : X → Type 0} where
           let ltb : i < length qs = omega (arith, lt, same') in
           let d = some_of ps i lt in
           let s : server_of (get_or ps i d) ≡ get_or servers i server = sym (get_or-map server_of ps i d server lt) ∙ ap (λ xs. get_or xs i server) are in
-          subst (λ x. AsksServer (get_or servers i server) (length cs + i) limit j (state x) (state (get_or (map server_link qs) i b)) (get_or (map (λ y. y.work) qs) i work)) (sym (get_or-map server_link ps i d a lt))
-          (subst (λ x. AsksServer (get_or servers i server) (length cs + i) limit j (state (get_or ps i d).worker.link) (state x) (get_or (map (λ y. y.work) qs) i work)) (sym (get_or-map server_link qs i d b ltb))
-          (subst (λ x. AsksServer (get_or servers i server) (length cs + i) limit j (state (get_or ps i d).worker.link) (state (get_or qs i d).worker.link) x) (sym (get_or-map (λ y. y.work) qs i d work ltb))
-          (subst (λ x. AsksServer x (length cs + i) limit j (state (get_or ps i d).worker.link) (state (get_or qs i d).worker.link) (get_or qs i d).work) s
+          subst (λ x. AsksServer (get_or servers i server) (column_of (length cs + i) limit j) (state x) (state (get_or (map server_link qs) i b)) (get_or (map (λ y. y.work) qs) i work)) (sym (get_or-map server_link ps i d a lt))
+          (subst (λ x. AsksServer (get_or servers i server) (column_of (length cs + i) limit j) (state (get_or ps i d).worker.link) (state x) (get_or (map (λ y. y.work) qs) i work)) (sym (get_or-map server_link qs i d b ltb))
+          (subst (λ x. AsksServer (get_or servers i server) (column_of (length cs + i) limit j) (state (get_or ps i d).worker.link) (state (get_or qs i d).worker.link) x) (sym (get_or-map (λ y. y.work) qs i d work ltb))
+          (subst (λ x. AsksServer x (column_of (length cs + i) limit j) (state (get_or ps i d).worker.link) (state (get_or qs i d).worker.link) (get_or qs i d).work) s
           (asks_server state opening limit (get_or ps i d) (get_or qs i d) j (length cs + i) (poller_claim cs ps l k i d claims lt) (polled.at i d lt) (true_poller i d ltb) le)))));
     }
 
     pub leap_served : (start : ℕ) → IfSome l (λ x. x.worker.start ≡ start) → length j ≤ limit
-        → LeapServed log_state log_opening start (length cs + length ps) limit j (option_map file_of l) (option_map file_of m) (option_map (λ x. x.work) m)
+        → LeapServed (seen log_state log_opening) start (column_of (length cs + length ps) limit j) (option_map file_of l) (option_map file_of m) (option_map (λ x. x.work) m)
     leap_served start begins le = served l m claims noticed all begins
       where
         served : (x y : Option (LeapJob L)) → map (λ f. claim_of f.view) (passes_of cs ps x) ≡ map new_claim (range_with_len 0 k) → Both (LeapRan log_state log_opening limit) x y
             → All (λ f. IsTrueOf j (claim_of f.view)) (passes_of bs qs y) → IfSome x (λ z. z.worker.start ≡ start)
-            → LeapServed log_state log_opening start (length cs + length ps) limit j (option_map file_of x) (option_map file_of y) (option_map (λ z. z.work) y)
+            → LeapServed (seen log_state log_opening) start (column_of (length cs + length ps) limit j) (option_map file_of x) (option_map file_of y) (option_map (λ z. z.work) y)
         served None None told both true_of at = tt
         served None (Some y) told both true_of at = absurd both
         served (Some x) None told both true_of at = absurd both

@@ -1,4 +1,4 @@
--- Laws of this crate: PassLaws (the passes of all feeds, place by place), FeedLaws and LinkLaws (what closing tells of each feed and of
+-- Laws of this crate: PassLaws (the passes of all feeds, place by place), FeedLaws and LinkLaws (what closing reports of each feed and of
 -- each link).
 pub mod PassLaws
 pub mod FeedLaws

@@ -1,4 +1,4 @@
--- What closing tells of each link that the station serves on.
+-- What closing reports of each link that the station serves on.
 use Rattle.std.proofs.Common.{◌≡◌, ℕ, zero, suc, ◌<◌, ◌≤◌, List, [], ◌∷◌, ◌++◌, None, Bool, true, false, map, length, refl, sym, ap, ◌∙◌, subst, arith}
 use Rattle.std.specs.Prelude.{All, get_or}
 use Rattle.std.specs.List.{flat_map, sum_by}
@@ -12,11 +12,13 @@ use Rattle.feed_link.specs.Told.{LinkState}
 use Rattle.journal_entry.specs.declared.entry.Entry.{Entry}
 use Rattle.kiss_gate.specs.Gates.{Gate}
 use Rattle.packet_auth.specs.Keys.{KeyFields, keys_of}
+use Rattle.packet_auth.specs.declared.ring.KeyRing.{KeyRing}
 use Rattle.page_cell.proofs.PageWords.{reading-page}
 use Rattle.page_cell.specs.Claims.{IsReading}
 use Rattle.page_cell.specs.Passes.{Known, KnownReader}
 use Rattle.page_cell.specs.declared.view.View.{View}
 use Rattle.responder.proofs.TurnLaws.{rises_both, took_none, turns_both}
+use Rattle.responder.specs.Desks.{Desk, desk_of}
 use Rattle.responder.specs.Serving.{Serves, Took}
 use Rattle.responder.specs.Turns.{Turn, Reading, readings_of, IsRead, AreTurns, torn_of, Rises, kept}
 use Rattle.responder.specs.declared.served.End.{End}
@@ -26,9 +28,10 @@ use Rattle.crew_work.proofs.ListLaws.{all_right, each_map, map_both, some_of}
 use Rattle.station_crew.specs.Crews.{IsNewReader}
 use Rattle.station_crew.specs.Leaving.{link_of, serve_pass}
 use Rattle.crew_work.specs.Lists.{Each}
-use Rattle.crew_work.specs.Served.{HasSecond, IsReadOf, LinksServed, ServesLink, ServesPhase}
+use Rattle.crew_work.specs.Served.{HasSecond, IsReadOf, LinksServed, ServesLink, ServesPhase, Service, seen}
 use Rattle.station_crew.specs.Telling.{HasSeenAll, HasServedTwice}
 use Rattle.station_crew.specs.declared.jobs.ServeJob.{ServeJob}
+use Rattle.crew_work.specs.declared.work.Budget.{Budget}
 use Rattle.crew_work.specs.declared.work.LinkWork.{LinkWork}
 use Rattle.system_fold.specs.Settings.{SettingsFields}
 use Rattle.verdict_journal.specs.Journals.{HasRead}
@@ -65,34 +68,46 @@ is_count Count = true
 is_count LinkEnd = false
 is_count LinkFault = false
 
-phase_of : (keys : List KeyFields) (A B : Gate) (before now : LinkState) (v w : View) (budget : ℕ) (served : Served) (r : Serves keys A B before now v w budget served) → ServesPhase budget before now served r.turns
-phase_of keys A B before now v w budget served r = record {
+phase_of : (before now : Desk) (budget : ℕ) (served : Served) (r : Serves before now budget served) → ServesPhase budget before.link now.link served r.turns
+phase_of before now budget served r = record {
   events = r.took.events;
   most = r.most;
   ends = r.ends;
   counts = record { answered = r.answered; dropped = r.dropped; again = r.again; kissed = r.kissed; unkept = r.unkept };
 }
 
--- the turns of a link by what its responder did in both phases, and by what the journal tells of its pass
-serves_link : {T : Type 0} (state : T → LinkState) (opening : T → ℕ) (keys : List KeyFields) (gate : Gate) (s : SettingsFields) (j : List Entry) (during after : ℕ) (feeds : List Known) (a b : ServeJob T)
+abbrev by_parts : List KeyFields → Gate → SettingsFields → List Entry → Budget → Service
+by_parts keys gate settings journal budget = record { keys = keys; gate = gate; settings = settings; journal = journal; during = budget.during; after = budget.after }
+
+-- the turns of a link by what its responder did in both phases, and by what the journal reports of its pass
+serves_link : {T : Type 0} (state : T → LinkState) (opening : T → ℕ) (keys : List KeyFields) (gate : Gate) (s : SettingsFields) (j : List Entry) (budget : Budget) (feeds : List Known) (a b : ServeJob T)
     → a.responder.pass.view.seen ≡ 0 → a.responder.pass.view.readings ≡ [] → a.responder.pass.view.watch.torn ≡ 0 → a.work.second ≡ None
     → keys_of a.responder.keys ≡ keys → a.responder.clients ≡ gate → ((r : KnownReader) → HasSeenAll feeds r → length j ≤ r.view.seen)
-    → HasServedTwice state opening during after feeds a b → HasRead s j b.responder.pass.view → ServesLink keys gate s j during after (state a.responder.link) (state b.responder.link) b.work
+    → HasServedTwice state opening budget feeds a b → HasRead s j b.responder.pass.view → ServesLink (by_parts keys gate s j budget) (state a.responder.link) (state b.responder.link) b.work
 unfolding is_count
-serves_link {T = T} state opening keys gate s j during after feeds a b unseen unread untorn none keyed gated bound t h = go t.told.work.first.end refl
+serves_link {T = T} state opening keys gate s j budget feeds a b unseen unread untorn none keyed gated bound t h = go t.told.work.first.end refl
   where
     first : List Turn
     first = t.served.serves.turns
 
-    p : Took keys gate t.between.responder.clients (state a.responder.link) (state t.between.responder.link) a.responder.pass.view t.between.responder.pass.view first
-    p = subst (λ z. Took keys z t.between.responder.clients (state a.responder.link) (state t.between.responder.link) a.responder.pass.view t.between.responder.pass.view first) gated
-        (subst (λ ks. Took ks a.responder.clients t.between.responder.clients (state a.responder.link) (state t.between.responder.link) a.responder.pass.view t.between.responder.pass.view first) keyed t.served.serves.took)
+    p : Took (desk_of state a.responder) (desk_of state t.between.responder) first
+    p = t.served.serves.took
+
+    lawful_first : AreTurns keys gate first t.between.responder.clients
+    lawful_first = subst (λ z. AreTurns keys z first t.between.responder.clients) gated (subst (λ ks. AreTurns ks a.responder.clients first t.between.responder.clients) keyed p.lawful)
 
     told_keys : keys_of t.told.responder.keys ≡ keys
     told_keys = ap keys_of (t.learnt.keys ∙ t.served.same.keys) ∙ keyed
 
     link_is : state t.told.responder.link ≡ state t.between.responder.link
     link_is = ap state t.learnt.link
+
+    told : Desk
+    told = desk_of state t.told.responder
+
+    -- the desk at the end, with the gate that the turns of the second phase left
+    left_with : Gate → Desk
+    left_with last_gate = record (desk_of state b.responder) { gate = last_gate }
 
     v : View
     v = t.told.responder.pass.view
@@ -115,8 +130,8 @@ serves_link {T = T} state opening keys gate s j during after feeds a b unseen un
     torn_told : v.watch.torn ≡ sum_by torn_of first
     torn_told = ap (λ w. w.torn) t.learnt.learnt.watch ∙ p.torn ∙ (let z = untorn in omega (arith, z))
 
-    gone : (second : List Turn) (last_gate : Gate) → Took keys t.told.responder.clients last_gate (state t.told.responder.link) (state b.responder.link) v b.responder.pass.view second → HasSecond after (state t.between.responder.link) (state b.responder.link) b.work second
-        → ServesLink keys gate s j during after (state a.responder.link) (state b.responder.link) b.work
+    gone : (second : List Turn) (last_gate : Gate) → Took told (left_with last_gate) second → HasSecond budget.after (state t.between.responder.link) (state b.responder.link) b.work second
+        → ServesLink (by_parts keys gate s j budget) (state a.responder.link) (state b.responder.link) b.work
     gone second last_gate q ends =
         let whole : b.responder.pass.view.readings ≡ map kept (flat_map readings_of (first ++ second)) = q.readings ∙ ap (λ l. l ++ map kept (flat_map readings_of second)) readings_told ∙ sym (map-append kept (flat_map readings_of first) (flat_map readings_of second)) ∙ ap (λ l. map kept l) (sym (flat_map-append readings_of first second)) in
         let pages = reads_of s j (flat_map readings_of (first ++ second)) (subst (All (IsReading s j)) whole h.readings)
@@ -130,10 +145,10 @@ serves_link {T = T} state opening keys gate s j during after feeds a b unseen un
           first = first;
           second = second;
           between = state t.between.responder.link;
-          first_phase = subst (λ z. ServesPhase during (state a.responder.link) (state t.between.responder.link) z first) (sym first_is) (phase_of (keys_of a.responder.keys) a.responder.clients t.between.responder.clients (state a.responder.link) (state t.between.responder.link) a.responder.pass.view t.between.responder.pass.view during t.between.work.first t.served.serves);
+          first_phase = subst (λ z. ServesPhase budget.during (state a.responder.link) (state t.between.responder.link) z first) (sym first_is) (phase_of (desk_of state a.responder) (desk_of state t.between.responder) budget.during t.between.work.first t.served.serves);
           second_phase = ends;
           gate_now = last_gate;
-          lawful = turns_both keys gate t.between.responder.clients last_gate first second p.lawful (subst (λ z. AreTurns keys z second last_gate) t.learnt.clients q.lawful);
+          lawful = turns_both keys gate t.between.responder.clients last_gate first second lawful_first (subst (λ z. AreTurns keys z second last_gate) t.learnt.clients (subst (λ ks. AreTurns ks t.told.responder.clients second last_gate) told_keys q.lawful));
           pages = pages;
           last = gap.0;
           rising = subst (λ l. Rises 0 l gap.0) (sym (flat_map-append readings_of first second)) gap.1;
@@ -142,31 +157,32 @@ serves_link {T = T} state opening keys gate s j during after feeds a b unseen un
           few_again = (let e = q.torn in let f = torn_told in omega (arith, quiet, e, f, few, great));
         }
 
-    not_count : (e : End) → is_count e ≡ false → t.told.work.first.end ≡ e → ServesLink keys gate s j during after (state a.responder.link) (state b.responder.link) b.work
+    not_count : (e : End) → is_count e ≡ false → t.told.work.first.end ≡ e → ServesLink (by_parts keys gate s j budget) (state a.responder.link) (state b.responder.link) b.work
     not_count e f is =
         let n = t.again.not (λ c. true≢false (ap is_count (sym c ∙ is) ∙ f)) in
-        gone [] t.told.responder.clients (subst (λ (z : T). Took keys t.told.responder.clients t.told.responder.clients (state t.told.responder.link) (state z) v b.responder.pass.view []) (sym n.1) (subst (λ (z : KnownReader). Took keys t.told.responder.clients t.told.responder.clients (state t.told.responder.link) (state t.told.responder.link) v z.view []) (sym n.2) (took_none keys t.told.responder.clients (state t.told.responder.link) (state t.told.responder.link) v (Adds-none (state t.told.responder.link).events))))
+        gone [] t.told.responder.clients (subst (λ (z : KeyRing). Took told (record told { keys = keys_of z; link = state b.responder.link; view = b.responder.pass.view }) []) (sym t.again.same.keys)
+        (subst (λ (z : T). Took told (record told { link = state z; view = b.responder.pass.view }) []) (sym n.1) (subst (λ (z : KnownReader). Took told (record told { view = z.view }) []) (sym n.2) (took_none told told.link (Adds-none told.link.events)))))
         (record {
           served = (λ c. absurd (true≢false (ap is_count (sym c ∙ sym end_is ∙ is) ∙ f)));
           not = (λ _. (n.0 ∙ ap (λ (z : LinkWork). z.second) t.learnt.work ∙ t.served.second ∙ none, ap state n.1 ∙ link_is, refl));
         })
 
-    go : (e : End) → t.told.work.first.end ≡ e → ServesLink keys gate s j during after (state a.responder.link) (state b.responder.link) b.work
+    go : (e : End) → t.told.work.first.end ≡ e → ServesLink (by_parts keys gate s j budget) (state a.responder.link) (state b.responder.link) b.work
     go Count is =
         let r = t.again.again is in
-        gone r.2.turns b.responder.clients (subst (λ ks. Took ks t.told.responder.clients b.responder.clients (state t.told.responder.link) (state b.responder.link) v b.responder.pass.view r.2.turns) told_keys r.2.took) (record {
-          served = (λ _. (r.0, r.1, subst (λ (z : LinkState). ServesPhase after z (state b.responder.link) r.0 r.2.turns) link_is (phase_of (keys_of t.told.responder.keys) t.told.responder.clients b.responder.clients (state t.told.responder.link) (state b.responder.link) v b.responder.pass.view after r.0 r.2)));
+        gone r.2.turns b.responder.clients r.2.took (record {
+          served = (λ _. (r.0, r.1, subst (λ (z : LinkState). ServesPhase budget.after z (state b.responder.link) r.0 r.2.turns) link_is (phase_of told (desk_of state b.responder) budget.after r.0 r.2)));
           not = (λ c. absurd (c (sym end_is ∙ is)));
         })
     go LinkEnd is = not_count LinkEnd refl is
     go LinkFault is = not_count LinkFault refl is
 
-pub links_served : {T : Type 0} (state : T → LinkState) (opening : T → ℕ) (keys : List KeyFields) (gate : Gate) (s : SettingsFields) (j : List Entry) (during after : ℕ) (table : TableId) (feeds : List Known) (xs ys : List (ServeJob T))
-    → Each (HasServedTwice state opening during after feeds) xs ys → length ys ≡ length xs → All (IsNewReader table) (map serve_pass xs) → All (λ x. x.work.second ≡ None) xs → All (λ x. keys_of x.responder.keys ≡ keys) xs → All (λ x. x.responder.clients ≡ gate) xs
+pub links_served : {T : Type 0} (state : T → LinkState) (opening : T → ℕ) (keys : List KeyFields) (gate : Gate) (s : SettingsFields) (j : List Entry) (budget : Budget) (table : TableId) (feeds : List Known) (xs ys : List (ServeJob T))
+    → Each (HasServedTwice state opening budget feeds) xs ys → length ys ≡ length xs → All (IsNewReader table) (map serve_pass xs) → All (λ x. x.work.second ≡ None) xs → All (λ x. keys_of x.responder.keys ≡ keys) xs → All (λ x. x.responder.clients ≡ gate) xs
     → All (λ r. HasRead s j r.view) (map serve_pass ys) → ((r : KnownReader) → HasSeenAll feeds r → length j ≤ r.view.seen)
-    → LinksServed state opening keys gate s j during after (map link_of xs) (map link_of ys) (map (λ x. x.work) ys)
-links_served {T = T} state opening keys gate s j during after table feeds xs ys served same new none keyed gated read bound = record {
-  openings = map_both opening link_of ys ∙ each_map (λ (x : ServeJob T). opening x.responder.link) (HasServedTwice state opening during after feeds) (λ a b t. t.again.same.link ∙ ap opening t.learnt.link ∙ t.served.same.link) xs ys served same ∙ sym (map_both opening link_of xs);
+    → LinksServed (seen state opening) (by_parts keys gate s j budget) (map link_of xs) (map link_of ys) (map (λ x. x.work) ys)
+links_served {T = T} state opening keys gate s j budget table feeds xs ys served same new none keyed gated read bound = record {
+  openings = map_both opening link_of ys ∙ each_map (λ (x : ServeJob T). opening x.responder.link) (HasServedTwice state opening budget feeds) (λ a b t. t.again.same.link ∙ ap opening t.learnt.link ∙ t.served.same.link) xs ys served same ∙ sym (map_both opening link_of xs);
   count = length-map ys (λ x. x.work) ∙ same ∙ sym (length-map xs link_of);
   at = (λ i a b work lt'.
       let lt : i < length xs = omega (arith, lt', length-map xs link_of) in
@@ -174,8 +190,8 @@ links_served {T = T} state opening keys gate s j during after table feeds xs ys 
       let d = some_of xs i lt in
       let f = subst (IsNewReader table) (get_or-map serve_pass xs i d (serve_pass d) lt) (new i (serve_pass d) (omega (arith, lt, length-map xs serve_pass))) in
       let r = subst (λ (r : KnownReader). HasRead s j r.view) (get_or-map serve_pass ys i d (serve_pass d) ltb) (read i (serve_pass d) (omega (arith, ltb, length-map ys serve_pass))) in
-      subst (λ x. ServesLink keys gate s j during after (state x) (state (get_or (map link_of ys) i b)) (get_or (map (λ y. y.work) ys) i work)) (sym (get_or-map link_of xs i d a lt))
-      (subst (λ x. ServesLink keys gate s j during after (state (get_or xs i d).responder.link) (state x) (get_or (map (λ y. y.work) ys) i work)) (sym (get_or-map link_of ys i d b ltb))
-      (subst (λ x. ServesLink keys gate s j during after (state (get_or xs i d).responder.link) (state (get_or ys i d).responder.link) x) (sym (get_or-map (λ y. y.work) ys i d work ltb))
-      (serves_link state opening keys gate s j during after feeds (get_or xs i d) (get_or ys i d) f.unseen f.unread f.untorn (none i d lt) (keyed i d lt) (gated i d lt) bound (served.at i d lt) r))));
+      subst (λ x. ServesLink (by_parts keys gate s j budget) (state x) (state (get_or (map link_of ys) i b)) (get_or (map (λ y. y.work) ys) i work)) (sym (get_or-map link_of xs i d a lt))
+      (subst (λ x. ServesLink (by_parts keys gate s j budget) (state (get_or xs i d).responder.link) (state x) (get_or (map (λ y. y.work) ys) i work)) (sym (get_or-map link_of ys i d b ltb))
+      (subst (λ x. ServesLink (by_parts keys gate s j budget) (state (get_or xs i d).responder.link) (state (get_or ys i d).responder.link) x) (sym (get_or-map (λ y. y.work) ys i d work ltb))
+      (serves_link state opening keys gate s j budget feeds (get_or xs i d) (get_or ys i d) f.unseen f.unread f.untorn (none i d lt) (keyed i d lt) (gated i d lt) bound (served.at i d lt) r))));
 }

@@ -2,7 +2,6 @@
 use Rattle.std.specs.Prelude.{◌≡◌, ◌≤◌, ℕ, ◌+◌, Option, List, [], All, None, IfSome, length, map, option_map, vec_capacity, vec_len}
 use Rattle.std.specs.List.{range_with_len}
 use Rattle.atomic_table.specs.Seated.{TableId}
-use Rattle.feed_link.specs.Told.{SourceState, LinkState}
 use Rattle.kiss_gate.specs.Gates.{Gate}
 use Rattle.packet_auth.specs.Keys.{keys_of}
 use Rattle.page_cell.specs.Passes.{KnownReader}
@@ -12,6 +11,8 @@ use Rattle.station_config.specs.Station.{StationFields, gate_of}
 use Rattle.station_crew.specs.Jobs.{IsManned, RadioRan, PollRan, LeapRan}
 use Rattle.station_crew.specs.Leaving.{file_of, link_of, log_of, number_of, passes_of, serve_pass, server_link, server_of}
 use Rattle.crew_work.specs.Lists.{Both, Each, Pairs}
+use Rattle.crew_work.specs.Served.{Sights}
+use Rattle.crew_work.specs.declared.work.Budget.{Budget}
 use Rattle.station_crew.specs.Telling.{HasServedTwice}
 use Rattle.station_crew.specs.declared.crew.Crew.{Crew}
 use Rattle.station_crew.specs.declared.crew.Left.{Left}
@@ -29,7 +30,7 @@ pub record IsNewReader (table : TableId) (r : KnownReader) : Type 0 where
   pub unread : r.view.readings ≡ []
   pub untorn : r.view.watch.torn ≡ 0
 
--- room for the workers of so many radios, servers and links
+-- room for the workers of this many radios, servers and links
 pub record HasRoomFor {L T X : Type 0} {F : X → Type 0} (of_radios of_servers of_links : ℕ) (crew : Crew L T X F) : Type 0 where
   pub no_radios : crew.radios.items ≡ []
   pub no_pollers : crew.pollers.items ≡ []
@@ -88,8 +89,7 @@ pub record CrewManned {L T X : Type 0} {F : X → Type 0} (stands : Boxed X F �
   pub gated : All (λ j. j.responder.clients ≡ gate_of station) crew.responders.items
 
 -- both phases were run, and this is what the workers left
-pub record CrewRan {L T X : Type 0} {F : X → Type 0} (stands : Boxed X F → History → Type 0) (log_state : L → SourceState) (log_opening : L → ℕ) (state : T → LinkState) (opening : T → ℕ)
-    (limit during after : ℕ) (crew : Crew L T X F) (left : Left L T) : Type 0 where
+pub record CrewRan {L T X : Type 0} {F : X → Type 0} (stands : Boxed X F → History → Type 0) (sights : Sights L T) (limit : ℕ) (budget : Budget) (crew : Crew L T X F) (left : Left L T) : Type 0 where
   pub radios : List (RadioJob L X F)
   pub pollers : List (PollJob T)
   pub leap : Option (LeapJob L)
@@ -97,10 +97,10 @@ pub record CrewRan {L T X : Type 0} {F : X → Type 0} (stands : Boxed X F → H
   pub radio_count : length radios ≡ length crew.radios.items
   pub poller_count : length pollers ≡ length crew.pollers.items
   pub responder_count : length responders ≡ length crew.responders.items
-  pub radios_ran : Each (RadioRan stands log_state log_opening limit) crew.radios.items radios
-  pub pollers_ran : Each (PollRan state opening limit) crew.pollers.items pollers
-  pub leap_ran : Both (LeapRan log_state log_opening limit) crew.leap leap
-  pub served : Each (HasServedTwice state opening during after (passes_of radios pollers leap)) crew.responders.items responders
+  pub radios_ran : Each (RadioRan stands sights.logs.state sights.logs.opening limit) crew.radios.items radios
+  pub pollers_ran : Each (PollRan sights.links.state sights.links.opening limit) crew.pollers.items pollers
+  pub leap_ran : Both (LeapRan sights.logs.state sights.logs.opening limit) crew.leap leap
+  pub served : Each (HasServedTwice sights.links.state sights.links.opening budget (passes_of radios pollers leap)) crew.responders.items responders
   pub logs : left.gear.logs.items ≡ map log_of radios
   pub servers : left.gear.servers.items ≡ map server_link pollers
   pub file : left.gear.leap ≡ option_map file_of leap

@@ -1,5 +1,5 @@
 -- What a reader has to believe is in crew_work: Due and Served. The files here are scaffolding: Jobs (what each worker does), Telling (what
--- responders are told between the phases), Leaving (what workers give back), Crews (what all of them do).
+-- responders learn between the phases), Leaving (what workers give back), Crews (what all of them do).
 pub mod Jobs
 pub mod Leaving
 pub mod Telling

@@ -1,7 +1,8 @@
--- Scaffolding: what responders are told between the phases.
+-- Scaffolding: what responders learn between the phases.
 use Rattle.std.specs.Prelude.{◌≡◌, ◌≤◌, ℕ, List, All, length}
 use Rattle.feed_link.specs.Told.{LinkState}
 use Rattle.page_cell.specs.Passes.{Known, KnownReader, claim_of}
+use Rattle.crew_work.specs.declared.work.Budget.{Budget}
 use Rattle.station_crew.specs.Jobs.{HasServed, HasServedAgain}
 use Rattle.station_crew.specs.declared.jobs.ServeJob.{ServeJob}
 
@@ -25,10 +26,10 @@ pub record WasTold {T : Type 0} (feeds : List Known) (a b : ServeJob T) : Type 0
   pub learnt : HasLearnt a.responder.pass b.responder.pass
   pub seen : HasSeenAll feeds b.responder.pass
 
--- both phases of a responder, and what it was told between them
-pub record HasServedTwice {T : Type 0} (state : T → LinkState) (opening : T → ℕ) (during after : ℕ) (feeds : List Known) (a b : ServeJob T) : Type 0 where
+-- both phases of a responder, and what it learnt between them
+pub record HasServedTwice {T : Type 0} (state : T → LinkState) (opening : T → ℕ) (budget : Budget) (feeds : List Known) (a b : ServeJob T) : Type 0 where
   pub between : ServeJob T
   pub told : ServeJob T
-  pub served : HasServed state opening during a between
+  pub served : HasServed state opening budget.during a between
   pub learnt : WasTold feeds between told
-  pub again : HasServedAgain state opening after told b
+  pub again : HasServedAgain state opening budget.after told b

@@ -5,6 +5,7 @@ ghost use Rattle.station_crew.specs.Crews.{CrewRan, HasRoomFor, HasRoomToLeave};
 ghost use Rattle.station_crew.specs.Jobs.{HasServed, HasServedAgain, LeapRan, MayHear, MayNotice, MayPoll, PollRan, RadioRan};
 ghost use Rattle.station_crew.specs.Leaving.{number_of};
 ghost use Rattle.crew_work.specs.Lists.{Both, Each, Every, Pairs};
+ghost use Rattle.crew_work.specs.Served.{seen, sights_of};
 ghost use Rattle.station_crew.specs.Telling.{WasTold};
 
 use crate::jobs::{LeapJob, PollJob, RadioJob, ServeJob};
@@ -30,7 +31,7 @@ pub struct Crew<L: Drop, T: Drop> {
     pub responders: Vec<ServeJob<T>>,
 }
 
-/// What the workers leave, each in the station's order: logs and links, what was done, and the passes.
+/// What the workers leave, each in the station's order: logs and links, what they did, and the passes.
 #[derive(Drop)]
 pub struct Left<L: Drop, T: Drop> {
     pub gear: Gear<L, T>,
@@ -58,7 +59,9 @@ fn begin<
     ensures pollers { Each (PollRan T.state T.opening N.limit) crew.old.pollers.items crew.new.pollers.items }
     ensures leap { Both (LeapRan L.state L.opening N.limit) crew.old.leap crew.new.leap }
     ensures responders { Each (HasServed T.state T.opening budget) crew.old.responders.items crew.new.responders.items }
-    ensures counts { (vec_len crew.new.radios ≡ vec_len crew.old.radios) × (vec_len crew.new.pollers ≡ vec_len crew.old.pollers) × (vec_len crew.new.responders ≡ vec_len crew.old.responders) }
+    ensures counts { (vec_len crew.new.radios ≡ vec_len crew.old.radios)
+        × (vec_len crew.new.pollers ≡ vec_len crew.old.pollers)
+        × (vec_len crew.new.responders ≡ vec_len crew.old.responders) }
 {
     let Crew {
         radios,
@@ -78,7 +81,7 @@ fn begin<
     );
 }
 
-// Each responder is told how much every feed has seen.
+// Each responder learns how much every feed has seen.
 fn tell_crew<T: Link + Drop>(
     cell: &PageCell,
     feeds: &mut Vec<FeedPass>,
@@ -112,8 +115,8 @@ fn go_on<N: HubName + Send + Sync, R: Threads + Wait + Sync, T: Link + Drop, G: 
     run_second(rt, hub, gate, budget, jobs.as_mut_slice());
 }
 
-/// Runs both phases: the feeds' workers beside the responders; then the responders are told how much every feed has seen, and those
-/// whose link goes on serve again. `told` has room for the responders of the second phase, `left` for all that is left.
+/// Runs both phases: first the feeds' workers beside the responders. Then the responders learn how much every feed has seen, and
+/// those whose link goes on serve again. `told` has room for the responders of the second phase, `left` for all that is left.
 pub fn run_crew<
     N: HubName + Send + Sync,
     R: Threads + Wait + Sync,
@@ -136,7 +139,8 @@ pub fn run_crew<
     requires few { vec_len crew.responders ≤ 8 }
     requires told { (told.items ≡ []) × (vec_len crew.responders ≤ vec_capacity told) }
     requires left { HasRoomToLeave (vec_len crew.radios) (vec_len crew.pollers) (vec_len crew.responders) left }
-    ensures { CrewRan stands_for L.state L.opening T.state T.opening N.limit budget.during budget.after crew result }
+    ensures { let sights = sights_of (seen L.state L.opening) (seen T.state T.opening) in
+        CrewRan stands_for sights N.limit budget crew result }
 {
     let mut crew = crew;
     let mut told = told;

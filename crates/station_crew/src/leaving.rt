@@ -9,7 +9,7 @@ use feed_link::{Link, Source};
 use feed_workers::{LogWork, PollWork};
 use page_cell::{FeedPass, ReadPass};
 
-/// The radios' workers give back.
+/// The radios' workers give back their logs, what they did, and their passes.
 pub fn leave_radios<L: Source + Drop>(
     jobs: Vec<RadioJob<L>>,
     logs: &mut Vec<L>,
@@ -33,7 +33,7 @@ pub fn leave_radios<L: Source + Drop>(
     }
 }
 
-/// The servers' workers give back.
+/// The servers' workers give back their links, what they did, and their passes.
 pub fn leave_pollers<T: Link + Drop>(
     jobs: Vec<PollJob<T>>,
     links: &mut Vec<T>,
@@ -77,7 +77,7 @@ pub fn leave_leap<L: Source + Drop>(
     }
 }
 
-/// The responders give back.
+/// The responders give back their links, what they did, and their passes.
 pub fn leave_responders<T: Link + Drop>(
     jobs: Vec<ServeJob<T>>,
     links: &mut Vec<T>,

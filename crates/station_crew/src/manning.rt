@@ -21,7 +21,7 @@ use responder::{End, Responder, Served};
 use station_config::{ServerRow, Station};
 use tick_units::Local;
 
-// What is put down of a worker that hasn't run yet.
+// The result of a worker that has not run yet.
 const UNREAD: LogWork = LogWork {
     end: LogEnd::Whole,
     full: false,
@@ -132,8 +132,8 @@ pub fn man_leap<L: Source + Drop>(
     }
 }
 
-/// A responder for each link that the station serves on, numbered from 0, with the pass of a reader, the keys of the station and
-/// a gate of clients.
+/// A responder for each link that the station serves on, numbered from 0. Each has the pass of a reader, the keys of the station
+/// and a gate of clients.
 pub fn man_responders<T: Link + Drop>(
     station: &Station,
     links: Vec<T>,

@@ -9,6 +9,7 @@ ghost use Rattle.station_crew.specs.Crews.{CrewManned, HasRoom, HasRoomFor, IsNe
 ghost use Rattle.station_crew.specs.Leaving.{passes_of, serve_pass};
 ghost use Rattle.station_gear.specs.Opens.{IsWhole};
 ghost use Rattle.crew_work.specs.Served.{AreBlank, IsJournalOf, LeapServed, LinksServed, RadiosServed, ServersServed};
+ghost use Rattle.crew_work.specs.Served.{column_of, seen, service_of};
 
 use crate::crew::{Crew, Left, run_crew};
 use crate::jobs::ServeJob;
@@ -65,7 +66,8 @@ fn man_crew<L: Source + Drop, T: Link + Drop>(
     requires station { IsStation station.now }
     requires blank { AreBlank stands_for least_start station.now.radios receivers.items }
     requires gear { IsWhole station.now gear }
-    requires feeds { vec_len passes.feeds ≡ vec_len gear.logs + vec_len gear.servers + length (option_to_list gear.leap) }
+    requires feeds { vec_len passes.feeds
+        ≡ vec_len gear.logs + vec_len gear.servers + length (option_to_list gear.leap) }
     requires readers { vec_len passes.readers ≡ vec_len gear.links }
     requires gates { vec_len gates ≡ vec_len gear.links }
     requires alike { All (λ gate. gate ≡ gate_of station.now) gates.items }
@@ -92,7 +94,7 @@ fn man_crew<L: Source + Drop, T: Link + Drop>(
     crew
 }
 
-// Mans the station, runs both phases and closes the hub.
+// Makes the workers of the station, runs both phases and closes the hub.
 fn run_hub<
     N: HubName + Send + Sync,
     R: Threads + Wait + Sync,
@@ -113,16 +115,24 @@ fn run_hub<
     requires settings { settings_of station.now ≡ N.settings }
     requires blank { AreBlank stands_for least_start station.now.radios receivers.items }
     requires gear { IsWhole station.now gear }
-    requires claims { map (λ f. claim_of f.view) parts.feeds.items ≡ map new_claim (range_with_len 0 (length N.settings.sources)) }
+    requires claims { let numbers = range_with_len 0 (length N.settings.sources) in
+        map (λ f. claim_of f.view) parts.feeds.items ≡ map new_claim numbers }
     requires feeds { All (λ f. f.table ≡ N.table) parts.feeds.items }
     requires readers { All (IsNewReader N.table) parts.readers.items }
     requires count { vec_len parts.readers ≡ vec_len gear.links }
     requires room { HasRoom (gate_of station.now) (vec_len gear.logs) (vec_len gear.servers) (vec_len gear.links) room }
     ensures journal { IsJournalOf N.settings N.limit result.journal }
-    ensures radios { RadiosServed L.state L.opening station.now.radios N.limit result.journal.entries gear.logs.items result.gear.logs.items result.radios.items }
-    ensures servers { ServersServed T.state T.opening station.now.servers (length station.now.radios) N.limit result.journal.entries gear.servers.items result.gear.servers.items result.servers.items }
-    ensures leap { LeapServed L.state L.opening station.now.top.start (leap_feed station.now) N.limit result.journal.entries gear.leap result.gear.leap result.leap }
-    ensures links { LinksServed T.state T.opening station.now.keys (gate_of station.now) N.settings result.journal.entries budget.during budget.after gear.links.items result.gear.links.items result.links.items }
+    ensures radios { let column = column_of 0 N.limit result.journal.entries in
+        let work = result.radios.items in
+        RadiosServed (seen L.state L.opening) station.now.radios column gear.logs.items result.gear.logs.items work }
+    ensures servers { let column = column_of (length station.now.radios) N.limit result.journal.entries in
+        let had = gear.servers.items in
+        let has = result.gear.servers.items in
+        ServersServed (seen T.state T.opening) station.now.servers column had has result.servers.items }
+    ensures leap { let column = column_of (leap_feed station.now) N.limit result.journal.entries in
+        LeapServed (seen L.state L.opening) station.now.top.start column gear.leap result.gear.leap result.leap }
+    ensures links { let service = service_of station.now result.journal.entries budget in
+        LinksServed (seen T.state T.opening) service gear.links.items result.gear.links.items result.links.items }
 {
     let HubParts {
         hub,
@@ -156,7 +166,7 @@ fn run_hub<
     }
 }
 
-/// Opens the hub of the name's cell and runs the station in it. Want of memory gives the gear back.
+/// Opens the hub of the name's cell and runs the station in it. Lack of memory gives back the gear.
 pub fn run_named<
     N: HubName + Send + Sync,
     R: Threads + Wait + Sync,
@@ -176,21 +186,30 @@ pub fn run_named<
     room: Room<L, T>,
 ) -> Result<Ended<L, T>, Gear<L, T>>
     requires cell { (parts.cell.table ≡ N.table) × (parts.baton.table ≡ N.table) }
-    requires settings { (key_of parts.baton.view ≡ settings_of station.now) × (settings_of station.now ≡ N.settings) }
+    requires settings { (key_of parts.baton.view ≡ settings_of station.now)
+        × (settings_of station.now ≡ N.settings) }
     requires fresh { parts.baton.view.list ≡ [] }
     requires limit { (limit ≡ N.limit) × (0 < limit) × (limit ≤ 4194304) }
     requires blank { AreBlank stands_for least_start station.now.radios receivers.items }
     requires gear { IsWhole station.now gear }
-    requires claims { map (λ f. claim_of f.view) parts.feeds.items ≡ map new_claim (range_with_len 0 (length N.settings.sources)) }
+    requires claims { let numbers = range_with_len 0 (length N.settings.sources) in
+        map (λ f. claim_of f.view) parts.feeds.items ≡ map new_claim numbers }
     requires feeds { All (λ f. f.table ≡ N.table) parts.feeds.items }
     requires readers { All (IsNewReader N.table) parts.readers.items }
     requires count { vec_len parts.readers ≡ vec_len gear.links }
     requires room { HasRoom (gate_of station.now) (vec_len gear.logs) (vec_len gear.servers) (vec_len gear.links) room }
     ensures journal { IfOk result (λ e. IsJournalOf (settings_of station.now) limit e.journal) }
-    ensures radios { IfOk result (λ e. RadiosServed L.state L.opening station.now.radios limit e.journal.entries gear.logs.items e.gear.logs.items e.radios.items) }
-    ensures servers { IfOk result (λ e. ServersServed T.state T.opening station.now.servers (length station.now.radios) limit e.journal.entries gear.servers.items e.gear.servers.items e.servers.items) }
-    ensures leap { IfOk result (λ e. LeapServed L.state L.opening station.now.top.start (leap_feed station.now) limit e.journal.entries gear.leap e.gear.leap e.leap) }
-    ensures links { IfOk result (λ e. LinksServed T.state T.opening station.now.keys (gate_of station.now) (settings_of station.now) e.journal.entries budget.during budget.after gear.links.items e.gear.links.items e.links.items) }
+    ensures radios { IfOk result (λ e. let column = column_of 0 limit e.journal.entries in
+        let work = e.radios.items in
+        RadiosServed (seen L.state L.opening) station.now.radios column gear.logs.items e.gear.logs.items work) }
+    ensures servers { IfOk result (λ e. let column = column_of (length station.now.radios) limit e.journal.entries in
+        let had = gear.servers.items in
+        let has = e.gear.servers.items in
+        ServersServed (seen T.state T.opening) station.now.servers column had has e.servers.items) }
+    ensures leap { IfOk result (λ e. let column = column_of (leap_feed station.now) limit e.journal.entries in
+        LeapServed (seen L.state L.opening) station.now.top.start column gear.leap e.gear.leap e.leap) }
+    ensures links { IfOk result (λ e. let service = service_of station.now e.journal.entries budget in
+        LinksServed (seen T.state T.opening) service gear.links.items e.gear.links.items e.links.items) }
     ensures memory { IfErr result (λ g. g ≡ gear) }
 {
     match Hub::<N>::open(alloc, parts, station.settings(), limit) {

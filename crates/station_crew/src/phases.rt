@@ -108,7 +108,7 @@ fn run_responder<N: HubName, R: Wait, T: Link + Drop, G: Gate>(
     job.work.first = job.responder.serve(rt, hub.cell(), gate, budget);
 }
 
-// The responders side by side, for so many hearings each.
+// The responders side by side, for this many hearings each.
 fn run_responders<N: HubName + Send + Sync, R: Threads + Wait + Sync, T: Link + Drop, G: Gate>(
     rt: &R,
     hub: &Hub<N>,
@@ -146,7 +146,7 @@ fn serve_again<N: HubName, R: Wait, T: Link + Drop, G: Gate>(
     }
 }
 
-/// The second phase: those responders whose link goes on, for so many hearings more.
+/// The second phase: those responders whose link goes on, for this many hearings more.
 pub fn run_second<N: HubName + Send + Sync, R: Threads + Wait + Sync, T: Link + Drop, G: Gate>(
     rt: &R,
     hub: &Hub<N>,

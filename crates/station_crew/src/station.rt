@@ -1,9 +1,10 @@
-//! A station whose logs and links are open is served.
+//! Serves a station whose logs and links are open.
 ghost use Rattle.std.specs.Prelude.{◌≡◌, ◌<◌, ◌≤◌, ◌^◌, ◌+◌, All, IfErr, IfOk, length, vec_len};
 ghost use Rattle.station_config.specs.Station.{gate_of, leap_feed, settings_of};
 ghost use Rattle.station_crew.specs.Crews.{HasRoom, HasRoomFor, HasRoomForGear, HasRoomToLeave};
 ghost use Rattle.station_gear.specs.Opens.{IsWhole};
 ghost use Rattle.crew_work.specs.Served.{AreBlank, IsJournalOf, LeapServed, LinksServed, RadiosServed, ServersServed};
+ghost use Rattle.crew_work.specs.Served.{column_of, seen, service_of};
 
 use crate::crew::{Crew, Left};
 use crate::named::{Ended, Room, run_named};
@@ -67,14 +68,14 @@ fn make_left<L: Drop, T: Drop>(alloc: Global, counts: Counts) -> Result<Left<L, 
     })
 }
 
-// The gate of clients that a link of a station begins with.
+// The gate of clients with which a link of a station begins.
 fn open_gate(alloc: Global, station: &Station) -> Result<ClientGate, GateOpen>
     ensures { IfOk result (λ gate. gate ≡ gate_of station.now) }
 {
     ClientGate::open(alloc, station.deny(), station.gap(), station.clients())
 }
 
-// One for each of so many links.
+// One for each of this many links.
 fn open_gates(alloc: Global, station: &Station, count: usize) -> Result<Vec<ClientGate>, AllocError>
     ensures count { IfOk result (λ gates. vec_len gates ≡ count) }
     ensures alike { IfOk result (λ gates. All (λ gate. gate ≡ gate_of station.now) gates.items) }
@@ -106,13 +107,14 @@ fn make_room<L: Drop, T: Drop>(
     })
 }
 
-/// Serves a station. In the first phase its radios' logs and its leap second file are read and its servers are polled into one journal of at most `limit` entries,
-/// 1 to 4194304, while the clients of its links are answered from the page of the journal so far, for `budget.during` hearings a link, by the
-/// station's keys where they ask so, or with a kiss code where the station denies them or they ask too often. In the second phase those
-/// links that go on are served for `budget.after` hearings more, from the page of the whole journal. Each link has a gate of clients of its
-/// own, which goes on from phase to phase. The receivers are those of the radios, in order, and have heard nothing. All memory is taken
-/// before any log or link is used, but for what a gate of clients takes for a new client; where there isn't enough, the gear comes back as
-/// it was.
+/// Serves a station, in two phases. In the first phase the workers read its radios' logs and its leap second file and poll its
+/// servers. They write one journal of at most `limit` entries, 1 to 4194304. Beside them each link has `budget.during` hearings.
+/// Responders answer the clients of the links from the page of the journal so far, by the station's keys where the clients ask
+/// for that. A client that the station denies or that asks too often gets a kiss code. In the second phase those links that go on
+/// have `budget.after` more hearings, with the page of the whole journal. Each link has a gate of clients of its own, which goes
+/// on from phase to phase. The receivers are those of the radios, in order, and have received nothing. All memory is taken before
+/// any log or link is used, except what a gate of clients takes for a new client. Where there is not enough, the gear comes back
+/// as it was.
 pub fn serve_station<R: Threads + Wait + Sync, L: Source + Drop, T: Link + Drop, G: Gate>(
     rt: &R,
     alloc: Global,
@@ -127,10 +129,17 @@ pub fn serve_station<R: Threads + Wait + Sync, L: Source + Drop, T: Link + Drop,
     requires blank { AreBlank stands_for least_start station.now.radios receivers.items }
     requires gear { IsWhole station.now gear }
     ensures journal { IfOk result (λ e. IsJournalOf (settings_of station.now) limit e.journal) }
-    ensures radios { IfOk result (λ e. RadiosServed L.state L.opening station.now.radios limit e.journal.entries gear.logs.items e.gear.logs.items e.radios.items) }
-    ensures servers { IfOk result (λ e. ServersServed T.state T.opening station.now.servers (length station.now.radios) limit e.journal.entries gear.servers.items e.gear.servers.items e.servers.items) }
-    ensures leap { IfOk result (λ e. LeapServed L.state L.opening station.now.top.start (leap_feed station.now) limit e.journal.entries gear.leap e.gear.leap e.leap) }
-    ensures links { IfOk result (λ e. LinksServed T.state T.opening station.now.keys (gate_of station.now) (settings_of station.now) e.journal.entries budget.during budget.after gear.links.items e.gear.links.items e.links.items) }
+    ensures radios { IfOk result (λ e. let column = column_of 0 limit e.journal.entries in
+        let work = e.radios.items in
+        RadiosServed (seen L.state L.opening) station.now.radios column gear.logs.items e.gear.logs.items work) }
+    ensures servers { IfOk result (λ e. let column = column_of (length station.now.radios) limit e.journal.entries in
+        let had = gear.servers.items in
+        let has = e.gear.servers.items in
+        ServersServed (seen T.state T.opening) station.now.servers column had has e.servers.items) }
+    ensures leap { IfOk result (λ e. let column = column_of (leap_feed station.now) limit e.journal.entries in
+        LeapServed (seen L.state L.opening) station.now.top.start column gear.leap e.gear.leap e.leap) }
+    ensures links { IfOk result (λ e. let service = service_of station.now e.journal.entries budget in
+        LinksServed (seen T.state T.opening) service gear.links.items e.gear.links.items e.links.items) }
     ensures memory { IfErr result (λ g. g ≡ gear) }
 {
     let counts = Counts {

@@ -1,4 +1,4 @@
-// Between the phases: each responder is told how much every feed has seen.
+// Between the phases: each responder learns how much every feed has seen.
 ghost use Rattle.std.specs.Prelude.{◌≡◌, ◌≤◌, ◌+◌, [], All, length, map, vec_capacity, vec_len};
 ghost use Rattle.std.specs.List.{range_with_len};
 ghost use Rattle.page_cell.specs.Passes.{claim_of};

@@ -31,7 +31,7 @@ none_held needed now = record {
   numbered = AreNumbers-none now.openings;
 }
 
--- the next one of those needed stands in front of those that were not asked for
+-- the next one of those needed stands before those that were not asked for
 next_first : (front behind : List Wanted) (what : Wanted) → slice_get (front ++ behind) (length front) ≡ Some what → (rest : List Wanted) × (behind ≡ what ∷ rest)
 next_first [] [] what e = absurd (let f : ◌≡◌ {A = Option Wanted} None (Some what) = e in cc)
 next_first [] (first ∷ rest) what e = (rest, let same : first ≡ what = cc in ap (λ w. w ∷ rest) same)
@@ -87,7 +87,7 @@ one_failed needed numbers states before mid now what held at grows rose =
       numbered = AreNumbers-more before mid now (failed what ∷ []) 0 numbers grows held.numbered;
     }
 
--- those behind need not be asked for
+-- those after need not be asked for
 pub front_held : (needed more : List Wanted) (numbers : List ℕ) (states : List State) (before now : OutsideState) (failing : Option Wanted) →
     HoldsOpenings needed numbers states before now failing → HoldsOpenings (needed ++ more) numbers states before now failing
 front_held needed more numbers states before now failing held = record {

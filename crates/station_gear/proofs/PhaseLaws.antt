@@ -20,7 +20,7 @@ both_all needed more numbers numbers_too states states_too before mid now first 
   all = omega (arith, first.all, second.all, length-append needed more, length-append numbers numbers_too);
 }
 
--- what stands behind others
+-- what stands after others
 get_behind : {X : Type 0} (xs ys : List X) (n : ℕ) → slice_get (xs ++ ys) (length xs + n) ≡ slice_get ys n
 get_behind [] ys n = ap (slice_get ys) (omega arith)
 get_behind (x ∷ xs) ys n = (let next : suc (length xs) + n ≡ suc (length xs + n) = omega arith in ap (slice_get (x ∷ xs ++ ys)) next) ∙ get_behind xs ys n
@@ -44,7 +44,7 @@ module _ (of : StationFields) (logs leap servers links : List ℕ) (log_states l
       (both_all (leap_needed of) (servers_needed of ++ links_needed of) leap (servers ++ links) leap_states (server_states ++ link_states) opened listed now second
       (both_all (servers_needed of) (links_needed of) servers links server_states link_states listed mid now third fourth))
 
-  -- the first two phases opened all, and the servers and links behind them some
+  -- the first two phases opened all, and the servers and links after them some
   behind_files : (opened listed : OutsideState) (failing : Option Wanted) (feeds : List ℕ) (feed_states : List State) →
       OpensAll (logs_needed of) logs log_states before opened → OpensAll (leap_needed of) leap leap_states opened listed →
       HoldsOpenings (servers_needed of ++ links_needed of) feeds feed_states listed now failing →
@@ -77,7 +77,7 @@ module _ (of : StationFields) (logs leap servers links : List ℕ) (log_states l
             (subst (λ ss. HoldsOpenings (wanted_by of) (logs ++ (leap ++ servers)) (log_states ++ (leap_states ++ ss)) before now (Some third.what)) (sym (ap (λ l. server_states ++ l) no_state ∙ append-nil server_states)) held);
       }
 
-  -- nothing was opened behind the radios' logs
+  -- nothing was opened after the radios' logs
   none_behind : leap ≡ [] → leap_states ≡ [] → servers ≡ [] → server_states ≡ [] → links ≡ [] → link_states ≡ [] →
       (needed : List Wanted) (what : Wanted) → HoldsOpenings needed logs log_states before now (Some what) → HoldsOpenings needed numbers states before now (Some what)
   none_behind no_leap no_leap_state no_server no_server_state no_link no_link_state needed what held =

@@ -1,5 +1,5 @@
--- The gear of a station: the logs and links that it needs, in their order, and what those that are open are seen as. A leap second file is
--- a log.
+-- The gear of a station: the logs and links that it needs, in their order, and what the open ones are seen as. A leap second file
+-- is a log.
 use Rattle.std.specs.Prelude.{◌≡◌, ◌≤◌, ℕ, None, List, [], ◌++◌, length, map, vec_capacity}
 use Rattle.std.specs.Option.{option_to_list}
 use Rattle.feed_link.specs.Told.{SourceState, LinkState}
@@ -29,14 +29,14 @@ links_needed of = map (λ port. LinkAt port of.top.start) of.links
 abbrev pub wanted_by : StationFields → List Wanted
 wanted_by of = logs_needed of ++ (leap_needed of ++ (servers_needed of ++ links_needed of))
 
--- what some logs, and some links, tell at one moment
+-- what some logs, and some links, report at one moment
 abbrev pub log_states : {L : Type 0} → (L → SourceState) → List L → List State
 log_states state logs = map (λ log. OfLog (state log)) logs
 
 abbrev pub link_states : {T : Type 0} → (T → LinkState) → List T → List State
 link_states state links = map (λ link. OfLink (state link)) links
 
--- what the objects of a gear tell, in the station's order
+-- what the objects of a gear report, in the station's order
 abbrev pub states_of : {L T : Type 0} → (L → SourceState) → (T → LinkState) → Gear L T → List State
 states_of log link gear = log_states log gear.logs.items
     ++ (log_states log (option_to_list gear.leap) ++ (link_states link gear.servers.items ++ link_states link gear.links.items))

@@ -11,9 +11,9 @@ use Rattle.station_gear.specs.declared.gear.Gear.{Gear}
 use Rattle.station_gear.specs.declared.gear.Missing.{Missing}
 use Rattle.station_gear.specs.declared.gear.Missing.TheVariants.{Feed, LeapFile, Link}
 
--- The first of those needed were opened, in order, and their objects are out: their numbers are those of their openings, and each tells
--- now what it told when it was opened. One more may follow, which failed; then the count of faults rose by one, and otherwise it stays.
--- Those behind are not asked for.
+-- The first of those needed were opened, in order, and their objects are out. Their numbers are those of their openings, and each
+-- reports now what it reported when it was opened. One more may follow, which failed. Then the count of faults rose by one, and
+-- otherwise it stays. Those after it are not opened.
 pub record HoldsOpenings (needed : List Wanted) (numbers : List ℕ) (states : List State) (before now : OutsideState) (failing : Option Wanted) : Type 0 where
   pub outs : List Held
   pub behind : List Wanted
@@ -34,18 +34,18 @@ pub record StopsIn (needed : List Wanted) (numbers : List ℕ) (states : List St
   pub what : Wanted
   pub openings : HoldsOpenings needed numbers states before now (Some what)
 
--- what is named: a radio's log or a server's link, the leap second file, or a link that the station serves on
+-- what has a name: a radio's log or a server's link, the leap second file, or a link that the station serves on
 abbrev pub named_by : StationFields → Missing → Option Wanted
 named_by of (Feed number) = slice_get (logs_needed of ++ servers_needed of) number
 named_by of LeapFile = option_map LogOf of.leap_file
 named_by of (Link place) = slice_get (links_needed of) place
 
--- what failed, by what a call answers
+-- what failed, by the answer of a call
 abbrev pub failing_of : StationFields → Result (Unit {0}) Missing → Option Wanted
 failing_of of (Ok done) = None
 failing_of of (Err missing) = named_by of missing
 
--- one of those that a station needs failed, and it is named
+-- one of those that a station needs failed, and this names it
 pub record StopsAt (of : StationFields) (missing : Missing) (numbers : List ℕ) (states : List State) (before now : OutsideState) : Type 0 where
   pub what : Wanted
   pub named : named_by of missing ≡ Some what
@@ -58,7 +58,7 @@ pub record IsWhole {L T : Type 0} (of : StationFields) (gear : Gear L T) : Type 
   pub servers : vec_len gear.servers ≡ length of.servers
   pub links : vec_len gear.links ≡ length of.links
 
--- it has what stands in front of the missing one, and no more
+-- it has what comes before the missing one, and no more
 abbrev pub IsUpTo : {L T : Type 0} → StationFields → Missing → Gear L T → Type 0
 IsUpTo of (Feed number) gear = (vec_len gear.logs ≡ min number (length of.radios))
     × (is_some gear.leap ≡ (nat_le (length of.radios) number && is_some of.leap_file)) × (vec_len gear.servers ≡ number - length of.radios) × (vec_len gear.links ≡ 0)

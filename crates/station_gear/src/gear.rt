@@ -1,12 +1,12 @@
-//! The gear of a station, and what of it can't be opened.
+//! The gear of a station, and the part of it that cannot be opened.
 ghost use Rattle.std.specs.Prelude.{IfOk};
 ghost use Rattle.station_gear.specs.Gears.{IsEmptyFor};
 
 use station_config::Station;
 use std::alloc::{AllocError, Global};
 
-/// The logs and links of a station that are open: its radios' logs, its leap second file, its servers' links and the links that it serves
-/// on, each in the station's order.
+/// The logs and links of a station that are open: its radios' logs, its leap second file, its servers' links, and the links that
+/// it serves on. Each kind is in the station's order.
 #[derive(Drop)]
 pub struct Gear<L: Drop, T: Drop> {
     pub logs: Vec<L>,
@@ -15,7 +15,7 @@ pub struct Gear<L: Drop, T: Drop> {
     pub links: Vec<T>,
 }
 
-/// What couldn't be opened.
+/// What could not be opened.
 #[derive(Clone, Copy, Debug, PartialEq, Eq)]
 pub enum Missing {
     /// The log of a radio or the link of a server, by the number of its feed. Radios come first, from 0, then servers.

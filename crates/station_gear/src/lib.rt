@@ -1,4 +1,4 @@
-//! The logs and links of a station: all are opened in order, and all are given back.
+//! Opens all logs and links of a station in order, and gives them all back.
 #![tactic(auto)]
 
 mod gear;

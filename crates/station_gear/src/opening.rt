@@ -99,9 +99,9 @@ fn number(place: usize) -> u32
     place as u32
 }
 
-/// Opens the logs of a station's radios by their names, then its leap second file, then a link on a free port for each of its servers, then
-/// the links that it serves on, each in the station's order; the moments of all links count from the station's start. It stops at the first that can't be
-/// opened: those opened before it stand in the gear.
+/// Opens the logs of a station's radios by their names, then its leap second file. Then it opens a link on a free port for each
+/// of its servers, and the links that the station serves on. Each kind is in the station's order; the moments of all links count
+/// from the station's start. It stops at the first that cannot be opened: those opened before it are in the gear.
 pub fn open_gear<O: Outside>(
     outside: &mut O,
     station: &Station,

@@ -1,4 +1,4 @@
-//! Gives the logs and links of a station back.
+//! Gives back the logs and links of a station.
 ghost use Rattle.std.specs.Prelude.{◌≡◌, map};
 ghost use Rattle.std.specs.Option.{option_to_list};
 ghost use Rattle.feed_link.specs.ManyOut.{AreOut, GivesAllBack};
@@ -7,7 +7,7 @@ ghost use Rattle.station_gear.specs.Gears.{log_states, link_states, states_of, n
 use crate::Gear;
 use feed_link::Outside;
 
-// Gives logs back, in order.
+// Gives back logs, in order.
 fn give_back_logs<O: Outside>(outside: &mut O, logs: Vec<O::Log>)
     requires { AreOut (O.state outside.old).openings (map (λ log. O.Log.opening log) logs.items) }
     ensures back { GivesAllBack (O.state outside.old) (O.state outside.new) (map (λ log. O.Log.opening log) logs.items) (log_states (λ log. O.Log.state log) logs.items) }
@@ -18,7 +18,7 @@ fn give_back_logs<O: Outside>(outside: &mut O, logs: Vec<O::Log>)
     }
 }
 
-// Gives a log back, where there is one.
+// Gives back a log, where there is one.
 fn give_back_leap<O: Outside>(outside: &mut O, leap: Option<O::Log>)
     requires { AreOut (O.state outside.old).openings (map (λ log. O.Log.opening log) (option_to_list leap)) }
     ensures back { GivesAllBack (O.state outside.old) (O.state outside.new) (map (λ log. O.Log.opening log) (option_to_list leap)) (log_states (λ log. O.Log.state log) (option_to_list leap)) }
@@ -29,7 +29,7 @@ fn give_back_leap<O: Outside>(outside: &mut O, leap: Option<O::Log>)
     }
 }
 
-// Gives links back, in order.
+// Gives back links, in order.
 fn give_back_links<O: Outside>(outside: &mut O, links: Vec<O::Net>)
     requires { AreOut (O.state outside.old).openings (map (λ net. O.Net.opening net) links.items) }
     ensures back { GivesAllBack (O.state outside.old) (O.state outside.new) (map (λ net. O.Net.opening net) links.items) (link_states (λ net. O.Net.state net) links.items) }
@@ -40,7 +40,7 @@ fn give_back_links<O: Outside>(outside: &mut O, links: Vec<O::Net>)
     }
 }
 
-/// Gives all logs and links of a gear back, in the order in which they were opened.
+/// Gives back all logs and links of a gear, in the order in which they were opened.
 pub fn give_back_gear<O: Outside>(outside: &mut O, gear: Gear<O::Log, O::Net>)
     requires { AreOut (O.state outside.old).openings (numbers_of (λ log. O.Log.opening log) (λ net. O.Net.opening net) gear) }
     ensures back { GivesAllBack (O.state outside.old) (O.state outside.new) (numbers_of (λ log. O.Log.opening log) (λ net. O.Net.opening net) gear) (states_of (λ log. O.Log.state log) (λ net. O.Net.state net) gear) }

@@ -1,5 +1,5 @@
-//! Stations whose logs and links are opened over an outside in memory that notes each call: all of them, with a leap second file and
-//! without one, each of them failing, and those of a station that has none.
+//! Opens the logs and links of stations over an outside in memory that notes each call. In some runs one of the openings fails;
+//! one station has none, and one no leap second file.
 ghost use Rattle.std.specs.Prelude.{◌≡◌, ◌∷◌, List, map, IfOk};
 ghost use Rattle.std.specs.Option.{option_to_list};
 ghost use Rattle.feed_link.specs.Openings.{MakesOpenings, Visit};
@@ -19,7 +19,7 @@ use std::process::Abort;
 use std::test::Fail;
 use tick_units::Local;
 
-// What `assert_eq!` does, as a call: where many stand in a test, calls are proved in a third of the time.
+// What `assert_eq!` does, as a call: where a test has many, calls are proved in a third of the time.
 fn same<T: PartialEq + Debug + Drop>(rt: &impl Abort, left: T, right: T) {
     assert_eq!(*rt; left, right);
 }
@@ -106,7 +106,7 @@ fn log(alloc: Global, name: &str, text: &str) -> Result<NamedLog, Fail> {
     ))
 }
 
-// A link that hears a datagram from this port.
+// A link that receives a datagram from this port.
 fn link(alloc: Global, port: u16) -> Result<MemoryLink, Fail> {
     let mut hearings = Vec::new(alloc);
     hearings.push(Planned::Datagram {
@@ -117,8 +117,8 @@ fn link(alloc: Global, port: u16) -> Result<MemoryLink, Fail> {
     Ok(MemoryLink::new(alloc, hearings, Vec::new(alloc), Vec::new(alloc), 4, 0)?)
 }
 
-// An outside with the logs "own", "a.log", "leap" and, under the name `second`, a fourth one, and with three links. The opening of this
-// number fails.
+// An outside with the logs "own", "a.log", "leap" and, under the name `second`, a fourth one, and with three links. The opening
+// with this number fails.
 fn outside(alloc: Global, second: &str, failing: u64) -> Result<Noting, Fail> {
     let mut logs = Vec::new(alloc);
     logs.push(log(alloc, "a.log", "A")?)?;
@@ -145,7 +145,7 @@ fn first_byte<L: Source>(log: &mut L) -> u8
     piece[0]
 }
 
-// From which port a link hears, or 0 where it hears nothing.
+// The port from which a link receives, or 0 where it receives nothing.
 fn first_port<T: Link>(link: &mut T) -> u16
     ensures { T.opening link.new ≡ T.opening link.old }
 {
@@ -183,7 +183,7 @@ fn hear_links<T: Link + Drop>(links: &mut Vec<T>, seen: &mut String)
     }
 }
 
-// Opens the gear of a station, reads a byte of each log and hears once of each link, and gives all back: whether all was there.
+// Opens the gear of a station, reads a byte of each log, has one hearing of each link, and gives back all: whether all was there.
 fn visit_gear<O: Outside>(
     outside: &mut O,
     station: &Station,
@@ -227,7 +227,7 @@ fn listed(alloc: Global) -> Result<String, Fail> {
     Ok(text)
 }
 
-// How many events the links of an outside tell, where they stand in their places.
+// How many events the links of an outside report, where they are in their places.
 fn counts(outside: &Noting) -> [Option<usize>; 3] {
     [count(outside, 0), count(outside, 1), count(outside, 2)]
 }
@@ -239,7 +239,7 @@ fn count(outside: &Noting, place: usize) -> Option<usize> {
     }
 }
 
-// What a visit to the station of a text came to.
+// The result of a visit to the station of a text.
 #[derive(Drop)]
 struct Visited {
     answer: Result<(), Missing>,

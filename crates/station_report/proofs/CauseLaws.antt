@@ -1,4 +1,4 @@
--- Which of the things that went wrong is told, with one more of them.
+-- Which of the things that went wrong is reported, with one more of them.
 use Rattle.std.proofs.Common.{◌≡◌, ℕ, ◌<◌, ◌≤◌, Bool, true, false, Option, Some, None, List, [], ◌∷◌, ◌++◌, if◌then◌else◌, refl, sym, ap, ◌∙◌, subst, inl, inr, arith, append_assoc}
 use Rattle.std.specs.Prelude.{All, nat_lt, unwrap_or}
 use Rattle.std.specs.Option.{option_to_list}

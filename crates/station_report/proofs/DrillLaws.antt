@@ -1,4 +1,4 @@
--- A drill: the logs of a day are read whole, and what its journal tells is told of the day's entries one feed after the other.
+-- A drill: the logs of a day are read whole, and what its journal says is reported of the day's entries one feed after the other.
 use Rattle.std.proofs.Common.{◌≡◌, ℕ, zero, suc, ◌+◌, ◌≤◌, ◌==◌, Bool, true, false, Option, None, Some, List, [], ◌∷◌, ◌++◌, length, map, refl, sym, ap, ◌∙◌, subst, inl, inr, arith}
 use Rattle.std.specs.Prelude.{All, IsSome, is_some, min, nat_lt, slice_get, if◌then◌else◌}
 use Rattle.std.specs.List.{sum_by}
@@ -29,6 +29,7 @@ use Rattle.tick_units.specs.Log.{bad_at_end, pulses}
 use Rattle.tick_units.specs.declared.marks.Plan.TheVariants.{Dcf, Msf, Wwvb}
 use Rattle.tick_units.specs.declared.verdicts.Heard.{Heard}
 use Rattle.radio_receiver.specs.Histories.{answers_of}
+use Rattle.crew_work.specs.Served.{seen, sights_of}
 use Rattle.station_report.specs.Crewing.{LeavesAll, causes_left}
 use Rattle.file_commands.specs.Decoding.{IsGoodLog}
 use Rattle.station_report.specs.DrillScaffold.{FinishesDrill, HasDayGear, HasDrilled, feed_lines}
@@ -126,7 +127,7 @@ abbrev list_causes : Option LeapRun → List Ending
 list_causes o = each_cause (λ feed (leap : LeapRun). log_cause feed leap.end) 3 (option_to_list o)
 
 module _ {T : Type 0} (log_opening : SureSource → ℕ) (state : T → LinkState) (opening : T → ℕ) (orders : Orders) (seed : ℕ) (gear : Gear SureSource T) (done : Done) (last : Gear SureSource T)
-    (day : HasDayGear seed gear) (left : LeavesAll sure_state log_opening state opening one_of_each orders gear last done.journal done.radios.items done.servers.items done.leap done.links.items) where
+    (day : HasDayGear seed gear) (left : LeavesAll (sights_of (seen sure_state log_opening) (seen state opening)) one_of_each orders gear done last) where
   logs_open : length gear.logs.items ≡ 3
   logs_open = sym (length-map gear.logs.items sure_state) ∙ ap (λ (l : List SourceState). length l) day.logs
 
@@ -203,7 +204,7 @@ module _ {T : Type 0} (log_opening : SureSource → ℕ) (state : T → LinkStat
     days = day.days;
   }
 
--- ---- what is told of a journal is told of the day
+-- ---- what is reported of a journal is reported of the day
 
 feed_same : (feed : ℕ) (heard : List Heard) → of_feed feed (map (entry_of feed) heard) ≡ map (entry_of feed) heard
 feed_same feed [] = refl
@@ -227,7 +228,7 @@ third_heard seed = answers_of (record { plan = Wwvb; delay = 0; reductions = pul
 abbrev Named : Entry → Type 0
 Named e = leap_named e.what ≡ 0
 
--- of three lists, one behind the other
+-- of three lists, one after the other
 of_three : (feed : ℕ) (a b c : List Entry) → of_feed feed (a ++ (b ++ (c ++ []))) ≡ of_feed feed a ++ (of_feed feed b ++ of_feed feed c)
 of_three feed a b c =
     ap (λ l. of_feed feed (a ++ (b ++ l))) (append-nil c)

@@ -1,4 +1,4 @@
--- Lists whose items are told one by one, by their places.
+-- Lists whose items are reported one by one, by their places.
 use Rattle.std.proofs.Common.{◌≡◌, ℕ, zero, suc, ◌+◌, ◌<◌, Option, List, [], ◌∷◌, ◌++◌, drop, length, refl, sym, ap, ◌∙◌, subst, arith, append_assoc}
 use Rattle.std.specs.Prelude.{IsSome, Some, get_or, slice_get}
 use Rattle.std.specs.Option.{option_to_list}
@@ -97,7 +97,7 @@ drop_got (y ∷ xs) (suc i) x at =
 pub from_none : (w u x : List ℕ) → u ≡ w ++ x → w ≡ [] → u ≡ x
 from_none w u x h none = h ∙ ap (λ l. l ++ x) none
 
--- fields, each behind a space, with a text at their end
+-- fields, each after a space, with a text at their end
 abbrev pub run_on : List (List ℕ) → List ℕ → List ℕ
 run_on [] end = end
 run_on (field ∷ fields) end = (32 ∷ field) ++ run_on fields end

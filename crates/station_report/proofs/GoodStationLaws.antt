@@ -57,7 +57,7 @@ answered status result out out_now text h no_write = elim h [
   | inr failed ↦ absurd (no_write (rose_by_one out.faults out_now.faults failed.1.3))
 ]
 
--- ---- visits that told the same
+-- ---- visits that reported the same
 
 state_of : (a b : State) → ◌≡◌ {A = Option State} (Some a) (Some b) → a ≡ b
 state_of a b e = cc
@@ -83,7 +83,7 @@ none_failed [] (y ∷ ys) what e = no_state y.opened (ap (λ (o : Opening). o.op
 none_failed (x ∷ xs) [] what e = cc
 none_failed (x ∷ xs) (y ∷ ys) what e = none_failed xs ys what (rest_of (visited x) (visited y) (map visited xs ++ failed what ∷ []) (map visited ys) e)
 
--- ---- logs and links, told in a row
+-- ---- logs and links, reported in a row
 
 log_state : (a b : SourceState) → OfLog a ≡ OfLog b → a ≡ b
 log_state a b e = cc
@@ -210,7 +210,7 @@ good_list feed start (Some r) (Some g) read good same too =
       ap (λ b. due_leap feed start b r.bytes ∷ []) (whole.1.0 ∙ sym good.whole_is) ∙ ap (λ b. due_leap feed start g.whole b ∷ []) bytes,
     )
 
--- a link without a fault has the events that it tells
+-- a link without a fault has the events that it reports
 good_events : (opened back : LinkState) (told events : List NetEvent) → IsGoodLink opened back told → Adds opened.events back.events events → events ≡ told
 good_events opened back told events good adds = by opened.events back.events refl refl
   where
@@ -250,25 +250,25 @@ good_polls feed (server ∷ servers) (r ∷ runs) (g ∷ goods) polled good same
       ap (λ e. Rattle.feed_workers.specs.Polls.due_link feed server.address e ∷ server_dues (suc feed) servers runs) events ∙ ap (λ l. Rattle.feed_workers.specs.Polls.due_link feed server.address g.events ∷ l) rest.1,
     )
 
-good_client : (during after faults faults_now : ℕ) (r : LinkRun) → EndsPhases during after faults faults_now r.first r.second r.end → (Rose faults faults_now → ⊥) → (number : ℕ) → link_cause number r.end ≡ None
-good_client during after faults faults_now r phases no_fault number = by r.end phases
+good_client : (during after : ℕ) (r : LinkRun) → EndsPhases during after r → (Rose r.opened.faults r.back.faults → ⊥) → (number : ℕ) → link_cause number r.end ≡ None
+good_client during after r phases no_fault number = by r.end phases
   where
-    by : (end : End) → EndsPhases during after faults faults_now r.first r.second end → link_cause number end ≡ None
+    by : (end : End) → EndsPhases during after (record r { end = end }) → link_cause number end ≡ None
     by Count h = refl
     by LinkEnd h = refl
-    by LinkFault (inl h) = absurd (no_fault (rose_by_one faults faults_now h.2.6))
-    by LinkFault (inr h) = absurd (no_fault (rose_by_one faults faults_now h.2.6))
+    by LinkFault (inl h) = absurd (no_fault (rose_by_one r.opened.faults r.back.faults h.2.6))
+    by LinkFault (inr h) = absurd (no_fault (rose_by_one r.opened.faults r.back.faults h.2.6))
 
-good_clients : (during after : ℕ) (keys : _) (gate : _) (settings : _) (journal : List Entry) (place : ℕ) (runs goods : List LinkRun) → All (IsAnswered keys gate settings journal during after) runs → All (λ r. Rose r.opened.faults r.back.faults → ⊥) goods →
+good_clients : (during after : ℕ) (of : StationFields) (journal : List Entry) (place : ℕ) (runs goods : List LinkRun) → All (IsAnswered of journal during after) runs → All (λ r. Rose r.opened.faults r.back.faults → ⊥) goods →
     map (λ r. OfLink r.opened) runs ≡ map (λ r. OfLink r.opened) goods → map (λ r. OfLink r.back) runs ≡ map (λ r. OfLink r.back) goods → each_cause (λ n (r : LinkRun). link_cause n r.end) place runs ≡ []
-good_clients during after keys gate settings journal place [] goods served good same too = refl
-good_clients during after keys gate settings journal place (r ∷ runs) [] served good same too = absurd cc
-good_clients during after keys gate settings journal place (r ∷ runs) (g ∷ goods) served good same too =
+good_clients during after of journal place [] goods served good same too = refl
+good_clients during after of journal place (r ∷ runs) [] served good same too = absurd cc
+good_clients during after of journal place (r ∷ runs) (g ∷ goods) served good same too =
     let opened = link_state r.opened g.opened (first_state (OfLink r.opened) (OfLink g.opened) _ _ same) in
     let back = link_state r.back g.back (first_state (OfLink r.back) (OfLink g.back) _ _ too) in
     let no_fault : Rose r.opened.faults r.back.faults → ⊥ = subst (λ (s : LinkState). Rose s.faults r.back.faults → ⊥) (sym opened) (subst (λ (s : LinkState). Rose g.opened.faults s.faults → ⊥) (sym back) (All-head (λ (l : LinkRun). Rose l.opened.faults l.back.faults → ⊥) g goods good)) in
-    let none = good_client during after r.opened.faults r.back.faults r (All-head (IsAnswered keys gate settings journal during after) r runs served).ends no_fault place in
-    let rest = good_clients during after keys gate settings journal (suc place) runs goods (All-tail (IsAnswered keys gate settings journal during after) r runs served) (All-tail (λ (l : LinkRun). Rose l.opened.faults l.back.faults → ⊥) g goods good) (rest_states (OfLink r.opened) (OfLink g.opened) _ _ same) (rest_states (OfLink r.back) (OfLink g.back) _ _ too) in
+    let none = good_client during after r (All-head (IsAnswered of journal during after) r runs served).ends no_fault place in
+    let rest = good_clients during after of journal (suc place) runs goods (All-tail (IsAnswered of journal during after) r runs served) (All-tail (λ (l : LinkRun). Rose l.opened.faults l.back.faults → ⊥) g goods good) (rest_states (OfLink r.opened) (OfLink g.opened) _ _ same) (rest_states (OfLink r.back) (OfLink g.back) _ _ too) in
     ap (λ o. option_to_list o ++ each_cause (λ n (l : LinkRun). link_cause n l.end) (suc place) runs) none ∙ rest
 
 none_of_five : (a b c d e : List Ending) → a ≡ [] → b ≡ [] → c ≡ [] → d ≡ [] → e ≡ [] → a ++ (b ++ (c ++ (d ++ e))) ≡ []
@@ -289,7 +289,7 @@ no_faults bytes of says top document =
     let same : top ≡ says.top = cc in
     ap faults_of same ∙ says.no_fault
 
--- a text that says a station isn't refused
+-- a text that says a station is not refused
 not_refused : (bytes : List ℕ) (of : StationFields) (why : StationFault) → Says bytes of → RefusesStation bytes why → Rattle.file_commands.specs.StationFile.IsNamed why → ⊥
 not_refused bytes of fault.Memory says refuses named = named
 not_refused bytes of fault.NotToml says refuses named = refuses says.top says.document
@@ -299,7 +299,7 @@ not_refused bytes of (fault.Range key) says refuses named = one_fault (faults_of
 not_refused bytes of (fault.TooMany key count) says refuses named = one_fault (faults_of refuses.0) _ (no_faults bytes of says refuses.0 refuses.1) refuses.2
 
 module _ (of : StationFields) (opened back : SourceState) (station : IsStation of opened back) (most : length station.text ≤ most_of_a_station) (no_fault : Rose opened.faults back.faults → ⊥) where
-  -- only want of memory keeps a station without a fault from being used
+  -- only lack of memory keeps a station without a fault from being used
   only_memory : (end : FileEnd) (bytes : List ℕ) (due : Obstacle) → EndsReading end most_of_a_station opened back bytes → IsObstacle end bytes due → status_at due ≡ Memory
   only_memory file.Fault bytes due read is = absurd (no_fault (rose_by_one opened.faults back.faults read.cause.1))
   only_memory file.TooLong bytes due read is =
@@ -386,7 +386,7 @@ module _ (name : List ℕ) (during after limit : ℕ) (outside outside_now : Out
     list = good_list (leap_feed h.of) h.of.top.start h.run.leap p.run.leap h.served.logs.leap_read p.list opened_list.0 back_list.0
 
     clients : each_cause (λ n (r : LinkRun). link_cause n r.end) 0 h.run.links ≡ []
-    clients = good_clients during after _ _ _ h.run.journal 0 h.run.links p.run.links h.served.clients.served p.links opened_links.1 back_links.1
+    clients = good_clients during after _ h.run.journal 0 h.run.links p.run.links h.served.clients.served p.links opened_links.1 back_links.1
 
     same_dues : dues h.of h.run ≡ dues p.of p.run
     same_dues =

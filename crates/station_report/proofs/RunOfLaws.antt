@@ -15,8 +15,6 @@ use Rattle.feed_workers.specs.Logs.{EndsLog, most_of_a_log}
 use Rattle.feed_workers.specs.declared.work.LogWork.{LogWork}
 use Rattle.feed_workers.specs.declared.work.PollWork.{PollWork}
 use Rattle.journal_entry.specs.declared.entry.Entry.{Entry}
-use Rattle.kiss_gate.specs.Gates.{Gate}
-use Rattle.packet_auth.specs.Keys.{KeyFields}
 use Rattle.radio_receiver.specs.Histories.{History}
 use Rattle.receiver_rack.specs.Racks.{AreOf, silent}
 use Rattle.responder.specs.Serving.{EndsBy}
@@ -24,17 +22,16 @@ use Rattle.responder.specs.Turns.{Turn, events_of, answered_of, dropped_of, kiss
 use Rattle.responder.specs.declared.served.End.{End}
 use Rattle.responder.specs.declared.served.End.TheVariants.{Count, LinkEnd, LinkFault}
 use Rattle.responder.specs.declared.served.Served.{Served}
-use Rattle.station_config.specs.Station.{RadioFields, ServerFields}
+use Rattle.station_config.specs.Station.{RadioFields, ServerFields, StationFields}
 use Rattle.crew_work.specs.Lists.{Pairs}
-use Rattle.crew_work.specs.Served.{AreBlank, AsksServer, HearsRadio, LeapServed, ServesLink, ServesPhase}
+use Rattle.crew_work.specs.Served.{AreBlank, AsksServer, HearsRadio, LeapServed, ServesLink, ServesPhase, column_of, seen, service_of}
 use Rattle.crew_work.specs.declared.work.LinkWork.{LinkWork}
 use Rattle.station_gear.specs.Gears.{link_states, log_states}
-use Rattle.system_fold.specs.Settings.{SettingsFields}
 use Rattle.station_report.specs.Crewing.{end_of, end_by, in_both, line_of_work}
 use Rattle.station_report.specs.Headline.{IsAnswered, IsPolled, LeapRun, LinkRun, LogRun, PollRun, Tally, each_text, leap_dues, line_of_link, link_line, radio_dues, server_dues, tally_of}
 use Rattle.station_report.proofs.CountLaws.{HaveDue}
 
--- receivers that stand for silent ones of the radios, of which nothing was heard
+-- receivers that stand for silent ones of the radios, which have received nothing
 pub blank_receivers : {B : Type 0} (stands : B → History → Type 0) (least : B → ℕ) (radios : List RadioFields) (receivers : List B) →
     AreOf stands receivers (map silent radios) → All (λ b. least b ≡ 0) receivers → AreBlank stands least radios receivers
 blank_receivers stands least [] [] are all = tt
@@ -57,7 +54,7 @@ module _ {L : Type 0} (state : L → SourceState) (limit : ℕ) (journal : List 
 
   abbrev pub HearEach : List RadioFields → ℕ → List L → List L → List LogWork → Type 0
   HearEach radios first logs now works = (i : ℕ) (radio : RadioFields) (a b : L) (work : LogWork) → i < length logs →
-      HearsRadio (slice_index_or radios i radio) (first + i) limit journal (state (slice_index_or logs i a)) (state (slice_index_or now i b)) (slice_index_or works i work)
+      HearsRadio (slice_index_or radios i radio) (column_of (first + i) limit journal) (state (slice_index_or logs i a)) (state (slice_index_or now i b)) (slice_index_or works i work)
 
   pub logs_run : (radios : List RadioFields) (first : ℕ) (logs now : List L) (works : List LogWork) → length logs ≡ length radios → length now ≡ length logs → length works ≡ length logs →
       HearEach radios first logs now works → LogsRun radios first logs now works
@@ -70,10 +67,10 @@ module _ {L : Type 0} (state : L → SourceState) (limit : ℕ) (journal : List 
   logs_run (radio ∷ radios) first (a ∷ logs) (b ∷ now) [] n m k at = absurd (omega (arith, k))
   logs_run (radio ∷ radios) first (a ∷ logs) (b ∷ now) (work ∷ works) n m k at =
       let zeroth : first + 0 ≡ first = omega arith in
-      let one : HearsRadio radio first limit journal (state a) (state b) work = subst (λ f. HearsRadio radio f limit journal (state a) (state b) work) zeroth (at 0 radio a b work (omega arith)) in
+      let one : HearsRadio radio (column_of first limit journal) (state a) (state b) work = subst (λ f. HearsRadio radio (column_of f limit journal) (state a) (state b) work) zeroth (at 0 radio a b work (omega arith)) in
       let others : HearEach radios (suc first) logs now works = λ i r c d w lt.
       let next : first + suc i ≡ suc first + i = omega arith in
-      subst (λ f. HearsRadio (slice_index_or radios i r) f limit journal (state (slice_index_or logs i c)) (state (slice_index_or now i d)) (slice_index_or works i w)) next (at (suc i) r c d w (omega (arith, lt))) in
+      subst (λ f. HearsRadio (slice_index_or radios i r) (column_of f limit journal) (state (slice_index_or logs i c)) (state (slice_index_or now i d)) (slice_index_or works i w)) next (at (suc i) r c d w (omega (arith, lt))) in
       let rest = logs_run radios (suc first) logs now works (omega (arith, n)) (omega (arith, m)) (omega (arith, k)) others in
       let run : LogRun = record { opened = state a; back = state b; bytes = one.bytes; end = work.end } in
       record {
@@ -105,7 +102,7 @@ module _ {T : Type 0} (state : T → LinkState) (limit : ℕ) (journal : List En
 
   abbrev pub AskEach : List ServerFields → ℕ → List T → List T → List PollWork → Type 0
   AskEach servers first links now works = (i : ℕ) (server : ServerFields) (a b : T) (work : PollWork) → i < length links →
-      AsksServer (slice_index_or servers i server) (first + i) limit journal (state (slice_index_or links i a)) (state (slice_index_or now i b)) (slice_index_or works i work)
+      AsksServer (slice_index_or servers i server) (column_of (first + i) limit journal) (state (slice_index_or links i a)) (state (slice_index_or now i b)) (slice_index_or works i work)
 
   pub polls_run : (servers : List ServerFields) (first : ℕ) (links now : List T) (works : List PollWork) → length links ≡ length servers → length now ≡ length links → length works ≡ length links →
       AskEach servers first links now works → PollsRun servers first links now works
@@ -118,10 +115,10 @@ module _ {T : Type 0} (state : T → LinkState) (limit : ℕ) (journal : List En
   polls_run (server ∷ servers) first (a ∷ links) (b ∷ now) [] n m k at = absurd (omega (arith, k))
   polls_run (server ∷ servers) first (a ∷ links) (b ∷ now) (work ∷ works) n m k at =
       let zeroth : first + 0 ≡ first = omega arith in
-      let one : AsksServer server first limit journal (state a) (state b) work = subst (λ f. AsksServer server f limit journal (state a) (state b) work) zeroth (at 0 server a b work (omega arith)) in
+      let one : AsksServer server (column_of first limit journal) (state a) (state b) work = subst (λ f. AsksServer server (column_of f limit journal) (state a) (state b) work) zeroth (at 0 server a b work (omega arith)) in
       let others : AskEach servers (suc first) links now works = λ i r c d w lt.
       let next : first + suc i ≡ suc first + i = omega arith in
-      subst (λ f. AsksServer (slice_index_or servers i r) f limit journal (state (slice_index_or links i c)) (state (slice_index_or now i d)) (slice_index_or works i w)) next (at (suc i) r c d w (omega (arith, lt))) in
+      subst (λ f. AsksServer (slice_index_or servers i r) (column_of f limit journal) (state (slice_index_or links i c)) (state (slice_index_or now i d)) (slice_index_or works i w)) next (at (suc i) r c d w (omega (arith, lt))) in
       let rest = polls_run servers (suc first) links now works (omega (arith, n)) (omega (arith, m)) (omega (arith, k)) others in
       let run : PollRun = record { opened = state a; back = state b; events = one.events; end = work.end } in
       record {
@@ -152,7 +149,7 @@ module _ {L : Type 0} (state : L → SourceState) (opening : L → ℕ) (limit :
     pub ends_are : map (λ leap. leap.end) (option_to_list run) ≡ map (λ w. w.end) (option_to_list work)
     pub due : HaveDue limit journal feed (map (λ w. w.full) (option_to_list work)) (leap_dues feed start run)
 
-  pub leaps_run : (file now : Option L) (work : Option LogWork) → LeapServed state opening start feed limit journal file now work → LeapsRun file now work
+  pub leaps_run : (file now : Option L) (work : Option LogWork) → LeapServed (seen state opening) start (column_of feed limit journal) file now work → LeapsRun file now work
   leaps_run None None None h = record { run = None; openings = refl; opened_are = refl; back_are = refl; there = refl; read = tt; ends_are = refl; due = tt }
   leaps_run None None (Some work) h = absurd h
   leaps_run None (Some b) work h = absurd h
@@ -176,11 +173,11 @@ leap_dues-length feed start (Some leap) = refl
 -- ---- links
 
 -- a link's run, and what its work says of it
-record LinkIs (keys : List KeyFields) (gate : Gate) (settings : SettingsFields) (journal : List Entry) (during after : ℕ) (a b : LinkState) (work : LinkWork) : Type 0 where
+record LinkIs (of : StationFields) (journal : List Entry) (during after : ℕ) (a b : LinkState) (work : LinkWork) : Type 0 where
   pub run : LinkRun
   pub opened_is : run.opened ≡ a
   pub back_is : run.back ≡ b
-  pub answered : IsAnswered keys gate settings journal during after run
+  pub answered : IsAnswered of journal during after run
   pub end_is : run.end ≡ end_of work
   pub line_is : (number : ℕ) → line_of_work number work ≡ line_of_link number run
 
@@ -200,8 +197,8 @@ same_line number s t e f answered dropped again kissed unkept end =
     ∙ ap (λ n. link_line number (record { answered = t.answered; dropped = t.dropped; again = t.again; kissed = t.kissed; unkept = n }) e) unkept
     ∙ ap (λ k. link_line number t k) end
 
-module _ (keys : List KeyFields) (gate : Gate) (settings : SettingsFields) (journal : List Entry) (during after : ℕ) (a b : LinkState) (work : LinkWork) (h : ServesLink keys gate settings journal during after a b work) where
-  goes_on : work.first.end ≡ Count → LinkIs keys gate settings journal during after a b work
+module _ (of : StationFields) (journal : List Entry) (during after : ℕ) (a b : LinkState) (work : LinkWork) (h : ServesLink (service_of of journal (record { during = during; after = after })) a b work) where
+  goes_on : work.first.end ≡ Count → LinkIs of journal during after a b work
   goes_on is =
       let told = h.second_phase.served is in
       let served : Served = told.0 in
@@ -233,7 +230,7 @@ module _ (keys : List KeyFields) (gate : Gate) (settings : SettingsFields) (jour
             (ap (end_by work.first.end) told.1);
       }
 
-  ends_first : work.first.end ≢ Count → LinkIs keys gate settings journal during after a b work
+  ends_first : work.first.end ≢ Count → LinkIs of journal during after a b work
   ends_first not =
       let none = h.second_phase.not not in
       let no_second : h.second ≡ [] = none.2 in
@@ -266,26 +263,26 @@ module _ (keys : List KeyFields) (gate : Gate) (settings : SettingsFields) (jour
             refl;
       }
 
-  link_is : LinkIs keys gate settings journal during after a b work
+  link_is : LinkIs of journal during after a b work
   link_is = by work.first.end refl
     where
-      by : (e : End) → work.first.end ≡ e → LinkIs keys gate settings journal during after a b work
+      by : (e : End) → work.first.end ≡ e → LinkIs of journal during after a b work
       by Count is = goes_on is
       by LinkEnd is = ends_first (λ same. let wrong : LinkEnd ≡ Count = sym is ∙ same in cc)
       by LinkFault is = ends_first (λ same. let wrong : LinkFault ≡ Count = sym is ∙ same in cc)
 
-module _ {T : Type 0} (state : T → LinkState) (keys : List KeyFields) (gate : Gate) (settings : SettingsFields) (journal : List Entry) (during after : ℕ) where
+module _ {T : Type 0} (state : T → LinkState) (of : StationFields) (journal : List Entry) (during after : ℕ) where
   pub record LinksRun (place : ℕ) (links now : List T) (works : List LinkWork) : Type 0 where
     pub runs : List LinkRun
     pub each : length runs ≡ length links
-    pub answered : All (IsAnswered keys gate settings journal during after) runs
+    pub answered : All (IsAnswered of journal during after) runs
     pub opened_are : map (λ link. OfLink link.opened) runs ≡ link_states state links
     pub back_are : map (λ link. OfLink link.back) runs ≡ link_states state now
     pub ends_are : map (λ link. link.end) runs ≡ map end_of works
     pub lines_are : each_text line_of_work place works ≡ each_text line_of_link place runs
 
   abbrev pub ServeEach : List T → List T → List LinkWork → Type 0
-  ServeEach links now works = (i : ℕ) (a b : T) (work : LinkWork) → i < length links → ServesLink keys gate settings journal during after (state (slice_index_or links i a)) (state (slice_index_or now i b)) (slice_index_or works i work)
+  ServeEach links now works = (i : ℕ) (a b : T) (work : LinkWork) → i < length links → ServesLink (service_of of journal (record { during = during; after = after })) (state (slice_index_or links i a)) (state (slice_index_or now i b)) (slice_index_or works i work)
 
   pub links_run : (place : ℕ) (links now : List T) (works : List LinkWork) → length now ≡ length links → length works ≡ length links → ServeEach links now works → LinksRun place links now works
   links_run place [] [] [] m k at = record { runs = []; each = refl; answered = All-nil _; opened_are = refl; back_are = refl; ends_are = refl; lines_are = refl }
@@ -294,12 +291,12 @@ module _ {T : Type 0} (state : T → LinkState) (keys : List KeyFields) (gate : 
   links_run place (a ∷ links) [] works m k at = absurd (omega (arith, m))
   links_run place (a ∷ links) (b ∷ now) [] m k at = absurd (omega (arith, k))
   links_run place (a ∷ links) (b ∷ now) (work ∷ works) m k at =
-      let one = link_is keys gate settings journal during after (state a) (state b) work (at 0 a b work (omega arith)) in
+      let one = link_is of journal during after (state a) (state b) work (at 0 a b work (omega arith)) in
       let rest = links_run (suc place) links now works (omega (arith, m)) (omega (arith, k)) (λ i c d w lt. at (suc i) c d w (omega (arith, lt))) in
       record {
         runs = one.run ∷ rest.runs;
         each = ap suc rest.each;
-        answered = All-cons (IsAnswered keys gate settings journal during after) one.run rest.runs one.answered rest.answered;
+        answered = All-cons (IsAnswered of journal during after) one.run rest.runs one.answered rest.answered;
         opened_are = ap (λ s. OfLink s ∷ map (λ (link : LinkRun). OfLink link.opened) rest.runs) one.opened_is ∙ ap (λ l. OfLink (state a) ∷ l) rest.opened_are;
         back_are = ap (λ s. OfLink s ∷ map (λ (link : LinkRun). OfLink link.back) rest.runs) one.back_is ∙ ap (λ l. OfLink (state b) ∷ l) rest.back_are;
         ends_are = ap (λ e. e ∷ map (λ (link : LinkRun). link.end) rest.runs) one.end_is ∙ ap (λ l. end_of work ∷ l) rest.ends_are;

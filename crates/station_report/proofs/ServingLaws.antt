@@ -1,6 +1,6 @@
 -- What is opened, done and given back, put together to what becomes of a command to serve.
 use Rattle.std.proofs.Common.{◌≡◌, ℕ, zero, suc, ◌+◌, ◌-◌, ◌<◌, ◌≤◌, inl, inr, Bool, true, false, ◌||◌, if◌then◌else◌, Option, Some, None, List, [], ◌∷◌, ◌++◌, length, map, refl, sym, ap, ◌∙◌, subst, arith, length-append}
-use Rattle.std.specs.Prelude.{All, ◌&&◌, option_map, MatchResult, Result, Ok, Err, is_some, nat_le, nat_lt, slice_get, slice_index_or, vec_len}
+use Rattle.std.specs.Prelude.{All, ◌&&◌, option_map, MatchResult, Result, Ok, Err, is_some, nat_le, nat_lt, slice_get, vec_len}
 use Rattle.std.specs.List.{list_any, range_with_len, sum_by}
 use Rattle.std.specs.Option.{option_to_list}
 use Rattle.std.proofs.lemmas.Bool.Decides.{nat_tests}
@@ -20,8 +20,7 @@ use Rattle.file_reader.specs.declared.reader.FileEnd.TheVariants.{Whole}
 use Rattle.journal_entry.specs.declared.entry.Entry.{Entry}
 use Rattle.page_cell.specs.Claims.{of_feed}
 use Rattle.station_config.specs.Faults.{Says}
-use Rattle.station_config.specs.Station.{ServerFields, StationFields, kind_of_radio, kind_of_server, leap_feed, leap_feeds, gate_of, settings_of}
-use Rattle.crew_work.specs.Served.{HearsRadio}
+use Rattle.station_config.specs.Station.{ServerFields, StationFields, kind_of_radio, kind_of_server, leap_feed, leap_feeds, settings_of}
 use Rattle.crew_work.proofs.JournalLaws.{feeds-counted}
 use Rattle.crew_work.proofs.ListLaws.{leap_feeds-length, length-is-some}
 use Rattle.station_gear.specs.Gears.{logs_needed, numbers_of, servers_needed, states_of, wanted_by}
@@ -31,6 +30,7 @@ use Rattle.station_gear.specs.declared.gear.Missing.{Missing}
 use Rattle.station_gear.specs.declared.gear.Missing.TheVariants as missing
 use Rattle.station_gear.proofs.GearLaws.{all_visited, gear_sizes, same_numbers, visited_before}
 use Rattle.system_fold.specs.Page.{page_of}
+use Rattle.crew_work.specs.Served.{seen, sights_of}
 use Rattle.station_report.specs.Crewing.{CannotServe, FinishesDone, GivesServed, GivesUnused, HasEach, IsLeftOf, LeavesAll, ServesAll, TriesServe, any_full, causes_left, end_of, line_of_work, lines_left, subject_of}
 use Rattle.file_commands.specs.Endings.{status_of, status_line}
 use Rattle.station_report.specs.Headline.{HasDueEntries, IsTold, LeapRun, LinkRun, LogRun, PollRun, StationRun, causes, dues, each_cause, each_text, full_cause, leap_dues, link_cause, log_cause, poll_cause, radio_dues, served_text, server_dues}
@@ -84,7 +84,7 @@ returned-unused (held ∷ outs) [] e = All-nil IsUnused
 returned-unused (held ∷ outs) (state ∷ states) e =
     All-cons IsUnused (record { what = held.what; opened = held.opened; back = state }) (returned outs states) (first_state state held.opened states _ e) (returned-unused outs states (rest_states state held.opened states _ e))
 
--- ---- what couldn't be opened
+-- ---- what could not be opened
 
 within : {X : Type 0} (xs : List X) (n : ℕ) (x : X) → slice_get xs n ≡ Some x → n < length xs
 within [] n x at = absurd cc
@@ -219,7 +219,7 @@ module _ {L T : Type 0} (log_state : L → SourceState) (log_opening : L → ℕ
   pub cannot_open : (missing : Missing) → StopsAt of missing numbers states before mid → IsUpTo of missing gear → GivesAllBack mid now numbers states → CannotServe of before now (NotOpened (subject_of of missing))
   cannot_open missing stops up gives = unused (NotOpened (subject_of of missing)) (Some stops.what) stops.openings gives (ap NotOpened (missing_at missing stops.what (length stops.openings.outs) (sym stops.openings.count) stops up))
 
-  pub lacks_memory : (due : Ending) → OpensAll (wanted_by of) numbers states before mid → GivesUnused log_state log_opening state opening gear mid now due → CannotServe of before now due
+  pub lacks_memory : (due : Ending) → OpensAll (wanted_by of) numbers states before mid → GivesUnused (sights_of (seen log_state log_opening) (seen state opening)) gear mid now due → CannotServe of before now due
   lacks_memory due opens gives = unused due None opens.openings gives.gives gives.memory
 
 pub never_opened : (of : StationFields) (outside : OutsideState) → CannotServe of outside outside NoMemory
@@ -259,7 +259,7 @@ same_size f xs ys same = sym (length-map xs f) ∙ ap (λ (l : List ℕ). length
 
 module _ {L T : Type 0} (log_state : L → SourceState) (log_opening : L → ℕ) (state : T → LinkState) (opening : T → ℕ) (of : StationFields) (orders : Orders) (gear : Gear L T)
     (logs_open : length gear.logs.items ≡ length of.radios) (list_open : is_some gear.leap ≡ is_some of.leap_file) (servers_open : length gear.servers.items ≡ length of.servers) (links_open : length gear.links.items ≡ length of.links)
-    (done : Done) (last : Gear L T) (left : LeavesAll log_state log_opening state opening of orders gear last done.journal done.radios.items done.servers.items done.leap done.links.items) where
+    (done : Done) (last : Gear L T) (left : LeavesAll (sights_of (seen log_state log_opening) (seen state opening)) of orders gear done last) where
   abbrev pub journal : List Entry
   journal = done.journal.entries
 
@@ -267,8 +267,7 @@ module _ {L T : Type 0} (log_state : L → SourceState) (log_opening : L → ℕ
   radios_run =
       let r = left.radios_served in
       logs_run log_state orders.limit journal of.radios 0 gear.logs.items last.logs.items done.radios.items logs_open (same_size log_opening _ _ r.openings) r.count
-      (λ i radio a b work lt. let same : i ≡ 0 + i = omega arith in
-      subst (λ f. HearsRadio (slice_index_or of.radios i radio) f orders.limit journal (log_state (slice_index_or gear.logs.items i a)) (log_state (slice_index_or last.logs.items i b)) (slice_index_or done.radios.items i work)) same (r.at i radio a b work lt))
+      r.at
 
   pub servers_run : PollsRun state orders.limit journal of.servers (length of.radios) gear.servers.items last.servers.items done.servers.items
   servers_run =
@@ -278,10 +277,10 @@ module _ {L T : Type 0} (log_state : L → SourceState) (log_opening : L → ℕ
   pub leap_run : LeapsRun log_state log_opening orders.limit journal of.top.start (leap_feed of) gear.leap last.leap done.leap
   leap_run = leaps_run log_state log_opening orders.limit journal of.top.start (leap_feed of) gear.leap last.leap done.leap left.leap_served
 
-  pub clients_run : LinksRun state of.keys (gate_of of) (settings_of of) journal orders.budget.during orders.budget.after 0 gear.links.items last.links.items done.links.items
+  pub clients_run : LinksRun state of journal orders.budget.during orders.budget.after 0 gear.links.items last.links.items done.links.items
   clients_run =
       let r = left.links_served in
-      links_run state of.keys (gate_of of) (settings_of of) journal orders.budget.during orders.budget.after 0 gear.links.items last.links.items done.links.items (same_size opening _ _ r.openings) r.count r.at
+      links_run state of journal orders.budget.during orders.budget.after 0 gear.links.items last.links.items done.links.items (same_size opening _ _ r.openings) r.count r.at
 
   abbrev pub run : StationRun
   run = record { radios = radios_run.runs; leap = leap_run.run; servers = servers_run.runs; links = clients_run.runs; journal = journal }
@@ -389,7 +388,7 @@ module _ {L T : Type 0} (log_state : L → SourceState) (log_opening : L → ℕ
     (of_logs : vec_len gear.logs ≡ length gear.logs.items) (of_servers : vec_len gear.servers ≡ length gear.servers.items) (of_links : vec_len gear.links ≡ length gear.links.items) (whole : IsWhole of gear)
     (opens : OpensAll (wanted_by of) (numbers_of log_opening opening gear) (states_of log_state state gear) before mid) where
   pub tries_serve : (result : Result Done Ending) →
-      MatchResult result (λ done. GivesServed log_state log_opening state opening of orders gear mid now done) (λ due. GivesUnused log_state log_opening state opening gear mid now due) → TriesServe of orders before now result
+      MatchResult result (λ done. GivesServed (sights_of (seen log_state log_opening) (seen state opening)) (LeavesAll (sights_of (seen log_state log_opening) (seen state opening)) of orders gear done) mid now) (λ due. GivesUnused (sights_of (seen log_state log_opening) (seen state opening)) gear mid now due) → TriesServe of orders before now result
   tries_serve (Ok done) g =
       serves_all log_state log_opening state opening of orders gear (sym of_logs ∙ whole.logs) whole.leap (sym of_servers ∙ whole.servers) (sym of_links ∙ whole.links) done g.now g.left before mid now g.gives opens
   tries_serve (Err due) g = lacks_memory log_state log_opening state opening of before mid now gear of_logs of_servers of_links due opens g

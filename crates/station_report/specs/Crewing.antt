@@ -2,15 +2,15 @@
 use Rattle.std.specs.Prelude.{◌≡◌, ℕ, ◌+◌, ◌||◌, Bool, Option, None, Some, option_map, Result, MatchResult, List, [], ◌++◌, All, length, map}
 use Rattle.std.specs.List.{list_any}
 use Rattle.std.specs.Option.{option_to_list}
-use Rattle.feed_link.specs.Told.{SourceState, SinkState, LinkState}
+use Rattle.feed_link.specs.Told.{SinkState}
 use Rattle.feed_link.specs.Openings.{OutsideState, Visit, Wanted, MakesOpenings}
 use Rattle.feed_link.specs.ManyOut.{GivesAllBack}
 use Rattle.feed_workers.specs.declared.work.LogWork.{LogWork}
 use Rattle.feed_workers.specs.declared.work.PollWork.{PollWork}
 use Rattle.responder.specs.declared.served.End.{End}
 use Rattle.responder.specs.declared.served.Served.{Served}
-use Rattle.station_config.specs.Station.{StationFields, gate_of, leap_feed, settings_of}
-use Rattle.crew_work.specs.Served.{IsJournalOf, LeapServed, LinksServed, RadiosServed, ServersServed}
+use Rattle.station_config.specs.Station.{StationFields, leap_feed, settings_of}
+use Rattle.crew_work.specs.Served.{IsJournalOf, LeapServed, LinksServed, RadiosServed, ServersServed, Sights, column_of, service_of}
 use Rattle.crew_work.specs.declared.work.LinkWork.{LinkWork}
 use Rattle.station_gear.specs.Gears.{numbers_of, states_of, wanted_by}
 use Rattle.station_gear.specs.declared.gear.Gear.{Gear}
@@ -33,9 +33,9 @@ use Rattle.station_report.specs.declared.done.Done.{Done}
 use Rattle.station_report.specs.declared.done.Orders.{Orders}
 use Rattle.station_report.specs.declared.text.Totals.{Totals}
 
--- ---- what is told
+-- ---- what is reported
 
--- the one that is told of these, or none
+-- the one that is reported of these, or none
 abbrev pub HasLeast : List Ending → Option Ending → Type 0
 HasLeast all None = all ≡ []
 HasLeast all (Some due) = IsFirstOfLeast all due
@@ -87,9 +87,17 @@ line_by number t = link_line number (tally_in t) t.end
 abbrev pub line_of_work : ℕ → LinkWork → List ℕ
 line_of_work number work = line_by number (totals_of work)
 
--- the lines of what the workers left, and the page
+-- the lines of a journal
+abbrev pub lines_of_journal : State → List ℕ
+lines_of_journal journal = journal_text journal.settings journal.entries
+
+-- the lines of what the workers left, but for the page
+abbrev pub lines_before_page : Done → List ℕ
+lines_before_page done = lines_of_journal done.journal ++ each_text line_of_work 0 done.links.items
+
+-- all of them, and the page
 abbrev pub lines_left : Done → List ℕ
-lines_left done = journal_text done.journal.settings done.journal.entries ++ (each_text line_of_work 0 done.links.items ++ page_text (page_of done.journal.settings done.journal.entries))
+lines_left done = lines_of_journal done.journal ++ (each_text line_of_work 0 done.links.items ++ page_text (page_of done.journal.settings done.journal.entries))
 
 -- they are written, and then how the run ends
 pub record FinishesDone (limit : ℕ) (done : Done) (out out_now : SinkState) (result : Status) : Type 0 where
@@ -105,25 +113,23 @@ subject_of of (missing.Feed number) = Feed number
 subject_of of missing.LeapFile = Feed (leap_feed of)
 subject_of of (missing.Link number) = Link number
 
--- the workers of a station have run
-pub record LeavesAll {L T : Type 0} (log_state : L → SourceState) (log_opening : L → ℕ) (state : T → LinkState) (opening : T → ℕ) (of : StationFields) (orders : Orders) (gear now : Gear L T) (journal : State)
-    (radios : List LogWork) (servers : List PollWork) (leap : Option LogWork) (links : List LinkWork) : Type 0 where
-  pub of_station : IsJournalOf (settings_of of) orders.limit journal
-  pub radios_served : RadiosServed log_state log_opening of.radios orders.limit journal.entries gear.logs.items now.logs.items radios
-  pub servers_served : ServersServed state opening of.servers (length of.radios) orders.limit journal.entries gear.servers.items now.servers.items servers
-  pub leap_served : LeapServed log_state log_opening of.top.start (leap_feed of) orders.limit journal.entries gear.leap now.leap leap
-  pub links_served : LinksServed state opening of.keys (gate_of of) (settings_of of) journal.entries orders.budget.during orders.budget.after gear.links.items now.links.items links
+-- the workers of a station have run: what they left, by its logs and links as they were and as they are now
+pub record LeavesAll {L T : Type 0} (sights : Sights L T) (of : StationFields) (orders : Orders) (gear : Gear L T) (done : Done) (now : Gear L T) : Type 0 where
+  pub of_station : IsJournalOf (settings_of of) orders.limit done.journal
+  pub radios_served : RadiosServed sights.logs of.radios (column_of 0 orders.limit done.journal.entries) gear.logs.items now.logs.items done.radios.items
+  pub servers_served : ServersServed sights.links of.servers (column_of (length of.radios) orders.limit done.journal.entries) gear.servers.items now.servers.items done.servers.items
+  pub leap_served : LeapServed sights.logs of.top.start (column_of (leap_feed of) orders.limit done.journal.entries) gear.leap now.leap done.leap
+  pub links_served : LinksServed sights.links (service_of of done.journal.entries orders.budget) gear.links.items now.links.items done.links.items
 
--- they have, and all logs and links are given back
-pub record GivesServed {L T : Type 0} (log_state : L → SourceState) (log_opening : L → ℕ) (state : T → LinkState) (opening : T → ℕ) (of : StationFields) (orders : Orders) (gear : Gear L T)
-    (outside outside_now : OutsideState) (done : Done) : Type 0 where
+-- all logs and links are given back, as they are now, of which this is known
+pub record GivesServed {L T : Type 0} (sights : Sights L T) (Left : Gear L T → Type 0) (outside outside_now : OutsideState) : Type 0 where
   pub now : Gear L T
-  pub left : LeavesAll log_state log_opening state opening of orders gear now done.journal done.radios.items done.servers.items done.leap done.links.items
-  pub gives : GivesAllBack outside outside_now (numbers_of log_opening opening now) (states_of log_state state now)
+  pub left : Left now
+  pub gives : GivesAllBack outside outside_now (numbers_of sights.logs.opening sights.links.opening now) (states_of sights.logs.state sights.links.state now)
 
 -- no memory was found, and they are given back as they were
-pub record GivesUnused {L T : Type 0} (log_state : L → SourceState) (log_opening : L → ℕ) (state : T → LinkState) (opening : T → ℕ) (gear : Gear L T) (outside outside_now : OutsideState) (due : Ending) : Type 0 where
-  pub gives : GivesAllBack outside outside_now (numbers_of log_opening opening gear) (states_of log_state state gear)
+pub record GivesUnused {L T : Type 0} (sights : Sights L T) (gear : Gear L T) (outside outside_now : OutsideState) (due : Ending) : Type 0 where
+  pub gives : GivesAllBack outside outside_now (numbers_of sights.logs.opening sights.links.opening gear) (states_of sights.logs.state sights.links.state gear)
   pub memory : due ≡ NoMemory
 
 -- there is one of each for each of the station's

@@ -16,6 +16,7 @@ use Rattle.system_fold.specs.Page.{page_of}
 use Rattle.tick_units.specs.declared.marks.Plan.{Plan}
 use Rattle.tick_units.specs.declared.verdicts.Kind.{Kind}
 use Rattle.station_report.specs.Crewing.{HasEach, causes_left}
+use Rattle.verdict_journal.specs.Journals.{State}
 use Rattle.station_report.specs.Drilling.{day_run, feed_line, is_differing, is_lone, is_refused, is_verdict, times}
 use Rattle.file_commands.specs.Endings.{status_of, status_line}
 use Rattle.station_report.specs.Headline.{HasDueEntries, IsTold, due_in_all, full_cause}
@@ -68,6 +69,10 @@ pub record Counted (entries : List Entry) (counts : Counts) : Type 0 where
   pub differs : counts.differs ≡ times is_differing entries
   pub refused : counts.refused ≡ times is_refused entries
 
+-- the line of a feed of a journal
+abbrev pub line_of_feed : ℕ → State → List ℕ
+line_of_feed feed journal = feed_line feed (of_feed feed journal.entries)
+
 abbrev pub feed_lines : List Entry → List ℕ
 feed_lines journal = flat_map (λ feed. feed_line feed (of_feed feed journal)) (0 ∷ 1 ∷ 2 ∷ [])
 
@@ -89,7 +94,7 @@ pub record HasDrilled (seed limit : ℕ) (done : Done) : Type 0 where
   pub each : HasEach one_of_each done
   pub days : (feed : ℕ) (plan : Plan) → IsDay feed plan seed
 
--- what they left is told
+-- what they left is reported
 pub record FinishesDrill (limit : ℕ) (done : Done) (out out_now : SinkState) (result : Status) : Type 0 where
   pub due : Ending
   pub cause : IsTold (causes_left limit done) due

@@ -1,5 +1,5 @@
 -- What a drill does: a day of three radios is made up in memory, the workers of a station's radios read its logs side by side, and how
--- often each feed was answered in which way is told, with the page of the journal. All of it is this project's own.
+-- often each feed was answered in which way is reported, with the page of the journal. All of it is this project's own.
 use Rattle.std.specs.Prelude.{◌≡◌, ℕ, ◌≤◌, nat_lt, Bool, true, false, None, List, [], ◌∷◌, ◌++◌, count_by, map, codes, decimal, if◌then◌else◌}
 use Rattle.std.specs.List.{flat_map}
 use Rattle.feed_link.specs.Openings.{OutsideState}
@@ -23,7 +23,7 @@ use Rattle.file_commands.specs.declared.ending.Ending.{Ending}
 use Rattle.file_commands.specs.declared.ending.Ending.TheVariants.{Full, Whole}
 use Rattle.file_commands.specs.declared.ending.status.Status.{Status}
 
--- ---- what is told
+-- ---- what is reported
 
 abbrev pub is_verdict : Kind → Bool
 is_verdict (Verdict second leap_at) = true
@@ -83,8 +83,8 @@ day_run seed journal = record { radios = map whole_run (day_logs seed); leap = N
 abbrev pub day_journal : ℕ → List Entry
 day_journal seed = flat_map (λ due. due) (dues one_of_each (day_run seed []))
 
--- Nothing is opened. The journal has what is due for the three logs, as the headline has it of a station's; it is told, and the status is
--- that of a full journal exactly where more was due than it may have. Where it may have all, what is told is the same at each run: it is
+-- Nothing is opened. The journal has what is due for the three logs, as the headline has it of a station's; it is reported, and the status is
+-- that of a full journal exactly where more was due than it may have. Where it may have all, what is reported is the same at each run: it is
 -- that of the day's entries one feed after the other
 pub record Drills (seed limit : ℕ) (outside outside_now : OutsideState) (out out_now : SinkState) (result : Status) : Type 0 where
   pub unchanged : outside_now ≡ outside

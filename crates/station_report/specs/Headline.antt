@@ -6,11 +6,11 @@
 -- Read on in this order; each file names its source. docs/HEADLINE.md has examples, and what is trusted.
 --   what an object reports, and its faults    feed_link Told, Faults
 --   how far a file is read                    file_reader Ends; feed_workers Logs, Leaps
---   how a server is polled                    feed_workers Polls, Polling
---   a station, its journal and its page       station_config Station; system_fold Settings; clock_page Page
---   which client passes                       kiss_gate Gates, Nets, Clients
---   the turns of a link                       responder Turns, Serving
---   texts and statuses                        sink_text Writing; file_commands Writing, Endings, Text; system_fold Numbered
+--   how a server is polled                    poll_core Histories; feed_workers Polls, Polling
+--   which client passes                       packet_auth Keys; kiss_gate Nets, Clients, Gates
+--   a station, its journal and its page       system_fold Settings; station_config Station; page_cell Claims; crew_work Lists; clock_page Page
+--   the turns of a link                       responder Turns; crew_work Served; responder Serving
+--   texts and statuses                        sink_text Writing; journal_entry Texts; system_fold Numbered; file_commands Writing, Endings, Text, Migrating
 -- Taken on their tests: due_log (log_decoder Due), leap_seconds (leap_file Rows), page_of (system_fold Page),
 -- judge (poll_core Histories), reply_to (sealed_reply Replies).
 use Rattle.std.specs.Prelude.{◌≡◌, ◌≢◌, ◌⊎◌, ℕ, suc, ◌*◌, ◌<◌, ◌≤◌, min, nat_lt, Bool, Option, None, Some, IfSome, is_some, List, [], ◌∷◌, ◌++◌, All, length, slice_get, codes, decimal, if◌then◌else◌}
@@ -30,7 +30,6 @@ use Rattle.journal_entry.specs.Texts.{spaced}
 use Rattle.journal_entry.specs.declared.entry.Entry.{Entry}
 use Rattle.kiss_gate.specs.Gates.{Gate}
 use Rattle.log_decoder.specs.Due.{due_log}
-use Rattle.packet_auth.specs.Keys.{KeyFields}
 use Rattle.page_cell.specs.Claims.{of_feed}
 use Rattle.responder.specs.Serving.{EndsBy}
 use Rattle.responder.specs.Turns.{Turn, events_of, readings_of, AreTurns, GoesOn, answered_of, dropped_of, torn_of, kissed_of, unkept_of, Rises}
@@ -40,7 +39,7 @@ use Rattle.station_config.specs.Station.{RadioFields, ServerFields, StationField
 use Rattle.crew_work.specs.Lists.{Pairs}
 use Rattle.crew_work.specs.Served.{IsReadOf}
 use Rattle.system_fold.specs.Page.{page_of}
-use Rattle.system_fold.specs.Settings.{IsJournal, SettingsFields}
+use Rattle.system_fold.specs.Settings.{IsJournal}
 use Rattle.file_commands.specs.Endings.{number_of, status_of, status_line}
 use Rattle.file_commands.specs.Migrating.{journal_text}
 use Rattle.file_commands.specs.Text.{page_text}
@@ -50,7 +49,7 @@ use Rattle.file_commands.specs.declared.ending.Ending.TheVariants.{Whole, NotRea
 use Rattle.file_commands.specs.declared.ending.status.Status.{Status}
 use Rattle.file_commands.specs.declared.ending.subject.Subject.TheVariants.{Feed, Link}
 
--- what became of the log of a radio: what it told when it was opened and when it was given back, the bytes that were read of it, and how
+-- what became of the log of a radio: what it reported when it was opened and when it was given back, the bytes that were read of it, and how
 -- its reading ended
 pub record LogRun : Type 0 where
   pub opened : SourceState
@@ -66,7 +65,7 @@ pub record LeapRun : Type 0 where
   pub whole : Bool
   pub end : LogEnd
 
--- of the link of a server: what it told and how its worker ended, and the events that it told in between
+-- of the link of a server: what it reported and how its worker ended, and the events that it reported in between
 pub record PollRun : Type 0 where
   pub opened : LinkState
   pub back : LinkState
@@ -108,7 +107,7 @@ abbrev pub leap_dues : (feed start : ℕ) → Option LeapRun → List (List Entr
 leap_dues feed start None = []
 leap_dues feed start (Some leap) = due_leap feed start leap.whole leap.bytes ∷ []
 
--- the radios are the first feeds, the servers those behind them, and the leap second file is the last
+-- the radios are the first feeds, the servers those after them, and the leap second file is the last
 abbrev pub dues : StationFields → StationRun → List (List Entry)
 dues of run = radio_dues 0 of.radios run.radios ++ server_dues (length of.radios) of.servers run.servers ++ leap_dues (leap_feed of) of.top.start run.leap
 
@@ -125,8 +124,8 @@ pub record HasDueEntries (of : StationFields) (limit : ℕ) (run : StationRun) :
 
 -- ---- 2. Each log is read
 
--- The bytes read of each log, and of the leap second file, are a beginning of what it told. They are all of it, unless a read of it failed,
--- a bad line was met, or as many bytes were read as it may have
+-- The bytes read of each log, and of the leap second file, are a beginning of what it reported. They are all of it, unless a read of it failed,
+-- a bad line was met, or it has more bytes than it may have
 pub record ReadsLogs (of : StationFields) (run : StationRun) : Type 0 where
   pub each : length run.radios ≡ length of.radios
   pub read : All (λ log. EndsLog most_of_a_log log.opened log.back log.bytes log.end) run.radios
@@ -135,7 +134,7 @@ pub record ReadsLogs (of : StationFields) (run : StationRun) : Type 0 where
 
 -- ---- 3. Each server is polled
 
--- its link's events are those of the rounds of so many polls; a round is cut short only where a call of that link failed
+-- its link's events are those of this many rounds; of fewer only where the link ended, or a call of it failed, which cuts a round
 pub record IsPolled (server : ServerFields) (polled : PollRun) : Type 0 where
   pub told : Adds polled.opened.events polled.back.events polled.events
   pub ends : EndsPolls server.address server.polls polled.opened.faults polled.back.faults polled.events polled.end
@@ -145,32 +144,32 @@ pub record PollsServers (of : StationFields) (run : StationRun) : Type 0 where
 
 -- ---- 4. Each client is answered
 
--- both phases have as many hearings as were asked for, unless the link ended or one of its calls failed: then nothing comes behind that
-abbrev pub EndsPhases : ℕ → ℕ → ℕ → ℕ → List Turn → List Turn → End → Type 0
-EndsPhases during after faults faults_now first second end =
-    (All GoesOn first × (length first ≡ during) × EndsBy after faults faults_now second end)
-    ⊎ ((end ≢ Count) × (second ≡ []) × EndsBy during faults faults_now first end)
+-- both phases have as many hearings as were asked for, unless the link ended or one of its calls failed: then nothing comes after that
+abbrev pub EndsPhases : (during after : ℕ) → LinkRun → Type 0
+EndsPhases during after link =
+    (All GoesOn link.first × (length link.first ≡ during) × EndsBy after link.opened.faults link.back.faults link.second link.end)
+    ⊎ ((link.end ≢ Count) × (link.second ≡ []) × EndsBy during link.opened.faults link.back.faults link.first link.end)
 
 -- The events of a link are those of its turns: each reply goes to the sender of the datagram of its turn, and is its answer from the page
 -- that was read in that turn, or the kiss code that the link's gate of clients gives its sender, authentic exactly where that datagram is,
 -- and by the key that it names. The gate begins with no client, and goes on from turn to turn over both phases. Each page is that of a
 -- beginning of the journal, and these beginnings never shorten; in the second phase each is the whole journal, and no datagram is left for
--- want of a page. Of those that were left so in the first phase, four times as many are no more than there are entries
-pub record IsAnswered (keys : List KeyFields) (gate : Gate) (settings : SettingsFields) (journal : List Entry) (during after : ℕ) (link : LinkRun) : Type 0 where
+-- lack of a page. Of those that were left so in the first phase, four times as many are no more than there are entries
+pub record IsAnswered (of : StationFields) (journal : List Entry) (during after : ℕ) (link : LinkRun) : Type 0 where
   pub told : Adds link.opened.events link.back.events (flat_map events_of (link.first ++ link.second))
   pub gate_now : Gate
-  pub replies : AreTurns keys gate (link.first ++ link.second) gate_now
-  pub pages : All (IsReadOf settings journal) (flat_map readings_of (link.first ++ link.second))
+  pub replies : AreTurns of.keys (gate_of of) (link.first ++ link.second) gate_now
+  pub pages : All (IsReadOf (settings_of of) journal) (flat_map readings_of (link.first ++ link.second))
   pub last : ℕ
   pub rising : Rises 0 (flat_map readings_of (link.first ++ link.second)) last
   pub whole : All (λ reading. reading.length ≡ length journal) (flat_map readings_of link.second)
   pub none_left : sum_by torn_of link.second ≡ 0
   pub few_left : 4 * sum_by torn_of link.first ≤ length journal
-  pub ends : EndsPhases during after link.opened.faults link.back.faults link.first link.second link.end
+  pub ends : EndsPhases during after link
 
 pub record AnswersLinks (of : StationFields) (during after : ℕ) (run : StationRun) : Type 0 where
   pub each : length run.links ≡ length of.links
-  pub served : All (IsAnswered of.keys (gate_of of) (settings_of of) run.journal during after) run.links
+  pub served : All (IsAnswered of run.journal during after) run.links
 
 -- ---- 5. All of it is written
 
@@ -264,7 +263,7 @@ pub record IsFirstOfLeast (all : List Ending) (due : Ending) : Type 0 where
   pub greater : All (λ other. number_at due < number_at other) before
   pub no_less : All (λ other. number_at due ≤ number_at other) behind
 
--- that one is told; where nothing went wrong, all is whole
+-- that one is reported; where nothing went wrong, all is whole
 abbrev pub IsTold : List Ending → Ending → Type 0
 IsTold all due = ((all ≡ []) × (due ≡ Whole)) ⊎ IsFirstOfLeast all due
 

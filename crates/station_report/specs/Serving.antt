@@ -33,12 +33,12 @@ subject_at of place =
     else if nat_lt place (feed_count of) then Feed (length of.radios + (place - listed))
     else Link (place - feed_count of)
 
--- one of them couldn't be opened, the one behind those that were; or no memory was found
+-- one of them could not be opened, the one after those that were; or there was not enough memory
 abbrev pub LacksOne : StationFields → ℕ → Option Wanted → Ending → Type 0
 LacksOne of place None due = due ≡ NoMemory
 LacksOne of place (Some what) due = due ≡ NotOpened (subject_at of place)
 
--- The station isn't served: its logs and links are opened in order up to the one that fails, or as far as memory was found. What was
+-- The station is not served: its logs and links are opened in order up to the one that fails, or as far as there was memory. What was
 -- opened is given back as it was, and the status line alone is written
 pub record EndsUnserved (name : List ℕ) (outside outside_now : OutsideState) (out out_now : SinkState) (result : Status) : Type 0 where
   pub of : StationFields
@@ -53,7 +53,7 @@ pub record EndsUnserved (name : List ℕ) (outside outside_now : OutsideState) (
   pub cause : LacksOne of (length visits) failing due
   pub written : Answers (status_of due) result out out_now (status_line due)
 
--- what a station's logs and links told when they were opened, in the order of their openings, and when they were given back
+-- what a station's logs and links reported when they were opened, in the order of their openings, and when they were given back
 abbrev pub opened_in : StationRun → List State
 opened_in run = map (λ log. OfLog log.opened) run.radios ++ (map (λ leap. OfLog leap.opened) (option_to_list run.leap)
     ++ (map (λ poll. OfLink poll.opened) run.servers ++ map (λ link. OfLink link.opened) run.links))
@@ -91,7 +91,7 @@ pub record IsGoodLogRun (log : LogRun) : Type 0 where
   pub good : IsGoodLog log.opened log.back
   pub bytes_are : good.text ≡ log.bytes
 
--- a leap second file that has no fault, and that told its bytes before and after
+-- a leap second file that has no fault, and that reported its bytes before and after
 pub record IsGoodList (opened back : SourceState) : Type 0 where
   pub text : List ℕ
   pub told : opened.left ≡ Some text
@@ -106,14 +106,14 @@ pub record IsGoodLeapRun (leap : LeapRun) : Type 0 where
   pub bytes_are : good.text ≡ leap.bytes
   pub whole_is : leap.whole ≡ true
 
--- a link that tells its events and has no fault
+-- a link that reports its events and has no fault
 pub record IsGoodLink (opened back : LinkState) (events : List NetEvent) : Type 0 where
   pub before : List NetEvent
   pub were : opened.events ≡ Some before
   pub are : back.events ≡ Some (before ++ events)
   pub no_fault : Rose opened.faults back.faults → ⊥
 
--- A station and all that it opens were opened and given back, told their contents, and have no fault; and no more entries are due than its
+-- A station and all that it opens were opened and given back, reported their contents, and have no fault; and no more entries are due than its
 -- journal may have. From outside a leap second file looks like a log, and the link of a server like one that serves: `each_list` and
 -- `each_server` say which is which, as the station file has it
 pub record HasGoodStation (name : List ℕ) (limit : ℕ) (outside outside_now : OutsideState) : Type 0 where

@@ -1,4 +1,4 @@
-//! Which of all that went wrong is told.
+//! Which of several causes the status line reports.
 ghost use Rattle.std.specs.Prelude.{◌≡◌, ◌+◌, ◌++◌, ◌≤◌, ◌^◌, ℕ, List, Option, Some, [], length, map, vec_len, nat_lt, option_map, if◌then◌else◌};
 ghost use Rattle.std.specs.List.{list_any};
 ghost use Rattle.std.specs.Option.{option_to_list};
@@ -13,7 +13,7 @@ use file_commands::{Ending, Subject, status_by};
 use responder::End;
 use station_config::Station;
 
-// The number of the status by which an ending is told.
+// The number of the status that reports an ending.
 fn number_at(ending: Ending) -> u8
     ensures { result ≡ number_at ending }
 {
@@ -30,7 +30,7 @@ fn least(first: Ending, next: Ending) -> Ending
     first
 }
 
-// The one that is told of those so far, with one more.
+// The one to report of those so far and one more.
 fn with_next(found: Option<Ending>, next: Option<Ending>) -> Option<Ending>
     ensures { (all : List Ending) → HasLeast all found → HasLeast (all ++ option_to_list next) result }
 {
@@ -41,7 +41,7 @@ fn with_next(found: Option<Ending>, next: Option<Ending>) -> Option<Ending>
     }
 }
 
-// What a worker of a station did, by which a run may be told.
+// What a worker of a station did, as a possible cause of the run's end.
 trait Work {
     ghost cause: { ℕ → Self → Option Ending };
 
@@ -95,7 +95,7 @@ impl Work for LinkWork {
     }
 }
 
-// The one that is told of those so far and of these workers, whose places count from this one on.
+// The one to report of those so far and of these workers, whose places count from this one on.
 fn with_works<W: Work>(found: Option<Ending>, works: &[W], first: u32) -> Option<Ending>
     requires { first + length works.now ≤ 2 ^ 31 }
     ensures { (all : List Ending) → HasLeast all found → HasLeast (all ++ each_cause W.cause first works.now) result }
@@ -109,9 +109,11 @@ fn with_works<W: Work>(found: Option<Ending>, works: &[W], first: u32) -> Option
     found
 }
 
-// The one that is told of those so far and of a leap second file's worker, where there is one, whose feed has this number.
+// The one to report of those so far and of a leap second file's worker, where there is one, with the feed of this number.
 fn with_leap(found: Option<Ending>, leap: Option<LogWork>, feed: u32) -> Option<Ending>
-    ensures { (all : List Ending) → HasLeast all found → HasLeast (all ++ each_cause (λ place work. log_cause place work.end) feed (option_to_list leap)) result }
+    ensures { (all : List Ending) → HasLeast all found →
+        let more = each_cause (λ place work. log_cause place work.end) feed (option_to_list leap) in
+        HasLeast (all ++ more) result }
 {
     match leap {
         Some(work) => with_next(found, work.cause(feed)),
@@ -126,14 +128,14 @@ fn has_full_radio(works: &[LogWork]) -> bool
     works.iter().any(|work| work.full)
 }
 
-// Whether a sample of one of these servers did.
+// Whether a sample of one of these servers found the journal full.
 fn has_full_server(works: &[PollWork]) -> bool
     ensures { result ≡ list_any (λ w. w.full) works.now }
 {
     works.iter().any(|work| work.full)
 }
 
-// Whether a notice of the leap second file did.
+// Whether a notice of the leap second file found the journal full.
 fn has_full_leap(work: Option<LogWork>) -> bool
     ensures { result ≡ list_any (λ w. w.full) (option_to_list work) }
 {
@@ -159,7 +161,7 @@ fn full_cause(limit: u32, full: bool) -> Option<Ending>
     }
 }
 
-// How a run ends that has left this.
+// How a run ends whose workers have left this.
 pub fn ending_of(station: &Station, done: &Done, limit: u32) -> Ending
     requires { HasEach station.now done.now }
     ensures { IsTold (causes_left limit done.now) result }

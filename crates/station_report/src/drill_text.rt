@@ -1,10 +1,9 @@
-//! What is written of a drill.
+//! Writes the report of a drill.
 ghost use Rattle.std.specs.Prelude.{◌≡◌, ◌-◌, ◌≤◌, ◌^◌, OnOk, OnErr, length, slice_get, take};
 ghost use Rattle.journal_entry.specs.declared.writer.TheConstants.{LINE_ROOM};
 ghost use Rattle.page_cell.specs.Claims.{of_feed};
 ghost use Rattle.station_report.specs.Crewing.{HasEach};
-ghost use Rattle.station_report.specs.DrillScaffold.{Counted, CountsFound, CountsOne, CountsUpTo, FinishesDrill, answer_found, answer_in, feed_lines};
-ghost use Rattle.station_report.specs.Drilling.{feed_line};
+ghost use Rattle.station_report.specs.DrillScaffold.{Counted, CountsFound, CountsOne, CountsUpTo, FinishesDrill, answer_found, answer_in, feed_lines, line_of_feed};
 ghost use Rattle.sink_text.specs.Writing.{WritesAll, WritesFront};
 
 use crate::cause::ending_of;
@@ -17,7 +16,7 @@ use station_config::Station;
 use tick_units::Kind;
 use verdict_journal::Journal;
 
-// How often a radio was answered in each way.
+// How many answers of each kind a radio got.
 #[derive(Clone, Copy)]
 struct Counts {
     verdict: u64,
@@ -34,7 +33,7 @@ const NONE: Counts = Counts {
 };
 
 impl Counts {
-    // One answer more.
+    // Counts one answer more.
     fn count(&mut self, kind: Kind)
         requires { CountsUpTo (2 ^ 64 - 2) self.old }
         ensures { CountsOne kind self.old self.new }
@@ -54,7 +53,7 @@ impl Counts {
         }
     }
 
-    // One answer more, if there is one.
+    // Counts one answer more, if there is one.
     fn count_found(&mut self, found: Option<Kind>)
         requires { CountsUpTo (2 ^ 64 - 2) self.old }
         ensures { CountsFound found self.old self.new }
@@ -89,7 +88,7 @@ fn answer_at(journal: &Journal, place: usize, feed: u32) -> Option<Kind>
     }
 }
 
-// How often a feed was answered in each way.
+// How many answers of each kind a feed got.
 fn counts_of(journal: &Journal, feed: u32) -> Counts
     ensures { Counted (of_feed feed journal.now.entries) result }
 {
@@ -100,9 +99,9 @@ fn counts_of(journal: &Journal, feed: u32) -> Counts
     counts
 }
 
-// Writes the line of a feed at the front of `line`. The answer is its number of bytes.
+// Writes the line of a feed at the beginning of `line`. The answer is its number of bytes.
 fn write_feed_line(feed: u32, journal: &Journal, line: &mut Line) -> usize
-    ensures text { take result line.new ≡ feed_line feed (of_feed feed journal.now.entries) }
+    ensures text { take result line.new ≡ line_of_feed feed journal.now }
     ensures within { result ≤ LINE_ROOM }
 {
     let counts = counts_of(journal, feed);
@@ -123,8 +122,8 @@ fn write_feed_line(feed: u32, journal: &Journal, line: &mut Line) -> usize
 
 // Writes the line of a feed.
 fn tell_feed<K: Sink>(feed: u32, journal: &Journal, out: &mut K) -> Result<(), Failed>
-    ensures ok { OnOk result (WritesAll (K.state out.old) (K.state out.new) (feed_line feed (of_feed feed journal.now.entries))) }
-    ensures err { OnErr result (WritesFront (K.state out.old) (K.state out.new) (feed_line feed (of_feed feed journal.now.entries))) }
+    ensures ok { OnOk result (WritesAll (K.state out.old) (K.state out.new) (line_of_feed feed journal.now)) }
+    ensures err { OnErr result (WritesFront (K.state out.old) (K.state out.new) (line_of_feed feed journal.now)) }
 {
     let mut line = [0; LINE_ROOM];
     let length = write_feed_line(feed, journal, &mut line);
@@ -141,7 +140,8 @@ fn tell_feeds<K: Sink>(journal: &Journal, out: &mut K) -> Result<(), Failed>
     tell_feed(2, journal, out)
 }
 
-// Writes what a drill has left: how often each feed was answered in which way, the page of its journal, and the status line.
+/// Writes what a drill has left: how many answers of each kind each feed got, the page of its journal, and the status line.
+/// Returns the status, which is `WriteFault` where a write fails.
 pub fn finish_drilled<K: Sink>(station: &Station, done: &Done, limit: u32, out: &mut K) -> Status
     requires { HasEach station.now done.now }
     ensures { FinishesDrill limit done.now (K.state out.old) (K.state out.new) result }

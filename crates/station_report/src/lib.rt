@@ -1,4 +1,5 @@
-//! What is written of a station that was served, or of a drill: the lines, and which of all that went wrong the status line names.
+//! Writes the report of a station that was served, or of a drill: the lines, and the status line, which names one of several
+//! causes.
 #![tactic(auto)]
 
 mod cause;

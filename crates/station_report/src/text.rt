@@ -1,9 +1,9 @@
-//! What is written of a station that was served.
-ghost use Rattle.std.specs.Prelude.{◌≡◌, ◌+◌, ◌++◌, ◌≤◌, OnOk, OnErr, None, Some, codes, length, take, vec_len};
+//! Writes the report of a station that was served.
+ghost use Rattle.std.specs.Prelude.{◌≡◌, ◌+◌, ◌≤◌, OnOk, OnErr, None, Some, codes, length, take, vec_len};
 ghost use Rattle.journal_entry.specs.declared.writer.TheConstants.{LINE_ROOM};
 ghost use Rattle.station_report.specs.Crewing.{FinishesDone, HasEach, line_of_work, totals_by, totals_of};
+ghost use Rattle.station_report.specs.Crewing.{lines_before_page, lines_of_journal};
 ghost use Rattle.station_report.specs.Headline.{each_text, end_word, link_line};
-ghost use Rattle.file_commands.specs.Migrating.{journal_text};
 ghost use Rattle.sink_text.specs.Writing.{WritesAll, WritesFront};
 
 use crate::cause::ending_of;
@@ -19,8 +19,8 @@ use verdict_journal::Journal;
 
 // Writes the lines of a journal.
 fn write_journal<K: Sink>(journal: &Journal, out: &mut K) -> Result<(), Failed>
-    ensures ok { OnOk result (WritesAll (K.state out.old) (K.state out.new) (journal_text journal.now.settings journal.now.entries)) }
-    ensures err { OnErr result (WritesFront (K.state out.old) (K.state out.new) (journal_text journal.now.settings journal.now.entries)) }
+    ensures ok { OnOk result (WritesAll (K.state out.old) (K.state out.new) (lines_of_journal journal.now)) }
+    ensures err { OnErr result (WritesFront (K.state out.old) (K.state out.new) (lines_of_journal journal.now)) }
 {
     let mut line = [0; LINE_ROOM];
     for place in 0..journal.len() {
@@ -90,8 +90,8 @@ fn end_word(end: End) -> &'static [u8]
     }
 }
 
-/// Writes the line of a link at the front of `line`: its number from 0, how many datagrams of each kind its responder met in both phases,
-/// and how it ended. The answer is the number of bytes.
+/// Writes the line of a link at the beginning of `line`: its number from 0, how many datagrams of each kind its responder met in
+/// both phases, and how it ended. The answer is the number of bytes.
 pub fn write_link_line(number: usize, work: &LinkWork, line: &mut Line) -> usize
     ensures text { take result line.new ≡ line_of_work number work.now }
     ensures within { result ≤ LINE_ROOM }
@@ -131,14 +131,15 @@ fn write_links<K: Sink>(works: &[LinkWork], out: &mut K) -> Result<(), Failed>
 
 // Writes the lines of the journal and of the links.
 fn write_lines<K: Sink>(done: &Done, out: &mut K) -> Result<(), Failed>
-    ensures ok { OnOk result (WritesAll (K.state out.old) (K.state out.new) (journal_text done.now.journal.settings done.now.journal.entries ++ each_text line_of_work 0 done.now.links.items)) }
-    ensures err { OnErr result (WritesFront (K.state out.old) (K.state out.new) (journal_text done.now.journal.settings done.now.journal.entries ++ each_text line_of_work 0 done.now.links.items)) }
+    ensures ok { OnOk result (WritesAll (K.state out.old) (K.state out.new) (lines_before_page done.now)) }
+    ensures err { OnErr result (WritesFront (K.state out.old) (K.state out.new) (lines_before_page done.now)) }
 {
     write_journal(&done.journal, out)?;
     write_links(done.links.as_slice(), out)
 }
 
-// Writes what a station has left: its journal, its links, the page of the journal, and the status line.
+/// Writes what a station has left: its journal, its links, the page of the journal, and the status line. Returns the status, which
+/// is `WriteFault` where a write fails.
 pub fn finish_served<K: Sink>(station: &Station, done: &Done, limit: u32, out: &mut K) -> Status
     requires { HasEach station.now done.now }
     ensures { FinishesDone limit done.now (K.state out.old) (K.state out.new) result }

@@ -1,3 +1,3 @@
--- StepLaws: what a step that isn't refused keeps. RunLaws: lists of steps.
+-- StepLaws: what a step that is not refused keeps. RunLaws: lists of steps.
 pub mod RunLaws
 pub mod StepLaws

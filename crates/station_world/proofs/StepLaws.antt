@@ -1,4 +1,4 @@
--- What a step that isn't refused keeps: the chain of what is seen, published and entered, and that nothing is taken back.
+-- What a step that is not refused keeps: the chain of what is seen, published and entered, and that nothing is taken back.
 use Rattle.std.proofs.Common.{◌≡◌, ◌≢◌, ℕ, zero, suc, ◌+◌, ◌<◌, ◌≤◌, ◌==◌, Bool, true, false, List, [], ◌∷◌, ◌++◌, length, take, map, max, replicate, set, if◌then◌else◌, refl, sym, ap, ◌∙◌, subst, arith, length-append, true≢false, eqb, eq-eqb, ne_eqb}
 use Rattle.std.specs.Prelude.{All, Option, None, Some, nat_le, nat_lt, slice_index, slice_set}
 use Rattle.std.proofs.lemmas.Bool.Decides.{nat_tests}
@@ -16,7 +16,7 @@ use Rattle.station_world.specs.declared.step.Step.TheVariants.{Enter, Publish, R
 use Rattle.station_world.specs.declared.step.StepRefusal.{StepRefusal}
 use Rattle.system_fold.specs.Page.{page_of}
 
--- a step that isn't refused passes each test
+-- a step that is not refused passes each test
 passes : {A : Type 0} (b : Bool) (o : Option A) (x : A) → (if b then o else Some x) ≡ None → (b ≡ true) × (o ≡ None)
 passes true o x h = (refl, h)
 passes false o x h = absurd (none-some x (sym h))
@@ -40,7 +40,7 @@ most m n h = grind (arith, nat_tests)
 prefix_self : {A : Type 0} (xs : List A) → IsPrefix xs xs
 prefix_self xs = ([], append-nil xs)
 
--- a number of the list is replaced by one that isn't less
+-- a number of the list is replaced by one that is not less
 raised : (xs : List ℕ) (k n : ℕ) → k < length xs → slice_index xs k ≤ n → (j : ℕ) → j < length xs → slice_index xs j ≤ slice_index (slice_set xs k n) j
 raised xs k n lt more j less = dite (ℕ_discrete j k)
     (λ (e : j ≡ k). let at = get_or-set_same xs k n 0 lt in subst (λ (i : ℕ). slice_index xs i ≤ slice_index (slice_set xs k n) i) (sym e) (omega arith))

@@ -1,4 +1,4 @@
--- Runs of the machine: lists of steps, none of which is refused in the state that those before it come to. All of it is this project's
+-- Runs of the machine: lists of steps, none of which is refused in the state after those before it. All of it is this project's
 -- own.
 use Rattle.std.specs.Prelude.{◌≡◌, ◌⊎◌, ℕ, ◌+◌, ◌≤◌, ◌^◌, ◌++◌, Option, None, Some, List, [], ◌∷◌, length, All, ⊤}
 use Rattle.journal_entry.specs.Lawful.{IsLawfulWhat}
@@ -41,7 +41,7 @@ IsLawfulStep Publish = ⊤
 IsLawfulStep (Read k) = ⊤
 IsLawfulStep (Tell k n) = ⊤
 
--- each entry is lawful save for its feed, and the journal has room for all of them
+-- each entry is valid except for its feed, and the journal has room for all of them
 pub record MayRun (n : ℕ) (steps : List Step) : Type 0 where
   pub lawful : All IsLawfulStep steps
   pub room : n + entering steps ≤ 2 ^ 22

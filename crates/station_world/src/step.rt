@@ -4,13 +4,13 @@ use journal_entry::Entry;
 /// One event.
 #[derive(Clone, Copy, Debug, PartialEq, Eq)]
 pub enum Step {
-    /// An entry is put behind the journal.
+    /// The next entry goes after the journal.
     Enter(Entry),
     /// The page of the whole journal becomes the page that is read.
     Publish,
     /// The reader of this number reads the page.
     Read(u32),
-    /// The reader of this number is told that so many entries were published.
+    /// The reader of this number learns that this many entries were published.
     Tell(u32, u64),
 }
 
@@ -25,7 +25,7 @@ pub enum StepRefusal {
     Unpublished { entered: u64, published: u64 },
     /// All entries are published.
     Nothing { length: u64 },
-    /// Fewer entries are published than the reader is told.
+    /// Fewer entries are published than the reader is to learn of.
     Beyond { told: u64, published: u64 },
     /// There was not enough memory.
     Memory,

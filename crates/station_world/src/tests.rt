@@ -13,7 +13,7 @@ use std::test::*;
 use system_fold::{Settings, SourceKind};
 use tick_units::{Local, Plan};
 
-// What `assert_eq!` does, as a call: where many stand in a test, calls are proved in a third of the time.
+// What `assert_eq!` does, as a call: where a test has many, calls are proved in a third of the time.
 fn same<T: PartialEq + Debug + Drop>(rt: &impl Abort, left: T, right: T) {
     assert_eq!(*rt; left, right);
 }
@@ -41,7 +41,7 @@ fn announced(feed: u32) -> Entry
     }
 }
 
-// A station with one radio and one reader, and how many entries it was given at most.
+// A station with one radio and one reader, and the most entries that it was given.
 #[derive(Drop)]
 struct Bench {
     world: World,
@@ -173,7 +173,7 @@ fn in_turn() -> [Step; 7]
     ]
 }
 
-// Two entries, the first of which isn't published.
+// Two entries, the first of which is not published.
 fn unpublished() -> [Step; 3]
     ensures { MayRun 0 result }
 {
@@ -184,7 +184,7 @@ fn unpublished() -> [Step; 3]
     ]
 }
 
-// A run goes on up to the first step that is refused, and those before it stand.
+// A run goes on up to the first refused step, and the steps before it count.
 #[test]
 fn a_run_stops_at_the_first_refusal(rt: HostRuntime) -> Result<(), Fail> {
     let settings = of_one_radio();

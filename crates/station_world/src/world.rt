@@ -38,14 +38,14 @@ impl Model for World {
     ghost invariant = { IsKept };
 }
 
-/// Why a world wasn't made.
+/// Why a world was not made.
 #[derive(Clone, Copy, Debug, PartialEq, Eq)]
 pub enum WorldOpen {
     /// There was not enough memory.
     Memory,
 }
 
-// So many readers that have seen nothing.
+// This many readers that have seen nothing.
 fn unseen(alloc: Global, readers: u32) -> Result<Vec<u64>, WorldOpen>
     ensures { IfOk result (λ v. v.items ≡ replicate readers 0) }
 {
@@ -56,7 +56,7 @@ fn unseen(alloc: Global, readers: u32) -> Result<Vec<u64>, WorldOpen>
 }
 
 impl World {
-    /// The station with no entry, and with so many readers.
+    /// The station with no entry, and with this many readers.
     pub fn new(alloc: Global, settings: &Settings, readers: u32) -> Result<World, WorldOpen>
         requires { AreLawful settings.now }
         ensures start { IfOk result (λ w. w ≡ start settings.now readers) }
@@ -149,7 +149,7 @@ impl World {
     }
 
     #[tactic(auto, using(crate::proofs::StepLaws::rises_after, crate::proofs::StepLaws::rises_self))]
-    /// Makes a step: a page where it is a reading, else none. A step that is refused leaves the world as it was.
+    /// Makes a step; a reading gives a page, and any other step none. A step that is refused leaves the world as it was.
     pub fn step(&mut self, s: Step) -> Result<Option<Page>, StepRefusal>
         requires { MayCome (length self.old.journal) s }
         ensures ok { IfOk result (λ page. (refusal_of self.old s ≡ None) × (self.new ≡ after self.old s) × (page ≡ given self.old s)) }
@@ -174,14 +174,14 @@ impl World {
         }
     }
 
-    // What the chain is by the type's invariant.
+    // What the type's invariant says of the chain.
     fn check(&self)
         ensures { IsChained self.now }
     {
         let _published = self.published;
     }
 
-    /// Makes these steps in order, up to the first that is refused; those before it stand.
+    /// Makes these steps in order, up to the first that is refused; those before it count.
     pub fn run(&mut self, steps: &[Step]) -> Result<(), StepRefusal>
         requires { MayRun (length self.old.journal) steps.now }
         ensures ok { IfOk result (λ u. AreTaken self.old steps.now × (self.new ≡ after_all self.old steps.now)) }

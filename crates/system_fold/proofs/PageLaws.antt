@@ -104,7 +104,7 @@ peer-fit now fit survivors peer all is = by_list (sources_at fit survivors) (sou
     by_list [] fits first = absurd (none-first peer first)
     by_list (s ∷ others) fits first = subst (IsFit now) (sym (first-same peer s first)) (All-head (IsFit now) s others fits)
 
--- so their page is told by it, and by when the newest sample of all was taken
+-- so it determines their page, with the moment of the newest sample of all
 pub page-left : (inputs : PageInputs) (left : List Source) (peer : Source) (fresh : ℕ) (offset mean_offset : ℤ) (page : PageFields) → Some peer ≡ slice_get left 0 → fresh ≡ fresh_of left → offset ≡ mean_offset
     → ((others : List Source) → fresh ≡ fresh_of (peer ∷ others) → page ≡ page_from inputs (peer ∷ others) offset) → page ≡ page_from inputs left mean_offset
 page-left inputs [] peer fresh offset mean_offset page first newest is told = absurd (none-first peer first)
@@ -133,7 +133,7 @@ long-most xs all = All-weaker IsLong (λ x. x.offset ≤ℤ pos (2 ^ 66 - 1)) (�
 abbrev pub inputs_by : FoldFields → Option Leap → PageInputs
 inputs_by fold armed = record { length = fold.length; moment = fold.leaps.latest; bound = fold.bound; armed = armed }
 
--- nothing tells the time where no source is left
+-- the page is not synchronised where no source is left
 pub page-empty : (inputs : PageInputs) (left : List Source) (offset : ℤ) → left ≡ [] → page_from inputs left offset ≡ unsynchronised inputs.length inputs.moment
 unfolding page_from
 page-empty inputs left offset none = ap (λ (xs : List Source). page_from inputs xs offset) none

@@ -1,4 +1,4 @@
--- Words that name no leap second: what isn't looked at for them.
+-- Words that name no leap second: what is not looked at for them.
 use Rattle.std.proofs.Common.{◌≡◌, ℕ, zero, suc, max, Bool, true, false, List, [], ◌∷◌, refl, ap, ◌∙◌, set}
 use Rattle.std.specs.Prelude.{Option, None, Some, map, fold, ◌&&◌, ◌||◌, ◌==◌, nat_lt, if◌then◌else◌}
 use Rattle.std.specs.List.{filter_map, cons_option, list_all}

@@ -1,4 +1,4 @@
--- What is kept of the feeds of a journal is sound: lawful samples, none of them newer than now.
+-- What is kept of the feeds of a journal is sound: valid samples, none of them newer than now.
 use Rattle.std.proofs.Common.{ℕ, ◌+◌, ◌-◌, ◌*◌, ◌^◌, ◌≤◌, ◌<◌, List, [], ◌∷◌, sym, arith, subst, length, max, map, pos, ◌-ℤ◌}
 use Rattle.std.specs.Prelude.{All, IfSome, Option, None, Some, fold, filter, ◌==◌}
 use Rattle.std.specs.List.{filter_map, cons_option, enumerate_from}
@@ -28,7 +28,7 @@ use Rattle.system_fold.specs.declared.settings.SourceKind.TheVariants.{Radio, Se
 use Rattle.system_fold.specs.declared.settings.SourceKind.TheVariants.{Leap as LeapFile}
 use Rattle.system_fold.proofs.SourceLaws.{eight-again}
 
--- the span of a moment is less than that of any second that is told
+-- the span of a moment is less than that of any second that a frame may say
 span-below : (at second : ℕ) → at < 2 ^ 50 → first_told ≤ second → local_span at ≤ second * 2 ^ 32
 span-below at second moment least = omega arith
 

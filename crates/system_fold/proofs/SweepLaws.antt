@@ -59,7 +59,7 @@ few-from cut now then a first (feed ∷ feeds) = by_source (fit_source cut now (
     by_source None rest here further = omega arith
     by_source (Some s) rest here further = by_test (nat_le first s.feed) (candidate_of then s) (from_feed first (map (candidate_of then) rest)) (ap (nat_le first) (sym here)) further
 
--- so it is of the candidates that stand for so many feeds
+-- so it is of the candidates that stand for this many feeds
 pub few-standing : (cut now n : ℕ) (feeds : List Feed) (fit : List Source) (sweep : List Candidate) → AreFit cut now feeds fit → sweep ≡ map (candidate_of now) fit → n ≡ length feeds → AreFew n sweep
 few-standing cut now n feeds fit sweep sources standing same = record {
   upward = λ first.

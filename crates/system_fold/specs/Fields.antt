@@ -1,5 +1,5 @@
--- The fields of a page, from the sources that are left and their mean offset (RFC 5905, section 11.2.3, and section 9.2 for
--- what a server tells of itself).
+-- The fields of a page, from the sources that are left and their mean offset (RFC 5905, section 11.2.3). What a server reports of
+-- itself is in section 9.2.
 use Rattle.std.specs.Prelude.{ℕ, ◌+◌, true, Option, None, Some, List, [], ◌∷◌, map, ℤ, pos, ◌+ℤ◌, if◌then◌else◌}
 use Rattle.std.specs.Int.{int_max}
 use Rattle.tick_units.specs.Orders.{greatest}
@@ -27,7 +27,7 @@ abbrev pub leap_second : Option Leap → ℕ
 leap_second None = 0
 leap_second (Some leap) = leap.leap_at
 
--- when the newest of all samples that these hold was taken
+-- the moment of the newest of all their samples
 abbrev pub fresh_of : List Source → ℕ
 fresh_of sources = greatest (map (λ s. s.figures.newest) sources)
 
@@ -35,7 +35,7 @@ fresh_of sources = greatest (map (λ s. s.figures.newest) sources)
 abbrev pub page_dispersion : ℕ → Source → ℕ
 page_dispersion now peer = to_short (int_max (pos least_dispersion) (root_dispersion_of now peer.figures))
 
--- the page that tells the time by the sources that are left, the first of which is the system peer, and by their mean offset
+-- the page that gives the time by the sources that are left, the first of which is the system peer, and by their mean offset
 abbrev pub told_by : PageInputs → Source → List Source → ℤ → PageFields
 told_by inputs peer others offset = record {
   length = inputs.length;
@@ -52,7 +52,8 @@ told_by inputs peer others offset = record {
   rate = peer.figures.rate;
 }
 
--- the page of the sources that are left; where none is left, or the root dispersion is above the bound already, nothing tells the time
+-- the page of the sources that are left; where none is left, or the root dispersion is above the bound already, no source gives
+-- the time
 unfoldable pub page_from : PageInputs → List Source → ℤ → PageFields
 page_from inputs [] offset = unsynchronised inputs.length inputs.moment
 page_from inputs (peer ∷ others) offset =

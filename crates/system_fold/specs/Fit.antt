@@ -1,4 +1,4 @@
--- Scaffolding: the sources that are fit, as they come out of what is kept of the feeds.
+-- Scaffolding: the sources that are fit, by what is kept of the feeds.
 use Rattle.std.specs.Prelude.{◌≡◌, ℕ, ◌-◌, ◌^◌, ◌≤◌, ◌<◌, nat_le, Option, None, Some, List, All, filter, length, pos, ◌≤ℤ◌, if◌then◌else◌}
 use Rattle.std.specs.List.{filter_map, enumerate_from}
 use Rattle.std.specs.Option.{option_map}
@@ -11,7 +11,7 @@ use Rattle.select_core.specs.declared.chime.Candidate.{Candidate}
 use Rattle.system_fold.specs.declared.feed.Feed.{Feed}
 use Rattle.system_fold.specs.declared.source.Source.{Source}
 
--- what is kept of a feed: its last samples, lawful ones from up to now
+-- what is kept of a feed: its last samples, which are valid and from no later than now
 pub record IsSound (now : ℕ) (feed : Feed) : Type 0 where
   pub last : StandsFor feed.filter feed.filter
   pub lawful : AreLawful feed.filter
@@ -21,7 +21,7 @@ abbrev pub if_fit : ℕ → Option Source → Option Source
 if_fit now None = None
 if_fit now (Some s) = if is_fit_at now s.figures then Some s else None
 
--- a feed of a number, where its samples from the cut on make it fit
+-- a feed with a number, where its samples from the cut on make it fit
 abbrev pub fit_source : ℕ → ℕ → ℕ × Feed → Option Source
 fit_source cut now k = if_fit now (option_map (λ figures. record { feed = k.0; kind = k.1.kind; figures = figures }) (figures_of (held cut k.1.filter)))
 
@@ -37,7 +37,7 @@ pub record IsFit (now : ℕ) (s : Source) : Type 0 where
   pub most : distance_of now s.figures ≤ℤ pos (2 ^ 32)
   pub stratum : s.figures.stratum < 15
 
--- of so many feeds these are the fit ones
+-- these are the fit ones among this many feeds
 pub record AreFit (cut now : ℕ) (seen : List Feed) (fit : List Source) : Type 0 where
   pub value : fit ≡ fit_feeds cut now seen
   pub all : All (IsFit now) fit
@@ -47,7 +47,7 @@ pub record AreFit (cut now : ℕ) (seen : List Feed) (fit : List Source) : Type 
 abbrev pub from_feed : ℕ → List Candidate → List Candidate
 from_feed first candidates = filter (λ c. nat_le first c.feed) candidates
 
--- from each number on there are no more candidates than there are feeds
+-- from each number on there are no more candidates than feeds
 pub record AreFew (feeds : ℕ) (candidates : List Candidate) : Type 0 where
   pub upward : (first : ℕ) → length (from_feed first candidates) ≤ feeds - first
 

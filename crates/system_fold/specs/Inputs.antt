@@ -1,4 +1,4 @@
--- The page inputs: what a page is made by besides the sources that are left, and the moment at which it ends. All of it is this
+-- The page inputs: what makes a page besides the sources that are left, and the moment at which it ends. All of it is this
 -- project's own.
 use Rattle.std.specs.Prelude.{ℕ, ◌+◌, ◌^◌, ◌≤◌, min, Option, None, Some, List, length}
 use Rattle.journal_entry.specs.declared.entry.Entry.{Entry}
@@ -24,11 +24,11 @@ abbrev pub until_leap : Option Leap → ℕ → ℕ
 until_leap None moment = moment
 until_leap (Some leap) moment = min leap.moment moment
 
--- the moment at which a page of this root dispersion ends: where that passes the bound, or where the next leap second comes if that
--- is sooner
+-- the moment at which a page of this root dispersion ends: where that passes the bound, or at the next leap second if it is
+-- sooner
 abbrev pub until_of : PageInputs → ℕ → ℕ
 until_of inputs root_disp = until_leap inputs.armed (inputs.moment + lasts inputs.bound root_disp)
 
--- they are from lawful settings: the bound is at most 16 s
+-- they are from valid settings: the bound is at most 16 s
 pub record AreBounded (inputs : PageInputs) : Type 0 where
   pub bound : inputs.bound ≤ 2 ^ 36

@@ -1,4 +1,4 @@
--- What is said of a journal as a list of entries: how late it is, and its prefixes. A journal is this project's own.
+-- A journal as a list of entries: its greatest moment, and its prefixes. A journal is this project's own.
 use Rattle.std.specs.Prelude.{ℕ, List, [], ◌∷◌, map}
 use Rattle.tick_units.specs.Orders.{greatest}
 use Rattle.journal_entry.specs.declared.entry.Entry.{Entry}

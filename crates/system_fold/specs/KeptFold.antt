@@ -18,7 +18,7 @@ use Rattle.system_fold.specs.declared.leaps.Word.{Word}
 use Rattle.system_fold.specs.declared.settings.SourceKind.{SourceKind}
 use Rattle.system_fold.specs.declared.source.Source.{Source}
 
--- of a journal these words, this Verdict and this cut are kept
+-- these words, this Verdict and this cut are kept of a journal
 pub record KeepsLeaps (s : Leaps) (journal : List Entry) : Type 0 where
   pub now : s.latest ≡ now_of journal
   pub cut : s.cut ≡ cut_of journal
@@ -43,7 +43,7 @@ pub record FoldFields : Type 0 where
 abbrev pub kept_by : Inside → FoldFields
 kept_by fold = record { bound = fold.bound; feeds = fold.feeds.items; leaps = fold.leaps; length = fold.length }
 
--- a fold stands for lawful settings and a journal of lawful entries
+-- a fold stands for valid settings and a journal of valid entries
 pub record StandsForJournal (fold : FoldFields) (settings : SettingsFields) (journal : List Entry) : Type 0 where
   pub lawful : AreLawful settings
   pub few : length settings.sources ≤ 16
@@ -53,7 +53,7 @@ pub record StandsForJournal (fold : FoldFields) (settings : SettingsFields) (jou
   pub leaps : KeepsLeaps fold.leaps journal
   pub length : fold.length ≡ length journal
 
--- each fold stands for some, and has ready the sources that are fit and what the selection is told of them
+-- each fold stands for some settings and journal, and has ready the fit sources and what the selection receives of them
 pub record IsFold (fold : FoldFields) (fit : List Source) (sweep : List Candidate) : Type 0 where
   pub settings : SettingsFields
   pub journal : List Entry

@@ -1,8 +1,8 @@
--- What the feeds of a journal say of leap seconds: the word of each, the moment on the host's counter at which the leap second
--- that it names comes, the greatest of these moments that has passed, and the leap second that is still to come. How words of
--- several feeds are weighed is this project's own; what a leap second is, RFC 5905 has in section 7.3 (the leap indicator).
--- A leap second is named by the second that begins when it ends. Seconds are counted without leap seconds, so a moment that is
--- reckoned from before a leap second is that of its begin, and one that is reckoned from after it is that of its end.
+-- What the feeds of a journal say of leap seconds. This is the word of each, and the moment on the host's counter at which the
+-- leap second that it names comes. It is also the greatest of these moments that has passed, and the leap second that is still to
+-- come. How words of several feeds are weighed is this project's own; RFC 5905 says in section 7.3 (the leap indicator) what a
+-- leap second is. A leap second is named by the second that begins when it ends. Seconds are counted without leap seconds. So a
+-- moment computed from before a leap second is that of its beginning, and one computed from after it is that of its end.
 use Rattle.std.specs.Prelude.{ℕ, ◌+◌, ◌-◌, ◌*◌, ◌^◌, ◌==◌, nat_lt, nat_le, ◌||◌, Option, None, Some, List, filter, map, if◌then◌else◌}
 use Rattle.std.specs.List.{filter_map, last_or, range_with_len}
 use Rattle.tick_units.specs.Orders.{greatest, best}
@@ -45,7 +45,7 @@ word_of journal feed = last_or None (filter_map (λ e. word_in e.at e.what) (fil
 abbrev pub words_of : List Entry → List (Option Word)
 words_of journal = map (word_of journal) (range_with_len 0 16)
 
--- the last Verdict, of whatever feed
+-- the last Verdict of any feed
 abbrev pub last_verdict : List Entry → Option Verdict
 last_verdict journal = last_or None (filter_map (λ e. verdict_in e.at e.what) journal)
 
@@ -53,16 +53,16 @@ last_verdict journal = last_or None (filter_map (λ e. verdict_in e.at e.what) j
 abbrev pub moment_of : ℕ → ℕ → ℕ → ℕ
 moment_of at second leap_at = (at + leap_at * 10 ^ 6) - second * 10 ^ 6
 
--- the leap second that a word names, and its moment. A word with `leap_at` 0 names none. A Verdict tells both by itself; a
--- Notice has no moment of its own, so it is reckoned from the last Verdict, and there is none where no feed has told a Verdict
--- yet, or where the leap second was over before the second of that Verdict
+-- the leap second that a word names, and its moment. A word with `leap_at` 0 names none. A Verdict gives both by itself. A Notice
+-- has no moment of its own, so it is computed from the last Verdict. There is none where no feed has given a Verdict yet, or
+-- where the leap second was over before the second of that Verdict.
 abbrev pub leap_of : Option Verdict → Option Word → Option Leap
 leap_of last None = None
 leap_of last (Some (Told at second leap_at)) = if leap_at == 0 then None else Some (record { moment = moment_of at second leap_at; leap_at = leap_at })
 leap_of None (Some (Announced leap_at)) = None
 leap_of (Some v) (Some (Announced leap_at)) = if leap_at == 0 || nat_lt leap_at v.second then None else Some (record { moment = moment_of v.at v.second leap_at; leap_at = leap_at })
 
--- the moment of a leap second, where it isn't above now, or 0
+-- the moment of a leap second, where it is not above now, or 0
 abbrev pub passed_by : ℕ → Option Leap → ℕ
 passed_by now None = 0
 passed_by now (Some leap) = if nat_le leap.moment now then leap.moment else 0
@@ -75,8 +75,8 @@ passed_among now last words = greatest (map (λ word. passed_by now (leap_of las
 abbrev pub passed : List Entry → ℕ
 passed journal = passed_among (now_of journal) (last_verdict journal) (words_of journal)
 
--- the moment from which on samples count: the greatest moment of a leap second that had passed at any time, each prefix of the
--- journal being judged by its own words, its own last Verdict and its own `now`
+-- the moment from which on samples count: the greatest moment of a leap second that had passed at any time. Each prefix of the
+-- journal is judged by its own words, its own last Verdict and its own `now`.
 abbrev pub cut_of : List Entry → ℕ
 cut_of journal = greatest (map passed (prefixes journal))
 

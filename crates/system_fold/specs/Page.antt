@@ -1,4 +1,4 @@
--- The page of a journal: how the server reckons the time after all of it. It is made from the whole list of entries, with no
+-- The page of a journal: how the server computes the time after all of it. The page comes from the whole list of entries, with no
 -- state (RFC 5905, sections 10 and 11, in this project's profile).
 use Rattle.std.specs.Prelude.{List}
 use Rattle.clock_page.specs.Page.{PageFields}

@@ -1,12 +1,12 @@
--- The text of a page: its fields, with one space between each two. The form is this project's own; numbers are written as
--- Rust's and C's decimal output writes them, an identifier and a stamp by their bytes.
+-- The text of a page: its fields, separated by one space. The form is this project's own. Numbers are written as in the decimal
+-- output of Rust and C, an identifier and a stamp by their bytes.
 use Rattle.std.specs.Prelude.{ℕ, List, [], ◌∷◌, ◌++◌, codes, decimal}
 use Rattle.std.specs.Fmt.{signed_decimal}
 use Rattle.std.specs.Int.{from_bool}
 use Rattle.clock_page.specs.Page.{PageFields}
 use Rattle.journal_entry.specs.Texts.{address_text, spaced, stamp_text}
 
--- its fields in the order in which they stand in the page; whether it is synchronised is 0 or 1
+-- its fields in the order in which they stand in the page; the field for synchronised is 0 or 1
 abbrev pub page_fields : PageFields → List (List ℕ)
 page_fields p =
     decimal p.length
@@ -23,6 +23,6 @@ page_fields p =
     ∷ signed_decimal p.rate
     ∷ []
 
--- a word, and its fields
+-- a keyword, and its fields
 abbrev pub page_line : PageFields → List ℕ
 page_line p = codes "page" ++ spaced (page_fields p)

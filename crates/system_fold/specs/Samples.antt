@@ -1,5 +1,5 @@
 -- The samples of the time in a journal, feed by feed: a radio's verdicts, and the answers that were taken of a server (RFC 5905,
--- section 8). That a radio's sample has a dispersion of 1 ms is this project's own.
+-- section 8). The dispersion of 1 ms of a radio's sample is this project's own.
 use Rattle.std.specs.Prelude.{ℕ, ◌*◌, ◌^◌, ◌==◌, Option, None, Some, List, filter, pos, ◌-ℤ◌}
 use Rattle.std.specs.List.{filter_map}
 use Rattle.std.specs.Option.{option_map}
@@ -15,7 +15,7 @@ use Rattle.system_fold.specs.declared.settings.SourceKind.{SourceKind}
 use Rattle.system_fold.specs.declared.settings.SourceKind.TheVariants.{Radio, Server}
 use Rattle.system_fold.specs.declared.settings.SourceKind.TheVariants.{Leap as LeapFile}
 
--- a radio tells that a second began at a moment: the span to be added to the host's counter
+-- a radio says that a second began at a moment: the span to add to the host's counter
 abbrev pub radio_sample : ℕ → ℕ → Sample
 radio_sample at second = record {
   offset = pos (second * 2 ^ 32) -ℤ pos (local_span at);

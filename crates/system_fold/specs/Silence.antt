@@ -1,4 +1,4 @@
--- Scaffolding, which the fold uses: a word of which it is plain that it names no leap second.
+-- Scaffolding, which the fold uses: a word that plainly names no leap second.
 use Rattle.std.specs.Prelude.{◌==◌, Bool, true, Option, None, Some}
 use Rattle.system_fold.specs.declared.leaps.Word.{Word}
 use Rattle.system_fold.specs.declared.leaps.Word.TheVariants.{Told, Announced}

@@ -13,7 +13,7 @@ use Rattle.system_fold.specs.Settings.{SettingsFields}
 use Rattle.system_fold.specs.declared.settings.SourceKind.{SourceKind}
 use Rattle.system_fold.specs.declared.source.Source.{Source}
 
--- a feed, and what its samples say: of its last eight those that aren't from before the cut; none where there are none
+-- a feed and its figures: of its last eight samples those that are not from before the cut; none where there are none
 abbrev pub source_of : List Entry → ℕ → SourceKind → Option Source
 source_of journal feed kind =
     option_map (λ figures. record { feed = feed; kind = kind; figures = figures }) (figures_of (held (cut_of journal) (samples_of kind feed journal)))

@@ -1,4 +1,4 @@
--- Scaffolding: the survivors among so many sources.
+-- Scaffolding: the survivors among this many sources.
 use Rattle.std.specs.Prelude.{◌≡◌, ℕ, ◌≤◌, Some, List, All, length}
 use Rattle.tick_units.specs.Samples.{IsLength}
 use Rattle.cluster_core.specs.Bounds.{IsWeighable}
@@ -7,7 +7,7 @@ use Rattle.select_core.specs.declared.chime.Chime.{Chime}
 use Rattle.system_fold.specs.Selecting.{survivors_in}
 use Rattle.system_fold.specs.declared.source.Source.{Source}
 
--- an offset is no longer than that of a lawful sample
+-- an offset is no longer than that of a valid sample
 abbrev pub IsLong : Survivor → Type 0
 IsLong x = IsLength x.offset
 

@@ -18,7 +18,7 @@ pub struct Feed {
     pub filter: Filter,
 }
 
-/// What lies in the unused places of a fold.
+/// What fills the unused places of a fold.
 impl Default for Feed {
     fn default() -> Feed {
         Feed::new(SourceKind::Leap)
@@ -47,7 +47,7 @@ impl Feed {
             self.filter.add(taken.at, taken.sample);
         }
     }
-    /// Works out what its samples say from this cut on.
+    /// Computes the figures of its samples from this cut on.
     pub fn look_from(&mut self, cut: u64)
         ensures { self.new ≡ self.old }
     {

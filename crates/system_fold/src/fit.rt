@@ -14,7 +14,7 @@ use crate::sources::Sources;
 use select_core::Sweep;
 use tick_units::Local;
 
-// The feed of a number, where its samples from the cut on make it fit.
+// The feed with a number, where its samples from the cut on make it fit.
 fn fit_source(number: u32, feed: &Feed, cut: u64, now: Local) -> Option<Source>
     requires { IsSound now feed.now }
     ensures value { result ≡ fits.fit_source cut now (number, feed.now) }
@@ -59,7 +59,7 @@ pub fn fit_sources(feeds: &[Feed], cut: u64, now: Local) -> Sources
     fit
 }
 
-// Looks at a feed: where it is fit, its source is added and its candidate stands, and where it isn't, none stands.
+// Looks at a feed. Where it is fit, this adds its source and its candidate; where it is not, it has no candidate.
 fn look_at(number: u32, feed: &Feed, cut: u64, now: Local, fit: &mut Sources, sweep: &mut Sweep)
     requires sound { IsSound now feed.now }
     requires few { length fit.old < 16 }
@@ -77,8 +77,8 @@ fn look_at(number: u32, feed: &Feed, cut: u64, now: Local, fit: &mut Sources, sw
     }
 }
 
-/// Finds the feeds that are fit, in the order of their numbers, as `fit_sources` does, and lets them, and no others, stand in
-/// the sweep, with the distances that they have now.
+/// Finds the feeds that are fit, in the order of their numbers, as `fit_sources` does. The sweep then has their candidates and no
+/// others, with their present distances.
 pub fn find_fit(feeds: &[Feed], cut: u64, now: Local, fit: &mut Sources, sweep: &mut Sweep)
     requires few { length feeds.now ≤ 16 }
     requires sound { All (IsSound now) feeds.now }

@@ -20,9 +20,9 @@ use journal_entry::Entry;
 use select_core::Sweep;
 use std::marker::Model;
 
-/// What is kept of a journal to make its page: of each feed its last eight samples, what was said of leap seconds, how many
-/// entries there were, and, worked out once an entry, the sources that are fit and the ends of their intervals in order.
-/// Contracts see that it stands for the settings and the whole journal.
+/// What is kept of a journal to make its page: the last eight samples of each feed, what was said of leap seconds, and the number
+/// of entries. Computed once an entry are the sources that are fit and the ends of their intervals in order. Contracts see that
+/// it stands for the settings and the whole journal.
 #[derive(Drop)]
 pub struct FoldState {
     bound: u64,
@@ -43,7 +43,7 @@ impl Model for FoldState {
     ghost invariant = { λ s. IsFold (kept_by s) s.fit s.sweep };
 }
 
-// Of each feed what it is, and no sample.
+// Each feed with its kind and no sample.
 fn blank_feeds(kinds: &[SourceKind]) -> ArrayVec<Feed, 16>
     requires { length kinds.now ≤ 16 }
     ensures { result.items ≡ map blank kinds.now }
@@ -55,7 +55,7 @@ fn blank_feeds(kinds: &[SourceKind]) -> ArrayVec<Feed, 16>
     feeds
 }
 
-// Works out what the samples of each feed say from a cut on, where it isn't the one from which they were looked at before.
+// Computes the figures of each feed from a cut on, unless the filters had this cut before.
 fn look_from(feeds: &mut [Feed], before: u64, cut: u64)
     ensures { feeds.new ≡ feeds.old }
 {
@@ -64,7 +64,7 @@ fn look_from(feeds: &mut [Feed], before: u64, cut: u64)
     }
 }
 
-// Works out what the samples of each feed say from a cut on.
+// Computes the figures of each feed from a cut on.
 fn look_all_from(feeds: &mut [Feed], cut: u64)
     ensures { feeds.new ≡ feeds.old }
 {
@@ -73,7 +73,7 @@ fn look_all_from(feeds: &mut [Feed], cut: u64)
     }
 }
 
-// Of the feed that an entry is of, takes the sample that it is, if it is one.
+// Takes the sample that an entry is, if it is one, for the entry's feed.
 fn take_sample(feeds: &mut [Feed], e: &Entry, before: u64, cut: u64)
     requires feed { e.now.feed < length feeds.old }
     requires what { IsLawfulWhat e.now.what }

@@ -1,4 +1,4 @@
-//! The page inputs: what a page is made by besides the sources that are left, and the moment at which it ends.
+//! The page inputs: what makes a page besides the sources that are left, and the moment at which it ends.
 ghost use Rattle.std.specs.Prelude.{◌≡◌, ◌+◌, ◌*◌, ◌^◌, ◌<◌, ◌≤◌, false, nat_lt};
 ghost use Rattle.tick_units.specs.Units.{phi};
 ghost use Rattle.clock_page.specs.Page.{unsynchronised};
@@ -10,14 +10,14 @@ use crate::leaps::Leap;
 use clock_page::Page;
 use tick_units::{Local, Short};
 
-/// What a page is made by besides the sources that are left.
+/// What makes a page besides the sources that are left.
 #[derive(Clone, Copy)]
 pub struct PageInputs {
     /// The number of entries of the journal.
     pub length: u64,
     /// The greatest moment of its entries.
     pub moment: Local,
-    /// The root dispersion above which the page isn't trusted, in units of 2^-32 s.
+    /// The root dispersion above which the page is not trusted, in units of 2^-32 s.
     pub bound: u64,
     /// The leap second that is still to come.
     pub armed: Option<Leap>,
@@ -47,7 +47,7 @@ fn first_above(bound: u64, dispersion: u64) -> u64
 }
 
 impl PageInputs {
-    /// The page where nothing tells the time.
+    /// The page where no source gives the time.
     pub fn unsynchronised(&self) -> Page
         ensures { result ≡ unsynchronised self.now.length self.now.moment }
     {
@@ -72,8 +72,8 @@ impl PageInputs {
         first_above(self.bound, units_of(root_disp))
     }
 
-    /// The moment at which a page of this root dispersion ends: where that passes the bound, or that of the next leap second, where
-    /// it is sooner.
+    /// The moment at which a page of this root dispersion ends: where that passes the bound, or at the next leap second if it is
+    /// sooner.
     pub fn until(&self, root_disp: Short) -> u64
         requires bounded { AreBounded self.now }
         requires within { is_above self.now.bound root_disp.0 0 ≡ false }

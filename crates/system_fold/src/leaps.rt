@@ -38,7 +38,7 @@ pub struct Verdict {
     pub second: u64,
 }
 
-/// What is kept of a journal for its leaps.
+/// What is kept of a journal for its leap seconds.
 #[derive(Drop)]
 pub struct Leaps {
     pub latest: Local,
@@ -62,6 +62,7 @@ pub fn word_said(at: Local, what: &What) -> Option<Word>
     }
 }
 
+// The verdict that an entry is, if it is one: its moment and its second since 1900.
 pub fn verdict_said(at: Local, what: &What) -> Option<Verdict>
     ensures { result ≡ verdict_in at what.now }
 {
@@ -74,7 +75,7 @@ pub fn verdict_said(at: Local, what: &What) -> Option<Verdict>
     }
 }
 
-// A leap, by a moment and the second that began there. It is reckoned in 128 bits, so no bound is asked for.
+// A leap second, by a moment and the second that began there. It is computed in 128 bits, so it needs no bound.
 fn leap_from(at: Local, second: u64, leap_at: u64) -> Leap
     ensures { result ≡ record { moment = (at + leap_at * 10 ^ 6) - second * 10 ^ 6; leap_at = leap_at } }
 {
@@ -86,7 +87,7 @@ fn leap_from(at: Local, second: u64, leap_at: u64) -> Leap
     }
 }
 
-// The leap that a word names.
+// The leap second that a word names.
 fn leap_named(verdict: &Option<Verdict>, word: &Option<Word>) -> Option<Leap>
     ensures { result ≡ leap_of verdict.now word.now }
 {
@@ -118,7 +119,7 @@ fn leap_named(verdict: &Option<Verdict>, word: &Option<Word>) -> Option<Leap>
     }
 }
 
-// The moment of a leap that isn't above now, or 0.
+// The moment of a leap second that is not above now, or 0.
 fn passed_moment(now: Local, leap: &Option<Leap>) -> u64
     ensures { result ≡ passed_by now leap.now }
 {
@@ -134,7 +135,7 @@ fn passed_moment(now: Local, leap: &Option<Leap>) -> u64
     }
 }
 
-// A leap, where its moment is above now.
+// A leap second, where its moment is above now.
 fn ahead(now: Local, leap: Option<Leap>) -> Option<Leap>
     ensures { result ≡ ahead_of now leap }
 {
@@ -169,7 +170,7 @@ fn sooner(first: Option<Leap>, next: Option<Leap>) -> Option<Leap>
     }
 }
 
-// The greatest moment of a leap second among words that isn't above now, or 0.
+// The greatest moment of a leap second among words that is not above now, or 0.
 pub fn last_passed(now: Local, verdict: &Option<Verdict>, words: &[Option<Word>]) -> u64
     ensures { result ≡ passed_among now verdict.now words.now }
 {
@@ -235,7 +236,7 @@ impl Leaps {
         self.cut = self.cut.max(last_passed(self.latest, &self.verdict, self.words.telling()));
     }
 
-    /// The leap that is armed.
+    /// The leap second that is armed.
     pub fn armed(&self) -> Option<Leap>
         ensures { (journal : List Entry) → KeepsLeaps self.now journal → result ≡ armed_of journal }
     {

@@ -3,7 +3,7 @@ ghost use Rattle.std.specs.Prelude.{◌≡◌, ◌<◌, ◌^◌, max};
 
 use tick_units::Local;
 
-// The host's counter at its begin.
+// The zero of the host's counter.
 pub fn beginning() -> Local
     ensures { result ≡ 0 }
 {

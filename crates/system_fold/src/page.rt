@@ -53,7 +53,7 @@ fn root_disp_of(peer: &Source, now: Local) -> Short
     to_short(Span::from(LEAST_DISPERSION).max(peer.figures.root_dispersion(now)))
 }
 
-// The page that tells the time by the sources that are left.
+// The page that gives the time by the sources that are left.
 fn told_by(inputs: &PageInputs, peer: &Source, fresh: Local, root_disp: Short, offset: Span) -> Page
     requires inputs { AreBounded inputs.now }
     requires peer { IsFit inputs.now.moment peer.now }
@@ -78,8 +78,8 @@ fn told_by(inputs: &PageInputs, peer: &Source, fresh: Local, root_disp: Short, o
     }
 }
 
-/// The page of the sources that are left, by the first of them, which is the system peer, when the newest sample of all was
-/// taken, and their mean offset.
+/// The page of the sources that are left. It depends on the system peer, which is the first of them, the moment of the newest
+/// sample of all, and their mean offset.
 #[tactic(auto, unfolding(crate::specs::Fields::page_from))]
 pub fn page_from(inputs: &PageInputs, peer: &Source, fresh: Local, offset: Span) -> Page
     requires inputs { AreBounded inputs.now }
@@ -132,7 +132,7 @@ pub fn page_within(inputs: &PageInputs, fit: &[Source], chime: &Option<Chime>) -
     }
 }
 
-/// The page of the sources that are fit, among which the selection is made anew.
+/// The page of the sources that are fit, with a new selection among them.
 pub fn page_by(inputs: &PageInputs, fit: &[Source]) -> Page
     requires inputs { AreBounded inputs.now }
     requires few { length fit.now ≤ 16 }

@@ -35,7 +35,7 @@ fn now_of(journal: &[Entry]) -> Local
     now
 }
 
-// The last verdict, of whatever feed.
+// The last verdict of any feed.
 fn last_verdict(journal: &[Entry]) -> Option<Verdict>
     ensures { result ≡ words.last_verdict journal.now }
 {
@@ -46,7 +46,7 @@ fn last_verdict(journal: &[Entry]) -> Option<Verdict>
     last
 }
 
-// The word of a feed after an entry, of whatever feed.
+// The word of any feed after an entry.
 fn word_after(word: Option<Word>, feed: u32, e: &Entry) -> Option<Word>
     ensures { result ≡ if e.now.feed == feed then or_older (words.word_in e.now.at e.now.what) word else word }
 {

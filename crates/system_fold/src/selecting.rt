@@ -15,7 +15,7 @@ use cluster_core::{Survivor, Survivors};
 use select_core::{Candidate, Chime, select};
 use tick_units::Local;
 
-/// What the selection is told of a source.
+/// What the selection receives of a source.
 pub fn candidate_of(source: &Source, now: Local) -> Candidate
     requires { IsFit now source.now }
     ensures value { result ≡ selecting.candidate_of now source.now }
@@ -28,7 +28,7 @@ pub fn candidate_of(source: &Source, now: Local) -> Candidate
     }
 }
 
-// What the selection is told of the sources that are fit.
+// What the selection receives of the sources that are fit.
 fn candidates_of(fit: &[Source], now: Local) -> ArrayVec<Candidate, 16>
     requires few { length fit.now ≤ 16 }
     requires fit { All (IsFit now) fit.now }
@@ -52,7 +52,7 @@ pub fn agreed(fit: &[Source], now: Local) -> Option<Chime>
     select(candidates_of(fit, now).as_slice())
 }
 
-// What the clustering is told of a source.
+// What the clustering receives of a source.
 fn survivor_of(source: &Source, now: Local) -> Survivor
     requires { IsFit now source.now }
     ensures value { result ≡ selecting.survivor_of now source.now }
@@ -80,7 +80,7 @@ fn add_if_in(survivors: &mut Survivors, chime: &Chime, source: &Source, now: Loc
     }
 }
 
-/// Adds what the clustering is told of the sources whose offset lies in the interval to survivors of which there are none yet.
+/// Adds the sources whose offset lies in the interval to survivors, of which there are none yet.
 pub fn add_survivors(survivors: &mut Survivors, chime: &Chime, fit: &[Source], now: Local)
     requires none { survivors.old ≡ [] }
     requires few { length fit.now ≤ 16 }
@@ -93,7 +93,7 @@ pub fn add_survivors(survivors: &mut Survivors, chime: &Chime, fit: &[Source], n
     }
 }
 
-/// Of the sources of survivors, in their order: the first, and when the newest sample of all was taken.
+/// Of the sources of survivors, in their order: the first, and the moment of the newest sample of all.
 #[derive(Clone, Copy)]
 pub struct Left<'a> {
     pub peer: Option<&'a Source>,
@@ -114,7 +114,7 @@ fn source_at(fit: &[Source], feed: u32) -> Option<&Source>
     None
 }
 
-// The first of two sources that there is.
+// The first of two sources, where there is one.
 fn first_of<'a>(first: Option<&'a Source>, next: Option<&'a Source>) -> Option<&'a Source>
     ensures { (xs : List Source) → option_map (λ s. s.now) first.entry ≡ slice_get xs 0 → option_map (λ s. s.now) result ≡ slice_get (xs ++ cons_option (option_map (λ s. s.now) next.entry) []) 0 }
 {
@@ -134,7 +134,7 @@ fn fresher(fresh: Local, source: Option<&Source>) -> Local
     }
 }
 
-/// Of the sources of survivors what a page says of them.
+/// What a page says of the sources of survivors.
 pub fn left_of<'a>(fit: &'a [Source], survivors: &[Survivor]) -> Left<'a>
     ensures peer { option_map (λ s. s.now) result.peer ≡ slice_get (selecting.sources_at fit.now survivors.now) 0 }
     ensures fresh { result.fresh ≡ fresh_of (selecting.sources_at fit.now survivors.now) }

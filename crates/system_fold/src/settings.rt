@@ -1,4 +1,4 @@
-//! What a page is reckoned by besides the journal.
+//! What makes a page besides the journal.
 ghost use Rattle.std.specs.Prelude.{◌≡◌, ◌++◌, ◌∷◌, [], ◌<◌, ◌≤◌, length};
 ghost use Rattle.system_fold.specs.Settings.{SettingsFields, bound_of};
 
@@ -14,19 +14,19 @@ pub enum SourceKind {
     Radio(Plan),
     /// An NTP server at this address.
     Server(Address),
-    /// A file of leap seconds, which tells no time.
+    /// A file of leap seconds, which gives no time.
     Leap,
 }
 
-/// What lies in the unused places of the settings.
+/// What fills the unused places of the settings.
 impl Default for SourceKind {
     fn default() -> SourceKind {
         SourceKind::Leap
     }
 }
 
-/// What a page is reckoned by besides the journal: what each feed is, by its number, and the root dispersion above
-/// which a page isn't trusted.
+/// What makes a page besides the journal: what each feed is, by its number, and the root dispersion above which a page is not
+/// trusted.
 #[derive(Drop)]
 pub struct Settings {
     bound: u64,
@@ -44,7 +44,7 @@ impl Model for Settings {
     ghost invariant = { λ s. length s.sources.items ≤ 16 };
 }
 
-/// A bound of so many milliseconds in units of 2^-32 s.
+/// A bound of this many milliseconds in units of 2^-32 s.
 pub fn bound_of(milliseconds: u32) -> u64
     requires { milliseconds ≤ 16000 }
     ensures { result ≡ bound_of milliseconds }
@@ -53,7 +53,7 @@ pub fn bound_of(milliseconds: u32) -> u64
 }
 
 impl Settings {
-    /// Settings with no feed, and with a bound of so many milliseconds, 1 to 16000.
+    /// Settings with no feed, and with a bound of this many milliseconds, 1 to 16000.
     pub fn new(bound_ms: u32) -> Settings
         requires least { 1 ≤ bound_ms }
         requires most { bound_ms ≤ 16000 }
@@ -73,7 +73,7 @@ impl Settings {
         self.sources.push(kind);
     }
 
-    /// The root dispersion above which a page isn't trusted, in units of 2^-32 s.
+    /// The root dispersion above which a page is not trusted, in units of 2^-32 s.
     pub fn bound(&self) -> u64
         ensures { result ≡ self.now.bound }
     {

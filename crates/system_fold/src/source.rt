@@ -21,7 +21,7 @@ pub struct Source {
     pub figures: Ready,
 }
 
-/// What lies in the unused places of a list of sources.
+/// What fills the unused places of a list of sources.
 impl Default for Source {
     fn default() -> Source {
         Source {
@@ -44,7 +44,7 @@ impl Default for Source {
     }
 }
 
-// The sample of a radio that tells that a second began at a moment.
+// The sample of a radio that says that a second began at a moment.
 fn radio_sample(at: Local, second: u64) -> Sample
     requires { second < end_of_told }
     ensures { result ≡ samples.radio_sample at second }

@@ -5,7 +5,7 @@ use crate::source::Source;
 use std::marker::Model;
 
 /// At most 16 sources. Contracts see them as their list. A source that is no longer in the list stays in its place until another
-/// is written there, so that a list that is made anew at each entry costs no more than its new sources.
+/// is written there. So a list that is made anew at each entry costs no more than its new sources.
 #[derive(Drop)]
 pub struct Sources {
     places: [Source; 16],
@@ -34,7 +34,7 @@ impl Sources {
         }
     }
 
-    /// Lets all of them go.
+    /// Removes all of them.
     pub fn clear(&mut self)
         ensures { self.new ≡ [] }
     {

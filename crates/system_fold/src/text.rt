@@ -1,4 +1,4 @@
-//! The line that tells a page.
+//! The line of a page.
 ghost use Rattle.std.specs.Prelude.{◌≡◌, ◌+◌, ◌≤◌, length, take, drop};
 ghost use Rattle.journal_entry.specs.Writing.{AddsFields, HasRoom, written};
 ghost use Rattle.system_fold.specs.PageText.{page_fields, page_line};
@@ -21,7 +21,7 @@ pub fn page_text(p: &Page, out: &mut [u8; ENTRY_ROOM]) -> usize
     length
 }
 
-/// Writes the line of a page as `page_text` does, in the room of a line.
+/// Writes the line of a page as `page_text` does, into the room of a line.
 pub fn write_page(p: &Page, out: &mut [u8; LINE_ROOM]) -> usize
     ensures text { take result out.new ≡ page_line p.now }
     ensures rest { drop result out.new ≡ drop result out.old }

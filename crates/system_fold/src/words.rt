@@ -7,11 +7,11 @@ ghost use Rattle.system_fold.specs.declared.leaps.Verdict.{Verdict};
 use crate::leaps::Word;
 use std::marker::Model;
 
-/// What each of the 16 feeds that there can be last said of a leap second, by its number. Contracts see it as the list of the words.
+/// What each of at most 16 feeds last said of a leap second, by its number. Contracts see it as the list of the words.
 #[derive(Drop)]
 pub struct Words {
     of: [Option<Word>; 16],
-    // Whether it is known that none of them names a leap second.
+    // Whether all of them are known to name no leap second.
     silent: bool,
 }
 
@@ -39,7 +39,7 @@ fn names_none(word: &Option<Word>) -> bool
     }
 }
 
-// Whether words of which one is new name no leap second, as far as is known.
+// Whether all these words, one of them new, are known to name no leap second.
 fn are_silent(others: bool, new: &Option<Word>) -> bool
     ensures others { result ≡ true → others ≡ true }
     ensures new { result ≡ true → silence.names_none new.now ≡ true }
@@ -48,7 +48,7 @@ fn are_silent(others: bool, new: &Option<Word>) -> bool
 }
 
 impl Words {
-    /// No feed has said a word.
+    /// No feed has said anything.
     pub fn new() -> Words
         ensures { result ≡ words_of [] }
     {
@@ -58,7 +58,7 @@ impl Words {
         }
     }
 
-    /// These words, which are all looked at.
+    /// These words, all of which are read.
     pub fn of(words: [Option<Word>; 16]) -> Words
         ensures { result ≡ words }
     {
@@ -78,7 +78,7 @@ impl Words {
         self.of[feed as usize] = word;
     }
 
-    /// The words that have to be looked at: none where none of them names a leap second, as it mostly is, and else all.
+    /// The words that have to be read: none where none of them names a leap second, which is the common case, and else all.
     pub fn telling(&self) -> &[Option<Word>]
         ensures passed { (now : ℕ) (last : Option Verdict) → passed_among now last result.now ≡ passed_among now last self.now }
         ensures armed { (now : ℕ) (last : Option Verdict) → armed_among now last result.now ≡ armed_among now last self.now }

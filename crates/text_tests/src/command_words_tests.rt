@@ -1,4 +1,4 @@
-//! Command lines, lawful ones and refused ones.
+//! Command lines, valid ones and refused ones.
 ghost use Rattle.std.specs.Prelude.{◌<◌, ◌≤◌};
 
 use crate::shared::same;
@@ -35,7 +35,7 @@ fn handed_on(limit: u32) -> u32
     limit
 }
 
-// The limit that words ask for, as a caller hands it on.
+// The limit that the arguments ask for, as a caller hands it on.
 fn limit_of(alloc: Global, words: &[&str]) -> Option<u32> {
     match read_words(alloc, words) {
         Ok(
@@ -65,7 +65,7 @@ fn limit_of(alloc: Global, words: &[&str]) -> Option<u32> {
     }
 }
 
-// The first words of a table that are not refused.
+// The first arguments of a table that are not refused.
 fn not_refused<'a>(alloc: Global, table: &[&'a [&'a str]]) -> Option<&'a [&'a str]> {
     for words in table {
         if read_words(alloc, words) != Err(WordsFault::Usage) {
@@ -148,7 +148,7 @@ fn words_of_replay(rt: HostRuntime) -> Result<(), Fail> {
     Ok(())
 }
 
-// A serving link has 16 hearings beside the feeds and none behind them, where words say no other numbers.
+// A serving link has 16 hearings beside the feeds and none after them, unless the arguments give other numbers.
 #[test]
 fn words_of_serve(rt: HostRuntime) -> Result<(), Fail> {
     let alloc = rt.alloc();
@@ -194,7 +194,7 @@ fn words_of_serve(rt: HostRuntime) -> Result<(), Fail> {
     Ok(())
 }
 
-// How many hearings is 0 to 10^6, beside the feeds and behind them.
+// The number of hearings is 0 to 10^6, beside the feeds and after them.
 #[test]
 fn hearings_of_serve(rt: HostRuntime) -> Result<(), Fail> {
     let alloc = rt.alloc();
@@ -260,7 +260,7 @@ fn limits(rt: HostRuntime) -> Result<(), Fail> {
     Ok(())
 }
 
-// Without its station, with an option twice, or with another command's.
+// Without its station, with an option twice, or with an option of another command.
 #[test]
 fn other_words_of_serve_are_refused(rt: HostRuntime) -> Result<(), Fail> {
     let alloc = rt.alloc();
@@ -366,7 +366,7 @@ fn words_of_drill(rt: HostRuntime) -> Result<(), Fail> {
     Ok(())
 }
 
-// Where not just one command word stands, and not all that it requires.
+// Where there is not exactly one command, or not all arguments that it requires.
 #[test]
 fn incomplete_words_are_refused(rt: HostRuntime) -> Result<(), Fail> {
     let alloc = rt.alloc();

@@ -1,4 +1,4 @@
-//! Texts of numbers, and texts of none.
+//! Texts of numbers, and texts that write no number.
 use decimal_text::{Number, first_number, whole_number};
 
 #[test]

@@ -14,7 +14,7 @@ fn end_of<S: Source>(alloc: Global, file: &mut S, limit: usize) -> Result<(FileE
     Ok((end, text.len()))
 }
 
-// So many bytes.
+// This many bytes.
 fn bytes(alloc: Global, count: usize) -> Result<Vec<u8>, Fail> {
     Ok(vec![in alloc; b'x'; count]?)
 }

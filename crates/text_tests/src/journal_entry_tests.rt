@@ -5,7 +5,7 @@ use std::process::Abort;
 use std::test::Fail;
 use tick_units::{Kind, Sample, Short, Span};
 
-// The one text of an entry, written and read; what lies behind it in its room stays.
+// The one text of an entry, written and read; what lies after it in its room stays.
 fn is_the_text(rt: &impl Abort, text: &str, entry: &Entry) {
     let mut out = [b'#'; ENTRY_ROOM];
     let length = write_entry(entry, &mut out);

@@ -2,7 +2,7 @@
 use crate::shared::same;
 use leap_file::{BadLeap, LeapReader};
 
-// What a file tells of: how many leap seconds, the last of them, and the first bad line.
+// What a file says: how many leap seconds, the last of them, and the first bad line.
 #[derive(Clone, Copy, Debug, PartialEq, Eq)]
 struct Told {
     count: u32,
@@ -23,7 +23,7 @@ impl Told {
     }
 }
 
-// The bytes of a file, whose end isn't read.
+// The bytes of a file, whose end is not read.
 fn begun(reader: &mut LeapReader, file: &[u8]) -> Told {
     let mut told = Told {
         count: 0,
@@ -44,7 +44,7 @@ fn read(file: &[u8]) -> Told {
     told
 }
 
-// A file without a bad line that tells of so many leap seconds.
+// A file without a bad line that names this many leap seconds.
 fn good(count: u32, last: Option<u64>) -> Told {
     Told {
         count,
@@ -53,7 +53,7 @@ fn good(count: u32, last: Option<u64>) -> Told {
     }
 }
 
-// A file that tells of no leap second before its bad line.
+// A file that names no leap second before its bad line.
 fn bad(line: u64) -> Told {
     Told {
         count: 0,
@@ -172,7 +172,7 @@ fn rows_that_may_not_stand(rt: HostRuntime) {
     same(&rt, read(b"6311606400 37\n"), bad(1));
     same(&rt, read(b"6314112000 37\n"), bad(1));
     same(&rt, read(b"9999999999 37\n"), bad(1));
-    // A second after a month's begin, and 2017-01-02.
+    // A second after the start of a month, and 2017-01-02.
     same(&rt, read(b"3692217601 37\n"), bad(1));
     same(&rt, read(b"3692304000 37\n"), bad(1));
     // The same second, and an earlier one.
@@ -212,7 +212,7 @@ fn the_first_bad_line_is_told_from_then_on(rt: HostRuntime) {
     same(&rt, reader.finish(), Err(BadLeap { line: 4 }));
 }
 
-// A line that isn't finished is no row and isn't bad, unless the file ends there.
+// A line that is not finished is no row and is not bad, unless the file ends there.
 #[test]
 fn files_that_end_in_mid_line(rt: HostRuntime) {
     let mut reader = LeapReader::new();

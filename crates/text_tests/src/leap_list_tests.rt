@@ -3,7 +3,7 @@ use crate::shared::same;
 use leap_file::LeapReader;
 use std::test::Fail;
 
-// What the file says before its rows, and behind them.
+// What the file says before its rows, and after them.
 const HEAD: &[u8] =
     b"#\tATOMIC TIME\n#\n#@\t3991593600\n#$\t3676924800\n#NTP Time      DTAI    Day Month Year\n#\n";
 
@@ -41,7 +41,7 @@ const ROWS: [&[u8]; 28] = [
     b"3692217600      37      # 1 Jan 2017\n",
 ];
 
-// Python's datetime gave the second of the date in each row's remark, but for the first row.
+// Python's datetime gave the second of the date in each row's remark, except for the first row.
 const SECONDS: [u64; 27] = [
     2287785600, 2303683200, 2335219200, 2366755200, 2398291200, 2429913600, 2461449600, 2492985600,
     2524521600, 2571782400, 2603318400, 2634854400, 2698012800, 2776982400, 2840140800, 2871676800,
@@ -49,7 +49,7 @@ const SECONDS: [u64; 27] = [
     3550089600, 3644697600, 3692217600,
 ];
 
-// The reader takes a piece of a file and tells of no bad line: the leap seconds of it go to `found`, of which so many are there.
+// The reader takes a piece of a file without a bad line. Its leap seconds go to `found`, which has this many so far.
 fn take_piece(
     reader: &mut LeapReader,
     piece: &[u8],
@@ -73,7 +73,7 @@ fn take_piece(
     Ok(count)
 }
 
-// Takes pieces, and gives how many leap seconds they tell of.
+// Takes pieces, and returns how many leap seconds they name.
 fn take_pieces(
     reader: &mut LeapReader,
     pieces: &[&[u8]],

@@ -1,5 +1,6 @@
-//! Tests of what reads and writes texts: numbers, lines, the list of leap seconds, scripts, the words of a command line, files and sinks, and
-//! the entries of a journal. They stand in a crate of their own, so that none of the crates that they test is proved once more with them.
+//! Tests of what reads and writes texts: numbers, lines, the list of leap seconds, scripts, the arguments of a command line. Also
+//! files and sinks, and the entries of a journal. They stand in a crate of their own: a change in them then re-proves none of the
+//! crates that they test.
 #![tactic(auto)]
 
 #[cfg(test)]

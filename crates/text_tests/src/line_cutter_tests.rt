@@ -8,7 +8,7 @@ use std::test::Fail;
 
 const SCRIPT: &[u8] = b"pulse 0 1 2\n\nask 1 2\nswap 0";
 
-// The lines of a script that comes in pieces of this length, each with a bar behind it, and whether bytes follow the last.
+// The lines of a script that comes in pieces of this length, each with a bar after it, and whether bytes follow the last.
 fn cut(alloc: Global, script: &[u8], length: usize) -> Result<(Vec<u8>, bool), AllocError>
     requires { 0 < length }
 {

@@ -5,7 +5,7 @@ use std::process::Abort;
 use std::test::Fail;
 use tick_units::{Kind, Local, Sample, Short, Span};
 
-// The one text of a numbered entry, written and read; what lies behind it in its room stays.
+// The one text of a numbered entry, written and read; what lies after it in its room stays.
 fn is_the_text(rt: &impl Abort, text: &str, numbered: &Numbered) {
     let mut out = [b'#'; LINE_ROOM];
     let length = write_numbered(numbered, &mut out);
@@ -14,7 +14,7 @@ fn is_the_text(rt: &impl Abort, text: &str, numbered: &Numbered) {
     assert_eq!(rt; read_numbered(text.as_bytes()), Some(*numbered));
 }
 
-// A minute that was told once.
+// A minute that a radio reported once.
 fn lone(at: Local, length: u64, rate: i32) -> Numbered {
     let kind = Kind::Lone {
         second: 3_976_257_600,
@@ -71,7 +71,7 @@ fn the_longest_line(rt: HostRuntime) -> Result<(), Fail> {
     Ok(())
 }
 
-// What is written of a number or a rate that no line has isn't read again.
+// A line with an invalid number or rate can be written, but is not read again.
 #[test]
 fn numbers_of_no_line(rt: HostRuntime) -> Result<(), Fail> {
     let at = moment(62_000_000)?;

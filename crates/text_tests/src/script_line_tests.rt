@@ -82,7 +82,7 @@ fn a_leap_second(rt: HostRuntime) -> Result<(), Fail> {
     Ok(())
 }
 
-// A datagram has these bytes, and what lies behind them in the room stays.
+// A datagram has these bytes, and what lies after them in the room stays.
 fn says(rt: &impl Abort, datagram: &Datagram<'_>, bytes: &[u8]) {
     let mut out = [b'#'; 1024];
     let count = datagram.write(&mut out);
@@ -272,7 +272,7 @@ fn digits_of_no_datagram(rt: HostRuntime) {
     );
 }
 
-// `answer 0 0 ` and so many digits.
+// `answer 0 0 ` and this many digits.
 fn answer(alloc: Global, digits: usize) -> Result<Vec<u8>, AllocError> {
     let mut text = Vec::new(alloc);
     text.extend_from_slice(b"answer 0 0 ")?;

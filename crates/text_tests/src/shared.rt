@@ -5,7 +5,7 @@ use std::process::Abort;
 use std::test::Fail;
 use tick_units::Local;
 
-// What `assert_eq!` does, as a call: where many stand in a test, calls are proved in a third of the time.
+// Does what `assert_eq!` does, as a call. In a test with many of them, calls are proved in a third of the time.
 pub fn same<T: PartialEq + Debug + Drop>(rt: &impl Abort, left: T, right: T) {
     assert_eq!(*rt; left, right);
 }

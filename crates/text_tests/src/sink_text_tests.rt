@@ -64,7 +64,7 @@ impl Sink for Slow {
     }
 }
 
-// A text of five bytes takes three writes; of the second text the third write fails, which is the sixth of all.
+// A text of five bytes takes three writes. The third write of the second text fails, which is the sixth of all.
 #[test]
 fn a_text_is_written_in_parts(rt: HostRuntime) -> Result<(), Fail> {
     let mut out = Slow {

@@ -51,8 +51,8 @@ pub record Spells (line : List ℕ) (r : Reduction) : Type 0 where
   pub least : 1 ≤ r.width
   pub most : r.width ≤ 2000000
 
--- of what lines say, the reductions before the first line that isn't lawful: it says none, or one that doesn't start
--- after that of the line before it
+-- of what lines say, the reductions before the first bad line. A bad line says none, or one that does not start after that of the
+-- line before it.
 abbrev pub lawful : List (Option Reduction) → List Reduction
 lawful [] = []
 lawful (None ∷ more) = []
@@ -60,11 +60,11 @@ lawful (Some r ∷ []) = r ∷ []
 lawful (Some r ∷ None ∷ more) = r ∷ []
 lawful (Some r ∷ Some next ∷ more) = if nat_lt r.at next.at then r ∷ lawful (Some next ∷ more) else r ∷ []
 
--- the reductions of the complete lines before the first line that isn't lawful
+-- the reductions of the complete lines before the first bad line
 abbrev pub pulses : List ℕ → List Reduction
 pulses bytes = lawful (map reduction_of (lines_of bytes).complete)
 
--- the number, from 1, of the first line that isn't lawful; an unfinished one counts only where it has 32 bytes or more
+-- the number, from 1, of the first bad line; an unfinished one counts only where it has 32 bytes or more
 abbrev pub bad_line : List ℕ → Option ℕ
 bad_line bytes = if nat_lt (length (pulses bytes)) (length (lines_of bytes).complete)
     then Some (length (pulses bytes) + 1)

@@ -13,7 +13,7 @@ use Rattle.tick_units.specs.declared.marks.Symbol.TheVariants.{Zero, One, OnlyB,
 abbrev pub is_between : ℕ → ℕ → ℕ → Bool
 is_between least most n = nat_le least n && nat_le n most
 
--- the reduction of an MSF second in which neither bit is 1, and each part of one in which bit B alone is
+-- the reduction of an MSF second in which neither bit is 1, and each part of one in which only bit B is 1
 abbrev pub is_short : ℕ → Bool
 is_short width = is_between 40000 149999 width
 
@@ -35,8 +35,8 @@ are_parts r next = is_short r.width && is_short next.width && is_between (r.at +
 abbrev pub joined_mark : Reduction → Mark
 joined_mark r = record { at = r.at; symbol = OnlyB }
 
--- in MSF two neighbours that are parts join to one mark, where the first of them doesn't join with the one before it; a
--- mark whose last part is the last reduction isn't given
+-- in MSF two neighbours that are parts join to one mark, where the first of them does not join with the one before it. A mark
+-- whose last part is the last reduction is left out.
 abbrev pub msf_marks : List Reduction → List Mark
 msf_marks [] = []
 msf_marks (r ∷ []) = []

@@ -1,4 +1,4 @@
--- What stands for a code plan: its word, which is this project's own, and its reference ID (RFC 5905, section 7.3).
+-- What stands for a code plan: its name, which is this project's own, and its reference ID (RFC 5905, section 7.3).
 use Rattle.std.specs.Prelude.{ℕ, Option, List, [], ◌∷◌, find, codes}
 use Rattle.std.specs.Str.{bytes_eq}
 use Rattle.tick_units.specs.declared.marks.Plan.{Plan}
@@ -12,7 +12,7 @@ word_of Wwvb = codes "wwvb"
 abbrev pub plans : List Plan
 plans = Dcf ∷ Msf ∷ Wwvb ∷ []
 
--- the plan that has this word
+-- the plan that has this name
 abbrev pub plan_of : List ℕ → Option Plan
 plan_of word = find (λ plan. bytes_eq word (word_of plan)) plans
 

@@ -1,5 +1,5 @@
--- Units: microseconds of the host's counter, spans of 2^-32 s, stamps and shorts (RFC 5905, sections 6 and 7; which way
--- each quotient is rounded is this project's own choice).
+-- Units: microseconds of the host's counter, spans of 2^-32 s, stamps and shorts (RFC 5905, sections 6 and 7). Which way each
+-- quotient is rounded is this project's own choice.
 use Rattle.std.specs.Prelude.{◌-◌, ◌-ℤ◌, ℕ, zero, suc, ◌+◌, ◌*◌, ◌/◌, ◌^◌, ◌≤◌, min, nat_le, ℤ, pos, negsuc, neg_ℤ, unsigned_abs, if◌then◌else◌}
 use Rattle.std.specs.Int.{div_ceil, int_div_euclid, int_rem_euclid}
 
@@ -23,7 +23,7 @@ pub record IsRoot (v r : ℕ) : Type 0 where
   pub square : r * r ≤ v
   pub greatest : (q : ℕ) → q * q ≤ v → q ≤ r
 
--- that root, reckoned from the root of a quarter of v; `steps` is any number that is at least v
+-- that root, computed from the root of a quarter of v; `steps` is any number that is at least v
 unfoldable pub root_within : ℕ → ℕ → ℕ
 root_within zero v = 0
 root_within (suc steps) zero = 0
@@ -36,7 +36,7 @@ root v = root_within v v
 abbrev pub square : ℤ → ℤ → ℕ
 square x y = min (unsigned_abs (x -ℤ y)) (2 ^ 40) * min (unsigned_abs (x -ℤ y)) (2 ^ 40)
 
--- the least short that isn't below a span of so many units, of which a short has 65536; at most the greatest short
+-- the least short that is at least a span of this many units, at most the greatest short; a short has 65536 units
 abbrev pub to_short : ℤ → ℕ
 to_short (pos n) = min (div_ceil n 65536) (2 ^ 32 - 1)
 to_short (negsuc n) = 0

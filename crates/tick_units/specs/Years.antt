@@ -1,12 +1,12 @@
--- The years that seconds are told in. Seconds count from 1900-01-01 00:00 UTC without leap seconds, as era 0 of RFC 5905
--- (section 6) does. Two-digit years are 2000 to 2099 in all three code plans, and a clock is at most two hours ahead of UTC; a
--- day before and two behind are left as room.
+-- The supported years; a second in them counts as told. Seconds count from 1900-01-01 00:00 UTC without leap seconds, as era 0 of
+-- RFC 5905 (section 6) does. Two-digit years are 2000 to 2099 in all three code plans, and a clock is at most two hours ahead of
+-- UTC. One day before these years and two days after them are added as room.
 use Rattle.std.specs.Prelude.{ℕ}
 
 -- 1999-12-31 00:00 UTC
 abbrev pub first_told : ℕ
 first_told = 3155587200
 
--- 2100-01-03 00:00 UTC, the first that isn't told
+-- 2100-01-03 00:00 UTC, the first second after the supported years
 abbrev pub end_of_told : ℕ
 end_of_told = 6311606400

@@ -1,11 +1,11 @@
-//! What stands for a code plan: its word, and its reference ID.
+//! What stands for a code plan: its name, and its reference ID.
 ghost use Rattle.std.specs.Prelude.{◌≡◌, IfSome};
 ghost use Rattle.tick_units.specs.Plans.{word_of, plan_of, reference_id_of};
 
 use crate::Plan;
 
 impl Plan {
-    /// Its word in commands, station files and scripts: `dcf`, `msf` or `wwvb`.
+    /// Its name in commands, station files and scripts: `dcf`, `msf` or `wwvb`.
     pub fn word(self) -> &'static str
         ensures { result.now ≡ word_of self }
     {
@@ -16,7 +16,7 @@ impl Plan {
         }
     }
 
-    /// The plan of a word. `None` where the word is no plan's.
+    /// The plan of a name. `None` where no plan has this name.
     pub fn of_word(word: &str) -> Option<Plan>
         ensures value { result ≡ plan_of word.now }
         ensures named { IfSome result (λ plan. word.now ≡ word_of plan) }

@@ -72,7 +72,7 @@ impl Span {
         self.units.abs_diff(other.units)
     }
 
-    /// The square of the number of units between the two, which counts as at most 2^40 (256 s).
+    /// The square of the number of units between the two; that number counts as at most 2^40 (256 s).
     pub fn squared_apart(self, other: Span) -> u128
         ensures value { result ≡ square self other }
         ensures small { result ≤ 2 ^ 80 }
@@ -103,7 +103,7 @@ impl Span {
         }
     }
 
-    /// Halved so many times, rounded down.
+    /// Halved this many times, rounded down.
     pub fn halved_down(self, times: u32) -> Span
         requires { times < 64 }
         ensures { result ≡ floor_div self (2 ^ times) }
@@ -113,7 +113,7 @@ impl Span {
         }
     }
 
-    /// Halved so many times, rounded up.
+    /// Halved this many times, rounded up.
     #[tactic(auto, using(crate::proofs::HalfLaws::half_above))]
     pub fn halved_up(self, times: u32) -> Span
         requires { times < 64 }

@@ -23,7 +23,7 @@ const DRIFT_UNITS: u64 = 3 << 20;
 
 const DRIFT_MICROSECONDS: u64 = 48_828_125;
 
-/// How far the host's counter may drift in so many microseconds, 15 parts per million of them, rounded up.
+/// How far the host's counter may drift in this many microseconds: 15 parts per million, rounded up.
 pub fn phi(microseconds: u64) -> Span
     requires { microseconds < 2 ^ 52 }
     ensures { result ≡ pos (units.phi microseconds) }
@@ -42,7 +42,7 @@ pub fn isqrt(value: u128) -> u64
     value.isqrt() as u64
 }
 
-/// The least short that isn't below a span, or the greatest short where there is none.
+/// The least short that is at least a span, or the greatest short where none is.
 pub fn to_short(span: Span) -> Short
     requires { pos 0 ≤ℤ span }
     ensures { result.0 ≡ units.to_short span }

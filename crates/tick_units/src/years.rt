@@ -1,15 +1,15 @@
-//! The years that seconds are told in.
+//! The supported years; a second in them counts as told.
 ghost use Rattle.std.specs.Prelude.{◌<◌, ◌≤◌, IsTrue};
 ghost use Rattle.std.specs.Prelude.{◌↔◌};
 ghost use Rattle.tick_units.specs.Years.{first_told, end_of_told};
 
-/// The first absolute second that is told, 1999-12-31 00:00 UTC.
+/// The first absolute second of the supported years, 1999-12-31 00:00 UTC.
 pub const FIRST_TOLD: u64 = 3_155_587_200;
 
-/// The absolute second behind the last that is told, 2100-01-03 00:00 UTC.
+/// The absolute second after the last of the supported years, 2100-01-03 00:00 UTC.
 pub const END_OF_TOLD: u64 = 6_311_606_400;
 
-/// Whether an absolute second lies in the years that seconds are told in.
+/// Whether an absolute second lies in the supported years.
 pub fn is_told(second: u64) -> bool
     ensures { IsTrue result ↔ ((first_told ≤ second) × (second < end_of_told)) }
 {

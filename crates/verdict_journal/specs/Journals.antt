@@ -11,7 +11,7 @@ use Rattle.page_cell.specs.declared.view.View.{View}
 use Rattle.system_fold.specs.KeptFold.{FoldFields, StandsForJournal}
 use Rattle.system_fold.specs.Settings.{SettingsFields}
 
--- the entries, the settings by which pages are made, and how many entries there may be
+-- the entries, the settings of the pages, and how many entries there may be
 pub record State : Type 0 where
   pub entries : List Entry
   pub settings : SettingsFields
@@ -21,8 +21,8 @@ pub record State : Type 0 where
 abbrev pub numbered_of : SettingsFields → List Entry → List Numbered
 numbered_of settings journal = map (λ k. record { length = k.0 + 1; rate = (page_at settings journal (k.0 + 1)).rate; entry = k.1 }) (enumerate_from 0 journal)
 
--- what the locked value keeps by itself: its lines are those of the baton's list, the fold stands for that list, each entry of it is
--- lawful, and there is room up to the limit
+-- what the locked value keeps by itself: its lines are those of the baton's list, for which the fold stands; each entry of it is
+-- valid, and there is room up to the limit
 pub record IsKept (lines : List Numbered) (capacity : ℕ) (fold : FoldFields) (limit : ℕ) (b : Known) : Type 0 where
   pub lines_are : lines ≡ numbered_of (key_of b.view) b.view.list
   pub count : length lines ≡ length b.view.list
@@ -36,8 +36,8 @@ pub record IsSamePass (f g : Known) : Type 0 where
   pub table : g.table ≡ f.table
   pub number : (claim_of g.view).number ≡ (claim_of f.view).number
 
--- an append that answered n put the entry behind those that the pass had seen and those of other feeds that came between: the pass has
--- then seen n entries, the last of which is its own
+-- an append that answered n put the entry after those that the pass had seen and those of other feeds that came between. The pass
+-- has then seen n entries, the last of which is its own
 pub record Appends (e : Entry) (n limit : ℕ) (f g : Known) : Type 0 where
   pub own : (claim_of g.view).own ≡ (claim_of f.view).own ++ e ∷ []
   pub before : List Entry

@@ -1,4 +1,4 @@
-//! Settings, entries and threads of tests.
+//! Settings, entries and threads for tests.
 ghost use Rattle.std.specs.Prelude.{◌≡◌, ◌<◌, ◌≤◌, ◌^◌, [], All, IfSome, length};
 ghost use Rattle.journal_entry.specs.Lawful.{IsLawfulWhat};
 ghost use Rattle.system_fold.specs.Settings.{AreLawful};
@@ -12,7 +12,7 @@ use std::sync::Wait;
 use system_fold::{FoldState, Settings, SourceKind};
 use tick_units::{Kind, Local, Plan};
 
-/// Settings with so many DCF77 radios, 1 to 16.
+/// Settings with this many DCF77 radios, 1 to 16.
 pub fn of_radios(radios: u32) -> Settings
     ensures lawful { AreLawful result }
     ensures some { 0 < length result.sources }
@@ -27,7 +27,7 @@ pub fn of_radios(radios: u32) -> Settings
     settings
 }
 
-/// The minute of this number, from 2026-01-01 12:00 UTC on, as a radio tells it: up to a millisecond late.
+/// The minute of this number, from 2026-01-01 12:00 UTC on, as a radio gives it: up to a millisecond late.
 pub fn minute(feed: u32, number: u64) -> Option<Entry>
     requires { number < 2 ^ 20 }
     ensures { IfSome result (λ e. (e.feed ≡ feed) × IsLawfulWhat e.what) }
@@ -43,7 +43,7 @@ pub fn minute(feed: u32, number: u64) -> Option<Entry>
     })
 }
 
-/// Appends the minute of this number to the journal, where the pass is one of so many feeds.
+/// Appends the minute of this number to the journal, where the pass is one of this many feeds.
 pub fn offer<N: HubName, R: Wait>(
     rt: &R,
     hub: &Hub<N>,
@@ -64,7 +64,7 @@ pub fn offer<N: HubName, R: Wait>(
     Some(hub.append(rt, pass, e))
 }
 
-/// Appends so many minutes; how many were taken.
+/// Appends this many minutes, and answers how many were taken.
 pub fn append_all<N: HubName, R: Wait>(
     rt: &R,
     hub: &Hub<N>,
@@ -86,8 +86,8 @@ pub fn append_all<N: HubName, R: Wait>(
     (pass, taken)
 }
 
-/// What a reader saw: each page of another length than the one before, whether each page of the same length was the same page and
-/// lengths never fell, and how many readings met four publishings.
+/// What a reader saw: each page of another length than the one before, and how many readings met four publishings. It also says
+/// whether each page of the same length was the same page and lengths never fell.
 #[derive(Drop)]
 pub struct Seen {
     pub pages: Vec<Page>,
@@ -95,7 +95,7 @@ pub struct Seen {
     pub agains: u64,
 }
 
-/// Takes note of a reading.
+/// Notes a reading.
 fn note(seen: &mut Seen, page: Page) {
     if let Some(last) = seen.pages.last() {
         if page.length == last.length {
@@ -113,7 +113,7 @@ fn note(seen: &mut Seen, page: Page) {
     }
 }
 
-/// Reads so many times.
+/// Reads this many times.
 pub fn read_all(alloc: Global, cell: &PageCell, mut pass: ReadPass, count: u64) -> (ReadPass, Seen)
     requires { pass.table ≡ cell.now.table }
     ensures { result.0.table ≡ cell.now.table }
@@ -132,7 +132,7 @@ pub fn read_all(alloc: Global, cell: &PageCell, mut pass: ReadPass, count: u64) 
     (pass, seen)
 }
 
-// Whether the next page of these, if it has the length of this one, is this one; how many of them are done with.
+// Whether the next page of these, if it has the length of this one, is this one, and how many of them are checked then.
 fn met(pages: &[Page], next: usize, page: &Page) -> Option<usize> {
     let Some(read) = pages.get(next) else {
         return Some(next);
@@ -146,8 +146,8 @@ fn met(pages: &[Page], next: usize, page: &Page) -> Option<usize> {
     Some(next.saturating_add(1))
 }
 
-/// Whether the journal has the minutes of one radio up to a number, each line with the number and the rate of the page after it, and
-/// each of these pages is the page of a beginning of it.
+/// Whether the journal has the minutes of one radio up to a number, each line with its number and the rate after it. Each of the
+/// pages after them also has to be the page of a beginning of the journal.
 pub fn are_of(journal: &Journal, pages: &[Page], settings: &Settings, count: u64) -> bool
     requires lawful { AreLawful settings.now }
     requires some { 0 < length settings.now.sources }

@@ -32,14 +32,14 @@ pub struct HubParts<N: HubName> {
     pub readers: Vec<ReadPass>,
 }
 
-/// Why a hub wasn't opened.
+/// Why a hub was not opened.
 #[derive(Clone, Copy, Debug, PartialEq, Eq)]
 pub enum HubOpen {
     /// There was not enough memory.
     Memory,
 }
 
-// Takes feeds' passes back.
+// Takes back feeds' passes.
 fn gather_feeds(cell: &PageCell, baton: &mut BatonPass, mut feeds: Vec<FeedPass>)
     requires baton { baton.old.table ≡ cell.now.table }
     requires feeds { All (λ f. f.table ≡ cell.now.table) feeds.items }
@@ -53,7 +53,7 @@ fn gather_feeds(cell: &PageCell, baton: &mut BatonPass, mut feeds: Vec<FeedPass>
     }
 }
 
-// Takes readers' passes back.
+// Takes back readers' passes.
 fn gather_readers(cell: &PageCell, baton: &mut BatonPass, mut readers: Vec<ReadPass>)
     requires baton { baton.old.table ≡ cell.now.table }
     requires readers { All (λ r. r.table ≡ cell.now.table) readers.items }
@@ -68,8 +68,8 @@ fn gather_readers(cell: &PageCell, baton: &mut BatonPass, mut readers: Vec<ReadP
 }
 
 impl<N: HubName> Hub<N> {
-    /// Opens a hub over a cell in which nothing was published yet. The room for `limit` entries, 1 to 4194304, is taken here; no later
-    /// call takes memory.
+    /// Opens a hub over a cell in which nothing has been published yet. This takes the room for `limit` entries, 1 to 4194304; no
+    /// later call takes memory.
     pub fn open(
         alloc: Global,
         parts: CellParts,
@@ -117,8 +117,8 @@ impl<N: HubName> Hub<N> {
         &self.cell
     }
 
-    /// Appends an entry from any thread, once the lock is free: the entry stands in the journal, its page is published, and the answer
-    /// is how many entries there are with it. `Full` exactly where the journal has as many entries as it may.
+    /// Appends an entry from any thread, once the lock is free. The entry is then in the journal, its page is published, and the
+    /// answer is how many entries there are with it. `Full` exactly where the journal has as many entries as it may.
     pub fn append<R: Wait>(&self, rt: &R, f: &mut FeedPass, e: Entry) -> Result<u64, Full>
         requires pass { f.old.table ≡ N.table }
         requires feed { e.feed ≡ (claim_of f.old.view).number }
@@ -130,7 +130,7 @@ impl<N: HubName> Hub<N> {
         self.state.lock(rt).push(&self.cell, f, e)
     }
 
-    /// Takes all passes back and gives the journal. What each pass knows is true of it.
+    /// Takes back all passes and gives the journal. What each pass knows is true of it.
     pub fn close(self, feeds: Vec<FeedPass>, readers: Vec<ReadPass>) -> Journal
         requires feeds { All (λ f. f.table ≡ N.table) feeds.items }
         requires readers { All (λ r. r.table ≡ N.table) readers.items }

@@ -9,7 +9,7 @@ use journal_entry::{Entry, Numbered};
 use page_cell::BatonPass;
 use std::marker::Model;
 
-/// The entries of a closed hub in their order, each with its number and the rate of the page after it, and the page of all.
+/// The entries of a closed hub in their order, each with its number and the rate after it, and the page of all.
 #[derive(Drop)]
 pub struct Journal {
     pub(crate) lines: Vec<Numbered>,

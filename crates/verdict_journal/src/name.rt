@@ -1,8 +1,8 @@
-//! What stands behind a hub's lock is known through the hub's name.
+//! The hub's name, by which proofs know what is behind the hub's lock.
 use std::marker::Brand;
 
-/// Names one cell, how many entries its journal may have, and the settings by which its pages are made. Whoever opens the cell calls a
-/// function of its own that is generic in the name, with `Brand` for it; the hub lives inside that function.
+/// Names one cell, how many entries its journal may have, and the settings of its pages. The caller that opens the cell does so
+/// in a function of its own that is generic in the name, with `Brand` for it. The hub lives inside that function.
 pub trait HubName {
     ghost use Rattle.std.specs.Prelude.{ℕ};
     ghost use Rattle.atomic_table.specs.Seated.{TableId};

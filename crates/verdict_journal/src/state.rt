@@ -1,4 +1,4 @@
-//! What stands behind the hub's lock, and how an entry is put into it.
+//! What is behind the hub's lock, and how to put an entry into it.
 ghost use Rattle.std.specs.Prelude.{◌≡◌, ◌<◌, ◌≤◌, ◌++◌, ◌∷◌, [], length, IfOk, IfErr};
 ghost use mathlib.Core.List.{IsPrefix};
 ghost use Rattle.journal_entry.specs.Lawful.{IsLawful};
@@ -17,8 +17,8 @@ pub struct Full {
     pub limit: u32,
 }
 
-/// What stands behind the hub's lock: the entries with their numbers and rates, with room for as many as there may be, the baton, whose
-/// list they are, and what is folded of them.
+/// What is behind the hub's lock: the entries with their numbers and rates, the baton, whose list they are, and their fold. It
+/// has room for as many entries as there may be.
 #[derive(Drop)]
 pub struct JournalState<N: HubName> {
     pub(crate) lines: Vec<Numbered>,
@@ -41,8 +41,9 @@ impl<N: HubName> Model for JournalState<N> {
 }
 
 impl<N: HubName> JournalState<N> {
-    /// Puts an entry behind the journal and publishes its page; answers how many entries there are with it. `Full` exactly where there
-    /// are as many as there may be: then journal, page and the pass's own list are as they were, and the pass has seen all of it.
+    /// Puts an entry after the journal and publishes its page; answers how many entries there are with it. `Full` exactly where
+    /// there are as many as there may be: then journal, page and the pass's own list are as they were, and the pass has seen all
+    /// of it.
     pub fn push(&mut self, cell: &PageCell, f: &mut FeedPass, e: Entry) -> Result<u64, Full>
         requires cell { cell.now.table ≡ N.table }
         requires pass { f.old.table ≡ N.table }

@@ -1,4 +1,4 @@
-//! Appending from one thread, up to a full journal, and what a journal says of each entry.
+//! Appends from one thread, up to a full journal, and what a journal says of each entry.
 ghost use Rattle.std.specs.Prelude.{◌≡◌, ◌<◌, ◌≤◌, ◌^◌, [], All, length};
 ghost use Rattle.page_cell.specs.Passes.{key_of};
 ghost use Rattle.system_fold.specs.Settings.{AreLawful};
@@ -14,12 +14,12 @@ use std::sync::Wait;
 use std::test::*;
 use system_fold::Settings;
 
-// What `assert_eq!` does, as a call: where many stand in a test, calls are proved in a third of the time.
+// What `assert_eq!` does, as a call: where a test has many, calls are proved in a third of the time.
 pub(crate) fn same<T: PartialEq + Debug + Drop>(rt: &impl Abort, left: T, right: T) {
     assert_eq!(*rt; left, right);
 }
 
-// What an append answered, and how many entries its pass has seen then, as a receipt of it says.
+// The answer to an append, and how many entries its pass has seen then, as a receipt of it says.
 type Answer = (Option<Result<u64, Full>>, u64);
 
 // Appends the minute of this number to the journal.
@@ -40,7 +40,7 @@ fn offered<N: HubName, R: Wait>(
     (answer, seen)
 }
 
-// Two feeds in turn append to a journal of so many entries: what each was answered, and the journal.
+// Two feeds in turn append to a journal of this many entries: the answers to each, and the journal.
 fn in_turn<N: HubName, R: Wait>(
     rt: &R,
     alloc: Global,
@@ -83,7 +83,7 @@ fn in_turn<N: HubName, R: Wait>(
     Some((answers, hub.close(passes, Vec::new(alloc))))
 }
 
-// Two feeds in turn, in a journal of so many entries: what the first four appends answered, and how many entries there are.
+// Two feeds in turn, in a journal of this many entries: the answers to the first four appends, and how many entries there are.
 fn four_appends<R: Wait>(rt: &R, alloc: Global, limit: u32) -> Result<([Answer; 4], usize), Fail>
     requires { (0 < limit) × (limit ≤ 4194304) }
 {
@@ -103,8 +103,8 @@ fn four_appends<R: Wait>(rt: &R, alloc: Global, limit: u32) -> Result<([Answer; 
     Ok((first, journal.len()))
 }
 
-// A journal is full exactly where it has as many entries as it may. Whoever appends has then seen all that stand in it, also where there
-// was no room.
+// A journal is full exactly where it has as many entries as it may. The pass that appends has then seen all that are in it, also
+// where there was no room.
 #[test]
 fn a_journal_is_full_at_its_limit(rt: HostRuntime) -> Result<(), Fail> {
     let full = Some(Err(Full { limit: 1 }));
@@ -143,7 +143,7 @@ fn a_journal_is_full_at_its_limit(rt: HostRuntime) -> Result<(), Fail> {
     Ok(())
 }
 
-// One radio appends six minutes to a journal of so many entries: how many were taken, and the journal.
+// One radio appends six minutes to a journal of this many entries: how many were taken, and the journal.
 fn six_minutes<N: HubName, R: Wait>(
     rt: &R,
     alloc: Global,
@@ -183,9 +183,9 @@ fn number_at(journal: &Journal, place: usize) -> Option<(u64, i32)> {
     }
 }
 
-// A radio tells the time from its fourth minute on. From the first to the fourth the counter gains 757 us, 3251290 units of 2^-32 s, in
-// 180.000757 s, and to the fifth 676 us, 2903397 units, in 240.000676 s: 18062.6 and 12097.5 units a second, and a rate is rounded down.
-// The sixth minute finds the journal full.
+// A radio gives the time from its fourth minute on. From the first to the fourth the counter gains 757 us, 3251290 units of 2^-32
+// s, in 180.000757 s. To the fifth it gains 676 us, 2903397 units, in 240.000676 s. These are 18062.6 and 12097.5 units a second,
+// and a rate is rounded down. The sixth minute finds the journal full.
 #[test]
 fn a_line_has_its_number_and_the_rate_after_it(rt: HostRuntime) -> Result<(), Fail> {
     let settings = of_radios(1);

@@ -15,7 +15,7 @@ use std::test::*;
 use std::thread::{Threads, join};
 use system_fold::Settings;
 
-// A feed's pass, how many minutes it appended, a reader's pass and what it saw.
+// A feed's pass, the number of minutes it appended, a reader's pass and what it saw.
 #[derive(Drop)]
 struct RanBeside {
     pass: FeedPass,
@@ -24,7 +24,7 @@ struct RanBeside {
     seen: Seen,
 }
 
-// A feed appends so many minutes beside a reader that reads so many times.
+// A feed appends this many minutes beside a reader that reads this many times.
 fn beside<N: HubName + Send + Sync, R: Threads + Wait + Sync>(
     rt: &R,
     alloc: Global,
@@ -68,7 +68,7 @@ struct Done {
     journal: Journal,
 }
 
-// Two feeds append so many minutes each beside a reader.
+// Two feeds append this many minutes each beside a reader.
 fn both_beside<N: HubName + Send + Sync, R: Threads + Wait + Sync>(
     rt: &R,
     alloc: Global,
@@ -101,7 +101,7 @@ fn both_beside<N: HubName + Send + Sync, R: Threads + Wait + Sync>(
     )
 }
 
-// Two feeds append so many minutes each beside a reader that reads so many times.
+// Two feeds append this many minutes each beside a reader that reads this many times.
 fn side_by_side<N: HubName + Send + Sync, R: Threads + Wait + Sync>(
     rt: &R,
     alloc: Global,
@@ -285,7 +285,7 @@ fn a_million_readings_beside_a_writer(rt: HostRuntime) -> Result<(), Fail> {
     let mut pages = seen.pages;
     assert!(rt; are_of(&journal, pages.as_slice(), &settings, 20_000));
 
-    // A page that the journal doesn't have is found out.
+    // The check finds a page that the journal does not have.
     let last = pages.pop().ok_or("no page")?;
     pages.push(Page::unsynchronised(last.length, last.anchor))?;
     assert!(rt; !are_of(&journal, pages.as_slice(), &settings, 20_000));

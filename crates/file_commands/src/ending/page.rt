@@ -1,4 +1,4 @@
-//! The line of a page, and the status line behind it.
+//! The line of a page, and the status line after it.
 ghost use Rattle.std.specs.Prelude.{◌≡◌, ◌≤◌, ◌++◌, take};
 ghost use Rattle.journal_entry.specs.declared.writer.TheConstants.{LINE_ROOM};
 ghost use Rattle.file_commands.specs.Endings.{status_of, status_line};
@@ -15,7 +15,7 @@ use journal_entry::LINE_ROOM;
 use sink_text::write_all;
 use system_fold::write_page;
 
-// Writes the line of a page at the front of `line`. The answer is its number of bytes.
+// Writes the line of a page at the beginning of `line`. The answer is its number of bytes.
 #[tactic(auto, unfolding(crate::specs::Text::page_text))]
 fn write_page_line(page: &Page, line: &mut Line) -> usize
     ensures text { take result line.new ≡ page_text page.now }

@@ -7,7 +7,7 @@ ghost use Rattle.std.specs.Prelude.{◌≡◌};
 pub enum Status {
     /// All was read to its end without a fault.
     Done,
-    /// The words aren't lawful.
+    /// The arguments are not valid.
     Usage,
     /// The last opening failed.
     OpenFault,
@@ -15,15 +15,15 @@ pub enum Status {
     Station,
     /// A read failed.
     ReadFault,
-    /// A line isn't lawful.
+    /// A line is not valid.
     BadLine,
     /// An entry found the journal full.
     JournalFull,
     /// A link failed.
     LinkFault,
-    /// A write failed. No status line tells it.
+    /// A write failed. No status line reports it.
     WriteFault,
-    /// No memory was found.
+    /// There was not enough memory.
     Memory,
     /// A file is longer than its limit.
     TooLong,

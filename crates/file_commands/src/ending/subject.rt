@@ -10,6 +10,6 @@ pub enum Subject {
     Journal,
     /// The log of a radio, or the link to a server.
     Feed(u32),
-    /// A link that clients are answered on.
+    /// A link on which the station answers clients.
     Link(u32),
 }

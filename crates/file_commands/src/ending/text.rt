@@ -8,7 +8,7 @@ use super::subject::Subject;
 use arrayvec::ArrayVec;
 use itoa::Buffer;
 
-// A status line that names no key of a station file, with its line feed.
+/// A status line that names no key of a station file, with its line feed: at most 80 bytes.
 pub type Line = ArrayVec<u8, 80>;
 
 // Adds a text to a line.
@@ -41,7 +41,7 @@ fn joined(first: &[u8], second: &[u8]) -> Line
     line
 }
 
-// A text, then a word and a number.
+// A text, then a keyword and a number.
 fn counted(front: &[u8], word: &[u8], number: u32) -> Line
     requires { length front.now + length word.now ≤ 30 }
     ensures text { result.items ≡ front.now ++ word.now ++ decimal number }
@@ -67,7 +67,7 @@ fn named(front: &[u8], subject: Subject) -> Line
     }
 }
 
-// A text, and where a line of a subject stands.
+// A text, and the place of a line of a subject.
 fn placed(front: &[u8], subject: Subject) -> Line
     requires { length front.now ≤ 15 }
     ensures text { result.items ≡ front.now ++ place_of subject }

@@ -1,4 +1,4 @@
-//! What is kept of a journal while its lines are moved over, whatever its length.
+//! What is kept of a journal while its lines are converted, whatever its length.
 ghost use Rattle.std.specs.Prelude.{◌≡◌, ◌+◌, ◌<◌, ◌≤◌, ◌^◌, ◌↔◌, IsTrue, [], List, None, length};
 ghost use Rattle.journal_entry.specs.Lines.{entry_of};
 ghost use Rattle.journal_entry.specs.declared.line.JournalLine as journal;
@@ -29,7 +29,7 @@ impl Model for Mover {
     ghost invariant = { λ m. IsMoving m.fold m.sources };
 }
 
-// A line of the second form tells this number, rate and entry.
+// A line of the second form has this number, rate and entry.
 fn tells(line: &JournalLine, numbered: &Numbered) -> bool
     ensures { IsTrue result ↔ TellsNumber line.now numbered.now }
 {
@@ -54,7 +54,7 @@ impl Mover {
     ghost use Rattle.file_commands.specs.Moving.{HasMoved, IsFormOf, MovesLine};
     ghost use Rattle.file_commands.specs.Migrating.{HasFormOf};
 
-    // It has moved nothing.
+    // No line is converted yet.
     pub fn new(settings: &Settings) -> Mover
         requires { AreLawful settings.now }
         ensures moved { HasMoved result settings.now [] None }
@@ -69,7 +69,7 @@ impl Mover {
         }
     }
 
-    // A line has the form of those before it.
+    // Whether a line has the form of those before it.
     fn has_form(&self, line: &JournalLine) -> bool
         ensures { (before : List journal.JournalLine) → IsFormOf self.now.form before → (IsTrue result ↔ HasFormOf before line.now) }
     {
@@ -79,7 +79,7 @@ impl Mover {
         }
     }
 
-    // Takes the line of this number: what it is in the second form, where it may stand here.
+    // Takes the line of this number: its second form, where it may stand here.
     pub fn take(&mut self, line: &JournalLine, number: u64) -> Option<Numbered>
         requires { self.old.fold.length < 2 ^ 22 }
         ensures grown { self.new.fold.length ≤ self.old.fold.length + 1 }
@@ -100,7 +100,7 @@ impl Mover {
         Some(numbered)
     }
 
-    // The page after the lines that were moved.
+    // The page after the lines that were converted.
     pub fn page(&self) -> Page
         ensures { result ≡ self.now.page }
     {

@@ -1,4 +1,4 @@
-//! The lines of a journal are cut out of its bytes and moved over, one after the other.
+//! Cuts the lines of a journal out of its bytes and converts them, one after the other.
 ghost use Rattle.std.specs.Prelude.{◌≡◌, ◌+◌, ◌<◌, ◌≤◌, ◌^◌, List, [], None, length, take, MatchOption};
 ghost use Rattle.journal_entry.specs.declared.line.JournalLine.{JournalLine};
 ghost use Rattle.journal_entry.specs.declared.writer.TheConstants.{LINE_ROOM};
@@ -22,7 +22,7 @@ const MOST: u64 = 4_194_304;
 // A line of a journal is too long at this byte.
 const TOO_LONG: usize = 300;
 
-// Moves the lines of a journal as its bytes come.
+// Converts the lines of a journal as its bytes come.
 #[derive(Drop)]
 pub struct JournalMover {
     pub cutter: LineCutter,
@@ -30,7 +30,7 @@ pub struct JournalMover {
     pub lines: u64,
 }
 
-// Moves the line of this text, which is the one of this number: the line of it in the second form.
+// Converts the line with this text and this number into the second form.
 fn move_text(mover: &mut Mover, text: &[u8], number: u64, line: &mut Line) -> Option<usize>
     requires { mover.old.fold.length < 2 ^ 22 }
     ensures grown { mover.new.fold.length ≤ mover.old.fold.length + 1 }
@@ -48,7 +48,7 @@ fn move_text(mover: &mut Mover, text: &[u8], number: u64, line: &mut Line) -> Op
 }
 
 impl JournalMover {
-    // It has taken nothing.
+    // No byte is taken yet.
     pub fn new(mover: Mover) -> JournalMover
         requires { mover.fold.length ≡ 0 }
         ensures even { IsEven result }
@@ -61,7 +61,7 @@ impl JournalMover {
         }
     }
 
-    // Moves the line that has ended.
+    // Converts the line that has ended.
     fn move_line(&mut self, line: &mut Line) -> Gives
         requires even { IsEven self.old }
         requires room { self.old.lines < 4194304 }
@@ -93,7 +93,7 @@ impl Taker for JournalMover {
 
     ghost is_ready = { IsEven };
 
-    // Behind the most lines it takes no more.
+    // After the greatest number of lines it takes no more.
     ghost room = { λ mover. 2 ^ 64 };
 
     fn take(&mut self, bytes: &[u8], line: &mut Line) -> Took {

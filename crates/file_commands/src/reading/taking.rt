@@ -1,4 +1,4 @@
-//! The bytes of a file are handed to what takes them, and the texts that they give are written.
+//! Hands the bytes of a file to a taker, and writes the texts that they give.
 ghost use Rattle.std.specs.Prelude.{◌≡◌, ◌+◌, ◌<◌, ◌≤◌, ◌++◌, ℕ, List, [], None, length, take};
 ghost use Rattle.feed_link.specs.Told.{SinkState};
 ghost use Rattle.journal_entry.specs.declared.writer.TheConstants.{LINE_ROOM};
@@ -11,7 +11,7 @@ use feed_link::{Failed, Sink, Source};
 use file_reader::{FileEnd, FileReader, Pulled};
 use journal_entry::LINE_ROOM;
 
-// What takes the bytes of a kind of file as they come, and gives their text, up to the first bad line.
+// Takes the bytes of a kind of file as they come, and gives their text, up to the first bad line.
 pub trait Taker {
     // What a file of this kind is taken for: the plan of a log, the station of a journal.
     ghost Case: { Type 0 };
@@ -25,10 +25,11 @@ pub trait Taker {
     // It can take more.
     ghost is_ready: { Self → Type 0 };
 
-    // It can take less than so many bytes more. Where it counts their lines, and nothing else ends them, that is the room of its count.
+    // It can take less than this many bytes more. Where it counts their lines, and nothing else ends them, that is the room of
+    // its count.
     ghost room: { Self → ℕ };
 
-    // Takes bytes up to the next text, which is then the front of the line, up to a bad line, or all of them.
+    // Takes bytes up to the next text, which is then the beginning of the line, up to a bad line, or all of them.
     fn take(&mut self, bytes: &[u8], line: &mut Line) -> Took
         requires some { 0 < length bytes.now }
         requires ready { is_ready self.old }
@@ -74,8 +75,8 @@ fn take_piece<T: Taker, K: Sink>(taker: &mut T, piece: &[u8], out: &mut K) -> Ta
     Taken::All
 }
 
-// Reads a file of at most so many bytes to its end, to its first bad line or to its first fault, and has it taken, as long as no
-// write fails.
+// Reads a file of at most this many bytes to its end, to its first bad line or to its first fault. A taker takes the bytes, as
+// long as no write fails.
 pub fn read_lines<S: Source, T: Taker, K: Sink>(
     file: &mut S,
     taker: &mut T,

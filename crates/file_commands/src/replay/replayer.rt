@@ -1,4 +1,4 @@
-//! The lines of a script are cut out of its bytes and played, one after the other.
+//! Cuts the lines of a script out of its bytes and plays them, one after the other.
 ghost use Rattle.std.specs.Prelude.{◌≡◌, ◌+◌, ◌-◌, ◌<◌, ◌≤◌, ◌^◌, ℕ, List, [], None, Some, length, take, MatchResult};
 ghost use Rattle.journal_entry.specs.declared.writer.TheConstants.{LINE_ROOM};
 ghost use Rattle.file_commands.specs.Playing.{IsPlayedBy, IsPlayedLine, PlaysNext};
@@ -27,7 +27,7 @@ pub struct Replayer<B: Drop> {
     pub lines: u64,
 }
 
-// Plays the line of this text: what it gives, and the text of that.
+// Plays the line with this text: what it gives, and the text of that.
 fn play_text(
     player: &mut Player<BoxedReceiver>,
     text: &[u8],
@@ -49,7 +49,7 @@ fn play_text(
 }
 
 impl Replayer<BoxedReceiver> {
-    // It has taken nothing.
+    // No byte is taken yet.
     pub fn new(player: Player<BoxedReceiver>) -> Replayer<BoxedReceiver>
         requires { IsReady least_start player }
         ensures ready { IsReady least_start result.player }

@@ -1,4 +1,4 @@
-//! What keeps a station file from being taken, and the lines that tell of it.
+//! What keeps a station file from being used, and the lines that report it.
 
 ghost use Rattle.std.specs.Prelude.{◌++◌, codes};
 ghost use Rattle.file_commands.specs.StationFile.{IsNamed, IsTold, many_line, station_line, status_at, line_at};

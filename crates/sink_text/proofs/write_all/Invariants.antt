@@ -3,7 +3,7 @@ use Rattle.std.proofs.Common.{◌≡◌, ℕ, List, ◌++◌, length}
 use Rattle.sink_text.specs.Writing.{WritesAll}
 use Rattle.sink_text.proofs.write_all.Given as goal
 
--- what was written so far is the front of the text
+-- what was written so far is the beginning of the text
 abbrev pub invariant-rest : goal.invariant-rest
 invariant-rest g l = (front : List ℕ) × (l.text ≡ front ++ l.rest) × WritesAll (g.K.Sink.state l.fn.out) (g.K.Sink.state l.out) front
 

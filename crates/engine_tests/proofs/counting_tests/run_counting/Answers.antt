@@ -1,9 +1,10 @@
 -- Each receiver that is put in the rack is a blank one, since its `new` says so of what is boxed, and one round it stands for the same; and four
 -- of each plan are a rack.
-use Rattle.std.proofs.Common.{refl, sym, subst, inl, inr, rules}
+use Rattle.std.proofs.Common.{◌≡◌, ◌+◌, refl, sym, subst, inl, inr, arith, rules}
 use denote.Param.Object.{read_made}
 use Rattle.tick_units.specs.declared.marks.Plan.TheVariants.{Dcf, Msf, Wwvb}
 use Rattle.radio_receiver.specs.Histories.{History, blank_of}
+use Rattle.receiver_rack.specs.Made.{HasOfEach}
 use Rattle.receiver_rack.proofs.MadeLaws.{none_yet, rack_of}
 use Rattle.engine_tests.proofs.counting_tests.run_counting.OwnLists.{own-1}
 use Rattle.engine_tests.proofs.counting_tests.run_counting.Goals as goal
@@ -11,76 +12,29 @@ use Rattle.engine_tests.proofs.counting_tests.run_counting.Goals as goal
 pub put_in_rack-requires : goal.put_in_rack-requires
 put_in_rack-requires g c =
     let same = read_made own-1 _ (inl tt) refl (History → Type 0) (λ j y h. j.1.stands_for y h) _ _ _ c.into_dyn_box.ensures.1 in
-    subst (λ (P : History → Type 0). P (blank_of Dcf)) (sym same) (subst (λ v. (own-1.entry (inl tt)).1.stands_for v (blank_of Dcf)) (sym c.in_ok-new.ensures.ok) (c.new-2.ensures.stands (blank_of Dcf) c.new.ensures.stands))
+    subst (λ (P : History → Type 0). P (blank_of Dcf)) (sym same) (subst (λ v. (own-1.entry (inl tt)).1.stands_for v (blank_of Dcf)) (sym c.in_ok-new.ensures.ok) (c.new-dcf.ensures.stands (blank_of Dcf) c.new.ensures.stands))
 
-pub put_in_rack-requires-2 : goal.put_in_rack-requires-2
-put_in_rack-requires-2 g c =
+pub put_in_rack-requires-in-loop : goal.put_in_rack-requires-in-loop
+put_in_rack-requires-in-loop g c =
     let same = read_made own-1 _ (inr (inl tt)) refl (History → Type 0) (λ j y h. j.1.stands_for y h) _ _ _ c.into_dyn_box-in_ok-new-2.ensures.1 in
-    subst (λ (P : History → Type 0). P (blank_of Msf)) (sym same) (subst (λ v. (own-1.entry (inr (inl tt))).1.stands_for v (blank_of Msf)) (sym c.in_ok-new-2.ensures.ok) (c.new-5.ensures.stands (blank_of Msf) c.new-4.ensures.stands))
+    subst (λ (P : History → Type 0). P (blank_of Msf)) (sym same) (subst (λ v. (own-1.entry (inr (inl tt))).1.stands_for v (blank_of Msf)) (sym c.in_ok-new-2.ensures.ok) (c.new-msf.ensures.stands (blank_of Msf) c.new-in-loop-2.ensures.stands))
 
-pub put_in_rack-requires-3 : goal.put_in_rack-requires-3
-put_in_rack-requires-3 g c =
+pub put_in_rack-requires-in-loop-2 : goal.put_in_rack-requires-in-loop-2
+put_in_rack-requires-in-loop-2 g c =
     let same = read_made own-1 _ (inr (inr (inl tt))) refl (History → Type 0) (λ j y h. j.1.stands_for y h) _ _ _ c.into_dyn_box-in_ok-new-3.ensures.1 in
-    subst (λ (P : History → Type 0). P (blank_of Wwvb)) (sym same) (subst (λ v. (own-1.entry (inr (inr (inl tt)))).1.stands_for v (blank_of Wwvb)) (sym c.in_ok-new-3.ensures.ok) (c.new-8.ensures.stands (blank_of Wwvb) c.new-7.ensures.stands))
+    subst (λ (P : History → Type 0). P (blank_of Wwvb)) (sym same) (subst (λ v. (own-1.entry (inr (inr (inl tt)))).1.stands_for v (blank_of Wwvb)) (sym c.in_ok-new-3.ensures.ok) (c.new-wwvb.ensures.stands (blank_of Wwvb) c.new-in-loop-4.ensures.stands))
 
-pub put_in_rack-requires-4 : goal.put_in_rack-requires-4
-put_in_rack-requires-4 g c =
-    let same = read_made own-1 _ (inl tt) refl (History → Type 0) (λ j y h. j.1.stands_for y h) _ _ _ c.into_dyn_box-in_ok-new-4.ensures.1 in
-    subst (λ (P : History → Type 0). P (blank_of Dcf)) (sym same) (subst (λ v. (own-1.entry (inl tt)).1.stands_for v (blank_of Dcf)) (sym c.in_ok-new-4.ensures.ok) (c.new-11.ensures.stands (blank_of Dcf) c.new-10.ensures.stands))
+pub loop-init : goal.loop-init
+loop-init g c = none_yet _ _ (search rules)
 
-pub put_in_rack-requires-5 : goal.put_in_rack-requires-5
-put_in_rack-requires-5 g c =
-    let same = read_made own-1 _ (inr (inl tt)) refl (History → Type 0) (λ j y h. j.1.stands_for y h) _ _ _ c.into_dyn_box-in_ok-new-5.ensures.1 in
-    subst (λ (P : History → Type 0). P (blank_of Msf)) (sym same) (subst (λ v. (own-1.entry (inr (inl tt))).1.stands_for v (blank_of Msf)) (sym c.in_ok-new-5.ensures.ok) (c.new-14.ensures.stands (blank_of Msf) c.new-13.ensures.stands))
-
-pub put_in_rack-requires-6 : goal.put_in_rack-requires-6
-put_in_rack-requires-6 g c =
-    let same = read_made own-1 _ (inr (inr (inl tt))) refl (History → Type 0) (λ j y h. j.1.stands_for y h) _ _ _ c.into_dyn_box-in_ok-new-6.ensures.1 in
-    subst (λ (P : History → Type 0). P (blank_of Wwvb)) (sym same) (subst (λ v. (own-1.entry (inr (inr (inl tt)))).1.stands_for v (blank_of Wwvb)) (sym c.in_ok-new-6.ensures.ok) (c.new-17.ensures.stands (blank_of Wwvb) c.new-16.ensures.stands))
-
-pub put_in_rack-requires-7 : goal.put_in_rack-requires-7
-put_in_rack-requires-7 g c =
-    let same = read_made own-1 _ (inl tt) refl (History → Type 0) (λ j y h. j.1.stands_for y h) _ _ _ c.into_dyn_box-in_ok-new-7.ensures.1 in
-    subst (λ (P : History → Type 0). P (blank_of Dcf)) (sym same) (subst (λ v. (own-1.entry (inl tt)).1.stands_for v (blank_of Dcf)) (sym c.in_ok-new-7.ensures.ok) (c.new-20.ensures.stands (blank_of Dcf) c.new-19.ensures.stands))
-
-pub put_in_rack-requires-8 : goal.put_in_rack-requires-8
-put_in_rack-requires-8 g c =
-    let same = read_made own-1 _ (inr (inl tt)) refl (History → Type 0) (λ j y h. j.1.stands_for y h) _ _ _ c.into_dyn_box-in_ok-new-8.ensures.1 in
-    subst (λ (P : History → Type 0). P (blank_of Msf)) (sym same) (subst (λ v. (own-1.entry (inr (inl tt))).1.stands_for v (blank_of Msf)) (sym c.in_ok-new-8.ensures.ok) (c.new-23.ensures.stands (blank_of Msf) c.new-22.ensures.stands))
-
-pub put_in_rack-requires-9 : goal.put_in_rack-requires-9
-put_in_rack-requires-9 g c =
-    let same = read_made own-1 _ (inr (inr (inl tt))) refl (History → Type 0) (λ j y h. j.1.stands_for y h) _ _ _ c.into_dyn_box-in_ok-new-9.ensures.1 in
-    subst (λ (P : History → Type 0). P (blank_of Wwvb)) (sym same) (subst (λ v. (own-1.entry (inr (inr (inl tt)))).1.stands_for v (blank_of Wwvb)) (sym c.in_ok-new-9.ensures.ok) (c.new-26.ensures.stands (blank_of Wwvb) c.new-25.ensures.stands))
-
-pub put_in_rack-requires-10 : goal.put_in_rack-requires-10
-put_in_rack-requires-10 g c =
-    let same = read_made own-1 _ (inl tt) refl (History → Type 0) (λ j y h. j.1.stands_for y h) _ _ _ c.into_dyn_box-in_ok-new-10.ensures.1 in
-    subst (λ (P : History → Type 0). P (blank_of Dcf)) (sym same) (subst (λ v. (own-1.entry (inl tt)).1.stands_for v (blank_of Dcf)) (sym c.in_ok-new-10.ensures.ok) (c.new-29.ensures.stands (blank_of Dcf) c.new-28.ensures.stands))
-
-pub put_in_rack-requires-11 : goal.put_in_rack-requires-11
-put_in_rack-requires-11 g c =
-    let same = read_made own-1 _ (inr (inl tt)) refl (History → Type 0) (λ j y h. j.1.stands_for y h) _ _ _ c.into_dyn_box-in_ok-new-11.ensures.1 in
-    subst (λ (P : History → Type 0). P (blank_of Msf)) (sym same) (subst (λ v. (own-1.entry (inr (inl tt))).1.stands_for v (blank_of Msf)) (sym c.in_ok-new-11.ensures.ok) (c.new-32.ensures.stands (blank_of Msf) c.new-31.ensures.stands))
-
-pub put_in_rack-requires-12 : goal.put_in_rack-requires-12
-put_in_rack-requires-12 g c =
-    let same = read_made own-1 _ (inr (inr (inl tt))) refl (History → Type 0) (λ j y h. j.1.stands_for y h) _ _ _ c.into_dyn_box-in_ok-new-12.ensures.1 in
-    subst (λ (P : History → Type 0). P (blank_of Wwvb)) (sym same) (subst (λ v. (own-1.entry (inr (inr (inl tt)))).1.stands_for v (blank_of Wwvb)) (sym c.in_ok-new-12.ensures.ok) (c.new-35.ensures.stands (blank_of Wwvb) c.new-34.ensures.stands))
+pub loop-preserved : goal.loop-preserved
+loop-preserved g c =
+    let n = c.loop.counter in
+    c.in_ok-put_in_rack-3.ensures (n + 1) (n + 1) n (c.in_ok-put_in_rack-2.ensures (n + 1) n n (c.in_ok-put_in_rack.ensures n n n c.loop.invariant))
 
 pub run_station-requires-clause-rack : goal.run_station-requires-clause-rack
 run_station-requires-clause-rack g c κs within =
-    let has-1 = c.in_ok-put_in_rack.ensures 0 0 0 (none_yet _ _ (search rules)) in
-    let has-2 = c.in_ok-put_in_rack-2.ensures 1 0 0 has-1 in
-    let has-3 = c.in_ok-put_in_rack-3.ensures 1 1 0 has-2 in
-    let has-4 = c.in_ok-put_in_rack-4.ensures 1 1 1 has-3 in
-    let has-5 = c.in_ok-put_in_rack-5.ensures 2 1 1 has-4 in
-    let has-6 = c.in_ok-put_in_rack-6.ensures 2 2 1 has-5 in
-    let has-7 = c.in_ok-put_in_rack-7.ensures 2 2 2 has-6 in
-    let has-8 = c.in_ok-put_in_rack-8.ensures 3 2 2 has-7 in
-    let has-9 = c.in_ok-put_in_rack-9.ensures 3 3 2 has-8 in
-    let has-10 = c.in_ok-put_in_rack-10.ensures 3 3 3 has-9 in
-    let has-11 = c.in_ok-put_in_rack-11.ensures 4 3 3 has-10 in
-    let has-12 = c.in_ok-put_in_rack-12.ensures 4 4 3 has-11 in
-    let rack = rack_of (λ b h. (own-1.entry b.vtable).1.stands_for b.value h) _ has-12 in
+    let whole : c.loop.counter ≡ 4 = omega arith in
+    let has = subst (λ n. HasOfEach (λ b h. (own-1.entry b.vtable).1.stands_for b.value h) n n n c.loop.rack.items) whole c.loop.invariant in
+    let rack = rack_of (λ b h. (own-1.entry b.vtable).1.stands_for b.value h) _ has in
     search rules

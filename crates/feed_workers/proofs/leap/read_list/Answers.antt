@@ -3,6 +3,7 @@ use Rattle.std.proofs.Common.{ℕ, ◌∙◌, ◌++◌, [], List, Option, false,
 use Rattle.file_reader.specs.Ends.{EndsReading, HasReadFront}
 use Rattle.file_reader.specs.Reader.{piece_of}
 use Rattle.file_reader.specs.declared.reader.FileEnd.TheVariants.{Whole}
+use Rattle.feed_workers.specs.Keeping.{share_of}
 use Rattle.feed_workers.specs.Noticing.{NoticesPiece}
 use Rattle.page_cell.specs.Passes.{claim_of}
 use Rattle.feed_workers.proofs.LeapLaws.{exact, list_ends, noticed_none, own_feed, same_feed}
@@ -39,13 +40,13 @@ pub returns-in-Some-clause-runs : goal.returns-in-Some-clause-runs
 returns-in-Some-clause-runs g c =
     let p = c.pieces.invariant.so_far in
     let begin = claim_of c.args.pass.now.view in
-    let now = claim_of c.take_piece.new.pass.view in
+    let share = share_of begin c.take_piece.new.pass g.N.HubName.limit c.take_piece.new.full in
     let same = c.pull.ensures.limit ∙ c.pieces.invariant.limit in
     let bytes = p.0 ++ piece_of c.pull.new.self in
     let pulled = rw c.in-Piece.is at (c.pull.ensures.gives _ p.0 p.1) in
     let front = subst (λ (n : ℕ). HasReadFront n (g.L.Source.state c.args.log.now) (g.L.Source.state c.pull.new.file) bytes) same pulled.front in
-    let noticed = subst (λ (b : List ℕ). NoticesPiece c.take_piece.new.reader c.args.start begin now g.N.HubName.limit c.take_piece.new.full (p.0 ++ b) c.take_piece.result) c.piece-piece.ensures.value (c.take_piece.ensures.noticed begin p.0 p.2) in
-    let passed = subst (λ (o : Option ℕ). NoticesPiece c.take_piece.new.reader c.args.start begin now g.N.HubName.limit c.take_piece.new.full bytes o) c.in-Some.is noticed in
+    let noticed = subst (λ (b : List ℕ). NoticesPiece c.take_piece.new.reader c.args.start share (p.0 ++ b) c.take_piece.result) c.piece-piece.ensures.value (c.take_piece.ensures.noticed begin p.0 p.2) in
+    let passed = subst (λ (o : Option ℕ). NoticesPiece c.take_piece.new.reader c.args.start share bytes o) c.in-Some.is noticed in
     record {
       bytes = bytes;
       whole = false;

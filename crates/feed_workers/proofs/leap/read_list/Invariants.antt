@@ -1,7 +1,7 @@
 -- What stays true in the loops of `leap::read_list`.
 use Rattle.std.proofs.Common.{◌≡◌, ℕ, List, length}
 use Rattle.file_reader.specs.Reader.{HasPulled, limit_of, room_of}
-use Rattle.feed_workers.specs.Keeping.{IsOfFeed}
+use Rattle.feed_workers.specs.Keeping.{IsOfFeed, share_of}
 use Rattle.feed_workers.specs.Leaps.{most_of_a_list}
 use Rattle.feed_workers.specs.Noticing.{HasNoticed}
 use Rattle.page_cell.specs.Passes.{claim_of}
@@ -15,7 +15,7 @@ invariant-pieces g l = record {
   start : l.start ≡ l.fn.start;
   pass : IsOfFeed g.N.HubName.table (length g.N.HubName.settings.sources) (claim_of l.fn.pass.view).number l.pass;
   so_far : (bytes : List ℕ) × HasPulled l.reader (g.L.Source.state l.fn.log) (g.L.Source.state l.log) bytes
-      × HasNoticed l.list l.fn.start (claim_of l.fn.pass.view) (claim_of l.pass.view) g.N.HubName.limit l.full bytes;
+      × HasNoticed l.list l.fn.start (share_of (claim_of l.fn.pass.view) l.pass g.N.HubName.limit l.full) bytes;
 }
 
 abbrev pub decreases-pieces : goal.decreases-pieces

@@ -2,11 +2,11 @@
 use Rattle.std.proofs.Common.{◌≡◌, ◌≤◌, ℕ, length}
 use Rattle.std.specs.Option.{ForSome}
 use Rattle.feed_link.specs.Told.{LinkState}
-use Rattle.page_cell.specs.Passes.{claim_of}
 use Rattle.page_cell.specs.declared.view.Claim.{Claim}
 use Rattle.poll_core.specs.Polling.{asked_at}
 use Rattle.feed_workers.specs.Asking.{InRound, Polled}
-use Rattle.feed_workers.specs.Keeping.{IsOfFeed}
+use Rattle.feed_workers.specs.Keeping.{IsOfFeed, share_of}
+use Rattle.feed_workers.specs.Polling.{session_at}
 use Rattle.feed_workers.proofs.poller.poll_once.Given as goal
 
 -- the request was sent, and none of the hearings so far ends the round
@@ -15,7 +15,7 @@ invariant-hearings g l = record {
   link : g.L.Link.opening l.link ≡ g.L.Link.opening l.fn.link;
   pass : IsOfFeed g.N.HubName.table (length g.N.HubName.settings.sources) l.fn.feed l.pass;
   asked : ForSome (asked_at l.poll) (λ moment. moment ≤ (g.L.Link.state l.link).latest);
-  so_far : (before : LinkState) (start : Claim) (count : ℕ) →
-      Polled l.fn.poll l.fn.server before (g.L.Link.state l.fn.link) start (claim_of l.fn.pass.view) g.N.HubName.limit l.fn.full count → start.number ≡ l.fn.feed →
-      InRound l.poll l.fn.server before (g.L.Link.state l.link) start (claim_of l.pass.view) g.N.HubName.limit l.full count l.counter;
+  so_far : (before : LinkState) (begun : Claim) (count : ℕ) →
+      Polled l.fn.poll (session_at l.fn.server before (g.L.Link.state l.fn.link) (share_of begun l.fn.pass g.N.HubName.limit l.fn.full)) count → begun.number ≡ l.fn.feed →
+      InRound l.poll (session_at l.fn.server before (g.L.Link.state l.link) (share_of begun l.pass g.N.HubName.limit l.full)) count l.counter;
 }

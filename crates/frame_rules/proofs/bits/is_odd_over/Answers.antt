@@ -1,4 +1,4 @@
--- What the proof of `bits::is_odd_over` needs to be told.
+-- What the proof of `bits::is_odd_over` needs.
 use Rattle.std.proofs.Common.{◌≤◌, sym, arith}
 use Rattle.frame_rules.specs.Fields.{is_set}
 use Rattle.frame_rules.specs.Bits.{has_bit}

@@ -1,4 +1,4 @@
--- What the proof of `bits::value` needs to be told.
+-- What the proof of `bits::value` needs.
 use Rattle.std.proofs.Common.{◌≡◌, ℕ, ◌+◌, ◌<◌, length, get_or, drop, sum, sym, arith}
 use Rattle.std.proofs.lemmas.List.Sums.{sum_by-drop_more}
 use Rattle.frame_rules.specs.Bits.{has_bit}

@@ -1,4 +1,4 @@
--- What the proof of `place_bits::has` needs to be told.
+-- What the proof of `place_bits::has` needs.
 use Rattle.std.proofs.Common.{ap, ◌∙◌, ◌/◌, ◌%◌, ◌^◌, ◌==◌}
 use Rattle.frame_rules.proofs.WordLaws.{word_at}
 use Rattle.frame_rules.proofs.place_bits.has.Goals as goal

@@ -1,4 +1,4 @@
--- What the proof of `place_bits::with_bit` needs to be told.
+-- What the proof of `place_bits::with_bit` needs.
 use Rattle.std.proofs.Common.{ap, ◌∙◌, ◌*◌, ◌%◌, ◌^◌, bit_or}
 use Rattle.frame_rules.proofs.WordLaws.{word_with, byte_is}
 use Rattle.frame_rules.proofs.place_bits.with_bit.Goals as goal

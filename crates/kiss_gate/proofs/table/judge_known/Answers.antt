@@ -1,4 +1,4 @@
--- What the proof of `table::judge_known` needs to be told.
+-- What the proof of `table::judge_known` needs.
 use Rattle.std.proofs.Common.{◌∙◌, ap, Some}
 use Rattle.lru.specs.LruCache.{lru_cache}
 use Rattle.kiss_gate.specs.Clients.{in_front}

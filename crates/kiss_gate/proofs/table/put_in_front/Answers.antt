@@ -1,4 +1,4 @@
--- What the proof of `table::put_in_front` needs to be told.
+-- What the proof of `table::put_in_front` needs.
 use Rattle.std.proofs.Common.{◌∙◌, ap}
 use Rattle.lru.specs.LruCache.{lru_cache}
 use Rattle.kiss_gate.proofs.TableLaws.{put-in_front}

@@ -9,7 +9,7 @@ use Rattle.ntp_packet.proofs.LayoutLaws.{fields-layout}
 use Rattle.ntp_packet.proofs.Pieces.{packed, four_set}
 use Rattle.ntp_packet.proofs.writing.write.Goals as goal
 
--- one piece more behind those that stand
+-- one piece more after those that stand
 more : {front now : List ℕ} (piece known : List ℕ) → now ≡ front ++ piece → front ≡ known → now ≡ known ++ piece
 more piece known is stands = is ∙ ap (λ (xs : List ℕ). xs ++ piece) stands
 

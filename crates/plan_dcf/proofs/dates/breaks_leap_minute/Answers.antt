@@ -1,4 +1,4 @@
--- What the proof of `dates::breaks_leap_minute` needs to be told.
+-- What the proof of `dates::breaks_leap_minute` needs.
 use Rattle.std.proofs.Common.{refl}
 use Rattle.frame_rules.proofs.Meanings.{found_is, none_is}
 use Rattle.civil_frame.specs.CivilDates.{names_minute}

@@ -1,4 +1,4 @@
--- What the proof of `rules::first_broken_rule` needs to be told.
+-- What the proof of `rules::first_broken_rule` needs.
 use Rattle.std.proofs.Common.{[], ◌∷◌, sym, ◌∙◌}
 use Rattle.frame_rules.proofs.FirstLaws.{AreUnbroken-from_none, false_from_unbroken}
 use Rattle.civil_frame.proofs.NamedMinute.{names_minute-kept}

@@ -1,4 +1,4 @@
--- What the proof of `spelling::push_bits` needs to be told.
+-- What the proof of `spelling::push_bits` needs.
 use Rattle.std.proofs.Common.{◌≡◌, suc, ◌+◌, ◌-◌, append_assoc, arith}
 use Rattle.plan_dcf.proofs.spelling.push_bits.Goals as goal
 

@@ -1,4 +1,4 @@
--- What the proof of `spelling::spell` needs to be told.
+-- What the proof of `spelling::spell` needs.
 use Rattle.std.proofs.Common.{◌≡◌, length, List, subst, refl, ap, sym, ◌∙◌}
 use Rattle.tick_units.specs.declared.marks.Mark.{Mark}
 use Rattle.civil_minute.specs.Dates.{weekday_of}

@@ -1,4 +1,4 @@
--- What the proof of `reading::read` needs to be told.
+-- What the proof of `reading::read` needs.
 use Rattle.std.proofs.Common.{refl}
 use Rattle.plan_msf.proofs.reading.read.Goals as goal
 

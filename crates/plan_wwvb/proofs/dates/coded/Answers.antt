@@ -1,4 +1,4 @@
--- What the proof of `dates::coded` needs to be told.
+-- What the proof of `dates::coded` needs.
 use Rattle.std.proofs.Common.{refl, arith}
 use Rattle.plan_wwvb.proofs.Seconds.{sent-whole, dated}
 use Rattle.plan_wwvb.proofs.dates.coded.Goals as goal

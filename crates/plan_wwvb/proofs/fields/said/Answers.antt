@@ -1,4 +1,4 @@
--- What the proof of `fields::said` needs to be told.
+-- What the proof of `fields::said` needs.
 use Rattle.std.proofs.Common.{arith}
 use Rattle.plan_wwvb.proofs.fields.said.Goals as goal
 

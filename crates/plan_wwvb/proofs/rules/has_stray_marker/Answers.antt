@@ -1,4 +1,4 @@
--- What the proof of `rules::has_stray_marker` needs to be told.
+-- What the proof of `rules::has_stray_marker` needs.
 use Rattle.std.proofs.Common.{drop, sym, ◌∙◌, arith}
 use Rattle.frame_rules.specs.Words.{has_long}
 use Rattle.plan_wwvb.specs.Rules.{has_stray_marker}

@@ -1,4 +1,4 @@
--- What the proof of `digits::digits_in_eight` needs to be told.
+-- What the proof of `digits::digits_in_eight` needs.
 use Rattle.std.proofs.Common.{rules, subst, sym}
 use Rattle.pulse_log.specs.Words.{IsWordOf}
 use Rattle.pulse_log.proofs.WordLaws.{le_word}

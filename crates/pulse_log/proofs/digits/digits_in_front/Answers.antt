@@ -1,4 +1,4 @@
--- What the proof of `digits::digits_in_front` needs to be told.
+-- What the proof of `digits::digits_in_front` needs.
 use Rattle.std.proofs.Common.{◌≡◌, ℕ, ◌*◌, ◌+◌, ◌^◌, sym, subst, arith}
 use Rattle.pulse_log.specs.Words.{SpellsFront}
 use Rattle.pulse_log.proofs.NumberLaws.{small, in_all, joined}

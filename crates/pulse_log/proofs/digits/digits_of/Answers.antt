@@ -1,4 +1,4 @@
--- What the proof of `digits::digits_of` needs to be told.
+-- What the proof of `digits::digits_of` needs.
 use Rattle.std.proofs.Common.{◌∙◌, arith}
 use Rattle.core.specs.Prelude.{bit_xor}
 use Rattle.core.proofs.dec2flt.Eight.{lanes_are, all_digits, first_other, shifted_is}

@@ -1,4 +1,4 @@
--- What the proof of `digits::flags_from_ten` needs to be told.
+-- What the proof of `digits::flags_from_ten` needs.
 use Rattle.core.proofs.slice.Flagged.{flags_from_ten}
 use Rattle.pulse_log.proofs.digits.flags_from_ten.Goals as goal
 

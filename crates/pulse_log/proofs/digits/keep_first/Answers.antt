@@ -1,4 +1,4 @@
--- What the proof of `digits::keep_first` needs to be told.
+-- What the proof of `digits::keep_first` needs.
 use Rattle.core.proofs.dec2flt.Eight.{bytes_up}
 use Rattle.pulse_log.proofs.digits.keep_first.Goals as goal
 

@@ -1,4 +1,4 @@
--- What the proof of `digits::value_of_eight` needs to be told.
+-- What the proof of `digits::value_of_eight` needs.
 use Rattle.core.proofs.dec2flt.Eight.{eight_is}
 use Rattle.pulse_log.proofs.digits.value_of_eight.Goals as goal
 

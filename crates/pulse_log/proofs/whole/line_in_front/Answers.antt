@@ -1,4 +1,4 @@
--- What the proof of `whole::line_in_front` needs to be told.
+-- What the proof of `whole::line_in_front` needs.
 use Rattle.std.proofs.Common.{ℕ, [], ◌∷◌, ◌++◌, decimal, ap, sym, ◌∙◌}
 use Rattle.pulse_log.proofs.WholeLaws.{line_is}
 use Rattle.pulse_log.proofs.whole.line_in_front.Goals as goal

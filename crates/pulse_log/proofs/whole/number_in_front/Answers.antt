@@ -1,4 +1,4 @@
--- What the proof of `whole::number_in_front` needs to be told.
+-- What the proof of `whole::number_in_front` needs.
 use Rattle.std.proofs.Common.{arith}
 use Rattle.pulse_log.proofs.NumberLaws.{small, is_decimal, is_some}
 use Rattle.pulse_log.proofs.whole.number_in_front.Goals as goal

@@ -1,4 +1,4 @@
--- Each text stands behind those before it, and the line's four texts are the line.
+-- Each text stands after those before it, and the line's four texts are the line.
 use Rattle.std.proofs.Common.{◌≡◌, ℕ, ◌+◌, List, [], ◌∷◌, ◌++◌, length, take, drop, drop-drop, decimal, refl, ap, ◌∙◌, append_assoc, arith}
 use Rattle.std.proofs.lemmas.List.{length-append}
 use Rattle.std.proofs.Math.Seq.{take-append_seam, drop-append-add}

@@ -15,7 +15,7 @@ use Rattle.crew_work.proofs.ListLaws.{both_keeps, each_keeps, leap_feeds-length,
 use Rattle.station_crew.specs.Crews.{IsNewReader}
 use Rattle.station_crew.specs.Jobs.{LeapRan, MayNotice, PollRan, RadioRan}
 use Rattle.station_crew.specs.Leaving.{file_of, leap_pass, link_of, log_of, passes_of, poll_pass, radio_pass, serve_pass, server_link}
-use Rattle.crew_work.specs.Served.{LeapServed, LinksServed, RadiosServed, ServersServed}
+use Rattle.crew_work.specs.Served.{LeapServed, LinksServed, RadiosServed, ServersServed, column_of, seen, service_of}
 use Rattle.station_crew.specs.Telling.{HasSeenAll, HasServedTwice}
 use Rattle.system_fold.specs.Settings.{IsJournal, IsKept, SettingsFields}
 use Rattle.verdict_journal.specs.Journals.{HasRead}
@@ -115,7 +115,7 @@ close-requires-clause-readers g c =
     let xs = c.man_crew-crew.result.responders.items in
     let P : KnownReader → Type 0 = λ f. f.table ≡ N.table in
     let new = subst (All (IsNewReader N.table)) (sym c.man_crew-crew.ensures.readers) c.requires.readers in
-    let one = each_keeps (λ x. x.responder.pass.table ≡ N.table) (HasServedTwice g.T.Link.state g.T.Link.opening c.args.budget.during c.args.budget.after (passes_of r.radios r.pollers r.leap)) (λ a b t h. t.again.same.table ∙ t.learnt.learnt.table ∙ t.served.same.table ∙ h) xs r.responders r.served r.responder_count
+    let one = each_keeps (λ x. x.responder.pass.table ≡ N.table) (HasServedTwice g.T.Link.state g.T.Link.opening c.args.budget (passes_of r.radios r.pollers r.leap)) (λ a b t h. t.again.same.table ∙ t.learnt.learnt.table ∙ t.served.same.table ∙ h) xs r.responders r.served r.responder_count
     (λ i d lt. (subst (IsNewReader N.table) (get_or-map serve_pass xs i d (serve_pass d) lt) (new i (serve_pass d) (omega (arith, lt, length-map xs serve_pass)))).table_is) in
     subst (All P) (sym r.readers) (All-map P serve_pass r.responders one)
 
@@ -137,9 +137,9 @@ returns-clause-radios g c =
     let claims = ap (λ l. map (λ (f : Known). claim_of f.view) l) c.man_crew-crew.ensures.feeds ∙ c.requires.claims in
     let all = subst (All (λ (f : Known). IsTrueOf j (claim_of f.view))) r.feeds c.close.ensures.feeds in
     let told = radios_served g.L.Source.state g.L.Source.opening g.T.Link.state g.T.Link.opening N.limit (length N.settings.sources) j crew.radios.items r.radios crew.pollers.items r.pollers crew.leap r.leap claims r.radios_ran r.radio_count r.pollers_ran r.poller_count r.leap_ran all _ c.args.station.now.radios c.args.receivers.items c.requires.blank m.receivers_are c.close.ensures.within in
-    subst (λ l. RadiosServed g.L.Source.state g.L.Source.opening c.args.station.now.radios N.limit j l c.run_crew-gear.result.gear.logs.items c.run_crew-gear.result.radios.items) m.logs
-    (subst (λ l. RadiosServed g.L.Source.state g.L.Source.opening c.args.station.now.radios N.limit j (map log_of crew.radios.items) l c.run_crew-gear.result.radios.items) (sym r.logs)
-    (subst (λ l. RadiosServed g.L.Source.state g.L.Source.opening c.args.station.now.radios N.limit j (map log_of crew.radios.items) (map log_of r.radios) l) (sym r.log_works) told))
+    subst (λ l. RadiosServed (seen g.L.Source.state g.L.Source.opening) c.args.station.now.radios (column_of 0 N.limit j) l c.run_crew-gear.result.gear.logs.items c.run_crew-gear.result.radios.items) m.logs
+    (subst (λ l. RadiosServed (seen g.L.Source.state g.L.Source.opening) c.args.station.now.radios (column_of 0 N.limit j) (map log_of crew.radios.items) l c.run_crew-gear.result.radios.items) (sym r.logs)
+    (subst (λ l. RadiosServed (seen g.L.Source.state g.L.Source.opening) c.args.station.now.radios (column_of 0 N.limit j) (map log_of crew.radios.items) (map log_of r.radios) l) (sym r.log_works) told))
 
 pub returns-clause-servers : goal.returns-clause-servers
 returns-clause-servers g c =
@@ -154,10 +154,10 @@ returns-clause-servers g c =
     let one : vec_len c.args.gear.logs ≡ length c.args.gear.logs.items = search rules in
     let first : length crew.radios.items ≡ length of.radios = sym (length-map crew.radios.items log_of) ∙ ap length m.logs ∙ sym one ∙ c.requires.gear.logs in
     let told = servers_served g.L.Source.state g.L.Source.opening g.T.Link.state g.T.Link.opening N.limit (length N.settings.sources) j crew.radios.items r.radios crew.pollers.items r.pollers crew.leap r.leap claims r.radios_ran r.radio_count r.pollers_ran r.poller_count r.leap_ran all of.servers m.asked c.close.ensures.within in
-    subst (λ n. ServersServed g.T.Link.state g.T.Link.opening of.servers n N.limit j c.args.gear.servers.items c.run_crew-gear.result.gear.servers.items c.run_crew-gear.result.servers.items) first
-    (subst (λ l. ServersServed g.T.Link.state g.T.Link.opening of.servers (length crew.radios.items) N.limit j l c.run_crew-gear.result.gear.servers.items c.run_crew-gear.result.servers.items) m.servers
-    (subst (λ l. ServersServed g.T.Link.state g.T.Link.opening of.servers (length crew.radios.items) N.limit j (map server_link crew.pollers.items) l c.run_crew-gear.result.servers.items) (sym r.servers)
-    (subst (λ l. ServersServed g.T.Link.state g.T.Link.opening of.servers (length crew.radios.items) N.limit j (map server_link crew.pollers.items) (map server_link r.pollers) l) (sym r.poll_works) told)))
+    subst (λ n. ServersServed (seen g.T.Link.state g.T.Link.opening) of.servers (column_of n N.limit j) c.args.gear.servers.items c.run_crew-gear.result.gear.servers.items c.run_crew-gear.result.servers.items) first
+    (subst (λ l. ServersServed (seen g.T.Link.state g.T.Link.opening) of.servers (column_of (length crew.radios.items) N.limit j) l c.run_crew-gear.result.gear.servers.items c.run_crew-gear.result.servers.items) m.servers
+    (subst (λ l. ServersServed (seen g.T.Link.state g.T.Link.opening) of.servers (column_of (length crew.radios.items) N.limit j) (map server_link crew.pollers.items) l c.run_crew-gear.result.servers.items) (sym r.servers)
+    (subst (λ l. ServersServed (seen g.T.Link.state g.T.Link.opening) of.servers (column_of (length crew.radios.items) N.limit j) (map server_link crew.pollers.items) (map server_link r.pollers) l) (sym r.poll_works) told)))
 
 pub returns-clause-leap : goal.returns-clause-leap
 returns-clause-leap g c =
@@ -176,10 +176,10 @@ returns-clause-leap g c =
     let servers : length crew.pollers.items ≡ length of.servers = sym (length-map crew.pollers.items server_link) ∙ ap length m.servers ∙ sym two ∙ c.requires.gear.servers in
     let told = leap_served g.L.Source.state g.L.Source.opening g.T.Link.state g.T.Link.opening N.limit (length N.settings.sources) j crew.radios.items r.radios crew.pollers.items r.pollers crew.leap r.leap claims r.radios_ran r.radio_count r.pollers_ran r.poller_count r.leap_ran all start m.begins c.close.ensures.within in
     let first : length crew.radios.items + length crew.pollers.items ≡ length of.radios + length of.servers = ap (λ n. n + length crew.pollers.items) radios ∙ ap (λ n. length of.radios + n) servers in
-    subst (λ n. LeapServed g.L.Source.state g.L.Source.opening start n N.limit j c.args.gear.leap c.run_crew-gear.result.gear.leap c.run_crew-gear.result.leap) first
-    (subst (λ o. LeapServed g.L.Source.state g.L.Source.opening start (length crew.radios.items + length crew.pollers.items) N.limit j o c.run_crew-gear.result.gear.leap c.run_crew-gear.result.leap) m.file
-    (subst (λ o. LeapServed g.L.Source.state g.L.Source.opening start (length crew.radios.items + length crew.pollers.items) N.limit j (option_map file_of crew.leap) o c.run_crew-gear.result.leap) (sym r.file)
-    (subst (λ o. LeapServed g.L.Source.state g.L.Source.opening start (length crew.radios.items + length crew.pollers.items) N.limit j (option_map file_of crew.leap) (option_map file_of r.leap) o) (sym r.leap_work) told)))
+    subst (λ n. LeapServed (seen g.L.Source.state g.L.Source.opening) start (column_of n N.limit j) c.args.gear.leap c.run_crew-gear.result.gear.leap c.run_crew-gear.result.leap) first
+    (subst (λ o. LeapServed (seen g.L.Source.state g.L.Source.opening) start (column_of (length crew.radios.items + length crew.pollers.items) N.limit j) o c.run_crew-gear.result.gear.leap c.run_crew-gear.result.leap) m.file
+    (subst (λ o. LeapServed (seen g.L.Source.state g.L.Source.opening) start (column_of (length crew.radios.items + length crew.pollers.items) N.limit j) (option_map file_of crew.leap) o c.run_crew-gear.result.leap) (sym r.file)
+    (subst (λ o. LeapServed (seen g.L.Source.state g.L.Source.opening) start (column_of (length crew.radios.items + length crew.pollers.items) N.limit j) (option_map file_of crew.leap) (option_map file_of r.leap) o) (sym r.leap_work) told)))
 
 pub returns-clause-links : goal.returns-clause-links
 returns-clause-links g c =
@@ -194,7 +194,10 @@ returns-clause-links g c =
     let read = subst (All (λ (r : KnownReader). HasRead N.settings j r.view)) r.readers (subst (λ (s : SettingsFields). All (λ (r : KnownReader). HasRead s j r.view) c.run_crew-gear.result.readers.items) c.close.ensures.settings c.close.ensures.readers) in
     let new = subst (All (IsNewReader N.table)) (sym c.man_crew-crew.ensures.readers) c.requires.readers in
     let bound : (x : KnownReader) → HasSeenAll (passes_of r.radios r.pollers r.leap) x → length j ≤ x.view.seen = λ x seen. seen_all g.L.Source.state g.L.Source.opening g.T.Link.state g.T.Link.opening N.limit (length N.settings.sources) j crew.radios.items r.radios crew.pollers.items r.pollers crew.leap r.leap claims r.radios_ran r.radio_count r.pollers_ran r.poller_count r.leap_ran all lawful x.view.seen seen in
-    let told = links_served g.T.Link.state g.T.Link.opening c.args.station.now.keys (gate_of c.args.station.now) N.settings j c.args.budget.during c.args.budget.after N.table (passes_of r.radios r.pollers r.leap) crew.responders.items r.responders r.served r.responder_count new m.unserved m.keyed m.gated read bound in
-    subst (λ l. LinksServed g.T.Link.state g.T.Link.opening c.args.station.now.keys (gate_of c.args.station.now) N.settings j c.args.budget.during c.args.budget.after l c.run_crew-gear.result.gear.links.items c.run_crew-gear.result.links.items) m.links
-    (subst (λ l. LinksServed g.T.Link.state g.T.Link.opening c.args.station.now.keys (gate_of c.args.station.now) N.settings j c.args.budget.during c.args.budget.after (map link_of crew.responders.items) l c.run_crew-gear.result.links.items) (sym r.links)
-    (subst (λ l. LinksServed g.T.Link.state g.T.Link.opening c.args.station.now.keys (gate_of c.args.station.now) N.settings j c.args.budget.during c.args.budget.after (map link_of crew.responders.items) (map link_of r.responders) l) (sym r.link_works) told))
+    let told = links_served g.T.Link.state g.T.Link.opening c.args.station.now.keys (gate_of c.args.station.now) N.settings j c.args.budget N.table (passes_of r.radios r.pollers r.leap) crew.responders.items r.responders r.served r.responder_count new m.unserved m.keyed m.gated read bound in
+    let of = c.args.station.now in
+    let service = record (service_of of j c.args.budget) { settings = N.settings } in
+    subst (λ (s : SettingsFields). LinksServed (seen g.T.Link.state g.T.Link.opening) (record service { settings = s }) c.args.gear.links.items c.run_crew-gear.result.gear.links.items c.run_crew-gear.result.links.items) (sym c.requires.settings)
+    (subst (λ l. LinksServed (seen g.T.Link.state g.T.Link.opening) service l c.run_crew-gear.result.gear.links.items c.run_crew-gear.result.links.items) m.links
+    (subst (λ l. LinksServed (seen g.T.Link.state g.T.Link.opening) service (map link_of crew.responders.items) l c.run_crew-gear.result.links.items) (sym r.links)
+    (subst (λ l. LinksServed (seen g.T.Link.state g.T.Link.opening) service (map link_of crew.responders.items) (map link_of r.responders) l) (sym r.link_works) told)))

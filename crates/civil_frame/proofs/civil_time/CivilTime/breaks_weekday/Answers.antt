@@ -1,4 +1,4 @@
--- What the proof of `civil_time::CivilTime::breaks_weekday` needs to be told.
+-- What the proof of `civil_time::CivilTime::breaks_weekday` needs.
 use Rattle.std.proofs.Common.{◌≡◌, ◌+◌, refl, ap, ◌∙◌}
 use Rattle.civil_minute.specs.Dates.{weekday_of, weekday_of_day}
 use Rattle.civil_minute.proofs.Bounds.{second_of-day}

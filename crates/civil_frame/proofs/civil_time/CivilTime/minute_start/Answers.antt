@@ -1,4 +1,4 @@
--- What the proof of `civil_time::CivilTime::minute_start` needs to be told.
+-- What the proof of `civil_time::CivilTime::minute_start` needs.
 use Rattle.std.proofs.Common.{◌≡◌, ◌%◌, refl, arith}
 use Rattle.frame_rules.proofs.Meanings.{found_is}
 use Rattle.civil_frame.specs.CivilDates.{names_minute}

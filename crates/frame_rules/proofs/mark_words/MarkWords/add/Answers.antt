@@ -1,4 +1,4 @@
--- What the proof of `mark_words::MarkWords::add` needs to be told.
+-- What the proof of `mark_words::MarkWords::add` needs.
 use Rattle.std.proofs.Common.{ap, not, None, sym, ◌∙◌, ◌||◌}
 use Rattle.frame_rules.proofs.AddingLaws.{last_push, spacing_added, width_added}
 use Rattle.frame_rules.proofs.mark_words.MarkWords.add.Goals as goal

@@ -1,4 +1,4 @@
--- What the proof of `mark_words::MarkWordsPlaces::breaks_spacing_to` needs to be told.
+-- What the proof of `mark_words::MarkWordsPlaces::breaks_spacing_to` needs.
 use Rattle.std.proofs.Common.{ap, not, ◌∙◌}
 use Rattle.frame_rules.proofs.AddingLaws.{spacing_closed}
 use Rattle.frame_rules.proofs.mark_words.MarkWordsPlaces.breaks_spacing_to.Goals as goal

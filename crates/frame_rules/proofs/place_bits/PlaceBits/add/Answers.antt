@@ -1,4 +1,4 @@
--- What the proof of `place_bits::PlaceBits::add` needs to be told.
+-- What the proof of `place_bits::PlaceBits::add` needs.
 use Rattle.std.proofs.Common.{◌∙◌, ap, ◌||◌}
 use Rattle.frame_rules.proofs.AddingLaws.{bits_kept, bits_full}
 use Rattle.frame_rules.proofs.place_bits.PlaceBits.add.Goals as goal

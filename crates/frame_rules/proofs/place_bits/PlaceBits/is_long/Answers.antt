@@ -1,4 +1,4 @@
--- What the proof of `place_bits::PlaceBits::is_long` needs to be told.
+-- What the proof of `place_bits::PlaceBits::is_long` needs.
 use Rattle.std.proofs.Common.{refl}
 use Rattle.tick_units.specs.Marks.{is_long}
 use Rattle.frame_rules.proofs.place_bits.PlaceBits.is_long.Goals as goal

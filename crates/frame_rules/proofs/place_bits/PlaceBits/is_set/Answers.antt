@@ -1,4 +1,4 @@
--- What the proof of `place_bits::PlaceBits::is_set` needs to be told.
+-- What the proof of `place_bits::PlaceBits::is_set` needs.
 use Rattle.std.proofs.Common.{not, refl, sym, ap, ◌∙◌}
 use Rattle.frame_rules.specs.Fields.{has_a, has_b}
 use Rattle.frame_rules.proofs.WordLaws.{only_with_a, only_without_a}

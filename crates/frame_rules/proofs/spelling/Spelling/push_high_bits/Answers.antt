@@ -1,4 +1,4 @@
--- What the proof of `spelling::Spelling::push_high_bits` needs to be told.
+-- What the proof of `spelling::Spelling::push_high_bits` needs.
 use Rattle.std.proofs.Common.{◌≡◌, suc, ◌-◌, append_assoc, arith}
 use Rattle.frame_rules.proofs.spelling.Spelling.push_high_bits.Goals as goal
 

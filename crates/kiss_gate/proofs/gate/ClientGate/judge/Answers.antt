@@ -1,4 +1,4 @@
--- What the proof of `gate::ClientGate::judge` needs to be told.
+-- What the proof of `gate::ClientGate::judge` needs.
 use Rattle.std.proofs.Common.{◌∙◌}
 use Rattle.kiss_gate.proofs.AloneLaws.{alone}
 use Rattle.kiss_gate.proofs.gate.ClientGate.judge.Goals as goal

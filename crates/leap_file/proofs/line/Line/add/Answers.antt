@@ -1,4 +1,4 @@
--- What the proof of `line::Line::add` needs to be told.
+-- What the proof of `line::Line::add` needs.
 use Rattle.std.proofs.Common.{ℕ, [], ◌∷◌, ◌++◌, ◌∙◌, sym, ap}
 use Rattle.std.proofs.lemmas.Bool.{ne_eqb}
 use Rattle.leap_file.specs.Parts.{next}

@@ -1,4 +1,4 @@
--- What the proof of `line::Line::says` needs to be told.
+-- What the proof of `line::Line::says` needs.
 use Rattle.std.proofs.Common.{◌∙◌, sym, ap, subst}
 use Rattle.std.specs.Str.Lines.{strip_carriage_return}
 use Rattle.leap_file.specs.Lines.{IsSaid}

@@ -1,4 +1,4 @@
--- What the proof of `reader::LeapReader::end_line` needs to be told.
+-- What the proof of `reader::LeapReader::end_line` needs.
 use Rattle.std.proofs.Common.{rules, ◌∙◌, refl, sym, ap}
 use Rattle.tick_units.specs.Log.{lines_of}
 use Rattle.leap_file.specs.declared.part.LeapLine.TheVariants.{Bad}

@@ -1,4 +1,4 @@
--- What the proof of `reader::LeapReader::finish` needs to be told.
+-- What the proof of `reader::LeapReader::finish` needs.
 use Rattle.std.proofs.Common.{rules}
 use Rattle.leap_file.proofs.ReaderLaws.{finishes}
 use Rattle.leap_file.proofs.reader.LeapReader.finish.Goals as goal

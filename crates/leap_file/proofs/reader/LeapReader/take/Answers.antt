@@ -1,4 +1,4 @@
--- What the proof of `reader::LeapReader::take` needs to be told.
+-- What the proof of `reader::LeapReader::take` needs.
 use Rattle.std.proofs.Common.{rules, refl}
 use Rattle.std.proofs.lemmas.Bool.{ne_eqb}
 use Rattle.leap_file.proofs.ReaderLaws.{stays_bad, line_on}

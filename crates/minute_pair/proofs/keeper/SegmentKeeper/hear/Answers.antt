@@ -1,4 +1,4 @@
--- What the proof of `keeper::SegmentKeeper::hear` needs to be told.
+-- What the proof of `keeper::SegmentKeeper::hear` needs.
 use Rattle.std.proofs.Common.{true, false, refl}
 use Rattle.minute_pair.proofs.KeptLaws.{boundary_is, heard_added, heard_begun, same_added, same_opened, segments_closed}
 use Rattle.minute_pair.proofs.keeper.SegmentKeeper.hear.Goals as goal

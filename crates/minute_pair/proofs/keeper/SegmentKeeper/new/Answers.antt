@@ -1,4 +1,4 @@
--- What the proof of `keeper::SegmentKeeper::new` needs to be told.
+-- What the proof of `keeper::SegmentKeeper::new` needs.
 use Rattle.std.proofs.Common.{[], refl}
 use Rattle.minute_pair.proofs.keeper.SegmentKeeper.new.Goals as goal
 

@@ -1,4 +1,4 @@
--- What the proof of `pairing::Pairing::hear` needs to be told.
+-- What the proof of `pairing::Pairing::hear` needs.
 use Rattle.std.proofs.Common.{ap, ◌∙◌}
 use Rattle.minute_pair.specs.Segments.{segments_of}
 use Rattle.minute_pair.specs.Pairing.{answer_by}

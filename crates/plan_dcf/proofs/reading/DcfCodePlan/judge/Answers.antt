@@ -1,4 +1,4 @@
--- What the proof of `reading::DcfCodePlan::judge` needs to be told.
+-- What the proof of `reading::DcfCodePlan::judge` needs.
 use Rattle.std.proofs.Common.{rules, ◌≡◌, Some}
 use Rattle.plan_dcf.specs.Rules.{first}
 use Rattle.plan_dcf.proofs.LeastRule.{first_is_least}

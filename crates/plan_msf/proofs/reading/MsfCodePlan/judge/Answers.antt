@@ -1,4 +1,4 @@
--- What the proof of `reading::MsfCodePlan::judge` needs to be told.
+-- What the proof of `reading::MsfCodePlan::judge` needs.
 use Rattle.std.proofs.Common.{rules, ◌≡◌, Some}
 use Rattle.plan_msf.specs.Rules.{first}
 use Rattle.plan_msf.proofs.LeastRule.{first_is_least}

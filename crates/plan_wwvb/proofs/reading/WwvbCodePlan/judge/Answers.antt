@@ -1,4 +1,4 @@
--- What the proof of `reading::WwvbCodePlan::judge` needs to be told.
+-- What the proof of `reading::WwvbCodePlan::judge` needs.
 use Rattle.std.proofs.Common.{rules, ◌≡◌, Some}
 use Rattle.plan_wwvb.specs.Rules.{first}
 use Rattle.plan_wwvb.proofs.LeastRule.{first_is_least}

@@ -1,4 +1,4 @@
--- What the proof of `line::Line::add` needs to be told.
+-- What the proof of `line::Line::add` needs.
 use Rattle.std.proofs.Common.{arith}
 use Rattle.std.proofs.lemmas.List.{length_push}
 use Rattle.pulse_log.proofs.FrontLaws.{other_dead}

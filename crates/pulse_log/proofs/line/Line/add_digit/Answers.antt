@@ -1,4 +1,4 @@
--- What the proof of `line::Line::add_digit` needs to be told.
+-- What the proof of `line::Line::add_digit` needs.
 use Rattle.std.proofs.Common.{◌<◌, ◌≤◌, ◌+◌, ◌*◌, ◌^◌, ℕ, List, [], ◌∷◌, ◌++◌, sym, ap, subst, arith}
 use Rattle.pulse_log.specs.Lines.{IsDead}
 use Rattle.pulse_log.proofs.FrontLaws.{start_push, zero_push, width_push, start_dead, zero_dead, width_dead}

@@ -1,4 +1,4 @@
--- What the proof of `line::Line::add_space` needs to be told.
+-- What the proof of `line::Line::add_space` needs.
 use Rattle.std.proofs.Common.{◌∙◌, decimal, sym, ap, arith}
 use Rattle.pulse_log.proofs.FrontLaws.{space_push, so_far_some, other_dead}
 use Rattle.pulse_log.proofs.line.Line.add_space.Goals as goal

@@ -1,4 +1,4 @@
--- What the proof of `line::Line::reduction` needs to be told.
+-- What the proof of `line::Line::reduction` needs.
 use Rattle.std.proofs.Common.{sym, arith}
 use Rattle.pulse_log.proofs.FrontLaws.{says_nothing, says_it}
 use Rattle.pulse_log.proofs.line.Line.reduction.Goals as goal

@@ -1,4 +1,4 @@
--- What the proof of `reader::LineReader::end_line` needs to be told.
+-- What the proof of `reader::LineReader::end_line` needs.
 use Rattle.std.proofs.Common.{◌≡◌, ℕ, ◌+◌, ◌∙◌, None, refl, sym, ap, arith}
 use Rattle.tick_units.specs.Log.{lines_of, pulses, reduction_of}
 use Rattle.pulse_log.specs.Reading.{least_after}

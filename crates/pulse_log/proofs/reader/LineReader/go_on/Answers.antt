@@ -1,4 +1,4 @@
--- What the proof of `reader::LineReader::go_on` needs to be told.
+-- What the proof of `reader::LineReader::go_on` needs.
 use Rattle.std.proofs.Common.{arith}
 use Rattle.std.proofs.lemmas.Bool.{ne_eqb}
 use Rattle.std.proofs.lemmas.List.{take_more}

@@ -1,4 +1,4 @@
--- What the proof of `reader::LineReader::take` needs to be told.
+-- What the proof of `reader::LineReader::take` needs.
 use Rattle.std.proofs.lemmas.Bool.{ne_eqb}
 use Rattle.std.proofs.Common.{refl, arith}
 use Rattle.pulse_log.proofs.ReaderLaws.{stays, reaches, goes_on}

@@ -1,4 +1,4 @@
--- What the proof of `reader::LineReader::take_whole` needs to be told.
+-- What the proof of `reader::LineReader::take_whole` needs.
 use Rattle.std.proofs.Common.{refl, arith}
 use Rattle.pulse_log.proofs.WholeLaws.{takes_whole}
 use Rattle.pulse_log.proofs.reader.LineReader.take_whole.Goals as goal

@@ -1,4 +1,4 @@
--- What the proof of `chain::Chain::hear` needs to be told.
+-- What the proof of `chain::Chain::hear` needs.
 use Rattle.std.proofs.Common.{◌∙◌, ◌+◌, ap, subst, sym}
 use Rattle.tick_units.specs.Marks.{marks_of}
 use Rattle.minute_pair.specs.Pairing.{HasPaired}

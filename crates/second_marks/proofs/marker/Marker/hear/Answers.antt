@@ -1,4 +1,4 @@
--- What the proof of `marker::Marker::hear` needs to be told.
+-- What the proof of `marker::Marker::hear` needs.
 use Rattle.std.proofs.Common.{sym, ◌∙◌}
 use Rattle.second_marks.proofs.MarkLaws.{held_on, marks_on}
 use Rattle.second_marks.proofs.marker.Marker.hear.Goals as goal

@@ -1,4 +1,4 @@
--- What the proof of `span::Span::squared_apart` needs to be told.
+-- What the proof of `span::Span::squared_apart` needs.
 use Rattle.std.proofs.Common.{rules, ◌≤◌}
 use Rattle.std.proofs.lemmas.Nat.{mul-le}
 use Rattle.tick_units.proofs.span.Span.squared_apart.Goals as goal

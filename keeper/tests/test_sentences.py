@@ -1,0 +1,239 @@
+"""A row for each sentence of the keeper that no other test looks at: what a person reads is the text itself."""
+
+import contextlib
+import errno
+import io
+import os
+import pathlib
+import signal
+import tempfile
+import time
+import types
+import unittest
+from unittest import mock
+
+from keeper import check, hosts, install, lateness, rules, state, status, steps, text
+from keeper.alarms import Alarms
+from keeper.config import Radio, Settings, judge
+from keeper.crew import Crew
+from keeper.feed import Feed
+from keeper.hosts import Level
+from keeper.journals import WAITING, Journals
+from keeper.keep import Keeper
+from keeper.lateness import Result
+from keeper.loop import Loop
+from keeper.marks import Look
+from keeper.runs import Run
+from keeper.state import LinkState, RadioState, RunState, State
+from keeper.tests.made_station import made_station
+from keeper.tests.test_keep import Kept
+from keeper.words import Fault
+
+WIDTHS = [100_000] * 9 + [200_000]
+
+
+def radio(kind: str, value: str) -> Radio:
+    return Radio(kind, value, "", 60.0, "dcf", 0.0)
+
+
+def said(call, *given) -> str:
+    """What a call writes to standard error."""
+    err = io.StringIO()
+    with contextlib.redirect_stderr(err):
+        call(*given)
+    return err.getvalue()
+
+
+class OfCheck(unittest.TestCase):
+    def test_marks(self):
+        for seen, plan, level, sentence in (
+            (Look(lines=4, edges=4), "dcf", Level.BAD, "its lines are edges: put `| feeders/edges_to_log.py` after the command"),
+            (Look(widths=WIDTHS, unit="microseconds", clock="monotonic", rate=40.0), "dcf", Level.BAD, "40.0 marks a second, widths 100.0 ms to 200.0 ms: noise, or another signal"),
+            (Look(widths=WIDTHS, unit="microseconds", clock="monotonic", rate=1.0), "dcf", Level.NOTE,
+             "1.0 marks a second, widths 100.0 ms to 200.0 ms: too few or too unsteady to say more; read it for longer with --seconds 60"),
+            (Look(widths=WIDTHS, unit="microseconds", clock="monotonic", rate=1.0, inverted=False, plans=["dcf"]), "dcf", Level.WELL,
+             "1.0 marks a second, widths 100.0 ms to 200.0 ms: marks of DCF77"),
+            (Look(widths=WIDTHS, unit="microseconds", clock="monotonic", rate=1.0, inverted=False), "msf", Level.NOTE,
+             "1.0 marks a second, widths 100.0 ms to 200.0 ms: marks of no plan that is known, and the station says MSF"),
+        ):
+            with self.subTest(sentence=sentence):
+                self.assertEqual(check.judge_marks(seen, plan), [(level, sentence)])
+
+    def test_a_keeper_that_runs_reads_the_receivers(self):
+        settings = mock.Mock(path="keeper.toml", radios=[])
+        out = io.StringIO()
+        with mock.patch.object(check.config, "load", return_value=settings), mock.patch.object(check, "judge_station", return_value=[]), mock.patch.object(
+            check.hosts, "look", return_value=[]
+        ), mock.patch.object(check, "keeper_runs", return_value=True), contextlib.redirect_stdout(out):
+            check.main(["--config", "keeper.toml"])
+        self.assertIn("well  keeper.toml: every key is known and in range\n", out.getvalue())
+        self.assertIn("note  a keeper runs and reads the receivers: `radio_keeper status` says how they are\n", out.getvalue())
+
+
+class OfTheHost(unittest.TestCase):
+    def setUp(self):
+        folder = tempfile.TemporaryDirectory()
+        self.addCleanup(folder.cleanup)
+        self.folder = folder.name
+
+    def test_a_port(self):
+        for number, level, sentence in (
+            (errno.EADDRINUSE, Level.BAD, "port 123 is taken: `ss -ulpn 'sport = 123'` says by whom; chronyd gives port 123 back with `port 0` in its file"),
+            (errno.ENOMEM, Level.BAD, f"port 123 can't be had: {os.strerror(errno.ENOMEM)}"),
+        ):
+            trial = mock.MagicMock()
+            trial.__enter__.return_value.bind.side_effect = OSError(number, os.strerror(number))
+            with mock.patch.object(hosts.socket, "socket", return_value=trial):
+                self.assertEqual(hosts.look_at_port(123), (level, sentence))
+
+    def test_a_source(self):
+        file = os.path.join(self.folder, "log")
+        open(file, "wb").close()
+        self.assertEqual(hosts.look_at_source(radio("fifo", file), 0), (Level.BAD, f"radio 0 (dcf): {file} is no FIFO: `mkfifo {file}` makes one"))
+        self.assertEqual(hosts.look_at_source(radio("command", "true | cat"), 0), (Level.WELL, "radio 0 (dcf): the programs of its command are there"))
+        with mock.patch.object(hosts.shutil, "which", return_value=None):
+            self.assertEqual(hosts.look_at_source(radio("command", "gpiomon gpiochip0 17"), 0), (Level.BAD, "radio 0 (dcf): there is no program gpiomon; `apt install gpiod` has it"))
+
+    def test_a_clock(self):
+        self.assertEqual(hosts.look_at_clock(self.folder), [(Level.NOTE, "the kernel doesn't say which clock source it has")])
+        for name, level, pattern in (("tsc", Level.WELL, r"the clock source is tsc; a reading takes \d+\.\d\d us"), ("hpet", Level.NOTE, r"the clock source is hpet, which is slow .* lists others")):
+            with open(os.path.join(self.folder, "current_clocksource"), "w", encoding="ascii") as file:
+                file.write(name + "\n")
+            (found, sentence), = hosts.look_at_clock(self.folder)
+            self.assertEqual(found, level)
+            self.assertRegex(sentence, f"^{pattern}$")
+
+    def test_a_folder(self):
+        self.assertRegex(hosts.look_at_folder(self.folder)[1], rf"^{self.folder} can be written, \d+ MB are free$")
+        with mock.patch.object(hosts.os, "access", return_value=False):
+            self.assertEqual(hosts.look_at_folder(self.folder), (Level.NOTE, f"you may not write into {self.folder}; the service's user has to"))
+
+    def test_commands(self):
+        with self.assertRaisesRegex(Fault, "^`sh -c exit 3` ended with 3$"):
+            steps.command("sh", "-c", "exit 3")
+        with mock.patch.object(steps, "LIMIT", 0.1), self.assertRaisesRegex(Fault, "^`sleep 9` isn't over after 0 s$"):
+            steps.command("sleep", "9")
+
+    def test_a_program_that_is_not_there(self):
+        with self.assertRaisesRegex(Fault, "there is no built program /nosuch: build it, or name it with --program"):
+            install.main(["--program", "/nosuch"])
+        self.assertTrue(install.next_words(install.Places("/", "/usr"), True).endswith("then `systemctl enable --now radio_ntpd`, then `radio_keeper status`"))
+
+    def test_a_program_that_does_not_judge(self):
+        program = os.path.join(self.folder, "program")
+        with open(program, "w", encoding="ascii") as file:
+            file.write("#!/bin/sh\nexec sleep 9\n")
+        os.chmod(program, 0o755)
+        with mock.patch("keeper.config.JUDGED", 0.1), self.assertRaisesRegex(Fault, "doesn't judge the station within 0 s"):
+            judge(mock.Mock(spec=Settings, program=program, station="station.toml"))
+
+
+class OfAState(unittest.TestCase):
+    def test_alarms_of_runs(self):
+        for cause, sentence in (("silent", "the run before didn't answer any more; run 2 follows"), ("link", "the run before had a link that failed; run 2 follows")):
+            alarms, now = Alarms(""), State(run=RunState(number=2, cause=cause))
+            alarms.run = 1
+            self.assertIn(f"alarm run-died: {sentence}\n", said(alarms.judge, now, 100.0))
+
+    def test_a_command_that_can_not_be_started(self):
+        alarms = Alarms("true")
+        said(alarms.raise_alarm, State(), "time-lost", "no link answers", 1.0)
+        with mock.patch("keeper.alarms.subprocess.Popen", side_effect=OSError(errno.EAGAIN, "too many")):
+            self.assertIn("the alarm's command can't be started: too many\n", said(alarms.turn, 1.0))
+
+    def test_texts_of_numbers(self):
+        self.assertEqual(rules.rule("dcf", "10")[1], "bit errors, or a signal that isn't DCF77")
+        self.assertEqual(rules.rule("msf", "41")[1], "two bit errors that the parity missed")
+        self.assertEqual(rules.declined("3")[1], "no request was outstanding: an answer that came twice or late")
+        self.assertEqual(rules.cause("reload"), "the files were read anew")
+        self.assertEqual(rules.reference("RATE", State()), "asked too often")
+        # Each rule of a plan and each reason has a name and a sentence, and each cause of a run its own.
+        for plan, numbers in (("dcf", (1, 2, 3, *range(10, 25))), ("msf", (1, 2, 3, *range(30, 43))), ("wwvb", (1, 2, 3, *range(50, 57), 58))):
+            for number in numbers:
+                self.assertTrue(all(rules.rule(plan, str(number))), (plan, number))
+        for number in range(1, 11):
+            self.assertTrue(all(rules.declined(str(number))), number)
+
+    def test_the_text_of_a_state(self):
+        now = 1_800_000_000.0
+        made = made_station(now)
+        made.radios[0].last_bad = "12 x"
+        made.links[0].leap = 1
+        shown = text.render(made, now)
+        for sentence in ("VERDICTS 1 H", "+1 s today", "its counter began 1.3 ms late (known within 5 us); pulses are moved by that", "  last bad line: 12 x\n"):
+            self.assertIn(sentence, shown)
+        made.leap_file.expires = 0.0
+        self.assertIn("doesn't say when it expires", text.render(made, now))
+
+    def test_a_state_of_another_version(self):
+        with self.assertRaisesRegex(ValueError, r"^it isn't of version \d+$"):
+            state.read('{"version": 0}')
+
+    def test_how_often_a_state_is_shown(self):
+        with self.assertRaises(SystemExit) as ended:
+            self.assertIn("--every is 0.2 to 3600 seconds", said(status.main, ["--every", "0.1"], "watch"))
+        self.assertEqual(ended.exception.code, 64)
+
+    def test_a_radio_that_wanders(self):
+        told = lateness.sentences(Result(90, 0.02, 0.001, 0.002, [(0.1, 0.018), (0.11, 0.02), (0.12, 0.022)]), "dcf", 0)
+        self.assertEqual(told[1], "it wanders with the signal: 18.00 ms with marks of 100 ms, 20.00 ms with marks of 110 ms, 22.00 ms with marks of 120 ms")
+
+
+class OfRuns(unittest.TestCase):
+    def test_a_run_that_begins_and_ends(self):
+        crew = types.SimpleNamespace(state=State(links=[LinkState(1)]), notify=mock.Mock(), journals=mock.Mock(keep=lambda *_: ""), hearings=mock.Mock(), alarms=mock.Mock())
+        run = mock.Mock(spec=Run, number=2, cause="cycle", since=1.0, reading=None, began=1.0, ended=41.0, why="died", own=[0], exit_status=-9, reason="", server=mock.Mock())
+        run.age.return_value = 0.006
+        self.assertIn("run 2 (cycle) serves after 6 ms; where its counter stands isn't known\n", said(Crew.note_begin, crew, run))
+        run.reading = mock.Mock(lag=1304.2, bound=12.0)
+        self.assertIn("run 2 (cycle) serves after 6 ms; its counter began 1304 us late, known within 12 us\n", said(Crew.note_begin, crew, run))
+        self.assertIn("run 2 ended (died) after 40 s: no status line, it ended with -9\n", said(Crew.note_end, crew, run, b""))
+
+    def test_a_run_that_nobody_answers_for(self):
+        run = types.SimpleNamespace(server=mock.Mock(status=lambda: None), settings=mock.Mock(links=[12300]))
+        self.assertRegex(Run.give_up(run), r"^nobody answers on port 12300 within \d+ s$")
+
+    def test_journals_that_are_lost(self):
+        sentences = []
+        with tempfile.TemporaryDirectory() as folder:
+            kept = Journals(os.path.join(folder, "file", "journals"), 3, sentences.append)
+            pathlib.Path(folder, "file").touch()
+            self.assertEqual(kept.keep(0.0, b"0 1 lone 2\n", [1]), "")
+            for number in range(WAITING + 1):
+                kept.keep(float(number), b"status 0\n", [1])
+        self.assertEqual(sentences[0], "the run of 19700101T000000Z ended without a status line: its journal is lost")
+        self.assertIn("the journal 19700101T000000Z is given up: the disk takes nothing", sentences)
+
+    def test_relays_that_have_ended(self):
+        run = mock.Mock(spec=Run, number=2, server=mock.Mock())
+        run.drain.return_value = True
+        keep = types.SimpleNamespace(crew=mock.Mock(), stopping=True, _use_next=lambda: None, _meanwhile=None)
+        self.assertIn("the relays have ended; they are started again\n", said(Keeper._end_run, keep, run, "link"))
+        keep.crew.pacing.renew.assert_called_once_with()
+
+
+class OfSources(unittest.TestCase):
+    def test_a_source_that_can_not_be_opened(self):
+        sentences, loop = [], Loop()
+        self.addCleanup(loop.close)
+        feed = Feed(loop, None, radio("file", "/nosuch"), RadioState(plan="dcf"), mock.Mock(), None, sentences.append)
+        self.addCleanup(feed.close)
+        feed.turn(time.monotonic())
+        self.assertEqual([one for one in sentences if "opened" in one], ["radio 0: its source can't be opened: No such file or directory; it is started again in 1 s"])
+
+
+class OfTheEnd(Kept):
+    def test_the_end_and_a_run_that_is_ended_at_once(self):
+        self.keep()
+        self.waits("run 1 has the time")
+        self.keeper.send_signal(signal.SIGTERM)
+        self.waits("the end was asked for")
+        self.keeper.send_signal(signal.SIGTERM)
+        self.assertIn(self.keeper.wait(60), (0, 1))
+        # It may have ended already when the second signal came.
+        if self.keeper.returncode:
+            self.assertIn("run 1 is ended at once: its journal is lost", self.text())
+
+
+if __name__ == "__main__":
+    unittest.main()
