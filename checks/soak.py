@@ -156,7 +156,7 @@ def soak(hours: float, cycle: int, killed: int, base: float) -> int:
                 began = time.monotonic()
                 met, runs = watched(kept, base, hours, killed, kills)
                 took = (time.monotonic() - began) / 3600
-                report = judge(met, runs, kills, began)
+                report = judge(met, runs, kills, began, cycle)
                 report.faults += ended(kept)
             finally:
                 pathlib.Path(os.environ.get("SOAK_SAID", os.devnull)).write_text(kept.text())

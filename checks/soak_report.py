@@ -3,13 +3,13 @@
 All moments are seconds of the monotonic clock, all spans seconds.
 """
 
-from dataclasses import dataclass, field
+from dataclasses import dataclass, field, replace
 
 from kept_bounds import CHANGE, KILLED, NOTHING, bound
 
-# A span belongs to a kill, or to a change of run, where it begins at most so long before it and after it. A run that is ended is first used up, which is its change's
-# doing; clients are answered meanwhile.
-REACH = {"kill": (0.1, 6.0), "change": (2.0, 2.0)}
+EARLY = 0.1  # a span that an event has made may begin so long before it: the request before it may be lost too
+# How long after a kill that begins no run a span may be its doing, and how long after a run's beginning.
+AFTER_KILL, AFTER_BEGIN = 6.0, 2.0
 NEAR = 2.0  # what stalled an echo so shortly before a span, in it or after it may have made it longer
 
 
@@ -20,10 +20,9 @@ class Kind:
     name: str
     silent: float
     untimed: float
-    reach: tuple[float, float] = REACH["kill"]
 
 
-CHANGED = Kind("change of run", *CHANGE, REACH["change"])
+CHANGED = Kind("change of run", *CHANGE)
 SERVER, RECEIVER, RELAYS = Kind("kill of the server", *KILLED), Kind("kill of a receiver", *NOTHING), Kind("kill of the relays", *CHANGE)
 KILLS = (SERVER, RECEIVER, RELAYS)
 # Why a run begins, and by which kill alone that is as it should be.
@@ -32,15 +31,17 @@ CAUSES = {"died": SERVER, "link": RELAYS}
 
 @dataclass(frozen=True)
 class Event:
-    """One of them, at a moment."""
+    """One of them. It begins at a moment, and lasts until the next run has begun, where there is one: the old one is used up first, which takes a
+    second, and longer on a busy machine."""
 
     kind: Kind
     at: float
+    run: float | None = None  # when the run began that it led to
 
     def has(self, at: float) -> bool:
         """Whether a span that begins at this moment may be its doing."""
-        before, after = self.kind.reach
-        return self.at - before <= at <= self.at + after
+        until = self.at + AFTER_KILL if self.run is None else self.run + AFTER_BEGIN
+        return self.at - EARLY <= at <= until
 
 
 @dataclass
@@ -64,17 +65,22 @@ class Report:
     faults: list[str] = field(default_factory=list)
 
 
-def events_of(runs: dict[int, tuple[str, float]], kills: list[Event]) -> tuple[list[Event], list[str]]:
-    """All events: the kills, and the runs that began without one. `runs` has the cause and the moment of each run's beginning, by its
-    number. The second are sentences on runs that began without a reason."""
+def events_of(runs: dict[int, tuple[str, float]], kills: list[Event], cycle: float) -> tuple[list[Event], list[str]]:
+    """All events: the kills, and the runs that began because one was over. `runs` has the cause and the moment of each run's beginning, by its
+    number; a run lasts `cycle` seconds. The second are sentences on runs that began without a reason."""
     events, faults = list(kills), []
     for number, (cause, at) in sorted(runs.items()):
-        if number - 1 not in runs and number > min(runs):
+        before = runs.get(number - 1, ("", 0.0))[1]
+        if not before and number > min(runs):
             faults.append(f"run {number - 1} lasted less than a second")
         if cause == "cycle":
-            events.append(Event(CHANGED, at))
-        elif cause != "start" and not any(kill.kind is CAUSES.get(cause) and kill.has(at) for kill in kills):
-            faults.append(f"run {number} began ({cause}), and nothing had been killed")
+            events.append(Event(CHANGED, min(at, before + cycle) if before else at, at))
+        elif cause != "start":
+            found = [place for place, one in enumerate(events) if one.kind is CAUSES.get(cause) and before <= one.at <= at]
+            if found:
+                events[found[-1]] = replace(events[found[-1]], run=at)
+            else:
+                faults.append(f"run {number} began ({cause}), and nothing had been killed")
     return events, faults
 
 
@@ -83,9 +89,9 @@ def stalled_near(met: dict, at: float, seconds: float) -> float:
     return max((stall for second, stall in met["stalls"] if at - NEAR - 1 <= second <= at + seconds + NEAR), default=0.0)
 
 
-def judge(met: dict, runs: dict[int, tuple[str, float]], kills: list[Event], began: float) -> Report:
-    """What a client met in a soak that began at this moment. `met` is what kept_client.py prints."""
-    events, faults = events_of(runs, kills)
+def judge(met: dict, runs: dict[int, tuple[str, float]], kills: list[Event], began: float, cycle: float) -> Report:
+    """What a client met in a soak that began at this moment, of runs that last `cycle` seconds. `met` is what kept_client.py prints."""
+    events, faults = events_of(runs, kills, cycle)
     report = Report(met, {kind.name: Cost(sum(one.kind is kind for one in events)) for kind in (CHANGED, *KILLS)}, faults=faults)
     if met["wrong"]:
         report.faults.append(f"{met['wrong']} answers had a wrong time")
@@ -127,7 +133,7 @@ def lines(report: Report) -> list[str]:
             f"{met['wrong']} wrong; {met['error'] * 1e3:.2f} ms off at most"]
     for kind in (CHANGED, *KILLS):
         cost = report.costs[kind.name]
-        said.append(f"  {kind.name}, {cost.events} times: {_words(cost)}; {kind.silent * 1000:.0f} and {kind.untimed * 1000:.0f} ms are allowed on a quiet machine")
+        said.append(f"  {kind.name} ({cost.events}): {_words(cost)}; {kind.silent * 1000:.0f} and {kind.untimed * 1000:.0f} ms are allowed on a quiet machine")
     return said + [f"  at other times: {_words(report.other)}; none is allowed"]
 
 

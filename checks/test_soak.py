@@ -14,7 +14,8 @@ from kept_client import EPOCH, WHOLE, Client, Spans, Stalls  # noqa: E402
 from soak_report import CHANGED, RECEIVER, RELAYS, SERVER, Event, judge, lines, stalled_near, verdict  # noqa: E402
 
 BEGAN = 1000.0
-RUNS = {1: ("start", 990.0), 2: ("cycle", 1600.0), 3: ("died", 1900.2)}
+CYCLE = 600.0
+RUNS = {1: ("start", 999.0), 2: ("cycle", 1600.0), 3: ("died", 1900.2)}
 KILLS = [Event(SERVER, 1900.0), Event(RECEIVER, 2500.0)]
 
 
@@ -25,7 +26,7 @@ def met(silences=(), untimes=(), wrong=0, stalls=()):
 
 class Verdicts(unittest.TestCase):
     def judged(self, runs=RUNS, kills=KILLS, **what):
-        return judge(met(**what), runs, kills, BEGAN)
+        return judge(met(**what), runs, kills, BEGAN, CYCLE)
 
     def test_nothing_missing(self):
         report = self.judged()
@@ -42,7 +43,7 @@ class Verdicts(unittest.TestCase):
         self.assertEqual(report.faults, [])
         cost = report.costs[CHANGED.name]
         self.assertEqual((cost.unanswered, cost.untimed, cost.silence, cost.untime), (3, 9, 0.03, 0.09))
-        self.assertIn("  change of run, 1 times: 3 without an answer, 6 more without the time, for 30 and 90 ms at most; "
+        self.assertIn("  change of run (1): 3 without an answer, 6 more without the time, for 30 and 90 ms at most; "
                       "50 and 100 ms are allowed on a quiet machine", lines(report))
 
     def test_beyond_the_bound_of_a_change(self):
@@ -57,8 +58,7 @@ class Verdicts(unittest.TestCase):
         self.assertEqual(report.costs[CHANGED.name].unanswered, 0)
 
     def test_a_kill_counts_before_a_change_of_run(self):
-        runs = {**RUNS, 4: ("cycle", 1901.0)}
-        report = self.judged(runs, silences=[(1900.5, 0.2, 20)])
+        report = self.judged({**RUNS, 3: ("died", 1600.9)}, [Event(SERVER, 1600.5)], silences=[(1600.6, 0.2, 20)])
         self.assertEqual((report.costs[SERVER.name].unanswered, report.faults), (20, []))
 
     def test_a_receiver_that_is_killed_costs_nothing(self):
@@ -91,6 +91,15 @@ class Verdicts(unittest.TestCase):
                 self.assertEqual(report.faults, [f"run 4 began ({cause}), and nothing had been killed"])
         self.assertEqual(self.judged({**RUNS, 4: ("link", 2801.0)}, [*KILLS, Event(RELAYS, 2800.0)]).faults, [])
         self.assertEqual(len(self.judged({**RUNS, 4: ("died", 2801.0)}, [*KILLS, Event(RELAYS, 2800.0)]).faults), 1)
+
+    def test_an_event_lasts_until_its_run_has_begun(self):
+        """On a busy machine a run that ends may need half a minute until it is used up."""
+        runs, kills = {**RUNS, 4: ("link", 2830.0), 5: ("cycle", 3450.0)}, [*KILLS, Event(RELAYS, 2800.0)]
+        report = self.judged(runs, kills, silences=[(at, 0.03, 3) for at in (2799.95, 2825.0, 2831.9, 3431.0)])
+        self.assertEqual(report.faults, [])
+        self.assertEqual((report.costs[RELAYS.name].unanswered, report.costs[CHANGED.name].unanswered), (9, 3))
+        report = self.judged(runs, kills, silences=[(at, 0.03, 3) for at in (2799.8, 2833.0, 3429.0, 3453.0)])
+        self.assertEqual(len(report.faults), 4)
 
     def test_a_run_that_nobody_saw(self):
         self.assertEqual(self.judged({**RUNS, 5: ("cycle", 2400.0)}).faults, ["run 4 lasted less than a second"])

@@ -95,7 +95,7 @@ def note_requests(state: State, heard: list[int], own: list[int], seconds: float
 
 
 def move(state: State, step: float) -> None:
-    """The host's clock was set forward by this number of seconds: the moments that this keeper took by it are moved. The pictures of the day stay."""
+    """The host's clock was set forward by this number of seconds: the moments that this keeper took by it are moved. The pictures of the day stay, but for what lies ahead now."""
     state.alarms = [dataclasses.replace(one, at=one.at + step) if one.at >= state.keeper_since else one for one in state.alarms]
     state.keeper_since += step
     for part, names in [(state.run, ("since",)), *((one, ("pulse_at", "minute_at")) for one in state.radios), *((one, ("sample_at", "answered_at")) for one in state.servers)]:

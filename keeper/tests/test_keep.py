@@ -60,6 +60,15 @@ def descendants(process):
     return found[1:]
 
 
+def asked(port):
+    """What a link answers to one request."""
+    with socket.socket(socket.AF_INET, socket.SOCK_DGRAM) as client:
+        client.connect(("127.0.0.1", port))
+        client.settimeout(2)
+        client.send(ntp.request(7))
+        return client.recv(100)
+
+
 class Kept(unittest.TestCase):
     def setUp(self):
         folder = tempfile.TemporaryDirectory()
@@ -95,11 +104,7 @@ class Kept(unittest.TestCase):
 
     def ask(self):
         """An answer that has the time, within a second of the host's."""
-        with socket.socket(socket.AF_INET, socket.SOCK_DGRAM) as client:
-            client.connect(("127.0.0.1", self.port))
-            client.settimeout(2)
-            client.send(ntp.request(7))
-            said = ntp.answer(client.recv(100))
+        said = ntp.answer(asked(self.port))
         self.assertTrue(said.has_time())
         self.assertLess(abs(ntp.unix_of(said.transmit, time.time()) - time.time()), 0.5)
 
