@@ -2,7 +2,7 @@
 """Spoils good files by chance, runs the program over each, and judges what it writes and how it ends by checks/grammar.py. It shares no
 code with the program.
 
-    torture.py COUNT SECONDS [SEED]     COUNT spoilt files of each kind, as far as the seconds go
+    torture.py COUNT SECONDS [SEED]     COUNT fuzzed files of each kind, as far as the seconds go
     torture.py --one KIND NUMBER [SEED] writes one of them, for a look at what went wrong
 
 A kind is a log of a plan, a script, a station, or a journal of either form. A file has the same spoils wherever it is made: they hang

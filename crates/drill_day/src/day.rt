@@ -42,7 +42,7 @@ fn add_log(
     Ok(())
 }
 
-/// The logs of a day, made up in memory: one of each plan, in the order DCF77, MSF, WWVB. Their jitter and their spoilt minutes
+/// The logs of a day, made up in memory: one of each plan, in the order DCF77, MSF, WWVB. Their jitter and their damaged minutes
 /// come from the seed. Each has at most three million bytes.
 ///
 /// Fails where memory runs out.

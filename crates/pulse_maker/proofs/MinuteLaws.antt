@@ -1,4 +1,4 @@
--- The symbols of a minute, one of which may be spoilt.
+-- The symbols of a minute, one of which may be damaged.
 use Rattle.std.proofs.Common.{◌≡◌, ℕ, zero, suc, List, [], ◌∷◌, refl, ap, take}
 use Rattle.std.specs.Prelude.{set}
 

@@ -1,5 +1,5 @@
 -- What a made log says at each of its seconds, before the first minute and after the last. Minutes are as PTB (DCF77), NPL (MSF)
--- and NIST (SP 432, WWVB) spell them, one after another. The choice of spoilt minutes is this project's own.
+-- and NIST (SP 432, WWVB) spell them, one after another. The choice of damaged minutes is this project's own.
 use Rattle.std.specs.Prelude.{ℕ, ◌+◌, ◌*◌, ◌%◌, Bool, false, not, ◌&&◌, ◌==◌, List, [], ◌∷◌, ◌++◌, set, if◌then◌else◌}
 use Rattle.std.specs.List.{flat_map, range_with_len}
 use Rattle.tick_units.specs.declared.marks.Plan.{Plan}
@@ -12,7 +12,7 @@ use Rattle.plan_msf.specs.Spelling.{spelt as msf_spelt}
 use Rattle.plan_wwvb.specs.Spelling.{spelt as wwvb_spelt}
 use Rattle.pulse_maker.specs.declared.seconds.Second.{Second}
 
--- a minute of the log, counted from 0, is spoilt: every 50th, but never the first of all
+-- a minute of the log, counted from 0, is damaged: every 50th, but never the first of all
 abbrev pub is_spoilt : ℕ → ℕ → Bool
 is_spoilt seed minute = not (minute == 0) && minute % 50 == seed % 50
 
@@ -25,7 +25,7 @@ spelt_by Dcf c = dcf_spelt c
 spelt_by Msf c = msf_spelt c
 spelt_by Wwvb c = wwvb_spelt c
 
--- in a spoilt minute the width of place 30 is in no class
+-- in a damaged minute the width of place 30 is in no class
 abbrev pub spoilt_if : Bool → List Symbol → List Symbol
 spoilt_if spoilt symbols = if spoilt then set symbols 30 Odd else symbols
 

@@ -1,5 +1,5 @@
 //! Makes pulse logs: what a receiver would have received from a sender that sends a run of minutes. The starts jitter, and some
-//! of the minutes have a spoilt second.
+//! of the minutes have a damaged second.
 #![tactic(auto)]
 
 mod jitter;

@@ -19,7 +19,7 @@ fn index_of(minute: u32) -> u32
 }
 
 /// Writes the log of this many minutes, the first of which begins at the absolute second `first`, and gives the number of its
-/// lines. Its jitter and its spoilt minutes come from the seed.
+/// lines. Its jitter and its damaged minutes come from the seed.
 ///
 /// `first` is a whole minute from 2000-01-02 00:00 to 2099-12-30 00:00 UTC, and there are at most as many minutes as a day has.
 /// Failed where a write failed: the sink's count rose, and what was written is a prefix of the log.

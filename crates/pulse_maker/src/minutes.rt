@@ -7,10 +7,10 @@ use tick_units::{Coded, Plan, Symbol};
 /// One more than the number of symbols of the longest frame.
 pub const FRAME_ROOM: usize = 61;
 
-// The place whose width is in no class in a spoilt minute.
+// The place whose width is in no class in a damaged minute.
 const SPOILT_PLACE: usize = 30;
 
-// Whether a minute, counted from 0, is spoilt.
+// Whether a minute, counted from 0, is damaged.
 fn is_spoilt(seed: u32, minute: u32) -> bool
     ensures { result ≡ is_spoilt seed minute }
 {

@@ -31,7 +31,7 @@ fn a_second_in_two_parts(rt: HostRuntime) -> Result<(), Fail> {
     Ok(())
 }
 
-// Every fiftieth minute is spoilt, beginning with the seed's own one; the first of all never is.
+// Every fiftieth minute is damaged, beginning with the seed's own one; the first of all never is.
 #[test]
 fn a_minute_is_spoilt_by_the_seed(rt: HostRuntime) {
     for (seed, minute, spoilt) in [
