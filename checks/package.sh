@@ -50,6 +50,12 @@ grep -q 'radio_keeper check' "$work/installed" || wrong "the next step isn't sai
 for page in man1/radio_keeper.1 man5/radio_ntpd.toml.5 man8/radio_ntpd.8; do
     gzip -t "$host/usr/share/man/$page.gz" || wrong "there is no page $page"
 done
+# Each link of a page to another page or picture leads to one that is installed.
+for page in "$host"/usr/share/doc/radio-ntpd/*.md "$host"/usr/share/doc/radio-ntpd/docs/*.md; do
+    for link in $(grep -oE '\]\([^)#:]+\.(md|svg|png)' "$page" | sed 's/^..//'); do
+        [ -e "$(dirname "$page")/$link" ] || wrong "$(basename "$page") leads to $link, which is not installed"
+    done
+done
 
 # A receiver in software, with eight minutes of history, in the place of one on a pin.
 mkdir -p "$host/opt/bench" "$host/opt/checks"

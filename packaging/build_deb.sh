@@ -25,8 +25,10 @@ find "$package/usr/share/man" -type f -exec gzip -9 -n {} +
 mkdir -p "$package/usr/share/doc/radio-ntpd"
 gzip -9 -n -c packaging/debian/changelog > "$package/usr/share/doc/radio-ntpd/changelog.gz"
 cp packaging/debian/copyright "$package/usr/share/doc/radio-ntpd/"
-# The program is packed as it was built and proved, with its symbols.
-cp docs/FIRST_EVENING.md docs/KEEPER.md docs/OPERATING.md docs/FORMATS.md docs/CODE_PLANS.md docs/THREATS.md "$package/usr/share/doc/radio-ntpd/"
+# The program is packed as it was built and proved, with its symbols. All pages lie as they do here, since they link to each other.
+cp README.md CHANGELOG.md CONTRIBUTING.md "$package/usr/share/doc/radio-ntpd/"
+mkdir "$package/usr/share/doc/radio-ntpd/docs"
+cp -r docs/*.md docs/pictures "$package/usr/share/doc/radio-ntpd/docs/"
 
 size=$(du -sk "$package" | cut -f 1)
 sed -e "s/@VERSION@/$version/; s/@ARCHITECTURE@/$architecture/; s/@SIZE@/$size/" packaging/debian/control > "$package/DEBIAN/control"
