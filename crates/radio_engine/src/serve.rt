@@ -105,11 +105,11 @@ fn serve_open<R: Threads + Wait + Sync, O: Outside>(
     requires blank { AreBlank stands_for least_start station.now.radios kit.receivers.items }
     requires gear { IsWhole station.now kit.gear }
     requires gate { O.gate_out outside.old ≡ false }
-    requires out { AreOut (O.state outside.old).openings (numbers_of (λ log. O.Log.opening log)
-        (λ net. O.Net.opening net) kit.gear) }
+    requires out { AreOut (O.state outside.old).openings (numbers_of O.Log.opening
+        O.Net.opening kit.gear) }
     ensures gate { O.gate_out outside.new ≡ O.gate_out outside.old }
-    ensures served { let logs = seen (λ log. O.Log.state log) (λ log. O.Log.opening log) in
-        let sights = sights_of logs (seen (λ net. O.Net.state net) (λ net. O.Net.opening net)) in
+    ensures served { let logs = seen O.Log.state O.Log.opening in
+        let sights = sights_of logs (seen O.Net.state O.Net.opening) in
         MatchResult result
         (λ done. let Left = LeavesAll sights station.now orders kit.gear done in
         GivesServed sights Left (O.state outside.old) (O.state outside.new))

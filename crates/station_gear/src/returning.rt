@@ -9,9 +9,9 @@ use feed_link::Outside;
 
 // Gives back logs, in order.
 fn give_back_logs<O: Outside>(outside: &mut O, logs: Vec<O::Log>)
-    requires { AreOut (O.state outside.old).openings (map (λ log. O.Log.opening log) logs.items) }
+    requires { AreOut (O.state outside.old).openings (map O.Log.opening logs.items) }
     ensures back { GivesAllBack (O.state outside.old) (O.state outside.new) (map
-        (λ log. O.Log.opening log) logs.items) (log_states (λ log. O.Log.state log) logs.items) }
+        O.Log.opening logs.items) (log_states O.Log.state logs.items) }
     ensures gate { O.gate_out outside.new ≡ O.gate_out outside.old }
 {
     for log in logs {
@@ -21,9 +21,9 @@ fn give_back_logs<O: Outside>(outside: &mut O, logs: Vec<O::Log>)
 
 // Gives back a log, where there is one.
 fn give_back_leap<O: Outside>(outside: &mut O, leap: Option<O::Log>)
-    requires { AreOut (O.state outside.old).openings (map (λ log. O.Log.opening log) (option_to_list leap)) }
+    requires { AreOut (O.state outside.old).openings (map O.Log.opening (option_to_list leap)) }
     ensures back { GivesAllBack (O.state outside.old) (O.state outside.new) (map
-        (λ log. O.Log.opening log) (option_to_list leap)) (log_states (λ log. O.Log.state log) (option_to_list leap)) }
+        O.Log.opening (option_to_list leap)) (log_states O.Log.state (option_to_list leap)) }
     ensures gate { O.gate_out outside.new ≡ O.gate_out outside.old }
 {
     if let Some(log) = leap {
@@ -33,9 +33,9 @@ fn give_back_leap<O: Outside>(outside: &mut O, leap: Option<O::Log>)
 
 // Gives back links, in order.
 fn give_back_links<O: Outside>(outside: &mut O, links: Vec<O::Net>)
-    requires { AreOut (O.state outside.old).openings (map (λ net. O.Net.opening net) links.items) }
+    requires { AreOut (O.state outside.old).openings (map O.Net.opening links.items) }
     ensures back { GivesAllBack (O.state outside.old) (O.state outside.new) (map
-        (λ net. O.Net.opening net) links.items) (link_states (λ net. O.Net.state net) links.items) }
+        O.Net.opening links.items) (link_states O.Net.state links.items) }
     ensures gate { O.gate_out outside.new ≡ O.gate_out outside.old }
 {
     for link in links {
@@ -45,10 +45,10 @@ fn give_back_links<O: Outside>(outside: &mut O, links: Vec<O::Net>)
 
 /// Gives back all logs and links of a gear, in the order in which they were opened.
 pub fn give_back_gear<O: Outside>(outside: &mut O, gear: Gear<O::Log, O::Net>)
-    requires { AreOut (O.state outside.old).openings (numbers_of (λ log. O.Log.opening log)
-        (λ net. O.Net.opening net) gear) }
-    ensures back { GivesAllBack (O.state outside.old) (O.state outside.new) (numbers_of (λ log. O.Log.opening log)
-        (λ net. O.Net.opening net) gear) (states_of (λ log. O.Log.state log) (λ net. O.Net.state net) gear) }
+    requires { AreOut (O.state outside.old).openings (numbers_of O.Log.opening
+        O.Net.opening gear) }
+    ensures back { GivesAllBack (O.state outside.old) (O.state outside.new) (numbers_of O.Log.opening
+        O.Net.opening gear) (states_of O.Log.state O.Net.state gear) }
     ensures gate { O.gate_out outside.new ≡ O.gate_out outside.old }
 {
     let Gear {

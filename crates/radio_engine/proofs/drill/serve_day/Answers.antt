@@ -11,7 +11,7 @@ use Rattle.radio_engine.proofs.drill.serve_day.Goals as goal
 pub returns-in-Ok-clause-drilled : goal.returns-in-Ok-clause-drilled
 returns-in-Ok-clause-drilled g c =
     let ended = c.in-Ok.ended in
-    drilled (λ log. 0) (λ net. g.O.Net.Link.state net) (λ net. g.O.Net.Link.opening net) c.args.orders c.args.seed c.args.kit.gear
+    drilled (λ log. 0) g.O.Net.Link.state g.O.Net.Link.opening c.args.orders c.args.seed c.args.kit.gear
     (done_of ended) ended.gear c.requires.gear
-    (subst (λ (of : StationFields). LeavesAll (sights_of (seen sure_state (λ log. 0)) (seen (λ net. g.O.Net.Link.state net) (λ net. g.O.Net.Link.opening net))) of c.args.orders c.args.kit.gear (done_of ended) ended.gear)
+    (subst (λ (of : StationFields). LeavesAll (sights_of (seen sure_state (λ log. 0)) (seen g.O.Net.Link.state g.O.Net.Link.opening)) of c.args.orders c.args.kit.gear (done_of ended) ended.gear)
     c.requires.station c.in-Ok.ensures.served)

@@ -19,7 +19,7 @@ returns-in-Ok-clause-tried g c =
     let of_logs : vec_len gear.logs ≡ length gear.logs.items = search rules in
     let of_servers : vec_len gear.servers ≡ length gear.servers.items = search rules in
     let of_links : vec_len gear.links ≡ length gear.links.items = search rules in
-    tries_serve (λ log. g.O.Log.Source.state log) (λ log. g.O.Log.Source.opening log) (λ net. g.O.Net.Link.state net) (λ net. g.O.Net.Link.opening net) c.args.station.now c.args.orders _ _ _ gear
+    tries_serve g.O.Log.Source.state g.O.Log.Source.opening g.O.Net.Link.state g.O.Net.Link.opening c.args.station.now c.args.orders _ _ _ gear
     of_logs of_servers of_links c.in-Ok.ensures.places c.in-Ok.ensures.opened c.serve_open.result c.serve_open.ensures.served
 
 pub returns-in-Err-clause-tried : goal.returns-in-Err-clause-tried
@@ -29,5 +29,5 @@ returns-in-Err-clause-tried g c =
     let of_servers : vec_len gear.servers ≡ length gear.servers.items = search rules in
     let of_links : vec_len gear.links ≡ length gear.links.items = search rules in
     subst (λ what. CannotServe c.args.station.now (g.O.Outside.state c.args.outside.now) (g.O.Outside.state c.give_back_gear.new.outside) (NotOpened what)) (sym c.subject_of.ensures)
-    (cannot_open (λ log. g.O.Log.Source.state log) (λ log. g.O.Log.Source.opening log) (λ net. g.O.Net.Link.state net) (λ net. g.O.Net.Link.opening net) c.args.station.now _ _ _ gear
+    (cannot_open g.O.Log.Source.state g.O.Log.Source.opening g.O.Net.Link.state g.O.Net.Link.opening c.args.station.now _ _ _ gear
     of_logs of_servers of_links c.in-Err.missing c.in-Err.ensures.opened c.in-Err.ensures.places c.give_back_gear.ensures.back)

@@ -8,6 +8,6 @@ pub returns-in-Ok-clause-served : goal.returns-in-Ok-clause-served
 returns-in-Ok-clause-served g c = record {
   now = c.in-Ok.ended.gear;
   left = c.in-Ok.ensures.served;
-  gives = subst (λ s. GivesAllBack s (g.O.Outside.state c.give_back_gear.new.outside) (numbers_of (λ log. g.O.Log.Source.opening log) (λ net. g.O.Net.Link.opening net) c.in-Ok.ended.gear) (states_of (λ log. g.O.Log.Source.state log) (λ net. g.O.Net.Link.state net) c.in-Ok.ended.gear))
+  gives = subst (λ s. GivesAllBack s (g.O.Outside.state c.give_back_gear.new.outside) (numbers_of g.O.Log.Source.opening g.O.Net.Link.opening c.in-Ok.ended.gear) (states_of g.O.Log.Source.state g.O.Net.Link.state c.in-Ok.ended.gear))
       c.serve_gated.ensures.same c.give_back_gear.ensures.back;
 }

@@ -18,7 +18,7 @@ number-requires-in-Err-open_links g c =
       c.len-in-Err-open_links.ensures,
       c.radios-radios.ensures.bounds.ports,
       stops_within _ _ _ _ _ c.in-Err-open_links.ensures.opened,
-      length-map c.open_links.new.links.items (λ x. g.O.Net.Link.opening x),
+      length-map c.open_links.new.links.items g.O.Net.Link.opening,
       length-map c.args.station.now.links (λ port. LinkAt port c.args.station.now.top.start),
     )
 
@@ -26,10 +26,10 @@ pub returns-in-Err-clause-opened : goal.returns-in-Err-clause-opened
 returns-in-Err-clause-opened g c =
     let size : length c.open_logs.new.logs.items ≡ vec_len c.open_logs.new.logs = search rules in
     log_fails c.args.station.now _ _ _ _ _ _ _ _ _ _ c.in-Err.ensures.opened
-    (ap (λ o. map (λ x. g.O.Log.Source.opening x) (option_to_list o)) c.requires.no_leap) (ap (λ o. map (λ x. OfLog (g.O.Log.Source.state x)) (option_to_list o)) c.requires.no_leap)
-    (ap (map (λ x. g.O.Net.Link.opening x)) c.requires.no_server) (ap (map (λ x. OfLink (g.O.Net.Link.state x))) c.requires.no_server)
-    (ap (map (λ x. g.O.Net.Link.opening x)) c.requires.no_link) (ap (map (λ x. OfLink (g.O.Net.Link.state x))) c.requires.no_link)
-    c.number.result (c.number.ensures ∙ c.len.ensures ∙ sym size ∙ sym (length-map c.open_logs.new.logs.items (λ x. g.O.Log.Source.opening x)))
+    (ap (λ o. map g.O.Log.Source.opening (option_to_list o)) c.requires.no_leap) (ap (λ o. map (λ x. OfLog (g.O.Log.Source.state x)) (option_to_list o)) c.requires.no_leap)
+    (ap (map g.O.Net.Link.opening) c.requires.no_server) (ap (map (λ x. OfLink (g.O.Net.Link.state x))) c.requires.no_server)
+    (ap (map g.O.Net.Link.opening) c.requires.no_link) (ap (map (λ x. OfLink (g.O.Net.Link.state x))) c.requires.no_link)
+    c.number.result (c.number.ensures ∙ c.len.ensures ∙ sym size ∙ sym (length-map c.open_logs.new.logs.items g.O.Log.Source.opening))
 
 pub number-requires-in-Err-open_servers : goal.number-requires-in-Err-open_servers
 number-requires-in-Err-open_servers g c =
@@ -42,16 +42,16 @@ number-requires-in-Err-open_servers g c =
       c.radios-radios.ensures.value,
       c.len-in-Err-open_servers.ensures,
       stops_within _ _ _ _ _ c.in-Err-open_servers.ensures.opened,
-      length-map c.open_servers.new.servers.items (λ x. g.O.Net.Link.opening x),
+      length-map c.open_servers.new.servers.items g.O.Net.Link.opening,
       length-map c.args.station.now.servers (λ server. LinkAt 0 c.args.station.now.top.start),
     )
 
 pub returns-in-Err-open_leap-clause-opened : goal.returns-in-Err-open_leap-clause-opened
 returns-in-Err-open_leap-clause-opened g c =
     leap_fails c.args.station.now _ _ _ _ _ _ _ _ _ _ (g.O.Outside.state c.open_logs.new.outside) c.in_default.ensures.opened c.in-Err-open_leap.ensures.opened
-    (ap (λ o. map (λ x. g.O.Log.Source.opening x) (option_to_list o)) c.requires.no_leap) (ap (λ o. map (λ x. OfLog (g.O.Log.Source.state x)) (option_to_list o)) c.requires.no_leap)
-    (ap (map (λ x. g.O.Net.Link.opening x)) c.requires.no_server) (ap (map (λ x. OfLink (g.O.Net.Link.state x))) c.requires.no_server)
-    (ap (map (λ x. g.O.Net.Link.opening x)) c.requires.no_link) (ap (map (λ x. OfLink (g.O.Net.Link.state x))) c.requires.no_link)
+    (ap (λ o. map g.O.Log.Source.opening (option_to_list o)) c.requires.no_leap) (ap (λ o. map (λ x. OfLog (g.O.Log.Source.state x)) (option_to_list o)) c.requires.no_leap)
+    (ap (map g.O.Net.Link.opening) c.requires.no_server) (ap (map (λ x. OfLink (g.O.Net.Link.state x))) c.requires.no_server)
+    (ap (map g.O.Net.Link.opening) c.requires.no_link) (ap (map (λ x. OfLink (g.O.Net.Link.state x))) c.requires.no_link)
 
 pub returns-in-Err-open_servers-clause-opened : goal.returns-in-Err-open_servers-clause-opened
 returns-in-Err-open_servers-clause-opened g c =
@@ -59,18 +59,18 @@ returns-in-Err-open_servers-clause-opened g c =
     let size : length c.open_servers.new.servers.items ≡ vec_len c.open_servers.new.servers = search rules in
     server_fails c.args.station.now _ _ _ _ _ _ _ _ _ _ (g.O.Outside.state c.open_logs.new.outside) (g.O.Outside.state c.open_leap.new.outside)
     c.in_default.ensures.opened c.in-Ok.ensures.opened c.in-Err-open_servers.ensures.opened
-    (ap (map (λ x. g.O.Net.Link.opening x)) c.requires.no_link) (ap (map (λ x. OfLink (g.O.Net.Link.state x))) c.requires.no_link)
+    (ap (map g.O.Net.Link.opening) c.requires.no_link) (ap (map (λ x. OfLink (g.O.Net.Link.state x))) c.requires.no_link)
     c.number-in-Err-open_servers.result
     (c.number-in-Err-open_servers.ensures ∙ ap (λ n. n + c.len-in-Err-open_servers.result) (sym log_size)
-    ∙ ap (λ n. length (map (λ x. g.O.Log.Source.opening x) c.open_logs.new.logs.items) + n)
-    (c.len-in-Err-open_servers.ensures ∙ sym size ∙ sym (length-map c.open_servers.new.servers.items (λ x. g.O.Net.Link.opening x))))
+    ∙ ap (λ n. length (map g.O.Log.Source.opening c.open_logs.new.logs.items) + n)
+    (c.len-in-Err-open_servers.ensures ∙ sym size ∙ sym (length-map c.open_servers.new.servers.items g.O.Net.Link.opening)))
 
 pub returns-in-Err-open_links-clause-opened : goal.returns-in-Err-open_links-clause-opened
 returns-in-Err-open_links-clause-opened g c =
     let size : length c.open_links.new.links.items ≡ vec_len c.open_links.new.links = search rules in
     link_fails c.args.station.now _ _ _ _ _ _ _ _ _ _ (g.O.Outside.state c.open_logs.new.outside) (g.O.Outside.state c.open_leap.new.outside) (g.O.Outside.state c.open_servers.new.outside)
     c.in_default.ensures.opened c.in-Ok.ensures.opened c.in_default-open_servers.ensures.opened c.in-Err-open_links.ensures.opened c.number-in-Err-open_links.result
-    (c.number-in-Err-open_links.ensures ∙ c.len-in-Err-open_links.ensures ∙ sym size ∙ sym (length-map c.open_links.new.links.items (λ x. g.O.Net.Link.opening x)))
+    (c.number-in-Err-open_links.ensures ∙ c.len-in-Err-open_links.ensures ∙ sym size ∙ sym (length-map c.open_links.new.links.items g.O.Net.Link.opening))
 
 pub returns-clause-opened : goal.returns-clause-opened
 returns-clause-opened g c =

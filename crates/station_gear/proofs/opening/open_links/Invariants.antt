@@ -7,7 +7,7 @@ use Rattle.station_gear.proofs.opening.open_links.Given as goal
 
 abbrev pub invariant-loop-row : goal.invariant-loop-row
 invariant-loop-row g l = record {
-  openings : HoldsOpenings (links_needed l.station) (map (λ x. g.O.Net.Link.opening x) l.links.items) (link_states (λ x. g.O.Net.Link.state x) l.links.items)
+  openings : HoldsOpenings (links_needed l.station) (map g.O.Net.Link.opening l.links.items) (link_states g.O.Net.Link.state l.links.items)
       (g.O.Outside.state l.fn.outside) (g.O.Outside.state l.outside) None;
   room : length l.station.links ≤ vec_capacity l.links;
   gate : g.O.Outside.gate_out l.outside ≡ g.O.Outside.gate_out l.fn.outside;

@@ -7,7 +7,7 @@ use Rattle.station_gear.proofs.opening.open_logs.Given as goal
 
 abbrev pub invariant-loop-radio : goal.invariant-loop-radio
 invariant-loop-radio g l = record {
-  openings : HoldsOpenings (logs_needed l.station) (map (λ x. g.O.Log.Source.opening x) l.logs.items) (log_states (λ x. g.O.Log.Source.state x) l.logs.items)
+  openings : HoldsOpenings (logs_needed l.station) (map g.O.Log.Source.opening l.logs.items) (log_states g.O.Log.Source.state l.logs.items)
       (g.O.Outside.state l.fn.outside) (g.O.Outside.state l.outside) None;
   room : length l.station.radios ≤ vec_capacity l.logs;
   gate : g.O.Outside.gate_out l.outside ≡ g.O.Outside.gate_out l.fn.outside;

@@ -7,7 +7,7 @@ use Rattle.station_gear.proofs.opening.open_servers.Given as goal
 
 abbrev pub invariant-loop-servers : goal.invariant-loop-servers
 invariant-loop-servers g l = record {
-  openings : HoldsOpenings (servers_needed l.station) (map (λ x. g.O.Net.Link.opening x) l.servers.items) (link_states (λ x. g.O.Net.Link.state x) l.servers.items)
+  openings : HoldsOpenings (servers_needed l.station) (map g.O.Net.Link.opening l.servers.items) (link_states g.O.Net.Link.state l.servers.items)
       (g.O.Outside.state l.fn.outside) (g.O.Outside.state l.outside) None;
   room : length l.station.servers ≤ vec_capacity l.servers;
   gate : g.O.Outside.gate_out l.outside ≡ g.O.Outside.gate_out l.fn.outside;

@@ -8,10 +8,10 @@ use Rattle.station_gear.proofs.returning.give_back_logs.Given as goal
 
 abbrev pub invariant-loop-log : goal.invariant-loop-log
 invariant-loop-log g l = record {
-  out : AreOut (g.O.Outside.state l.outside).openings (map (λ x. g.O.Log.Source.opening x) (into_iter_items l.log-iterator));
+  out : AreOut (g.O.Outside.state l.outside).openings (map g.O.Log.Source.opening (into_iter_items l.log-iterator));
   back : (later : OutsideState) →
-      GivesAllBack (g.O.Outside.state l.outside) later (map (λ x. g.O.Log.Source.opening x) (into_iter_items l.log-iterator)) (log_states (λ x. g.O.Log.Source.state x) (into_iter_items l.log-iterator)) →
-      GivesAllBack (g.O.Outside.state l.initial.outside) later (map (λ x. g.O.Log.Source.opening x) (into_iter_items l.initial.log-iterator)) (log_states (λ x. g.O.Log.Source.state x) (into_iter_items l.initial.log-iterator));
+      GivesAllBack (g.O.Outside.state l.outside) later (map g.O.Log.Source.opening (into_iter_items l.log-iterator)) (log_states g.O.Log.Source.state (into_iter_items l.log-iterator)) →
+      GivesAllBack (g.O.Outside.state l.initial.outside) later (map g.O.Log.Source.opening (into_iter_items l.initial.log-iterator)) (log_states g.O.Log.Source.state (into_iter_items l.initial.log-iterator));
   size : length (into_iter_items l.log-iterator) ≡ into_iter_len l.log-iterator;
   gate : g.O.Outside.gate_out l.outside ≡ g.O.Outside.gate_out l.initial.outside;
 }
