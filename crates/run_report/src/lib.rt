@@ -1,12 +1,13 @@
-// The message of a run: what its last line, its arguments and its files say, put together and written on standard error.
-use crate::arguments::{Argument, read_arguments, value_of};
-use crate::fault_line::toml_line;
-use crate::message::{Detail, Place, Report};
-use crate::outcome::{DONE_LINE, Kind, Subject, TOML_LINE, subject_of};
-use crate::texts::{NO_MEMORY_LINE, NO_MINUTE};
-use crate::watched::Watched;
-use crate::widths::{SAMPLE_BYTES, bad_line_text, no_minute_text};
+//! The message of a run on standard error: what its last line, its arguments and its files say, put together and written. No
+//! clause speaks of it, and a closed standard error changes nothing.
+#![tactic(auto)]
+
 use feed_link::Refusal;
+use standard_error::{
+    Argument, DONE_LINE, Detail, Kind, NO_MEMORY_LINE, NO_MINUTE, Place, Report, SAMPLE_BYTES,
+    Subject, TOML_LINE, Watched, bad_line_text, no_minute_text, read_arguments, subject_of,
+    toml_line, value_of,
+};
 use station_config::{Station, read_station};
 use std::alloc::{AllocError, Global};
 use std::fs::{self, Files};
