@@ -14,13 +14,11 @@ ghost use Rattle.file_commands.specs.Writing.{Answers};
 ghost use Rattle.file_commands.specs.declared.ending.Ending.TheVariants.{NoMemory};
 ghost use Rattle.file_commands.specs.declared.ending.status.Status.{Status};
 
-mod report;
-
 use feed_link::{HostOutside, Outside, Sink, StreamSink};
 use radio_engine::{Status, end_without_memory, run_station};
 use radio_receiver::{DcfReceiver, MsfReceiver, Receiver, WwvbReceiver};
 use receiver_rack::put_in_rack;
-use report::write_report;
+use run_report::write_report;
 use standard_error::Watched;
 use std::alloc::{AllocError, Global};
 use std::env;

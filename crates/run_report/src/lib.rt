@@ -1,4 +1,6 @@
-//! What a person needs to know of a run, on standard error. No clause speaks of it, and a closed standard error changes nothing.
+//! The message of a run on standard error: what its last line, its arguments and its files say, put together and written. No
+//! clause speaks of it, and a closed standard error changes nothing.
+#![tactic(auto)]
 
 use feed_link::Refusal;
 use standard_error::{
@@ -8,8 +10,8 @@ use standard_error::{
 };
 use station_config::{Station, read_station};
 use std::alloc::{AllocError, Global};
-use std::fs;
-use std::io::{Read, Write};
+use std::fs::{self, Files};
+use std::io::{Eprint, Read, Write};
 use std::net::Ipv4Addr;
 
 // The most bytes of a station file.
@@ -66,8 +68,8 @@ fn place_in(alloc: Global, station: &Station, subject: Subject<'_>) -> Option<Pl
 }
 
 // The first bytes of the file that an option names. A pipe is not read a second time, since it gives its bytes once.
-fn beginning_of(
-    rt: &HostRuntime,
+fn beginning_of<R: Files + AllocGlobal>(
+    rt: &R,
     arguments: &[Argument<'_>],
     option: &str,
     most: u64,
@@ -83,7 +85,11 @@ fn beginning_of(
 }
 
 // What the station of the arguments calls the subject of the last line.
-fn find_place(rt: &HostRuntime, arguments: &[Argument<'_>], last_line: &str) -> Option<Place> {
+fn find_place<R: Files + AllocGlobal>(
+    rt: &R,
+    arguments: &[Argument<'_>],
+    last_line: &str,
+) -> Option<Place> {
     let subject = subject_of(last_line)?;
     let text = beginning_of(rt, arguments, "station", STATION_BYTES)?;
     let station = read_station(rt.alloc(), text.as_slice()).ok()?;
@@ -91,13 +97,13 @@ fn find_place(rt: &HostRuntime, arguments: &[Argument<'_>], last_line: &str) -> 
 }
 
 // The line in which the station of the arguments stops being TOML.
-fn find_toml_line(rt: &HostRuntime, arguments: &[Argument<'_>]) -> Option<usize> {
+fn find_toml_line<R: Files + AllocGlobal>(rt: &R, arguments: &[Argument<'_>]) -> Option<usize> {
     let text = beginning_of(rt, arguments, "station", STATION_BYTES)?;
     toml_line(rt.alloc(), text.as_slice())
 }
 
 // Why a log gave no minute, where the arguments ask to decode one.
-fn find_hint(rt: &HostRuntime, arguments: &[Argument<'_>]) -> Option<&'static str> {
+fn find_hint<R: Files + AllocGlobal>(rt: &R, arguments: &[Argument<'_>]) -> Option<&'static str> {
     let plan = value_of(arguments, "plan")?;
     match beginning_of(rt, arguments, "log", SAMPLE_BYTES) {
         Some(log) => Some(no_minute_text(rt.alloc(), plan, log.as_slice())),
@@ -106,13 +112,17 @@ fn find_hint(rt: &HostRuntime, arguments: &[Argument<'_>]) -> Option<&'static st
 }
 
 // Why the log of the arguments has a bad line, where its widths give a reason.
-fn find_unit(rt: &HostRuntime, arguments: &[Argument<'_>]) -> Option<&'static str> {
+fn find_unit<R: Files + AllocGlobal>(rt: &R, arguments: &[Argument<'_>]) -> Option<&'static str> {
     let log = beginning_of(rt, arguments, "log", SAMPLE_BYTES)?;
     bad_line_text(rt.alloc(), log.as_slice())
 }
 
 // What the last line names, or why a line of a log is not valid.
-fn find_fault(rt: &HostRuntime, arguments: &[Argument<'_>], last_line: &str) -> Option<Detail> {
+fn find_fault<R: Files + AllocGlobal>(
+    rt: &R,
+    arguments: &[Argument<'_>],
+    last_line: &str,
+) -> Option<Detail> {
     if last_line.starts_with(BAD_LOG) && value_of(arguments, "plan").is_some() {
         return Some(Detail::Hint(find_unit(rt, arguments)?));
     }
@@ -120,8 +130,8 @@ fn find_fault(rt: &HostRuntime, arguments: &[Argument<'_>], last_line: &str) -> 
 }
 
 // What the files of a run say beside its last line. `has_minute` is whether a minute was written.
-fn find_detail(
-    rt: &HostRuntime,
+fn find_detail<R: Files + AllocGlobal>(
+    rt: &R,
     arguments: &[Argument<'_>],
     last_line: &str,
     has_minute: bool,
@@ -139,8 +149,8 @@ fn find_detail(
 }
 
 // Writes the message, where there is memory for it.
-fn try_report<W: Write + Drop>(
-    rt: &HostRuntime,
+fn try_report<R: Files + AllocGlobal + Eprint, W: Write + Drop>(
+    rt: &R,
     words: &[String],
     are_text: bool,
     refusal: Option<Refusal>,
@@ -162,8 +172,8 @@ fn try_report<W: Write + Drop>(
 
 /// Writes on standard error what a person needs to know of a run that has ended: what is wrong, where that can be named, or the
 /// help. Where there is not enough memory for it, the message says only that.
-pub fn write_report<W: Write + Drop>(
-    rt: &HostRuntime,
+pub fn write_report<R: Files + AllocGlobal + Eprint, W: Write + Drop>(
+    rt: &R,
     words: &Result<Vec<String>, AllocError>,
     are_text: bool,
     refusal: Option<Refusal>,
