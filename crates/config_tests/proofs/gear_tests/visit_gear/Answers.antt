@@ -1,7 +1,7 @@
--- What the search leaves open of `tests::visit_gear`.
+-- What the search leaves open of `gear_tests::visit_gear`.
 use Rattle.station_gear.specs.Gears.{wanted_by}
 use Rattle.station_gear.proofs.GearLaws.{all_visited, are_out, gear_held, gear_sizes, same_numbers}
-use Rattle.station_gear.proofs.tests.visit_gear.Goals as goal
+use Rattle.config_tests.proofs.gear_tests.visit_gear.Goals as goal
 
 pub give_back_gear-requires-after_bounds : goal.give_back_gear-requires-after_bounds
 give_back_gear-requires-after_bounds g c κs within =

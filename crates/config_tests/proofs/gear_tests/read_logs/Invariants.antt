@@ -1,7 +1,7 @@
--- What stays true in the loop of `tests::read_logs`.
+-- What stays true in the loop of `gear_tests::read_logs`.
 use Rattle.std.proofs.Common.{◌≡◌, map}
 use Rattle.std.specs.Prelude.{vec_len}
-use Rattle.station_gear.proofs.tests.read_logs.Given as goal
+use Rattle.config_tests.proofs.gear_tests.read_logs.Given as goal
 
 abbrev pub invariant-loop-place : goal.invariant-loop-place
 invariant-loop-place g l = record {

@@ -1,7 +1,7 @@
--- What stays true in the loop of `tests::hear_links`.
+-- What stays true in the loop of `gear_tests::hear_links`.
 use Rattle.std.proofs.Common.{◌≡◌, map}
 use Rattle.std.specs.Prelude.{vec_len}
-use Rattle.station_gear.proofs.tests.hear_links.Given as goal
+use Rattle.config_tests.proofs.gear_tests.hear_links.Given as goal
 
 abbrev pub invariant-loop-place : goal.invariant-loop-place
 invariant-loop-place g l = record {

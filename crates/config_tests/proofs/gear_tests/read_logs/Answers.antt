@@ -1,7 +1,7 @@
--- What the search leaves open of `tests::read_logs`.
+-- What the search leaves open of `gear_tests::read_logs`.
 use Rattle.std.proofs.Common.{rules, ◌≡◌, ◌∙◌, ap, sym, get_or}
 use Rattle.std.proofs.Math.Seq.{map-set_same}
-use Rattle.station_gear.proofs.tests.read_logs.Goals as goal
+use Rattle.config_tests.proofs.gear_tests.read_logs.Goals as goal
 
 pub loop-place-preserved : goal.loop-place-preserved
 loop-place-preserved g c =

@@ -1,18 +1,13 @@
-//! The messages, row by row.
-use crate::{
+//! The messages on standard error, row by row.
+use crate::shared::same;
+use feed_link::Refusal;
+use standard_error::{
     Detail, Place, Report, Watched, bad_line_text, no_minute_text, read_arguments, toml_line,
 };
-use feed_link::Refusal;
 use std::alloc::Global;
-use std::fmt::Debug;
 use std::io::Write;
 use std::process::Abort;
 use std::test::Fail;
-
-// What `assert_eq!` does, as a call: where a test has many, calls are proved in a third of the time.
-fn same<T: PartialEq + Debug + Drop>(rt: &impl Abort, left: T, right: T) {
-    assert_eq!(*rt; left, right);
-}
 
 // The message about a run with these arguments.
 fn said(
@@ -59,12 +54,17 @@ serve --station=a --station=b|status 1 usage|--station is given twice
 |status 1 usage|SEED      0 to 4294967295
 --version|status 1 usage|radio_ntpd 0.3.0";
 
-#[test]
-fn arguments_that_ask_for_nothing_are_told(rt: HostRuntime) -> Result<(), Fail> {
-    for row in ARGUMENTS.split('\n') {
-        look(&rt, rt.alloc(), row)?;
+// Looks at each row.
+fn look_at_all(rt: &impl Abort, alloc: Global, rows: &str) -> Result<(), Fail> {
+    for row in rows.split('\n') {
+        look(rt, alloc, row)?;
     }
     Ok(())
+}
+
+#[test]
+fn arguments_that_ask_for_nothing_are_told(rt: HostRuntime) -> Result<(), Fail> {
+    look_at_all(&rt, rt.alloc(), ARGUMENTS)
 }
 
 const STATUSES: &str =
@@ -87,10 +87,7 @@ serve --station b.toml|status 10 long station|the station file (b.toml) has more
 
 #[test]
 fn each_status_has_its_sentence(rt: HostRuntime) -> Result<(), Fail> {
-    for row in STATUSES.split('\n') {
-        look(&rt, rt.alloc(), row)?;
-    }
-    Ok(())
+    look_at_all(&rt, rt.alloc(), STATUSES)
 }
 
 // A place of a station.
@@ -101,56 +98,44 @@ fn place(alloc: Global, name: &str, is_leap_file: bool) -> Result<Detail, Fail> 
     }))
 }
 
+// The message about a run of this command, by its last line, is this text.
+fn says(
+    rt: &impl Abort,
+    alloc: Global,
+    word: &str,
+    last_line: &str,
+    refusal: Refusal,
+    detail: Detail,
+    text: &str,
+) -> Result<(), Fail> {
+    let text_said = said(alloc, word, last_line, refusal, detail)?;
+    same(rt, text_said.as_str(), text);
+    Ok(())
+}
+
 #[test]
 fn what_the_files_say_is_named(rt: HostRuntime) -> Result<(), Fail> {
     let alloc = rt.alloc();
     let link = place(alloc, "port 123", false)?;
-    let text = said(
-        alloc,
-        "serve",
-        "status 2 open link 0",
-        Refusal::NoRight,
-        link,
-    )?;
-    same(
-        &rt,
-        text.as_str(),
-        "radio_ntpd: cannot open link 0 (port 123): a port below 1024 needs a right\n",
-    );
+    let text = "radio_ntpd: cannot open link 0 (port 123): a port below 1024 needs a right\n";
+    let last = "status 2 open link 0";
+    says(&rt, alloc, "serve", last, Refusal::NoRight, link, text)?;
     let list = place(alloc, "list", true)?;
-    let text = said(
-        alloc,
-        "serve",
-        "status 10 long feed 3",
-        Refusal::Other,
-        list,
-    )?;
-    same(
-        &rt,
-        text.as_str(),
-        "radio_ntpd: feed 3 (list) has more than 65536 bytes\n",
-    );
+    let text = "radio_ntpd: feed 3 (list) has more than 65536 bytes\n";
+    let last = "status 10 long feed 3";
+    says(&rt, alloc, "serve", last, Refusal::Other, list, text)?;
+    let hint = Detail::Hint("it is odd");
+    let text = "radio_ntpd: the log gave no minute: it is odd\n";
+    says(&rt, alloc, "decode", "status 0", Refusal::Other, hint, text)?;
+    let none = Detail::Nothing;
+    says(&rt, alloc, "drill", "status 0", Refusal::Other, none, "")?;
     let line = Detail::TomlLine(12);
-    let text = said(
-        alloc,
-        "serve",
-        "status 3 station toml",
-        Refusal::Other,
-        line,
-    )?;
+    let last = "status 3 station toml";
+    let text = said(alloc, "serve", last, Refusal::Other, line)?;
     assert!(rt;
         text.as_str()
             .starts_with("radio_ntpd: the station file: line 12 is not TOML, ")
     );
-    let hint = Detail::Hint("it is odd");
-    let text = said(alloc, "decode", "status 0", Refusal::Other, hint)?;
-    same(
-        &rt,
-        text.as_str(),
-        "radio_ntpd: the log gave no minute: it is odd\n",
-    );
-    let text = said(alloc, "drill", "status 0", Refusal::Other, Detail::Nothing)?;
-    same(&rt, text.as_str(), "");
     Ok(())
 }
 

@@ -1,7 +1,7 @@
--- What the search leaves open of `tests::hear_links`.
+-- What the search leaves open of `gear_tests::hear_links`.
 use Rattle.std.proofs.Common.{rules, ◌≡◌, ◌∙◌, ap, sym, get_or}
 use Rattle.std.proofs.Math.Seq.{map-set_same}
-use Rattle.station_gear.proofs.tests.hear_links.Goals as goal
+use Rattle.config_tests.proofs.gear_tests.hear_links.Goals as goal
 
 pub loop-place-preserved : goal.loop-place-preserved
 loop-place-preserved g c =

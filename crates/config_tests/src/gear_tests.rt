@@ -7,22 +7,16 @@ ghost use Rattle.feed_link.specs.Openings.Wanted.{LogOf};
 ghost use Rattle.station_gear.specs.Gears.{IsEmptyFor, wanted_by};
 ghost use Rattle.station_gear.specs.Opens.{failing_of};
 
-use crate::{Gear, Missing, give_back_gear, open_gear};
+use crate::tests::same;
 use feed_link::{
     Address, Failed, Hearing, Link, MemoryLink, MemoryOutside, MemorySource, NamedLog, OpenGate,
     Outside, Planned, Source,
 };
 use station_config::{Station, read_station};
+use station_gear::{Gear, Missing, give_back_gear, open_gear};
 use std::alloc::Global;
-use std::fmt::Debug;
-use std::process::Abort;
 use std::test::Fail;
 use tick_units::Local;
-
-// What `assert_eq!` does, as a call: where a test has many, calls are proved in a third of the time.
-fn same<T: PartialEq + Debug + Drop>(rt: &impl Abort, left: T, right: T) {
-    assert_eq!(*rt; left, right);
-}
 
 const STATION: &str = r#"start = 7000
 [[radio]]
@@ -265,59 +259,61 @@ fn visit_station(alloc: Global, text: &str, second: &str, failing: u64) -> Resul
     })
 }
 
-#[test]
-fn all_are_opened_in_order_and_come_back_to_their_places(rt: HostRuntime) -> Result<(), Fail> {
-    let visited = visit_station(rt.alloc(), STATION, "b.log", 0)?;
-    same(&rt, visited.answer, Ok(()));
-    same(&rt, visited.calls.as_str(), ALL);
-    same(&rt, visited.seen.as_str(), "66 65 31 32 33 ");
-    same(&rt, visited.counts, [Some(1); 3]);
+// All of a station is opened, with these calls, and this is seen of it.
+fn opens_all(rt: &HostRuntime, text: &str, calls: &str, seen: &str) -> Result<(), Fail> {
+    let visited = visit_station(rt.alloc(), text, "b.log", 0)?;
+    same(rt, visited.answer, Ok(()));
+    same(rt, visited.calls.as_str(), calls);
+    same(rt, visited.seen.as_str(), seen);
+    same(rt, visited.counts, [Some(1); 3]);
+    Ok(())
+}
+
+// The opening that fails, what is missing then, and what is seen of the rest.
+fn stops_so(rt: &HostRuntime, text: &str, rows: &[(u64, Missing, &str)]) -> Result<(), Fail> {
+    for (failing, missing, seen) in rows {
+        let visited = visit_station(rt.alloc(), text, "b.log", *failing)?;
+        same(rt, visited.answer, Err(*missing));
+        same(rt, visited.seen.as_str(), *seen);
+    }
     Ok(())
 }
 
 #[test]
+fn all_are_opened_in_order_and_come_back_to_their_places(rt: HostRuntime) -> Result<(), Fail> {
+    opens_all(&rt, STATION, ALL, "66 65 31 32 33 ")
+}
+
+const STOPS: [(u64, Missing, &str); 5] = [
+    (2, Missing::Feed(0), ""),
+    (3, Missing::Feed(1), "66 "),
+    (4, Missing::Feed(2), "66 65 "),
+    (5, Missing::Link(0), "66 65 31 "),
+    (6, Missing::Link(1), "66 65 31 32 "),
+];
+
+#[test]
 fn it_stops_at_the_first_that_fails(rt: HostRuntime) -> Result<(), Fail> {
-    let table = [
-        (2, Missing::Feed(0), ""),
-        (3, Missing::Feed(1), "66 "),
-        (4, Missing::Feed(2), "66 65 "),
-        (5, Missing::Link(0), "66 65 31 "),
-        (6, Missing::Link(1), "66 65 31 32 "),
-    ];
-    for (failing, missing, seen) in table {
-        let visited = visit_station(rt.alloc(), STATION, "b.log", failing)?;
-        same(&rt, visited.answer, Err(missing));
-        same(&rt, visited.seen.as_str(), seen);
-    }
-    Ok(())
+    stops_so(&rt, STATION, &STOPS)
 }
 
 #[test]
 fn a_leap_second_file_is_opened_behind_the_logs(rt: HostRuntime) -> Result<(), Fail> {
     let text = listed(rt.alloc())?;
-    let visited = visit_station(rt.alloc(), text.as_str(), "b.log", 0)?;
-    same(&rt, visited.answer, Ok(()));
-    same(&rt, visited.calls.as_str(), ALL_LISTED);
-    same(&rt, visited.seen.as_str(), "66 65 76 31 32 33 ");
-    same(&rt, visited.counts, [Some(1); 3]);
-    Ok(())
+    opens_all(&rt, text.as_str(), ALL_LISTED, "66 65 76 31 32 33 ")
 }
+
+const STOPS_LISTED: [(u64, Missing, &str); 4] = [
+    (3, Missing::Feed(1), "66 "),
+    (4, Missing::LeapFile, "66 65 "),
+    (5, Missing::Feed(2), "66 65 76 "),
+    (6, Missing::Link(0), "66 65 76 31 "),
+];
 
 #[test]
 fn it_stops_at_the_first_that_fails_with_a_leap_second_file(rt: HostRuntime) -> Result<(), Fail> {
-    let table = [
-        (3, Missing::Feed(1), "66 "),
-        (4, Missing::LeapFile, "66 65 "),
-        (5, Missing::Feed(2), "66 65 76 "),
-        (6, Missing::Link(0), "66 65 76 31 "),
-    ];
     let text = listed(rt.alloc())?;
-    for (failing, missing, seen) in table {
-        let visited = visit_station(rt.alloc(), text.as_str(), "b.log", failing)?;
-        same(&rt, visited.answer, Err(missing));
-        same(&rt, visited.seen.as_str(), seen);
-    }
-    Ok(())
+    stops_so(&rt, text.as_str(), &STOPS_LISTED)
 }
 
 #[test]

@@ -1,10 +1,10 @@
--- What the search leaves open of `tests::visit`.
+-- What the search leaves open of `gear_tests::visit`.
 use Rattle.std.proofs.Common.{refl}
 use Rattle.feed_link.specs.Openings.{log_visit}
 use Rattle.feed_link.proofs.OpeningLaws.{opened_once, out_after}
 use Rattle.station_gear.specs.Gears.{wanted_by}
 use Rattle.station_gear.proofs.GearLaws.{visited_before}
-use Rattle.station_gear.proofs.tests.visit.Goals as goal
+use Rattle.config_tests.proofs.gear_tests.visit.Goals as goal
 
 pub give_back_log-requires : goal.give_back_log-requires
 give_back_log-requires g c = out_after _ _ _ _ _ _ c.in-Ok.ensures.opened c.in-Ok.ensures.number refl
