@@ -139,8 +139,7 @@ fn a_leap_second_of_one_frame_is_not_believed(rt: HostRuntime) {
 fn two_that_differ()
     ensures later { agreed_leap 3644697600 3692217600 ≡ 0 }
     ensures former { agreed_leap 3692217600 3644697600 ≡ 0 }
-{
-}
+{}
 
 #[test]
 fn two_leap_seconds_that_differ_are_not_believed(_rt: HostRuntime) {

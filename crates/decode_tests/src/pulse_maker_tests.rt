@@ -91,8 +91,7 @@ fn a_log_ends_where_a_write_fails(rt: HostRuntime) -> Result<(), Fail> {
 fn is_in_two_parts()
     ensures text { text_from Msf (seeded Msf 7) (record { index = 2; symbol = OnlyB } ∷ []) ≡ codes "7000673 100000\n7200673 100000\n" }
     ensures lines { length (reductions_of Msf (seeded Msf 7) (record { index = 2; symbol = OnlyB } ∷ [])) ≡ 2 }
-{
-}
+{}
 
 #[test]
 fn a_second_in_two_parts(_rt: HostRuntime) {

@@ -166,12 +166,7 @@ fn a_dropped_datagram_is_not_judged(rt: HostRuntime) -> Result<(), Fail> {
 #[test]
 fn the_table_is_handed_on(rt: HostRuntime) -> Result<(), Fail> {
     let gate = gate_of(rt.alloc(), &DenyList::new(), 1000)?;
-    let (first, gate) = serve_all(
-        &rt,
-        gate,
-        &[(CLIENT, 100, 0x23, 48)],
-        &[(CLIENT, "INIT")],
-    )?;
+    let (first, gate) = serve_all(&rt, gate, &[(CLIENT, 100, 0x23, 48)], &[(CLIENT, "INIT")])?;
     same(&rt, (first.answered, first.kissed), (1, 0));
     let (second, _) = serve_all(
         &rt,

@@ -38,12 +38,7 @@ struct Listed {
 impl Work for Listed {
     type Done = LogWork;
 
-    fn run<N: HubName, R: Wait>(
-        self,
-        rt: &R,
-        hub: &Hub<N>,
-        pass: FeedPass,
-    ) -> (LogWork, FeedPass) {
+    fn run<N: HubName, R: Wait>(self, rt: &R, hub: &Hub<N>, pass: FeedPass) -> (LogWork, FeedPass) {
         let mut worker = LeapWorker::new(self.log, moment(5_000_000), pass);
         let work = worker.run(rt, hub, &OpenGate::new());
         (work, worker.give_back().1)

@@ -118,7 +118,11 @@ const LATE_BOTH: &str =
 // The last line closes the second minute. Its line feed is the last byte that a log may have, or the one after it.
 #[test]
 fn a_byte_past_the_limit_is_too_long(rt: HostRuntime) -> Result<(), Fail> {
-    let end = two_frames(rt.alloc(), 1_000_000_100_000_000, "1000000222000000 100000\n")?;
+    let end = two_frames(
+        rt.alloc(),
+        1_000_000_100_000_000,
+        "1000000222000000 100000\n",
+    )?;
     let whole = Shape {
         front: "1000000000 2000000\n",
         lines: 42_949_557,

@@ -132,9 +132,9 @@ pub fn run_alone<W: Work>(
     let Ok(parts) = PageCell::open(alloc, &settings, 1) else {
         return Err("memory")?;
     };
-    let Some((done, journal)) =
-        in_hub::<Brand, HostRuntime, W>(rt, alloc, parts, &settings, limit, work)
-    else {
+    let Some((done, journal)) = in_hub::<Brand, HostRuntime, W>(
+        rt, alloc, parts, &settings, limit, work,
+    ) else {
         return Err("memory")?;
     };
     Ok(Ran {

@@ -6,8 +6,8 @@ ghost use Rattle.system_fold.specs.Settings.{AreLawful};
 
 use crate::shared::{same, settings_of};
 use journal_entry::{Entry, What};
-use std::marker::Model;
 use station_world::{Step, StepRefusal, World};
+use std::marker::Model;
 use std::test::*;
 use system_fold::{Settings, SourceKind};
 use tick_units::{Local, Plan};
