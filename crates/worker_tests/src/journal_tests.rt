@@ -177,6 +177,22 @@ fn number_at(journal: &Journal, place: usize) -> Option<(u64, i32)> {
     }
 }
 
+// The number and the rate of each line, and that there is no sixth one.
+const NUMBERS: [Option<(u64, i32)>; 6] = [
+    Some((1, 0)),
+    Some((2, 0)),
+    Some((3, 0)),
+    Some((4, -18_063)),
+    Some((5, -12_098)),
+    None,
+];
+
+fn have_numbers(rt: &HostRuntime, journal: &Journal, lines: &[Option<(u64, i32)>]) {
+    for (place, line) in lines.iter().enumerate() {
+        same(rt, number_at(journal, place), *line);
+    }
+}
+
 // A radio gives the time from its fourth minute on. From the first to the fourth the counter gains 757 us, 3251290 units of 2^-32
 // s, in 180.000757 s. To the fifth it gains 676 us, 2903397 units, in 240.000676 s. These are 18062.6 and 12097.5 units a second,
 // and a rate is rounded down. The sixth minute finds the journal full.
@@ -191,16 +207,7 @@ fn a_line_has_its_number_and_the_rate_after_it(rt: HostRuntime) -> Result<(), Fa
         return Err("memory")?;
     };
     same(&rt, taken, 5);
-    for (place, line) in [
-        (0, Some((1, 0))),
-        (1, Some((2, 0))),
-        (2, Some((3, 0))),
-        (3, Some((4, -18_063))),
-        (4, Some((5, -12_098))),
-        (5, None),
-    ] {
-        same(&rt, number_at(&journal, place), line);
-    }
+    have_numbers(&rt, &journal, &NUMBERS);
     let page = journal.page();
     same(&rt, (page.length, page.sync, page.rate), (5, true, -12_098));
     Ok(())
