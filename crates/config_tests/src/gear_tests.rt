@@ -15,6 +15,7 @@ use feed_link::{
 use station_config::{Station, read_station};
 use station_gear::{Gear, Missing, give_back_gear, open_gear};
 use std::alloc::Global;
+use std::process::Abort;
 use std::test::Fail;
 use tick_units::Local;
 
@@ -260,8 +261,14 @@ fn visit_station(alloc: Global, text: &str, second: &str, failing: u64) -> Resul
 }
 
 // All of a station is opened, with these calls, and this is seen of it.
-fn opens_all(rt: &HostRuntime, text: &str, calls: &str, seen: &str) -> Result<(), Fail> {
-    let visited = visit_station(rt.alloc(), text, "b.log", 0)?;
+fn opens_all<R: Abort>(
+    rt: &R,
+    alloc: Global,
+    text: &str,
+    calls: &str,
+    seen: &str,
+) -> Result<(), Fail> {
+    let visited = visit_station(alloc, text, "b.log", 0)?;
     same(rt, visited.answer, Ok(()));
     same(rt, visited.calls.as_str(), calls);
     same(rt, visited.seen.as_str(), seen);
@@ -270,9 +277,14 @@ fn opens_all(rt: &HostRuntime, text: &str, calls: &str, seen: &str) -> Result<()
 }
 
 // The opening that fails, what is missing then, and what is seen of the rest.
-fn stops_so(rt: &HostRuntime, text: &str, rows: &[(u64, Missing, &str)]) -> Result<(), Fail> {
+fn stops_so<R: Abort>(
+    rt: &R,
+    alloc: Global,
+    text: &str,
+    rows: &[(u64, Missing, &str)],
+) -> Result<(), Fail> {
     for (failing, missing, seen) in rows {
-        let visited = visit_station(rt.alloc(), text, "b.log", *failing)?;
+        let visited = visit_station(alloc, text, "b.log", *failing)?;
         same(rt, visited.answer, Err(*missing));
         same(rt, visited.seen.as_str(), *seen);
     }
@@ -281,7 +293,7 @@ fn stops_so(rt: &HostRuntime, text: &str, rows: &[(u64, Missing, &str)]) -> Resu
 
 #[test]
 fn all_are_opened_in_order_and_come_back_to_their_places(rt: HostRuntime) -> Result<(), Fail> {
-    opens_all(&rt, STATION, ALL, "66 65 31 32 33 ")
+    opens_all(&rt, rt.alloc(), STATION, ALL, "66 65 31 32 33 ")
 }
 
 const STOPS: [(u64, Missing, &str); 5] = [
@@ -294,13 +306,19 @@ const STOPS: [(u64, Missing, &str); 5] = [
 
 #[test]
 fn it_stops_at_the_first_that_fails(rt: HostRuntime) -> Result<(), Fail> {
-    stops_so(&rt, STATION, &STOPS)
+    stops_so(&rt, rt.alloc(), STATION, &STOPS)
 }
 
 #[test]
 fn a_leap_second_file_is_opened_behind_the_logs(rt: HostRuntime) -> Result<(), Fail> {
     let text = listed(rt.alloc())?;
-    opens_all(&rt, text.as_str(), ALL_LISTED, "66 65 76 31 32 33 ")
+    opens_all(
+        &rt,
+        rt.alloc(),
+        text.as_str(),
+        ALL_LISTED,
+        "66 65 76 31 32 33 ",
+    )
 }
 
 const STOPS_LISTED: [(u64, Missing, &str); 4] = [
@@ -313,7 +331,7 @@ const STOPS_LISTED: [(u64, Missing, &str); 4] = [
 #[test]
 fn it_stops_at_the_first_that_fails_with_a_leap_second_file(rt: HostRuntime) -> Result<(), Fail> {
     let text = listed(rt.alloc())?;
-    stops_so(&rt, text.as_str(), &STOPS_LISTED)
+    stops_so(&rt, rt.alloc(), text.as_str(), &STOPS_LISTED)
 }
 
 #[test]

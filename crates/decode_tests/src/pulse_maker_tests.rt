@@ -9,6 +9,7 @@ use crate::shared::{SUM_OF_NONE, same, sum_on};
 use feed_link::{Failed, MemorySink};
 use pulse_maker::make;
 use std::alloc::Global;
+use std::process::Abort;
 use std::test::Fail;
 use tick_units::Plan;
 
@@ -150,11 +151,11 @@ const SPOILT: [(u32, u32, bool); 13] = [
     (4294967295, 1439, false),
 ];
 
-fn are_spoilt_so(rt: &HostRuntime, rows: &[(u32, u32, bool)]) {
+fn are_spoilt_so<R: Abort>(rt: &R, alloc: Global, rows: &[(u32, u32, bool)]) {
     for (seed, minute, spoilt) in rows {
         let minute = *minute;
         assert!(*rt; minute < 1440);
-        let damaged = is_damaged(rt.alloc(), *seed, minute);
+        let damaged = is_damaged(alloc, *seed, minute);
         assert!(*rt; damaged == Some(*spoilt), "minute {minute} by {seed}");
     }
 }
@@ -162,5 +163,5 @@ fn are_spoilt_so(rt: &HostRuntime, rows: &[(u32, u32, bool)]) {
 // Every fiftieth minute is damaged, beginning with the seed's own one; the first of all never is.
 #[test]
 fn a_minute_is_spoilt_by_the_seed(rt: HostRuntime) {
-    are_spoilt_so(&rt, &SPOILT);
+    are_spoilt_so(&rt, rt.alloc(), &SPOILT);
 }

@@ -6,6 +6,7 @@ use crate::shared::moment;
 use kiss_gate::{ClientGate, DenyList, Judged};
 use reply_core::Code;
 use std::alloc::Global;
+use std::process::Abort;
 use std::test::Fail;
 
 // Whether a list denies an address: a gate with a gap of 0 says `Deny` or `Pass`, and keeps nothing.
@@ -106,13 +107,13 @@ fn list_of(net: u32, bits: u8) -> DenyList
     deny
 }
 
-fn have_addresses(rt: &HostRuntime, nets: &[Net]) -> Result<(), Fail> {
+fn have_addresses<R: Abort>(rt: &R, alloc: Global, nets: &[Net]) -> Result<(), Fail> {
     for (net, bits, addresses) in nets {
         let bits = *bits;
         assert!(*rt; bits <= 32);
         let deny = list_of(*net, bits);
         for (ip, is_in) in addresses {
-            let is_denied = denies(rt.alloc(), &deny, *ip)?;
+            let is_denied = denies(alloc, &deny, *ip)?;
             assert!(*rt; is_denied == *is_in, "{ip} in {net}/{bits}");
         }
     }
@@ -121,7 +122,7 @@ fn have_addresses(rt: &HostRuntime, nets: &[Net]) -> Result<(), Fail> {
 
 #[test]
 fn nets_have_their_addresses(rt: HostRuntime) -> Result<(), Fail> {
-    have_addresses(&rt, &NETS)
+    have_addresses(&rt, rt.alloc(), &NETS)
 }
 
 // 16 nets of one address each, the first and the last among them.

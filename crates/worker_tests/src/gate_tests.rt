@@ -7,6 +7,8 @@ use kiss_gate::{ClientGate, DenyList};
 use packet_auth::KeyRing;
 use responder::Served;
 use std::alloc::Global;
+use std::process::Abort;
+use std::sync::Wait;
 use std::test::Fail;
 
 const OTHER: Address = Address {
@@ -54,14 +56,22 @@ fn has_sent(link: &MemoryLink, replies: &[(Address, &str)]) -> bool {
 
 // What a responder with this gate does with datagrams that come one after another, and its gate after them. It sends these
 // replies.
-fn serve_all(
-    rt: &HostRuntime,
+fn serve_all<R: Abort + Wait>(
+    rt: &R,
+    alloc: Global,
     gate: ClientGate,
     datagrams: &[(Address, u32, u8, usize)],
     replies: &[(Address, &str)],
 ) -> Result<(Served, ClientGate), Fail> {
-    let link = link_of(rt.alloc(), hearings_of(rt.alloc(), datagrams)?, 0, 40)?;
-    let (served, link, gate) = serve(rt, link, KeyRing::new(), gate, datagrams.len() as u64)?;
+    let link = link_of(alloc, hearings_of(alloc, datagrams)?, 0, 40)?;
+    let (served, link, gate) = serve(
+        rt,
+        alloc,
+        link,
+        KeyRing::new(),
+        gate,
+        datagrams.len() as u64,
+    )?;
     assert!(*rt; has_sent(&link, replies));
     Ok((served, gate))
 }
@@ -81,7 +91,7 @@ fn a_client_that_asks_within_the_gap_gets_rate(rt: HostRuntime) -> Result<(), Fa
         (CLIENT, "INIT"),
     ];
     let gate = gate_of(rt.alloc(), &DenyList::new(), 1000)?;
-    let (served, _) = serve_all(&rt, gate, &datagrams, &replies)?;
+    let (served, _) = serve_all(&rt, rt.alloc(), gate, &datagrams, &replies)?;
     same(
         &rt,
         served,
@@ -105,7 +115,7 @@ fn a_client_is_judged_by_when_its_request_came(rt: HostRuntime) -> Result<(), Fa
     }
     let link = MemoryLink::new(alloc, hearings, moments, Vec::new(alloc), 40, 4000)?;
     let gate = gate_of(alloc, &DenyList::new(), 1000)?;
-    let (served, link, _) = serve(&rt, link, KeyRing::new(), gate, 2)?;
+    let (served, link, _) = serve(&rt, rt.alloc(), link, KeyRing::new(), gate, 2)?;
     same(&rt, (served.answered, served.kissed), (1, 1));
     assert!(rt; has_sent(&link, &[(CLIENT, "INIT"), (CLIENT, "RATE")]));
     Ok(())
@@ -124,7 +134,7 @@ fn a_denied_sender_gets_deny(rt: HostRuntime) -> Result<(), Fail> {
     let mut deny = DenyList::new();
     deny.add(0x0a00_0000, 8);
     let gate = gate_of(rt.alloc(), &deny, 0)?;
-    let (served, _) = serve_all(&rt, gate, &datagrams, &replies)?;
+    let (served, _) = serve_all(&rt, rt.alloc(), gate, &datagrams, &replies)?;
     same(
         &rt,
         served,
@@ -148,7 +158,7 @@ fn a_dropped_datagram_is_not_judged(rt: HostRuntime) -> Result<(), Fail> {
     ];
     let replies = [(CLIENT, "INIT"), (CLIENT, "RATE")];
     let gate = gate_of(rt.alloc(), &DenyList::new(), 1000)?;
-    let (served, _) = serve_all(&rt, gate, &datagrams, &replies)?;
+    let (served, _) = serve_all(&rt, rt.alloc(), gate, &datagrams, &replies)?;
     same(
         &rt,
         served,
@@ -166,10 +176,17 @@ fn a_dropped_datagram_is_not_judged(rt: HostRuntime) -> Result<(), Fail> {
 #[test]
 fn the_table_is_handed_on(rt: HostRuntime) -> Result<(), Fail> {
     let gate = gate_of(rt.alloc(), &DenyList::new(), 1000)?;
-    let (first, gate) = serve_all(&rt, gate, &[(CLIENT, 100, 0x23, 48)], &[(CLIENT, "INIT")])?;
+    let (first, gate) = serve_all(
+        &rt,
+        rt.alloc(),
+        gate,
+        &[(CLIENT, 100, 0x23, 48)],
+        &[(CLIENT, "INIT")],
+    )?;
     same(&rt, (first.answered, first.kissed), (1, 0));
     let (second, _) = serve_all(
         &rt,
+        rt.alloc(),
         gate,
         &[(CLIENT, 500, 0x23, 48), (OTHER, 501, 0x23, 48)],
         &[(CLIENT, "RATE"), (OTHER, "INIT")],

@@ -8,6 +8,7 @@ use crate::shared::same;
 use page_cell::{CellParts, FeedPass, PageCell};
 use std::alloc::Global;
 use std::marker::Brand;
+use std::process::Abort;
 use std::sync::Wait;
 use std::test::*;
 use system_fold::Settings;
@@ -187,7 +188,7 @@ const NUMBERS: [Option<(u64, i32)>; 6] = [
     None,
 ];
 
-fn have_numbers(rt: &HostRuntime, journal: &Journal, lines: &[Option<(u64, i32)>]) {
+fn have_numbers(rt: &impl Abort, journal: &Journal, lines: &[Option<(u64, i32)>]) {
     for (place, line) in lines.iter().enumerate() {
         same(rt, number_at(journal, place), *line);
     }

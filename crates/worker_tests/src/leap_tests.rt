@@ -6,6 +6,8 @@ use crate::shared::{Work, moment, run_alone, same};
 use feed_link::{MemorySource, OpenGate};
 use feed_workers::{LeapWorker, LogEnd, LogWork};
 use page_cell::FeedPass;
+use std::alloc::Global;
+use std::process::Abort;
 use std::sync::Wait;
 use std::test::Fail;
 use system_fold::SourceKind;
@@ -47,8 +49,9 @@ impl Work for Listed {
 
 // A file of this text, whose reading of this number fails, gives these entries of a journal that may have so many. Its reading
 // ends in this way.
-fn reads(
-    rt: &HostRuntime,
+fn reads<R: Abort + Wait>(
+    rt: &R,
+    alloc: Global,
     text: &[u8],
     failing: u64,
     limit: u32,
@@ -57,9 +60,8 @@ fn reads(
 ) -> Result<(), Fail>
     requires { (0 < limit) × (limit ≤ 4194304) }
 {
-    let alloc = rt.alloc();
     let log = MemorySource::new(Vec::from_slice(alloc, text)?, vec![in alloc; failing]?);
-    let ran = run_alone(rt, SourceKind::Leap, limit, Listed { log })?;
+    let ran = run_alone(rt, alloc, SourceKind::Leap, limit, Listed { log })?;
     same(rt, ran.lines.as_str(), lines);
     same(rt, ran.done, work);
     Ok(())
@@ -67,9 +69,9 @@ fn reads(
 
 #[test]
 fn each_row_but_the_first_is_a_notice(rt: HostRuntime) -> Result<(), Fail> {
-    reads(&rt, LIST.as_bytes(), 0, 10, TWO, WHOLE)?;
-    reads(&rt, b"", 0, 10, "", WHOLE)?;
-    reads(&rt, b"# none\n", 0, 10, "", WHOLE)
+    reads(&rt, rt.alloc(), LIST.as_bytes(), 0, 10, TWO, WHOLE)?;
+    reads(&rt, rt.alloc(), b"", 0, 10, "", WHOLE)?;
+    reads(&rt, rt.alloc(), b"# none\n", 0, 10, "", WHOLE)
 }
 
 // A last line without its line feed counts where the end was read, and not where a read failed before it.
@@ -77,9 +79,9 @@ fn each_row_but_the_first_is_a_notice(rt: HostRuntime) -> Result<(), Fail> {
 fn a_last_line_counts_at_the_end(rt: HostRuntime) -> Result<(), Fail> {
     let list = LIST.as_bytes();
     let cut = list.split_at(list.len() - 1).0;
-    reads(&rt, cut, 0, 10, TWO, WHOLE)?;
-    reads(&rt, cut, 2, 10, FIRST, FAULT)?;
-    reads(&rt, list, 1, 10, "", FAULT)
+    reads(&rt, rt.alloc(), cut, 0, 10, TWO, WHOLE)?;
+    reads(&rt, rt.alloc(), cut, 2, 10, FIRST, FAULT)?;
+    reads(&rt, rt.alloc(), list, 1, 10, "", FAULT)
 }
 
 #[test]
@@ -89,14 +91,14 @@ fn rows_before_a_bad_line_stand(rt: HostRuntime) -> Result<(), Fail> {
         end: LogEnd::BadLine { line: 3 },
         full: false,
     };
-    reads(&rt, text, 0, 10, FIRST, bad)?;
+    reads(&rt, rt.alloc(), text, 0, 10, FIRST, bad)?;
     // The last line is bad only at the end of the file.
     let cut = b"3550089600 35\n3644697600";
     let bad = LogWork {
         end: LogEnd::BadLine { line: 2 },
         full: false,
     };
-    reads(&rt, cut, 0, 10, "", bad)
+    reads(&rt, rt.alloc(), cut, 0, 10, "", bad)
 }
 
 #[test]
@@ -105,7 +107,7 @@ fn a_full_journal_keeps_the_first(rt: HostRuntime) -> Result<(), Fail> {
         end: LogEnd::Whole,
         full: true,
     };
-    reads(&rt, LIST.as_bytes(), 0, 1, FIRST, full)
+    reads(&rt, rt.alloc(), LIST.as_bytes(), 0, 1, FIRST, full)
 }
 
 // The second notice finds the journal full. The bad line follows a comment of 600 bytes, in a later piece.
@@ -120,7 +122,7 @@ fn a_list_is_read_on_to_a_bad_line_behind_a_lost_notice(rt: HostRuntime) -> Resu
         end: LogEnd::BadLine { line: 6 },
         full: true,
     };
-    reads(&rt, text.as_slice(), 0, 1, FIRST, bad)
+    reads(&rt, rt.alloc(), text.as_slice(), 0, 1, FIRST, bad)
 }
 
 // A comment comes before the last row, which ends at byte 65536 of the file. Then there is one byte more.
@@ -133,11 +135,11 @@ fn a_list_of_65536_bytes_is_whole(rt: HostRuntime) -> Result<(), Fail> {
     }
     text.extend_from_slice(b"\n3692217600\t37\n")?;
     same(&rt, text.len(), 65_536);
-    reads(&rt, text.as_slice(), 0, 10, TWO, WHOLE)?;
+    reads(&rt, rt.alloc(), text.as_slice(), 0, 10, TWO, WHOLE)?;
     text.push(b'\n')?;
     let long = LogWork {
         end: LogEnd::Long,
         full: false,
     };
-    reads(&rt, text.as_slice(), 0, 10, TWO, long)
+    reads(&rt, rt.alloc(), text.as_slice(), 0, 10, TWO, long)
 }

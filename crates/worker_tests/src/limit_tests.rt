@@ -6,6 +6,8 @@ use crate::shared::{run_alone, same};
 use feed_link::{Failed, Source, SureSource};
 use feed_workers::{LogEnd, LogWork};
 use std::alloc::Global;
+use std::process::Abort;
+use std::sync::Wait;
 use std::test::Fail;
 use system_fold::SourceKind;
 use tick_units::Plan;
@@ -80,6 +82,7 @@ impl Source for LongLog {
 }
 
 // The beginning of a log, how many lines follow, and the text at its end.
+#[derive(Clone, Copy)]
 struct Shape<'a> {
     front: &'a str,
     lines: u32,
@@ -94,8 +97,13 @@ fn bytes_of(shape: &Shape<'_>) -> u64 {
 }
 
 // A log of this shape ends so, and gives these lines of a journal.
-fn ends_so(rt: &HostRuntime, shape: &Shape<'_>, end: LogEnd, lines: &str) -> Result<(), Fail> {
-    let alloc = rt.alloc();
+fn ends_so<R: Abort + Wait>(
+    rt: &R,
+    alloc: Global,
+    shape: &Shape<'_>,
+    end: LogEnd,
+    lines: &str,
+) -> Result<(), Fail> {
     let log = LongLog {
         front: SureSource::new(Vec::from_slice(alloc, shape.front.as_bytes())?),
         left: shape.lines,
@@ -104,7 +112,7 @@ fn ends_so(rt: &HostRuntime, shape: &Shape<'_>, end: LogEnd, lines: &str) -> Res
         end: SureSource::new(Vec::from_slice(alloc, shape.end.as_bytes())?),
     };
     let heard = Heard { alloc, log };
-    let ran = run_alone(rt, SourceKind::Radio(Plan::Dcf), 9, heard)?;
+    let ran = run_alone(rt, alloc, SourceKind::Radio(Plan::Dcf), 9, heard)?;
     same(rt, ran.done, Some(LogWork { end, full: false }));
     same(rt, ran.lines.as_str(), lines);
     Ok(())
@@ -129,13 +137,13 @@ fn a_byte_past_the_limit_is_too_long(rt: HostRuntime) -> Result<(), Fail> {
         end: end.as_str(),
     };
     same(&rt, bytes_of(&whole), 1 << 30);
-    ends_so(&rt, &whole, LogEnd::Whole, LATE_BOTH)?;
+    ends_so(&rt, rt.alloc(), &whole, LogEnd::Whole, LATE_BOTH)?;
     let long = Shape {
         front: "10000000000 2000000\n",
         lines: 42_949_557,
         end: end.as_str(),
     };
-    ends_so(&rt, &long, LogEnd::Long, LATE_LONE)
+    ends_so(&rt, rt.alloc(), &long, LogEnd::Long, LATE_LONE)
 }
 
 // What follows the limit is not read, whether there is a minute before it or none.
@@ -147,7 +155,7 @@ fn a_log_without_an_end_is_too_long(rt: HostRuntime) -> Result<(), Fail> {
         lines: u32::MAX,
         end: "",
     };
-    ends_so(&rt, &shape, LogEnd::Long, LONE)?;
+    ends_so(&rt, rt.alloc(), &shape, LogEnd::Long, LONE)?;
     shape.front = "";
-    ends_so(&rt, &shape, LogEnd::Long, "")
+    ends_so(&rt, rt.alloc(), &shape, LogEnd::Long, "")
 }

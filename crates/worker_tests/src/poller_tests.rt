@@ -8,6 +8,7 @@ use feed_workers::{PollEnd, PollWork, PollWorker};
 use page_cell::FeedPass;
 use std::alloc::Global;
 use std::net::{IpAddr, Ipv4Addr, SocketAddr, UdpSocket};
+use std::process::Abort;
 use std::sync::Wait;
 use std::test::Fail;
 use std::time::Duration;
@@ -101,8 +102,9 @@ fn declined(alloc: Global, count: u32, end: &str) -> Result<String, Fail> {
 
 // A poller's worker polls this many times over a link, where the journal may have this many entries. It does this. The journal
 // has these lines, and the link reports this many events.
-fn polls(
-    rt: &HostRuntime,
+fn polls<R: Abort + Wait>(
+    rt: &R,
+    alloc: Global,
     link: MemoryLink,
     polls: u32,
     limit: u32,
@@ -117,7 +119,7 @@ fn polls(
         polls,
         link,
     };
-    let ran = run_alone(rt, SourceKind::Server(SERVER), limit, asked)?;
+    let ran = run_alone(rt, alloc, SourceKind::Server(SERVER), limit, asked)?;
     let (done, link) = ran.done;
     same(rt, (done, link.count()), (work, events));
     same(rt, ran.lines.as_str(), lines);
@@ -142,7 +144,7 @@ fn an_answer_is_a_sample_and_a_strangers_is_declined(rt: HostRuntime) -> Result<
     let link = link_of(rt.alloc(), hearings, 0)?;
     let mut lines = String::from_str(rt.alloc(), "0 1010000 declined 1\n")?;
     lines.push_str(SAMPLE)?;
-    polls(&rt, link, 1, 9, ROUNDS, lines.as_str(), 4)
+    polls(&rt, rt.alloc(), link, 1, 9, ROUNDS, lines.as_str(), 4)
 }
 
 #[test]
@@ -152,7 +154,16 @@ fn silence_ends_a_round_without_an_entry(rt: HostRuntime) -> Result<(), Fail> {
     hearings.push(answer(rt.alloc(), 123, 47)?)?;
     hearings.push(Planned::Quiet)?;
     let link = link_of(rt.alloc(), hearings, 0)?;
-    polls(&rt, link, 2, 9, ROUNDS, "0 1010000 declined 2\n", 7)
+    polls(
+        &rt,
+        rt.alloc(),
+        link,
+        2,
+        9,
+        ROUNDS,
+        "0 1010000 declined 2\n",
+        7,
+    )
 }
 
 // How many short datagrams come before the answer, how many polls there are, what the worker does, how many lines speak of short
@@ -163,14 +174,15 @@ const WRONG: [(u32, u32, PollWork, u32, &str, usize); 3] = [
     (8, 2, LINK_END, 8, "0 1010000 declined 6\n", 14),
 ];
 
-fn end_rounds(
-    rt: &HostRuntime,
+fn end_rounds<R: Abort + Wait>(
+    rt: &R,
+    alloc: Global,
     rows: &[(u32, u32, PollWork, u32, &str, usize)],
 ) -> Result<(), Fail> {
     for (short, count, work, bad, end, events) in rows {
-        let link = short_ones(rt.alloc(), *short, 0)?;
-        let lines = declined(rt.alloc(), *bad, end)?;
-        polls(rt, link, *count, 20, *work, lines.as_str(), *events)?;
+        let link = short_ones(alloc, *short, 0)?;
+        let lines = declined(alloc, *bad, end)?;
+        polls(rt, alloc, link, *count, 20, *work, lines.as_str(), *events)?;
     }
     Ok(())
 }
@@ -178,7 +190,7 @@ fn end_rounds(
 // The eighth hearing ends its round, so the answer comes in the next one, whose request has another stamp.
 #[test]
 fn eight_wrong_datagrams_end_a_round(rt: HostRuntime) -> Result<(), Fail> {
-    end_rounds(&rt, &WRONG)
+    end_rounds(&rt, rt.alloc(), &WRONG)
 }
 
 // The call that fails, why the worker ends, the lines of the journal, and how many events there are.
@@ -190,14 +202,18 @@ const FAULTS: [(u64, PollEnd, &str, usize); 5] = [
     (5, PollEnd::LinkEnd, SAMPLE, 6),
 ];
 
-fn end_at_faults(rt: &HostRuntime, rows: &[(u64, PollEnd, &str, usize)]) -> Result<(), Fail> {
+fn end_at_faults<R: Abort + Wait>(
+    rt: &R,
+    alloc: Global,
+    rows: &[(u64, PollEnd, &str, usize)],
+) -> Result<(), Fail> {
     for (failing, end, lines, events) in rows {
-        let link = short_ones(rt.alloc(), 0, *failing)?;
+        let link = short_ones(alloc, 0, *failing)?;
         let work = PollWork {
             end: *end,
             full: false,
         };
-        polls(rt, link, 2, 9, work, lines, *events)?;
+        polls(rt, alloc, link, 2, 9, work, lines, *events)?;
     }
     Ok(())
 }
@@ -205,7 +221,7 @@ fn end_at_faults(rt: &HostRuntime, rows: &[(u64, PollEnd, &str, usize)]) -> Resu
 // Two polls: one of the sending, the hearing, the second sending and the hearing of the end fails.
 #[test]
 fn a_fault_of_the_link_ends_the_polling(rt: HostRuntime) -> Result<(), Fail> {
-    end_at_faults(&rt, &FAULTS)
+    end_at_faults(&rt, rt.alloc(), &FAULTS)
 }
 
 #[test]
@@ -213,7 +229,16 @@ fn a_full_journal_keeps_a_front_and_the_polling_goes_on(rt: HostRuntime) -> Resu
     let link = short_ones(rt.alloc(), 1, 0)?;
     let end = PollEnd::LinkEnd;
     let work = PollWork { end, full: true };
-    polls(&rt, link, 2, 1, work, "0 1010000 declined 2\n", 7)
+    polls(
+        &rt,
+        rt.alloc(),
+        link,
+        2,
+        1,
+        work,
+        "0 1010000 declined 2\n",
+        7,
+    )
 }
 
 // A server that answers one request with the origin of that request: how many bytes the request had.
@@ -247,7 +272,7 @@ fn a_server_on_the_loopback_is_polled(rt: HostRuntime) -> Result<(), Fail> {
         polls: 1,
         link,
     };
-    let ran = run_alone(&rt, SourceKind::Server(server), 9, asked)?;
+    let ran = run_alone(&rt, rt.alloc(), SourceKind::Server(server), 9, asked)?;
     let Ok(length) = child.join(&rt) else {
         return Err("the server was not asked")?;
     };

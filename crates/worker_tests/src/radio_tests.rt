@@ -7,6 +7,7 @@ use feed_workers::{LogEnd, LogWork, RadioWorker};
 use page_cell::FeedPass;
 use radio_receiver::{DcfReceiver, Receiver};
 use std::alloc::Global;
+use std::process::Abort;
 use std::sync::Wait;
 use std::test::Fail;
 use system_fold::SourceKind;
@@ -73,8 +74,9 @@ pub fn two_frames(alloc: Global, first: u64, end: &str) -> Result<String, Fail> 
 
 // A radio's worker reads a log of which given reads fail, where the journal may have this many entries: what it did, and the lines
 // of the journal.
-fn reads(
-    rt: &HostRuntime,
+fn reads<R: Abort + Wait>(
+    rt: &R,
+    alloc: Global,
     log: &str,
     failing: u64,
     limit: u32,
@@ -83,11 +85,10 @@ fn reads(
 ) -> Result<(), Fail>
     requires { (0 < limit) × (limit ≤ 4194304) }
 {
-    let alloc = rt.alloc();
     let fails = vec![in alloc; failing]?;
     let log = MemorySource::new(Vec::from_slice(alloc, log.as_bytes())?, fails);
     let heard = Heard { alloc, log };
-    let ran = run_alone(rt, SourceKind::Radio(Plan::Dcf), limit, heard)?;
+    let ran = run_alone(rt, alloc, SourceKind::Radio(Plan::Dcf), limit, heard)?;
     same(rt, ran.done, Some(work));
     same(rt, ran.lines.as_str(), lines);
     Ok(())
@@ -101,33 +102,42 @@ const ENDS: [(&str, LogEnd, &str); 4] = [
     ("x\n122000000 100000\n", LogEnd::BadLine { line: 120 }, LONE),
 ];
 
-fn end_so(rt: &HostRuntime, rows: &[(&str, LogEnd, &str)]) -> Result<(), Fail> {
+fn end_so<R: Abort + Wait>(
+    rt: &R,
+    alloc: Global,
+    rows: &[(&str, LogEnd, &str)],
+) -> Result<(), Fail> {
     for (tail, end, lines) in rows {
-        let log = two_frames(rt.alloc(), 0, tail)?;
+        let log = two_frames(alloc, 0, tail)?;
         let work = LogWork {
             end: *end,
             full: false,
         };
-        reads(rt, log.as_str(), 0, 9, work, lines)?;
+        reads(rt, alloc, log.as_str(), 0, 9, work, lines)?;
     }
     Ok(())
 }
 
 #[test]
 fn a_log_is_read_to_its_end_or_to_its_first_bad_line(rt: HostRuntime) -> Result<(), Fail> {
-    end_so(&rt, &ENDS)
+    end_so(&rt, rt.alloc(), &ENDS)
 }
 
 // The read that fails, and the lines of the journal.
 const FAULTS: [(u64, &str); 5] = [(1, ""), (2, ""), (3, LONE), (4, LONE), (5, BOTH)];
 
-fn end_at_faults(rt: &HostRuntime, log: &str, rows: &[(u64, &str)]) -> Result<(), Fail> {
+fn end_at_faults<R: Abort + Wait>(
+    rt: &R,
+    alloc: Global,
+    log: &str,
+    rows: &[(u64, &str)],
+) -> Result<(), Fail> {
     let work = LogWork {
         end: LogEnd::Fault,
         full: false,
     };
     for (failing, lines) in rows {
-        reads(rt, log, *failing, 9, work, lines)?;
+        reads(rt, alloc, log, *failing, 9, work, lines)?;
     }
     Ok(())
 }
@@ -136,15 +146,31 @@ fn end_at_faults(rt: &HostRuntime, log: &str, rows: &[(u64, &str)]) -> Result<()
 #[test]
 fn a_read_that_fails_ends_the_reading(rt: HostRuntime) -> Result<(), Fail> {
     let log = two_frames(rt.alloc(), 0, "122000000 100000\n")?;
-    end_at_faults(&rt, log.as_str(), &FAULTS)
+    end_at_faults(&rt, rt.alloc(), log.as_str(), &FAULTS)
 }
 
 #[test]
 fn a_full_journal_keeps_a_front_and_the_log_is_read_on(rt: HostRuntime) -> Result<(), Fail> {
     let log = two_frames(rt.alloc(), 0, "122000000 100000\n")?;
     let end = LogEnd::Whole;
-    reads(&rt, log.as_str(), 0, 1, LogWork { end, full: true }, LONE)?;
-    reads(&rt, log.as_str(), 0, 2, LogWork { end, full: false }, BOTH)
+    reads(
+        &rt,
+        rt.alloc(),
+        log.as_str(),
+        0,
+        1,
+        LogWork { end, full: true },
+        LONE,
+    )?;
+    reads(
+        &rt,
+        rt.alloc(),
+        log.as_str(),
+        0,
+        2,
+        LogWork { end, full: false },
+        BOTH,
+    )
 }
 
 // The second minute's entry finds the journal full. The bad line follows one more frame, in a later piece: 1 and three times 59
@@ -155,5 +181,13 @@ fn a_log_is_read_on_to_a_bad_line_behind_a_lost_entry(rt: HostRuntime) -> Result
     add_frame(&mut log, &NOON, 122_000_000)?;
     log.push_str("x\n")?;
     let end = LogEnd::BadLine { line: 179 };
-    reads(&rt, log.as_str(), 0, 1, LogWork { end, full: true }, LONE)
+    reads(
+        &rt,
+        rt.alloc(),
+        log.as_str(),
+        0,
+        1,
+        LogWork { end, full: true },
+        LONE,
+    )
 }

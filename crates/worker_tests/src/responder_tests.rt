@@ -8,6 +8,8 @@ use packet_auth::KeyRing;
 use responder::{End, Responder, Served};
 use std::alloc::Global;
 use std::net::{IpAddr, Ipv4Addr, SocketAddr, UdpSocket};
+use std::process::Abort;
+use std::sync::Wait;
 use std::test::Fail;
 use std::time::Duration;
 use std::{io, thread};
@@ -22,9 +24,14 @@ fn datagram(alloc: Global, first: u8, length: usize) -> Result<Planned, Fail> {
 }
 
 // What a responder that lets all pass does on a link for this many hearings, and the link after it.
-fn serve(rt: &HostRuntime, link: MemoryLink, budget: u64) -> Result<(Served, MemoryLink), Fail> {
-    let gate = open_to_all(rt.alloc())?;
-    let (served, link, _) = serve_with(rt, link, KeyRing::new(), gate, budget)?;
+fn serve<R: Abort + Wait>(
+    rt: &R,
+    alloc: Global,
+    link: MemoryLink,
+    budget: u64,
+) -> Result<(Served, MemoryLink), Fail> {
+    let gate = open_to_all(alloc)?;
+    let (served, link, _) = serve_with(rt, alloc, link, KeyRing::new(), gate, budget)?;
     Ok((served, link))
 }
 
@@ -54,15 +61,16 @@ const DATAGRAMS: [(u8, usize, Option<(usize, u8)>); 10] = [
 ];
 
 // A datagram that comes alone is answered so, or dropped.
-fn is_answered_so(
-    rt: &HostRuntime,
+fn is_answered_so<R: Abort + Wait>(
+    rt: &R,
+    alloc: Global,
     first: u8,
     length: usize,
     want: Option<(usize, u8)>,
 ) -> Result<(), Fail> {
-    let mut hearings = Vec::new(rt.alloc());
-    hearings.push(datagram(rt.alloc(), first, length)?)?;
-    let (served, link) = serve(rt, link_of(rt.alloc(), hearings, 0, 9)?, 1)?;
+    let mut hearings = Vec::new(alloc);
+    hearings.push(datagram(alloc, first, length)?)?;
+    let (served, link) = serve(rt, alloc, link_of(alloc, hearings, 0, 9)?, 1)?;
     let answered = u64::from(want.is_some());
     let dropped = u64::from(want.is_none());
     same(
@@ -79,19 +87,20 @@ fn is_answered_so(
     Ok(())
 }
 
-fn are_answered_so(
-    rt: &HostRuntime,
+fn are_answered_so<R: Abort + Wait>(
+    rt: &R,
+    alloc: Global,
     rows: &[(u8, usize, Option<(usize, u8)>)],
 ) -> Result<(), Fail> {
     for (first, length, want) in rows {
-        is_answered_so(rt, *first, *length, *want)?;
+        is_answered_so(rt, alloc, *first, *length, *want)?;
     }
     Ok(())
 }
 
 #[test]
 fn each_datagram_is_answered_or_dropped(rt: HostRuntime) -> Result<(), Fail> {
-    are_answered_so(&rt, &DATAGRAMS)
+    are_answered_so(&rt, rt.alloc(), &DATAGRAMS)
 }
 
 // MD5 of `longwave` and the request, by Python's `hashlib`.
@@ -133,10 +142,16 @@ fn has_sent(link: &MemoryLink, want: &[u8]) -> bool {
 }
 
 // A request that names this key gets the first bytes of the sealed reply.
-fn is_sealed_so(rt: &HostRuntime, keys: KeyRing, id: u8, want: &[u8]) -> Result<(), Fail> {
-    let link = asking(rt.alloc(), id, DIGEST)?;
-    let gate = open_to_all(rt.alloc())?;
-    let (served, link, _) = serve_with(rt, link, keys, gate, 1)?;
+fn is_sealed_so<R: Abort + Wait>(
+    rt: &R,
+    alloc: Global,
+    keys: KeyRing,
+    id: u8,
+    want: &[u8],
+) -> Result<(), Fail> {
+    let link = asking(alloc, id, DIGEST)?;
+    let gate = open_to_all(alloc)?;
+    let (served, link, _) = serve_with(rt, alloc, link, keys, gate, 1)?;
     let answered = 1;
     same(rt, served, Served { answered, ..NONE });
     assert!(*rt; has_sent(&link, want), "key {id}");
@@ -148,9 +163,9 @@ fn a_reply_is_sealed_where_its_request_is_authentic(rt: HostRuntime) -> Result<(
     let mut ring = KeyRing::new();
     ring.add(9, b"shortwave");
     ring.add(1, b"longwave");
-    is_sealed_so(&rt, ring, 1, &SEALED)?;
+    is_sealed_so(&rt, rt.alloc(), ring, 1, &SEALED)?;
     for id in [9, 2, 0] {
-        is_sealed_so(&rt, ring, id, &SEALED[..48])?;
+        is_sealed_so(&rt, rt.alloc(), ring, id, &SEALED[..48])?;
     }
     Ok(())
 }
@@ -163,7 +178,7 @@ fn a_reply_has_the_moments_of_its_hearing_and_its_sending(rt: HostRuntime) -> Re
     hearings.push(datagram(alloc, 0x23, 48)?)?;
     let moments = vec![in alloc; moment(1_000_000)]?;
     let link = MemoryLink::new(alloc, hearings, moments, Vec::new(alloc), 9, 4000)?;
-    let (served, link) = serve(&rt, link, 1)?;
+    let (served, link) = serve(&rt, rt.alloc(), link, 1)?;
     same(&rt, served.answered, 1);
     let mut want = [0u8; 48];
     want.copy_from_slice(&SEALED[..48]);
@@ -192,9 +207,13 @@ const FAULTS: [(u64, u64, End, usize); 7] = [
     (7, 2, End::LinkEnd, 8),
 ];
 
-fn end_at_faults(rt: &HostRuntime, rows: &[(u64, u64, End, usize)]) -> Result<(), Fail> {
+fn end_at_faults<R: Abort + Wait>(
+    rt: &R,
+    alloc: Global,
+    rows: &[(u64, u64, End, usize)],
+) -> Result<(), Fail> {
     for (failing, answered, end, events) in rows {
-        let (served, link) = serve(rt, two_requests(rt.alloc(), *failing, 9)?, 9)?;
+        let (served, link) = serve(rt, alloc, two_requests(alloc, *failing, 9)?, 9)?;
         let answered = *answered;
         let end = *end;
         same(
@@ -216,15 +235,19 @@ fn end_at_faults(rt: &HostRuntime, rows: &[(u64, u64, End, usize)]) -> Result<()
 // The calls of hearing and sending are 1 to 6: request, reply, nothing, request, reply, end.
 #[test]
 fn a_fault_of_the_link_ends_the_serving(rt: HostRuntime) -> Result<(), Fail> {
-    end_at_faults(&rt, &FAULTS)
+    end_at_faults(&rt, rt.alloc(), &FAULTS)
 }
 
 // How many hearings it is asked for, how many requests it answers, and how many events there are.
 const BUDGETS: [(u64, u64, usize); 4] = [(0, 0, 0), (1, 1, 3), (2, 1, 4), (3, 2, 7)];
 
-fn hear_so_often(rt: &HostRuntime, rows: &[(u64, u64, usize)]) -> Result<(), Fail> {
+fn hear_so_often<R: Abort + Wait>(
+    rt: &R,
+    alloc: Global,
+    rows: &[(u64, u64, usize)],
+) -> Result<(), Fail> {
     for (budget, answered, events) in rows {
-        let (served, link) = serve(rt, two_requests(rt.alloc(), 0, 9)?, *budget)?;
+        let (served, link) = serve(rt, alloc, two_requests(alloc, 0, 9)?, *budget)?;
         let answered = *answered;
         same(
             rt,
@@ -237,12 +260,12 @@ fn hear_so_often(rt: &HostRuntime, rows: &[(u64, u64, usize)]) -> Result<(), Fai
 
 #[test]
 fn it_hears_as_often_as_it_is_asked_to(rt: HostRuntime) -> Result<(), Fail> {
-    hear_so_often(&rt, &BUDGETS)
+    hear_so_often(&rt, rt.alloc(), &BUDGETS)
 }
 
 #[test]
 fn a_link_past_its_room_is_served_on(rt: HostRuntime) -> Result<(), Fail> {
-    let (served, link) = serve(&rt, two_requests(rt.alloc(), 0, 2)?, 9)?;
+    let (served, link) = serve(&rt, rt.alloc(), two_requests(rt.alloc(), 0, 2)?, 9)?;
     let end = End::LinkEnd;
     let answered = 2;
     same(

@@ -9,6 +9,7 @@ use packet_auth::KeyRing;
 use page_cell::{PageCell, ReadPass};
 use responder::{End, Responder, Served};
 use std::alloc::Global;
+use std::sync::Wait;
 use std::test::Fail;
 
 pub const CLIENT: Address = Address {
@@ -84,14 +85,15 @@ pub fn link_of(
 }
 
 /// What a responder with these keys and this gate does on a link for this many hearings, and its link and gate after it.
-pub fn serve(
-    rt: &HostRuntime,
+pub fn serve<R: Wait>(
+    rt: &R,
+    alloc: Global,
     link: MemoryLink,
     keys: KeyRing,
     gate: ClientGate,
     hearings: u64,
 ) -> Result<(Served, MemoryLink, ClientGate), Fail> {
-    let (cell, pass) = opened(rt.alloc())?;
+    let (cell, pass) = opened(alloc)?;
     let mut responder = Responder::new(link, pass, 7, keys, gate);
     let served = responder.serve(rt, &cell, &OpenGate::new(), hearings);
     let (link, _, gate) = responder.give_back();

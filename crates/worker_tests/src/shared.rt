@@ -119,22 +119,21 @@ pub struct Ran<D: Drop> {
 }
 
 /// Runs the worker of a station's one feed, where the journal may have this many entries.
-pub fn run_alone<W: Work>(
-    rt: &HostRuntime,
+pub fn run_alone<R: Wait, W: Work>(
+    rt: &R,
+    alloc: Global,
     kind: SourceKind,
     limit: u32,
     work: W,
 ) -> Result<Ran<W::Done>, Fail>
     requires { (0 < limit) × (limit ≤ 4194304) }
 {
-    let alloc = rt.alloc();
     let settings = settings_of(kind);
     let Ok(parts) = PageCell::open(alloc, &settings, 1) else {
         return Err("memory")?;
     };
-    let Some((done, journal)) = in_hub::<Brand, HostRuntime, W>(
-        rt, alloc, parts, &settings, limit, work,
-    ) else {
+    let Some((done, journal)) = in_hub::<Brand, R, W>(rt, alloc, parts, &settings, limit, work)
+    else {
         return Err("memory")?;
     };
     Ok(Ran {
