@@ -1,7 +1,7 @@
 //! A radio's worker over logs that have as many bytes as a log may have, 2^30, or more. A source makes them while they are read.
 ghost use Rattle.std.specs.Prelude.{◌≤◌, length};
 
-use crate::radio_tests::{Heard, LONE, two_frames};
+use crate::radio_tests::{Heard, two_frames};
 use crate::shared::{run_alone, same};
 use feed_link::{Failed, Source, SureSource};
 use feed_workers::{LogEnd, LogWork};
@@ -118,44 +118,50 @@ fn ends_so<R: Abort + Wait>(
     Ok(())
 }
 
-const LATE_LONE: &str = "0 1000000162000000 lone 3976257600\n";
+// The first mark of the two minutes at the end of a log, and the mark that closes the second.
+const LATE: u64 = 1_000_000_100_000_000;
 
-const LATE_BOTH: &str =
-    "0 1000000162000000 lone 3976257600\n0 1000000222000000 verdict 3976257660 0\n";
+const CLOSING: &str = "1000000222000000 100000\n";
 
-// The last line closes the second minute. Its line feed is the last byte that a log may have, or the one after it.
+const BOTH: &str = "0 1000000162000000 lone 3976257600\n0 1000000222000000 verdict 3976257660 0\n";
+
 #[test]
-fn a_byte_past_the_limit_is_too_long(rt: HostRuntime) -> Result<(), Fail> {
-    let end = two_frames(
-        rt.alloc(),
-        1_000_000_100_000_000,
-        "1000000222000000 100000\n",
-    )?;
-    let whole = Shape {
+fn a_log_of_as_many_bytes_as_there_may_be_is_whole(rt: HostRuntime) -> Result<(), Fail> {
+    let end = two_frames(rt.alloc(), LATE, CLOSING)?;
+    let shape = Shape {
         front: "1000000000 2000000\n",
         lines: 42_949_557,
         end: end.as_str(),
     };
-    same(&rt, bytes_of(&whole), 1 << 30);
-    ends_so(&rt, rt.alloc(), &whole, LogEnd::Whole, LATE_BOTH)?;
-    let long = Shape {
-        front: "10000000000 2000000\n",
-        lines: 42_949_557,
-        end: end.as_str(),
-    };
-    ends_so(&rt, rt.alloc(), &long, LogEnd::Long, LATE_LONE)
+    same(&rt, bytes_of(&shape), 1 << 30);
+    ends_so(&rt, rt.alloc(), &shape, LogEnd::Whole, BOTH)
 }
 
-// What follows the limit is not read, whether there is a minute before it or none.
+// A minute at the beginning, all marks after it up to the first late minute, and that minute.
+const UP_TO_LIMIT: &str =
+    "0 62000000 lone 3976257600\n0 1000000102000000 refused 1\n0 1000000162000000 lone 3976257600\n";
+
+// The byte past the limit is the line feed of the mark that closes the second late minute.
+#[test]
+fn a_byte_past_the_limit_is_too_long(rt: HostRuntime) -> Result<(), Fail> {
+    let front = two_frames(rt.alloc(), 0, "130000000 30000\n1000000000 2000000\n")?;
+    let end = two_frames(rt.alloc(), LATE, CLOSING)?;
+    let shape = Shape {
+        front: front.as_str(),
+        lines: 42_949_480,
+        end: end.as_str(),
+    };
+    same(&rt, bytes_of(&shape), (1 << 30) + 1);
+    ends_so(&rt, rt.alloc(), &shape, LogEnd::Long, UP_TO_LIMIT)
+}
+
+// What follows the limit is not read. No minute comes before it.
 #[test]
 fn a_log_without_an_end_is_too_long(rt: HostRuntime) -> Result<(), Fail> {
-    let front = two_frames(rt.alloc(), 0, "")?;
-    let mut shape = Shape {
-        front: front.as_str(),
+    let shape = Shape {
+        front: "",
         lines: u32::MAX,
         end: "",
     };
-    ends_so(&rt, rt.alloc(), &shape, LogEnd::Long, LONE)?;
-    shape.front = "";
     ends_so(&rt, rt.alloc(), &shape, LogEnd::Long, "")
 }
