@@ -202,7 +202,7 @@ printf 'leap_file = "%s"\n' "$work/long" > "$work/station"
 says 10 'status 10 long feed 0' "radio_ntpd: feed 0 ($work/long) has more than 65536 bytes" serve --station "$work/station"
 
 # Memory that runs out: for the room of a large journal, and at the least limit at which the program can begin at all. The sentence of
-# status 7 is in the tests of crates/standard_error: no host fails a call of a link when it is asked to.
+# status 7 is in message_tests of crates/text_tests: no host fails a call of a link when it is asked to.
 (ulimit -d 100000 && exec "$program" drill --seed 7 --limit 4194304) > "$work/out" 2> "$work/said"
 told=$?
 messages=$((messages + 1))

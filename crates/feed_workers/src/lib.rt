@@ -12,8 +12,3 @@ pub use leap::LeapWorker;
 pub use poller::PollWorker;
 pub use radio::{RadioWorker, WorkerOf};
 pub use work::{LogEnd, LogWork, PollEnd, PollWork};
-
-#[cfg(test)]
-mod leap_tests;
-#[cfg(test)]
-mod tests;

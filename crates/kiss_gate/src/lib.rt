@@ -4,8 +4,6 @@
 
 mod gate;
 mod judged;
-#[cfg(test)]
-mod net_tests;
 mod nets;
 mod table;
 

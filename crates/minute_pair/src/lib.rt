@@ -8,6 +8,3 @@ mod pairing;
 mod plans;
 
 pub use pairing::Pairing;
-
-#[cfg(test)]
-mod leap_tests;

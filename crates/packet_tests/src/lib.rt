@@ -9,6 +9,8 @@ mod kiss_code_tests;
 #[cfg(test)]
 mod kiss_gate_tests;
 #[cfg(test)]
+mod net_tests;
+#[cfg(test)]
 mod ntp_packet_tests;
 #[cfg(test)]
 mod packet_auth_tests;

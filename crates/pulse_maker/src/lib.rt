@@ -9,6 +9,3 @@ mod seconds;
 mod writer;
 
 pub use maker::make;
-
-#[cfg(test)]
-mod tests;

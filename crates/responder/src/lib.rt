@@ -8,8 +8,3 @@ mod state;
 
 pub use served::{End, Served};
 pub use state::Responder;
-
-#[cfg(test)]
-mod gate_tests;
-#[cfg(test)]
-mod tests;

@@ -19,6 +19,3 @@ pub use outcome::{DONE_LINE, Kind, Subject, TOML_LINE, subject_of};
 pub use texts::{NO_MEMORY_LINE, NO_MINUTE};
 pub use watched::Watched;
 pub use widths::{SAMPLE_BYTES, bad_line_text, no_minute_text};
-
-#[cfg(test)]
-mod tests;

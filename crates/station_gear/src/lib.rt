@@ -8,6 +8,3 @@ mod returning;
 pub use gear::{Gear, Missing};
 pub use opening::open_gear;
 pub use returning::give_back_gear;
-
-#[cfg(test)]
-mod tests;

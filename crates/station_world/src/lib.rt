@@ -2,8 +2,6 @@
 #![tactic(auto)]
 
 mod step;
-#[cfg(test)]
-mod tests;
 mod world;
 
 pub use step::{Step, StepRefusal};

@@ -1,6 +1,6 @@
 //! Tests of what reads and writes texts: numbers, lines, the list of leap seconds, scripts, the arguments of a command line. Also
-//! files and sinks, and the entries of a journal. They stand in a crate of their own: a change in them then re-proves none of the
-//! crates that they test.
+//! files and sinks, the entries of a journal, and the messages on standard error. They stand in a crate of their own: a change in
+//! them then re-proves none of the crates that they test.
 #![tactic(auto)]
 
 #[cfg(test)]
@@ -17,6 +17,8 @@ mod leap_file_tests;
 mod leap_list_tests;
 #[cfg(test)]
 mod line_cutter_tests;
+#[cfg(test)]
+mod message_tests;
 #[cfg(test)]
 mod numbered_tests;
 #[cfg(test)]

@@ -1,0 +1,215 @@
+//! Appends from one thread, up to a full journal, and what a journal says of each entry.
+ghost use Rattle.std.specs.Prelude.{◌≡◌, ◌<◌, ◌≤◌, ◌^◌, [], All, length};
+ghost use Rattle.page_cell.specs.Passes.{key_of};
+ghost use Rattle.system_fold.specs.Settings.{AreLawful};
+
+use crate::minutes::{append_all, of_radios, offer};
+use crate::shared::same;
+use page_cell::{CellParts, FeedPass, PageCell};
+use std::alloc::Global;
+use std::marker::Brand;
+use std::process::Abort;
+use std::sync::Wait;
+use std::test::*;
+use system_fold::Settings;
+use verdict_journal::{Full, Hub, HubName, HubParts, Journal};
+
+// The answer to an append, and how many entries its pass has seen then, as a receipt of it says.
+type Answer = (Option<Result<u64, Full>>, u64);
+
+// Appends the minute of this number to the journal.
+fn offered<N: HubName, R: Wait>(
+    rt: &R,
+    hub: &Hub<N>,
+    pass: &mut FeedPass,
+    feeds: u32,
+    number: u64,
+) -> Answer
+    requires pass { pass.old.table ≡ N.table }
+    requires feeds { feeds ≡ length N.settings.sources }
+    requires number { number < 2 ^ 20 }
+    ensures { pass.new.table ≡ pass.old.table }
+{
+    let answer = offer(rt, hub, pass, feeds, number);
+    let seen = hub.cell().receipt(pass).length();
+    (answer, seen)
+}
+
+// Two feeds in turn append to a journal of this many entries: the answers to each, and the journal.
+fn in_turn<N: HubName, R: Wait>(
+    rt: &R,
+    alloc: Global,
+    parts: CellParts,
+    settings: &Settings,
+    limit: u32,
+) -> Option<(Vec<Answer>, Journal)>
+    requires cell { (parts.cell.table ≡ N.table) × (parts.baton.table ≡ N.table) }
+    requires settings { (key_of parts.baton.view ≡ settings.now) × (settings.now ≡ N.settings) }
+    requires lawful { AreLawful settings.now }
+    requires fresh { parts.baton.view.list ≡ [] }
+    requires limit { (limit ≡ N.limit) × (0 < limit) × (limit ≤ 4194304) }
+    requires feeds { All (λ f. f.table ≡ N.table) parts.feeds.items }
+{
+    let Ok(
+        HubParts {
+            hub,
+            mut feeds,
+            readers: _,
+        },
+    ) = Hub::<N>::open(alloc, parts, settings, limit)
+    else {
+        return None;
+    };
+    let mut second = feeds.pop()?;
+    let mut first = feeds.pop()?;
+    let count = settings.count();
+    let mut answers = Vec::new(alloc);
+    for number in 0..2u64 {
+        answers
+            .push(offered(rt, &hub, &mut first, count, number))
+            .ok()?;
+        answers
+            .push(offered(rt, &hub, &mut second, count, number))
+            .ok()?;
+    }
+    let mut passes = Vec::new(alloc);
+    passes.push(first).ok()?;
+    passes.push(second).ok()?;
+    Some((answers, hub.close(passes, Vec::new(alloc))))
+}
+
+// Two feeds in turn, in a journal of this many entries: the answers to the first four appends, and how many entries there are.
+fn four_appends<R: Wait>(rt: &R, alloc: Global, limit: u32) -> Result<([Answer; 4], usize), Fail>
+    requires { (0 < limit) × (limit ≤ 4194304) }
+{
+    let settings = of_radios(2);
+    let Ok(parts) = PageCell::open(alloc, &settings, 0) else {
+        return Err("memory")?;
+    };
+    let Some((answers, journal)) = in_turn::<Brand, _>(rt, alloc, parts, &settings, limit) else {
+        return Err("memory")?;
+    };
+    let mut first = [(None, 0); 4];
+    for (place, answer) in answers.iter().enumerate() {
+        if place < 4 {
+            first[place] = *answer;
+        }
+    }
+    Ok((first, journal.len()))
+}
+
+// A journal is full exactly where it has as many entries as it may. The pass that appends has then seen all that are in it, also
+// where there was no room.
+#[test]
+fn a_journal_is_full_at_its_limit(rt: HostRuntime) -> Result<(), Fail> {
+    let full = Some(Err(Full { limit: 1 }));
+    same(
+        &rt,
+        four_appends(&rt, rt.alloc(), 1)?,
+        ([(Some(Ok(1)), 1), (full, 1), (full, 1), (full, 1)], 1),
+    );
+    let full = Some(Err(Full { limit: 3 }));
+    same(
+        &rt,
+        four_appends(&rt, rt.alloc(), 3)?,
+        (
+            [
+                (Some(Ok(1)), 1),
+                (Some(Ok(2)), 2),
+                (Some(Ok(3)), 3),
+                (full, 3),
+            ],
+            3,
+        ),
+    );
+    same(
+        &rt,
+        four_appends(&rt, rt.alloc(), 4)?,
+        (
+            [
+                (Some(Ok(1)), 1),
+                (Some(Ok(2)), 2),
+                (Some(Ok(3)), 3),
+                (Some(Ok(4)), 4),
+            ],
+            4,
+        ),
+    );
+    Ok(())
+}
+
+// One radio appends six minutes to a journal of this many entries: how many were taken, and the journal.
+fn six_minutes<N: HubName, R: Wait>(
+    rt: &R,
+    alloc: Global,
+    parts: CellParts,
+    settings: &Settings,
+    limit: u32,
+) -> Option<(u64, Journal)>
+    requires cell { (parts.cell.table ≡ N.table) × (parts.baton.table ≡ N.table) }
+    requires settings { (key_of parts.baton.view ≡ settings.now) × (settings.now ≡ N.settings) }
+    requires lawful { AreLawful settings.now }
+    requires fresh { parts.baton.view.list ≡ [] }
+    requires limit { (limit ≡ N.limit) × (0 < limit) × (limit ≤ 4194304) }
+    requires feeds { All (λ f. f.table ≡ N.table) parts.feeds.items }
+{
+    let Ok(
+        HubParts {
+            hub,
+            mut feeds,
+            readers: _,
+        },
+    ) = Hub::<N>::open(alloc, parts, settings, limit)
+    else {
+        return None;
+    };
+    let pass = feeds.pop()?;
+    let (pass, taken) = append_all(rt, &hub, pass, settings.count(), 6);
+    let mut passes = Vec::new(alloc);
+    passes.push(pass).ok()?;
+    Some((taken, hub.close(passes, Vec::new(alloc))))
+}
+
+// The number of a line of a journal, and the rate of the page after it.
+fn number_at(journal: &Journal, place: usize) -> Option<(u64, i32)> {
+    match journal.numbered(place) {
+        Some(line) => Some((line.length, line.rate)),
+        None => None,
+    }
+}
+
+// The number and the rate of each line, and that there is no sixth one.
+const NUMBERS: [Option<(u64, i32)>; 6] = [
+    Some((1, 0)),
+    Some((2, 0)),
+    Some((3, 0)),
+    Some((4, -18_063)),
+    Some((5, -12_098)),
+    None,
+];
+
+fn have_numbers(rt: &impl Abort, journal: &Journal, lines: &[Option<(u64, i32)>]) {
+    for (place, line) in lines.iter().enumerate() {
+        same(rt, number_at(journal, place), *line);
+    }
+}
+
+// A radio gives the time from its fourth minute on. From the first to the fourth the counter gains 757 us, 3251290 units of 2^-32
+// s, in 180.000757 s. To the fifth it gains 676 us, 2903397 units, in 240.000676 s. These are 18062.6 and 12097.5 units a second,
+// and a rate is rounded down. The sixth minute finds the journal full.
+#[test]
+fn a_line_has_its_number_and_the_rate_after_it(rt: HostRuntime) -> Result<(), Fail> {
+    let settings = of_radios(1);
+    let Ok(parts) = PageCell::open(rt.alloc(), &settings, 0) else {
+        return Err("memory")?;
+    };
+    let Some((taken, journal)) = six_minutes::<Brand, _>(&rt, rt.alloc(), parts, &settings, 5)
+    else {
+        return Err("memory")?;
+    };
+    same(&rt, taken, 5);
+    have_numbers(&rt, &journal, &NUMBERS);
+    let page = journal.page();
+    same(&rt, (page.length, page.sync, page.rate), (5, true, -12_098));
+    Ok(())
+}

@@ -1,0 +1,283 @@
+//! A poller's worker over links in memory. The answers of a server were computed by hand from RFC 5905, section 8. One poller runs
+//! on the loopback beside a server's thread.
+ghost use Rattle.std.specs.Prelude.{◌<◌, ◌≤◌};
+
+use crate::shared::{Work, moment, run_alone, same};
+use feed_link::{Address, HostOutside, Link, MemoryLink, OpenGate, Outside, Planned};
+use feed_workers::{PollEnd, PollWork, PollWorker};
+use page_cell::FeedPass;
+use std::alloc::Global;
+use std::net::{IpAddr, Ipv4Addr, SocketAddr, UdpSocket};
+use std::process::Abort;
+use std::sync::Wait;
+use std::test::Fail;
+use std::time::Duration;
+use std::{io, thread};
+use system_fold::SourceKind;
+use verdict_journal::{Hub, HubName};
+
+const SERVER: Address = Address {
+    ip: 0x7f00_0001,
+    port: 123,
+};
+
+// The answer of a server of stratum 2 to the request of 1 s, received at 2026-01-01 12:05:05 UTC and answered half a millisecond
+// later.
+const ANSWER: [u8; 48] = [
+    0x24, 0x02, 0x06, 0xec, 0x00, 0x00, 0x01, 0x00, 0x00, 0x00, 0x02, 0x00, 0x0a, 0x00, 0x00, 0x01, // to the refid
+    0x00, 0x00, 0x00, 0x00, 0x00, 0x00, 0x00, 0x00, 0x80, 0x00, 0x00, 0x01, 0x00, 0x00, 0x00, 0x00, // to the origin
+    0xed, 0x00, 0xe1, 0x31, 0x00, 0x00, 0x00, 0x00, 0xed, 0x00, 0xe1, 0x31, 0x00, 0x20, 0xc4, 0x9b,
+];
+
+const SAMPLE: &str = "0 1010000 sample 17077897383243199545 40802189 8837 2 7f000001 256 512\n";
+
+// A server that is polled this many times over a link.
+#[derive(Drop)]
+struct Asked<L: Link + Drop> {
+    server: Address,
+    polls: u32,
+    link: L,
+}
+
+impl<L: Link + Drop> Work for Asked<L> {
+    type Done = (PollWork, L);
+
+    fn run<N: HubName, R: Wait>(
+        self,
+        rt: &R,
+        hub: &Hub<N>,
+        pass: FeedPass,
+    ) -> ((PollWork, L), FeedPass) {
+        let Asked {
+            server,
+            polls,
+            link,
+        } = self;
+        let mut worker = PollWorker::new(server, polls, link, pass);
+        let work = worker.run(rt, hub, &OpenGate::new());
+        let (link, pass) = worker.give_back();
+        ((work, link), pass)
+    }
+}
+
+// The answer as it comes at 1.01 s from a port of the server, or its first bytes.
+fn answer(alloc: Global, port: u16, length: usize) -> Result<Planned, Fail> {
+    Ok(Planned::Datagram {
+        from: Address {
+            ip: SERVER.ip,
+            port,
+        },
+        at: moment(1_010_000),
+        bytes: Vec::from_slice(alloc, &ANSWER[..length.min(48)])?,
+    })
+}
+
+// A link with these hearings whose first moment is 1 s, of which one call fails.
+fn link_of(alloc: Global, hearings: Vec<Planned>, failing: u64) -> Result<MemoryLink, Fail> {
+    let mut moments = Vec::new(alloc);
+    moments.push(moment(1_000_000))?;
+    let fails = vec![in alloc; failing]?;
+    Ok(MemoryLink::new(alloc, hearings, moments, fails, 40, 4000)?)
+}
+
+// A link with this many datagrams that are too short, and then the answer; one call of it fails.
+fn short_ones(alloc: Global, count: u32, failing: u64) -> Result<MemoryLink, Fail> {
+    let mut hearings = Vec::new(alloc);
+    for _ in 0..count {
+        hearings.push(answer(alloc, 123, 47)?)?;
+    }
+    hearings.push(answer(alloc, 123, 48)?)?;
+    link_of(alloc, hearings, failing)
+}
+
+// This many lines of a datagram that is too short, and an end.
+fn declined(alloc: Global, count: u32, end: &str) -> Result<String, Fail> {
+    let mut lines = String::new(alloc);
+    for _ in 0..count {
+        lines.push_str("0 1010000 declined 2\n")?;
+    }
+    lines.push_str(end)?;
+    Ok(lines)
+}
+
+// A poller's worker polls this many times over a link, where the journal may have this many entries. It does this. The journal
+// has these lines, and the link reports this many events.
+fn polls<R: Abort + Wait>(
+    rt: &R,
+    alloc: Global,
+    link: MemoryLink,
+    polls: u32,
+    limit: u32,
+    work: PollWork,
+    lines: &str,
+    events: usize,
+) -> Result<(), Fail>
+    requires { (0 < limit) × (limit ≤ 4194304) }
+{
+    let asked = Asked {
+        server: SERVER,
+        polls,
+        link,
+    };
+    let ran = run_alone(rt, alloc, SourceKind::Server(SERVER), limit, asked)?;
+    let (done, link) = ran.done;
+    same(rt, (done, link.count()), (work, events));
+    same(rt, ran.lines.as_str(), lines);
+    Ok(())
+}
+
+const ROUNDS: PollWork = PollWork {
+    end: PollEnd::Rounds,
+    full: false,
+};
+
+const LINK_END: PollWork = PollWork {
+    end: PollEnd::LinkEnd,
+    full: false,
+};
+
+#[test]
+fn an_answer_is_a_sample_and_a_strangers_is_declined(rt: HostRuntime) -> Result<(), Fail> {
+    let mut hearings = Vec::new(rt.alloc());
+    hearings.push(answer(rt.alloc(), 124, 48)?)?;
+    hearings.push(answer(rt.alloc(), 123, 48)?)?;
+    let link = link_of(rt.alloc(), hearings, 0)?;
+    let mut lines = String::from_str(rt.alloc(), "0 1010000 declined 1\n")?;
+    lines.push_str(SAMPLE)?;
+    polls(&rt, rt.alloc(), link, 1, 9, ROUNDS, lines.as_str(), 4)
+}
+
+#[test]
+fn silence_ends_a_round_without_an_entry(rt: HostRuntime) -> Result<(), Fail> {
+    let mut hearings = Vec::new(rt.alloc());
+    hearings.push(Planned::Quiet)?;
+    hearings.push(answer(rt.alloc(), 123, 47)?)?;
+    hearings.push(Planned::Quiet)?;
+    let link = link_of(rt.alloc(), hearings, 0)?;
+    polls(
+        &rt,
+        rt.alloc(),
+        link,
+        2,
+        9,
+        ROUNDS,
+        "0 1010000 declined 2\n",
+        7,
+    )
+}
+
+// How many short datagrams come before the answer, how many polls there are, what the worker does, how many lines speak of short
+// datagrams, the line after them, and how many events there are.
+const WRONG: [(u32, u32, PollWork, u32, &str, usize); 3] = [
+    (7, 1, ROUNDS, 7, SAMPLE, 10),
+    (8, 1, ROUNDS, 8, "", 10),
+    (8, 2, LINK_END, 8, "0 1010000 declined 6\n", 14),
+];
+
+fn end_rounds<R: Abort + Wait>(
+    rt: &R,
+    alloc: Global,
+    rows: &[(u32, u32, PollWork, u32, &str, usize)],
+) -> Result<(), Fail> {
+    for (short, count, work, bad, end, events) in rows {
+        let link = short_ones(alloc, *short, 0)?;
+        let lines = declined(alloc, *bad, end)?;
+        polls(rt, alloc, link, *count, 20, *work, lines.as_str(), *events)?;
+    }
+    Ok(())
+}
+
+// The eighth hearing ends its round, so the answer comes in the next one, whose request has another stamp.
+#[test]
+fn eight_wrong_datagrams_end_a_round(rt: HostRuntime) -> Result<(), Fail> {
+    end_rounds(&rt, rt.alloc(), &WRONG)
+}
+
+// The call that fails, why the worker ends, the lines of the journal, and how many events there are.
+const FAULTS: [(u64, PollEnd, &str, usize); 5] = [
+    (1, PollEnd::LinkFault, "", 1),
+    (2, PollEnd::LinkFault, "", 2),
+    (3, PollEnd::LinkFault, SAMPLE, 4),
+    (4, PollEnd::LinkFault, SAMPLE, 5),
+    (5, PollEnd::LinkEnd, SAMPLE, 6),
+];
+
+fn end_at_faults<R: Abort + Wait>(
+    rt: &R,
+    alloc: Global,
+    rows: &[(u64, PollEnd, &str, usize)],
+) -> Result<(), Fail> {
+    for (failing, end, lines, events) in rows {
+        let link = short_ones(alloc, 0, *failing)?;
+        let work = PollWork {
+            end: *end,
+            full: false,
+        };
+        polls(rt, alloc, link, 2, 9, work, lines, *events)?;
+    }
+    Ok(())
+}
+
+// Two polls: one of the sending, the hearing, the second sending and the hearing of the end fails.
+#[test]
+fn a_fault_of_the_link_ends_the_polling(rt: HostRuntime) -> Result<(), Fail> {
+    end_at_faults(&rt, rt.alloc(), &FAULTS)
+}
+
+#[test]
+fn a_full_journal_keeps_a_front_and_the_polling_goes_on(rt: HostRuntime) -> Result<(), Fail> {
+    let link = short_ones(rt.alloc(), 1, 0)?;
+    let end = PollEnd::LinkEnd;
+    let work = PollWork { end, full: true };
+    polls(
+        &rt,
+        rt.alloc(),
+        link,
+        2,
+        1,
+        work,
+        "0 1010000 declined 2\n",
+        7,
+    )
+}
+
+// A server that answers one request with the origin of that request: how many bytes the request had.
+fn serve_once(socket: &UdpSocket) -> io::Result<usize> {
+    let mut piece = [0u8; 1024];
+    let (length, client) = socket.recv_from(&mut piece)?;
+    let mut reply = ANSWER;
+    reply[24..32].copy_from_slice(&piece[40..48]);
+    socket.send_to(&reply, client)?;
+    Ok(length)
+}
+
+#[test]
+fn a_server_on_the_loopback_is_polled(rt: HostRuntime) -> Result<(), Fail> {
+    let loopback = SocketAddr::new(IpAddr::V4(Ipv4Addr::LOCALHOST), 0);
+    let socket = UdpSocket::bind(&rt, loopback)?;
+    socket.set_read_timeout(Some(Duration::from_secs(5)))?;
+    let server = Address {
+        ip: 0x7f00_0001,
+        port: socket.local_addr()?.port(),
+    };
+    let mut outside = HostOutside::new(&rt);
+    let Ok(link) = outside.open_link(0, moment(1_000_000)) else {
+        return Err("the link was not opened")?;
+    };
+    let Ok(child) = thread::spawn(&rt, move || serve_once(&socket)) else {
+        return Err("no thread")?;
+    };
+    let asked = Asked {
+        server,
+        polls: 1,
+        link,
+    };
+    let ran = run_alone(&rt, rt.alloc(), SourceKind::Server(server), 9, asked)?;
+    let Ok(length) = child.join(&rt) else {
+        return Err("the server was not asked")?;
+    };
+    same(&rt, (ran.done.0, length), (ROUNDS, 48));
+    let is_sample = ran.lines.as_str().contains(" sample ");
+    same(&rt, (ran.count, is_sample), (1, true));
+    Ok(())
+}

@@ -1,0 +1,193 @@
+//! A radio's worker over logs in memory. They are of DCF77 by PTB's table of 1 January 2026, 13:00 and 13:01.
+ghost use Rattle.std.specs.Prelude.{◌<◌, ◌≤◌};
+
+use crate::shared::{Work, run_alone, same};
+use feed_link::{MemorySource, OpenGate, Source};
+use feed_workers::{LogEnd, LogWork, RadioWorker};
+use page_cell::FeedPass;
+use radio_receiver::{DcfReceiver, Receiver};
+use std::alloc::Global;
+use std::process::Abort;
+use std::sync::Wait;
+use std::test::Fail;
+use system_fold::SourceKind;
+use tick_units::Plan;
+use verdict_journal::{Hub, HubName};
+
+const NOON: [usize; 12] = [18, 20, 29, 30, 33, 35, 36, 44, 45, 51, 52, 55];
+
+const NOON_1: [usize; 14] = [18, 20, 21, 28, 29, 30, 33, 35, 36, 44, 45, 51, 52, 55];
+
+const LONE: &str = "0 62000000 lone 3976257600\n";
+
+const BOTH: &str = "0 62000000 lone 3976257600\n0 122000000 verdict 3976257660 0\n";
+
+/// A log that a receiver of DCF77 hears.
+#[derive(Drop)]
+pub struct Heard<L: Source + Drop> {
+    pub alloc: Global,
+    pub log: L,
+}
+
+impl<L: Source + Drop> Work for Heard<L> {
+    type Done = Option<LogWork>;
+
+    fn run<N: HubName, R: Wait>(
+        self,
+        rt: &R,
+        hub: &Hub<N>,
+        pass: FeedPass,
+    ) -> (Option<LogWork>, FeedPass) {
+        let Heard { alloc, log } = self;
+        let Ok(receiver) = Box::new(alloc, DcfReceiver::new()) else {
+            return (None, pass);
+        };
+        let mut worker = RadioWorker::new(receiver, log, pass);
+        let work = worker.run(rt, hub, &OpenGate::new());
+        (Some(work), worker.give_back().1)
+    }
+}
+
+// The lines of a frame that starts at this microsecond.
+fn add_frame(text: &mut String, ones: &[usize], start: u64) -> Result<(), Fail> {
+    for place in 0..59usize {
+        let at = start.saturating_add(1_000_000u64.saturating_mul(place as u64));
+        let width = if ones.contains(&place) {
+            200_000
+        } else {
+            100_000
+        };
+        writeln!(text, "{at} {width}")?;
+    }
+    Ok(())
+}
+
+/// The log of two minutes, with an end. Its first mark is at this microsecond.
+pub fn two_frames(alloc: Global, first: u64, end: &str) -> Result<String, Fail> {
+    let mut text = String::new(alloc);
+    writeln!(text, "{first} 100000")?;
+    add_frame(&mut text, &NOON, first.saturating_add(2_000_000))?;
+    add_frame(&mut text, &NOON_1, first.saturating_add(62_000_000))?;
+    text.push_str(end)?;
+    Ok(text)
+}
+
+// A radio's worker reads a log of which given reads fail, where the journal may have this many entries: what it did, and the lines
+// of the journal.
+fn reads<R: Abort + Wait>(
+    rt: &R,
+    alloc: Global,
+    log: &str,
+    failing: u64,
+    limit: u32,
+    work: LogWork,
+    lines: &str,
+) -> Result<(), Fail>
+    requires { (0 < limit) × (limit ≤ 4194304) }
+{
+    let fails = vec![in alloc; failing]?;
+    let log = MemorySource::new(Vec::from_slice(alloc, log.as_bytes())?, fails);
+    let heard = Heard { alloc, log };
+    let ran = run_alone(rt, alloc, SourceKind::Radio(Plan::Dcf), limit, heard)?;
+    same(rt, ran.done, Some(work));
+    same(rt, ran.lines.as_str(), lines);
+    Ok(())
+}
+
+// How the log of two minutes ends, by its end, and the lines of the journal.
+const ENDS: [(&str, LogEnd, &str); 4] = [
+    ("122000000 100000\n", LogEnd::Whole, BOTH),
+    ("122000000 100000", LogEnd::BadLine { line: 120 }, LONE),
+    ("122000000 100000\nx\n", LogEnd::BadLine { line: 121 }, BOTH),
+    ("x\n122000000 100000\n", LogEnd::BadLine { line: 120 }, LONE),
+];
+
+fn end_so<R: Abort + Wait>(
+    rt: &R,
+    alloc: Global,
+    rows: &[(&str, LogEnd, &str)],
+) -> Result<(), Fail> {
+    for (tail, end, lines) in rows {
+        let log = two_frames(alloc, 0, tail)?;
+        let work = LogWork {
+            end: *end,
+            full: false,
+        };
+        reads(rt, alloc, log.as_str(), 0, 9, work, lines)?;
+    }
+    Ok(())
+}
+
+#[test]
+fn a_log_is_read_to_its_end_or_to_its_first_bad_line(rt: HostRuntime) -> Result<(), Fail> {
+    end_so(&rt, rt.alloc(), &ENDS)
+}
+
+// The read that fails, and the lines of the journal.
+const FAULTS: [(u64, &str); 5] = [(1, ""), (2, ""), (3, LONE), (4, LONE), (5, BOTH)];
+
+fn end_at_faults<R: Abort + Wait>(
+    rt: &R,
+    alloc: Global,
+    log: &str,
+    rows: &[(u64, &str)],
+) -> Result<(), Fail> {
+    let work = LogWork {
+        end: LogEnd::Fault,
+        full: false,
+    };
+    for (failing, lines) in rows {
+        reads(rt, alloc, log, *failing, 9, work, lines)?;
+    }
+    Ok(())
+}
+
+// The log has 1,927 bytes, so its reads are of 512, 512, 512, 391 and no bytes.
+#[test]
+fn a_read_that_fails_ends_the_reading(rt: HostRuntime) -> Result<(), Fail> {
+    let log = two_frames(rt.alloc(), 0, "122000000 100000\n")?;
+    end_at_faults(&rt, rt.alloc(), log.as_str(), &FAULTS)
+}
+
+#[test]
+fn a_full_journal_keeps_a_front_and_the_log_is_read_on(rt: HostRuntime) -> Result<(), Fail> {
+    let log = two_frames(rt.alloc(), 0, "122000000 100000\n")?;
+    let end = LogEnd::Whole;
+    reads(
+        &rt,
+        rt.alloc(),
+        log.as_str(),
+        0,
+        1,
+        LogWork { end, full: true },
+        LONE,
+    )?;
+    reads(
+        &rt,
+        rt.alloc(),
+        log.as_str(),
+        0,
+        2,
+        LogWork { end, full: false },
+        BOTH,
+    )
+}
+
+// The second minute's entry finds the journal full. The bad line follows one more frame, in a later piece: 1 and three times 59
+// lines before it.
+#[test]
+fn a_log_is_read_on_to_a_bad_line_behind_a_lost_entry(rt: HostRuntime) -> Result<(), Fail> {
+    let mut log = two_frames(rt.alloc(), 0, "")?;
+    add_frame(&mut log, &NOON, 122_000_000)?;
+    log.push_str("x\n")?;
+    let end = LogEnd::BadLine { line: 179 };
+    reads(
+        &rt,
+        rt.alloc(),
+        log.as_str(),
+        0,
+        1,
+        LogWork { end, full: true },
+        LONE,
+    )
+}

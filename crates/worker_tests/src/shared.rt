@@ -1,0 +1,144 @@
+//! What the tests of workers share: a comparison, a moment, the settings of a station, and a hub in which one feed's worker runs.
+ghost use Rattle.std.specs.Prelude.{◌≡◌, ◌<◌, ◌≤◌, [], All, length};
+ghost use Rattle.feed_workers.specs.Keeping.{IsOfFeed};
+ghost use Rattle.page_cell.specs.Passes.{claim_of, key_of};
+ghost use Rattle.system_fold.specs.Settings.{AreLawful};
+
+use journal_entry::{ENTRY_ROOM, write_entry};
+use page_cell::{CellParts, FeedPass, PageCell};
+use std::alloc::Global;
+use std::fmt::Debug;
+use std::marker::Brand;
+use std::process::Abort;
+use std::sync::Wait;
+use std::test::Fail;
+use system_fold::{Settings, SourceKind};
+use tick_units::Local;
+use verdict_journal::{Hub, HubName, HubParts, Journal};
+
+/// What `assert_eq!` does, as a call: where a test has many, calls are proved in a third of the time.
+pub fn same<T: PartialEq + Debug + Drop>(rt: &impl Abort, left: T, right: T) {
+    assert_eq!(*rt; left, right);
+}
+
+/// The host's counter at this microsecond.
+pub fn moment(microseconds: u32) -> Local {
+    Local::new(u64::from(microseconds)).unwrap()
+}
+
+/// The settings of a station without a source.
+pub fn without_sources() -> Settings
+    ensures { AreLawful result }
+{
+    Settings::new(1000)
+}
+
+/// The settings of a station with one source.
+pub fn settings_of(kind: SourceKind) -> Settings
+    ensures lawful { AreLawful result }
+    ensures one { length result.sources ≡ 1 }
+{
+    let mut settings = Settings::new(1000);
+    settings.add(kind);
+    settings
+}
+
+/// What the worker of a feed does in a hub, with the feed's pass.
+pub trait Work: Drop {
+    /// What it did, and what it gives back beside the pass.
+    type Done: Drop;
+
+    fn run<N: HubName, R: Wait>(
+        self,
+        rt: &R,
+        hub: &Hub<N>,
+        pass: FeedPass,
+    ) -> (Self::Done, FeedPass)
+        requires { IsOfFeed N.table (length N.settings.sources) (claim_of pass.view).number pass }
+        ensures { result.1.table ≡ N.table };
+}
+
+// Runs a worker in a hub for this many entries: what it did, and the journal.
+fn in_hub<N: HubName, R: Wait, W: Work>(
+    rt: &R,
+    alloc: Global,
+    parts: CellParts,
+    settings: &Settings,
+    limit: u32,
+    work: W,
+) -> Option<(W::Done, Journal)>
+    requires cell { (parts.cell.table ≡ N.table) × (parts.baton.table ≡ N.table) }
+    requires settings { (key_of parts.baton.view ≡ settings.now) × (settings.now ≡ N.settings) }
+    requires lawful { AreLawful settings.now }
+    requires fresh { parts.baton.view.list ≡ [] }
+    requires limit { (limit ≡ N.limit) × (0 < limit) × (limit ≤ 4194304) }
+    requires feeds { All (λ f. f.table ≡ N.table) parts.feeds.items }
+{
+    let Ok(
+        HubParts {
+            hub,
+            mut feeds,
+            readers: _,
+        },
+    ) = Hub::<N>::open(alloc, parts, settings, limit)
+    else {
+        return None;
+    };
+    let pass = feeds.pop()?;
+    if pass.number() >= settings.count() {
+        return None;
+    }
+    let (done, pass) = work.run(rt, &hub, pass);
+    let mut passes = Vec::new(alloc);
+    passes.push(pass).ok()?;
+    Some((done, hub.close(passes, Vec::new(alloc))))
+}
+
+// The lines of a journal.
+fn text_of(alloc: Global, journal: &Journal) -> Result<String, Fail> {
+    let mut text = String::new(alloc);
+    for place in 0..journal.len() {
+        if let Some(entry) = journal.get(place) {
+            let mut line = [0; ENTRY_ROOM];
+            let count = write_entry(&entry, &mut line);
+            for byte in line.iter().take(count) {
+                text.push(char::from(*byte))?;
+            }
+            text.push('\n')?;
+        }
+    }
+    Ok(text)
+}
+
+/// What a worker did, and the journal after it: its lines, and how many entries it has.
+#[derive(Drop)]
+pub struct Ran<D: Drop> {
+    pub done: D,
+    pub lines: String,
+    pub count: usize,
+}
+
+/// Runs the worker of a station's one feed, where the journal may have this many entries.
+pub fn run_alone<R: Wait, W: Work>(
+    rt: &R,
+    alloc: Global,
+    kind: SourceKind,
+    limit: u32,
+    work: W,
+) -> Result<Ran<W::Done>, Fail>
+    requires { (0 < limit) × (limit ≤ 4194304) }
+{
+    let settings = settings_of(kind);
+    let Ok(parts) = PageCell::open(alloc, &settings, 1) else {
+        return Err("memory")?;
+    };
+    let Some((done, journal)) = in_hub::<Brand, R, W>(rt, alloc, parts, &settings, limit, work)
+    else {
+        return Err("memory")?;
+    };
+    Ok(Ran {
+        done,
+        lines: text_of(alloc, &journal)?,
+        count: journal.len(),
+    })
+}
