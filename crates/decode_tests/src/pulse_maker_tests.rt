@@ -1,5 +1,5 @@
 //! Made logs, against values from outside.
-ghost use Rattle.std.specs.Prelude.{◌≡◌, ◌≤◌, [], ◌∷◌, length};
+ghost use Rattle.std.specs.Prelude.{◌≡◌, ◌<◌, ◌≤◌, [], ◌∷◌, codes, length};
 ghost use Rattle.pulse_maker.specs.Made.{reductions_of, seeded};
 ghost use Rattle.pulse_maker.specs.Progress.{text_from};
 ghost use Rattle.tick_units.specs.declared.marks.Plan.TheVariants.{Msf};

@@ -1,16 +1,18 @@
 //! A radio's worker over logs that have as many bytes as a log may have, 2^30, or more. A source makes them while they are read.
 ghost use Rattle.std.specs.Prelude.{◌≤◌, length};
 
-use crate::radio_tests::{Heard, two_frames};
-use crate::shared::{run_alone, same};
+use crate::radio_tests::{Heard, hear, two_frames};
+use crate::shared::{Work, run_alone, same};
 use feed_link::{Failed, Source, SureSource};
 use feed_workers::{LogEnd, LogWork};
+use page_cell::FeedPass;
 use std::alloc::Global;
 use std::process::Abort;
 use std::sync::Wait;
 use std::test::Fail;
 use system_fold::SourceKind;
 use tick_units::Plan;
+use verdict_journal::{Hub, HubName};
 
 // The bytes of a line of a log that is made: a start of 16 digits, and a width that is in no class.
 const LINE: usize = 25;
@@ -78,6 +80,19 @@ impl Source for LongLog {
             return Ok(self.read_line(piece));
         }
         self.end.read(piece)
+    }
+}
+
+impl Work for Heard<LongLog> {
+    type Done = Option<LogWork>;
+
+    fn run<N: HubName, R: Wait>(
+        self,
+        rt: &R,
+        hub: &Hub<N>,
+        pass: FeedPass,
+    ) -> (Option<LogWork>, FeedPass) {
+        hear(rt, hub, self, pass)
     }
 }
 

@@ -1,20 +1,23 @@
 //! A poller's worker over links in memory. The answers of a server were computed by hand from RFC 5905, section 8. One poller runs
 //! on the loopback beside a server's thread.
-ghost use Rattle.std.specs.Prelude.{◌<◌, ◌≤◌};
+ghost use Rattle.std.specs.Prelude.{◌≡◌, ◌<◌, ◌≤◌, [], All};
+ghost use Rattle.page_cell.specs.Passes.{key_of};
+ghost use Rattle.system_fold.specs.Settings.{AreLawful};
 
-use crate::shared::{Work, moment, run_alone, same};
-use feed_link::{Address, HostOutside, Link, MemoryLink, OpenGate, Outside, Planned};
+use crate::shared::{moment, same, settings_of, text_of};
+use feed_link::{Address, HostOutside, Link, MemoryLink, OpenGate, Outside, Planned, UdpLink};
 use feed_workers::{PollEnd, PollWork, PollWorker};
-use page_cell::FeedPass;
+use page_cell::{CellParts, PageCell};
 use std::alloc::Global;
+use std::marker::Brand;
 use std::net::{IpAddr, Ipv4Addr, SocketAddr, UdpSocket};
 use std::process::Abort;
 use std::sync::Wait;
 use std::test::Fail;
 use std::time::Duration;
 use std::{io, thread};
-use system_fold::SourceKind;
-use verdict_journal::{Hub, HubName};
+use system_fold::{Settings, SourceKind};
+use verdict_journal::{Hub, HubName, HubParts, Journal};
 
 const SERVER: Address = Address {
     ip: 0x7f00_0001,
@@ -31,33 +34,44 @@ const ANSWER: [u8; 48] = [
 
 const SAMPLE: &str = "0 1010000 sample 17077897383243199545 40802189 8837 2 7f000001 256 512\n";
 
-// A server that is polled this many times over a link.
-#[derive(Drop)]
-struct Asked<L: Link + Drop> {
+// Runs a poller's worker over a link, in a hub for this many entries: what it did, the journal, and the link.
+fn run_poller<N: HubName, R: Wait, L: Link + Drop>(
+    rt: &R,
+    alloc: Global,
+    parts: CellParts,
+    settings: &Settings,
+    limit: u32,
     server: Address,
     polls: u32,
     link: L,
-}
-
-impl<L: Link + Drop> Work for Asked<L> {
-    type Done = (PollWork, L);
-
-    fn run<N: HubName, R: Wait>(
-        self,
-        rt: &R,
-        hub: &Hub<N>,
-        pass: FeedPass,
-    ) -> ((PollWork, L), FeedPass) {
-        let Asked {
-            server,
-            polls,
-            link,
-        } = self;
-        let mut worker = PollWorker::new(server, polls, link, pass);
-        let work = worker.run(rt, hub, &OpenGate::new());
-        let (link, pass) = worker.give_back();
-        ((work, link), pass)
+) -> Option<(PollWork, Journal, L)>
+    requires cell { (parts.cell.table ≡ N.table) × (parts.baton.table ≡ N.table) }
+    requires settings { (key_of parts.baton.view ≡ settings.now) × (settings.now ≡ N.settings) }
+    requires lawful { AreLawful settings.now }
+    requires fresh { parts.baton.view.list ≡ [] }
+    requires limit { (limit ≡ N.limit) × (0 < limit) × (limit ≤ 4194304) }
+    requires feeds { All (λ f. f.table ≡ N.table) parts.feeds.items }
+{
+    let Ok(
+        HubParts {
+            hub,
+            mut feeds,
+            readers: _,
+        },
+    ) = Hub::<N>::open(alloc, parts, settings, limit)
+    else {
+        return None;
+    };
+    let pass = feeds.pop()?;
+    if pass.number() >= settings.count() {
+        return None;
     }
+    let mut worker = PollWorker::new(server, polls, link, pass);
+    let work = worker.run(rt, &hub, &OpenGate::new());
+    let (link, pass) = worker.give_back();
+    let mut passes = Vec::new(alloc);
+    passes.push(pass).ok()?;
+    Some((work, hub.close(passes, Vec::new(alloc)), link))
 }
 
 // The answer as it comes at 1.01 s from a port of the server, or its first bytes.
@@ -114,15 +128,18 @@ fn polls<R: Abort + Wait>(
 ) -> Result<(), Fail>
     requires { (0 < limit) × (limit ≤ 4194304) }
 {
-    let asked = Asked {
-        server: SERVER,
-        polls,
-        link,
+    let settings = settings_of(SourceKind::Server(SERVER));
+    let Ok(parts) = PageCell::open(alloc, &settings, 1) else {
+        return Err("memory")?;
     };
-    let ran = run_alone(rt, alloc, SourceKind::Server(SERVER), limit, asked)?;
-    let (done, link) = ran.done;
+    let ran = run_poller::<Brand, R, MemoryLink>(
+        rt, alloc, parts, &settings, limit, SERVER, polls, link,
+    );
+    let Some((done, journal, link)) = ran else {
+        return Err("memory")?;
+    };
     same(rt, (done, link.count()), (work, events));
-    same(rt, ran.lines.as_str(), lines);
+    same(rt, text_of(alloc, &journal)?.as_str(), lines);
     Ok(())
 }
 
@@ -264,20 +281,32 @@ fn a_server_on_the_loopback_is_polled(rt: HostRuntime) -> Result<(), Fail> {
     let Ok(link) = outside.open_link(0, moment(1_000_000)) else {
         return Err("the link was not opened")?;
     };
+    let settings = settings_of(SourceKind::Server(server));
+    let Ok(parts) = PageCell::open(rt.alloc(), &settings, 1) else {
+        return Err("memory")?;
+    };
     let Ok(child) = thread::spawn(&rt, move || serve_once(&socket)) else {
         return Err("no thread")?;
     };
-    let asked = Asked {
+    let ran = run_poller::<Brand, HostRuntime, _>(
+        &rt,
+        rt.alloc(),
+        parts,
+        &settings,
+        9,
         server,
-        polls: 1,
+        1,
         link,
+    );
+    let Some((work, journal, _)) = ran else {
+        return Err("memory")?;
     };
-    let ran = run_alone(&rt, rt.alloc(), SourceKind::Server(server), 9, asked)?;
     let Ok(length) = child.join(&rt) else {
         return Err("the server was not asked")?;
     };
-    same(&rt, (ran.done.0, length), (ROUNDS, 48));
-    let is_sample = ran.lines.as_str().contains(" sample ");
-    same(&rt, (ran.count, is_sample), (1, true));
+    same(&rt, (work, length), (ROUNDS, 48));
+    let lines = text_of(rt.alloc(), &journal)?;
+    let is_sample = lines.as_str().contains(" sample ");
+    same(&rt, (journal.len(), is_sample), (1, true));
     Ok(())
 }

@@ -1,5 +1,7 @@
 //! A radio's worker over logs in memory. They are of DCF77 by PTB's table of 1 January 2026, 13:00 and 13:01.
-ghost use Rattle.std.specs.Prelude.{◌<◌, ◌≤◌};
+ghost use Rattle.std.specs.Prelude.{◌≡◌, ◌<◌, ◌≤◌, length};
+ghost use Rattle.feed_workers.specs.Keeping.{IsOfFeed};
+ghost use Rattle.page_cell.specs.Passes.{claim_of};
 
 use crate::shared::{Work, run_alone, same};
 use feed_link::{MemorySource, OpenGate, Source};
@@ -24,12 +26,31 @@ const BOTH: &str = "0 62000000 lone 3976257600\n0 122000000 verdict 3976257660 0
 
 /// A log that a receiver of DCF77 hears.
 #[derive(Drop)]
-pub struct Heard<L: Source + Drop> {
+pub struct Heard<L: Drop> {
     pub alloc: Global,
     pub log: L,
 }
 
-impl<L: Source + Drop> Work for Heard<L> {
+/// What the worker of a radio does with a log; nothing where there is no memory for the receiver.
+pub fn hear<N: HubName, R: Wait, L: Source + Drop>(
+    rt: &R,
+    hub: &Hub<N>,
+    heard: Heard<L>,
+    pass: FeedPass,
+) -> (Option<LogWork>, FeedPass)
+    requires { IsOfFeed N.table (length N.settings.sources) (claim_of pass.view).number pass }
+    ensures { result.1.table ≡ N.table }
+{
+    let Heard { alloc, log } = heard;
+    let Ok(receiver) = Box::new(alloc, DcfReceiver::new()) else {
+        return (None, pass);
+    };
+    let mut worker = RadioWorker::new(receiver, log, pass);
+    let work = worker.run(rt, hub, &OpenGate::new());
+    (Some(work), worker.give_back().1)
+}
+
+impl Work for Heard<MemorySource> {
     type Done = Option<LogWork>;
 
     fn run<N: HubName, R: Wait>(
@@ -38,13 +59,7 @@ impl<L: Source + Drop> Work for Heard<L> {
         hub: &Hub<N>,
         pass: FeedPass,
     ) -> (Option<LogWork>, FeedPass) {
-        let Heard { alloc, log } = self;
-        let Ok(receiver) = Box::new(alloc, DcfReceiver::new()) else {
-            return (None, pass);
-        };
-        let mut worker = RadioWorker::new(receiver, log, pass);
-        let work = worker.run(rt, hub, &OpenGate::new());
-        (Some(work), worker.give_back().1)
+        hear(rt, hub, self, pass)
     }
 }
 

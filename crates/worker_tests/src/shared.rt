@@ -94,8 +94,8 @@ fn in_hub<N: HubName, R: Wait, W: Work>(
     Some((done, hub.close(passes, Vec::new(alloc))))
 }
 
-// The lines of a journal.
-fn text_of(alloc: Global, journal: &Journal) -> Result<String, Fail> {
+/// The lines of a journal.
+pub fn text_of(alloc: Global, journal: &Journal) -> Result<String, Fail> {
     let mut text = String::new(alloc);
     for place in 0..journal.len() {
         if let Some(entry) = journal.get(place) {
@@ -110,12 +110,11 @@ fn text_of(alloc: Global, journal: &Journal) -> Result<String, Fail> {
     Ok(text)
 }
 
-/// What a worker did, and the journal after it: its lines, and how many entries it has.
+/// What a worker did, and the lines of the journal after it.
 #[derive(Drop)]
 pub struct Ran<D: Drop> {
     pub done: D,
     pub lines: String,
-    pub count: usize,
 }
 
 /// Runs the worker of a station's one feed, where the journal may have this many entries.
@@ -139,6 +138,5 @@ pub fn run_alone<R: Wait, W: Work>(
     Ok(Ran {
         done,
         lines: text_of(alloc, &journal)?,
-        count: journal.len(),
     })
 }
