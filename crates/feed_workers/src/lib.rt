@@ -12,3 +12,6 @@ pub use leap::LeapWorker;
 pub use poller::PollWorker;
 pub use radio::{RadioWorker, WorkerOf};
 pub use work::{LogEnd, LogWork, PollEnd, PollWork};
+
+#[cfg(test)]
+mod tests;

@@ -9,3 +9,6 @@ mod seconds;
 mod writer;
 
 pub use maker::make;
+
+#[cfg(test)]
+mod tests;

@@ -11,8 +11,6 @@ mod journal_tests;
 #[cfg(test)]
 mod leap_tests;
 #[cfg(test)]
-mod limit_tests;
-#[cfg(test)]
 mod minutes;
 #[cfg(test)]
 mod poller_tests;

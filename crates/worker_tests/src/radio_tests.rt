@@ -24,15 +24,15 @@ const LONE: &str = "0 62000000 lone 3976257600\n";
 
 const BOTH: &str = "0 62000000 lone 3976257600\n0 122000000 verdict 3976257660 0\n";
 
-/// A log that a receiver of DCF77 hears.
+// A log that a receiver of DCF77 hears.
 #[derive(Drop)]
-pub struct Heard<L: Drop> {
-    pub alloc: Global,
-    pub log: L,
+struct Heard<L: Drop> {
+    alloc: Global,
+    log: L,
 }
 
-/// What the worker of a radio does with a log; nothing where there is no memory for the receiver.
-pub fn hear<N: HubName, R: Wait, L: Source + Drop>(
+// What the worker of a radio does with a log; nothing where there is no memory for the receiver.
+fn hear<N: HubName, R: Wait, L: Source + Drop>(
     rt: &R,
     hub: &Hub<N>,
     heard: Heard<L>,
@@ -77,12 +77,11 @@ fn add_frame(text: &mut String, ones: &[usize], start: u64) -> Result<(), Fail> 
     Ok(())
 }
 
-/// The log of two minutes, with an end. Its first mark is at this microsecond.
-pub fn two_frames(alloc: Global, first: u64, end: &str) -> Result<String, Fail> {
-    let mut text = String::new(alloc);
-    writeln!(text, "{first} 100000")?;
-    add_frame(&mut text, &NOON, first.saturating_add(2_000_000))?;
-    add_frame(&mut text, &NOON_1, first.saturating_add(62_000_000))?;
+// The log of two minutes, with an end.
+fn two_frames(alloc: Global, end: &str) -> Result<String, Fail> {
+    let mut text = String::from_str(alloc, "0 100000\n")?;
+    add_frame(&mut text, &NOON, 2_000_000)?;
+    add_frame(&mut text, &NOON_1, 62_000_000)?;
     text.push_str(end)?;
     Ok(text)
 }
@@ -123,7 +122,7 @@ fn end_so<R: Abort + Wait>(
     rows: &[(&str, LogEnd, &str)],
 ) -> Result<(), Fail> {
     for (tail, end, lines) in rows {
-        let log = two_frames(alloc, 0, tail)?;
+        let log = two_frames(alloc, tail)?;
         let work = LogWork {
             end: *end,
             full: false,
@@ -160,13 +159,13 @@ fn end_at_faults<R: Abort + Wait>(
 // The log has 1,927 bytes, so its reads are of 512, 512, 512, 391 and no bytes.
 #[test]
 fn a_read_that_fails_ends_the_reading(rt: HostRuntime) -> Result<(), Fail> {
-    let log = two_frames(rt.alloc(), 0, "122000000 100000\n")?;
+    let log = two_frames(rt.alloc(), "122000000 100000\n")?;
     end_at_faults(&rt, rt.alloc(), log.as_str(), &FAULTS)
 }
 
 #[test]
 fn a_full_journal_keeps_a_front_and_the_log_is_read_on(rt: HostRuntime) -> Result<(), Fail> {
-    let log = two_frames(rt.alloc(), 0, "122000000 100000\n")?;
+    let log = two_frames(rt.alloc(), "122000000 100000\n")?;
     let end = LogEnd::Whole;
     reads(
         &rt,
@@ -192,7 +191,7 @@ fn a_full_journal_keeps_a_front_and_the_log_is_read_on(rt: HostRuntime) -> Resul
 // lines before it.
 #[test]
 fn a_log_is_read_on_to_a_bad_line_behind_a_lost_entry(rt: HostRuntime) -> Result<(), Fail> {
-    let mut log = two_frames(rt.alloc(), 0, "")?;
+    let mut log = two_frames(rt.alloc(), "")?;
     add_frame(&mut log, &NOON, 122_000_000)?;
     log.push_str("x\n")?;
     let end = LogEnd::BadLine { line: 179 };
