@@ -1,7 +1,5 @@
-//! A leap second is believed where both of two neighbouring frames announce it.
-ghost use Rattle.std.specs.Prelude.{◌≡◌};
-ghost use Rattle.minute_pair.specs.Answers.{agreed_leap};
-
+//! A leap second is believed where both of two neighbouring frames announce it. Two that differ are tried in `minute_pair`, at the function that
+//! compares them.
 use crate::shared::mark_at;
 use minute_pair::Pairing;
 use std::process::Abort;
@@ -130,18 +128,4 @@ fn a_leap_second_of_one_frame_is_not_believed(rt: HostRuntime) {
         at,
         END_OF_2016,
     );
-}
-
-// Valid frames of neighbouring minutes never announce two different leap seconds. DCF77's leap second ends at the next UTC midnight
-// that begins a month, and WWVB's where the next month begins. That is the same second for both minutes, or else the former minute
-// is refused. MSF announces none. So no pairing is given two that differ, and the check computes what the definition has that it
-// follows: of the end of June 2015 and that of 2016 neither is believed.
-fn two_that_differ()
-    ensures later { agreed_leap 3644697600 3692217600 ≡ 0 }
-    ensures former { agreed_leap 3692217600 3644697600 ≡ 0 }
-{}
-
-#[test]
-fn two_leap_seconds_that_differ_are_not_believed(_rt: HostRuntime) {
-    two_that_differ();
 }

@@ -8,3 +8,6 @@ mod pairing;
 mod plans;
 
 pub use pairing::Pairing;
+
+#[cfg(test)]
+mod leap_tests;
