@@ -20,6 +20,8 @@ mod line_cutter_tests;
 #[cfg(test)]
 mod numbered_tests;
 #[cfg(test)]
+mod refused_words_tests;
+#[cfg(test)]
 mod script_line_tests;
 #[cfg(test)]
 mod shared;
