@@ -1,10 +1,11 @@
 // Files in memory, read piece by piece, with expected values counted by hand.
 ghost use Rattle.feed_link.specs.Memory.{sure_state};
 
-use crate::shared::same;
+use crate::shared::{same, same_for};
 use feed_link::{Failed, MemorySource, Source, SureSource};
 use file_reader::{FileEnd, FileReader, Pulled, read_whole};
 use std::alloc::Global;
+use std::process::Abort;
 use std::test::Fail;
 
 // How the reading of a file ends, and how many bytes were read.
@@ -14,31 +15,63 @@ fn end_of<S: Source>(alloc: Global, file: &mut S, limit: usize) -> Result<(FileE
     Ok((end, text.len()))
 }
 
-// This many bytes.
+// This many bytes, up to 1200.
 fn bytes(alloc: Global, count: usize) -> Result<Vec<u8>, Fail> {
-    Ok(vec![in alloc; b'x'; count]?)
+    let text = [b'x'; 1200];
+    let text = text.get(..count).ok_or("more than 1200 bytes")?;
+    Ok(Vec::from_slice(alloc, text)?)
+}
+
+// How many bytes a file has, the limit, how the reading ends, and how many bytes are read.
+const LIMITS: [(usize, usize, FileEnd, usize); 11] = [
+    (0, 5, FileEnd::Whole, 0),
+    (4, 5, FileEnd::Whole, 4),
+    (5, 5, FileEnd::Whole, 5),
+    (6, 5, FileEnd::TooLong, 5),
+    (0, 0, FileEnd::Whole, 0),
+    (1, 0, FileEnd::TooLong, 0),
+    (512, 512, FileEnd::Whole, 512),
+    (513, 512, FileEnd::TooLong, 512),
+    (512, 600, FileEnd::Whole, 512),
+    (1024, 1024, FileEnd::Whole, 1024),
+    (1200, 1024, FileEnd::TooLong, 1024),
+];
+
+fn are_read(
+    rt: &impl Abort,
+    alloc: Global,
+    table: &[(usize, usize, FileEnd, usize)],
+) -> Result<(), Fail> {
+    for (count, limit, end, read) in table {
+        let mut file = SureSource::new(bytes(alloc, *count)?);
+        let ended = end_of(alloc, &mut file, *limit)?;
+        same_for(rt, &(count, limit), ended, (*end, *read));
+    }
+    Ok(())
 }
 
 #[test]
 fn a_file_up_to_the_limit_is_whole_and_one_byte_more_is_too_long(
     rt: HostRuntime,
 ) -> Result<(), Fail> {
-    let table = [
-        (0, 5, FileEnd::Whole, 0),
-        (4, 5, FileEnd::Whole, 4),
-        (5, 5, FileEnd::Whole, 5),
-        (6, 5, FileEnd::TooLong, 5),
-        (0, 0, FileEnd::Whole, 0),
-        (1, 0, FileEnd::TooLong, 0),
-        (512, 512, FileEnd::Whole, 512),
-        (513, 512, FileEnd::TooLong, 512),
-        (512, 600, FileEnd::Whole, 512),
-        (1024, 1024, FileEnd::Whole, 1024),
-        (1200, 1024, FileEnd::TooLong, 1024),
-    ];
-    for (count, limit, end, read) in table {
-        let mut file = SureSource::new(bytes(rt.alloc(), count)?);
-        same(&rt, end_of(rt.alloc(), &mut file, limit)?, (end, read));
+    are_read(&rt, rt.alloc(), &LIMITS)
+}
+
+// Which read fails, how the reading ends, and how many bytes are read.
+const FAILING: [(u64, FileEnd, usize); 5] = [
+    (1, FileEnd::Fault, 0),
+    (2, FileEnd::Fault, 512),
+    (3, FileEnd::Fault, 1024),
+    (4, FileEnd::Fault, 1200),
+    (5, FileEnd::Whole, 1200),
+];
+
+fn end_with(rt: &impl Abort, alloc: Global, table: &[(u64, FileEnd, usize)]) -> Result<(), Fail> {
+    for (failing, end, read) in table {
+        let text = bytes(alloc, 1200)?;
+        let mut file = MemorySource::new(text, Vec::from_slice(alloc, &[*failing])?);
+        let ended = end_of(alloc, &mut file, 1200)?;
+        same_for(rt, &failing, ended, (*end, *read));
     }
     Ok(())
 }
@@ -46,19 +79,7 @@ fn a_file_up_to_the_limit_is_whole_and_one_byte_more_is_too_long(
 // A file of 1200 bytes takes four reads: 512, 512, 176 and none.
 #[test]
 fn a_read_that_fails_ends_the_reading(rt: HostRuntime) -> Result<(), Fail> {
-    let table = [
-        (1, FileEnd::Fault, 0),
-        (2, FileEnd::Fault, 512),
-        (3, FileEnd::Fault, 1024),
-        (4, FileEnd::Fault, 1200),
-        (5, FileEnd::Whole, 1200),
-    ];
-    for (failing, end, read) in table {
-        let text = bytes(rt.alloc(), 1200)?;
-        let mut file = MemorySource::new(text, vec![in rt.alloc(); failing]?);
-        same(&rt, end_of(rt.alloc(), &mut file, 1200)?, (end, read));
-    }
-    Ok(())
+    end_with(&rt, rt.alloc(), &FAILING)
 }
 
 // A file that gives at most two bytes a call.
@@ -78,22 +99,33 @@ impl Source for Slow {
     }
 }
 
-#[test]
-fn a_file_that_comes_in_small_parts_is_read_whole(rt: HostRuntime) -> Result<(), Fail> {
-    for (limit, want, end) in [
-        (7, b"abcdefg".as_slice(), FileEnd::Whole),
-        (6, b"abcdef".as_slice(), FileEnd::TooLong),
-        (5, b"abcde".as_slice(), FileEnd::TooLong),
-    ] {
-        let text = Vec::from_slice(rt.alloc(), b"abcdefg")?;
+// The limit, what is read of a file of seven bytes, and how the reading ends.
+const IN_PARTS: [(usize, &[u8], FileEnd); 3] = [
+    (7, b"abcdefg", FileEnd::Whole),
+    (6, b"abcdef", FileEnd::TooLong),
+    (5, b"abcde", FileEnd::TooLong),
+];
+
+fn are_read_in_parts(
+    rt: &impl Abort,
+    alloc: Global,
+    table: &[(usize, &[u8], FileEnd)],
+) -> Result<(), Fail> {
+    for (limit, want, end) in table {
+        let text = Vec::from_slice(alloc, b"abcdefg")?;
         let mut file = Slow {
             file: SureSource::new(text),
         };
-        let mut read = Vec::with_capacity(rt.alloc(), limit)?;
-        same(&rt, read_whole(&mut file, limit, &mut read), end);
-        same(&rt, read.as_slice(), want);
+        let mut read = Vec::with_capacity(alloc, *limit)?;
+        same(rt, read_whole(&mut file, *limit, &mut read), *end);
+        same(rt, read.as_slice(), want);
     }
     Ok(())
+}
+
+#[test]
+fn a_file_that_comes_in_small_parts_is_read_whole(rt: HostRuntime) -> Result<(), Fail> {
+    are_read_in_parts(&rt, rt.alloc(), &IN_PARTS)
 }
 
 #[test]

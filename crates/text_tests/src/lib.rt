@@ -22,6 +22,8 @@ mod message_tests;
 #[cfg(test)]
 mod numbered_tests;
 #[cfg(test)]
+mod refused_words_tests;
+#[cfg(test)]
 mod script_line_tests;
 #[cfg(test)]
 mod shared;

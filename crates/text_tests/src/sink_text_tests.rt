@@ -33,7 +33,7 @@ fn a_text_is_written_whole_and_stands_behind_the_one_before(rt: HostRuntime) -> 
 
 #[test]
 fn a_write_that_fails_is_not_tried_again(rt: HostRuntime) -> Result<(), Fail> {
-    let fails = vec![in rt.alloc(); 2]?;
+    let fails = Vec::from_slice(rt.alloc(), &[2])?;
     let (bytes, failed) = held_after(rt.alloc(), &["one", "two", "three"], fails)?;
     same(&rt, bytes.as_slice(), b"onethree".as_slice());
     same(&rt, failed, Some(1));
@@ -42,7 +42,7 @@ fn a_write_that_fails_is_not_tried_again(rt: HostRuntime) -> Result<(), Fail> {
 
 #[test]
 fn an_empty_text_is_no_write(rt: HostRuntime) -> Result<(), Fail> {
-    let fails = vec![in rt.alloc(); 1]?;
+    let fails = Vec::from_slice(rt.alloc(), &[1])?;
     let (bytes, failed) = held_after(rt.alloc(), &["", "one", "two"], fails)?;
     same(&rt, bytes.as_slice(), b"two".as_slice());
     same(&rt, failed, Some(1));
@@ -68,7 +68,7 @@ impl Sink for Slow {
 #[test]
 fn a_text_is_written_in_parts(rt: HostRuntime) -> Result<(), Fail> {
     let mut out = Slow {
-        out: MemorySink::new(rt.alloc(), vec![in rt.alloc(); 6]?),
+        out: MemorySink::new(rt.alloc(), Vec::from_slice(rt.alloc(), &[6])?),
     };
     same(&rt, write_all(&mut out, b"abcde"), Ok(()));
     same(&rt, out.out.bytes(), b"abcde".as_slice());
