@@ -55,16 +55,36 @@ fn read_top<'a>(table: &'a Table) -> Result<Top<'a>, &'static str>
     ensures good { IfOk result (λ _. bad_in top_rows (table_view table.now) ≡ []) }
     ensures bad { IfErr result (λ k. slice_get (bad_in top_rows (table_view table.now)) 0 ≡ Some k.now) }
 {
-    let bound = number(table, "bound", 1, 16_000, 1000).ok_or("bound")?;
-    let clients = number(table, "clients", 1, 65_536, 1024).ok_or("clients")?;
-    let deny = tables(table, "deny").ok_or("deny")?;
-    let gap = number(table, "gap", 0, 60_000_000, 0).ok_or("gap")?;
-    let keys = tables(table, "key").ok_or("key")?;
-    let leap_file = some_text(table, "leap_file").ok_or("leap_file")?;
-    let links = tables(table, "link").ok_or("link")?;
-    let radios = tables(table, "radio").ok_or("radio")?;
-    let servers = tables(table, "server").ok_or("server")?;
-    let start = start(table).ok_or("start")?;
+    let Some(bound) = number(table, "bound", 1, 16_000, 1000) else {
+        return Err("bound");
+    };
+    let Some(clients) = number(table, "clients", 1, 65_536, 1024) else {
+        return Err("clients");
+    };
+    let Some(deny) = tables(table, "deny") else {
+        return Err("deny");
+    };
+    let Some(gap) = number(table, "gap", 0, 60_000_000, 0) else {
+        return Err("gap");
+    };
+    let Some(keys) = tables(table, "key") else {
+        return Err("key");
+    };
+    let Some(leap_file) = some_text(table, "leap_file") else {
+        return Err("leap_file");
+    };
+    let Some(links) = tables(table, "link") else {
+        return Err("link");
+    };
+    let Some(radios) = tables(table, "radio") else {
+        return Err("radio");
+    };
+    let Some(servers) = tables(table, "server") else {
+        return Err("server");
+    };
+    let Some(start) = start(table) else {
+        return Err("start");
+    };
     Ok(Top {
         numbers: TopNumbers {
             bound: bound as u32,
