@@ -1,5 +1,5 @@
 -- What the clauses of the search for the first fault cite.
-use Rattle.std.specs.Prelude.{◌≡◌, ⊤, ℕ, List, [], ◌++◌, map, Option, Some, None, is_none, IfSome, slice_get}
+use Rattle.std.specs.Prelude.{◌≡◌, ⊤, ℕ, List, [], ◌++◌, map, Option, Some, None, is_none, IfSome, slice_get, codes, decimal}
 use Rattle.std.specs.Borrow.{Bor}
 use Rattle.toml.specs.Data.{Data, Members}
 use Rattle.toml.specs.View.{items_view}
@@ -20,6 +20,11 @@ use Rattle.station_config.specs.declared.rows.Misread.TheVariants as misread
 
 abbrev pub spot_text : Spot → Text
 spot_text s = key_in s.part s.place s.key.now
+
+-- a key with what a fault writes before its table's place; without that it is a key of the top table
+abbrev pub key_after : Option Text → ℕ → Text → Text
+key_after None place key = key
+key_after (Some name) place key = name ++ (decimal place ++ (codes "." ++ key))
 
 abbrev pub keys_for : Check → List Row → Members → List Text
 keys_for Unknown = unknown_in
