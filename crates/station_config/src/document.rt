@@ -1,12 +1,11 @@
 //! The station of a document, or its first fault.
 ghost use Rattle.std.specs.Prelude.{◌≡◌, ◌≤◌, ◌^◌, [], Some, IfOk, IfErr, option_map, slice_get, string_bytes};
-ghost use Rattle.packet_auth.specs.Keys.{AreApart};
 ghost use Rattle.toml.specs.Data.{get_member};
 ghost use Rattle.toml.specs.View.{items_view, table_view};
 ghost use Rattle.station_config.specs.Rows.{tables_from, top_rows, deny_row, key_row, link_row, radio_row, server_row, start_row, whole_in};
 ghost use Rattle.station_config.specs.Values.{leap_file_of, station_of, tables_at, top_of};
 ghost use Rattle.station_config.specs.Faults.{bad_in, bad_values, faults_of, keys_at, missing_in, sheets_of};
-ghost use Rattle.station_config.specs.Finding.{IsFirstKeyFault, IsMisreadAt, IsRead};
+ghost use Rattle.station_config.specs.Finding.{IsFirstKeyFault, IsMisreadAt, IsRead, IsReadOf};
 ghost use Rattle.station_config.specs.KeptStation.{parts_fields};
 
 use crate::counts::excess;
@@ -114,9 +113,7 @@ fn kept_name(alloc: Global, name: Option<&str>) -> Result<Option<String>, AllocE
 // The values of a document whose tables have all their keys, or its first value that is not of its type and range.
 fn read_parts(alloc: Global, table: &Table) -> Result<Parts, KeyFault<'static>>
     requires { keys_at missing_in (sheets_of (table_view table.now)) ≡ [] }
-    ensures said { IfOk result (λ p. parts_fields p ≡ station_of (table_view table.now)) }
-    ensures good { IfOk result (λ _. bad_values (table_view table.now) ≡ []) }
-    ensures apart { IfOk result (λ p. AreApart (parts_fields p).keys) }
+    ensures read { IfOk result (λ p. IsReadOf (table_view table.now) (parts_fields p)) }
     ensures bad { IfErr result (IsMisreadAt (bad_values (table_view table.now))) }
 {
     let top = match read_top(table) {
