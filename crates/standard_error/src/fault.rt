@@ -2,7 +2,7 @@
 
 use crate::arguments::{Argument, value_of};
 use crate::commands::{OPTIONS, Shape, shape_of, wanted};
-use crate::texts::write_all;
+use crate::texts::write_texts;
 use std::fmt;
 
 /// The first fault of the arguments.
@@ -130,19 +130,23 @@ impl Fault<'_> {
     /// Writes the sentence on the fault, without a line feed.
     pub fn write<W: fmt::Write>(&self, f: &mut fmt::Formatter<W>) -> fmt::Result {
         match *self {
-            Fault::UnknownOption(name) => write_all(f, &["unknown option ", name]),
-            Fault::NoValue(name) => write_all(f, &["--", name, " has no value"]),
+            Fault::UnknownOption(name) => write_texts(f, "unknown option ", name, ""),
+            Fault::NoValue(name) => write_texts(f, "--", name, " has no value"),
             Fault::NoCommand => f.write_str("no command"),
-            Fault::UnknownCommand(word) => write_all(f, &["unknown command ", word]),
+            Fault::UnknownCommand(word) => write_texts(f, "unknown command ", word, ""),
             Fault::TwoCommands(first, second) => {
-                write_all(f, &["two commands, ", first, " and ", second])
+                f.write_str("two commands, ")?;
+                write_texts(f, first, " and ", second)
             }
-            Fault::Twice(option) => write_all(f, &["--", option, " is given twice"]),
+            Fault::Twice(option) => write_texts(f, "--", option, " is given twice"),
             Fault::Foreign { command, option } => {
-                write_all(f, &[command, " has no option --", option])
+                write_texts(f, command, " has no option --", option)
             }
-            Fault::Missing { command, option } => write_all(f, &[command, " needs --", option]),
-            Fault::Wants { option, wants } => write_all(f, &["--", option, " wants ", wants]),
+            Fault::Missing { command, option } => write_texts(f, command, " needs --", option),
+            Fault::Wants { option, wants } => {
+                f.write_str("--")?;
+                write_texts(f, option, " wants ", wants)
+            }
         }
     }
 }

@@ -7,7 +7,7 @@ use crate::outcome::{
 };
 use crate::texts::{
     COMMAND_LINES, FULL, HELP, JOURNAL_LINE, LEAP_LINE, LINK_FAILED, LOG_LINE, NO_MEMORY,
-    NO_OUTPUT, NO_TOML, NOT_READ, SCRIPT_LINE, VERSION, most_of, range_of, write_all,
+    NO_OUTPUT, NO_TOML, NOT_READ, SCRIPT_LINE, VERSION, most_of, range_of, write_texts,
 };
 use feed_link::Refusal;
 use std::fmt;
@@ -112,11 +112,13 @@ fn range_text(key: &str) -> &'static str {
 // The message about an array of a station file that is too long: its name and how many it has.
 fn write_many<W: fmt::Write>(many: &str, f: &mut fmt::Formatter<W>) -> fmt::Result {
     let key = word_at(many, 0);
-    write_all(
+    write_texts(f, key, " counts ", word_at(many, 1))?;
+    write_texts(
         f,
-        &[key, " counts ", word_at(many, 1), ", and there may be "],
-    )?;
-    f.write_str(most_of(key).unwrap_or("fewer"))
+        ", and there may be ",
+        most_of(key).unwrap_or("fewer"),
+        "",
+    )
 }
 
 // Why an opening was refused where a right is missing, of a file or of a link.
@@ -225,7 +227,7 @@ impl<'a> Report<'a> {
     // Writes the value of an option, where it has one.
     fn write_value<W: fmt::Write>(&self, option: &str, f: &mut fmt::Formatter<W>) -> fmt::Result {
         match self.value(option) {
-            Some(name) => write_all(f, &[" (", name, ")"]),
+            Some(name) => write_texts(f, " (", name, ")"),
             None => Ok(()),
         }
     }
@@ -236,10 +238,9 @@ impl<'a> Report<'a> {
         subject: Subject<'_>,
         f: &mut fmt::Formatter<W>,
     ) -> fmt::Result {
-        f.write_str(kind_text(subject.kind))?;
-        f.write_str(number_text(subject))?;
+        write_texts(f, kind_text(subject.kind), number_text(subject), "")?;
         match &self.detail {
-            Detail::Place(place) => write_all(f, &[" (", place.name.as_str(), ")"]),
+            Detail::Place(place) => write_texts(f, " (", place.name.as_str(), ")"),
             _ => self.write_value(option_of(subject.kind), f),
         }
     }
@@ -248,7 +249,7 @@ impl<'a> Report<'a> {
     fn write_no_toml<W: fmt::Write>(&self, f: &mut fmt::Formatter<W>) -> fmt::Result {
         match self.detail {
             Detail::TomlLine(line) => write!(f, "line {line}{NO_TOML}"),
-            _ => write_all(f, &["it", NO_TOML]),
+            _ => write_texts(f, "it", NO_TOML, ""),
         }
     }
 
@@ -256,12 +257,9 @@ impl<'a> Report<'a> {
     fn write_fault<W: fmt::Write>(&self, f: &mut fmt::Formatter<W>) -> fmt::Result {
         let (fault, key) = station_fault_of(self.last_line.as_str());
         match fault {
-            "unknown" => write_all(f, &["there is no key ", key]),
-            "missing" => write_all(f, &["the key ", key, " is missing"]),
-            "range" => {
-                write_all(f, &[key, " wants "])?;
-                f.write_str(range_text(key))
-            }
+            "unknown" => write_texts(f, "there is no key ", key, ""),
+            "missing" => write_texts(f, "the key ", key, " is missing"),
+            "range" => write_texts(f, key, " wants ", range_text(key)),
             "many" => write_many(key, f),
             _ => self.write_no_toml(f),
         }
@@ -285,9 +283,9 @@ impl<'a> Report<'a> {
         why: &str,
         f: &mut fmt::Formatter<W>,
     ) -> fmt::Result {
-        write_all(f, &["radio_ntpd: ", before])?;
+        write_texts(f, "radio_ntpd: ", before, "")?;
         self.write_subject(subject, f)?;
-        write_all(f, &[after, why, "\n"])
+        write_texts(f, after, why, "\n")
     }
 
     // The message about a line that is not valid.
@@ -297,10 +295,14 @@ impl<'a> Report<'a> {
         f: &mut fmt::Formatter<W>,
     ) -> fmt::Result {
         let why = self.bad_line_text(subject.kind);
-        let line = bad_line_of(self.last_line.as_str());
-        write_all(f, &["radio_ntpd: line ", line, " of "])?;
+        write_texts(
+            f,
+            "radio_ntpd: line ",
+            bad_line_of(self.last_line.as_str()),
+            " of ",
+        )?;
         self.write_subject(subject, f)?;
-        write_all(f, &[" is bad: ", why, "\n"])
+        write_texts(f, " is bad: ", why, "\n")
     }
 
     // The message about a file that is too long.
@@ -312,7 +314,7 @@ impl<'a> Report<'a> {
         f.write_str("radio_ntpd: ")?;
         self.write_subject(subject, f)?;
         let limit = self.limit_text(subject.kind);
-        write_all(f, &[" has more than ", limit, " bytes\n"])
+        write_texts(f, " has more than ", limit, " bytes\n")
     }
 
     // The message about a subject at fault: 2, 4, 5, 7 or 10 is the status.
@@ -339,10 +341,8 @@ impl<'a> Report<'a> {
         match &self.arguments {
             Some(arguments) => write_usage(arguments.as_slice(), f),
             None => {
-                write_all(
-                    f,
-                    &["radio_ntpd: an argument is not UTF-8\n", COMMAND_LINES],
-                )
+                f.write_str("radio_ntpd: an argument is not UTF-8\n")?;
+                f.write_str(COMMAND_LINES)
             }
         }
     }
@@ -351,7 +351,7 @@ impl<'a> Report<'a> {
     fn write_done<W: fmt::Write>(&self, f: &mut fmt::Formatter<W>) -> fmt::Result {
         match self.detail {
             Detail::Hint(why) => {
-                write_all(f, &["radio_ntpd: the log gave no minute: ", why, "\n"])
+                write_texts(f, "radio_ntpd: the log gave no minute: ", why, "\n")
             }
             _ => Ok(()),
         }
@@ -364,11 +364,11 @@ impl<'a> Report<'a> {
             1 => self.write_usage(f),
             3 => self.write_refused(f),
             6 => {
-                let count = word_at(self.last_line.as_str(), 3);
-                write_all(f, &["radio_ntpd: ", FULL, ": ", count, "\n"])
+                write_texts(f, "radio_ntpd: ", FULL, ": ")?;
+                write_texts(f, word_at(self.last_line.as_str(), 3), "\n", "")
             }
-            9 => write_all(f, &["radio_ntpd: ", NO_MEMORY, "\n"]),
-            _ => write_all(f, &["radio_ntpd: ", NO_OUTPUT, "\n"]),
+            9 => write_texts(f, "radio_ntpd: ", NO_MEMORY, "\n"),
+            _ => write_texts(f, "radio_ntpd: ", NO_OUTPUT, "\n"),
         }
     }
 }

@@ -260,10 +260,14 @@ pub fn most_of(key: &str) -> Option<&'static str> {
     None
 }
 
-/// Writes texts, one after the other. A call is proved in less time than a `write!`, or than a `?` for each text.
-pub fn write_all<W: fmt::Write>(f: &mut fmt::Formatter<W>, texts: &[&str]) -> fmt::Result {
-    for text in texts {
-        f.write_str(text)?;
-    }
-    Ok(())
+/// Writes three texts, one after the other. A call is proved in less time than a `write!`.
+pub fn write_texts<W: fmt::Write>(
+    f: &mut fmt::Formatter<W>,
+    first: &str,
+    second: &str,
+    third: &str,
+) -> fmt::Result {
+    f.write_str(first)?;
+    f.write_str(second)?;
+    f.write_str(third)
 }
