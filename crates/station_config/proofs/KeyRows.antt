@@ -1,5 +1,6 @@
 -- The values at fault in a key's table, by what is read of them.
-use Rattle.std.proofs.Common.{◌≡◌, ◌==◌, ◌||◌, ℕ, zero, suc, option_map, is_some, true, false, List, [], ◌∷◌, Some, refl, sym, ap, map, slice_get, append-nil}
+use Rattle.std.proofs.Common.{◌≡◌, ◌∙◌, ◌==◌, ◌||◌, ℕ, zero, suc, option_map, is_some, true, false, List, [], ◌∷◌, ◌++◌, Some, refl, sym, ap, map, slice_get, append-nil}
+use Rattle.std.specs.Bool.{⊤}
 use Rattle.std.specs.List.{list_any}
 use Rattle.std.proofs.Math.Bool.{or-true}
 use Rattle.std.proofs.lemmas.Bool.{true≢false}
@@ -7,7 +8,7 @@ use Rattle.toml.specs.Data.{Members}
 use Rattle.station_config.specs.Faults.{bad_in, bad_in_key, bad_in_keys, is_bad, is_taken, key_in}
 use Rattle.station_config.specs.Finding.{ids_of}
 use Rattle.station_config.specs.KeptStation.{key_kept}
-use Rattle.station_config.specs.Rows.{id_row, secret_row}
+use Rattle.station_config.specs.Rows.{Row, id_row, secret_row}
 use Rattle.station_config.specs.declared.keys.Part.TheVariants as part
 use Rattle.station_config.specs.declared.shared_key.SharedKey.{SharedKey}
 use Rattle.packet_auth.specs.Keys.{has_id}
@@ -35,6 +36,24 @@ secret-good m h = rw h refl
 -- the values at fault in one table
 pub one-table : (taken : List ℕ) (place : ℕ) (m : Members) → bad_in_keys taken ((place, m) ∷ []) ≡ map (key_in part.Key place) (bad_in_key taken m)
 one-table taken place m = append-nil (map (key_in part.Key place) (bad_in_key taken m))
+
+first-bad : (m : Members) (rest : List Row) (row : Row) → is_bad m row ≡ true → slice_get (bad_in (row ∷ rest) m) 0 ≡ Some row.key
+first-bad m rest row h = rw h refl
+
+-- the values at fault of rows whose first ones are good
+abbrev pub AreGood : Members → List Row → Type 0
+AreGood m [] = ⊤
+AreGood m (row ∷ rows) = (is_bad m row ≡ false) × AreGood m rows
+
+pub bad-past : (m : Members) (good rest : List Row) → AreGood m good → bad_in (good ++ rest) m ≡ bad_in rest m
+bad-past m [] rest h = refl
+bad-past m (row ∷ rows) rest h = rw h.0 (bad-past m rows rest h.1)
+
+pub bad-first : (m : Members) (good rest : List Row) (row : Row) → AreGood m good → is_bad m row ≡ true → slice_get (bad_in (good ++ row ∷ rest) m) 0 ≡ Some row.key
+bad-first m good rest row h wrong = ap (λ ks. slice_get ks 0) (bad-past m good (row ∷ rest) h) ∙ first-bad m rest row wrong
+
+pub bad-none : (m : Members) (good : List Row) → AreGood m good → bad_in good m ≡ []
+bad-none m good h = sym (ap (λ rows. bad_in rows m) (append-nil good)) ∙ bad-past m good [] h
 
 pub key-at : (keys : List SharedKey) (i : ℕ) (key : SharedKey) → slice_get keys i ≡ Some key → slice_get (map key_kept keys) i ≡ Some (key_kept key)
 key-at [] i key h = absurd (true≢false (sym (ap is_some h)))

@@ -1,19 +1,21 @@
 -- A walk over the tables of keys: what is left of them, which values are bad, and that no identifier stands twice.
-use Rattle.std.proofs.Common.{◌≡◌, ◌∙◌, ◌⊎◌, ℕ, zero, suc, false, List, [], ◌∷◌, ◌++◌, Some, refl, sym, ap, subst, map, take, slice_get, append_assoc, inl, inr, is_some}
+use Rattle.std.proofs.Common.{◌≡◌, ◌∙◌, ◌⊎◌, ◌+◌, ◌<◌, ◌≤◌, ℕ, zero, suc, false, List, [], ◌∷◌, ◌++◌, Some, refl, sym, ap, subst, map, take, drop, length, get_or, slice_get, append_assoc, inl, inr, is_some}
 use Rattle.std.proofs.lemmas.Bool.{true≢false}
-use Rattle.std.proofs.lemmas.List.{append-nil, map-append}
+use Rattle.std.proofs.lemmas.List.{append-nil, drop_all, map-append}
 use Rattle.std.proofs.lemmas.Option.{same_Some}
 use Rattle.packet_auth.specs.Keys.{AreApart, KeyFields, has_id}
 use Rattle.toml.specs.Data.{Data, Members}
+use Rattle.toml.specs.View.{items_view, view}
+use Rattle.toml.specs.declared.value.Value.{Value}
 use Rattle.station_config.specs.Faults.{bad_in_key, bad_in_keys, key_in, keys_at, missing_in, sheets}
 use Rattle.station_config.specs.Finding.{AddsKeys, IsMisreadAt, ids_of}
-use Rattle.station_config.specs.Rows.{id_row, table_at}
+use Rattle.station_config.specs.Rows.{id_row, table_at, tables_from}
 use Rattle.station_config.specs.Values.{key_of, number_at}
 use Rattle.station_config.specs.declared.keys.Part.TheVariants as part
 use Rattle.station_config.specs.declared.items.KeyFault.{KeyFault}
 use Rattle.station_config.proofs.Firsts.{empty_back, empty_front}
 use Rattle.station_config.proofs.KeyRows.{one-table}
-use Rattle.station_config.proofs.Walks.{keys_at-append, misread_more}
+use Rattle.station_config.proofs.Walks.{keys_at-append, misread_more, rest_from}
 
 -- ---- no identifier stands twice
 
@@ -96,6 +98,15 @@ left_last done rest all l e = record {
   good = sym l.bad ∙ ap (bad_in_keys (ids_of done)) e;
   apart = λ none. l.apart;
 }
+
+-- the same at a place of the values: the table there comes first, and nothing is left after the last one
+pub left_at : (done : List KeyFields) (items : List Value) (i : ℕ) (here : Value) (all : List (ℕ × Members)) → i < length items → here ≡ get_or items i here
+    → KeysLeft done (tables_from i (items_view (drop i items))) all → KeysLeft done (table_at i (view here) ++ tables_from (i + 1) (items_view (drop (i + 1) items))) all
+left_at done items i here all h e l =
+    subst (λ ts. KeysLeft done ts all) (rest_from items i here h ∙ ap (λ v. table_at i (view v) ++ tables_from (i + 1) (items_view (drop (i + 1) items))) (sym e)) l
+
+pub left_end : (done : List KeyFields) (items : List Value) (i : ℕ) (all : List (ℕ × Members)) → length items ≤ i → KeysLeft done (tables_from i (items_view (drop i items))) all → AddsKeys all [] done
+left_end done items i all h l = left_last done (tables_from i (items_view (drop i items))) all l (ap (λ vs. tables_from i (items_view vs)) (drop_all i items h))
 
 -- the key of one table is put after others
 pub adds_one : (before after : List KeyFields) (place : ℕ) (d : Data) (m : Members) (key : KeyFields) → table_at place d ≡ (place, m) ∷ [] → key ≡ key_of m → bad_in_key (ids_of before) m ≡ [] → has_id key.id before ≡ false → after ≡ before ++ key ∷ [] → AddsKeys (table_at place d) before after

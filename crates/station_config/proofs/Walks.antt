@@ -1,6 +1,6 @@
 -- A walk over the tables of an array: what is left of it, and what is done.
-use Rattle.std.proofs.Common.{◌≡◌, ◌∙◌, ◌+◌, ◌<◌, ℕ, List, [], ◌++◌, refl, sym, ap, subst, map, drop, length, get_or, append_assoc}
-use Rattle.std.proofs.lemmas.List.{append-nil, map-append}
+use Rattle.std.proofs.Common.{◌≡◌, ◌∙◌, ◌+◌, ◌<◌, ◌≤◌, ℕ, List, [], ◌++◌, refl, sym, ap, subst, map, drop, length, get_or, append_assoc}
+use Rattle.std.proofs.lemmas.List.{append-nil, drop_all, map-append}
 use Rattle.std.proofs.lemmas.List.Concat.{flat_map-append}
 use Rattle.toml.specs.Data.{Members}
 use Rattle.toml.specs.View.{items_view, view}
@@ -61,3 +61,12 @@ left_last part row_of done rest all l e = record {
   rows = sym (append-nil done) ∙ sym (ap (λ ts. done ++ map (λ t. row_of t.1) ts) e) ∙ l.rows;
   good = sym l.bad ∙ ap (λ ts. keys_at bad_in (sheets part ts)) e;
 }
+
+-- the same at a place of the values: the table there comes first, and nothing is left after the last one
+pub left_at : {F : Type 0} (part : Part) (row_of : Members → F) (done : List F) (items : List Value) (i : ℕ) (here : Value) (all : List (ℕ × Members)) → i < length items → here ≡ get_or items i here
+    → Left part row_of done (tables_from i (items_view (drop i items))) all → Left part row_of done (table_at i (view here) ++ tables_from (i + 1) (items_view (drop (i + 1) items))) all
+left_at part row_of done items i here all h e l =
+    subst (λ ts. Left part row_of done ts all) (rest_from items i here h ∙ ap (λ v. table_at i (view v) ++ tables_from (i + 1) (items_view (drop (i + 1) items))) (sym e)) l
+
+pub left_end : {F : Type 0} (part : Part) (row_of : Members → F) (done : List F) (items : List Value) (i : ℕ) (all : List (ℕ × Members)) → length items ≤ i → Left part row_of done (tables_from i (items_view (drop i items))) all → Adds part row_of all [] done
+left_end part row_of done items i all h l = left_last part row_of done (tables_from i (items_view (drop i items))) all l (ap (λ vs. tables_from i (items_view vs)) (drop_all i items h))

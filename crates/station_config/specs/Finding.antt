@@ -1,13 +1,14 @@
 -- What the clauses of the search for the first fault cite.
-use Rattle.std.specs.Prelude.{◌≡◌, ⊤, ℕ, List, [], ◌++◌, map, Option, Some, None, is_none, IfSome, slice_get}
+use Rattle.std.specs.Prelude.{◌≡◌, ⊤, ℕ, List, [], ◌++◌, map, Option, Some, None, is_none, IfSome, slice_get, codes, decimal}
 use Rattle.std.specs.Borrow.{Bor}
 use Rattle.toml.specs.Data.{Data, Members}
 use Rattle.toml.specs.View.{items_view}
 use Rattle.toml.specs.declared.value.Value.{Value}
 use Rattle.packet_auth.specs.Keys.{AreApart, KeyFields}
-use Rattle.station_config.specs.Faults.{Count as Limit, Fault, bad_in, bad_in_keys, bad_range, is_wrong, key_in, keys_at, missing_in, missing_key, sheets, too_many, unknown_in, unknown_key}
+use Rattle.station_config.specs.Faults.{Count as Limit, Fault, bad_in, bad_in_keys, bad_range, bad_values, is_wrong, key_in, keys_at, missing_in, missing_key, sheets, too_many, unknown_in, unknown_key}
 use Rattle.station_config.specs.Rows.{Form, Row, Text, tables_from}
-use Rattle.station_config.specs.Values.{key_of, read_or}
+use Rattle.station_config.specs.Station.{StationFields}
+use Rattle.station_config.specs.Values.{key_of, read_or, station_of}
 use Rattle.station_config.specs.declared.keys.Check.{Check}
 use Rattle.station_config.specs.declared.keys.Check.TheVariants.{Unknown, Missing}
 use Rattle.station_config.specs.declared.keys.Part.{Part}
@@ -20,6 +21,11 @@ use Rattle.station_config.specs.declared.rows.Misread.TheVariants as misread
 
 abbrev pub spot_text : Spot → Text
 spot_text s = key_in s.part s.place s.key.now
+
+-- a key with what a fault writes before its table's place; without that it is a key of the top table
+abbrev pub key_after : Option Text → ℕ → Text → Text
+key_after None place key = key
+key_after (Some name) place key = name ++ (decimal place ++ (codes "." ++ key))
 
 abbrev pub keys_for : Check → List Row → Members → List Text
 keys_for Unknown = unknown_in
@@ -60,6 +66,12 @@ pub record AddsKeys (tables : List (ℕ × Members)) (before after : List KeyFie
   pub rows : after ≡ before ++ map (λ t. key_of t.1) tables
   pub good : bad_in_keys (ids_of before) tables ≡ []
   pub apart : AreApart before → AreApart after
+
+-- what a document says, where none of its values is a fault; no identifier of a key stands twice
+pub record IsReadOf (members : Members) (fields : StationFields) : Type 0 where
+  pub said : fields ≡ station_of members
+  pub good : bad_values members ≡ []
+  pub apart : AreApart fields.keys
 
 -- the `KeyFault` is the first of the faults; lack of memory says nothing
 abbrev pub IsFirstKeyFault : List Fault → KeyFault → Type 0

@@ -9,7 +9,7 @@ use crate::station::{Parts, Radio};
 use tick_units::Plan;
 
 // A number of rows, and how many there may be.
-#[derive(Clone, Copy, Debug)]
+#[derive(Clone, Copy)]
 pub struct Count {
     pub key: &'static str,
     pub count: u64,

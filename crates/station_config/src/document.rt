@@ -1,12 +1,11 @@
 //! The station of a document, or its first fault.
 ghost use Rattle.std.specs.Prelude.{◌≡◌, ◌≤◌, ◌^◌, [], Some, IfOk, IfErr, option_map, slice_get, string_bytes};
-ghost use Rattle.packet_auth.specs.Keys.{AreApart};
 ghost use Rattle.toml.specs.Data.{get_member};
 ghost use Rattle.toml.specs.View.{items_view, table_view};
 ghost use Rattle.station_config.specs.Rows.{tables_from, top_rows, deny_row, key_row, link_row, radio_row, server_row, start_row, whole_in};
 ghost use Rattle.station_config.specs.Values.{leap_file_of, station_of, tables_at, top_of};
 ghost use Rattle.station_config.specs.Faults.{bad_in, bad_values, faults_of, keys_at, missing_in, sheets_of};
-ghost use Rattle.station_config.specs.Finding.{IsFirstKeyFault, IsMisreadAt, IsRead};
+ghost use Rattle.station_config.specs.Finding.{IsFirstKeyFault, IsMisreadAt, IsRead, IsReadOf};
 ghost use Rattle.station_config.specs.KeptStation.{parts_fields};
 
 use crate::counts::excess;
@@ -55,16 +54,36 @@ fn read_top<'a>(table: &'a Table) -> Result<Top<'a>, &'static str>
     ensures good { IfOk result (λ _. bad_in top_rows (table_view table.now) ≡ []) }
     ensures bad { IfErr result (λ k. slice_get (bad_in top_rows (table_view table.now)) 0 ≡ Some k.now) }
 {
-    let bound = number(table, "bound", 1, 16_000, 1000).ok_or("bound")?;
-    let clients = number(table, "clients", 1, 65_536, 1024).ok_or("clients")?;
-    let deny = tables(table, "deny").ok_or("deny")?;
-    let gap = number(table, "gap", 0, 60_000_000, 0).ok_or("gap")?;
-    let keys = tables(table, "key").ok_or("key")?;
-    let leap_file = some_text(table, "leap_file").ok_or("leap_file")?;
-    let links = tables(table, "link").ok_or("link")?;
-    let radios = tables(table, "radio").ok_or("radio")?;
-    let servers = tables(table, "server").ok_or("server")?;
-    let start = start(table).ok_or("start")?;
+    let Some(bound) = number(table, "bound", 1, 16_000, 1000) else {
+        return Err("bound");
+    };
+    let Some(clients) = number(table, "clients", 1, 65_536, 1024) else {
+        return Err("clients");
+    };
+    let Some(deny) = tables(table, "deny") else {
+        return Err("deny");
+    };
+    let Some(gap) = number(table, "gap", 0, 60_000_000, 0) else {
+        return Err("gap");
+    };
+    let Some(keys) = tables(table, "key") else {
+        return Err("key");
+    };
+    let Some(leap_file) = some_text(table, "leap_file") else {
+        return Err("leap_file");
+    };
+    let Some(links) = tables(table, "link") else {
+        return Err("link");
+    };
+    let Some(radios) = tables(table, "radio") else {
+        return Err("radio");
+    };
+    let Some(servers) = tables(table, "server") else {
+        return Err("server");
+    };
+    let Some(start) = start(table) else {
+        return Err("start");
+    };
     Ok(Top {
         numbers: TopNumbers {
             bound: bound as u32,
@@ -94,9 +113,7 @@ fn kept_name(alloc: Global, name: Option<&str>) -> Result<Option<String>, AllocE
 // The values of a document whose tables have all their keys, or its first value that is not of its type and range.
 fn read_parts(alloc: Global, table: &Table) -> Result<Parts, KeyFault<'static>>
     requires { keys_at missing_in (sheets_of (table_view table.now)) ≡ [] }
-    ensures said { IfOk result (λ p. parts_fields p ≡ station_of (table_view table.now)) }
-    ensures good { IfOk result (λ _. bad_values (table_view table.now) ≡ []) }
-    ensures apart { IfOk result (λ p. AreApart (parts_fields p).keys) }
+    ensures read { IfOk result (λ p. IsReadOf (table_view table.now) (parts_fields p)) }
     ensures bad { IfErr result (IsMisreadAt (bad_values (table_view table.now))) }
 {
     let top = match read_top(table) {

@@ -16,7 +16,7 @@ use std::alloc::Global;
 use toml::Value;
 
 // Why there is no station: its first fault, or lack of memory.
-#[derive(Clone, Copy, Debug)]
+#[derive(Clone, Copy)]
 pub enum KeyFault<'a> {
     Unknown(Spot<'a>),
     Missing(Spot<'a>),

@@ -14,7 +14,7 @@ use toml::value::Array;
 use toml::{Table, Value};
 
 // A part of a station file: the top table, a radio, a server, a link, a key that is shared with clients, or a denied net.
-#[derive(Clone, Copy, Debug)]
+#[derive(Clone, Copy)]
 pub enum Part {
     Top,
     Radio,
@@ -25,14 +25,14 @@ pub enum Part {
 }
 
 // What is required of the keys of a table before their values are read.
-#[derive(Clone, Copy, Debug)]
+#[derive(Clone, Copy)]
 pub enum Check {
     Unknown,
     Missing,
 }
 
 // A key of a table; the place counts the tables of an array from 0.
-#[derive(Clone, Copy, Debug)]
+#[derive(Clone, Copy)]
 pub struct Spot<'a> {
     pub part: Part,
     pub place: usize,

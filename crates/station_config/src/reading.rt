@@ -1,7 +1,8 @@
 //! Reads a station from the text of its file.
-ghost use Rattle.std.specs.Prelude.{◌≡◌, List, IfOk, IfErr};
-ghost use Rattle.station_config.specs.Faults.{Fault, Says, Refuses, IsFirst};
-ghost use Rattle.station_config.specs.Finding.{IsFirstKeyFault, spot_text};
+ghost use Rattle.std.specs.Prelude.{◌≡◌, ℕ, List, IfOk, IfErr, option_map};
+ghost use Rattle.station_config.specs.Rows.{Text};
+ghost use Rattle.station_config.specs.Faults.{Fault, Says, Refuses, IsFirst, key_in};
+ghost use Rattle.station_config.specs.Finding.{IsFirstKeyFault, key_after, spot_text};
 
 use crate::document::read_table;
 use crate::fault::{KeyText, StationFault};
@@ -10,19 +11,30 @@ use crate::keys::{Part, Spot};
 use crate::station::Station;
 use std::alloc::{AllocError, Global};
 
+// What a fault writes before a place in an array of tables. The top table has none.
+fn array_name(part: Part) -> Option<&'static str>
+    ensures { (place : ℕ) (key : Text) → key_in part place key ≡
+        key_after (option_map (λ name. name.now) result) place key }
+{
+    match part {
+        Part::Top => None,
+        Part::Radio => Some("radio."),
+        Part::Server => Some("server."),
+        Part::Link => Some("link."),
+        Part::Key => Some("key."),
+        Part::Deny => Some("deny."),
+    }
+}
+
 // The text of a key as a fault names it.
 fn key_text(alloc: Global, spot: Spot<'_>) -> Result<KeyText, AllocError>
     ensures { IfOk result (λ k. k ≡ spot_text spot.entry) }
 {
     let place = spot.place;
     let key = spot.key;
-    let text = match spot.part {
-        Part::Top => String::from_str(alloc, key)?,
-        Part::Radio => format!(in alloc; "radio.{place}.{key}")?,
-        Part::Server => format!(in alloc; "server.{place}.{key}")?,
-        Part::Link => format!(in alloc; "link.{place}.{key}")?,
-        Part::Key => format!(in alloc; "key.{place}.{key}")?,
-        Part::Deny => format!(in alloc; "deny.{place}.{key}")?,
+    let text = match array_name(spot.part) {
+        Some(name) => format!(in alloc; "{name}{place}.{key}")?,
+        None => String::from_str(alloc, key)?,
     };
     Ok(KeyText::new(text))
 }

@@ -25,7 +25,7 @@ use toml::{Table, Value};
 const LONGEST: usize = 32;
 
 // Why the values of a table could not be read: the value at this key is not of its type and range, or memory ran out.
-#[derive(Clone, Copy, Debug)]
+#[derive(Clone, Copy)]
 pub enum Misread {
     Range(&'static str),
     Memory,

@@ -23,12 +23,18 @@ pub read_links-requires : goal.read_links-requires
 read_links-requires c =
     ap (λ ts. keys_at missing_in (sheets part.Link ts)) c.in-Ok.ensures.links ∙ (none_in missing_in (table_view c.args.table.now) c.requires).links
 
+pub returns-in_err-radios-clause-read : goal.returns-in_err-radios-clause-read
+returns-in_err-radios-clause-read c = rw (err_from_is_err_and c.from_residual.result c.from_residual.ensures.1).1 tt
+
 pub returns-in_err-radios-clause-bad : goal.returns-in_err-radios-clause-bad
 returns-in_err-radios-clause-bad c =
     let p = err_from_is_err_and c.from_residual.result c.from_residual.ensures.1 in
     let o = c.in_err-radios.field-0.0 in
     let h = subst (λ ts. IsMisreadAt (keys_at bad_in (sheets part.Radio ts)) o) c.in-Ok.ensures.radios c.in_err-radios.ensures.bad in
     rw (p.1, p.2) (bad_radio (table_view c.args.table.now) o c.in-Ok.ensures.good h)
+
+pub returns-in_err-servers-clause-read : goal.returns-in_err-servers-clause-read
+returns-in_err-servers-clause-read c = rw (err_from_is_err_and c.from_residual-in_err-servers.result c.from_residual-in_err-servers.ensures.1).1 tt
 
 pub returns-in_err-servers-clause-bad : goal.returns-in_err-servers-clause-bad
 returns-in_err-servers-clause-bad c =
@@ -37,6 +43,9 @@ returns-in_err-servers-clause-bad c =
     let radios = sym (ap (λ ts. keys_at bad_in (sheets part.Radio ts)) c.in-Ok.ensures.radios) ∙ c.in_ok-radios.ensures.read.good in
     let h = subst (λ ts. IsMisreadAt (keys_at bad_in (sheets part.Server ts)) o) c.in-Ok.ensures.servers c.in_err-servers.ensures.bad in
     rw (p.1, p.2) (bad_server (table_view c.args.table.now) o c.in-Ok.ensures.good radios h)
+
+pub returns-in_err-links-clause-read : goal.returns-in_err-links-clause-read
+returns-in_err-links-clause-read c = rw (err_from_is_err_and c.from_residual-in_err-links.result c.from_residual-in_err-links.ensures.1).1 tt
 
 pub returns-in_err-links-clause-bad : goal.returns-in_err-links-clause-bad
 returns-in_err-links-clause-bad c =
@@ -50,6 +59,9 @@ returns-in_err-links-clause-bad c =
 pub read_keys-requires : goal.read_keys-requires
 read_keys-requires c =
     ap (λ ts. keys_at missing_in (sheets part.Key ts)) c.in-Ok.ensures.keys ∙ (none_in missing_in (table_view c.args.table.now) c.requires).keys
+
+pub returns-in_err-keys-clause-read : goal.returns-in_err-keys-clause-read
+returns-in_err-keys-clause-read c = rw (err_from_is_err_and c.from_residual-in_err-keys.result c.from_residual-in_err-keys.ensures.1).1 tt
 
 pub returns-in_err-keys-clause-bad : goal.returns-in_err-keys-clause-bad
 returns-in_err-keys-clause-bad c =
@@ -65,6 +77,9 @@ pub read_nets-requires : goal.read_nets-requires
 read_nets-requires c =
     ap (λ ts. keys_at missing_in (sheets part.Deny ts)) c.in-Ok.ensures.deny ∙ (none_in missing_in (table_view c.args.table.now) c.requires).nets
 
+pub returns-in_err-deny-clause-read : goal.returns-in_err-deny-clause-read
+returns-in_err-deny-clause-read c = rw (err_from_is_err_and c.from_residual-in_err-deny.result c.from_residual-in_err-deny.ensures.1).1 tt
+
 pub returns-in_err-deny-clause-bad : goal.returns-in_err-deny-clause-bad
 returns-in_err-deny-clause-bad c =
     let p = err_from_is_err_and c.from_residual-in_err-deny.result c.from_residual-in_err-deny.ensures.1 in
@@ -76,24 +91,21 @@ returns-in_err-deny-clause-bad c =
     let h = subst (λ ts. IsMisreadAt (keys_at bad_in (sheets part.Deny ts)) o) c.in-Ok.ensures.deny c.in_err-deny.ensures.bad in
     rw (p.1, p.2) (bad_net (table_view c.args.table.now) o c.in-Ok.ensures.good radios servers links keys h)
 
-pub returns-clause-said : goal.returns-clause-said
-returns-clause-said c =
+pub returns-clause-read : goal.returns-clause-read
+returns-clause-read c =
     let radios = c.in_ok-radios.ensures.read.rows ∙ ap (map (λ t. radio_of t.1)) c.in-Ok.ensures.radios in
     let servers = c.in_ok-servers.ensures.read.rows ∙ ap (map (λ t. server_of t.1)) c.in-Ok.ensures.servers in
     let links = c.in_ok-links.ensures.read.rows ∙ ap (map (λ t. number_at port_row t.1)) c.in-Ok.ensures.links in
     let keys = c.in_ok-keys.ensures.read.rows ∙ ap (map (λ t. key_of t.1)) c.in-Ok.ensures.keys in
     let deny = c.in_ok-deny.ensures.read.rows ∙ ap (map (λ t. net_of t.1)) c.in-Ok.ensures.deny in
     let leap = c.in-Ok-kept_name.ensures ∙ c.in-Ok.ensures.leap_file in
-    λ i. record { top = c.in-Ok.ensures.numbers i; radios = radios i; servers = servers i; leap_file = leap i; links = links i; keys = keys i; deny = deny i }
-
-pub returns-clause-good : goal.returns-clause-good
-returns-clause-good c =
-    let radios = sym (ap (λ ts. keys_at bad_in (sheets part.Radio ts)) c.in-Ok.ensures.radios) ∙ c.in_ok-radios.ensures.read.good in
-    let servers = sym (ap (λ ts. keys_at bad_in (sheets part.Server ts)) c.in-Ok.ensures.servers) ∙ c.in_ok-servers.ensures.read.good in
-    let links = sym (ap (λ ts. keys_at bad_in (sheets part.Link ts)) c.in-Ok.ensures.links) ∙ c.in_ok-links.ensures.read.good in
-    let keys = sym (ap (bad_in_keys []) c.in-Ok.ensures.keys) ∙ c.in_ok-keys.ensures.read.good in
-    let nets = sym (ap (λ ts. keys_at bad_in (sheets part.Deny ts)) c.in-Ok.ensures.deny) ∙ c.in_ok-deny.ensures.read.good in
-    no_bad (table_view c.args.table.now) c.in-Ok.ensures.good radios servers links keys nets
-
-pub returns-clause-apart : goal.returns-clause-apart
-returns-clause-apart c = c.in_ok-keys.ensures.read.apart apart_none
+    let bad_radios = sym (ap (λ ts. keys_at bad_in (sheets part.Radio ts)) c.in-Ok.ensures.radios) ∙ c.in_ok-radios.ensures.read.good in
+    let bad_servers = sym (ap (λ ts. keys_at bad_in (sheets part.Server ts)) c.in-Ok.ensures.servers) ∙ c.in_ok-servers.ensures.read.good in
+    let bad_links = sym (ap (λ ts. keys_at bad_in (sheets part.Link ts)) c.in-Ok.ensures.links) ∙ c.in_ok-links.ensures.read.good in
+    let bad_keys = sym (ap (bad_in_keys []) c.in-Ok.ensures.keys) ∙ c.in_ok-keys.ensures.read.good in
+    let bad_nets = sym (ap (λ ts. keys_at bad_in (sheets part.Deny ts)) c.in-Ok.ensures.deny) ∙ c.in_ok-deny.ensures.read.good in
+    record {
+      said = λ i. record { top = c.in-Ok.ensures.numbers i; radios = radios i; servers = servers i; leap_file = leap i; links = links i; keys = keys i; deny = deny i };
+      good = no_bad (table_view c.args.table.now) c.in-Ok.ensures.good bad_radios bad_servers bad_links bad_keys bad_nets;
+      apart = c.in_ok-keys.ensures.read.apart apart_none;
+    }

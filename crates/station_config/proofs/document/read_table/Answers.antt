@@ -29,15 +29,15 @@ returns-in-Some-excess-clause-bad c =
     let no_unknown = first_none (unknowns m) (rw c.in_default.is at c.first_at.ensures) in
     let no_missing = first_none (missings m) (rw c.in_default-first_at.is at c.first_at-2.ensures) in
     let found = rw c.in-Some-excess.is at c.excess.ensures in
-    ap (λ fs. slice_get fs 0) (excess_first (unknowns m) (missings m) (bads m) (excess_of (station_of m)) no_unknown no_missing c.in-Ok.ensures.good)
+    ap (λ fs. slice_get fs 0) (excess_first (unknowns m) (missings m) (bads m) (excess_of (station_of m)) no_unknown no_missing c.in-Ok.ensures.read.good)
     ∙ first_map (λ n. too_many n.key n.count) (filter over (counts_of (station_of m))) (count_seen c.in-Some-excess.over)
-    (first_passing over (counts_of (station_of m)) ∙ sym (ap (λ s. find over (counts_of s)) c.in-Ok.ensures.said) ∙ sym found)
+    (first_passing over (counts_of (station_of m)) ∙ sym (ap (λ s. find over (counts_of s)) c.in-Ok.ensures.read.said) ∙ sym found)
 
 pub new-requires : goal.new-requires
 new-requires c =
     let m = table_view c.args.table.now in
     let found = rw c.in-None.is at c.excess.ensures in
-    subst IsStation (sym c.in-Ok.ensures.said) (station_bounds m (within (station_of m) (found ∙ ap (λ s. find over (counts_of s)) c.in-Ok.ensures.said)) (subst (λ s. AreApart s.keys) c.in-Ok.ensures.said c.in-Ok.ensures.apart))
+    subst IsStation (sym c.in-Ok.ensures.read.said) (station_bounds m (within (station_of m) (found ∙ ap (λ s. find over (counts_of s)) c.in-Ok.ensures.read.said)) (subst (λ s. AreApart s.keys) c.in-Ok.ensures.read.said c.in-Ok.ensures.read.apart))
 
 pub returns-in-Ok-clause-good : goal.returns-in-Ok-clause-good
 returns-in-Ok-clause-good c =
@@ -45,8 +45,8 @@ returns-in-Ok-clause-good c =
     let no_unknown = first_none (unknowns m) (rw c.in_default.is at c.first_at.ensures) in
     let no_missing = first_none (missings m) (rw c.in_default-first_at.is at c.first_at-2.ensures) in
     let found = rw c.in-None.is at c.excess.ensures in
-    excess_first (unknowns m) (missings m) (bads m) (excess_of (station_of m)) no_unknown no_missing c.in-Ok.ensures.good
-    ∙ ap (map (λ n. too_many n.key n.count)) (first_none (filter over (counts_of (station_of m))) (found ∙ ap (λ s. find over (counts_of s)) c.in-Ok.ensures.said ∙ sym (first_passing over (counts_of (station_of m)))))
+    excess_first (unknowns m) (missings m) (bads m) (excess_of (station_of m)) no_unknown no_missing c.in-Ok.ensures.read.good
+    ∙ ap (map (λ n. too_many n.key n.count)) (first_none (filter over (counts_of (station_of m))) (found ∙ ap (λ s. find over (counts_of s)) c.in-Ok.ensures.read.said ∙ sym (first_passing over (counts_of (station_of m)))))
 
 pub returns-clause-bad : goal.returns-clause-bad
 returns-clause-bad c =

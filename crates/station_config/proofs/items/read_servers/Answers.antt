@@ -1,13 +1,29 @@
--- What the search leaves open of `items::read_servers`.
-use Rattle.std.proofs.Common.{◌≡◌, ◌∙◌, ◌+◌, ◌++◌, sym, ap, drop, map, subst}
+-- What the search leaves open of `items::read_servers`, or finds late.
+use Rattle.std.proofs.Common.{◌+◌, drop, map}
 use Rattle.std.proofs.lemmas.Result.{err_from_is_err_and}
 use Rattle.toml.specs.View.{items_view, view}
 use Rattle.station_config.specs.KeptStation.{server_fields}
 use Rattle.station_config.specs.Rows.{table_at, tables_from}
 use Rattle.station_config.specs.Values.{server_of}
 use Rattle.station_config.specs.declared.keys.Part.TheVariants as part
-use Rattle.station_config.proofs.Walks.{Left, left_bad, rest_from}
+use Rattle.station_config.proofs.Walks.{left_at, left_bad, left_end, left_missing, left_next}
 use Rattle.station_config.proofs.items.read_servers.Goals as goal
+
+pub add_server-requires : goal.add_server-requires
+add_server-requires c =
+    let xs = c.args.items.now in
+    let i = c.loop-place.place in
+    let item = c.index-items-place.result in
+    let more = tables_from (i + 1) (items_view (drop (i + 1) xs)) in
+    let all = tables_from 0 (items_view xs) in
+    let done = map server_fields c.loop-place.servers.items in
+    let l = left_at part.Server server_of done xs i item all c.loop-place-test.true c.index-items-place.is c.loop-place.invariant in
+    left_missing part.Server server_of done (table_at i (view item)) more all l
+
+pub returns-in_err-add_server-clause-read : goal.returns-in_err-add_server-clause-read
+returns-in_err-add_server-clause-read c =
+    let p = err_from_is_err_and c.from_residual.result c.from_residual.ensures.1 in
+    rw p.1 tt
 
 pub returns-in_err-add_server-clause-bad : goal.returns-in_err-add_server-clause-bad
 returns-in_err-add_server-clause-bad c =
@@ -18,7 +34,21 @@ returns-in_err-add_server-clause-bad c =
     let more = tables_from (i + 1) (items_view (drop (i + 1) xs)) in
     let all = tables_from 0 (items_view xs) in
     let done = map server_fields c.loop-place.servers.items in
-    let step : tables_from i (items_view (drop i xs)) ≡ table_at i (view item) ++ more = rest_from xs i item c.loop-place-test.true ∙ ap (λ v. table_at i (view v) ++ more) (sym c.index-items-place.is) in
-    let l = subst (λ ts. Left part.Server server_of done ts all) step c.loop-place.invariant in
+    let l = left_at part.Server server_of done xs i item all c.loop-place-test.true c.index-items-place.is c.loop-place.invariant in
     let h = left_bad part.Server server_of done (table_at i (view item)) more all c.in_err-add_server.field-0.0 l c.in_err-add_server.ensures.bad in
     rw (p.1, p.2) h
+
+pub loop-place-preserved : goal.loop-place-preserved
+loop-place-preserved c =
+    let xs = c.args.items.now in
+    let i = c.loop-place.place in
+    let item = c.index-items-place.result in
+    let more = tables_from (i + 1) (items_view (drop (i + 1) xs)) in
+    let all = tables_from 0 (items_view xs) in
+    let done = map server_fields c.loop-place.servers.items in
+    let l = left_at part.Server server_of done xs i item all c.loop-place-test.true c.index-items-place.is c.loop-place.invariant in
+    left_next part.Server server_of done (map server_fields c.add_server.new.servers.items) (table_at i (view item)) more all l c.in_ok-add_server.ensures.added
+
+pub returns-clause-read : goal.returns-clause-read
+returns-clause-read c =
+    left_end part.Server server_of (map server_fields c.loop-place.servers.items) c.args.items.now c.loop-place.place (tables_from 0 (items_view c.args.items.now)) c.loop-place-test.false c.loop-place.invariant

@@ -1,0 +1,54 @@
+-- What the search leaves open of `items::read_nets`, or finds late.
+use Rattle.std.proofs.Common.{◌+◌, drop, map}
+use Rattle.std.proofs.lemmas.Result.{err_from_is_err_and}
+use Rattle.toml.specs.View.{items_view, view}
+use Rattle.station_config.specs.KeptStation.{net_kept}
+use Rattle.station_config.specs.Rows.{table_at, tables_from}
+use Rattle.station_config.specs.Values.{net_of}
+use Rattle.station_config.specs.declared.keys.Part.TheVariants as part
+use Rattle.station_config.proofs.Walks.{left_at, left_bad, left_end, left_missing, left_next}
+use Rattle.station_config.proofs.items.read_nets.Goals as goal
+
+pub add_net-requires : goal.add_net-requires
+add_net-requires c =
+    let xs = c.args.items.now in
+    let i = c.loop-place.place in
+    let item = c.index-items-place.result in
+    let more = tables_from (i + 1) (items_view (drop (i + 1) xs)) in
+    let all = tables_from 0 (items_view xs) in
+    let done = map net_kept c.loop-place.nets.items in
+    let l = left_at part.Deny net_of done xs i item all c.loop-place-test.true c.index-items-place.is c.loop-place.invariant in
+    left_missing part.Deny net_of done (table_at i (view item)) more all l
+
+pub returns-in_err-add_net-clause-read : goal.returns-in_err-add_net-clause-read
+returns-in_err-add_net-clause-read c =
+    let p = err_from_is_err_and c.from_residual.result c.from_residual.ensures.1 in
+    rw p.1 tt
+
+pub returns-in_err-add_net-clause-bad : goal.returns-in_err-add_net-clause-bad
+returns-in_err-add_net-clause-bad c =
+    let p = err_from_is_err_and c.from_residual.result c.from_residual.ensures.1 in
+    let xs = c.args.items.now in
+    let i = c.loop-place.place in
+    let item = c.index-items-place.result in
+    let more = tables_from (i + 1) (items_view (drop (i + 1) xs)) in
+    let all = tables_from 0 (items_view xs) in
+    let done = map net_kept c.loop-place.nets.items in
+    let l = left_at part.Deny net_of done xs i item all c.loop-place-test.true c.index-items-place.is c.loop-place.invariant in
+    let h = left_bad part.Deny net_of done (table_at i (view item)) more all c.in_err-add_net.field-0.0 l c.in_err-add_net.ensures.bad in
+    rw (p.1, p.2) h
+
+pub loop-place-preserved : goal.loop-place-preserved
+loop-place-preserved c =
+    let xs = c.args.items.now in
+    let i = c.loop-place.place in
+    let item = c.index-items-place.result in
+    let more = tables_from (i + 1) (items_view (drop (i + 1) xs)) in
+    let all = tables_from 0 (items_view xs) in
+    let done = map net_kept c.loop-place.nets.items in
+    let l = left_at part.Deny net_of done xs i item all c.loop-place-test.true c.index-items-place.is c.loop-place.invariant in
+    left_next part.Deny net_of done (map net_kept c.add_net.new.nets.items) (table_at i (view item)) more all l c.in_ok-add_net.ensures.added
+
+pub returns-clause-read : goal.returns-clause-read
+returns-clause-read c =
+    left_end part.Deny net_of (map net_kept c.loop-place.nets.items) c.args.items.now c.loop-place.place (tables_from 0 (items_view c.args.items.now)) c.loop-place-test.false c.loop-place.invariant
