@@ -13,7 +13,7 @@ use Rattle.station_crew.proofs.telling.tell_responders.Goals as goal
 pub loop-job-init : goal.loop-job-init
 loop-job-init g c = record {
   same = search rules;
-  told = front_none (WasTold c.args.feeds.now) (into_iter_items c.into_iter-job-iterator.result) c.args.told.now.items c.requires.none;
+  told = front_none (WasTold c.args.feeds.now.items) (into_iter_items c.into_iter-job-iterator.result) c.args.told.now.items c.requires.none;
   numbers = search rules;
   readers = subst (λ xs. All (λ j. j.responder.pass.table ≡ c.args.cell.now.table) xs) (sym c.into_iter-job-iterator.ensures.into_iter_gives.0) c.requires.readers;
   size = search rules;
@@ -29,7 +29,7 @@ loop-job-preserved g c =
     let number : c.tell_responder.result.responder.number ≡ vec_len c.loop-job.told = search rules in
     record {
       same = search rules;
-      told = front_more (WasTold c.args.feeds.now) _ _ _ _ _ _ _ e c.push_reserved.ensures.items i.told (subst (λ fs. WasTold fs c.in-Some.job c.tell_responder.result) i.same c.tell_responder.ensures.told);
+      told = front_more (WasTold c.args.feeds.now.items) _ _ _ _ _ _ _ e c.push_reserved.ensures.items i.told (subst (λ fs. WasTold fs c.in-Some.job c.tell_responder.result) i.same c.tell_responder.ensures.told);
       numbers = numbered_more number_of c.loop-job.told.items c.push_reserved.new.self.items _ (vec_len c.loop-job.told) _ c.push_reserved.ensures.items number c.push_reserved.ensures.len i.numbers;
       readers = all_rest (λ j. j.responder.pass.table ≡ c.args.cell.now.table) _ _ _ e i.readers;
       size = search rules;
@@ -41,7 +41,7 @@ loop-job-preserved g c =
 pub returns-clause-told : goal.returns-clause-told
 returns-clause-told g c =
     let none : into_iter_items c.loop-job.job-iterator ≡ [] = nil_from_length _ (c.loop-job.invariant.size ∙ c.in-None.ensures.steps.0) in
-    subst (λ xs. Pairs (WasTold c.args.feeds.now) xs c.loop-job.told.items) c.into_iter-job-iterator.ensures.into_iter_gives.0 (front_whole (WasTold c.args.feeds.now) _ _ _ none c.loop-job.invariant.told)
+    subst (λ xs. Pairs (WasTold c.args.feeds.now.items) xs c.loop-job.told.items) c.into_iter-job-iterator.ensures.into_iter_gives.0 (front_whole (WasTold c.args.feeds.now.items) _ _ _ none c.loop-job.invariant.told)
 
 pub returns-clause-numbers : goal.returns-clause-numbers
 returns-clause-numbers g c = c.loop-job.invariant.numbers ∙ ap (range_with_len 0) (search rules)
