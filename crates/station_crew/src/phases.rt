@@ -186,24 +186,39 @@ pub fn run_first<
         × (vec_len crew.new.pollers ≡ vec_len crew.old.pollers)
         × (vec_len crew.new.responders ≡ vec_len crew.old.responders) }
 {
-    let radios = crew.radios.as_mut_slice();
-    let pollers = crew.pollers.as_mut_slice();
-    let leap = &mut crew.leap;
-    let responders = crew.responders.as_mut_slice();
+    let Crew {
+        radios,
+        pollers,
+        leap,
+        responders,
+    } = crew;
     join_mut(
         rt,
         &mut ||
-            requires radios { Every (MayHear least_start N.table (length N.settings.sources)) radios.now }
-            requires pollers { Every (λ j. MayPoll N.table (length N.settings.sources) j) pollers.now }
+            requires radios { Every (MayHear least_start N.table (length N.settings.sources)) radios.now.items }
+            requires pollers { Every (λ j. MayPoll N.table (length N.settings.sources) j) pollers.now.items }
             requires leap { IfSome leap.now (λ j. MayNotice N.table (length N.settings.sources) j) }
-            ensures radios { Each (RadioRan stands_for L.state L.opening N.limit) radios.entry.now radios.exit.now }
-            ensures pollers { Each (PollRan T.state T.opening N.limit) pollers.entry.now pollers.exit.now }
+            ensures radios { Each (RadioRan stands_for L.state L.opening N.limit) radios.entry.now.items
+                radios.exit.now.items }
+            ensures pollers { Each (PollRan T.state T.opening N.limit) pollers.entry.now.items pollers.exit.now.items }
             ensures leap { Both (LeapRan L.state L.opening N.limit) leap.entry.now leap.exit.now }
-        { run_feeds(rt, hub, gate, radios, pollers, leap) },
+            ensures counts { (vec_len radios.exit.now ≡ vec_len radios.entry.now)
+                × (vec_len pollers.exit.now ≡ vec_len pollers.entry.now) }
+        {
+            run_feeds(
+                rt,
+                hub,
+                gate,
+                radios.as_mut_slice(),
+                pollers.as_mut_slice(),
+                leap,
+            )
+        },
         &mut ||
-            requires { Every (λ j. j.responder.pass.table ≡ N.table) responders.now }
-            ensures { Each (HasServed T.state T.opening budget) responders.entry.now responders.exit.now }
-        { run_responders(rt, hub, gate, budget, responders) },
+            requires { Every (λ j. j.responder.pass.table ≡ N.table) responders.now.items }
+            ensures served { Each (HasServed T.state T.opening budget) responders.entry.now.items responders.exit.now.items }
+            ensures count { vec_len responders.exit.now ≡ vec_len responders.entry.now }
+        { run_responders(rt, hub, gate, budget, responders.as_mut_slice()) },
     );
 }
 

@@ -7,8 +7,8 @@ use Rattle.crew_work.proofs.ListLaws.{at-most-one}
 use Rattle.station_crew.specs.Leaving.{leap_pass, log_of, poll_pass, radio_pass, server_link}
 use Rattle.station_crew.proofs.leaving.leave_feeds.Goals as goal
 
-pub leave_leap-file-requires : goal.leave_leap-file-requires
-leave_leap-file-requires g c =
+pub leave_leap-file-requires-clause-feeds : goal.leave_leap-file-requires-clause-feeds
+leave_leap-file-requires-clause-feeds g c κs within =
     let bs = c.args.crew.radios in
     let qs = c.args.crew.pollers in
     let feeds = c.leave_pollers.new.feeds in

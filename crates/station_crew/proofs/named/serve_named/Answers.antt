@@ -83,8 +83,8 @@ run_first-requires-clause-responders g c κs within =
     let readers = c.man_crew-crew.ensures.readers ∙ c.in-Ok.ensures.passes.1 in
     record { all = readers_are table c.man_crew-crew.result.responders.items (subst (All (IsNewReader table)) (sym readers) c.requires.readers) }
 
-pub leave_feeds-responders-requires : goal.leave_feeds-responders-requires
-leave_feeds-responders-requires g c κs within =
+pub leave_feeds-responders-requires-after_bounds : goal.leave_feeds-responders-requires-after_bounds
+leave_feeds-responders-requires-after_bounds g c κs within =
     let now = c.run_first.new.crew in
     let m = c.man_crew-crew.ensures.manned in
     let crew = c.man_crew-crew.result in
@@ -159,8 +159,8 @@ tell_responders-requires-clause-room g c κs within =
     let r = ap vec_len c.leave_feeds-responders.ensures.responders in
     omega (arith, one, two, q, a, k, r, length-map xs.items link_of)
 
-pub run_second-requires : goal.run_second-requires
-run_second-requires g c κs within =
+pub run_second-requires-after_bounds : goal.run_second-requires-after_bounds
+run_second-requires-after_bounds g c κs within =
     let table = g.N.HubName.table in
     let xs = c.man_crew-crew.result.responders.items in
     let ys = c.run_first.new.crew.responders.items in

@@ -4,6 +4,8 @@ use Rattle.std.specs.Prelude.{All, vec_len}
 use Rattle.std.specs.List.{range_with_len}
 use Rattle.std.specs.Vec.Iter.{into_iter_items}
 use Rattle.std.proofs.lemmas.List.{nil_from_length}
+use Rattle.std.proofs.lemmas.List.Elements.{All-head}
+use Rattle.page_cell.specs.Passes.{Known}
 use Rattle.station_crew.specs.Leaving.{number_of}
 use Rattle.crew_work.specs.Lists.{Pairs}
 use Rattle.station_crew.specs.Telling.{WasTold}
@@ -21,6 +23,13 @@ loop-job-init g c = record {
   few = search rules;
   room = search rules;
 }
+
+pub tell_responder-requires-clause-feeds : goal.tell_responder-requires-clause-feeds
+tell_responder-requires-clause-feeds g c κs within = subst (All (λ (f : Known). f.table ≡ c.args.cell.now.table)) (sym c.loop-job.invariant.same) c.requires.feeds
+
+pub tell_responder-requires-clause-reader : goal.tell_responder-requires-clause-reader
+tell_responder-requires-clause-reader g c κs within =
+    All-head (λ j. j.responder.pass.table ≡ c.args.cell.now.table) c.in-Some.job _ (subst (λ xs. All (λ j. j.responder.pass.table ≡ c.args.cell.now.table) xs) c.in-Some.ensures.steps.0 c.loop-job.invariant.readers)
 
 pub loop-job-preserved : goal.loop-job-preserved
 loop-job-preserved g c =
