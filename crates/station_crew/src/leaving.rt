@@ -2,7 +2,8 @@
 ghost use Rattle.std.specs.Prelude.{◌≡◌, ◌≤◌, ◌+◌, ◌++◌, length, map, option_map, vec_capacity, vec_len};
 ghost use Rattle.std.specs.Option.{option_to_list};
 ghost use Rattle.station_crew.specs.Crews.{FeedsLeft, HasRoomForServed, HasRoomToLeave};
-ghost use Rattle.station_crew.specs.Leaving.{file_of, leap_pass, link_of, log_of, poll_pass, radio_pass, serve_pass, server_link};
+ghost use Rattle.station_crew.specs.Leaving.{file_of, leap_pass, link_of, log_of, poll_pass};
+ghost use Rattle.station_crew.specs.Leaving.{radio_pass, serve_pass, server_link};
 
 use crate::crew::{Crew, Left};
 use crate::jobs::{LeapJob, PollJob, RadioJob, ServeJob};

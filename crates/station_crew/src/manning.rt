@@ -1,5 +1,6 @@
 // Workers, each with a pass of the cell.
-ghost use Rattle.std.specs.Prelude.{◌≡◌, ◌≤◌, ◌<◌, ◌+◌, ◌++◌, [], All, IfSome, None, drop, length, map, option_map, slice_get, vec_capacity, vec_len};
+ghost use Rattle.std.specs.Prelude.{◌≡◌, ◌≤◌, ◌<◌, ◌+◌, ◌++◌, [], All, IfSome, None, drop, length, map, option_map};
+ghost use Rattle.std.specs.Prelude.{slice_get, vec_capacity, vec_len};
 ghost use Rattle.std.specs.List.{range_with_len};
 ghost use Rattle.std.specs.Option.{option_to_list};
 ghost use Rattle.packet_auth.specs.Keys.{keys_of};
@@ -8,8 +9,8 @@ ghost use Rattle.station_config.specs.Station.{IsStation, gate_of};
 ghost use Rattle.station_config.specs.KeptStation.{server_fields};
 ghost use Rattle.station_crew.specs.Crews.{CrewManned, HasRoomFor};
 ghost use Rattle.station_crew.specs.Jobs.{IsManned};
-ghost use Rattle.station_crew.specs.Leaving.{file_of, leap_pass, link_of, log_of, number_of, passes_of, poll_pass, radio_pass};
-ghost use Rattle.station_crew.specs.Leaving.{serve_pass, server_link, server_of};
+ghost use Rattle.station_crew.specs.Leaving.{file_of, leap_pass, link_of, log_of, number_of, passes_of};
+ghost use Rattle.station_crew.specs.Leaving.{poll_pass, radio_pass, serve_pass, server_link, server_of};
 ghost use Rattle.station_gear.specs.Opens.{IsWhole};
 ghost use Rattle.crew_work.specs.Served.{AreBlank};
 ghost use Rattle.crew_work.specs.Lists.{Pairs};

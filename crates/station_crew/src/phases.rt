@@ -1,6 +1,7 @@
 // The two phases: workers side by side.
 ghost use Rattle.std.specs.Prelude.{◌≡◌, All, IfSome, length, vec_len};
-ghost use Rattle.station_crew.specs.Jobs.{HasServed, HasServedAgain, LeapRan, MayHear, MayNotice, MayPoll, PollRan, RadioRan};
+ghost use Rattle.station_crew.specs.Jobs.{HasServed, HasServedAgain, LeapRan, PollRan, RadioRan};
+ghost use Rattle.station_crew.specs.Jobs.{MayHear, MayNotice, MayPoll};
 ghost use Rattle.crew_work.specs.Lists.{Both, Each, Every};
 
 use crate::crew::Crew;
@@ -216,7 +217,8 @@ pub fn run_first<
         },
         &mut ||
             requires { Every (λ j. j.responder.pass.table ≡ N.table) responders.now.items }
-            ensures served { Each (HasServed T.state T.opening budget) responders.entry.now.items responders.exit.now.items }
+            ensures served { Each (HasServed T.state T.opening budget) responders.entry.now.items
+                responders.exit.now.items }
             ensures count { vec_len responders.exit.now ≡ vec_len responders.entry.now }
         { run_responders(rt, hub, gate, budget, responders.as_mut_slice()) },
     );

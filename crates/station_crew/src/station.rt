@@ -1,7 +1,8 @@
 //! Serves a station whose logs and links are open.
 ghost use Rattle.std.specs.Prelude.{◌≡◌, ◌<◌, ◌≤◌, ◌^◌, ◌+◌, All, IfErr, IfOk, length, vec_len};
 ghost use Rattle.station_config.specs.Station.{gate_of, leap_feed, settings_of};
-ghost use Rattle.station_crew.specs.Crews.{HasRoom, HasRoomFor, HasRoomForGear, HasRoomForPasses, HasRoomForWork, HasRoomToLeave};
+ghost use Rattle.station_crew.specs.Crews.{HasRoom, HasRoomFor, HasRoomToLeave};
+ghost use Rattle.station_crew.specs.Crews.{HasRoomForGear, HasRoomForPasses, HasRoomForWork};
 ghost use Rattle.station_gear.specs.Opens.{IsWhole};
 ghost use Rattle.crew_work.specs.Served.{AreBlank, IsJournalOf, LeapServed, LinksServed, RadiosServed, ServersServed};
 ghost use Rattle.crew_work.specs.Served.{column_of, seen, service_of};
