@@ -1,5 +1,5 @@
 -- Scaffolding: what all workers of a station do.
-use Rattle.std.specs.Prelude.{◌≡◌, ◌≤◌, ℕ, ◌+◌, List, [], All, None, IfSome, length, map, option_map, vec_capacity, vec_len}
+use Rattle.std.specs.Prelude.{◌≡◌, ◌≤◌, ℕ, ◌+◌, List, [], All, None, IfSome, map, option_map, vec_capacity, vec_len}
 use Rattle.std.specs.List.{range_with_len}
 use Rattle.atomic_table.specs.Seated.{TableId}
 use Rattle.kiss_gate.specs.Gates.{Gate}
@@ -9,7 +9,7 @@ use Rattle.radio_receiver.specs.Boxes.{Boxed}
 use Rattle.radio_receiver.specs.Histories.{History}
 use Rattle.station_config.specs.Station.{StationFields, gate_of}
 use Rattle.station_crew.specs.Jobs.{IsManned}
-use Rattle.station_crew.specs.Leaving.{file_of, link_of, log_of, number_of, passes_of, serve_pass, server_link, server_of}
+use Rattle.station_crew.specs.Leaving.{file_of, link_of, log_of, number_of, passes_of, server_link, server_of}
 use Rattle.crew_work.specs.Lists.{Pairs}
 use Rattle.crew_work.specs.declared.work.Work.{Work}
 use Rattle.station_crew.specs.declared.crew.Crew.{Crew}
