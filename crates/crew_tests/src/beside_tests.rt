@@ -46,7 +46,7 @@ fn answers_after<R: Threads + Wait + Sync + Abort>(
     let gate = HoldGate::new(held, 2, other, 3, 1, TURNS);
     let ended = serve(rt, alloc, &gate, station, 1, budget, gear)?;
     has_held_once(rt, &gate);
-    for link in &ended.links {
+    for link in &ended.work.links {
         let later = link.second.map_or(0, |second| second.answered);
         same(rt, link.first.answered.saturating_add(later), 1);
     }
@@ -126,8 +126,8 @@ fn keeps_after<R: Threads + Wait + Sync + Abort>(
         end: LogEnd::Whole,
         full: false,
     };
-    same(rt, ended.radios.get(0).copied(), Some(whole));
-    same(rt, ended.leap, Some(whole));
+    same(rt, ended.work.radios.get(0).copied(), Some(whole));
+    same(rt, ended.work.leap, Some(whole));
     let first = place_of(&ended.journal, other).ok_or("no entry of the other")?;
     let later = place_of(&ended.journal, held).ok_or("no entry of the one held")?;
     assert!(*rt; first < later);
@@ -259,7 +259,7 @@ fn sixteen_servers_meet(rt: HostRuntime) -> Result<(), Fail> {
         full: false,
     };
     for place in 0..16usize {
-        same(&rt, ended.servers.get(place).copied(), Some(round));
+        same(&rt, ended.work.servers.get(place).copied(), Some(round));
     }
     Ok(())
 }

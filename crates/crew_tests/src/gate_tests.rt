@@ -101,7 +101,7 @@ fn the_gate_goes_on_from_phase_to_phase(rt: HostRuntime) -> Result<(), Fail> {
         first: counts(1, 1),
         second: Some(counts(2, 1)),
     };
-    same(&rt, ended.links.get(0).copied(), Some(work));
+    same(&rt, ended.work.links.get(0).copied(), Some(work));
     let link = ended.gear.links.get(0).ok_or("no link")?;
     assert!(rt; has_sent(link, &replies));
     Ok(())

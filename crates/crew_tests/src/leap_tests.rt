@@ -63,7 +63,7 @@ fn each_row_but_the_first_is_a_notice(rt: HostRuntime) -> Result<(), Fail> {
     let text = text_of(rt.alloc(), &ended.journal)?;
     same(&rt, text.as_str(), "0 7000 notice 3692217600\n");
     let end = LogEnd::Whole;
-    same(&rt, ended.leap, Some(LogWork { end, full: false }));
+    same(&rt, ended.work.leap, Some(LogWork { end, full: false }));
     assert!(rt; ended.gear.leap.is_some());
     Ok(())
 }
@@ -75,7 +75,7 @@ fn its_feed_stands_behind_the_radios(rt: HostRuntime) -> Result<(), Fail> {
     let ended = serve_list(&rt, rt.alloc(), station.as_str(), true, LIST, 9)?;
     let text = text_of(rt.alloc(), &ended.journal)?;
     same(&rt, text.as_str(), "1 0 notice 3692217600\n");
-    same(&rt, ended.radios.len(), 1);
+    same(&rt, ended.work.radios.len(), 1);
     Ok(())
 }
 
@@ -85,7 +85,7 @@ fn a_row_that_skips_a_second_is_a_bad_line(rt: HostRuntime) -> Result<(), Fail> 
     let ended = serve_list(&rt, rt.alloc(), "leap_file = \"leap\"\n", false, list, 9)?;
     same(&rt, ended.journal.len(), 0);
     let end = LogEnd::BadLine { line: 3 };
-    same(&rt, ended.leap, Some(LogWork { end, full: false }));
+    same(&rt, ended.work.leap, Some(LogWork { end, full: false }));
     Ok(())
 }
 
@@ -96,7 +96,7 @@ fn a_full_journal_loses_a_notice_and_says_so(rt: HostRuntime) -> Result<(), Fail
     let text = text_of(rt.alloc(), &ended.journal)?;
     same(&rt, text.as_str(), "0 0 notice 3644697600\n");
     let end = LogEnd::Whole;
-    same(&rt, ended.leap, Some(LogWork { end, full: true }));
+    same(&rt, ended.work.leap, Some(LogWork { end, full: true }));
     Ok(())
 }
 
@@ -105,7 +105,7 @@ fn an_empty_list_tells_nothing(rt: HostRuntime) -> Result<(), Fail> {
     let ended = serve_list(&rt, rt.alloc(), "leap_file = \"leap\"\n", false, "", 9)?;
     same(&rt, ended.journal.len(), 0);
     let end = LogEnd::Whole;
-    same(&rt, ended.leap, Some(LogWork { end, full: false }));
+    same(&rt, ended.work.leap, Some(LogWork { end, full: false }));
     Ok(())
 }
 
@@ -114,6 +114,6 @@ fn a_station_without_one_has_no_work_for_it(rt: HostRuntime) -> Result<(), Fail>
     let alloc = rt.alloc();
     let gear = no_gear(alloc);
     let ended = serve(&rt, alloc, &OpenGate::new(), "", 1, NO_HEARINGS, gear)?;
-    same(&rt, ended.leap, None);
+    same(&rt, ended.work.leap, None);
     Ok(())
 }

@@ -168,7 +168,7 @@ fn come_to_3<R: Threads + Wait + Sync + Abort>(
     gear.links.push(failing(alloc, fails)?)?;
     let gate = HoldGate::new(100, 3, 0, 1, 0, 1);
     let ended = serve(rt, alloc, &gate, LINK, 1, ONE_EACH, gear)?;
-    Ok((gate.passed(rt), ended.links.get(0).copied()))
+    Ok((gate.passed(rt), ended.work.links.get(0).copied()))
 }
 
 #[test]

@@ -11,7 +11,7 @@ use journal_entry::{ENTRY_ROOM, write_entry};
 use radio_receiver::{BoxedReceiver, DcfReceiver, Receiver};
 use responder::{End, Served};
 use station_config::{Station, read_station};
-use station_crew::{Budget, Ended, LinkWork, serve_station};
+use station_crew::{Budget, Ended, Kit, LinkWork, Orders, serve_station};
 use station_gear::Gear;
 use std::alloc::Global;
 use std::fmt::Debug;
@@ -212,7 +212,9 @@ fn serve_with<R: Threads + Wait + Sync, G: Gate>(
     if gear.links.len() != station.links() {
         return Err("links")?;
     }
-    match serve_station(rt, alloc, gate, &station, limit, budget, receivers, gear) {
+    let orders = Orders { limit, budget };
+    let kit = Kit { receivers, gear };
+    match serve_station(rt, alloc, gate, &station, orders, kit) {
         Ok(ended) => Ok(ended),
         Err(_) => Err("memory")?,
     }
@@ -298,14 +300,14 @@ fn a_link_is_answered_in_both_phases(rt: HostRuntime) -> Result<(), Fail> {
     let end = LogEnd::Whole;
     same(
         &rt,
-        ended.radios.get(0).copied(),
+        ended.work.radios.get(0).copied(),
         Some(LogWork { end, full: false }),
     );
     let work = LinkWork {
         first: counts(1, End::Count),
         second: Some(counts(1, End::Count)),
     };
-    same(&rt, ended.links.get(0).copied(), Some(work));
+    same(&rt, ended.work.links.get(0).copied(), Some(work));
     let link = ended.gear.links.get(0).ok_or("no link")?;
     let init = *b"INIT";
     let dcf = [0x44, 0x43, 0x46, 0x00];
@@ -353,10 +355,14 @@ fn a_station_without_feeds_is_served(rt: HostRuntime) -> Result<(), Fail> {
         first: counts(2, End::Count),
         second: Some(counts(1, End::Count)),
     };
-    same(&rt, ended.links.get(0).copied(), Some(work));
+    same(&rt, ended.work.links.get(0).copied(), Some(work));
     same(
         &rt,
-        (ended.radios.len(), ended.servers.len(), ended.links.len()),
+        (
+            ended.work.radios.len(),
+            ended.work.servers.len(),
+            ended.work.links.len(),
+        ),
         (0, 0, 1),
     );
     Ok(())
@@ -377,7 +383,7 @@ fn a_full_journal_keeps_a_front(rt: HostRuntime) -> Result<(), Fail> {
     let end = LogEnd::Whole;
     same(
         &rt,
-        ended.radios.get(0).copied(),
+        ended.work.radios.get(0).copied(),
         Some(LogWork { end, full: true }),
     );
     Ok(())
@@ -404,8 +410,8 @@ fn a_link_that_ends_has_no_second_phase(rt: HostRuntime) -> Result<(), Fail> {
         first: counts(2, End::Count),
         second: Some(counts(1, End::LinkEnd)),
     };
-    same(&rt, ended.links.get(0).copied(), Some(one));
-    same(&rt, ended.links.get(1).copied(), Some(two));
+    same(&rt, ended.work.links.get(0).copied(), Some(one));
+    same(&rt, ended.work.links.get(1).copied(), Some(two));
     let first = ended.gear.links.get(0).ok_or("no link")?;
     let second = ended.gear.links.get(1).ok_or("no link")?;
     same(&rt, (first.count(), second.count()), (4, 10));
@@ -427,7 +433,7 @@ fn a_server_is_polled(rt: HostRuntime) -> Result<(), Fail> {
     let end = PollEnd::Rounds;
     same(
         &rt,
-        ended.servers.get(0).copied(),
+        ended.work.servers.get(0).copied(),
         Some(PollWork { end, full: false }),
     );
     Ok(())

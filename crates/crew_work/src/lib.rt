@@ -1,7 +1,6 @@
-//! The budget of a station's crew and the record of what its responders did, in terms that the crates below and above the crew
-//! share.
+//! The bounds of a station's run and the record of what its workers did, in terms that the crates below and above the crew share.
 #![tactic(auto)]
 
 mod work;
 
-pub use work::{Budget, LinkWork};
+pub use work::{Budget, LinkWork, Orders, Work};

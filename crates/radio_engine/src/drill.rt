@@ -7,16 +7,16 @@ ghost use Rattle.receiver_rack.specs.Racks.{IsRack};
 ghost use Rattle.station_config.specs.Station.{one_of_each};
 ghost use Rattle.crew_work.specs.Served.{AreBlank};
 
-use crate::serve::{Kit, serve_gated};
+use crate::serve::serve_gated;
 use drill_day::make_logs;
 use feed_link::{Outside, Sink, SureSource};
 use file_commands::{Ending, Status, finish};
 use radio_receiver::{BoxedReceiver, Receiver};
 use receiver_rack::fit_radios;
 use station_config::Station;
-use station_crew::{Budget, Ended};
+use station_crew::{Budget, Ended, Kit, Orders};
 use station_gear::Gear;
-use station_report::{Done, Orders, finish_drilled};
+use station_report::{Done, finish_drilled};
 use std::alloc::{AllocError, Global};
 use std::sync::Wait;
 use std::thread::Threads;
@@ -45,7 +45,7 @@ fn day_kit<T: Drop>(
     station: &Station,
     seed: u32,
     rack: Vec<BoxedReceiver>,
-) -> Result<Kit<SureSource, T>, AllocError>
+) -> Result<Kit<BoxedReceiver, SureSource, T>, AllocError>
     requires { IsRack stands_for rack.items }
     ensures receivers { IfOk result (λ kit. AreBlank stands_for least_start station.now.radios kit.receivers.items) }
     ensures gear { IfOk result (λ kit. HasDayGear seed kit.gear) }
@@ -62,7 +62,7 @@ fn serve_day<R: Threads + Wait + Sync, O: Outside>(
     alloc: Global,
     station: &Station,
     orders: Orders,
-    kit: Kit<SureSource, O::Net>,
+    kit: Kit<BoxedReceiver, SureSource, O::Net>,
     seed: u32,
     outside: &mut O,
 ) -> Result<Done, AllocError>
@@ -77,21 +77,8 @@ fn serve_day<R: Threads + Wait + Sync, O: Outside>(
 {
     match serve_gated(rt, alloc, station, orders, kit, outside) {
         Ok(ended) => {
-            let Ended {
-                journal,
-                gear: _gear,
-                radios,
-                servers,
-                leap,
-                links,
-            } = ended;
-            Ok(Done {
-                journal,
-                radios,
-                servers,
-                leap,
-                links,
-            })
+            let Ended { journal, work, .. } = ended;
+            Ok(Done { journal, work })
         }
         Err(_) => Err(AllocError),
     }

@@ -18,19 +18,12 @@ use file_commands::{
 use radio_receiver::{BoxedReceiver, Receiver};
 use receiver_rack::fit_radios;
 use station_config::Station;
-use station_crew::{Ended, serve_station};
+use station_crew::{Ended, Kit, Orders, serve_station};
 use station_gear::{Gear, Missing, give_back_gear, open_gear};
-use station_report::{Done, Orders, finish_served, leap_feed};
+use station_report::{Done, finish_served, leap_feed};
 use std::alloc::{AllocError, Global};
 use std::sync::Wait;
 use std::thread::Threads;
-
-// The equipment for serving a station: the receivers of its radios, and its logs and links or room for them.
-#[derive(Drop)]
-pub struct Kit<L: Drop, T: Drop> {
-    pub receivers: Vec<BoxedReceiver>,
-    pub gear: Gear<L, T>,
-}
 
 // The subject of the status line for a missing log or link.
 fn subject_of(station: &Station, missing: Missing) -> Subject
@@ -47,7 +40,7 @@ fn make_kit<L: Drop, T: Drop>(
     alloc: Global,
     station: &Station,
     rack: Vec<BoxedReceiver>,
-) -> Result<Kit<L, T>, AllocError>
+) -> Result<Kit<BoxedReceiver, L, T>, AllocError>
     requires { IsRack stands_for rack.items }
     ensures receivers { IfOk result (λ kit. AreBlank stands_for least_start station.now.radios kit.receivers.items) }
     ensures gear { IfOk result (λ kit. IsEmptyFor station.now kit.gear) }
@@ -64,7 +57,7 @@ pub fn serve_gated<R: Threads + Wait + Sync, O: Outside, L: Source + Drop, T: Li
     alloc: Global,
     station: &Station,
     orders: Orders,
-    kit: Kit<L, T>,
+    kit: Kit<BoxedReceiver, L, T>,
     outside: &mut O,
 ) -> Result<Ended<L, T>, Gear<L, T>>
     requires limit { (0 < orders.limit) × (orders.limit ≤ 4194304) }
@@ -76,18 +69,8 @@ pub fn serve_gated<R: Threads + Wait + Sync, O: Outside, L: Source + Drop, T: Li
     ensures served { let sights = sights_of (seen L.state L.opening) (seen T.state T.opening) in
         MatchResult result (λ ended. EndsAll sights station.now orders kit.gear ended) (λ gear. gear ≡ kit.gear) }
 {
-    let Kit { receivers, gear } = kit;
     let gate = outside.gate();
-    let ended = serve_station(
-        rt,
-        alloc,
-        &gate,
-        station,
-        orders.limit,
-        orders.budget,
-        receivers,
-        gear,
-    );
+    let ended = serve_station(rt, alloc, &gate, station, orders, kit);
     outside.give_back_gate(gate);
     ended
 }
@@ -98,7 +81,7 @@ fn serve_open<R: Threads + Wait + Sync, O: Outside>(
     alloc: Global,
     station: &Station,
     orders: Orders,
-    kit: Kit<O::Log, O::Net>,
+    kit: Kit<BoxedReceiver, O::Log, O::Net>,
     outside: &mut O,
 ) -> Result<Done, Ending>
     requires limit { (0 < orders.limit) × (orders.limit ≤ 4194304) }
@@ -120,19 +103,10 @@ fn serve_open<R: Threads + Wait + Sync, O: Outside>(
             let Ended {
                 journal,
                 gear,
-                radios,
-                servers,
-                leap,
-                links,
+                work,
             } = ended;
             give_back_gear(outside, gear);
-            Ok(Done {
-                journal,
-                radios,
-                servers,
-                leap,
-                links,
-            })
+            Ok(Done { journal, work })
         }
         Err(gear) => {
             give_back_gear(outside, gear);
@@ -147,7 +121,7 @@ fn open_and_serve<R: Threads + Wait + Sync, O: Outside>(
     alloc: Global,
     station: &Station,
     orders: Orders,
-    kit: Kit<O::Log, O::Net>,
+    kit: Kit<BoxedReceiver, O::Log, O::Net>,
     outside: &mut O,
 ) -> Result<Done, Ending>
     requires limit { (0 < orders.limit) × (orders.limit ≤ 4194304) }

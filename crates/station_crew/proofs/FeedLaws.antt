@@ -4,7 +4,7 @@ use Rattle.std.specs.Prelude.{Option, Some, None, All, IfSome, get_or, option_ma
 use Rattle.std.specs.Option.{option_to_list}
 use Rattle.std.specs.List.{range_with_len}
 use Rattle.std.proofs.lemmas.List.{length-map, get_or-map}
-use Rattle.std.proofs.lemmas.List.Elements.{All-head, filter-append}
+use Rattle.std.proofs.lemmas.List.Elements.{All-append, All-head, All-map, filter-append}
 use Rattle.std.proofs.lemmas.List.FromFn.{get_or-map-range_with_len, length-map-range_with_len}
 use mathlib.Core.List.{IsPrefix}
 use Rattle.atomic_table.specs.Seated.{TableId}
@@ -23,7 +23,7 @@ use Rattle.page_cell.specs.declared.view.Claim.{Claim}
 use Rattle.radio_receiver.specs.Boxes.{Boxed}
 use Rattle.radio_receiver.specs.Histories.{History}
 use Rattle.station_config.specs.Station.{RadioFields, ServerFields}
-use Rattle.crew_work.proofs.ListLaws.{all_right, below_or, each_map, last_same, map_both, pairs_at, pairs_length, snoc_view, some_of}
+use Rattle.crew_work.proofs.ListLaws.{all_right, below_or, both_keeps, each_keeps, each_map, last_same, map_both, pairs_at, pairs_length, snoc_view, some_of}
 use Rattle.station_crew.proofs.PassLaws.{feeds_length, leap_at, poller_at, radio_at}
 use Rattle.crew_work.specs.Due.{HasDue}
 use Rattle.station_crew.specs.Jobs.{IsManned, LeapRan, MayHear, MayNotice, MayPoll, PollRan, RadioRan}
@@ -286,3 +286,15 @@ module _ {L T X : Type 0} {F : X → Type 0} (table : TableId) (k : ℕ) (cs : L
               source = omega (arith, number, counted);
             };
           }
+
+  -- through the first phase the passes of the feeds stay those of the cell
+  pub feeds_keep : (stands : Boxed X F → History → Type 0) (log_state : L → SourceState) (log_opening : L → ℕ) (state : T → LinkState) (opening : T → ℕ) (limit : ℕ) (bs : List (RadioJob L X F)) (qs : List (PollJob T)) (m : Option (LeapJob L))
+      → Each (RadioRan stands log_state log_opening limit) cs bs → length bs ≡ length cs → Each (PollRan state opening limit) ps qs → length qs ≡ length ps → Both (LeapRan log_state log_opening limit) l m
+      → All (λ f. f.table ≡ table) (passes_of bs qs m)
+  feeds_keep stands log_state log_opening state opening limit bs qs m ran same polled same' noticed =
+      let P : Known → Type 0 = λ f. f.table ≡ table in
+      let hear : All (λ (x : RadioJob L X F). x.worker.pass.table ≡ table) cs = λ i d lt. ap (λ (f : Known). f.table) (sym (radio_at cs ps l i d lt)) ∙ tables i (radio_pass d) (omega (arith, lt, feeds_length cs ps l)) in
+      let one = each_keeps (λ x. x.worker.pass.table ≡ table) (RadioRan stands log_state log_opening limit) (λ a b z h. z.table ∙ h) cs bs ran same hear in
+      let two = each_keeps (λ x. x.worker.pass.table ≡ table) (PollRan state opening limit) (λ a b z h. z.table ∙ h) ps qs polled same' (λ i d lt. (may_poll i d lt).pass.table_is) in
+      let three = both_keeps (λ x. x.worker.pass.table ≡ table) (MayNotice table k) (LeapRan log_state log_opening limit) (λ a b z h. z.table ∙ h.pass.table_is) l m noticed may_notice in
+      All-append P (map radio_pass bs ++ map poll_pass qs) (map leap_pass (option_to_list m)) (All-append P (map radio_pass bs) (map poll_pass qs) (All-map P radio_pass bs one) (All-map P poll_pass qs two)) (All-map P leap_pass (option_to_list m) three)

@@ -24,12 +24,13 @@ use Rattle.responder.specs.Turns.{Turn, Reading, readings_of, IsRead, AreTurns, 
 use Rattle.responder.specs.declared.served.End.{End}
 use Rattle.responder.specs.declared.served.End.TheVariants.{Count, LinkEnd, LinkFault}
 use Rattle.responder.specs.declared.served.Served.{Served}
-use Rattle.crew_work.proofs.ListLaws.{all_right, each_map, map_both, some_of}
+use Rattle.crew_work.proofs.ListLaws.{all_right, each_map, map_both, pairs_at, pairs_length, some_of}
 use Rattle.station_crew.specs.Crews.{IsNewReader}
 use Rattle.station_crew.specs.Leaving.{link_of, serve_pass}
-use Rattle.crew_work.specs.Lists.{Each}
+use Rattle.station_crew.specs.Jobs.{HasServed, HasServedAgain}
+use Rattle.crew_work.specs.Lists.{Each, Pairs}
 use Rattle.crew_work.specs.Served.{HasSecond, IsReadOf, LinksServed, ServesLink, ServesPhase, Service, seen}
-use Rattle.station_crew.specs.Telling.{HasSeenAll, HasServedTwice}
+use Rattle.station_crew.specs.Telling.{HasSeenAll, HasServedTwice, WasTold}
 use Rattle.station_crew.specs.declared.jobs.ServeJob.{ServeJob}
 use Rattle.crew_work.specs.declared.work.Budget.{Budget}
 use Rattle.crew_work.specs.declared.work.LinkWork.{LinkWork}
@@ -176,6 +177,26 @@ serves_link {T = T} state opening keys gate s j budget feeds a b unseen unread u
         })
     go LinkEnd is = not_count LinkEnd refl is
     go LinkFault is = not_count LinkFault refl is
+
+-- the passes of responders that are new are those of the cell
+pub readers_are : {T : Type 0} (table : TableId) (xs : List (ServeJob T)) → All (IsNewReader table) (map serve_pass xs) → All (λ x. x.responder.pass.table ≡ table) xs
+readers_are table xs new = λ i d lt. (subst (IsNewReader table) (get_or-map serve_pass xs i d (serve_pass d) lt) (new i (serve_pass d) (omega (arith, lt, length-map xs serve_pass)))).table_is
+
+-- the responders have served in both phases
+pub served_twice : {T : Type 0} (state : T → LinkState) (opening : T → ℕ) (budget : Budget) (feeds : List Known) (xs ys zs ws : List (ServeJob T))
+    → Each (HasServed state opening budget.during) xs ys → length ys ≡ length xs → Pairs (WasTold feeds) ys zs → Each (HasServedAgain state opening budget.after) zs ws → Each (HasServedTwice state opening budget feeds) xs ws
+served_twice state opening budget feeds xs ys zs ws first same told second = record {
+  at = (λ i d lt.
+      let lt1 : i < length ys = omega (arith, lt, same) in
+      let lt2 : i < length zs = omega (arith, lt1, pairs_length (WasTold feeds) ys zs told) in
+      record {
+        between = get_or ys i d;
+        told = get_or zs i d;
+        served = first.at i d lt;
+        learnt = pairs_at (WasTold feeds) ys zs i d d told lt1;
+        again = second.at i d lt2;
+      });
+}
 
 pub links_served : {T : Type 0} (state : T → LinkState) (opening : T → ℕ) (keys : List KeyFields) (gate : Gate) (s : SettingsFields) (j : List Entry) (budget : Budget) (table : TableId) (feeds : List Known) (xs ys : List (ServeJob T))
     → Each (HasServedTwice state opening budget feeds) xs ys → length ys ≡ length xs → All (IsNewReader table) (map serve_pass xs) → All (λ x. x.work.second ≡ None) xs → All (λ x. keys_of x.responder.keys ≡ keys) xs → All (λ x. x.responder.clients ≡ gate) xs

@@ -1,5 +1,5 @@
 -- Scaffolding: what all workers of a station do.
-use Rattle.std.specs.Prelude.{◌≡◌, ◌≤◌, ℕ, ◌+◌, Option, List, [], All, None, IfSome, length, map, option_map, vec_capacity, vec_len}
+use Rattle.std.specs.Prelude.{◌≡◌, ◌≤◌, ℕ, ◌+◌, List, [], All, None, IfSome, map, option_map, vec_capacity, vec_len}
 use Rattle.std.specs.List.{range_with_len}
 use Rattle.atomic_table.specs.Seated.{TableId}
 use Rattle.kiss_gate.specs.Gates.{Gate}
@@ -8,19 +8,14 @@ use Rattle.page_cell.specs.Passes.{KnownReader}
 use Rattle.radio_receiver.specs.Boxes.{Boxed}
 use Rattle.radio_receiver.specs.Histories.{History}
 use Rattle.station_config.specs.Station.{StationFields, gate_of}
-use Rattle.station_crew.specs.Jobs.{IsManned, RadioRan, PollRan, LeapRan}
-use Rattle.station_crew.specs.Leaving.{file_of, link_of, log_of, number_of, passes_of, serve_pass, server_link, server_of}
-use Rattle.crew_work.specs.Lists.{Both, Each, Pairs}
-use Rattle.crew_work.specs.Served.{Sights}
-use Rattle.crew_work.specs.declared.work.Budget.{Budget}
-use Rattle.station_crew.specs.Telling.{HasServedTwice}
+use Rattle.station_crew.specs.Jobs.{IsManned}
+use Rattle.station_crew.specs.Leaving.{file_of, link_of, log_of, number_of, passes_of, server_link, server_of}
+use Rattle.crew_work.specs.Lists.{Pairs}
+use Rattle.crew_work.specs.declared.work.Work.{Work}
 use Rattle.station_crew.specs.declared.crew.Crew.{Crew}
 use Rattle.station_crew.specs.declared.crew.Left.{Left}
-use Rattle.station_crew.specs.declared.jobs.LeapJob.{LeapJob}
-use Rattle.station_crew.specs.declared.jobs.PollJob.{PollJob}
-use Rattle.station_crew.specs.declared.jobs.RadioJob.{RadioJob}
-use Rattle.station_crew.specs.declared.jobs.ServeJob.{ServeJob}
-use Rattle.station_crew.specs.declared.named.Room.{Room}
+use Rattle.station_crew.specs.declared.crew.Passes.{Passes}
+use Rattle.station_crew.specs.declared.crew.Room.{Room}
 use Rattle.station_gear.specs.declared.gear.Gear.{Gear}
 
 -- a reader's pass of this cell that has seen and read nothing
@@ -50,20 +45,28 @@ pub record HasRoomForGear {L T : Type 0} (of_radios of_servers of_links : ℕ) (
   pub servers : of_servers ≤ vec_capacity gear.servers
   pub links : of_links ≤ vec_capacity gear.links
 
--- room for what the workers leave; a leap second file may have a feed too
+-- room for what is said of the workers
+pub record HasRoomForWork (of_radios of_servers of_links : ℕ) (work : Work) : Type 0 where
+  pub no_radios : work.radios.items ≡ []
+  pub no_servers : work.servers.items ≡ []
+  pub no_leap : work.leap ≡ None
+  pub no_links : work.links.items ≡ []
+  pub radios : of_radios ≤ vec_capacity work.radios
+  pub servers : of_servers ≤ vec_capacity work.servers
+  pub links : of_links ≤ vec_capacity work.links
+
+-- room for the passes; a leap second file may have a feed too
+pub record HasRoomForPasses (of_radios of_servers of_links : ℕ) (passes : Passes) : Type 0 where
+  pub no_feeds : passes.feeds.items ≡ []
+  pub no_readers : passes.readers.items ≡ []
+  pub feeds : of_radios + of_servers + 1 ≤ vec_capacity passes.feeds
+  pub readers : of_links ≤ vec_capacity passes.readers
+
+-- room for what the workers leave
 pub record HasRoomToLeave {L T : Type 0} (of_radios of_servers of_links : ℕ) (left : Left L T) : Type 0 where
   pub gear : HasRoomForGear of_radios of_servers of_links left.gear
-  pub no_log_works : left.radios.items ≡ []
-  pub no_poll_works : left.servers.items ≡ []
-  pub no_leap_work : left.leap ≡ None
-  pub no_link_works : left.links.items ≡ []
-  pub no_feeds : left.feeds.items ≡ []
-  pub no_readers : left.readers.items ≡ []
-  pub log_works : of_radios ≤ vec_capacity left.radios
-  pub poll_works : of_servers ≤ vec_capacity left.servers
-  pub link_works : of_links ≤ vec_capacity left.links
-  pub feeds : of_radios + of_servers + 1 ≤ vec_capacity left.feeds
-  pub readers : of_links ≤ vec_capacity left.readers
+  pub work : HasRoomForWork of_radios of_servers of_links left.work
+  pub passes : HasRoomForPasses of_radios of_servers of_links left.passes
 
 -- room for all of it, and for the responders of the second phase; and this gate once for each link
 pub record HasRoom {L T X : Type 0} {F : X → Type 0} (gate : Gate) (of_radios of_servers of_links : ℕ) (room : Room L T X F) : Type 0 where
@@ -88,26 +91,21 @@ pub record CrewManned {L T X : Type 0} {F : X → Type 0} (stands : Boxed X F �
   pub keyed : All (λ j. keys_of j.responder.keys ≡ station.keys) crew.responders.items
   pub gated : All (λ j. j.responder.clients ≡ gate_of station) crew.responders.items
 
--- both phases were run, and this is what the workers left
-pub record CrewRan {L T X : Type 0} {F : X → Type 0} (stands : Boxed X F → History → Type 0) (sights : Sights L T) (limit : ℕ) (budget : Budget) (crew : Crew L T X F) (left : Left L T) : Type 0 where
-  pub radios : List (RadioJob L X F)
-  pub pollers : List (PollJob T)
-  pub leap : Option (LeapJob L)
-  pub responders : List (ServeJob T)
-  pub radio_count : length radios ≡ length crew.radios.items
-  pub poller_count : length pollers ≡ length crew.pollers.items
-  pub responder_count : length responders ≡ length crew.responders.items
-  pub radios_ran : Each (RadioRan stands sights.logs.state sights.logs.opening limit) crew.radios.items radios
-  pub pollers_ran : Each (PollRan sights.links.state sights.links.opening limit) crew.pollers.items pollers
-  pub leap_ran : Both (LeapRan sights.logs.state sights.logs.opening limit) crew.leap leap
-  pub served : Each (HasServedTwice sights.links.state sights.links.opening budget (passes_of radios pollers leap)) crew.responders.items responders
-  pub logs : left.gear.logs.items ≡ map log_of radios
-  pub servers : left.gear.servers.items ≡ map server_link pollers
-  pub file : left.gear.leap ≡ option_map file_of leap
-  pub links : left.gear.links.items ≡ map link_of responders
-  pub log_works : left.radios.items ≡ map (λ j. j.work) radios
-  pub poll_works : left.servers.items ≡ map (λ j. j.work) pollers
-  pub leap_work : left.leap ≡ option_map (λ j. j.work) leap
-  pub link_works : left.links.items ≡ map (λ j. j.work) responders
-  pub feeds : left.feeds.items ≡ passes_of radios pollers leap
-  pub readers : left.readers.items ≡ map serve_pass responders
+-- the feeds' workers of a crew left this
+pub record FeedsLeft {L T X : Type 0} {F : X → Type 0} (crew : Crew L T X F) (left : Left L T) : Type 0 where
+  pub logs : left.gear.logs.items ≡ map log_of crew.radios.items
+  pub servers : left.gear.servers.items ≡ map server_link crew.pollers.items
+  pub file : left.gear.leap ≡ option_map file_of crew.leap
+  pub log_works : left.work.radios.items ≡ map (λ j. j.work) crew.radios.items
+  pub poll_works : left.work.servers.items ≡ map (λ j. j.work) crew.pollers.items
+  pub leap_work : left.work.leap ≡ option_map (λ j. j.work) crew.leap
+  pub feeds : left.passes.feeds.items ≡ passes_of crew.radios.items crew.pollers.items crew.leap
+
+-- room for what this many responders leave
+pub record HasRoomForServed {L T : Type 0} (of_links : ℕ) (left : Left L T) : Type 0 where
+  pub no_links : left.gear.links.items ≡ []
+  pub no_works : left.work.links.items ≡ []
+  pub no_readers : left.passes.readers.items ≡ []
+  pub links : of_links ≤ vec_capacity left.gear.links
+  pub works : of_links ≤ vec_capacity left.work.links
+  pub readers : of_links ≤ vec_capacity left.passes.readers

@@ -1,16 +1,19 @@
 // What workers give back: logs and links, what they did, and their passes.
 ghost use Rattle.std.specs.Prelude.{◌≡◌, ◌≤◌, ◌+◌, ◌++◌, length, map, option_map, vec_capacity, vec_len};
 ghost use Rattle.std.specs.Option.{option_to_list};
-ghost use Rattle.station_crew.specs.Leaving.{file_of, leap_pass, link_of, log_of, poll_pass, radio_pass, serve_pass, server_link};
+ghost use Rattle.station_crew.specs.Crews.{FeedsLeft, HasRoomForServed, HasRoomToLeave};
+ghost use Rattle.station_crew.specs.Leaving.{file_of, leap_pass, link_of, log_of, poll_pass};
+ghost use Rattle.station_crew.specs.Leaving.{radio_pass, serve_pass, server_link};
 
+use crate::crew::{Crew, Left};
 use crate::jobs::{LeapJob, PollJob, RadioJob, ServeJob};
 use crew_work::LinkWork;
 use feed_link::{Link, Source};
 use feed_workers::{LogWork, PollWork};
 use page_cell::{FeedPass, ReadPass};
 
-/// The radios' workers give back their logs, what they did, and their passes.
-pub fn leave_radios<L: Source + Drop>(
+// The radios' workers give back their logs, what they did, and their passes.
+fn leave_radios<L: Source + Drop>(
     jobs: Vec<RadioJob<L>>,
     logs: &mut Vec<L>,
     works: &mut Vec<LogWork>,
@@ -33,8 +36,8 @@ pub fn leave_radios<L: Source + Drop>(
     }
 }
 
-/// The servers' workers give back their links, what they did, and their passes.
-pub fn leave_pollers<T: Link + Drop>(
+// The servers' workers give back their links, what they did, and their passes.
+fn leave_pollers<T: Link + Drop>(
     jobs: Vec<PollJob<T>>,
     links: &mut Vec<T>,
     works: &mut Vec<PollWork>,
@@ -57,8 +60,8 @@ pub fn leave_pollers<T: Link + Drop>(
     }
 }
 
-/// The leap second file's worker gives back, where there is one: the file, and what it did.
-pub fn leave_leap<L: Source + Drop>(
+// The leap second file's worker gives back, where there is one: the file, and what it did.
+fn leave_leap<L: Source + Drop>(
     job: Option<LeapJob<L>>,
     feeds: &mut Vec<FeedPass>,
 ) -> (Option<L>, Option<LogWork>)
@@ -75,6 +78,41 @@ pub fn leave_leap<L: Source + Drop>(
         }
         None => (None, None),
     }
+}
+
+/// The feeds' workers give back their logs and links, what they did, and their passes. The responders are still there.
+pub fn leave_feeds<L: Source + Drop, T: Link + Drop>(
+    crew: Crew<L, T>,
+    left: Left<L, T>,
+) -> (Vec<ServeJob<T>>, Left<L, T>)
+    requires { HasRoomToLeave (vec_len crew.radios) (vec_len crew.pollers) (vec_len crew.responders) left }
+    ensures responders { result.0 ≡ crew.responders }
+    ensures feeds { FeedsLeft crew result.1 }
+    ensures room { HasRoomForServed (vec_len crew.responders) result.1 }
+{
+    let Crew {
+        radios,
+        pollers,
+        leap,
+        responders,
+    } = crew;
+    let mut left = left;
+    leave_radios(
+        radios,
+        &mut left.gear.logs,
+        &mut left.work.radios,
+        &mut left.passes.feeds,
+    );
+    leave_pollers(
+        pollers,
+        &mut left.gear.servers,
+        &mut left.work.servers,
+        &mut left.passes.feeds,
+    );
+    let (file, work) = leave_leap(leap, &mut left.passes.feeds);
+    left.gear.leap = file;
+    left.work.leap = work;
+    (responders, left)
 }
 
 /// The responders give back their links, what they did, and their passes.

@@ -1,5 +1,9 @@
 //! The crew of a station: the workers of its feeds beside the responders of its links, in two phases, over one shared page and one
 //! journal.
+//!
+//! To read it in this order: `station` (the public call, and all memory), `named` (the station in its hub, from phase to phase),
+//! `manning` (each worker gets its pass), `phases` (the threads), `telling` (what responders learn between the phases), `leaving`
+//! (what the workers give back). `crew` and `jobs` have what these pass on.
 #![tactic(auto)]
 
 mod crew;
@@ -11,6 +15,6 @@ mod phases;
 mod station;
 mod telling;
 
-pub use crew_work::{Budget, LinkWork};
-pub use named::Ended;
+pub use crew::{Ended, Kit};
+pub use crew_work::{Budget, LinkWork, Orders, Work};
 pub use station::serve_station;

@@ -1,15 +1,21 @@
 // Workers, each with a pass of the cell.
-ghost use Rattle.std.specs.Prelude.{◌≡◌, ◌≤◌, ◌<◌, ◌+◌, ◌++◌, [], All, IfSome, None, drop, length, map, option_map, slice_get, vec_capacity, vec_len};
+ghost use Rattle.std.specs.Prelude.{◌≡◌, ◌≤◌, ◌<◌, ◌+◌, ◌++◌, [], All, IfSome, None, drop, length, map, option_map};
+ghost use Rattle.std.specs.Prelude.{slice_get, vec_capacity, vec_len};
 ghost use Rattle.std.specs.List.{range_with_len};
 ghost use Rattle.std.specs.Option.{option_to_list};
 ghost use Rattle.packet_auth.specs.Keys.{keys_of};
 ghost use Rattle.page_cell.specs.Passes.{claim_of};
 ghost use Rattle.station_config.specs.Station.{IsStation, gate_of};
 ghost use Rattle.station_config.specs.KeptStation.{server_fields};
+ghost use Rattle.station_crew.specs.Crews.{CrewManned, HasRoomFor};
 ghost use Rattle.station_crew.specs.Jobs.{IsManned};
-ghost use Rattle.station_crew.specs.Leaving.{file_of, leap_pass, link_of, log_of, number_of, poll_pass, radio_pass, serve_pass, server_link, server_of};
+ghost use Rattle.station_crew.specs.Leaving.{file_of, leap_pass, link_of, log_of, number_of, passes_of};
+ghost use Rattle.station_crew.specs.Leaving.{poll_pass, radio_pass, serve_pass, server_link, server_of};
+ghost use Rattle.station_gear.specs.Opens.{IsWhole};
+ghost use Rattle.crew_work.specs.Served.{AreBlank};
 ghost use Rattle.crew_work.specs.Lists.{Pairs};
 
+use crate::crew::{Crew, Kit, Passes};
 use crate::jobs::{LeapJob, PollJob, RadioJob, ServeJob};
 use crew_work::LinkWork;
 use feed_link::{Link, Source};
@@ -19,6 +25,7 @@ use page_cell::{FeedPass, ReadPass};
 use radio_receiver::{BoxedReceiver, Receiver};
 use responder::{End, Responder, Served};
 use station_config::{ServerRow, Station};
+use station_gear::Gear;
 use tick_units::Local;
 
 // The result of a worker that has not run yet.
@@ -53,8 +60,8 @@ fn man_radio<L: Source + Drop>(receiver: BoxedReceiver, log: L, pass: FeedPass) 
     }
 }
 
-/// A worker for each radio, with its receiver, its log and the pass of its feed.
-pub fn man_radios<L: Source + Drop>(
+// A worker for each radio, with its receiver, its log and the pass of its feed.
+fn man_radios<L: Source + Drop>(
     receivers: Vec<BoxedReceiver>,
     logs: Vec<L>,
     feeds: &mut Vec<FeedPass>,
@@ -88,8 +95,8 @@ fn server_at(station: &Station, place: usize) -> ServerRow
     }
 }
 
-/// A worker for each server, with its link and the pass of its feed.
-pub fn man_pollers<T: Link + Drop>(
+// A worker for each server, with its link and the pass of its feed.
+fn man_pollers<T: Link + Drop>(
     station: &Station,
     links: Vec<T>,
     feeds: &mut Vec<FeedPass>,
@@ -112,8 +119,8 @@ pub fn man_pollers<T: Link + Drop>(
     }
 }
 
-/// A worker for the leap second file, where there is one, with the station's first moment and the pass of its feed.
-pub fn man_leap<L: Source + Drop>(
+// A worker for the leap second file, where there is one, with the station's first moment and the pass of its feed.
+fn man_leap<L: Source + Drop>(
     file: Option<L>,
     start: Local,
     feeds: &mut Vec<FeedPass>,
@@ -132,9 +139,9 @@ pub fn man_leap<L: Source + Drop>(
     }
 }
 
-/// A responder for each link that the station serves on, numbered from 0. Each has the pass of a reader, the keys of the station
-/// and a gate of clients.
-pub fn man_responders<T: Link + Drop>(
+// A responder for each link that the station serves on, numbered from 0. Each has the pass of a reader, the keys of the station
+// and a gate of clients.
+fn man_responders<T: Link + Drop>(
     station: &Station,
     links: Vec<T>,
     readers: &mut Vec<ReadPass>,
@@ -168,4 +175,44 @@ pub fn man_responders<T: Link + Drop>(
             },
         });
     }
+}
+
+/// The workers of a station, each with its pass, in the room of a crew.
+pub fn man_crew<L: Source + Drop, T: Link + Drop>(
+    station: &Station,
+    kit: Kit<BoxedReceiver, L, T>,
+    passes: Passes,
+    gates: Vec<ClientGate>,
+    crew: Crew<L, T>,
+) -> Crew<L, T>
+    requires station { IsStation station.now }
+    requires blank { AreBlank stands_for least_start station.now.radios kit.receivers.items }
+    requires gear { IsWhole station.now kit.gear }
+    requires feeds { vec_len passes.feeds
+        ≡ vec_len kit.gear.logs + vec_len kit.gear.servers + length (option_to_list kit.gear.leap) }
+    requires readers { vec_len passes.readers ≡ vec_len kit.gear.links }
+    requires gates { vec_len gates ≡ vec_len kit.gear.links }
+    requires alike { All (λ gate. gate ≡ gate_of station.now) gates.items }
+    requires room { HasRoomFor (vec_len kit.gear.logs) (vec_len kit.gear.servers) (vec_len kit.gear.links) crew }
+    ensures manned { CrewManned stands_for least_start station.now kit.receivers.items kit.gear result }
+    ensures feeds { passes_of result.radios.items result.pollers.items result.leap ≡ passes.feeds.items }
+    ensures readers { map serve_pass result.responders.items ≡ passes.readers.items }
+{
+    let Kit { receivers, gear } = kit;
+    let Gear {
+        logs,
+        leap,
+        servers,
+        links,
+    } = gear;
+    let Passes {
+        mut feeds,
+        mut readers,
+    } = passes;
+    let mut crew = crew;
+    man_radios(receivers, logs, &mut feeds, &mut crew.radios);
+    man_pollers(station, servers, &mut feeds, &mut crew.pollers);
+    crew.leap = man_leap(leap, station.start(), &mut feeds);
+    man_responders(station, links, &mut readers, gates, &mut crew.responders);
+    crew
 }

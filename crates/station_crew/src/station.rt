@@ -1,17 +1,18 @@
 //! Serves a station whose logs and links are open.
 ghost use Rattle.std.specs.Prelude.{◌≡◌, ◌<◌, ◌≤◌, ◌^◌, ◌+◌, All, IfErr, IfOk, length, vec_len};
 ghost use Rattle.station_config.specs.Station.{gate_of, leap_feed, settings_of};
-ghost use Rattle.station_crew.specs.Crews.{HasRoom, HasRoomFor, HasRoomForGear, HasRoomToLeave};
+ghost use Rattle.station_crew.specs.Crews.{HasRoom, HasRoomFor, HasRoomToLeave};
+ghost use Rattle.station_crew.specs.Crews.{HasRoomForGear, HasRoomForPasses, HasRoomForWork};
 ghost use Rattle.station_gear.specs.Opens.{IsWhole};
 ghost use Rattle.crew_work.specs.Served.{AreBlank, IsJournalOf, LeapServed, LinksServed, RadiosServed, ServersServed};
 ghost use Rattle.crew_work.specs.Served.{column_of, seen, service_of};
 
-use crate::crew::{Crew, Left};
-use crate::named::{Ended, Room, run_named};
-use crew_work::Budget;
+use crate::crew::{Crew, Ended, Kit, Left, Passes, Room};
+use crate::named::serve_named;
+use crew_work::{Orders, Work};
 use feed_link::{Gate, Link, Source};
 use kiss_gate::{ClientGate, GateOpen};
-use page_cell::PageCell;
+use page_cell::{CellParts, PageCell};
 use radio_receiver::{BoxedReceiver, Receiver};
 use station_config::Station;
 use station_gear::Gear;
@@ -52,6 +53,29 @@ fn make_gear<L: Drop, T: Drop>(alloc: Global, counts: Counts) -> Result<Gear<L, 
     })
 }
 
+// Room for what is said of the workers.
+fn make_work(alloc: Global, counts: Counts) -> Result<Work, AllocError>
+    ensures { IfOk result (HasRoomForWork counts.radios counts.servers counts.links) }
+{
+    Ok(Work {
+        radios: Vec::with_capacity(alloc, counts.radios)?,
+        servers: Vec::with_capacity(alloc, counts.servers)?,
+        leap: None,
+        links: Vec::with_capacity(alloc, counts.links)?,
+    })
+}
+
+// Room for the passes that the workers give back. A leap second file may have a feed too.
+fn make_passes(alloc: Global, counts: Counts) -> Result<Passes, AllocError>
+    requires { counts.radios + counts.servers < 2 ^ 63 }
+    ensures { IfOk result (HasRoomForPasses counts.radios counts.servers counts.links) }
+{
+    Ok(Passes {
+        feeds: Vec::with_capacity(alloc, counts.radios + counts.servers + 1)?,
+        readers: Vec::with_capacity(alloc, counts.links)?,
+    })
+}
+
 // Room for what the workers leave.
 fn make_left<L: Drop, T: Drop>(alloc: Global, counts: Counts) -> Result<Left<L, T>, AllocError>
     requires { counts.radios + counts.servers < 2 ^ 63 }
@@ -59,12 +83,8 @@ fn make_left<L: Drop, T: Drop>(alloc: Global, counts: Counts) -> Result<Left<L, 
 {
     Ok(Left {
         gear: make_gear(alloc, counts)?,
-        radios: Vec::with_capacity(alloc, counts.radios)?,
-        servers: Vec::with_capacity(alloc, counts.servers)?,
-        leap: None,
-        links: Vec::with_capacity(alloc, counts.links)?,
-        feeds: Vec::with_capacity(alloc, counts.radios + counts.servers + 1)?,
-        readers: Vec::with_capacity(alloc, counts.links)?,
+        work: make_work(alloc, counts)?,
+        passes: make_passes(alloc, counts)?,
     })
 }
 
@@ -90,16 +110,20 @@ fn open_gates(alloc: Global, station: &Station, count: usize) -> Result<Vec<Clie
     Ok(gates)
 }
 
-// Room for all, and the gates.
+// Room for all, round the parts of a cell, and the gates.
 fn make_room<L: Drop, T: Drop>(
     alloc: Global,
     station: &Station,
     counts: Counts,
+    parts: CellParts,
 ) -> Result<Room<L, T>, AllocError>
     requires { counts.radios + counts.servers < 2 ^ 63 }
-    ensures { IfOk result (HasRoom (gate_of station.now) counts.radios counts.servers counts.links) }
+    ensures room { IfOk result (HasRoom (gate_of station.now) counts.radios counts.servers counts.links) }
+    ensures parts { IfOk result (λ room. room.parts ≡ parts) }
 {
     Ok(Room {
+        alloc,
+        parts,
         crew: make_crew(alloc, counts)?,
         told: Vec::with_capacity(alloc, counts.links)?,
         left: make_left(alloc, counts)?,
@@ -108,52 +132,50 @@ fn make_room<L: Drop, T: Drop>(
 }
 
 /// Serves a station, in two phases. In the first phase the workers read its radios' logs and its leap second file and poll its
-/// servers. They write one journal of at most `limit` entries, 1 to 4194304. Beside them each link has `budget.during` hearings.
-/// Responders answer the clients of the links from the page of the journal so far, by the station's keys where the clients ask
-/// for that. A client that the station denies or that asks too often gets a kiss code. In the second phase those links that go on
-/// have `budget.after` more hearings, with the page of the whole journal. Each link has a gate of clients of its own, which goes
-/// on from phase to phase. The receivers are those of the radios, in order, and have received nothing. All memory is taken before
-/// any log or link is used, except what a gate of clients takes for a new client. Where there is not enough, the gear comes back
-/// as it was.
+/// servers. They write one journal of at most `orders.limit` entries, 1 to 4194304. Beside them each link has
+/// `orders.budget.during` hearings. Responders answer the clients of the links from the page of the journal so far, by the
+/// station's keys where the clients ask for that. A client that the station denies or that asks too often gets a kiss code. In the
+/// second phase those links that go on have `orders.budget.after` more hearings, with the page of the whole journal. Each link has
+/// a gate of clients of its own, which goes on from phase to phase. The receivers of the kit are those of the radios, in order,
+/// and have received nothing. All memory is taken before any log or link is used, except what a gate of clients takes for a new
+/// client. Where there is not enough, the gear comes back as it was.
 pub fn serve_station<R: Threads + Wait + Sync, L: Source + Drop, T: Link + Drop, G: Gate>(
     rt: &R,
     alloc: Global,
     gate: &G,
     station: &Station,
-    limit: u32,
-    budget: Budget,
-    receivers: Vec<BoxedReceiver>,
-    gear: Gear<L, T>,
+    orders: Orders,
+    kit: Kit<BoxedReceiver, L, T>,
 ) -> Result<Ended<L, T>, Gear<L, T>>
-    requires limit { (0 < limit) × (limit ≤ 4194304) }
-    requires blank { AreBlank stands_for least_start station.now.radios receivers.items }
-    requires gear { IsWhole station.now gear }
-    ensures journal { IfOk result (λ e. IsJournalOf (settings_of station.now) limit e.journal) }
-    ensures radios { IfOk result (λ e. let column = column_of 0 limit e.journal.entries in
-        let work = e.radios.items in
-        RadiosServed (seen L.state L.opening) station.now.radios column gear.logs.items e.gear.logs.items work) }
-    ensures servers { IfOk result (λ e. let column = column_of (length station.now.radios) limit e.journal.entries in
-        let had = gear.servers.items in
+    requires limit { (0 < orders.limit) × (orders.limit ≤ 4194304) }
+    requires blank { AreBlank stands_for least_start station.now.radios kit.receivers.items }
+    requires gear { IsWhole station.now kit.gear }
+    ensures journal { IfOk result (λ e. IsJournalOf (settings_of station.now) orders.limit e.journal) }
+    ensures radios { IfOk result (λ e. let column = column_of 0 orders.limit e.journal.entries in
+        let work = e.work.radios.items in
+        RadiosServed (seen L.state L.opening) station.now.radios column kit.gear.logs.items e.gear.logs.items work) }
+    ensures servers { IfOk result (λ e. let first = length station.now.radios in
+        let column = column_of first orders.limit e.journal.entries in
+        let had = kit.gear.servers.items in
         let has = e.gear.servers.items in
-        ServersServed (seen T.state T.opening) station.now.servers column had has e.servers.items) }
-    ensures leap { IfOk result (λ e. let column = column_of (leap_feed station.now) limit e.journal.entries in
-        LeapServed (seen L.state L.opening) station.now.top.start column gear.leap e.gear.leap e.leap) }
-    ensures links { IfOk result (λ e. let service = service_of station.now e.journal.entries budget in
-        LinksServed (seen T.state T.opening) service gear.links.items e.gear.links.items e.links.items) }
-    ensures memory { IfErr result (λ g. g ≡ gear) }
+        ServersServed (seen T.state T.opening) station.now.servers column had has e.work.servers.items) }
+    ensures leap { IfOk result (λ e. let column = column_of (leap_feed station.now) orders.limit e.journal.entries in
+        let start = station.now.top.start in
+        LeapServed (seen L.state L.opening) start column kit.gear.leap e.gear.leap e.work.leap) }
+    ensures links { IfOk result (λ e. let service = service_of station.now e.journal.entries orders.budget in
+        LinksServed (seen T.state T.opening) service kit.gear.links.items e.gear.links.items e.work.links.items) }
+    ensures memory { IfErr result (λ g. g ≡ kit.gear) }
 {
     let counts = Counts {
         radios: station.radios(),
         servers: station.servers(),
         links: station.links(),
     };
-    let Ok(room) = make_room(alloc, station, counts) else {
-        return Err(gear);
-    };
     let Ok(parts) = PageCell::open(alloc, station.settings(), counts.links as u32) else {
-        return Err(gear);
+        return Err(kit.gear);
     };
-    run_named::<Brand, R, L, T, G>(
-        rt, alloc, gate, station, limit, budget, parts, receivers, gear, room,
-    )
+    let Ok(room) = make_room(alloc, station, counts, parts) else {
+        return Err(kit.gear);
+    };
+    serve_named::<Brand, R, L, T, G>(rt, gate, station, orders, kit, room)
 }

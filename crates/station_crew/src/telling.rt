@@ -39,21 +39,21 @@ fn tell_all(cell: &PageCell, feeds: &mut [FeedPass], reader: &mut ReadPass)
 // A responder of the second phase, which has seen as much as every feed. It goes on with its gate of clients.
 fn tell_responder<T: Link + Drop>(
     cell: &PageCell,
-    feeds: &mut [FeedPass],
+    feeds: &mut Vec<FeedPass>,
     job: ServeJob<T>,
     number: u32,
 ) -> ServeJob<T>
-    requires feeds { All (λ f. f.table ≡ cell.now.table) feeds.old }
+    requires feeds { All (λ f. f.table ≡ cell.now.table) feeds.old.items }
     requires reader { job.responder.pass.table ≡ cell.now.table }
     requires number { number + 1 ≤ 8 }
-    ensures same { feeds.new ≡ feeds.old }
-    ensures told { WasTold feeds.old job result }
+    ensures same { feeds.new.items ≡ feeds.old.items }
+    ensures told { WasTold feeds.old.items job result }
     ensures number { result.responder.number ≡ number }
 {
     let ServeJob { responder, work } = job;
     let keys = responder.keys();
     let (link, mut pass, clients) = responder.give_back();
-    tell_all(cell, feeds, &mut pass);
+    tell_all(cell, feeds.as_mut_slice(), &mut pass);
     ServeJob {
         responder: Responder::new(link, pass, number, keys, clients),
         work,
@@ -63,17 +63,17 @@ fn tell_responder<T: Link + Drop>(
 /// The responders of the second phase, numbered from 0 as in the first, each of which has seen as much as every feed.
 pub fn tell_responders<T: Link + Drop>(
     cell: &PageCell,
-    feeds: &mut [FeedPass],
+    feeds: &mut Vec<FeedPass>,
     jobs: Vec<ServeJob<T>>,
     told: &mut Vec<ServeJob<T>>,
 )
-    requires feeds { All (λ f. f.table ≡ cell.now.table) feeds.old }
+    requires feeds { All (λ f. f.table ≡ cell.now.table) feeds.old.items }
     requires readers { All (λ j. j.responder.pass.table ≡ cell.now.table) jobs.items }
     requires few { vec_len jobs ≤ 8 }
     requires none { told.old.items ≡ [] }
     requires room { vec_len jobs ≤ vec_capacity told.old }
-    ensures same { feeds.new ≡ feeds.old }
-    ensures told { Pairs (WasTold feeds.old) jobs.items told.new.items }
+    ensures same { feeds.new.items ≡ feeds.old.items }
+    ensures told { Pairs (WasTold feeds.old.items) jobs.items told.new.items }
     ensures numbers { map number_of told.new.items ≡ range_with_len 0 (vec_len jobs) }
 {
     for job in jobs {

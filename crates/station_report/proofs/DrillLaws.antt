@@ -43,7 +43,7 @@ use Rattle.file_commands.specs.declared.ending.Ending.{Ending}
 use Rattle.file_commands.specs.declared.ending.Ending.TheVariants.{Full, Whole}
 use Rattle.file_commands.specs.declared.ending.status.Status.{Status}
 use Rattle.station_report.specs.declared.done.Done.{Done}
-use Rattle.station_report.specs.declared.done.Orders.{Orders}
+use Rattle.crew_work.specs.declared.work.Orders.{Orders}
 use Rattle.station_report.proofs.GoodStationLaws.{good_logs}
 use Rattle.station_report.proofs.RunOfLaws.{LogsRun, polled-length}
 use Rattle.station_report.proofs.ServingLaws as serving
@@ -146,7 +146,7 @@ module _ {T : Type 0} (log_opening : SureSource → ℕ) (state : T → LinkStat
   abbrev texts : List (List ℕ)
   texts = day_logs seed
 
-  abbrev logs_ran : LogsRun sure_state orders.limit done.journal.entries one_of_each.radios 0 gear.logs.items last.logs.items done.radios.items
+  abbrev logs_ran : LogsRun sure_state orders.limit done.journal.entries one_of_each.radios 0 gear.logs.items last.logs.items done.work.radios.items
   logs_ran = serving.radios_run sure_state log_opening state opening one_of_each orders gear logs_open list_open servers_open links_open done last left
 
   texts_good : AreGood texts

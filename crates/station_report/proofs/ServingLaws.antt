@@ -46,7 +46,7 @@ use Rattle.file_commands.specs.declared.ending.status.Status.{Status}
 use Rattle.file_commands.specs.declared.ending.subject.Subject.{Subject}
 use Rattle.file_commands.specs.declared.ending.subject.Subject.TheVariants.{Feed, Link}
 use Rattle.station_report.specs.declared.done.Done.{Done}
-use Rattle.station_report.specs.declared.done.Orders.{Orders}
+use Rattle.crew_work.specs.declared.work.Orders.{Orders}
 use Rattle.file_commands.specs.declared.station_file.obstacle.Obstacle.{Obstacle}
 use Rattle.station_report.proofs.CountLaws.{HaveDue, beginnings, have_both, is_counted, is_lost, is_so, none_lost, wholes}
 use Rattle.station_report.proofs.RunOfLaws.{LeapsRun, LinksRun, LogsRun, PollsRun, leap_dues-length, leaps_run, links_run, logs_run, polled-length, polls_run, radio_dues-length}
@@ -263,30 +263,30 @@ module _ {L T : Type 0} (log_state : L → SourceState) (log_opening : L → ℕ
   abbrev pub journal : List Entry
   journal = done.journal.entries
 
-  pub radios_run : LogsRun log_state orders.limit journal of.radios 0 gear.logs.items last.logs.items done.radios.items
+  pub radios_run : LogsRun log_state orders.limit journal of.radios 0 gear.logs.items last.logs.items done.work.radios.items
   radios_run =
       let r = left.radios_served in
-      logs_run log_state orders.limit journal of.radios 0 gear.logs.items last.logs.items done.radios.items logs_open (same_size log_opening _ _ r.openings) r.count
+      logs_run log_state orders.limit journal of.radios 0 gear.logs.items last.logs.items done.work.radios.items logs_open (same_size log_opening _ _ r.openings) r.count
       r.at
 
-  pub servers_run : PollsRun state orders.limit journal of.servers (length of.radios) gear.servers.items last.servers.items done.servers.items
+  pub servers_run : PollsRun state orders.limit journal of.servers (length of.radios) gear.servers.items last.servers.items done.work.servers.items
   servers_run =
       let r = left.servers_served in
-      polls_run state orders.limit journal of.servers (length of.radios) gear.servers.items last.servers.items done.servers.items servers_open (same_size opening _ _ r.openings) r.count r.at
+      polls_run state orders.limit journal of.servers (length of.radios) gear.servers.items last.servers.items done.work.servers.items servers_open (same_size opening _ _ r.openings) r.count r.at
 
-  pub leap_run : LeapsRun log_state log_opening orders.limit journal of.top.start (leap_feed of) gear.leap last.leap done.leap
-  leap_run = leaps_run log_state log_opening orders.limit journal of.top.start (leap_feed of) gear.leap last.leap done.leap left.leap_served
+  pub leap_run : LeapsRun log_state log_opening orders.limit journal of.top.start (leap_feed of) gear.leap last.leap done.work.leap
+  leap_run = leaps_run log_state log_opening orders.limit journal of.top.start (leap_feed of) gear.leap last.leap done.work.leap left.leap_served
 
-  pub clients_run : LinksRun state of journal orders.budget.during orders.budget.after 0 gear.links.items last.links.items done.links.items
+  pub clients_run : LinksRun state of journal orders.budget.during orders.budget.after 0 gear.links.items last.links.items done.work.links.items
   clients_run =
       let r = left.links_served in
-      links_run state of journal orders.budget.during orders.budget.after 0 gear.links.items last.links.items done.links.items (same_size opening _ _ r.openings) r.count r.at
+      links_run state of journal orders.budget.during orders.budget.after 0 gear.links.items last.links.items done.work.links.items (same_size opening _ _ r.openings) r.count r.at
 
   abbrev pub run : StationRun
   run = record { radios = radios_run.runs; leap = leap_run.run; servers = servers_run.runs; links = clients_run.runs; journal = journal }
 
   abbrev fulls : List Bool
-  fulls = map (λ (w : LogWork). w.full) done.radios.items ++ map (λ (w : PollWork). w.full) done.servers.items ++ map (λ (w : LogWork). w.full) (option_to_list done.leap)
+  fulls = map (λ (w : LogWork). w.full) done.work.radios.items ++ map (λ (w : PollWork). w.full) done.work.servers.items ++ map (λ (w : LogWork). w.full) (option_to_list done.work.leap)
 
   server_dues-length : (feed : ℕ) (servers : List ServerFields) (polls : List PollRun) → length polls ≡ length servers → length (server_dues feed servers polls) ≡ length servers
   server_dues-length feed [] [] n = refl
@@ -332,22 +332,22 @@ module _ {L T : Type 0} (log_state : L → SourceState) (log_opening : L → ℕ
     lawful = left.of_station.lawful;
   }
 
-  any_is : any_full done.radios.items done.servers.items done.leap ≡ list_any is_so fulls
-  any_is = sym (any_of_three (λ (w : LogWork). w.full) (λ (w : PollWork). w.full) (λ (w : LogWork). w.full) done.radios.items done.servers.items (option_to_list done.leap))
+  any_is : any_full done.work.radios.items done.work.servers.items done.work.leap ≡ list_any is_so fulls
+  any_is = sym (any_of_three (λ (w : LogWork). w.full) (λ (w : PollWork). w.full) (λ (w : LogWork). w.full) done.work.radios.items done.work.servers.items (option_to_list done.work.leap))
 
   pub causes_same : causes_left orders.limit done ≡ causes of orders.limit run
   causes_same =
-      let radios = same_causes log_cause (λ (w : LogWork). w.end) (λ (log : LogRun). log.end) 0 done.radios.items radios_run.runs (sym radios_run.ends_are) in
-      let servers = same_causes poll_cause (λ (w : PollWork). w.end) (λ (poll : PollRun). poll.end) (length of.radios) done.servers.items servers_run.runs (sym servers_run.ends_are) in
-      let listed = same_causes log_cause (λ (w : LogWork). w.end) (λ (leap : LeapRun). leap.end) (leap_feed of) (option_to_list done.leap) (option_to_list leap_run.run) (sym leap_run.ends_are) in
-      let clients = same_causes link_cause end_of (λ (link : LinkRun). link.end) 0 done.links.items clients_run.runs (sym clients_run.ends_are) in
-      let first : length done.radios.items ≡ length of.radios = left.radios_served.count ∙ logs_open in
-      let next : length done.servers.items ≡ length of.servers = left.servers_served.count ∙ servers_open in
-      let behind : length done.radios.items + length done.servers.items ≡ leap_feed of = omega (arith, first, next) in
+      let radios = same_causes log_cause (λ (w : LogWork). w.end) (λ (log : LogRun). log.end) 0 done.work.radios.items radios_run.runs (sym radios_run.ends_are) in
+      let servers = same_causes poll_cause (λ (w : PollWork). w.end) (λ (poll : PollRun). poll.end) (length of.radios) done.work.servers.items servers_run.runs (sym servers_run.ends_are) in
+      let listed = same_causes log_cause (λ (w : LogWork). w.end) (λ (leap : LeapRun). leap.end) (leap_feed of) (option_to_list done.work.leap) (option_to_list leap_run.run) (sym leap_run.ends_are) in
+      let clients = same_causes link_cause end_of (λ (link : LinkRun). link.end) 0 done.work.links.items clients_run.runs (sym clients_run.ends_are) in
+      let first : length done.work.radios.items ≡ length of.radios = left.radios_served.count ∙ logs_open in
+      let next : length done.work.servers.items ≡ length of.servers = left.servers_served.count ∙ servers_open in
+      let behind : length done.work.radios.items + length done.work.servers.items ≡ leap_feed of = omega (arith, first, next) in
       let full = ap (λ b. option_to_list (full_cause orders.limit b)) (any_is ∙ sym (is_lost orders.limit journal fulls (dues of run) have_due left.of_station.within counted)) in
-      four _ _ _ _ _ _ _ _ radios (ap (λ n. each_cause (λ feed (w : PollWork). poll_cause feed w.end) n done.servers.items) first ∙ servers)
-      (ap (λ n. each_cause (λ feed (w : LogWork). log_cause feed w.end) n (option_to_list done.leap)) behind ∙ listed)
-      (ap (λ l. l ++ option_to_list (full_cause orders.limit (any_full done.radios.items done.servers.items done.leap))) clients ∙ ap (λ l. each_cause (λ n (link : LinkRun). link_cause n link.end) 0 clients_run.runs ++ l) full)
+      four _ _ _ _ _ _ _ _ radios (ap (λ n. each_cause (λ feed (w : PollWork). poll_cause feed w.end) n done.work.servers.items) first ∙ servers)
+      (ap (λ n. each_cause (λ feed (w : LogWork). log_cause feed w.end) n (option_to_list done.work.leap)) behind ∙ listed)
+      (ap (λ l. l ++ option_to_list (full_cause orders.limit (any_full done.work.radios.items done.work.servers.items done.work.leap))) clients ∙ ap (λ l. each_cause (λ n (link : LinkRun). link_cause n link.end) 0 clients_run.runs ++ l) full)
 
   pub each_left : HasEach of done
   each_left = record {
@@ -428,8 +428,8 @@ module _ (name : List ℕ) (during after limit : ℕ) (outside mid now : Outside
 
 text_same : (of : StationFields) (limit : ℕ) (run : StationRun) (done : Done) → IsLeftOf of limit run done → lines_left done ≡ served_text of run
 text_same of limit run done left =
-    ap (λ s. journal_text s done.journal.entries ++ (each_text line_of_work 0 done.links.items ++ page_text (page_of s done.journal.entries))) left.settings_are
-    ∙ ap (λ j. journal_text (settings_of of) j ++ (each_text line_of_work 0 done.links.items ++ page_text (page_of (settings_of of) j))) left.entries_are
+    ap (λ s. journal_text s done.journal.entries ++ (each_text line_of_work 0 done.work.links.items ++ page_text (page_of s done.journal.entries))) left.settings_are
+    ∙ ap (λ j. journal_text (settings_of of) j ++ (each_text line_of_work 0 done.work.links.items ++ page_text (page_of (settings_of of) j))) left.entries_are
     ∙ ap (λ l. journal_text (settings_of of) run.journal ++ (l ++ page_text (page_of (settings_of of) run.journal))) left.lines_are
 
 pub ends_served : (name : List ℕ) (orders : Orders) (outside mid now : OutsideState) (out out_now : SinkState) (result : Status) (of : StationFields) (bytes : List ℕ) (done : Done) →

@@ -30,7 +30,7 @@ use Rattle.file_commands.specs.declared.ending.status.Status.{Status}
 use Rattle.file_commands.specs.declared.ending.subject.Subject.{Subject}
 use Rattle.file_commands.specs.declared.ending.subject.Subject.TheVariants.{Feed, Link}
 use Rattle.station_report.specs.declared.done.Done.{Done}
-use Rattle.station_report.specs.declared.done.Orders.{Orders}
+use Rattle.crew_work.specs.declared.work.Orders.{Orders}
 use Rattle.station_report.specs.declared.text.Totals.{Totals}
 
 -- ---- what is reported
@@ -53,11 +53,11 @@ any_full radios servers leap = list_any (λ (w : LogWork). w.full) radios || lis
 
 -- all that went wrong, by what the workers left
 abbrev pub causes_left : ℕ → Done → List Ending
-causes_left limit done = each_cause (λ feed (w : LogWork). log_cause feed w.end) 0 done.radios.items
-    ++ (each_cause (λ feed (w : PollWork). poll_cause feed w.end) (length done.radios.items) done.servers.items
-    ++ (each_cause (λ feed (w : LogWork). log_cause feed w.end) (length done.radios.items + length done.servers.items) (option_to_list done.leap)
-    ++ (each_cause (λ number work. link_cause number (end_of work)) 0 done.links.items
-    ++ option_to_list (full_cause limit (any_full done.radios.items done.servers.items done.leap)))))
+causes_left limit done = each_cause (λ feed (w : LogWork). log_cause feed w.end) 0 done.work.radios.items
+    ++ (each_cause (λ feed (w : PollWork). poll_cause feed w.end) (length done.work.radios.items) done.work.servers.items
+    ++ (each_cause (λ feed (w : LogWork). log_cause feed w.end) (length done.work.radios.items + length done.work.servers.items) (option_to_list done.work.leap)
+    ++ (each_cause (λ number work. link_cause number (end_of work)) 0 done.work.links.items
+    ++ option_to_list (full_cause limit (any_full done.work.radios.items done.work.servers.items done.work.leap)))))
 
 -- a count of both phases
 abbrev pub in_both : ℕ → Option ℕ → ℕ
@@ -93,11 +93,11 @@ lines_of_journal journal = journal_text journal.settings journal.entries
 
 -- the lines of what the workers left, but for the page
 abbrev pub lines_before_page : Done → List ℕ
-lines_before_page done = lines_of_journal done.journal ++ each_text line_of_work 0 done.links.items
+lines_before_page done = lines_of_journal done.journal ++ each_text line_of_work 0 done.work.links.items
 
 -- all of them, and the page
 abbrev pub lines_left : Done → List ℕ
-lines_left done = lines_of_journal done.journal ++ (each_text line_of_work 0 done.links.items ++ page_text (page_of done.journal.settings done.journal.entries))
+lines_left done = lines_of_journal done.journal ++ (each_text line_of_work 0 done.work.links.items ++ page_text (page_of done.journal.settings done.journal.entries))
 
 -- they are written, and then how the run ends
 pub record FinishesDone (limit : ℕ) (done : Done) (out out_now : SinkState) (result : Status) : Type 0 where
@@ -116,10 +116,10 @@ subject_of of (missing.Link number) = Link number
 -- the workers of a station have run: what they left, by its logs and links as they were and as they are now
 pub record LeavesAll {L T : Type 0} (sights : Sights L T) (of : StationFields) (orders : Orders) (gear : Gear L T) (done : Done) (now : Gear L T) : Type 0 where
   pub of_station : IsJournalOf (settings_of of) orders.limit done.journal
-  pub radios_served : RadiosServed sights.logs of.radios (column_of 0 orders.limit done.journal.entries) gear.logs.items now.logs.items done.radios.items
-  pub servers_served : ServersServed sights.links of.servers (column_of (length of.radios) orders.limit done.journal.entries) gear.servers.items now.servers.items done.servers.items
-  pub leap_served : LeapServed sights.logs of.top.start (column_of (leap_feed of) orders.limit done.journal.entries) gear.leap now.leap done.leap
-  pub links_served : LinksServed sights.links (service_of of done.journal.entries orders.budget) gear.links.items now.links.items done.links.items
+  pub radios_served : RadiosServed sights.logs of.radios (column_of 0 orders.limit done.journal.entries) gear.logs.items now.logs.items done.work.radios.items
+  pub servers_served : ServersServed sights.links of.servers (column_of (length of.radios) orders.limit done.journal.entries) gear.servers.items now.servers.items done.work.servers.items
+  pub leap_served : LeapServed sights.logs of.top.start (column_of (leap_feed of) orders.limit done.journal.entries) gear.leap now.leap done.work.leap
+  pub links_served : LinksServed sights.links (service_of of done.journal.entries orders.budget) gear.links.items now.links.items done.work.links.items
 
 -- all logs and links are given back, as they are now, of which this is known
 pub record GivesServed {L T : Type 0} (sights : Sights L T) (Left : Gear L T → Type 0) (outside outside_now : OutsideState) : Type 0 where
@@ -134,16 +134,16 @@ pub record GivesUnused {L T : Type 0} (sights : Sights L T) (gear : Gear L T) (o
 
 -- there is one of each for each of the station's
 pub record HasEach (of : StationFields) (done : Done) : Type 0 where
-  pub of_radios : length done.radios.items ≡ length of.radios
-  pub of_servers : length done.servers.items ≡ length of.servers
-  pub of_links : length done.links.items ≡ length of.links
+  pub of_radios : length done.work.radios.items ≡ length of.radios
+  pub of_servers : length done.work.servers.items ≡ length of.servers
+  pub of_links : length done.work.links.items ≡ length of.links
 
 -- what was left is what a run of the station comes to
 pub record IsLeftOf (of : StationFields) (limit : ℕ) (run : StationRun) (done : Done) : Type 0 where
   pub settings_are : done.journal.settings ≡ settings_of of
   pub entries_are : done.journal.entries ≡ run.journal
   pub causes_are : causes_left limit done ≡ causes of limit run
-  pub lines_are : each_text line_of_work 0 done.links.items ≡ each_text line_of_link 0 run.links
+  pub lines_are : each_text line_of_work 0 done.work.links.items ≡ each_text line_of_link 0 run.links
   pub each : HasEach of done
 
 -- a station's logs and links were opened, served and given back

@@ -167,10 +167,14 @@ pub fn ending_of(station: &Station, done: &Done, limit: u32) -> Ending
     ensures { IsTold (causes_left limit done.now) result }
 {
     let radios = station.radios() as u32;
-    let found = with_works(None, done.radios.as_slice(), 0);
-    let found = with_works(found, done.servers.as_slice(), radios);
-    let found = with_leap(found, done.leap, leap_feed(station));
-    let found = with_works(found, done.links.as_slice(), 0);
-    let full = is_full(done.radios.as_slice(), done.servers.as_slice(), done.leap);
+    let found = with_works(None, done.work.radios.as_slice(), 0);
+    let found = with_works(found, done.work.servers.as_slice(), radios);
+    let found = with_leap(found, done.work.leap, leap_feed(station));
+    let found = with_works(found, done.work.links.as_slice(), 0);
+    let full = is_full(
+        done.work.radios.as_slice(),
+        done.work.servers.as_slice(),
+        done.work.leap,
+    );
     with_next(found, full_cause(limit, full)).unwrap_or(Ending::Whole)
 }

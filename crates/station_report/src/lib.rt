@@ -7,6 +7,6 @@ mod done;
 mod drill_text;
 mod text;
 
-pub use done::{Done, Orders, leap_feed};
+pub use done::{Done, leap_feed};
 pub use drill_text::finish_drilled;
 pub use text::{finish_served, write_link_line};

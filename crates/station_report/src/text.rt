@@ -135,7 +135,7 @@ fn write_lines<K: Sink>(done: &Done, out: &mut K) -> Result<(), Failed>
     ensures err { OnErr result (WritesFront (K.state out.old) (K.state out.new) (lines_before_page done.now)) }
 {
     write_journal(&done.journal, out)?;
-    write_links(done.links.as_slice(), out)
+    write_links(done.work.links.as_slice(), out)
 }
 
 /// Writes what a station has left: its journal, its links, the page of the journal, and the status line. Returns the status, which

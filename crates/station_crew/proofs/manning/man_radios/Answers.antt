@@ -2,7 +2,6 @@
 use Rattle.std.proofs.Common.{rules, ◌≡◌, ◌∙◌, ◌∷◌, ◌<◌, [], length, sym, ap}
 use Rattle.std.specs.Vec.Iter.{into_iter_items}
 use Rattle.std.proofs.lemmas.List.{nil_from_length}
-use Rattle.station_crew.specs.Jobs.{IsManned}
 use Rattle.station_crew.specs.Leaving.{log_of, radio_pass}
 use Rattle.crew_work.proofs.ListLaws.{all_rest, first_removed, front_none, front_more, front_whole, moved}
 use Rattle.station_crew.proofs.manning.man_radios.Goals as goal

@@ -2,8 +2,8 @@
 use Rattle.std.proofs.Common.{rules}
 use Rattle.station_crew.proofs.station.make_room.Goals as goal
 
-pub returns : goal.returns
-returns g c = record {
+pub returns-clause-room : goal.returns-clause-room
+returns-clause-room g c = record {
   crew = c.in_ok-make_crew.ensures;
   none_told = c.in_ok-with_capacity.ensures.items;
   told = search rules;

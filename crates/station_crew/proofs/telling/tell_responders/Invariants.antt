@@ -10,8 +10,8 @@ use Rattle.station_crew.proofs.telling.tell_responders.Given as goal
 
 abbrev pub invariant-loop-job : goal.invariant-loop-job
 invariant-loop-job g l = record {
-  same : l.feeds ≡ l.initial.feeds;
-  told : PairsFront (WasTold l.initial.feeds) (into_iter_items l.initial.job-iterator) (into_iter_items l.job-iterator) l.told.items;
+  same : l.feeds.items ≡ l.initial.feeds.items;
+  told : PairsFront (WasTold l.initial.feeds.items) (into_iter_items l.initial.job-iterator) (into_iter_items l.job-iterator) l.told.items;
   numbers : map number_of l.told.items ≡ range_with_len 0 (vec_len l.told);
   readers : All (λ j. j.responder.pass.table ≡ l.cell.table) (into_iter_items l.job-iterator);
   size : length (into_iter_items l.job-iterator) ≡ into_iter_len l.job-iterator;

@@ -23,7 +23,7 @@ returns-in-Ok g c =
       due = due;
       cause = c.ending_of-ending.ensures;
       written = subst (λ t. Answers (status_of due) c.finish_page.result (g.K.Sink.state c.args.out.now) (g.K.Sink.state c.finish_page.new.out) t)
-          (regroup (journal_text done.journal.settings done.journal.entries) (each_text line_of_work 0 done.links.items) _ (status_line due))
+          (regroup (journal_text done.journal.settings done.journal.entries) (each_text line_of_work 0 done.work.links.items) _ (status_line due))
           (answers_more (status_of due) _ _ _ _ _ _ c.in-Ok.ensures.ok page);
     }
 
@@ -35,6 +35,6 @@ returns-in-Err g c =
       due = due;
       cause = c.ending_of-ending.ensures;
       written = subst (λ t. Answers (status_of due) WriteFault (g.K.Sink.state c.args.out.now) (g.K.Sink.state c.write_lines.new.out) t)
-          (regroup (journal_text done.journal.settings done.journal.entries) (each_text line_of_work 0 done.links.items) _ (status_line due))
+          (regroup (journal_text done.journal.settings done.journal.entries) (each_text line_of_work 0 done.work.links.items) _ (status_line due))
           (answers_front (status_of due) _ _ _ _ c.in-Err.ensures.err);
     }

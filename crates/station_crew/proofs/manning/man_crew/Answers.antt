@@ -1,4 +1,4 @@
--- What the search leaves open of `named::man_crew`.
+-- What the search leaves open of `manning::man_crew`.
 use Rattle.std.proofs.Common.{rules, ◌≡◌, length, map, sym, ap, ◌∙◌, subst, arith, length-append}
 use Rattle.std.specs.Prelude.{IfSome, vec_len}
 use Rattle.std.specs.Option.{option_to_list}
@@ -6,16 +6,16 @@ use Rattle.std.proofs.lemmas.List.{length-map}
 use Rattle.crew_work.proofs.ListLaws.{length-option-map, none_left, pairs_keep, pairs_length, three_taken}
 use Rattle.station_crew.specs.Leaving.{file_of, leap_pass, link_of, log_of, poll_pass, radio_pass, serve_pass, server_link}
 use Rattle.crew_work.specs.Served.{IsBlank}
-use Rattle.station_crew.proofs.named.man_crew.Goals as goal
+use Rattle.station_crew.proofs.manning.man_crew.Goals as goal
 
 pub man_radios-requires-clause-blank : goal.man_radios-requires-clause-blank
 man_radios-requires-clause-blank g c κs within =
-    pairs_keep (λ r. Unit {0}) (λ b. (goal.Receiver-dyn g (b.vtable, b.value)).least_start b.value ≡ 0) (IsBlank _ _) (λ r b h _. h.least_start) c.args.station.now.radios c.args.receivers.items c.requires.blank (λ i d lt. tt)
+    pairs_keep (λ r. Unit {0}) (λ b. (goal.Receiver-dyn g (b.vtable, b.value)).least_start b.value ≡ 0) (IsBlank _ _) (λ r b h _. h.least_start) c.args.station.now.radios c.args.kit.receivers.items c.requires.blank (λ i d lt. tt)
 
 pub man_radios-requires-clause-receivers : goal.man_radios-requires-clause-receivers
 man_radios-requires-clause-receivers g c κs within =
-    let one : vec_len c.args.receivers ≡ length c.args.receivers.items = search rules in
-    one ∙ pairs_length _ c.args.station.now.radios c.args.receivers.items c.requires.blank ∙ sym c.requires.gear.logs
+    let one : vec_len c.args.kit.receivers ≡ length c.args.kit.receivers.items = search rules in
+    one ∙ pairs_length _ c.args.station.now.radios c.args.kit.receivers.items c.requires.blank ∙ sym c.requires.gear.logs
 
 pub man_pollers-requires-clause-feeds : goal.man_pollers-requires-clause-feeds
 man_pollers-requires-clause-feeds g c =
@@ -24,7 +24,7 @@ man_pollers-requires-clause-feeds g c =
     let jobs = c.man_radios.new.jobs in
     let one : vec_len rest ≡ length rest.items = search rules in
     let two : vec_len old ≡ length old.items = search rules in
-    let three : vec_len c.args.gear.logs ≡ length c.args.gear.logs.items = search rules in
+    let three : vec_len c.args.kit.gear.logs ≡ length c.args.kit.gear.logs.items = search rules in
     let k = c.requires.feeds in
     let p = ap length c.man_radios.ensures.feeds in
     let q = ap length c.man_radios.ensures.logs in
@@ -39,8 +39,8 @@ man_leap-requires-clause-feeds g c =
     let pollers = c.man_pollers.new.jobs in
     let one : vec_len rest ≡ length rest.items = search rules in
     let two : vec_len old ≡ length old.items = search rules in
-    let three : vec_len c.args.gear.logs ≡ length c.args.gear.logs.items = search rules in
-    let four : vec_len c.args.gear.servers ≡ length c.args.gear.servers.items = search rules in
+    let three : vec_len c.args.kit.gear.logs ≡ length c.args.kit.gear.logs.items = search rules in
+    let four : vec_len c.args.kit.gear.servers ≡ length c.args.kit.gear.servers.items = search rules in
     let k = c.requires.feeds in
     let p = ap length c.man_radios.ensures.feeds in
     let q = ap length c.man_radios.ensures.logs in
@@ -71,8 +71,8 @@ returns-clause-feeds g c =
     let js = c.man_radios.new.jobs in
     let ps = c.man_pollers.new.jobs in
     let two : vec_len old ≡ length old.items = search rules in
-    let three : vec_len c.args.gear.logs ≡ length c.args.gear.logs.items = search rules in
-    let four : vec_len c.args.gear.servers ≡ length c.args.gear.servers.items = search rules in
+    let three : vec_len c.args.kit.gear.logs ≡ length c.args.kit.gear.logs.items = search rules in
+    let four : vec_len c.args.kit.gear.servers ≡ length c.args.kit.gear.servers.items = search rules in
     let k = c.requires.feeds in
     let q = ap length c.man_radios.ensures.logs in
     let r = ap length c.man_pollers.ensures.links in
@@ -87,7 +87,7 @@ returns-clause-readers g c =
     let old = c.args.passes.readers in
     let xs = c.man_responders.new.jobs in
     let two : vec_len old ≡ length old.items = search rules in
-    let three : vec_len c.args.gear.links ≡ length c.args.gear.links.items = search rules in
+    let three : vec_len c.args.kit.gear.links ≡ length c.args.kit.gear.links.items = search rules in
     let k = c.requires.readers in
     let q = ap length c.man_responders.ensures.links in
     none_left (map serve_pass xs.items) c.man_responders.new.readers.items old.items c.man_responders.ensures.readers

@@ -1,0 +1,355 @@
+-- What the search leaves open of `named::serve_named`.
+use Rattle.std.proofs.Common.{rules, ◌≡◌, ◌≤◌, ◌+◌, ◌++◌, length, map, sym, ap, ◌∙◌, subst, arith, length-append}
+use Rattle.std.specs.Prelude.{All, option_map, vec_len}
+use Rattle.std.proofs.lemmas.List.{length-map}
+use Rattle.std.proofs.lemmas.List.FromFn.{length-map-range_with_len}
+use Rattle.std.proofs.lemmas.List.Elements.{All-map}
+use Rattle.page_cell.specs.Claims.{IsTrueOf}
+use Rattle.page_cell.specs.Passes.{Known, KnownReader, claim_of}
+use Rattle.page_cell.specs.Views.{new_claim}
+use Rattle.station_config.specs.Station.{gate_of, kind_of_radio, kind_of_server, leap_feeds}
+use Rattle.station_crew.proofs.FeedLaws.{feeds_keep, leap_served, may_hear, may_notice, may_poll, radios_served, seen_all, servers_served}
+use Rattle.station_crew.proofs.LinkLaws.{links_served, readers_are, served_twice}
+use Rattle.crew_work.proofs.ListLaws.{each_keeps, leap_feeds-length, length-is-some, pairs_keep, pairs_length}
+use Rattle.station_crew.specs.Crews.{HasRoomToLeave, IsNewReader}
+use Rattle.station_crew.specs.Jobs.{HasServed, HasServedAgain}
+use Rattle.station_crew.specs.Leaving.{file_of, link_of, log_of, passes_of, serve_pass, server_link}
+use Rattle.crew_work.specs.Lists.{Pairs}
+use Rattle.crew_work.specs.Served.{LeapServed, LinksServed, RadiosServed, ServersServed, column_of, seen, service_of}
+use Rattle.station_crew.specs.Telling.{HasSeenAll, WasTold}
+use Rattle.system_fold.specs.Settings.{IsJournal, IsKept, SettingsFields}
+use Rattle.verdict_journal.specs.Journals.{HasRead}
+use Rattle.station_crew.proofs.named.serve_named.Goals as goal
+
+pub man_crew-crew-requires-clause-feeds : goal.man_crew-crew-requires-clause-feeds
+man_crew-crew-requires-clause-feeds g c κs within =
+    let feeds = c.in-Ok.parts.feeds in
+    let of = c.args.station.now in
+    let one : vec_len feeds ≡ length feeds.items = search rules in
+    let same = ap length c.in-Ok.ensures.passes.0 in
+    let n = ap length c.requires.claims in
+    let s = ap (λ (z : SettingsFields). length z.sources) c.requires.settings.1 in
+    let a = c.requires.gear.logs in
+    let b = c.requires.gear.servers in
+    omega (
+      arith,
+      one,
+      same,
+      n,
+      s,
+      a,
+      b,
+      length-map c.args.room.parts.feeds.items (λ (f : Known). claim_of f.view),
+      length-map-range_with_len new_claim 0 (length g.N.HubName.settings.sources),
+      length-append (map kind_of_radio of.radios ++ map kind_of_server of.servers) (leap_feeds of.leap_file),
+      length-append (map kind_of_radio of.radios) (map kind_of_server of.servers),
+      length-is-some c.args.kit.gear.leap of.leap_file c.requires.gear.leap,
+      leap_feeds-length of.leap_file,
+      length-map of.radios kind_of_radio,
+      length-map of.servers kind_of_server,
+    )
+
+pub run_first-requires-clause-radios : goal.run_first-requires-clause-radios
+run_first-requires-clause-radios g c κs within =
+    let N = g.N.HubName in
+    let crew = c.man_crew-crew.result in
+    let is = c.man_crew-crew.ensures.feeds ∙ c.in-Ok.ensures.passes.0 in
+    let claims = ap (λ l. map (λ (f : Known). claim_of f.view) l) is ∙ c.requires.claims in
+    let tables = subst (All (λ (f : Known). f.table ≡ N.table)) (sym is) c.requires.feeds in
+    record { all = may_hear N.table (length N.settings.sources) crew.radios.items crew.pollers.items crew.leap claims tables _ _ c.args.kit.receivers.items c.man_crew-crew.ensures.manned.receivers_are }
+
+pub run_first-requires-clause-pollers : goal.run_first-requires-clause-pollers
+run_first-requires-clause-pollers g c κs within =
+    let N = g.N.HubName in
+    let crew = c.man_crew-crew.result in
+    let is = c.man_crew-crew.ensures.feeds ∙ c.in-Ok.ensures.passes.0 in
+    let claims = ap (λ l. map (λ (f : Known). claim_of f.view) l) is ∙ c.requires.claims in
+    let tables = subst (All (λ (f : Known). f.table ≡ N.table)) (sym is) c.requires.feeds in
+    record { all = may_poll N.table (length N.settings.sources) crew.radios.items crew.pollers.items crew.leap claims tables }
+
+pub run_first-requires-clause-leap : goal.run_first-requires-clause-leap
+run_first-requires-clause-leap g c κs within =
+    let N = g.N.HubName in
+    let crew = c.man_crew-crew.result in
+    let is = c.man_crew-crew.ensures.feeds ∙ c.in-Ok.ensures.passes.0 in
+    let claims = ap (λ l. map (λ (f : Known). claim_of f.view) l) is ∙ c.requires.claims in
+    let tables = subst (All (λ (f : Known). f.table ≡ N.table)) (sym is) c.requires.feeds in
+    may_notice N.table (length N.settings.sources) crew.radios.items crew.pollers.items crew.leap claims tables
+
+pub run_first-requires-clause-responders : goal.run_first-requires-clause-responders
+run_first-requires-clause-responders g c κs within =
+    let table = g.N.HubName.table in
+    let readers = c.man_crew-crew.ensures.readers ∙ c.in-Ok.ensures.passes.1 in
+    record { all = readers_are table c.man_crew-crew.result.responders.items (subst (All (IsNewReader table)) (sym readers) c.requires.readers) }
+
+pub leave_feeds-responders-requires-after_bounds : goal.leave_feeds-responders-requires-after_bounds
+leave_feeds-responders-requires-after_bounds g c κs within =
+    let now = c.run_first.new.crew in
+    let m = c.man_crew-crew.ensures.manned in
+    let crew = c.man_crew-crew.result in
+    let gear = c.args.kit.gear in
+    let radios : vec_len gear.logs ≡ vec_len now.radios =
+    (let a = ap length m.logs in
+    let k = c.run_first.ensures.counts.0 in
+    let one : vec_len gear.logs ≡ length gear.logs.items = search rules in
+    let two : vec_len crew.radios ≡ length crew.radios.items = search rules in
+    omega (arith, a, k, one, two, length-map crew.radios.items log_of)) in
+    let pollers : vec_len gear.servers ≡ vec_len now.pollers =
+    (let a = ap length m.servers in
+    let k = c.run_first.ensures.counts.1 in
+    let one : vec_len gear.servers ≡ length gear.servers.items = search rules in
+    let two : vec_len crew.pollers ≡ length crew.pollers.items = search rules in
+    omega (arith, a, k, one, two, length-map crew.pollers.items server_link)) in
+    let responders : vec_len gear.links ≡ vec_len now.responders =
+    (let a = ap length m.links in
+    let k = c.run_first.ensures.counts.2 in
+    let one : vec_len gear.links ≡ length gear.links.items = search rules in
+    let two : vec_len crew.responders ≡ length crew.responders.items = search rules in
+    omega (arith, a, k, one, two, length-map crew.responders.items link_of)) in
+    subst (λ n. HasRoomToLeave n (vec_len now.pollers) (vec_len now.responders) c.args.room.left) radios
+    (subst (λ n. HasRoomToLeave (vec_len gear.logs) n (vec_len now.responders) c.args.room.left) pollers
+    (subst (λ n. HasRoomToLeave (vec_len gear.logs) (vec_len gear.servers) n c.args.room.left) responders c.requires.room.left))
+
+pub tell_responders-requires-clause-feeds : goal.tell_responders-requires-clause-feeds
+tell_responders-requires-clause-feeds g c κs within =
+    let N = g.N.HubName in
+    let crew = c.man_crew-crew.result in
+    let now = c.run_first.new.crew in
+    let e = c.run_first.ensures in
+    let is = c.man_crew-crew.ensures.feeds ∙ c.in-Ok.ensures.passes.0 in
+    let claims = ap (λ l. map (λ (f : Known). claim_of f.view) l) is ∙ c.requires.claims in
+    let tables = subst (All (λ (f : Known). f.table ≡ N.table)) (sym is) c.requires.feeds in
+    subst (λ t. All (λ (f : Known). f.table ≡ t) c.leave_feeds-responders.result.1.passes.feeds.items) (sym c.cell.ensures)
+    (subst (All (λ (f : Known). f.table ≡ N.table)) (sym c.leave_feeds-responders.ensures.feeds.feeds)
+    (feeds_keep N.table (length N.settings.sources) crew.radios.items crew.pollers.items crew.leap claims tables _ g.L.Source.state g.L.Source.opening g.T.Link.state g.T.Link.opening N.limit now.radios.items now.pollers.items now.leap e.radios (search rules) e.pollers (search rules) e.leap))
+
+pub tell_responders-requires-clause-readers : goal.tell_responders-requires-clause-readers
+tell_responders-requires-clause-readers g c κs within =
+    let table = g.N.HubName.table in
+    let xs = c.man_crew-crew.result.responders.items in
+    let ys = c.run_first.new.crew.responders.items in
+    let readers = c.man_crew-crew.ensures.readers ∙ c.in-Ok.ensures.passes.1 in
+    let same : length ys ≡ length xs = search rules in
+    let first = each_keeps (λ x. x.responder.pass.table ≡ table) (HasServed g.T.Link.state g.T.Link.opening c.args.orders.budget.during) (λ a b r h. r.same.table ∙ h) xs ys c.run_first.ensures.responders same
+    (readers_are table xs (subst (All (IsNewReader table)) (sym readers) c.requires.readers)) in
+    subst (λ t. All (λ x. x.responder.pass.table ≡ t) c.leave_feeds-responders.result.0.items) (sym c.cell.ensures)
+    (subst (λ v. All (λ x. x.responder.pass.table ≡ table) v.items) (sym c.leave_feeds-responders.ensures.responders) first)
+
+pub tell_responders-requires-clause-few : goal.tell_responders-requires-clause-few
+tell_responders-requires-clause-few g c κs within =
+    let xs = c.man_crew-crew.result.responders in
+    let one : vec_len xs ≡ length xs.items = search rules in
+    let two : vec_len c.args.kit.gear.links ≡ length c.args.kit.gear.links.items = search rules in
+    let q = ap length c.man_crew-crew.ensures.manned.links in
+    let a = c.requires.gear.links in
+    let b = c.requires.station.ports in
+    let k = c.run_first.ensures.counts.2 in
+    let r = ap vec_len c.leave_feeds-responders.ensures.responders in
+    omega (arith, one, two, q, a, b, k, r, length-map xs.items link_of)
+
+pub tell_responders-requires-clause-room : goal.tell_responders-requires-clause-room
+tell_responders-requires-clause-room g c κs within =
+    let xs = c.man_crew-crew.result.responders in
+    let one : vec_len xs ≡ length xs.items = search rules in
+    let two : vec_len c.args.kit.gear.links ≡ length c.args.kit.gear.links.items = search rules in
+    let q = ap length c.man_crew-crew.ensures.manned.links in
+    let a = c.requires.room.told in
+    let k = c.run_first.ensures.counts.2 in
+    let r = ap vec_len c.leave_feeds-responders.ensures.responders in
+    omega (arith, one, two, q, a, k, r, length-map xs.items link_of)
+
+pub run_second-requires-after_bounds : goal.run_second-requires-after_bounds
+run_second-requires-after_bounds g c κs within =
+    let table = g.N.HubName.table in
+    let xs = c.man_crew-crew.result.responders.items in
+    let ys = c.run_first.new.crew.responders.items in
+    let readers = c.man_crew-crew.ensures.readers ∙ c.in-Ok.ensures.passes.1 in
+    let same : length ys ≡ length xs = search rules in
+    let first = each_keeps (λ x. x.responder.pass.table ≡ table) (HasServed g.T.Link.state g.T.Link.opening c.args.orders.budget.during) (λ a b r h. r.same.table ∙ h) xs ys c.run_first.ensures.responders same
+    (readers_are table xs (subst (All (IsNewReader table)) (sym readers) c.requires.readers)) in
+    pairs_keep (λ x. x.responder.pass.table ≡ table) (λ x. x.responder.pass.table ≡ table) (WasTold c.leave_feeds-responders.result.1.passes.feeds.items) (λ x y t h. t.learnt.table ∙ h) c.leave_feeds-responders.result.0.items c.tell_responders.new.told.items c.tell_responders.ensures.told
+    (subst (λ v. All (λ x. x.responder.pass.table ≡ table) v.items) (sym c.leave_feeds-responders.ensures.responders) first)
+
+pub leave_responders-requires-clause-links : goal.leave_responders-requires-clause-links
+leave_responders-requires-clause-links g c =
+    let room = c.leave_feeds-responders.ensures.room in
+    let told = c.leave_feeds-responders.result.0 in
+    let r = ap vec_len c.leave_feeds-responders.ensures.responders in
+    let none = ap length room.no_links in
+    let n = pairs_length (WasTold c.leave_feeds-responders.result.1.passes.feeds.items) told.items c.tell_responders.new.told.items c.tell_responders.ensures.told in
+    let k = c.run_second.ensures.count in
+    let cap = room.links in
+    search (arith, rules, r, none, n, k, cap)
+
+pub leave_responders-requires-clause-works : goal.leave_responders-requires-clause-works
+leave_responders-requires-clause-works g c =
+    let room = c.leave_feeds-responders.ensures.room in
+    let told = c.leave_feeds-responders.result.0 in
+    let r = ap vec_len c.leave_feeds-responders.ensures.responders in
+    let none = ap length room.no_works in
+    let n = pairs_length (WasTold c.leave_feeds-responders.result.1.passes.feeds.items) told.items c.tell_responders.new.told.items c.tell_responders.ensures.told in
+    let k = c.run_second.ensures.count in
+    let cap = room.works in
+    search (arith, rules, r, none, n, k, cap)
+
+pub leave_responders-requires-clause-readers : goal.leave_responders-requires-clause-readers
+leave_responders-requires-clause-readers g c =
+    let room = c.leave_feeds-responders.ensures.room in
+    let told = c.leave_feeds-responders.result.0 in
+    let r = ap vec_len c.leave_feeds-responders.ensures.responders in
+    let none = ap length room.no_readers in
+    let n = pairs_length (WasTold c.leave_feeds-responders.result.1.passes.feeds.items) told.items c.tell_responders.new.told.items c.tell_responders.ensures.told in
+    let k = c.run_second.ensures.count in
+    let cap = room.readers in
+    search (arith, rules, r, none, n, k, cap)
+
+pub close-requires-clause-feeds : goal.close-requires-clause-feeds
+close-requires-clause-feeds g c =
+    let N = g.N.HubName in
+    let crew = c.man_crew-crew.result in
+    let now = c.run_first.new.crew in
+    let e = c.run_first.ensures in
+    let is = c.man_crew-crew.ensures.feeds ∙ c.in-Ok.ensures.passes.0 in
+    let claims = ap (λ l. map (λ (f : Known). claim_of f.view) l) is ∙ c.requires.claims in
+    let tables = subst (All (λ (f : Known). f.table ≡ N.table)) (sym is) c.requires.feeds in
+    let feeds = c.tell_responders.ensures.same ∙ c.leave_feeds-responders.ensures.feeds.feeds in
+    subst (All (λ (f : Known). f.table ≡ N.table)) (sym feeds)
+    (feeds_keep N.table (length N.settings.sources) crew.radios.items crew.pollers.items crew.leap claims tables _ g.L.Source.state g.L.Source.opening g.T.Link.state g.T.Link.opening N.limit now.radios.items now.pollers.items now.leap e.radios (search rules) e.pollers (search rules) e.leap)
+
+pub close-requires-clause-readers : goal.close-requires-clause-readers
+close-requires-clause-readers g c =
+    let table = g.N.HubName.table in
+    let P : KnownReader → Type 0 = λ f. f.table ≡ table in
+    let xs = c.man_crew-crew.result.responders.items in
+    let ys = c.run_first.new.crew.responders.items in
+    let zs = c.tell_responders.new.told.items in
+    let ws = c.run_second.new.jobs.items in
+    let readers = c.man_crew-crew.ensures.readers ∙ c.in-Ok.ensures.passes.1 in
+    let same : length ys ≡ length xs = search rules in
+    let again : length ws ≡ length zs = search rules in
+    let first = each_keeps (λ x. x.responder.pass.table ≡ table) (HasServed g.T.Link.state g.T.Link.opening c.args.orders.budget.during) (λ a b r h. r.same.table ∙ h) xs ys c.run_first.ensures.responders same
+    (readers_are table xs (subst (All (IsNewReader table)) (sym readers) c.requires.readers)) in
+    let told = pairs_keep (λ x. x.responder.pass.table ≡ table) (λ x. x.responder.pass.table ≡ table) (WasTold c.leave_feeds-responders.result.1.passes.feeds.items) (λ x y t h. t.learnt.table ∙ h) c.leave_feeds-responders.result.0.items zs c.tell_responders.ensures.told
+    (subst (λ v. All (λ x. x.responder.pass.table ≡ table) v.items) (sym c.leave_feeds-responders.ensures.responders) first) in
+    let second = each_keeps (λ x. x.responder.pass.table ≡ table) (HasServedAgain g.T.Link.state g.T.Link.opening c.args.orders.budget.after) (λ a b r h. r.same.table ∙ h) zs ws c.run_second.ensures.served again told in
+    subst (All P) (sym (c.leave_responders.ensures.readers ∙ ap (λ l. l ++ map serve_pass ws) c.leave_feeds-responders.ensures.room.no_readers)) (All-map P serve_pass ws second)
+
+pub returns-clause-journal : goal.returns-clause-journal
+returns-clause-journal g c = record {
+  settings_are = c.close.ensures.settings ∙ sym c.requires.settings.1;
+  limit_is = c.close.ensures.limit ∙ sym c.requires.limit.0;
+  within = subst (λ n. length c.close.result.entries ≤ n) (sym c.requires.limit.0) c.close.ensures.within;
+  lawful = subst (λ (s : SettingsFields). IsJournal s c.close.result.entries) (c.close.ensures.settings ∙ sym c.requires.settings.1) c.close.ensures.lawful;
+}
+
+pub returns-clause-radios : goal.returns-clause-radios
+returns-clause-radios g c =
+    let N = g.N.HubName in
+    let m = c.man_crew-crew.ensures.manned in
+    let crew = c.man_crew-crew.result in
+    let now = c.run_first.new.crew in
+    let e = c.run_first.ensures in
+    let left = c.leave_feeds-responders.result.1 in
+    let f = c.leave_feeds-responders.ensures.feeds in
+    let j = c.close.result.entries in
+    let of = c.args.station.now in
+    let is = c.man_crew-crew.ensures.feeds ∙ c.in-Ok.ensures.passes.0 in
+    let claims = ap (λ l. map (λ (f : Known). claim_of f.view) l) is ∙ c.requires.claims in
+    let feeds = c.tell_responders.ensures.same ∙ f.feeds in
+    let all = subst (All (λ (f : Known). IsTrueOf j (claim_of f.view))) feeds c.close.ensures.feeds in
+    let told = radios_served g.L.Source.state g.L.Source.opening g.T.Link.state g.T.Link.opening N.limit (length N.settings.sources) j crew.radios.items now.radios.items crew.pollers.items now.pollers.items crew.leap now.leap claims e.radios (search rules) e.pollers (search rules) e.leap all _ of.radios c.args.kit.receivers.items c.requires.blank m.receivers_are c.close.ensures.within in
+    subst (λ n. RadiosServed (seen g.L.Source.state g.L.Source.opening) of.radios (column_of 0 n j) c.args.kit.gear.logs.items left.gear.logs.items left.work.radios.items) (sym c.requires.limit.0)
+    (subst (λ l. RadiosServed (seen g.L.Source.state g.L.Source.opening) of.radios (column_of 0 N.limit j) l left.gear.logs.items left.work.radios.items) m.logs
+    (subst (λ l. RadiosServed (seen g.L.Source.state g.L.Source.opening) of.radios (column_of 0 N.limit j) (map log_of crew.radios.items) l left.work.radios.items) (sym f.logs)
+    (subst (λ l. RadiosServed (seen g.L.Source.state g.L.Source.opening) of.radios (column_of 0 N.limit j) (map log_of crew.radios.items) (map log_of now.radios.items) l) (sym f.log_works) told)))
+
+pub returns-clause-servers : goal.returns-clause-servers
+returns-clause-servers g c =
+    let N = g.N.HubName in
+    let m = c.man_crew-crew.ensures.manned in
+    let crew = c.man_crew-crew.result in
+    let now = c.run_first.new.crew in
+    let e = c.run_first.ensures in
+    let left = c.leave_feeds-responders.result.1 in
+    let f = c.leave_feeds-responders.ensures.feeds in
+    let j = c.close.result.entries in
+    let of = c.args.station.now in
+    let is = c.man_crew-crew.ensures.feeds ∙ c.in-Ok.ensures.passes.0 in
+    let claims = ap (λ l. map (λ (f : Known). claim_of f.view) l) is ∙ c.requires.claims in
+    let feeds = c.tell_responders.ensures.same ∙ f.feeds in
+    let all = subst (All (λ (f : Known). IsTrueOf j (claim_of f.view))) feeds c.close.ensures.feeds in
+    let one : vec_len c.args.kit.gear.logs ≡ length c.args.kit.gear.logs.items = search rules in
+    let first : length crew.radios.items ≡ length of.radios = sym (length-map crew.radios.items log_of) ∙ ap length m.logs ∙ sym one ∙ c.requires.gear.logs in
+    let told = servers_served g.L.Source.state g.L.Source.opening g.T.Link.state g.T.Link.opening N.limit (length N.settings.sources) j crew.radios.items now.radios.items crew.pollers.items now.pollers.items crew.leap now.leap claims e.radios (search rules) e.pollers (search rules) e.leap all of.servers m.asked c.close.ensures.within in
+    subst (λ n. ServersServed (seen g.T.Link.state g.T.Link.opening) of.servers (column_of (length of.radios) n j) c.args.kit.gear.servers.items left.gear.servers.items left.work.servers.items) (sym c.requires.limit.0)
+    (subst (λ n. ServersServed (seen g.T.Link.state g.T.Link.opening) of.servers (column_of n N.limit j) c.args.kit.gear.servers.items left.gear.servers.items left.work.servers.items) first
+    (subst (λ l. ServersServed (seen g.T.Link.state g.T.Link.opening) of.servers (column_of (length crew.radios.items) N.limit j) l left.gear.servers.items left.work.servers.items) m.servers
+    (subst (λ l. ServersServed (seen g.T.Link.state g.T.Link.opening) of.servers (column_of (length crew.radios.items) N.limit j) (map server_link crew.pollers.items) l left.work.servers.items) (sym f.servers)
+    (subst (λ l. ServersServed (seen g.T.Link.state g.T.Link.opening) of.servers (column_of (length crew.radios.items) N.limit j) (map server_link crew.pollers.items) (map server_link now.pollers.items) l) (sym f.poll_works) told))))
+
+pub returns-clause-leap : goal.returns-clause-leap
+returns-clause-leap g c =
+    let N = g.N.HubName in
+    let m = c.man_crew-crew.ensures.manned in
+    let crew = c.man_crew-crew.result in
+    let now = c.run_first.new.crew in
+    let e = c.run_first.ensures in
+    let left = c.leave_feeds-responders.result.1 in
+    let f = c.leave_feeds-responders.ensures.feeds in
+    let j = c.close.result.entries in
+    let of = c.args.station.now in
+    let is = c.man_crew-crew.ensures.feeds ∙ c.in-Ok.ensures.passes.0 in
+    let claims = ap (λ l. map (λ (f : Known). claim_of f.view) l) is ∙ c.requires.claims in
+    let feeds = c.tell_responders.ensures.same ∙ f.feeds in
+    let all = subst (All (λ (f : Known). IsTrueOf j (claim_of f.view))) feeds c.close.ensures.feeds in
+    let start = of.top.start in
+    let one : vec_len c.args.kit.gear.logs ≡ length c.args.kit.gear.logs.items = search rules in
+    let two : vec_len c.args.kit.gear.servers ≡ length c.args.kit.gear.servers.items = search rules in
+    let radios : length crew.radios.items ≡ length of.radios = sym (length-map crew.radios.items log_of) ∙ ap length m.logs ∙ sym one ∙ c.requires.gear.logs in
+    let servers : length crew.pollers.items ≡ length of.servers = sym (length-map crew.pollers.items server_link) ∙ ap length m.servers ∙ sym two ∙ c.requires.gear.servers in
+    let told = leap_served g.L.Source.state g.L.Source.opening g.T.Link.state g.T.Link.opening N.limit (length N.settings.sources) j crew.radios.items now.radios.items crew.pollers.items now.pollers.items crew.leap now.leap claims e.radios (search rules) e.pollers (search rules) e.leap all start m.begins c.close.ensures.within in
+    let first : length crew.radios.items + length crew.pollers.items ≡ length of.radios + length of.servers = ap (λ n. n + length crew.pollers.items) radios ∙ ap (λ n. length of.radios + n) servers in
+    subst (λ n. LeapServed (seen g.L.Source.state g.L.Source.opening) start (column_of (length of.radios + length of.servers) n j) c.args.kit.gear.leap left.gear.leap left.work.leap) (sym c.requires.limit.0)
+    (subst (λ n. LeapServed (seen g.L.Source.state g.L.Source.opening) start (column_of n N.limit j) c.args.kit.gear.leap left.gear.leap left.work.leap) first
+    (subst (λ o. LeapServed (seen g.L.Source.state g.L.Source.opening) start (column_of (length crew.radios.items + length crew.pollers.items) N.limit j) o left.gear.leap left.work.leap) m.file
+    (subst (λ o. LeapServed (seen g.L.Source.state g.L.Source.opening) start (column_of (length crew.radios.items + length crew.pollers.items) N.limit j) (option_map file_of crew.leap) o left.work.leap) (sym f.file)
+    (subst (λ o. LeapServed (seen g.L.Source.state g.L.Source.opening) start (column_of (length crew.radios.items + length crew.pollers.items) N.limit j) (option_map file_of crew.leap) (option_map file_of now.leap) o) (sym f.leap_work) told))))
+
+pub returns-clause-links : goal.returns-clause-links
+returns-clause-links g c =
+    let N = g.N.HubName in
+    let m = c.man_crew-crew.ensures.manned in
+    let crew = c.man_crew-crew.result in
+    let now = c.run_first.new.crew in
+    let e = c.run_first.ensures in
+    let left = c.leave_feeds-responders.result.1 in
+    let f = c.leave_feeds-responders.ensures.feeds in
+    let j = c.close.result.entries in
+    let of = c.args.station.now in
+    let is = c.man_crew-crew.ensures.feeds ∙ c.in-Ok.ensures.passes.0 in
+    let claims = ap (λ l. map (λ (f : Known). claim_of f.view) l) is ∙ c.requires.claims in
+    let feeds = c.tell_responders.ensures.same ∙ f.feeds in
+    let all = subst (All (λ (f : Known). IsTrueOf j (claim_of f.view))) feeds c.close.ensures.feeds in
+    let lawful = subst (λ (s : SettingsFields). All (IsKept (length s.sources)) j) c.close.ensures.settings c.close.ensures.lawful in
+    let xs = crew.responders.items in
+    let ys = now.responders.items in
+    let zs = c.tell_responders.new.told.items in
+    let ws = c.run_second.new.jobs.items in
+    let same : length ys ≡ length xs = search rules in
+    let again : length ws ≡ length zs = search rules in
+    let seen_by = passes_of now.radios.items now.pollers.items now.leap in
+    let told_to = subst (λ l. Pairs (WasTold l) ys zs) f.feeds (subst (λ v. Pairs (WasTold left.passes.feeds.items) v.items zs) c.leave_feeds-responders.ensures.responders c.tell_responders.ensures.told) in
+    let served = served_twice g.T.Link.state g.T.Link.opening c.args.orders.budget seen_by xs ys zs ws e.responders same told_to c.run_second.ensures.served in
+    let count : length ws ≡ length xs = again ∙ pairs_length (WasTold seen_by) ys zs told_to ∙ same in
+    let readers = c.leave_responders.ensures.readers ∙ ap (λ l. l ++ map serve_pass ws) c.leave_feeds-responders.ensures.room.no_readers in
+    let read = subst (All (λ (r : KnownReader). HasRead N.settings j r.view)) readers (subst (λ (s : SettingsFields). All (λ (r : KnownReader). HasRead s j r.view) c.leave_responders.new.readers.items) c.close.ensures.settings c.close.ensures.readers) in
+    let new = subst (All (IsNewReader N.table)) (sym (c.man_crew-crew.ensures.readers ∙ c.in-Ok.ensures.passes.1)) c.requires.readers in
+    let bound : (x : KnownReader) → HasSeenAll seen_by x → length j ≤ x.view.seen = λ x seen. seen_all g.L.Source.state g.L.Source.opening g.T.Link.state g.T.Link.opening N.limit (length N.settings.sources) j crew.radios.items now.radios.items crew.pollers.items now.pollers.items crew.leap now.leap claims e.radios (search rules) e.pollers (search rules) e.leap all lawful x.view.seen seen in
+    let told = links_served g.T.Link.state g.T.Link.opening of.keys (gate_of of) N.settings j c.args.orders.budget N.table seen_by xs ws served count new m.unserved m.keyed m.gated read bound in
+    let links = c.leave_responders.ensures.links ∙ ap (λ l. l ++ map link_of ws) c.leave_feeds-responders.ensures.room.no_links in
+    let works = c.leave_responders.ensures.works ∙ ap (λ l. l ++ map (λ j. j.work) ws) c.leave_feeds-responders.ensures.room.no_works in
+    let service = record (service_of of j c.args.orders.budget) { settings = N.settings } in
+    subst (λ (s : SettingsFields). LinksServed (seen g.T.Link.state g.T.Link.opening) (record service { settings = s }) c.args.kit.gear.links.items c.leave_responders.new.links.items c.leave_responders.new.works.items) (sym c.requires.settings.1)
+    (subst (λ l. LinksServed (seen g.T.Link.state g.T.Link.opening) service l c.leave_responders.new.links.items c.leave_responders.new.works.items) m.links
+    (subst (λ l. LinksServed (seen g.T.Link.state g.T.Link.opening) service (map link_of xs) l c.leave_responders.new.works.items) (sym links)
+    (subst (λ l. LinksServed (seen g.T.Link.state g.T.Link.opening) service (map link_of xs) (map link_of ws) l) (sym works) told)))
