@@ -1,0 +1,173 @@
+//! What a station has left.
+
+use crate::fakes::CLIENT;
+use crate::stations::Done;
+use feed_link::{Address, HoldGate, LinkEvent, MemoryLink};
+use feed_workers::{LogEnd, LogWork, PollWork};
+use journal_entry::{ENTRY_ROOM, write_entry};
+use responder::{End, Served};
+use station_crew::LinkWork;
+use std::alloc::Global;
+use std::test::Fail;
+use verdict_journal::Journal;
+
+/// A log that was read whole, with room in the journal for all its entries, or not.
+pub const WHOLE: LogWork = LogWork {
+    end: LogEnd::Whole,
+    full: false,
+};
+
+pub const FULL: LogWork = LogWork {
+    end: LogEnd::Whole,
+    full: true,
+};
+
+/// A link that answered nothing in its hearings; and one that answered once, and so on.
+pub const NONE: Served = Served {
+    answered: 0,
+    dropped: 0,
+    again: 0,
+    kissed: 0,
+    unkept: 0,
+    end: End::Count,
+};
+
+pub const ONE: Served = Served {
+    answered: 1,
+    ..NONE
+};
+
+pub const TWO: Served = Served {
+    answered: 2,
+    ..NONE
+};
+
+/// This holds.
+pub fn holds(rt: &HostRuntime, name: &str, fact: bool) {
+    assert!(rt; fact, "{name}");
+}
+
+/// The numbers are the same.
+pub fn same_count(rt: &HostRuntime, name: &str, left: usize, right: usize) {
+    assert_eq!(rt; left, right, "{name}");
+}
+
+/// The radios have done this.
+pub fn have_heard(rt: &HostRuntime, ended: &Done, want: &[LogWork]) {
+    assert_eq!(rt; ended.radios.as_slice(), want);
+}
+
+/// The servers have done this.
+pub fn have_polled(rt: &HostRuntime, ended: &Done, want: &[PollWork]) {
+    assert_eq!(rt; ended.servers.as_slice(), want);
+}
+
+/// The links have done this.
+pub fn have_served(rt: &HostRuntime, ended: &Done, want: &[LinkWork]) {
+    assert_eq!(rt; ended.links.as_slice(), want);
+}
+
+/// The first link has done this in the first phase.
+pub fn has_first(rt: &HostRuntime, ended: &Done, want: Served) {
+    let first = ended.links.get(0).map(|link| link.first);
+    assert_eq!(rt; first, Some(want));
+}
+
+/// The leap second file has done this.
+pub fn has_listed(rt: &HostRuntime, ended: &Done, want: Option<LogWork>) {
+    assert_eq!(rt; ended.leap, want);
+}
+
+/// The journal has this many entries.
+pub fn has_entries(rt: &HostRuntime, ended: &Done, count: usize) {
+    same_count(rt, "entries", ended.journal.len(), count);
+}
+
+// The lines of a journal.
+fn text_of(alloc: Global, journal: &Journal) -> Result<String, Fail> {
+    let mut text = String::new(alloc);
+    for place in 0..journal.len() {
+        if let Some(entry) = journal.get(place) {
+            let mut line = [0; ENTRY_ROOM];
+            let count = write_entry(&entry, &mut line);
+            for byte in line.iter().take(count) {
+                text.push(char::from(*byte))?;
+            }
+            text.push('\n')?;
+        }
+    }
+    Ok(text)
+}
+
+/// The entries are these lines.
+pub fn has_lines(rt: &HostRuntime, ended: &Done, want: &str) -> Result<(), Fail> {
+    let text = text_of(rt.alloc(), &ended.journal)?;
+    assert_eq!(rt; text.as_str(), want);
+    Ok(())
+}
+
+/// A reply: what it begins with, its reference ID, and what its receive timestamp begins with.
+#[derive(Clone, Copy)]
+pub struct Reply<'a> {
+    pub to: Address,
+    pub begin: &'a [u8],
+    pub id: &'a [u8],
+    pub second: &'a [u8],
+}
+
+/// A reply to the client.
+pub const REPLY: Reply<'static> = Reply {
+    to: CLIENT,
+    begin: &[],
+    id: b"INIT",
+    second: &[],
+};
+
+fn is_reply(to: Address, bytes: &[u8], want: &Reply<'_>) -> bool {
+    to == want.to
+        && bytes.len() == 48
+        && bytes.starts_with(want.begin)
+        && bytes.get(12..16).is_some_and(|id| id == want.id)
+        && bytes
+            .get(32..)
+            .is_some_and(|rest| rest.starts_with(want.second))
+}
+
+// Whether a link has sent these replies, in order.
+fn are_sent(link: &MemoryLink, wants: &[Reply<'_>]) -> bool {
+    let mut count = 0usize;
+    for place in 0..link.count() {
+        if let Some(LinkEvent::Sent { to, bytes }) = link.event(place) {
+            let Some(want) = wants.get(count) else {
+                return false;
+            };
+            if !is_reply(to, bytes, want) {
+                return false;
+            }
+            count = count.saturating_add(1);
+        }
+    }
+    count == wants.len()
+}
+
+/// The link of this place has sent these replies, in order.
+pub fn has_sent(rt: &HostRuntime, ended: &Done, place: usize, wants: &[Reply<'_>]) {
+    match ended.gear.links.get(place) {
+        Some(link) => holds(rt, "the replies", are_sent(link, wants)),
+        None => holds(rt, "no link", false),
+    }
+}
+
+/// The link of this place has this many events.
+pub fn has_events(rt: &HostRuntime, ended: &Done, place: usize, count: usize) {
+    match ended.gear.links.get(place) {
+        Some(link) => same_count(rt, "events", link.count(), count),
+        None => holds(rt, "no link", false),
+    }
+}
+
+/// The gate has held its worker once, and not for longer than until the other one had passed.
+pub fn has_held_once(rt: &HostRuntime, gate: &HoldGate) {
+    holds(rt, "held once", gate.passed(rt) == 1);
+    holds(rt, "in time", !gate.ran_out(rt));
+}

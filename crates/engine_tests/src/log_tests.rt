@@ -1,0 +1,273 @@
+//! Tests of `decode` on lines that are bad, readings and openings that fail, and words that are refused.
+
+use crate::frames::{NOON, NOON_1};
+use crate::pieces::Piece;
+use crate::rows::{
+    Case, Pieces, ROW, Row, Told, Want, are_met, are_told, are_usage, each_is_told, same_count,
+    stops_at_each_writing,
+};
+use crate::runs::{File, RUN, Run};
+use crate::test_station::FILE;
+use radio_engine::Status;
+use std::test::Fail;
+
+const WORDS: [&str; 5] = ["decode", "--plan", "dcf", "--log", "a"];
+
+const LONE: &str = "0 62000000 lone 3976257600\n";
+
+const VERDICT: &str = "0 122000000 verdict 3976257660 0\n";
+
+const DONE: &str = "status 0\n";
+
+const DECODED: Case<'static> = Case {
+    name: "",
+    words: &WORDS,
+    station: &[],
+    text: &[],
+    fails: 0,
+    want: &[],
+    end: Status::Done,
+};
+
+// The log of two frames, the second of which starts where the first has ended.
+const TWO_FRAMES: [Piece<'static>; 4] = [
+    Piece::Text("0 100000\n"),
+    Piece::Marks(NOON),
+    Piece::Marks(NOON_1),
+    Piece::Text("122000000 100000\n"),
+];
+
+const BAD: Case<'static> = Case {
+    end: Status::BadLine,
+    ..DECODED
+};
+
+const BAD_LINES: [Told<'static>; 11] = [
+    Told {
+        text: "1000000 100000\n900000 100000\n",
+        want: &["status 5 line 0 2\n"],
+    },
+    Told {
+        text: "1000000 100000\n1000000 100000\n",
+        want: &["status 5 line 0 2\n"],
+    },
+    Told {
+        text: "1000000 100000\n2000000 10",
+        want: &["status 5 line 0 2\n"],
+    },
+    Told {
+        text: "x 100000\n",
+        want: &["status 5 line 0 1\n"],
+    },
+    Told {
+        text: "01 100000\n",
+        want: &["status 5 line 0 1\n"],
+    },
+    Told {
+        text: "1 0\n",
+        want: &["status 5 line 0 1\n"],
+    },
+    Told {
+        text: "1 2000001\n",
+        want: &["status 5 line 0 1\n"],
+    },
+    Told {
+        text: "1 100000\r\n",
+        want: &["status 5 line 0 1\n"],
+    },
+    Told {
+        text: "\n",
+        want: &["status 5 line 0 1\n"],
+    },
+    Told {
+        text: "1125899906842624 1\n",
+        want: &["status 5 line 0 1\n"],
+    },
+    Told {
+        text: "1 1\n2 1\n11111111111111111111111111111111111111",
+        want: &["status 5 line 0 3\n"],
+    },
+];
+
+#[test]
+fn a_log_ends_at_its_first_bad_line(rt: HostRuntime) -> Result<(), Fail> {
+    each_is_told(&rt, &BAD, &BAD_LINES)
+}
+
+const LAWFUL: [Told<'static>; 3] = [
+    Told {
+        text: "",
+        want: &[DONE],
+    },
+    Told {
+        text: "0 1\n",
+        want: &[DONE],
+    },
+    Told {
+        text: "1125899906842623 2000000\n",
+        want: &[DONE],
+    },
+];
+
+#[test]
+fn what_is_lawful_is_taken(rt: HostRuntime) -> Result<(), Fail> {
+    each_is_told(&rt, &DECODED, &LAWFUL)
+}
+
+const BEFORE: [Case<'static>; 1] = [Case {
+    name: "entries_before_a_bad_line_stand",
+    text: &[
+        Piece::Text("0 100000\n"),
+        Piece::Marks(NOON),
+        Piece::Marks(NOON_1),
+        Piece::Text("122000000 100000\n122000000 100000\n"),
+    ],
+    want: &[LONE, VERDICT, "status 5 line 0 121\n"],
+    ..BAD
+}];
+
+#[test]
+fn entries_before_a_bad_line_stand(rt: HostRuntime) -> Result<(), Fail> {
+    are_told(&rt, &BEFORE)
+}
+
+const FAILED: &str = "status 4 read feed 0\n";
+
+const UNREAD: Case<'static> = Case {
+    name: "a_read_that_fails_ends_the_log",
+    text: &TWO_FRAMES,
+    end: Status::ReadFault,
+    ..DECODED
+};
+
+// The log has five readings: four pieces, the last of them short, and the end.
+const READINGS: [Case<'static>; 6] = [
+    Case {
+        fails: 1,
+        want: &[FAILED],
+        ..UNREAD
+    },
+    Case {
+        fails: 2,
+        want: &[FAILED],
+        ..UNREAD
+    },
+    Case {
+        fails: 3,
+        want: &[LONE, FAILED],
+        ..UNREAD
+    },
+    Case {
+        fails: 4,
+        want: &[LONE, FAILED],
+        ..UNREAD
+    },
+    Case {
+        fails: 5,
+        want: &[LONE, VERDICT, FAILED],
+        ..UNREAD
+    },
+    Case {
+        fails: 6,
+        want: &[LONE, VERDICT, DONE],
+        end: Status::Done,
+        ..UNREAD
+    },
+];
+
+#[test]
+fn a_read_that_fails_ends_the_log(rt: HostRuntime) -> Result<(), Fail> {
+    are_told(&rt, &READINGS)
+}
+
+const UNOPENED: Row<'static> = Row {
+    name: "a_log_that_cannot_be_opened",
+    want: &[Want::Is(&["status 2 open feed 0\n"])],
+    end: Status::OpenFault,
+    ..ROW
+};
+
+const OPENINGS: [Row<'static>; 2] = [
+    Row {
+        run: Run {
+            words: &["decode", "--plan", "dcf", "--log", "other"],
+            files: &[FILE],
+            ..RUN
+        },
+        ..UNOPENED
+    },
+    Row {
+        run: Run {
+            words: &WORDS,
+            files: &[FILE],
+            opening: 1,
+            ..RUN
+        },
+        ..UNOPENED
+    },
+];
+
+#[test]
+fn a_log_that_cannot_be_opened(rt: HostRuntime) -> Result<(), Fail> {
+    are_met(&rt, &OPENINGS)
+}
+
+const USAGE: [&[&str]; 7] = [
+    &[],
+    &["decode"],
+    &["decode", "--log", "a"],
+    &["decode", "--plan", "jjy", "--log", "a"],
+    &["decode", "--plan", "dcf", "--log", ""],
+    &["decode", "--plan", "dcf", "--log", "-"],
+    &["decode", "--plan", "dcf", "--log", "a", "a"],
+];
+
+#[test]
+fn other_words_are_usage(rt: HostRuntime) -> Result<(), Fail> {
+    are_usage(&rt, &USAGE)
+}
+
+// Each at the place of its number.
+const STATUSES: [Status; 11] = [
+    Status::Done,
+    Status::Usage,
+    Status::OpenFault,
+    Status::Station,
+    Status::ReadFault,
+    Status::BadLine,
+    Status::JournalFull,
+    Status::LinkFault,
+    Status::WriteFault,
+    Status::Memory,
+    Status::TooLong,
+];
+
+fn are_numbered(rt: &HostRuntime, statuses: &[Status]) {
+    for (place, status) in statuses.iter().enumerate() {
+        same_count(rt, "a status", status.number() as usize, place);
+    }
+}
+
+#[test]
+fn statuses_have_their_numbers(rt: HostRuntime) {
+    are_numbered(&rt, &STATUSES);
+}
+
+const WRITINGS: Pieces<'static> = Pieces {
+    name: "each_writing_of_two_minutes_may_fail",
+    run: Run {
+        words: &WORDS,
+        files: &[File {
+            text: &TWO_FRAMES,
+            ..FILE
+        }],
+        ..RUN
+    },
+    pieces: &[LONE, VERDICT, DONE],
+    end: Status::Done,
+};
+
+#[test]
+fn each_writing_of_two_minutes_may_fail(rt: HostRuntime) -> Result<(), Fail> {
+    stops_at_each_writing(&rt, &WRITINGS)
+}

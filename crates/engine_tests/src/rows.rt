@@ -1,0 +1,347 @@
+//! Rows of tables: a run, and what it writes, how it ends and what its links have sent.
+
+use crate::pieces::{Piece, joined};
+use crate::runs::{File, RUN, Run, run};
+use crate::test_station::CLIENT;
+use feed_link::{Address, Gate, HoldGate, LinkEvent, MemoryLink, MemoryOutside};
+use radio_engine::Status;
+use std::test::Fail;
+
+/// What is known of a text.
+#[derive(Clone, Copy)]
+pub enum Want<'a> {
+    /// It is these texts, one after the other.
+    Is(&'a [&'a str]),
+    /// It begins so.
+    Begins(&'a str),
+    /// It ends so.
+    Ends(&'a str),
+    /// Its line of this number, counted from 0, begins so.
+    Line(usize, &'a str),
+    /// Its line of this number, counted from 0, is this.
+    Whole(usize, &'a str),
+}
+
+/// What a link has sent to whom: how many datagrams, and what the last of them begins with; and how many events it has. A number that isn't
+/// stated may be any.
+#[derive(Clone, Copy)]
+pub struct Sent<'a> {
+    pub to: Address,
+    pub count: Option<usize>,
+    pub last: &'a [u8],
+    pub events: Option<usize>,
+}
+
+/// To a client anything was sent.
+pub const SENT: Sent<'static> = Sent {
+    to: CLIENT,
+    count: None,
+    last: &[],
+    events: None,
+};
+
+/// A row of a table: its name, a run, and what that writes, how it ends, and what the first links have sent, in their order.
+#[derive(Clone, Copy)]
+pub struct Row<'a> {
+    pub name: &'a str,
+    pub run: Run<'a>,
+    pub want: &'a [Want<'a>],
+    pub end: Status,
+    pub sent: &'a [Sent<'a>],
+}
+
+/// A row whose run ends whole.
+pub const ROW: Row<'static> = Row {
+    name: "",
+    run: RUN,
+    want: &[],
+    end: Status::Done,
+    sent: &[],
+};
+
+/// A row of a run over a station file and a file `a`, whose reading of a number fails: its whole text is these texts, one after the other.
+#[derive(Clone, Copy)]
+pub struct Case<'a> {
+    pub name: &'a str,
+    pub words: &'a [&'a str],
+    pub station: &'a [&'a str],
+    pub text: &'a [Piece<'a>],
+    pub fails: u64,
+    pub want: &'a [&'a str],
+    pub end: Status,
+}
+
+/// A run that writes these pieces one by one, and ends so.
+#[derive(Clone, Copy)]
+pub struct Pieces<'a> {
+    pub name: &'a str,
+    pub run: Run<'a>,
+    pub pieces: &'a [&'a str],
+    pub end: Status,
+}
+
+/// The bytes are this text.
+pub fn same_text(rt: &HostRuntime, name: &str, left: &[u8], right: &str) {
+    assert_eq!(rt; left, right.as_bytes(), "{name}");
+}
+
+/// The status is this one.
+pub fn same_status(rt: &HostRuntime, name: &str, left: Status, right: Status) {
+    assert_eq!(rt; left, right, "{name}");
+}
+
+/// The numbers are the same.
+pub fn same_count(rt: &HostRuntime, name: &str, left: usize, right: usize) {
+    assert_eq!(rt; left, right, "{name}");
+}
+
+/// This holds.
+pub fn holds(rt: &HostRuntime, name: &str, fact: bool) {
+    assert!(rt; fact, "{name}");
+}
+
+// Whether the line of this number begins so.
+fn has_line(written: &[u8], number: usize, text: &str) -> bool {
+    let line = written.split(|byte| *byte == b'\n').nth(number);
+    line.is_some_and(|line| line.starts_with(text.as_bytes()))
+}
+
+// Whether the line of this number is this.
+fn is_line(written: &[u8], number: usize, text: &str) -> bool {
+    let line = written.split(|byte| *byte == b'\n').nth(number);
+    line.is_some_and(|line| line == text.as_bytes())
+}
+
+/// The text is as it is wanted.
+pub fn fits(rt: &HostRuntime, name: &str, written: &[u8], want: &Want<'_>) -> Result<(), Fail> {
+    match want {
+        Want::Is(texts) => {
+            let whole = joined(rt.alloc(), texts)?;
+            same_text(rt, name, written, whole.as_str());
+        }
+        Want::Begins(text) => holds(rt, name, written.starts_with(text.as_bytes())),
+        Want::Ends(text) => holds(rt, name, written.ends_with(text.as_bytes())),
+        Want::Line(number, text) => holds(rt, name, has_line(written, *number, text)),
+        Want::Whole(number, text) => holds(rt, name, is_line(written, *number, text)),
+    }
+    Ok(())
+}
+
+/// How many datagrams a link has sent to this address, and the last of them.
+pub fn sent_to(link: &MemoryLink, address: Address) -> (usize, &[u8]) {
+    let mut count = 0usize;
+    let mut last: &[u8] = &[];
+    for place in 0..link.count() {
+        if let Some(LinkEvent::Sent { to, bytes }) = link.event(place) {
+            if to == address {
+                count = count.saturating_add(1);
+                last = bytes;
+            }
+        }
+    }
+    (count, last)
+}
+
+/// A link has sent what is wanted.
+fn has_sent(rt: &HostRuntime, name: &str, link: &MemoryLink, want: &Sent<'_>) {
+    let (count, last) = sent_to(link, want.to);
+    same_count(rt, name, count, want.count.unwrap_or(count));
+    holds(rt, name, last.starts_with(want.last));
+    same_count(rt, name, link.count(), want.events.unwrap_or(link.count()));
+}
+
+/// The links have sent what is wanted.
+pub fn have_sent<G: Gate + Drop>(
+    rt: &HostRuntime,
+    name: &str,
+    outside: &MemoryOutside<G>,
+    wants: &[Sent<'_>],
+) {
+    for (place, want) in wants.iter().enumerate() {
+        match outside.link(place) {
+            Some(link) => has_sent(rt, name, link, want),
+            None => holds(rt, name, false),
+        }
+    }
+}
+
+/// Whether the datagrams that a link has sent to this address are these, in order.
+pub fn are_sent(link: &MemoryLink, address: Address, wants: &[&[u8]]) -> bool {
+    let mut count = 0usize;
+    for place in 0..link.count() {
+        if let Some(LinkEvent::Sent { to, bytes }) = link.event(place) {
+            if to == address {
+                if !wants.get(count).is_some_and(|want| bytes == *want) {
+                    return false;
+                }
+                count = count.saturating_add(1);
+            }
+        }
+    }
+    count == wants.len()
+}
+
+// A row is as it is wanted.
+fn is_met(rt: &HostRuntime, row: &Row<'_>) -> Result<(), Fail> {
+    let ran = run(rt, &row.run)?;
+    for want in row.want {
+        fits(rt, row.name, ran.written.as_slice(), want)?;
+    }
+    same_status(rt, row.name, ran.status, row.end);
+    holds(rt, row.name, ran.outside.turns().is_some());
+    have_sent(rt, row.name, &ran.outside, row.sent);
+    Ok(())
+}
+
+/// Each row is as it is wanted.
+pub fn are_met(rt: &HostRuntime, rows: &[Row<'_>]) -> Result<(), Fail> {
+    for row in rows {
+        is_met(rt, row)?;
+    }
+    Ok(())
+}
+
+/// A case is as it is wanted.
+pub fn is_told(rt: &HostRuntime, case: &Case<'_>) -> Result<(), Fail> {
+    let files = [File {
+        name: "a",
+        text: case.text,
+        bytes: &[],
+        fails: case.fails,
+    }];
+    let ran = run(
+        rt,
+        &Run {
+            words: case.words,
+            station: case.station,
+            files: &files,
+            ..RUN
+        },
+    )?;
+    let want = joined(rt.alloc(), case.want)?;
+    same_text(rt, case.name, ran.written.as_slice(), want.as_str());
+    same_status(rt, case.name, ran.status, case.end);
+    Ok(())
+}
+
+/// Each case is as it is wanted.
+pub fn are_told(rt: &HostRuntime, cases: &[Case<'_>]) -> Result<(), Fail> {
+    for case in cases {
+        is_told(rt, case)?;
+    }
+    Ok(())
+}
+
+/// A text of the file `a`, and what is written of it.
+#[derive(Clone, Copy)]
+pub struct Told<'a> {
+    pub text: &'a str,
+    pub want: &'a [&'a str],
+}
+
+/// Each of these texts is told so, where all else is as in a case.
+pub fn each_is_told(rt: &HostRuntime, case: &Case<'_>, rows: &[Told<'_>]) -> Result<(), Fail> {
+    for row in rows {
+        let text = [Piece::Text(row.text)];
+        is_told(
+            rt,
+            &Case {
+                name: row.text,
+                text: &text,
+                want: row.want,
+                ..*case
+            },
+        )?;
+    }
+    Ok(())
+}
+
+/// Each of these arguments asks for no command.
+pub fn are_usage(rt: &HostRuntime, lists: &[&[&str]]) -> Result<(), Fail> {
+    for words in lists {
+        is_told(
+            rt,
+            &Case {
+                name: "usage",
+                words,
+                station: &[""],
+                text: &[],
+                fails: 0,
+                want: &["status 1 usage\n"],
+                end: Status::Usage,
+            },
+        )?;
+    }
+    Ok(())
+}
+
+/// A run whose writing of this number fails writes the pieces before it, and ends so.
+pub fn stops_at(
+    rt: &HostRuntime,
+    row: &Pieces<'_>,
+    writing: usize,
+    end: Status,
+) -> Result<(), Fail> {
+    let ran = run(
+        rt,
+        &Run {
+            writing: writing as u64,
+            ..row.run
+        },
+    )?;
+    let mut want = String::new(rt.alloc());
+    for piece in row.pieces.iter().take(writing.saturating_sub(1)) {
+        want.push_str(piece)?;
+    }
+    same_text(rt, row.name, ran.written.as_slice(), want.as_str());
+    same_status(rt, row.name, ran.status, end);
+    Ok(())
+}
+
+/// Where the writing of a piece fails, the pieces before it stand and nothing else. Where the one after the last fails, nothing does.
+pub fn stops_at_each_writing(rt: &HostRuntime, row: &Pieces<'_>) -> Result<(), Fail> {
+    let count = row.pieces.len();
+    for before in 0..count {
+        stops_at(rt, row, before.saturating_add(1), Status::WriteFault)?;
+    }
+    stops_at(rt, row, count.saturating_add(1), row.end)
+}
+
+/// A run where memory may be refused. What it writes is the whole text, or the status of want of memory alone, or, where the output in memory
+/// found no room for more, a prefix of the text. Where the run wasn't reached nothing is judged.
+pub fn wants_memory(rt: &HostRuntime, judged: &Run<'_>, whole: &str, end: Status) {
+    let Ok(ran) = run(rt, judged) else {
+        return;
+    };
+    let written = ran.written.as_slice();
+    match ran.status {
+        Status::Memory => same_text(rt, "no memory", written, "status 9 memory\n"),
+        Status::WriteFault => {
+            holds(rt, "a prefix", whole.as_bytes().starts_with(written));
+            holds(rt, "not all", written.len() < whole.len());
+        }
+        _ => {
+            same_text(rt, "whole", written, whole);
+            same_status(rt, "whole", ran.status, end);
+        }
+    }
+}
+
+/// The worker that a gate held has passed its place, and waited no longer than it was to.
+pub fn has_held(rt: &HostRuntime, name: &str, outside: &MemoryOutside<HoldGate>) {
+    match outside.turns() {
+        Some(gate) => {
+            holds(rt, name, gate.passed(rt) >= 1);
+            holds(rt, name, !gate.ran_out(rt));
+        }
+        None => holds(rt, name, false),
+    }
+}
+
+/// How many lines are entries of a journal.
+pub fn entries_of(written: &[u8]) -> usize {
+    written
+        .split(|byte| *byte == b'\n')
+        .filter(|line| line.starts_with(b"j2 "))
+        .count()
+}
