@@ -3,7 +3,7 @@
 
 use crate::pieces::Piece;
 use crate::rows::{entries_of, has_held, same_count, same_status};
-use crate::runs::{File, RUN, Ran, Run, Wire, run_with};
+use crate::runs::{File, ROW, Ran, Row, Wire, run_with};
 use crate::test_station::{ANSWERS, FILE, SERVER, WIRE};
 use feed_link::HoldGate;
 use radio_engine::Status;
@@ -101,7 +101,7 @@ const FILES: [File<'static>; 13] = [
 ];
 
 // Each link's first moment is 1 s, and the answer comes over it.
-const SIXTEEN: Run<'static> = Run {
+const SIXTEEN: Row<'static> = Row {
     words: &["serve", "--station", "s", "--during", "0"],
     station: &STATION,
     files: &FILES,
@@ -110,7 +110,7 @@ const SIXTEEN: Run<'static> = Run {
         hears: &[ANSWERS],
         ..WIRE
     }; 3],
-    ..RUN
+    ..ROW
 };
 
 // One feed comes to its entry, and keeps it once another has kept its own.

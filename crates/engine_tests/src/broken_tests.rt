@@ -3,11 +3,11 @@
 //! RFC 5905, section 8.
 
 use crate::pieces::Piece;
-use crate::rows::{Case, ROW, Row, SENT, Sent, Want, are_met, are_told, holds, wants_memory};
-use crate::runs::{Datagram, File, RUN, Run, Wire, run};
+use crate::rows::{SENT, Sent, Want, are_met, holds, wants_memory};
+use crate::runs::{Datagram, ROW, Row, Wire, run};
 use crate::test_station::{
-    ANSWERS, ASKED, ASKS, EMPTY_PAGE, FILE, LINK, LONE, LONE_PAGE, NO_TIME, RADIO, SERVER_3,
-    TWO_MINUTES, VERDICT, VERDICT_PAGE, WIRE,
+    ANSWERS, ASKED, ASKS, EMPTY_PAGE, LINK, LONE, LONE_PAGE, NO_TIME, RADIO, SERVER_3, TWO_MINUTES,
+    VERDICT, VERDICT_PAGE, WIRE,
 };
 use feed_link::LinkEvent;
 use radio_engine::Status;
@@ -18,62 +18,62 @@ const WORDS: [&str; 3] = ["serve", "--station", "s"];
 const FAILED: &str = "status 4 read feed 0\n";
 
 // A radio is served whose log's first line is bad.
-const BAD: Case<'static> = Case {
+const BAD: Row<'static> = Row {
     name: "",
     words: &WORDS,
     station: &[RADIO],
     text: &[],
     fails: 0,
-    want: &[EMPTY_PAGE, "status 5 line 0 1\n"],
+    want: &[Want::Is(&[EMPTY_PAGE, "status 5 line 0 1\n"])],
     end: Status::BadLine,
 };
 
-const LINES: [Case<'static>; 9] = [
-    Case {
+const LINES: [Row<'static>; 9] = [
+    Row {
         name: "a_carriage_return_before_the_line_feed_is_bad",
         text: &[Piece::Text("1000000 100000\r\n2000000 100000\r\n")],
         ..BAD
     },
-    Case {
+    Row {
         name: "each_unlawful_line_alone_is_bad, a leading zero",
         text: &[Piece::Text("01 100000\n")],
         ..BAD
     },
-    Case {
+    Row {
         name: "each_unlawful_line_alone_is_bad, no width",
         text: &[Piece::Text("1 0\n")],
         ..BAD
     },
-    Case {
+    Row {
         name: "each_unlawful_line_alone_is_bad, a width above 2 s",
         text: &[Piece::Text("1 2000001\n")],
         ..BAD
     },
-    Case {
+    Row {
         name: "each_unlawful_line_alone_is_bad, an empty line",
         text: &[Piece::Text("\n")],
         ..BAD
     },
-    Case {
+    Row {
         name: "the_greatest_start_is_taken",
         text: &[Piece::Text("1125899906842623 100000\n")],
-        want: &[EMPTY_PAGE, "status 0\n"],
+        want: &[Want::Is(&[EMPTY_PAGE, "status 0\n"])],
         end: Status::Done,
         ..BAD
     },
-    Case {
+    Row {
         name: "a_start_behind_the_greatest_is_bad",
         text: &[Piece::Text("1125899906842624 100000\n")],
         ..BAD
     },
     // Nothing after the 32nd byte is looked at, and no second reading is made, which would fail.
-    Case {
+    Row {
         name: "digits_without_a_line_feed_are_bad_at_the_32nd",
         text: &[Piece::Times(32, "1")],
         fails: 2,
         ..BAD
     },
-    Case {
+    Row {
         name: "digits_without_a_line_feed_are_bad_at_the_32nd, of 632",
         text: &[Piece::Times(632, "1")],
         fails: 2,
@@ -83,10 +83,10 @@ const LINES: [Case<'static>; 9] = [
 
 #[test]
 fn lines_are_bad_alone(rt: HostRuntime) -> Result<(), Fail> {
-    are_told(&rt, &LINES)
+    are_met(&rt, &LINES)
 }
 
-const READ: Case<'static> = Case {
+const READ: Row<'static> = Row {
     name: "each_reading_of_a_log_may_fail",
     text: &[Piece::Minutes(2)],
     end: Status::ReadFault,
@@ -94,35 +94,35 @@ const READ: Case<'static> = Case {
 };
 
 // The log of two minutes has 1,927 bytes, which are four readings and one that finds its end.
-const READINGS: [Case<'static>; 6] = [
-    Case {
+const READINGS: [Row<'static>; 6] = [
+    Row {
         fails: 1,
-        want: &[EMPTY_PAGE, FAILED],
+        want: &[Want::Is(&[EMPTY_PAGE, FAILED])],
         ..READ
     },
-    Case {
+    Row {
         fails: 2,
-        want: &[EMPTY_PAGE, FAILED],
+        want: &[Want::Is(&[EMPTY_PAGE, FAILED])],
         ..READ
     },
-    Case {
+    Row {
         fails: 3,
-        want: &[LONE, LONE_PAGE, FAILED],
+        want: &[Want::Is(&[LONE, LONE_PAGE, FAILED])],
         ..READ
     },
-    Case {
+    Row {
         fails: 4,
-        want: &[LONE, LONE_PAGE, FAILED],
+        want: &[Want::Is(&[LONE, LONE_PAGE, FAILED])],
         ..READ
     },
-    Case {
+    Row {
         fails: 5,
-        want: &[LONE, VERDICT, VERDICT_PAGE, FAILED],
+        want: &[Want::Is(&[LONE, VERDICT, VERDICT_PAGE, FAILED])],
         ..READ
     },
-    Case {
+    Row {
         fails: 6,
-        want: &[LONE, VERDICT, VERDICT_PAGE, "status 0\n"],
+        want: &[Want::Is(&[LONE, VERDICT, VERDICT_PAGE, "status 0\n"])],
         end: Status::Done,
         ..READ
     },
@@ -130,37 +130,31 @@ const READINGS: [Case<'static>; 6] = [
 
 #[test]
 fn each_reading_of_a_log_may_fail(rt: HostRuntime) -> Result<(), Fail> {
-    are_told(&rt, &READINGS)
+    are_met(&rt, &READINGS)
 }
 
 const UNREAD: Row<'static> = Row {
     name: "each_reading_of_a_station_that_is_served_may_fail",
     want: &[Want::Is(&["status 4 read station\n"])],
     end: Status::ReadFault,
-    ..ROW
+    ..ONE_RADIO
 };
 
-const ONE_RADIO: Run<'static> = Run {
+const ONE_RADIO: Row<'static> = Row {
     words: &WORDS,
     station: &[RADIO],
-    files: &[File { fails: 1, ..FILE }],
-    ..RUN
+    fails: 1,
+    ..ROW
 };
 
 // It has two readings, of which the second finds its end. No log is opened then.
 const STATION_READINGS: [Row<'static>; 2] = [
     Row {
-        run: Run {
-            reading: 1,
-            ..ONE_RADIO
-        },
+        reading: 1,
         ..UNREAD
     },
     Row {
-        run: Run {
-            reading: 2,
-            ..ONE_RADIO
-        },
+        reading: 2,
         ..UNREAD
     },
 ];
@@ -178,10 +172,10 @@ const REQUEST: Datagram<'static> = Datagram {
     ..ASKS
 };
 
-const ONE_LINK: Run<'static> = Run {
+const ONE_LINK: Row<'static> = Row {
     words: &WORDS,
     station: &[LINK],
-    ..RUN
+    ..ROW
 };
 
 const DROPPED: Row<'static> = Row {
@@ -195,7 +189,7 @@ const DROPPED: Row<'static> = Row {
         count: Some(0),
         ..SENT
     }],
-    ..ROW
+    ..ONE_LINK
 };
 
 const ANSWERED: Row<'static> = Row {
@@ -210,58 +204,46 @@ const ANSWERED: Row<'static> = Row {
         last: &NO_TIME,
         ..SENT
     }],
-    ..ROW
+    ..ONE_LINK
 };
 
 const LENGTHS: [Row<'static>; 4] = [
     Row {
-        run: Run {
-            links: &[Wire {
-                hears: &[Datagram {
-                    bytes: &[],
-                    zeros: 0,
-                    ..REQUEST
-                }],
-                ..WIRE
+        links: &[Wire {
+            hears: &[Datagram {
+                bytes: &[],
+                zeros: 0,
+                ..REQUEST
             }],
-            ..ONE_LINK
-        },
+            ..WIRE
+        }],
         ..DROPPED
     },
     Row {
-        run: Run {
-            links: &[Wire {
-                hears: &[Datagram {
-                    zeros: 43,
-                    ..REQUEST
-                }],
-                ..WIRE
+        links: &[Wire {
+            hears: &[Datagram {
+                zeros: 43,
+                ..REQUEST
             }],
-            ..ONE_LINK
-        },
+            ..WIRE
+        }],
         ..DROPPED
     },
     Row {
-        run: Run {
-            links: &[Wire {
-                hears: &[REQUEST],
-                ..WIRE
-            }],
-            ..ONE_LINK
-        },
+        links: &[Wire {
+            hears: &[REQUEST],
+            ..WIRE
+        }],
         ..ANSWERED
     },
     Row {
-        run: Run {
-            links: &[Wire {
-                hears: &[Datagram {
-                    zeros: 1020,
-                    ..REQUEST
-                }],
-                ..WIRE
+        links: &[Wire {
+            hears: &[Datagram {
+                zeros: 1020,
+                ..REQUEST
             }],
-            ..ONE_LINK
-        },
+            ..WIRE
+        }],
         ..ANSWERED
     },
 ];
@@ -282,14 +264,11 @@ const TURNS: [Row<'static>; 3] = [
     // A link receives, answers, and receives: its third call. Its events are the arrival, the moment and the reply.
     Row {
         name: "a_second_hearing_that_fails_leaves_one_turn",
-        run: Run {
-            links: &[Wire {
-                hears: &[REQUEST; 3],
-                fails: 3,
-                ..WIRE
-            }],
-            ..ONE_LINK
-        },
+        links: &[Wire {
+            hears: &[REQUEST; 3],
+            fails: 3,
+            ..WIRE
+        }],
         want: &[Want::Is(&[
             "link 0 answered 1 dropped 0 again 0 kissed 0 unkept 0 end linkfault\n",
             EMPTY_PAGE,
@@ -302,11 +281,11 @@ const TURNS: [Row<'static>; 3] = [
             events: Some(3),
             ..SENT
         }],
+        ..ONE_LINK
     },
     // A poller sends, receives, and sends: its third call.
     Row {
         name: "a_second_sending_that_fails_cuts_its_round",
-        run: POLLED,
         want: &[Want::Is(&[
             "j2 1 0 0 1010000 sample 17077897383243199545 40802189 8837 2 7f000001 256 512\n",
             "page 1 0 0 494e4954 0 1010000 0 0 1048576 0000000000000000 0 0\n",
@@ -319,23 +298,21 @@ const TURNS: [Row<'static>; 3] = [
             last: &[0x23, 0x00, 0x06, 0xec],
             events: Some(4),
         }],
+        ..POLLED
     },
     // The radio is feed 0, and the server, to which nothing can be sent, feed 1.
     Row {
         name: "a_poller_that_fails_leaves_the_radio_whole",
-        run: Run {
-            words: &WORDS,
-            station: &[RADIO, SERVER_3, LINK],
-            files: &[TWO_MINUTES],
-            links: &[
-                Wire { fails: 1, ..SERVED },
-                Wire {
-                    hears: &[REQUEST],
-                    ..WIRE
-                },
-            ],
-            ..RUN
-        },
+        words: &WORDS,
+        station: &[RADIO, SERVER_3, LINK],
+        text: &TWO_MINUTES,
+        links: &[
+            Wire { fails: 1, ..SERVED },
+            Wire {
+                hears: &[REQUEST],
+                ..WIRE
+            },
+        ],
         want: &[Want::Is(&[
             LONE,
             VERDICT,
@@ -348,11 +325,11 @@ const TURNS: [Row<'static>; 3] = [
     },
 ];
 
-const POLLED: Run<'static> = Run {
+const POLLED: Row<'static> = Row {
     words: &WORDS,
     station: &[SERVER_3],
     links: &[Wire { fails: 3, ..SERVED }],
-    ..RUN
+    ..ROW
 };
 
 #[test]
@@ -375,18 +352,15 @@ fn a_second_sending_that_fails_cuts_its_round(rt: HostRuntime) -> Result<(), Fai
 fn want_of_memory_in_a_serving(rt: HostRuntime) {
     wants_memory(
         &rt,
-        &Run {
+        &Row {
             words: &WORDS,
             station: &[RADIO, LINK],
-            files: &[File {
-                text: &[Piece::Minutes(1)],
-                ..FILE
-            }],
+            text: &[Piece::Minutes(1)],
             links: &[Wire {
                 hears: &[REQUEST],
                 ..WIRE
             }],
-            ..RUN
+            ..ROW
         },
         "j2 1 0 0 62000000 lone 3976257600\nlink 0 answered 1 dropped 0 again 0 kissed 0 unkept 0 end linkend\n\
 page 1 0 0 494e4954 0 62000000 0 0 1048576 0000000000000000 0 0\nstatus 0\n",
@@ -399,16 +373,11 @@ page 1 0 0 494e4954 0 62000000 0 0 1048576 0000000000000000 0 0\nstatus 0\n",
 fn want_of_memory_in_a_journal(rt: HostRuntime) {
     wants_memory(
         &rt,
-        &Run {
+        &Row {
             words: &["migrate", "--station", "s", "--journal", "a"],
             station: &[RADIO],
-            files: &[File {
-                text: &[Piece::Text(
-                    "0 62000000 lone 3976257600\n0 122000000 verdict 3976257660 0\n",
-                )],
-                ..FILE
-            }],
-            ..RUN
+            text: &[Piece::Text("0 62000000 lone 3976257600\n0 122000000 verdict 3976257660 0\n")],
+            ..ROW
         },
         "j2 1 0 0 62000000 lone 3976257600\nj2 2 0 0 122000000 verdict 3976257660 0\n\
 page 2 0 0 494e4954 0 122000000 0 0 1048576 0000000000000000 0 0\nstatus 0\n",

@@ -4,8 +4,8 @@ ghost use Rattle.feed_link.specs.MemoryOutside.{is_gate_out};
 
 use crate::pieces::Piece;
 use crate::rows::{same_status, same_text};
-use crate::runs::{File, OF_A_PLAN, RUN, Run, outside_of, run};
-use crate::test_station::{FILE, RADIO};
+use crate::runs::{OF_A_PLAN, ROW, Row, outside_of, run};
+use crate::test_station::RADIO;
 use feed_link::{FakeOpen, Gate, MemoryOutside, MemorySink, OpenGate};
 use radio_engine::{Status, run_station};
 use radio_receiver::{CountingReceiver, DcfReceiver, MsfReceiver, WwvbReceiver};
@@ -38,18 +38,15 @@ fn run_counting<G: Gate + Drop>(
 }
 
 // A station with a radio of DCF77, and the script of three minutes in which it is swapped after the pulse at 90 s.
-const SWAPPED: Run<'static> = Run {
+const SWAPPED: Row<'static> = Row {
     words: &["replay", "--station", "s", "--script", "a"],
     station: &[RADIO],
-    files: &[File {
-        text: &[
-            Piece::Pulses(0, 90_000_000),
-            Piece::Text("swap 0\n"),
-            Piece::Pulses(90_000_000, 182_000_000),
-        ],
-        ..FILE
-    }],
-    ..RUN
+    text: &[
+        Piece::Pulses(0, 90_000_000),
+        Piece::Text("swap 0\n"),
+        Piece::Pulses(90_000_000, 182_000_000),
+    ],
+    ..ROW
 };
 
 const WHOLE: &str = "j2 1 0 0 62000000 lone 3976257600\nj2 2 0 0 182000000 lone 3976257720\n\

@@ -5,7 +5,8 @@ use crate::frames::{
     WWVB_2016, WWVB_2024,
 };
 use crate::pieces::{Frame, Piece};
-use crate::rows::{Case, are_told};
+use crate::rows::{Want, are_met};
+use crate::runs::Row;
 use radio_engine::Status;
 use std::test::Fail;
 
@@ -26,34 +27,34 @@ const VERDICT: &str = "0 122000000 verdict 3976257660 0\n";
 
 const DONE: &str = "status 0\n";
 
-const DECODED: Case<'static> = Case {
+const DECODED: Row<'static> = Row {
     name: "",
     words: &WORDS,
     station: &[],
     text: &[],
     fails: 0,
-    want: &[],
+    want: &[Want::Is(&[])],
     end: Status::Done,
 };
 
 // The log of two frames, the second of which starts where the first has ended.
 const TWO_FRAMES: [Piece<'static>; 4] = [MARK, Piece::Marks(NOON), Piece::Marks(NOON_1), CLOSING_2];
 
-const FRAMES: [Case<'static>; 8] = [
-    Case {
+const FRAMES: [Row<'static>; 8] = [
+    Row {
         name: "two_frames_in_a_row_are_a_verdict",
         text: &TWO_FRAMES,
-        want: &[LONE, VERDICT, DONE],
+        want: &[Want::Is(&[LONE, VERDICT, DONE])],
         ..DECODED
     },
-    Case {
+    Row {
         name: "values_may_follow_an_equals_sign",
         words: &["decode", "--plan=dcf", "--log=a"],
         text: &TWO_FRAMES,
-        want: &[LONE, VERDICT, DONE],
+        want: &[Want::Is(&[LONE, VERDICT, DONE])],
         ..DECODED
     },
-    Case {
+    Row {
         name: "the_change_to_summer_time_is_a_minute",
         text: &[
             MARK,
@@ -62,15 +63,15 @@ const FRAMES: [Case<'static>; 8] = [
             Piece::Marks(SUMMER_1),
             CLOSING_3,
         ],
-        want: &[
+        want: &[Want::Is(&[
             "0 62000000 lone 3983734740\n",
             "0 122000000 verdict 3983734800 0\n",
             "0 182000000 verdict 3983734860 0\n",
             DONE,
-        ],
+        ])],
         ..DECODED
     },
-    Case {
+    Row {
         name: "a_minute_may_end_with_a_leap_second",
         text: &[
             MARK,
@@ -78,14 +79,14 @@ const FRAMES: [Case<'static>; 8] = [
             Piece::Marks(Frame { to: 60, ..LEAP }),
             Piece::Text("123000000 100000\n"),
         ],
-        want: &[
+        want: &[Want::Is(&[
             "0 62000000 lone 3692217540\n",
             "0 123000000 verdict 3692217600 3692217600\n",
             DONE,
-        ],
+        ])],
         ..DECODED
     },
-    Case {
+    Row {
         name: "a_minute_may_end_with_a_leap_second, but not without",
         text: &[
             MARK,
@@ -93,15 +94,15 @@ const FRAMES: [Case<'static>; 8] = [
             Piece::Marks(LEAP),
             CLOSING_2,
         ],
-        want: &[
+        want: &[Want::Is(&[
             "0 62000000 lone 3692217540\n",
             "0 122000000 refused 24\n",
             DONE,
-        ],
+        ])],
         ..DECODED
     },
     // The mark of place 30 of the second frame is lost.
-    Case {
+    Row {
         name: "a_lost_mark_costs_its_minute",
         text: &[
             MARK,
@@ -112,17 +113,17 @@ const FRAMES: [Case<'static>; 8] = [
             Piece::Marks(NOON_3),
             Piece::Text("242000000 100000\n"),
         ],
-        want: &[
+        want: &[Want::Is(&[
             LONE,
             "0 93000000 refused 3\n",
             "0 122000000 refused 3\n",
             "0 182000000 lone 3976257720\n",
             "0 242000000 verdict 3976257780 0\n",
             DONE,
-        ],
+        ])],
         ..DECODED
     },
-    Case {
+    Row {
         name: "two_valid_frames_may_differ",
         text: &[
             MARK,
@@ -133,15 +134,15 @@ const FRAMES: [Case<'static>; 8] = [
             }),
             CLOSING_2,
         ],
-        want: &[
+        want: &[Want::Is(&[
             LONE,
             "0 122000000 differs 3976257600 3976257720 60000000\n",
             DONE,
-        ],
+        ])],
         ..DECODED
     },
     // The second frame lasts 116 ms too long by the host's counter.
-    Case {
+    Row {
         name: "closings_that_are_no_minute_apart_differ",
         text: &[
             MARK,
@@ -152,26 +153,26 @@ const FRAMES: [Case<'static>; 8] = [
             }),
             Piece::Text("122116000 100000\n"),
         ],
-        want: &[
+        want: &[Want::Is(&[
             LONE,
             "0 122116000 differs 3976257600 3976257660 60116000\n",
             DONE,
-        ],
+        ])],
         ..DECODED
     },
 ];
 
 #[test]
 fn frames_are_read(rt: HostRuntime) -> Result<(), Fail> {
-    are_told(&rt, &FRAMES)
+    are_met(&rt, &FRAMES)
 }
 
 // The first frame but for its place 0, with these marks before the rest.
 const REST: Piece<'static> = Piece::Marks(Frame { from: 1, ..NOON });
 
-const BITS: [Case<'static>; 5] = [
+const BITS: [Row<'static>; 5] = [
     // The weekday is 0.
-    Case {
+    Row {
         name: "the_least_broken_rule_is_named",
         text: &[
             MARK,
@@ -180,11 +181,11 @@ const BITS: [Case<'static>; 5] = [
             Piece::Marks(Frame { from: 45, ..NOON }),
             CLOSING_1,
         ],
-        want: &["0 62000000 refused 15\n", DONE],
+        want: &[Want::Is(&["0 62000000 refused 15\n", DONE])],
         ..DECODED
     },
     // And the parity of the date agrees with that.
-    Case {
+    Row {
         name: "the_least_broken_rule_is_named, with its parity",
         text: &[
             MARK,
@@ -198,35 +199,35 @@ const BITS: [Case<'static>; 5] = [
             Piece::Text("60000000 200000\n"),
             CLOSING_1,
         ],
-        want: &["0 62000000 refused 19\n", DONE],
+        want: &[Want::Is(&["0 62000000 refused 19\n", DONE])],
         ..DECODED
     },
-    Case {
+    Row {
         name: "the_width_of_the_start_bit_decides",
         text: &[MARK, Piece::Text("2000000 149999\n"), REST, CLOSING_1],
-        want: &[LONE, DONE],
+        want: &[Want::Is(&[LONE, DONE])],
         ..DECODED
     },
-    Case {
+    Row {
         name: "the_width_of_the_start_bit_decides, at 150 ms",
         text: &[MARK, Piece::Text("2000000 150000\n"), REST, CLOSING_1],
-        want: &["0 62000000 refused 10\n", DONE],
+        want: &[Want::Is(&["0 62000000 refused 10\n", DONE])],
         ..DECODED
     },
-    Case {
+    Row {
         name: "the_width_of_the_start_bit_decides, below 40 ms",
         text: &[MARK, Piece::Text("2000000 39999\n"), REST, CLOSING_1],
-        want: &["0 62000000 refused 2\n", DONE],
+        want: &[Want::Is(&["0 62000000 refused 2\n", DONE])],
         ..DECODED
     },
 ];
 
 #[test]
 fn bits_are_read(rt: HostRuntime) -> Result<(), Fail> {
-    are_told(&rt, &BITS)
+    are_met(&rt, &BITS)
 }
 
-const MSF: Case<'static> = Case {
+const MSF: Row<'static> = Row {
     name: "msf_minutes_are_read",
     words: &["decode", "--plan", "msf", "--log", "a"],
     ..DECODED
@@ -245,8 +246,8 @@ const MSF_CLOSING: Piece<'static> = Piece::Text("62000000 500000\n");
 
 const MSF_LAST: Piece<'static> = Piece::Text("63000000 100000\n");
 
-const MSF_MINUTES: [Case<'static>; 4] = [
-    Case {
+const MSF_MINUTES: [Row<'static>; 4] = [
+    Row {
         text: &[
             MSF_BEGIN,
             Piece::Text("3200000 100000\n"),
@@ -254,10 +255,10 @@ const MSF_MINUTES: [Case<'static>; 4] = [
             MSF_CLOSING,
             MSF_LAST,
         ],
-        want: &[LONE, DONE],
+        want: &[Want::Is(&[LONE, DONE])],
         ..MSF
     },
-    Case {
+    Row {
         text: &[
             MSF_BEGIN,
             Piece::Text("3251000 100000\n"),
@@ -265,32 +266,32 @@ const MSF_MINUTES: [Case<'static>; 4] = [
             MSF_CLOSING,
             MSF_LAST,
         ],
-        want: &["0 62000000 refused 1\n", DONE],
+        want: &[Want::Is(&["0 62000000 refused 1\n", DONE])],
         ..MSF
     },
-    Case {
+    Row {
         text: &[
             MSF_BEGIN,
             Piece::Text("3200000 100000\n"),
             MSF_REST,
             MSF_CLOSING,
         ],
-        want: &[DONE],
+        want: &[Want::Is(&[DONE])],
         ..MSF
     },
-    Case {
+    Row {
         text: &[Piece::Marks(MSF_2000), MSF_CLOSING, MSF_LAST],
-        want: &["0 62000000 lone 3155760000\n", DONE],
+        want: &[Want::Is(&["0 62000000 lone 3155760000\n", DONE])],
         ..MSF
     },
 ];
 
 #[test]
 fn msf_minutes_are_read(rt: HostRuntime) -> Result<(), Fail> {
-    are_told(&rt, &MSF_MINUTES)
+    are_met(&rt, &MSF_MINUTES)
 }
 
-const WWVB: Case<'static> = Case {
+const WWVB: Row<'static> = Row {
     name: "wwvb_minutes_are_read",
     words: &["decode", "--plan", "wwvb", "--log", "a"],
     ..DECODED
@@ -301,14 +302,14 @@ const WWVB_MARK: Piece<'static> = Piece::Text("1000000 800000\n");
 
 const WWVB_CLOSING: Piece<'static> = Piece::Text("62000000 800000\n");
 
-const WWVB_MINUTES: [Case<'static>; 3] = [
-    Case {
+const WWVB_MINUTES: [Row<'static>; 3] = [
+    Row {
         text: &[WWVB_MARK, Piece::Marks(WWVB_2024), WWVB_CLOSING],
-        want: &["0 62000000 lone 3944592060\n", DONE],
+        want: &[Want::Is(&["0 62000000 lone 3944592060\n", DONE])],
         ..WWVB
     },
     // Place 53 is One: a common year, in which that day's number is none.
-    Case {
+    Row {
         text: &[
             WWVB_MARK,
             Piece::Marks(Frame {
@@ -322,11 +323,11 @@ const WWVB_MINUTES: [Case<'static>; 3] = [
             }),
             WWVB_CLOSING,
         ],
-        want: &["0 62000000 refused 56\n", DONE],
+        want: &[Want::Is(&["0 62000000 refused 56\n", DONE])],
         ..WWVB
     },
     // Place 56 is One: a leap second.
-    Case {
+    Row {
         text: &[
             WWVB_MARK,
             Piece::Marks(Frame {
@@ -340,12 +341,12 @@ const WWVB_MINUTES: [Case<'static>; 3] = [
             }),
             WWVB_CLOSING,
         ],
-        want: &["0 62000000 refused 58\n", DONE],
+        want: &[Want::Is(&["0 62000000 refused 58\n", DONE])],
         ..WWVB
     },
 ];
 
 #[test]
 fn wwvb_minutes_are_read(rt: HostRuntime) -> Result<(), Fail> {
-    are_told(&rt, &WWVB_MINUTES)
+    are_met(&rt, &WWVB_MINUTES)
 }

@@ -2,7 +2,7 @@
 
 use crate::pieces::joined;
 use crate::rows::{Pieces, has_held, holds, same_status, same_text, stops_at};
-use crate::runs::{RUN, Run, run, run_with};
+use crate::runs::{ROW, Row, run, run_with};
 use feed_link::HoldGate;
 use radio_engine::Status;
 use std::test::Fail;
@@ -34,15 +34,15 @@ const LAST_SEED: [&str; 5] = [
 ];
 
 // The first opening would fail.
-const DRILL: Run<'static> = Run {
+const DRILL: Row<'static> = Row {
     words: &["drill", "--seed=7"],
     opening: 1,
-    ..RUN
+    ..ROW
 };
 
 // A run over this writes these lines, and ends so. Each test has one drill, since a day takes long where it is interpreted.
 fn tells(rt: &HostRuntime, words: &[&str], want: &[&str], end: Status) -> Result<(), Fail> {
-    let ran = run(rt, &Run { words, ..DRILL })?;
+    let ran = run(rt, &Row { words, ..DRILL })?;
     let want = joined(rt.alloc(), want)?;
     same_text(rt, "the text", ran.written.as_slice(), want.as_str());
     same_status(rt, "the status", ran.status, end);
@@ -112,7 +112,7 @@ fn sum_of_feeds(written: &[u8]) -> u64 {
 
 // A drill fills a journal, and ends so.
 fn fills(rt: &HostRuntime, words: &[&str], end: &str) -> Result<Vec<u8>, Fail> {
-    let ran = run(rt, &Run { words, ..DRILL })?;
+    let ran = run(rt, &Row { words, ..DRILL })?;
     let written = ran.written;
     holds(rt, "the end", written.as_slice().ends_with(end.as_bytes()));
     same_status(rt, "the status", ran.status, Status::JournalFull);

@@ -1,9 +1,9 @@
 //! What is written and how it ends where calls of the outside fail, each at each of its numbers, or where memory is refused.
 
 use crate::pieces::{Asked, Piece};
-use crate::rows::{Pieces, ROW, Row, Want, are_met, stops_at_each_writing, wants_memory};
-use crate::runs::{File, RUN, Run};
-use crate::test_station::{EMPTY_PAGE, FILE};
+use crate::rows::{Pieces, Want, are_met, stops_at_each_writing, wants_memory};
+use crate::runs::{ROW, Row};
+use crate::test_station::EMPTY_PAGE;
 use radio_engine::Status;
 use std::test::Fail;
 
@@ -39,26 +39,23 @@ const ASKS: Asked<'static> = Asked {
 
 // Two minute marks with no second between them, an exchange, and requests; at last the answer of the exchange once more. The answer is to the
 // request that the server was sent at 1 s. The script has three readings, of which the first ends in the last line, and the third is the end.
-const SCRIPT: File<'static> = File {
-    text: &[
-        Piece::Text(
-            "pulse 0 0 100000\npulse 0 2000000 100000\npulse 0 4000000 100000\nask 1 1000000\n",
-        ),
-        Piece::Text(
-            "answer 1 1010000 240206ec00000100000002000a00000100000000000000008000000100000000ed00e13100000000ed00e1310020c49b\n",
-        ),
-        Piece::Text("request 0 1 1 23\n"),
-        Piece::Asks(ASKS),
-        Piece::Asks(Asked {
-            first: "2b",
-            ..ASKS
-        }),
-        Piece::Text(
-            "answer 1 5000000 240206ec00000100000002000a00000100000000000000008000000100000000ed00e13100000000ed00e1310020c49b\n",
-        ),
-    ],
-    ..FILE
-};
+const SCRIPT: [Piece<'static>; 6] = [
+    Piece::Text(
+        "pulse 0 0 100000\npulse 0 2000000 100000\npulse 0 4000000 100000\nask 1 1000000\n",
+    ),
+    Piece::Text(
+        "answer 1 1010000 240206ec00000100000002000a00000100000000000000008000000100000000ed00e13100000000ed00e1310020c49b\n",
+    ),
+    Piece::Text("request 0 1 1 23\n"),
+    Piece::Asks(ASKS),
+    Piece::Asks(Asked {
+        first: "2b",
+        ..ASKS
+    }),
+    Piece::Text(
+        "answer 1 5000000 240206ec00000100000002000a00000100000000000000008000000100000000ed00e13100000000ed00e1310020c49b\n",
+    ),
+];
 
 // What the script gives, without a fault.
 const LINES: [&str; 9] = [
@@ -74,33 +71,27 @@ const LINES: [&str; 9] = [
     "status 0\n",
 ];
 
-const WHOLE: Run<'static> = Run {
+const WHOLE: Row<'static> = Row {
     words: &REPLAY,
     station: &STATION,
-    files: &[SCRIPT],
-    ..RUN
+    text: &SCRIPT,
+    ..ROW
 };
 
 const OPENINGS: [Row<'static>; 2] = [
     Row {
         name: "each_opening_may_fail",
-        run: Run {
-            opening: 1,
-            ..WHOLE
-        },
+        opening: 1,
         want: &[Want::Is(&["status 2 open station\n"])],
         end: Status::OpenFault,
-        ..ROW
+        ..WHOLE
     },
     Row {
         name: "each_opening_may_fail, of the script",
-        run: Run {
-            opening: 2,
-            ..WHOLE
-        },
+        opening: 2,
         want: &[Want::Is(&["status 2 open script\n"])],
         end: Status::OpenFault,
-        ..ROW
+        ..WHOLE
     },
 ];
 
@@ -113,29 +104,20 @@ const UNREAD: Row<'static> = Row {
     name: "each_reading_of_a_station_may_fail",
     want: &[Want::Is(&["status 4 read station\n"])],
     end: Status::ReadFault,
-    ..ROW
+    ..WHOLE
 };
 
 const STATION_READINGS: [Row<'static>; 3] = [
     Row {
-        run: Run {
-            reading: 1,
-            ..WHOLE
-        },
+        reading: 1,
         ..UNREAD
     },
     Row {
-        run: Run {
-            reading: 2,
-            ..WHOLE
-        },
+        reading: 2,
         ..UNREAD
     },
     Row {
-        run: Run {
-            reading: 3,
-            ..WHOLE
-        },
+        reading: 3,
         ..UNREAD
     },
 ];
@@ -152,34 +134,25 @@ const FAILED: &str = "status 4 read script\n";
 const CUT: Row<'static> = Row {
     name: "each_reading_of_a_script_may_fail",
     end: Status::ReadFault,
-    ..ROW
+    ..WHOLE
 };
 
 // The lines before it stand, and the page of their entries. A line that the reading cut off isn't judged.
 const SCRIPT_READINGS: [Row<'static>; 3] = [
     Row {
-        run: Run {
-            files: &[File { fails: 1, ..SCRIPT }],
-            ..WHOLE
-        },
+        fails: 1,
         want: &[Want::Is(&[EMPTY_PAGE, FAILED])],
         ..CUT
     },
     Row {
-        run: Run {
-            files: &[File { fails: 2, ..SCRIPT }],
-            ..WHOLE
-        },
+        fails: 2,
         want: &[Want::Is(&[
             LINES[0], LINES[1], LINES[2], LINES[3], LINES[4], LINES[5], PAGE_2, FAILED,
         ])],
         ..CUT
     },
     Row {
-        run: Run {
-            files: &[File { fails: 3, ..SCRIPT }],
-            ..WHOLE
-        },
+        fails: 3,
         want: &[Want::Is(&[
             LINES[0], LINES[1], LINES[2], LINES[3], LINES[4], LINES[5], LINES[6], LINES[7], FAILED,
         ])],
@@ -194,15 +167,13 @@ fn each_reading_of_a_script_may_fail(rt: HostRuntime) -> Result<(), Fail> {
 
 const PAST: [Row<'static>; 1] = [Row {
     name: "calls_past_the_last_fail_nothing",
-    run: Run {
-        files: &[File { fails: 4, ..SCRIPT }],
-        opening: 3,
-        reading: 4,
-        writing: 10,
-        ..WHOLE
-    },
+    reading: 4,
+    text: &SCRIPT,
+    fails: 4,
+    opening: 3,
+    writing: 10,
     want: &[Want::Is(&LINES)],
-    ..ROW
+    ..WHOLE
 }];
 
 #[test]
@@ -223,11 +194,10 @@ fn each_writing_of_a_replay_may_fail(rt: HostRuntime) -> Result<(), Fail> {
 }
 
 // A station with a fault.
-const FAULTY: Run<'static> = Run {
+const FAULTY: Row<'static> = Row {
     words: &REPLAY,
     station: &["leap = 1\n"],
-    files: &[FILE],
-    ..RUN
+    ..ROW
 };
 
 const REFUSED: Pieces<'static> = Pieces {
@@ -243,13 +213,10 @@ fn each_writing_of_a_station_fault_may_fail(rt: HostRuntime) -> Result<(), Fail>
 }
 
 // Minute marks with no second between them.
-const MARKS: Run<'static> = Run {
+const MARKS: Row<'static> = Row {
     words: &DECODE,
-    files: &[File {
-        text: &[Piece::Text("0 100000\n2000000 100000\n4000000 100000\n6000000 100000\n")],
-        ..FILE
-    }],
-    ..RUN
+    text: &[Piece::Text("0 100000\n2000000 100000\n4000000 100000\n6000000 100000\n")],
+    ..ROW
 };
 
 const DECODED: Pieces<'static> = Pieces {
@@ -272,41 +239,29 @@ const FIRST: Row<'static> = Row {
     name: "a_failed_writing_comes_before_other_faults",
     want: &[Want::Is(&[])],
     end: Status::WriteFault,
-    ..ROW
+    ..WHOLE
 };
 
 // Of several causes a failed writing comes first.
 const WRITINGS: [Row<'static>; 4] = [
     Row {
-        run: Run {
-            opening: 1,
-            writing: 1,
-            ..WHOLE
-        },
+        opening: 1,
+        writing: 1,
         ..FIRST
     },
     Row {
-        run: Run {
-            opening: 2,
-            writing: 1,
-            ..WHOLE
-        },
+        opening: 2,
+        writing: 1,
         ..FIRST
     },
     Row {
-        run: Run {
-            reading: 1,
-            writing: 1,
-            ..WHOLE
-        },
+        reading: 1,
+        writing: 1,
         ..FIRST
     },
     Row {
-        run: Run {
-            files: &[File { fails: 1, ..SCRIPT }],
-            writing: 2,
-            ..WHOLE
-        },
+        fails: 1,
+        writing: 2,
         want: &[Want::Is(&[EMPTY_PAGE])],
         ..FIRST
     },
@@ -339,12 +294,12 @@ fn want_of_memory_in_a_log(rt: HostRuntime) {
     wants_memory(&rt, &MARKS, whole, Status::Done);
 }
 
-const NO_PLAN: Run<'static> = Run {
+const NO_PLAN: Row<'static> = Row {
     words: &["decode"],
-    ..RUN
+    ..ROW
 };
 
-const NO_BOUND: Run<'static> = Run {
+const NO_BOUND: Row<'static> = Row {
     station: &["bound = \n"],
     ..FAULTY
 };

@@ -1,8 +1,8 @@
 //! Two radios that fill a journal of three entries.
 
 use crate::rows::{SENT, Sent, entries_of, have_sent, holds, same_count, same_status};
-use crate::runs::{Datagram, File, RUN, Run, Wire, run};
-use crate::test_station::{ASKS, FIVE_MINUTES, LINK, NO_TIME, RADIO, SECOND_RADIO, WIRE};
+use crate::runs::{Datagram, File, ROW, Row, Wire, run};
+use crate::test_station::{ASKS, FILE, FIVE_MINUTES, LINK, NO_TIME, RADIO, SECOND_RADIO, WIRE};
 use radio_engine::Status;
 use std::test::Fail;
 
@@ -95,21 +95,20 @@ fn ends_so(written: &[u8], link: &str) -> bool {
 fn is_filled(rt: &HostRuntime, row: &Fill<'_>) -> Result<(), Fail> {
     let ran = run(
         rt,
-        &Run {
+        &Row {
             words: row.words,
             station: &[RADIO, SECOND_RADIO, LINK],
-            files: &[
-                FIVE_MINUTES,
-                File {
-                    name: "b",
-                    ..FIVE_MINUTES
-                },
-            ],
+            text: &FIVE_MINUTES,
+            files: &[File {
+                name: "b",
+                text: &FIVE_MINUTES,
+                ..FILE
+            }],
             links: &[Wire {
                 hears: row.hears,
                 ..WIRE
             }],
-            ..RUN
+            ..ROW
         },
     )?;
     let written = ran.written.as_slice();

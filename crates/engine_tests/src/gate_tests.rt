@@ -2,11 +2,9 @@
 //! others. The kiss codes are those of RFC 5905, section 7.4; the minutes are those of the other tests.
 
 use crate::pieces::{Asked, Piece};
-use crate::rows::{ROW, Row, Want, are_met, holds, same_count, same_status};
-use crate::runs::{Datagram, File, RUN, Ran, Run, Wire, run};
-use crate::test_station::{
-    ASKS, CLIENT, FILE, FIVE_MINUTES, LINK, RADIO, REPLY, SECOND_LINK, WIRE,
-};
+use crate::rows::{Want, are_met, holds, same_count, same_status};
+use crate::runs::{Datagram, ROW, Ran, Row, Wire, run};
+use crate::test_station::{ASKS, CLIENT, FIVE_MINUTES, LINK, RADIO, REPLY, SECOND_LINK, WIRE};
 use feed_link::{Address, LinkEvent, MemoryLink, OpenGate};
 use radio_engine::Status;
 use std::test::Fail;
@@ -24,9 +22,9 @@ const DENIED: &str = "reply e40006ec000000000010000044454e590000000000000000";
 
 const END: &str = "page 5 1 1 ";
 
-const REPLAY: Run<'static> = Run {
+const REPLAY: Row<'static> = Row {
     words: &["replay", "--station", "s", "--script", "a"],
-    ..RUN
+    ..ROW
 };
 
 // The five minutes of a DCF77 radio, which give five lines.
@@ -50,27 +48,21 @@ const REPLAYED: [Row<'static>; 4] = [
     // The gap is counted from the request that was let pass.
     Row {
         name: "a_client_that_asks_within_the_gap",
-        run: Run {
-            station: &[GAP, RADIO],
-            files: &[File {
-                text: &[
-                    HEARD,
-                    Piece::Asks(AT_303),
-                    Piece::Asks(Asked {
-                        arrived: 304_000_000,
-                        sent: 304_000_500,
-                        ..AT_303
-                    }),
-                    Piece::Asks(Asked {
-                        arrived: 305_000_000,
-                        sent: 305_000_500,
-                        ..AT_303
-                    }),
-                ],
-                ..FILE
-            }],
-            ..REPLAY
-        },
+        station: &[GAP, RADIO],
+        text: &[
+            HEARD,
+            Piece::Asks(AT_303),
+            Piece::Asks(Asked {
+                arrived: 304_000_000,
+                sent: 304_000_500,
+                ..AT_303
+            }),
+            Piece::Asks(Asked {
+                arrived: 305_000_000,
+                sent: 305_000_500,
+                ..AT_303
+            }),
+        ],
         want: &[
             Want::Line(5, TIME_AT_303),
             Want::Line(
@@ -81,89 +73,71 @@ const REPLAYED: [Row<'static>; 4] = [
             Want::Line(7, TIME),
             Want::Line(8, END),
         ],
-        ..ROW
+        ..REPLAY
     },
     // The one place of the table is the second client's by then.
     Row {
         name: "a_client_that_is_forgotten",
-        run: Run {
-            station: &[GAP, "clients = 1\n", RADIO],
-            files: &[File {
-                text: &[
-                    HEARD,
-                    Piece::Asks(Asked {
-                        sent: 303_000_000,
-                        ..AT_303
-                    }),
-                    Piece::Asks(Asked {
-                        arrived: 304_000_000,
-                        sent: 304_000_000,
-                        ..OF_OTHER
-                    }),
-                    Piece::Asks(Asked {
-                        arrived: 304_500_000,
-                        sent: 304_500_000,
-                        ..AT_303
-                    }),
-                ],
-                ..FILE
-            }],
-            ..REPLAY
-        },
+        station: &[GAP, "clients = 1\n", RADIO],
+        text: &[
+            HEARD,
+            Piece::Asks(Asked {
+                sent: 303_000_000,
+                ..AT_303
+            }),
+            Piece::Asks(Asked {
+                arrived: 304_000_000,
+                sent: 304_000_000,
+                ..OF_OTHER
+            }),
+            Piece::Asks(Asked {
+                arrived: 304_500_000,
+                sent: 304_500_000,
+                ..AT_303
+            }),
+        ],
         want: &[
             Want::Line(5, TIME),
             Want::Line(6, TIME),
             Want::Line(7, TIME),
             Want::Line(8, END),
         ],
-        ..ROW
+        ..REPLAY
     },
     Row {
         name: "a_client_of_a_denied_net",
-        run: Run {
-            station: &[RADIO, DENY],
-            files: &[File {
-                text: &[
-                    HEARD,
-                    Piece::Asks(OF_OTHER),
-                    Piece::Asks(AT_303),
-                    Piece::Asks(OF_OTHER),
-                ],
-                ..FILE
-            }],
-            ..REPLAY
-        },
+        station: &[RADIO, DENY],
+        text: &[
+            HEARD,
+            Piece::Asks(OF_OTHER),
+            Piece::Asks(AT_303),
+            Piece::Asks(OF_OTHER),
+        ],
         want: &[
             Want::Line(5, DENIED),
             Want::Line(6, TIME_AT_303),
             Want::Line(7, DENIED),
             Want::Line(8, END),
         ],
-        ..ROW
+        ..REPLAY
     },
     // Without a gap each client may ask as often as it likes.
     Row {
         name: "a_client_without_a_gap",
-        run: Run {
-            station: &[RADIO],
-            files: &[File {
-                text: &[
-                    HEARD,
-                    Piece::Asks(AT_303),
-                    Piece::Asks(AT_303),
-                    Piece::Asks(AT_303),
-                ],
-                ..FILE
-            }],
-            ..REPLAY
-        },
+        station: &[RADIO],
+        text: &[
+            HEARD,
+            Piece::Asks(AT_303),
+            Piece::Asks(AT_303),
+            Piece::Asks(AT_303),
+        ],
         want: &[
             Want::Line(5, TIME_AT_303),
             Want::Line(6, TIME_AT_303),
             Want::Line(7, TIME_AT_303),
             Want::Line(8, END),
         ],
-        ..ROW
+        ..REPLAY
     },
 ];
 
@@ -176,42 +150,32 @@ const UNHEARD: [Row<'static>; 2] = [
     // What a denied client sends is dropped where another's would be, and takes nothing from its gap.
     Row {
         name: "no_request_is_judged_that_is_dropped",
-        run: Run {
-            station: &[GAP, RADIO, DENY],
-            files: &[File {
-                text: &[
-                    Piece::Text("request 0 1000000 1000000 23\nrequest 1 1000000 1000000 23\n"),
-                    Piece::Asks(Asked {
-                        arrived: 1_000_001,
-                        sent: 1_000_001,
-                        ..AT_303
-                    }),
-                    Piece::Asks(Asked {
-                        arrived: 1_000_002,
-                        sent: 1_000_002,
-                        ..AT_303
-                    }),
-                ],
-                ..FILE
-            }],
-            ..REPLAY
-        },
+        station: &[GAP, RADIO, DENY],
+        text: &[
+            Piece::Text("request 0 1000000 1000000 23\nrequest 1 1000000 1000000 23\n"),
+            Piece::Asks(Asked {
+                arrived: 1_000_001,
+                sent: 1_000_001,
+                ..AT_303
+            }),
+            Piece::Asks(Asked {
+                arrived: 1_000_002,
+                sent: 1_000_002,
+                ..AT_303
+            }),
+        ],
         want: &[
             Want::Begins("drop short\ndrop short\nreply e40006ec0000000000100000494e4954"),
             Want::Line(3, "reply e40006ec000000000010000052415445"),
         ],
-        ..ROW
+        ..REPLAY
     },
     Row {
         name: "a_net_of_33_bits",
-        run: Run {
-            station: &[RADIO, "[[deny]]\nnet = \"127.0.0.2/33\"\n"],
-            files: &[FILE],
-            ..REPLAY
-        },
+        station: &[RADIO, "[[deny]]\nnet = \"127.0.0.2/33\"\n"],
         want: &[Want::Is(&["status 3 station range deny.0.net\n"])],
         end: Status::Station,
-        ..ROW
+        ..REPLAY
     },
 ];
 
@@ -236,10 +200,10 @@ const DENIED_ASKS: Datagram<'static> = Datagram {
     ..ASKS
 };
 
-const SERVED: Run<'static> = Run {
+const SERVED: Row<'static> = Row {
     words: &["serve", "--station", "s", "--during", "1", "--after", "3"],
     station: &[GAP, RADIO, LINK, SECOND_LINK, DENY],
-    files: &[FIVE_MINUTES],
+    text: &FIVE_MINUTES,
     links: &[
         Wire {
             hears: &[
@@ -258,7 +222,7 @@ const SERVED: Run<'static> = Run {
             ..WIRE
         },
     ],
-    ..RUN
+    ..ROW
 };
 
 // The lines of the two links.
@@ -325,15 +289,15 @@ fn two_links_judge_over_both_phases(rt: HostRuntime) -> Result<(), Fail> {
 }
 
 // In the second phase alone.
-const ONCE: Run<'static> = Run {
+const ONCE: Row<'static> = Row {
     words: &["serve", "--station", "s", "--during", "0", "--after", "4"],
     station: &[GAP, RADIO, LINK],
-    files: &[FIVE_MINUTES],
+    text: &FIVE_MINUTES,
     links: &[Wire {
         hears: &[ASKS, ASKS],
         ..WIRE
     }],
-    ..RUN
+    ..ROW
 };
 
 // How many datagrams that a link has sent are the reply with the time at 303 s.

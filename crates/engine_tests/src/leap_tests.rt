@@ -1,8 +1,8 @@
 //! Stations with a leap second file, over the fakes. Its rows are those that `leap-seconds.list` has for the ends of June 2015 and of 2016.
 
 use crate::pieces::{Asked, Piece};
-use crate::rows::{ROW, Row, Want, are_met, fits, same_status, same_text};
-use crate::runs::{File, RUN, Run, Wire, run_with};
+use crate::rows::{Want, are_met, fits, same_status, same_text};
+use crate::runs::{File, ROW, Row, Wire, run_with};
 use crate::test_station::{ANSWERS, EMPTY_PAGE, FILE, FIVE_MINUTES, RADIO, SERVER, WIRE};
 use feed_link::HoldGate;
 use radio_engine::Status;
@@ -23,11 +23,11 @@ const LIST: File<'static> = File {
 };
 
 // A station whose radio never received anything, with that file.
-const LISTED: Run<'static> = Run {
+const LISTED: Row<'static> = Row {
     words: &WORDS,
     station: &[LEAP_FILE, RADIO],
-    files: &[FILE, LIST],
-    ..RUN
+    files: &[LIST],
+    ..ROW
 };
 
 // 65 bytes of remarks.
@@ -36,166 +36,114 @@ const REMARK: &str = "#234567890123456789012345678901234567890123456789012345678
 const LISTS: [Row<'static>; 11] = [
     Row {
         name: "each_row_but_the_first_is_told",
-        run: LISTED,
         want: &[Want::Is(&[NOTICE, NOTICE_PAGE, "status 0\n"])],
-        ..ROW
+        ..LISTED
     },
     Row {
         name: "a_row_that_skips_a_second_is_a_bad_line",
-        run: Run {
-            files: &[
-                FILE,
-                File {
-                    text: &[Piece::Text(
-                        "# list\n3644697600\t36\t# 1 Jul 2015\n3692217600\t38\t# 1 Jan 2017\n",
-                    )],
-                    ..LIST
-                },
-            ],
-            ..LISTED
-        },
+        files: &[File {
+            text: &[Piece::Text(
+                "# list\n3644697600\t36\t# 1 Jul 2015\n3692217600\t38\t# 1 Jan 2017\n",
+            )],
+            ..LIST
+        }],
         want: &[Want::Is(&[EMPTY_PAGE, "status 5 line 1 3\n"])],
         end: Status::BadLine,
-        ..ROW
+        ..LISTED
     },
     Row {
         name: "an_empty_list_tells_nothing",
-        run: Run {
-            files: &[FILE, File { text: &[], ..LIST }],
-            ..LISTED
-        },
+        files: &[File { text: &[], ..LIST }],
         want: &[Want::Is(&[EMPTY_PAGE, "status 0\n"])],
-        ..ROW
+        ..LISTED
     },
     // The last row counts without its line feed, since the end of the file was read.
     Row {
         name: "a_last_row_without_its_line_feed_counts",
-        run: Run {
-            files: &[
-                FILE,
-                File {
-                    text: &[Piece::Text("3644697600 36\n3692217600 37")],
-                    ..LIST
-                },
-            ],
-            ..LISTED
-        },
+        files: &[File {
+            text: &[Piece::Text("3644697600 36\n3692217600 37")],
+            ..LIST
+        }],
         want: &[Want::Is(&[NOTICE, NOTICE_PAGE, "status 0\n"])],
-        ..ROW
+        ..LISTED
     },
     Row {
         name: "a_last_line_that_is_bad_is_told",
-        run: Run {
-            files: &[
-                FILE,
-                File {
-                    text: &[Piece::Text("3644697600 36\n3692217600 37\n3692217600")],
-                    ..LIST
-                },
-            ],
-            ..LISTED
-        },
+        files: &[File {
+            text: &[Piece::Text("3644697600 36\n3692217600 37\n3692217600")],
+            ..LIST
+        }],
         want: &[Want::Is(&[NOTICE, NOTICE_PAGE, "status 5 line 1 3\n"])],
         end: Status::BadLine,
-        ..ROW
+        ..LISTED
     },
     // The first reading fails, so that nothing of the file was read.
     Row {
         name: "a_read_fails",
-        run: Run {
-            files: &[FILE, File { fails: 1, ..LIST }],
-            ..LISTED
-        },
+        files: &[File { fails: 1, ..LIST }],
         want: &[Want::Is(&[EMPTY_PAGE, "status 4 read feed 1\n"])],
         end: Status::ReadFault,
-        ..ROW
+        ..LISTED
     },
     // A file that is read in one piece, whose second reading fails: the row that its line feed ends counts, the unfinished one doesn't.
     Row {
         name: "a_read_fails_behind_an_unfinished_row",
-        run: Run {
-            files: &[
-                FILE,
-                File {
-                    text: &[Piece::Text("3644697600 36\n3692217600 37\n3786825600 38")],
-                    fails: 2,
-                    ..LIST
-                },
-            ],
-            ..LISTED
-        },
+        files: &[File {
+            text: &[Piece::Text("3644697600 36\n3692217600 37\n3786825600 38")],
+            fails: 2,
+            ..LIST
+        }],
         want: &[Want::Is(&[NOTICE, NOTICE_PAGE, "status 4 read feed 1\n"])],
         end: Status::ReadFault,
-        ..ROW
+        ..LISTED
     },
     // 1008 lines of 65 bytes are 65520 bytes, and a row of 14 with its line feed, and one byte more or two.
     Row {
         name: "a_list_may_have_65536_bytes",
-        run: Run {
-            files: &[
-                FILE,
-                File {
-                    text: &[
-                        Piece::Times(1008, REMARK),
-                        Piece::Text("3644697600 36\n#\n"),
-                    ],
-                    ..LIST
-                },
+        files: &[File {
+            text: &[
+                Piece::Times(1008, REMARK),
+                Piece::Text("3644697600 36\n#\n"),
             ],
-            ..LISTED
-        },
+            ..LIST
+        }],
         want: &[Want::Is(&[EMPTY_PAGE, "status 0\n"])],
-        ..ROW
+        ..LISTED
     },
     Row {
         name: "a_list_may_have_65536_bytes, and no more",
-        run: Run {
-            files: &[
-                FILE,
-                File {
-                    text: &[
-                        Piece::Times(1008, REMARK),
-                        Piece::Text("3644697600 36\n#\n\n"),
-                    ],
-                    ..LIST
-                },
+        files: &[File {
+            text: &[
+                Piece::Times(1008, REMARK),
+                Piece::Text("3644697600 36\n#\n\n"),
             ],
-            ..LISTED
-        },
+            ..LIST
+        }],
         want: &[Want::Is(&[EMPTY_PAGE, "status 10 long feed 1\n"])],
         end: Status::TooLong,
-        ..ROW
+        ..LISTED
     },
     Row {
         name: "a_full_journal_loses_a_notice",
-        run: Run {
-            words: &["serve", "--station", "s", "--limit", "1"],
-            files: &[
-                FILE,
-                File {
-                    text: &[Piece::Text("3550089600 35\n3644697600 36\n3692217600 37\n")],
-                    ..LIST
-                },
-            ],
-            ..LISTED
-        },
+        words: &["serve", "--station", "s", "--limit", "1"],
+        files: &[File {
+            text: &[Piece::Text("3550089600 35\n3644697600 36\n3692217600 37\n")],
+            ..LIST
+        }],
         want: &[Want::Is(&[
             "j2 1 0 1 0 notice 3644697600\n",
             NOTICE_PAGE,
             "status 6 full 1\n",
         ])],
         end: Status::JournalFull,
-        ..ROW
+        ..LISTED
     },
     Row {
         name: "one_that_is_not_there_is_told_by_its_feed",
-        run: Run {
-            files: &[FILE],
-            ..LISTED
-        },
+        files: &[],
         want: &[Want::Is(&["status 2 open feed 1\n"])],
         end: Status::OpenFault,
-        ..ROW
+        ..LISTED
     },
 ];
 
@@ -205,7 +153,7 @@ fn leap_second_files_are_read(rt: HostRuntime) -> Result<(), Fail> {
 }
 
 // A server that answers at 1 s beside them.
-const WITH_SERVER: Run<'static> = Run {
+const WITH_SERVER: Row<'static> = Row {
     station: &[LEAP_FILE, RADIO, SERVER],
     links: &[Wire {
         moment: 1_000_000,
@@ -218,32 +166,23 @@ const WITH_SERVER: Run<'static> = Run {
 const UNOPENED: Row<'static> = Row {
     name: "it_is_opened_behind_the_logs",
     end: Status::OpenFault,
-    ..ROW
+    ..WITH_SERVER
 };
 
 // The station is opened first, then the log of feed 0, then the file of feed 2, then the link of feed 1.
 const OPENINGS: [Row<'static>; 3] = [
     Row {
-        run: Run {
-            opening: 2,
-            ..WITH_SERVER
-        },
+        opening: 2,
         want: &[Want::Is(&["status 2 open feed 0\n"])],
         ..UNOPENED
     },
     Row {
-        run: Run {
-            opening: 3,
-            ..WITH_SERVER
-        },
+        opening: 3,
         want: &[Want::Is(&["status 2 open feed 2\n"])],
         ..UNOPENED
     },
     Row {
-        run: Run {
-            opening: 4,
-            ..WITH_SERVER
-        },
+        opening: 4,
         want: &[Want::Is(&["status 2 open feed 1\n"])],
         ..UNOPENED
     },
@@ -271,14 +210,12 @@ fn its_feed_stands_behind_the_servers(rt: HostRuntime) -> Result<(), Fail> {
 }
 
 // A leap second at the end of a month whose first minutes a radio receives.
-const COMING: Run<'static> = Run {
-    files: &[
-        FIVE_MINUTES,
-        File {
-            text: &[Piece::Text("3692217600 37\n3978892800 38\n")],
-            ..LIST
-        },
-    ],
+const COMING: Row<'static> = Row {
+    text: &FIVE_MINUTES,
+    files: &[File {
+        text: &[Piece::Text("3692217600 37\n3978892800 38\n")],
+        ..LIST
+    }],
     ..LISTED
 };
 
@@ -302,26 +239,20 @@ page 6 1 1 44434600 17077896086183477248 302000000 4364906902 0 61542 ed00e13000
 
 const REPLAYED: [Row<'static>; 1] = [Row {
     name: "a_leap_second_is_replayed",
-    run: Run {
-        words: &["replay", "--station", "s", "--script", "a"],
-        files: &[File {
-            text: &[
-                Piece::Pulses(0, 302_000_000),
-                Piece::Text("leap 1 302000000 3976300800\n"),
-                Piece::Asks(Asked {
-                    connection: 0,
-                    arrived: 303_000_000,
-                    sent: 303_000_500,
-                    first: "23",
-                    after: &[],
-                }),
-            ],
-            ..FILE
-        }],
-        ..LISTED
-    },
+    words: &["replay", "--station", "s", "--script", "a"],
+    text: &[
+        Piece::Pulses(0, 302_000_000),
+        Piece::Text("leap 1 302000000 3976300800\n"),
+        Piece::Asks(Asked {
+            connection: 0,
+            arrived: 303_000_000,
+            sent: 303_000_500,
+            first: "23",
+            after: &[],
+        }),
+    ],
     want: &[Want::Ends(ANNOUNCED)],
-    ..ROW
+    ..LISTED
 }];
 
 #[test]

@@ -3,11 +3,9 @@
 use crate::frames::{NOON, NOON_1};
 use crate::pieces::Piece;
 use crate::rows::{
-    Case, Pieces, ROW, Row, Told, Want, are_met, are_told, are_usage, each_is_told, same_count,
-    stops_at_each_writing,
+    Pieces, Told, Want, are_met, are_told, are_usage, same_count, stops_at_each_writing,
 };
-use crate::runs::{File, RUN, Run};
-use crate::test_station::FILE;
+use crate::runs::{ROW, Row};
 use radio_engine::Status;
 use std::test::Fail;
 
@@ -19,13 +17,13 @@ const VERDICT: &str = "0 122000000 verdict 3976257660 0\n";
 
 const DONE: &str = "status 0\n";
 
-const DECODED: Case<'static> = Case {
+const DECODED: Row<'static> = Row {
     name: "",
     words: &WORDS,
     station: &[],
     text: &[],
     fails: 0,
-    want: &[],
+    want: &[Want::Is(&[])],
     end: Status::Done,
 };
 
@@ -37,84 +35,45 @@ const TWO_FRAMES: [Piece<'static>; 4] = [
     Piece::Text("122000000 100000\n"),
 ];
 
-const BAD: Case<'static> = Case {
+const BAD: Row<'static> = Row {
     end: Status::BadLine,
     ..DECODED
 };
 
 const BAD_LINES: [Told<'static>; 11] = [
-    Told {
-        text: "1000000 100000\n900000 100000\n",
-        want: &["status 5 line 0 2\n"],
-    },
-    Told {
-        text: "1000000 100000\n1000000 100000\n",
-        want: &["status 5 line 0 2\n"],
-    },
-    Told {
-        text: "1000000 100000\n2000000 10",
-        want: &["status 5 line 0 2\n"],
-    },
-    Told {
-        text: "x 100000\n",
-        want: &["status 5 line 0 1\n"],
-    },
-    Told {
-        text: "01 100000\n",
-        want: &["status 5 line 0 1\n"],
-    },
-    Told {
-        text: "1 0\n",
-        want: &["status 5 line 0 1\n"],
-    },
-    Told {
-        text: "1 2000001\n",
-        want: &["status 5 line 0 1\n"],
-    },
-    Told {
-        text: "1 100000\r\n",
-        want: &["status 5 line 0 1\n"],
-    },
-    Told {
-        text: "\n",
-        want: &["status 5 line 0 1\n"],
-    },
-    Told {
-        text: "1125899906842624 1\n",
-        want: &["status 5 line 0 1\n"],
-    },
-    Told {
-        text: "1 1\n2 1\n11111111111111111111111111111111111111",
-        want: &["status 5 line 0 3\n"],
-    },
+    Told("1000000 100000\n900000 100000\n", &["status 5 line 0 2\n"]),
+    Told("1000000 100000\n1000000 100000\n", &["status 5 line 0 2\n"]),
+    Told("1000000 100000\n2000000 10", &["status 5 line 0 2\n"]),
+    Told("x 100000\n", &["status 5 line 0 1\n"]),
+    Told("01 100000\n", &["status 5 line 0 1\n"]),
+    Told("1 0\n", &["status 5 line 0 1\n"]),
+    Told("1 2000001\n", &["status 5 line 0 1\n"]),
+    Told("1 100000\r\n", &["status 5 line 0 1\n"]),
+    Told("\n", &["status 5 line 0 1\n"]),
+    Told("1125899906842624 1\n", &["status 5 line 0 1\n"]),
+    Told(
+        "1 1\n2 1\n11111111111111111111111111111111111111",
+        &["status 5 line 0 3\n"],
+    ),
 ];
 
 #[test]
 fn a_log_ends_at_its_first_bad_line(rt: HostRuntime) -> Result<(), Fail> {
-    each_is_told(&rt, &BAD, &BAD_LINES)
+    are_told(&rt, &BAD, &BAD_LINES)
 }
 
 const LAWFUL: [Told<'static>; 3] = [
-    Told {
-        text: "",
-        want: &[DONE],
-    },
-    Told {
-        text: "0 1\n",
-        want: &[DONE],
-    },
-    Told {
-        text: "1125899906842623 2000000\n",
-        want: &[DONE],
-    },
+    Told("", &[DONE]),
+    Told("0 1\n", &[DONE]),
+    Told("1125899906842623 2000000\n", &[DONE]),
 ];
 
 #[test]
 fn what_is_lawful_is_taken(rt: HostRuntime) -> Result<(), Fail> {
-    each_is_told(&rt, &DECODED, &LAWFUL)
+    are_told(&rt, &DECODED, &LAWFUL)
 }
 
-const BEFORE: [Case<'static>; 1] = [Case {
+const BEFORE: [Row<'static>; 1] = [Row {
     name: "entries_before_a_bad_line_stand",
     text: &[
         Piece::Text("0 100000\n"),
@@ -122,18 +81,18 @@ const BEFORE: [Case<'static>; 1] = [Case {
         Piece::Marks(NOON_1),
         Piece::Text("122000000 100000\n122000000 100000\n"),
     ],
-    want: &[LONE, VERDICT, "status 5 line 0 121\n"],
+    want: &[Want::Is(&[LONE, VERDICT, "status 5 line 0 121\n"])],
     ..BAD
 }];
 
 #[test]
 fn entries_before_a_bad_line_stand(rt: HostRuntime) -> Result<(), Fail> {
-    are_told(&rt, &BEFORE)
+    are_met(&rt, &BEFORE)
 }
 
 const FAILED: &str = "status 4 read feed 0\n";
 
-const UNREAD: Case<'static> = Case {
+const UNREAD: Row<'static> = Row {
     name: "a_read_that_fails_ends_the_log",
     text: &TWO_FRAMES,
     end: Status::ReadFault,
@@ -141,35 +100,35 @@ const UNREAD: Case<'static> = Case {
 };
 
 // The log has five readings: four pieces, the last of them short, and the end.
-const READINGS: [Case<'static>; 6] = [
-    Case {
+const READINGS: [Row<'static>; 6] = [
+    Row {
         fails: 1,
-        want: &[FAILED],
+        want: &[Want::Is(&[FAILED])],
         ..UNREAD
     },
-    Case {
+    Row {
         fails: 2,
-        want: &[FAILED],
+        want: &[Want::Is(&[FAILED])],
         ..UNREAD
     },
-    Case {
+    Row {
         fails: 3,
-        want: &[LONE, FAILED],
+        want: &[Want::Is(&[LONE, FAILED])],
         ..UNREAD
     },
-    Case {
+    Row {
         fails: 4,
-        want: &[LONE, FAILED],
+        want: &[Want::Is(&[LONE, FAILED])],
         ..UNREAD
     },
-    Case {
+    Row {
         fails: 5,
-        want: &[LONE, VERDICT, FAILED],
+        want: &[Want::Is(&[LONE, VERDICT, FAILED])],
         ..UNREAD
     },
-    Case {
+    Row {
         fails: 6,
-        want: &[LONE, VERDICT, DONE],
+        want: &[Want::Is(&[LONE, VERDICT, DONE])],
         end: Status::Done,
         ..UNREAD
     },
@@ -177,7 +136,7 @@ const READINGS: [Case<'static>; 6] = [
 
 #[test]
 fn a_read_that_fails_ends_the_log(rt: HostRuntime) -> Result<(), Fail> {
-    are_told(&rt, &READINGS)
+    are_met(&rt, &READINGS)
 }
 
 const UNOPENED: Row<'static> = Row {
@@ -189,20 +148,12 @@ const UNOPENED: Row<'static> = Row {
 
 const OPENINGS: [Row<'static>; 2] = [
     Row {
-        run: Run {
-            words: &["decode", "--plan", "dcf", "--log", "other"],
-            files: &[FILE],
-            ..RUN
-        },
+        words: &["decode", "--plan", "dcf", "--log", "other"],
         ..UNOPENED
     },
     Row {
-        run: Run {
-            words: &WORDS,
-            files: &[FILE],
-            opening: 1,
-            ..RUN
-        },
+        words: &WORDS,
+        opening: 1,
         ..UNOPENED
     },
 ];
@@ -255,13 +206,10 @@ fn statuses_have_their_numbers(rt: HostRuntime) {
 
 const WRITINGS: Pieces<'static> = Pieces {
     name: "each_writing_of_two_minutes_may_fail",
-    run: Run {
+    run: Row {
         words: &WORDS,
-        files: &[File {
-            text: &TWO_FRAMES,
-            ..FILE
-        }],
-        ..RUN
+        text: &TWO_FRAMES,
+        ..ROW
     },
     pieces: &[LONE, VERDICT, DONE],
     end: Status::Done,

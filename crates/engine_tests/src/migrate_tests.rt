@@ -1,11 +1,9 @@
 //! Tests of `migrate` over the fakes: journals of both forms, bad lines, and each fault on the way.
 
 use crate::pieces::Piece;
-use crate::rows::{
-    Case, Pieces, ROW, Row, Want, are_met, are_told, is_told, stops_at_each_writing,
-};
-use crate::runs::{File, RUN, Run};
-use crate::test_station::{FILE, RADIO};
+use crate::rows::{Pieces, Told, Want, are_met, are_told, stops_at_each_writing};
+use crate::runs::{ROW, Row};
+use crate::test_station::RADIO;
 use radio_engine::Status;
 use std::test::Fail;
 
@@ -22,30 +20,30 @@ const TWO: &str = "page 2 0 0 494e4954 0 122000000 0 0 1048576 0000000000000000 
 const NONE_KEPT: &str = "page 0 0 0 494e4954 0 0 0 0 1048576 0000000000000000 0 0\n";
 
 // An empty journal is moved.
-const MOVED: Case<'static> = Case {
+const MOVED: Row<'static> = Row {
     name: "",
     words: &WORDS,
     station: &[RADIO],
     text: &[],
     fails: 0,
-    want: &[NONE_KEPT, "status 0\n"],
+    want: &[Want::Is(&[NONE_KEPT, "status 0\n"])],
     end: Status::Done,
 };
 
-const BOTH: [Case<'static>; 3] = [
-    Case {
+const BOTH: [Row<'static>; 3] = [
+    Row {
         name: "both_forms_give_the_second, of the first",
         text: &[Piece::Text(BARE)],
-        want: &[FIRST, SECOND, TWO, "status 0\n"],
+        want: &[Want::Is(&[FIRST, SECOND, TWO, "status 0\n"])],
         ..MOVED
     },
-    Case {
+    Row {
         name: "both_forms_give_the_second, of the second",
         text: &[Piece::Text(FIRST), Piece::Text(SECOND)],
-        want: &[FIRST, SECOND, TWO, "status 0\n"],
+        want: &[Want::Is(&[FIRST, SECOND, TWO, "status 0\n"])],
         ..MOVED
     },
-    Case {
+    Row {
         name: "both_forms_give_the_second, of none",
         ..MOVED
     },
@@ -53,7 +51,7 @@ const BOTH: [Case<'static>; 3] = [
 
 #[test]
 fn both_forms_give_the_second(rt: HostRuntime) -> Result<(), Fail> {
-    are_told(&rt, &BOTH)
+    are_met(&rt, &BOTH)
 }
 
 const RATED: &str =
@@ -63,92 +61,88 @@ const RATED_PAGE: &str =
     "page 6 1 1 44434600 17077896086170592347 362003000 37547671946 0 28981 ed00e16c00000000 0 -53687\n";
 
 // Five exact minutes, and one that comes 3 ms late: the counter loses 12.5 parts per million.
-const RATES: [Case<'static>; 2] = [
-    Case {
+const RATES: [Row<'static>; 2] = [
+    Row {
         name: "a_line_tells_the_rate_after_it",
         text: &[Piece::Text(
             "0 62000000 lone 3976257600\n0 122000000 verdict 3976257660 0\n0 182000000 verdict 3976257720 0\n0 242000000 verdict 3976257780 0\n0 302000000 verdict 3976257840 0\n0 362003000 verdict 3976257900 0\n",
         )],
-        want: &[RATED, RATED_PAGE, "status 0\n"],
+        want: &[Want::Is(&[RATED, RATED_PAGE, "status 0\n"])],
         ..MOVED
     },
-    Case {
+    Row {
         name: "a_line_tells_the_rate_after_it, of the second form",
         text: &[Piece::Text(RATED)],
-        want: &[RATED, RATED_PAGE, "status 0\n"],
+        want: &[Want::Is(&[RATED, RATED_PAGE, "status 0\n"])],
         ..MOVED
     },
 ];
 
 #[test]
 fn a_line_tells_the_rate_after_it(rt: HostRuntime) -> Result<(), Fail> {
-    are_told(&rt, &RATES)
+    are_met(&rt, &RATES)
 }
 
 // The first line of each is bad, and nothing of it is kept.
-const NO_JOURNALS: [&str; 25] = [
-    "\n",
-    "page 0 0 0 494e4954 0 0 0 0 1048576 0000000000000000 0 0\n",
-    "0 62000000 lone 3976257600",
-    "0 62000000 lone 3976257600\r\n",
-    "0 62000000 lone\n",
-    "1 62000000 lone 3976257600\n",
-    "0 0 verdict 3155587199 0\n",
-    "0 0 verdict 6311606400 0\n",
-    "0 0 verdict 3976257660 1\n",
-    "0 0 verdict 3976257660 6311606400\n",
-    "0 0 notice 6311606400\n",
-    "0 0 sample -1 0 0 1 7f000001 0 0\n",
-    "0 0 sample 0 -1 0 1 7f000001 0 0\n",
-    "0 0 sample 0 0 -1 1 7f000001 0 0\n",
-    "0 0 sample 73786976294838206464 0 0 1 7f000001 0 0\n",
-    "j2 1 5 0 62000000 lone 3976257600\n",
-    "j2 1 -0 0 62000000 lone 3976257600\n",
-    "j2 1 +0 0 62000000 lone 3976257600\n",
-    "j2 1 00 0 62000000 lone 3976257600\n",
-    "j2 0 0 0 62000000 lone 3976257600\n",
-    "j2 2 0 0 62000000 lone 3976257600\n",
-    "j2 01 0 0 62000000 lone 3976257600\n",
-    "j2 18446744073709551616 0 0 62000000 lone 3976257600\n",
-    "j2 1 0 0 62000000 lone 3976257600",
-    "j2 1 0 1 62000000 lone 3976257600\n",
+const NO_JOURNALS: [Told<'static>; 25] = [
+    Told("\n", &REFUSAL),
+    Told(
+        "page 0 0 0 494e4954 0 0 0 0 1048576 0000000000000000 0 0\n",
+        &REFUSAL,
+    ),
+    Told("0 62000000 lone 3976257600", &REFUSAL),
+    Told("0 62000000 lone 3976257600\r\n", &REFUSAL),
+    Told("0 62000000 lone\n", &REFUSAL),
+    Told("1 62000000 lone 3976257600\n", &REFUSAL),
+    Told("0 0 verdict 3155587199 0\n", &REFUSAL),
+    Told("0 0 verdict 6311606400 0\n", &REFUSAL),
+    Told("0 0 verdict 3976257660 1\n", &REFUSAL),
+    Told("0 0 verdict 3976257660 6311606400\n", &REFUSAL),
+    Told("0 0 notice 6311606400\n", &REFUSAL),
+    Told("0 0 sample -1 0 0 1 7f000001 0 0\n", &REFUSAL),
+    Told("0 0 sample 0 -1 0 1 7f000001 0 0\n", &REFUSAL),
+    Told("0 0 sample 0 0 -1 1 7f000001 0 0\n", &REFUSAL),
+    Told(
+        "0 0 sample 73786976294838206464 0 0 1 7f000001 0 0\n",
+        &REFUSAL,
+    ),
+    Told("j2 1 5 0 62000000 lone 3976257600\n", &REFUSAL),
+    Told("j2 1 -0 0 62000000 lone 3976257600\n", &REFUSAL),
+    Told("j2 1 +0 0 62000000 lone 3976257600\n", &REFUSAL),
+    Told("j2 1 00 0 62000000 lone 3976257600\n", &REFUSAL),
+    Told("j2 0 0 0 62000000 lone 3976257600\n", &REFUSAL),
+    Told("j2 2 0 0 62000000 lone 3976257600\n", &REFUSAL),
+    Told("j2 01 0 0 62000000 lone 3976257600\n", &REFUSAL),
+    Told(
+        "j2 18446744073709551616 0 0 62000000 lone 3976257600\n",
+        &REFUSAL,
+    ),
+    Told("j2 1 0 0 62000000 lone 3976257600", &REFUSAL),
+    Told("j2 1 0 1 62000000 lone 3976257600\n", &REFUSAL),
 ];
 
-const REFUSED: Case<'static> = Case {
-    want: &[NONE_KEPT, "status 5 journal 1\n"],
+const REFUSED: Row<'static> = Row {
+    want: &[Want::Is(&[NONE_KEPT, "status 5 journal 1\n"])],
     end: Status::BadLine,
     ..MOVED
 };
 
-// The first line of these journals is bad.
-fn are_refused(rt: &HostRuntime, journals: &[&str]) -> Result<(), Fail> {
-    for journal in journals {
-        let text = [Piece::Text(journal)];
-        is_told(
-            rt,
-            &Case {
-                name: journal,
-                text: &text,
-                ..REFUSED
-            },
-        )?;
-    }
-    Ok(())
-}
+// Nothing of them is kept.
+const REFUSAL: [&str; 2] = [NONE_KEPT, "status 5 journal 1\n"];
 
 #[test]
 fn lines_of_no_journal(rt: HostRuntime) -> Result<(), Fail> {
-    are_refused(&rt, &NO_JOURNALS)
+    are_told(&rt, &REFUSED, &NO_JOURNALS)
 }
 
 // The second line is bad, after a minute that stands there once.
-const CUT: Case<'static> = Case {
+const CUT: Row<'static> = Row {
     name: "lines_before_a_bad_one_stand",
-    want: &[
+    want: &[Want::Is(&[
         FIRST,
         "page 1 0 0 494e4954 0 62000000 0 0 1048576 0000000000000000 0 0\n",
         "status 5 journal 2\n",
-    ],
+    ])],
     end: Status::BadLine,
     ..MOVED
 };
@@ -156,32 +150,32 @@ const CUT: Case<'static> = Case {
 const MINUTE: Piece<'static> = Piece::Text("0 62000000 lone 3976257600\n");
 
 // The third line is bad, after two of the second form.
-const CUT_LATER: Case<'static> = Case {
-    want: &[FIRST, SECOND, TWO, "status 5 journal 3\n"],
+const CUT_LATER: Row<'static> = Row {
+    want: &[Want::Is(&[FIRST, SECOND, TWO, "status 5 journal 3\n"])],
     ..CUT
 };
 
-const CUTS: [Case<'static>; 7] = [
-    Case {
+const CUTS: [Row<'static>; 7] = [
+    Row {
         text: &[MINUTE, Piece::Text("0 122000000 verdict 3976257660\n")],
         ..CUT
     },
-    Case {
+    Row {
         text: &[
             MINUTE,
             Piece::Text("j2 2 0 0 122000000 verdict 3976257660 0\n"),
         ],
         ..CUT
     },
-    Case {
+    Row {
         text: &[MINUTE, Piece::Text("status 0\n")],
         ..CUT
     },
-    Case {
+    Row {
         text: &[MINUTE, Piece::Text("\n")],
         ..CUT
     },
-    Case {
+    Row {
         text: &[
             Piece::Text(FIRST),
             Piece::Text(SECOND),
@@ -189,7 +183,7 @@ const CUTS: [Case<'static>; 7] = [
         ],
         ..CUT_LATER
     },
-    Case {
+    Row {
         text: &[
             Piece::Text(FIRST),
             Piece::Text(SECOND),
@@ -197,7 +191,7 @@ const CUTS: [Case<'static>; 7] = [
         ],
         ..CUT_LATER
     },
-    Case {
+    Row {
         text: &[
             Piece::Text(FIRST),
             Piece::Text(SECOND),
@@ -209,17 +203,17 @@ const CUTS: [Case<'static>; 7] = [
 
 #[test]
 fn lines_before_a_bad_one_stand(rt: HostRuntime) -> Result<(), Fail> {
-    are_told(&rt, &CUTS)
+    are_met(&rt, &CUTS)
 }
 
-const SINGLE: [Case<'static>; 5] = [
+const SINGLE: [Row<'static>; 5] = [
     // Each at a bound, and moments that fall.
-    Case {
+    Row {
         name: "what_is_lawful_is_moved",
         text: &[Piece::Text(
             "0 122000000 lone 0\n0 0 verdict 3155587200 0\n0 0 verdict 6311606399 3155587200\n0 0 notice 6311606399\n0 0 notice 0\n0 0 sample 73786976294838206463 0 0 255 7f000001 0 0\n",
         )],
-        want: &[
+        want: &[Want::Is(&[
             "j2 1 0 0 122000000 lone 0\n",
             "j2 2 0 0 0 verdict 3155587200 0\n",
             "j2 3 0 0 0 verdict 6311606399 3155587200\n",
@@ -228,21 +222,21 @@ const SINGLE: [Case<'static>; 5] = [
             "j2 6 0 0 0 sample 73786976294838206463 0 0 255 7f000001 0 0\n",
             "page 6 0 0 494e4954 0 122000000 0 0 1048576 0000000000000000 0 0\n",
             "status 0\n",
-        ],
+        ])],
         ..MOVED
     },
     // A line that is too long is bad at its 300th byte, whatever comes after it.
-    Case {
+    Row {
         name: "a_line_of_300_bytes, one less",
         text: &[Piece::Times(299, "0")],
         ..REFUSED
     },
-    Case {
+    Row {
         name: "a_line_of_300_bytes",
         text: &[Piece::Times(300, "0")],
         ..REFUSED
     },
-    Case {
+    Row {
         name: "a_line_of_300_bytes, and a journal after it",
         text: &[
             Piece::Times(300, "0"),
@@ -250,11 +244,11 @@ const SINGLE: [Case<'static>; 5] = [
         ],
         ..REFUSED
     },
-    Case {
+    Row {
         name: "a_station_with_a_fault_moves_nothing",
         station: &["holdover = 600\n"],
         text: &[Piece::Text(BARE)],
-        want: &["status 3 station unknown holdover\n"],
+        want: &[Want::Is(&["status 3 station unknown holdover\n"])],
         end: Status::Station,
         ..MOVED
     },
@@ -262,26 +256,21 @@ const SINGLE: [Case<'static>; 5] = [
 
 #[test]
 fn journals_are_moved(rt: HostRuntime) -> Result<(), Fail> {
-    are_told(&rt, &SINGLE)
+    are_met(&rt, &SINGLE)
 }
 
-const JOURNAL: File<'static> = File {
-    text: &[Piece::Text(BARE)],
-    ..FILE
-};
-
 // A journal of two minutes is moved.
-const MOVES: Run<'static> = Run {
+const MOVES: Row<'static> = Row {
     words: &WORDS,
     station: &[RADIO],
-    files: &[JOURNAL],
-    ..RUN
+    text: &[Piece::Text(BARE)],
+    ..ROW
 };
 
 const UNOPENED: Row<'static> = Row {
     name: "openings_and_readings_that_fail",
     end: Status::OpenFault,
-    ..ROW
+    ..MOVES
 };
 
 const UNREAD: Row<'static> = Row {
@@ -291,48 +280,27 @@ const UNREAD: Row<'static> = Row {
 
 const FAULTS: [Row<'static>; 5] = [
     Row {
-        run: Run {
-            opening: 1,
-            ..MOVES
-        },
+        opening: 1,
         want: &[Want::Is(&["status 2 open station\n"])],
         ..UNOPENED
     },
     Row {
-        run: Run {
-            opening: 2,
-            ..MOVES
-        },
+        opening: 2,
         want: &[Want::Is(&["status 2 open journal\n"])],
         ..UNOPENED
     },
     Row {
-        run: Run {
-            reading: 1,
-            ..MOVES
-        },
+        reading: 1,
         want: &[Want::Is(&["status 4 read station\n"])],
         ..UNREAD
     },
     Row {
-        run: Run {
-            files: &[File {
-                fails: 1,
-                ..JOURNAL
-            }],
-            ..MOVES
-        },
+        fails: 1,
         want: &[Want::Is(&[NONE_KEPT, "status 4 read journal\n"])],
         ..UNREAD
     },
     Row {
-        run: Run {
-            files: &[File {
-                fails: 2,
-                ..JOURNAL
-            }],
-            ..MOVES
-        },
+        fails: 2,
         want: &[Want::Is(&[FIRST, SECOND, TWO, "status 4 read journal\n"])],
         ..UNREAD
     },

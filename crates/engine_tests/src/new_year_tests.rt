@@ -1,9 +1,9 @@
 //! `replay` over a leap second: New Year of 2017, as DCF77 sent it.
 
 use crate::pieces::{Asked, Frame, Piece, Width};
-use crate::rows::{ROW, Row, Want, are_met};
-use crate::runs::{File, RUN, Run};
-use crate::test_station::{FILE, FRAME, RADIO};
+use crate::rows::{Want, are_met};
+use crate::runs::{ROW, Row};
+use crate::test_station::{FRAME, RADIO};
 use std::test::Fail;
 
 // The places that are One in each frame of 1 January 2017 (winter time), and those of its frames from 00:55 to 01:03, computed
@@ -166,15 +166,9 @@ j2 9 0 0 543000000 verdict 3692217780 0\npage 9 1 1 44434600 1585795228264248115
 
 const REPLAYED: [Row<'static>; 1] = [Row {
     name: "a_leap_second_ends_a_page",
-    run: Run {
-        words: &["replay", "--station", "s", "--script", "a"],
-        station: &[RADIO],
-        files: &[File {
-            text: &SCRIPT,
-            ..FILE
-        }],
-        ..RUN
-    },
+    words: &["replay", "--station", "s", "--script", "a"],
+    station: &[RADIO],
+    text: &SCRIPT,
     want: &[
         Want::Begins(ENTRIES),
         Want::Line(6, "reply e40006ec"),

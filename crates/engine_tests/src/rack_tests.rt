@@ -5,8 +5,8 @@ ghost use Rattle.radio_receiver.specs.Histories.{History};
 
 use crate::pieces::{Frame, Piece};
 use crate::rows::same_status;
-use crate::runs::{File, OF_A_PLAN, RUN, Run, outside_of};
-use crate::test_station::{FILE, FRAME};
+use crate::runs::{OF_A_PLAN, ROW, Row, outside_of};
+use crate::test_station::FRAME;
 use feed_link::{FakeOpen, Gate, MemoryOutside, MemorySink, OpenGate};
 use radio_engine::{Status, run_station};
 use radio_receiver::{DcfReceiver, MsfReceiver, Receiver, WwvbReceiver};
@@ -105,51 +105,47 @@ const PULSES: Frame<'static> = Frame {
 
 // Radio 0 is the first of DCF77, radio 1 that of MSF, radio 2 the second of DCF77. Each radio receives some pulses, then radio 2 is swapped and
 // receives some more, then radio 0, then radio 1.
-const SWAPPED: Run<'static> = Run {
-    words: &["replay", "--station", "s", "--script", "p"],
+const SWAPPED: Row<'static> = Row {
+    words: &["replay", "--station", "s", "--script", "a"],
     station: &[
         "[[radio]]\nplan = \"dcf\"\nlog = \"a\"\n",
         "[[radio]]\nplan = \"msf\"\nlog = \"b\"\n",
         "[[radio]]\nplan = \"dcf\"\nlog = \"c\"\n",
     ],
-    files: &[File {
-        name: "p",
-        text: &[
-            Piece::Marks(Frame { to: 3, ..PULSES }),
-            Piece::Marks(Frame {
-                before: "pulse 1 ",
-                to: 1,
-                ..PULSES
-            }),
-            Piece::Marks(Frame {
-                before: "pulse 2 ",
-                to: 2,
-                ..PULSES
-            }),
-            Piece::Text("swap 2\n"),
-            Piece::Marks(Frame {
-                before: "pulse 2 ",
-                from: 9,
-                to: 13,
-                ..PULSES
-            }),
-            Piece::Text("swap 0\n"),
-            Piece::Marks(Frame {
-                from: 9,
-                to: 14,
-                ..PULSES
-            }),
-            Piece::Text("swap 1\n"),
-            Piece::Marks(Frame {
-                before: "pulse 1 ",
-                from: 9,
-                to: 15,
-                ..PULSES
-            }),
-        ],
-        ..FILE
-    }],
-    ..RUN
+    text: &[
+        Piece::Marks(Frame { to: 3, ..PULSES }),
+        Piece::Marks(Frame {
+            before: "pulse 1 ",
+            to: 1,
+            ..PULSES
+        }),
+        Piece::Marks(Frame {
+            before: "pulse 2 ",
+            to: 2,
+            ..PULSES
+        }),
+        Piece::Text("swap 2\n"),
+        Piece::Marks(Frame {
+            before: "pulse 2 ",
+            from: 9,
+            to: 13,
+            ..PULSES
+        }),
+        Piece::Text("swap 0\n"),
+        Piece::Marks(Frame {
+            from: 9,
+            to: 14,
+            ..PULSES
+        }),
+        Piece::Text("swap 1\n"),
+        Piece::Marks(Frame {
+            before: "pulse 1 ",
+            from: 9,
+            to: 15,
+            ..PULSES
+        }),
+    ],
+    ..ROW
 };
 
 // Runs it with receivers that take notes.

@@ -1,20 +1,19 @@
 //! Tests of `replay` over the fakes: worked scripts of radios and servers.
 
 use crate::pieces::{Asked, Frame, Piece, Width};
-use crate::rows::{Case, ROW, Row, Want, are_met, are_told};
-use crate::runs::{File, RUN, Run};
-use crate::test_station::{EMPTY_PAGE, FILE, FRAME, KEY, RADIO};
+use crate::rows::{Want, are_met};
+use crate::runs::{ROW, Row};
+use crate::test_station::{EMPTY_PAGE, FRAME, KEY, RADIO};
 use radio_engine::Status;
 use std::test::Fail;
 
 const WORDS: [&str; 5] = ["replay", "--station", "s", "--script", "a"];
 
 // A radio of DCF77, an empty script.
-const REPLAY: Run<'static> = Run {
+const REPLAY: Row<'static> = Row {
     words: &WORDS,
     station: &[RADIO],
-    files: &[FILE],
-    ..RUN
+    ..ROW
 };
 
 // The requests at 243 s and at 303 s.
@@ -75,13 +74,7 @@ const HALF_A_SECOND: &str =
 const MINUTES: [Row<'static>; 4] = [
     Row {
         name: "five_minutes_make_a_page",
-        run: Run {
-            files: &[File {
-                text: &[FOUR, AT_243, FIFTH, Piece::Asks(AT_303)],
-                ..FILE
-            }],
-            ..REPLAY
-        },
+        text: &[FOUR, AT_243, FIFTH, Piece::Asks(AT_303)],
         want: &[Want::Is(&[
             ENTRIES[0],
             ENTRIES[1],
@@ -93,76 +86,58 @@ const MINUTES: [Row<'static>; 4] = [
             "page 5 1 1 44434600 17077896086183477248 302000000 4364906902 0 61542 ed00e13000000000 0 0\n",
             "status 0\n",
         ])],
-        ..ROW
+        ..REPLAY
     },
     Row {
         name: "a_page_ends",
-        run: Run {
-            files: &[File {
-                text: &[
-                    FOUR,
-                    AT_243,
-                    FIFTH,
-                    Piece::Asks(AT_303),
-                    Piece::Asks(Asked {
-                        arrived: 4_364_906_901,
-                        sent: 4_364_906_901,
-                        ..AT_303
-                    }),
-                    Piece::Asks(Asked {
-                        arrived: 4_364_906_902,
-                        sent: 4_364_906_902,
-                        ..AT_303
-                    }),
-                ],
-                ..FILE
-            }],
-            ..REPLAY
-        },
+        text: &[
+            FOUR,
+            AT_243,
+            FIFTH,
+            Piece::Asks(AT_303),
+            Piece::Asks(Asked {
+                arrived: 4_364_906_901,
+                sent: 4_364_906_901,
+                ..AT_303
+            }),
+            Piece::Asks(Asked {
+                arrived: 4_364_906_902,
+                sent: 4_364_906_902,
+                ..AT_303
+            }),
+        ],
         want: &[
             Want::Line(7, "reply 240106ec"),
             Want::Line(8, "reply e40006ec0000000000100000494e4954"),
         ],
-        ..ROW
+        ..REPLAY
     },
     // The sixth minute comes 3 ms late: the answer ten seconds after it follows the rate of the counter.
     Row {
         name: "a_reply_follows_the_rate",
-        run: Run {
-            files: &[File {
-                text: &[
-                    FOUR,
-                    AT_243,
-                    FIFTH,
-                    Piece::Asks(AT_303),
-                    Piece::Marks(LATE),
-                    Piece::Text("pulse 0 362003000 100000\n"),
-                    Piece::Asks(Asked {
-                        arrived: 372_003_000,
-                        sent: 372_003_000,
-                        ..AT_303
-                    }),
-                ],
-                ..FILE
-            }],
-            ..REPLAY
-        },
+        text: &[
+            FOUR,
+            AT_243,
+            FIFTH,
+            Piece::Asks(AT_303),
+            Piece::Marks(LATE),
+            Piece::Text("pulse 0 362003000 100000\n"),
+            Piece::Asks(Asked {
+                arrived: 372_003_000,
+                sent: 372_003_000,
+                ..AT_303
+            }),
+        ],
         want: &[Want::Ends(LATE_END)],
-        ..ROW
+        ..REPLAY
     },
     // The dispersion is above the bound from the first page on.
     Row {
         name: "a_page_above_its_bound_tells_no_time",
-        run: Run {
-            station: &["bound = 500\n", RADIO],
-            files: &[File {
-                text: &[FOUR, AT_243, FIFTH, Piece::Asks(AT_303)],
-                ..FILE
-            }],
-            ..REPLAY
-        },
+        station: &["bound = 500\n", RADIO],
+        text: &[FOUR, AT_243, FIFTH, Piece::Asks(AT_303)],
         want: &[Want::Ends(HALF_A_SECOND)],
-        ..ROW
+        ..REPLAY
     },
 ];
 
@@ -171,13 +146,13 @@ fn minutes_make_pages(rt: HostRuntime) -> Result<(), Fail> {
     are_met(&rt, &MINUTES)
 }
 
-const REQUESTS: Case<'static> = Case {
+const REQUESTS: Row<'static> = Row {
     name: "",
     words: &WORDS,
     station: &[RADIO],
     text: &[],
     fails: 0,
-    want: &[],
+    want: &[Want::Is(&[])],
     end: Status::Done,
 };
 
@@ -188,8 +163,8 @@ const ASKS: Asked<'static> = Asked {
     ..AT_303
 };
 
-const ASKED: [Case<'static>; 2] = [
-    Case {
+const ASKED: [Row<'static>; 2] = [
+    Row {
         name: "requests_are_answered_or_dropped",
         text: &[
             Piece::Text("request 0 1 1 23\n"),
@@ -206,34 +181,34 @@ const ASKED: [Case<'static>; 2] = [
                 ..ASKS
             }),
         ],
-        want: &[
+        want: &[Want::Is(&[
             "drop short\ndrop version\ndrop mode\n",
             "reply e40006ec0000000000100000494e4954000000000000000011223344556677880000000100000000\
 0000000100000000\n",
             EMPTY_PAGE,
             "status 0\n",
-        ],
+        ])],
         ..REQUESTS
     },
     // 46 bytes after the first.
-    Case {
+    Row {
         name: "a_request_of_47_bytes_is_dropped",
         text: &[
             Piece::Text("request 7 1 1 23"),
             Piece::Times(46, "00"),
             Piece::Text("\n"),
         ],
-        want: &["drop short\n", EMPTY_PAGE, "status 0\n"],
+        want: &[Want::Is(&["drop short\n", EMPTY_PAGE, "status 0\n"])],
         ..REQUESTS
     },
 ];
 
 #[test]
 fn requests_are_answered_or_dropped(rt: HostRuntime) -> Result<(), Fail> {
-    are_told(&rt, &ASKED)
+    are_met(&rt, &ASKED)
 }
 
-const KEYED: Run<'static> = Run {
+const KEYED: Row<'static> = Row {
     station: &[RADIO, KEY],
     ..REPLAY
 };
@@ -253,57 +228,39 @@ const SEALED: &str =
 const SEALS: [Row<'static>; 3] = [
     Row {
         name: "a_reply_of_a_script_is_sealed_as_its_request_is",
-        run: Run {
-            files: &[File {
-                text: &[
-                    HEARD,
-                    Piece::Asks(Asked {
-                        after: &["00000001b408cf70f4de3798e713f31a2a885f12"],
-                        ..AT_303
-                    }),
-                ],
-                ..FILE
-            }],
-            ..KEYED
-        },
+        text: &[
+            HEARD,
+            Piece::Asks(Asked {
+                after: &["00000001b408cf70f4de3798e713f31a2a885f12"],
+                ..AT_303
+            }),
+        ],
         want: &[Want::Whole(5, SEALED)],
-        ..ROW
+        ..KEYED
     },
     Row {
         name: "a_reply_of_a_script_is_sealed_as_its_request_is, with another last byte",
-        run: Run {
-            files: &[File {
-                text: &[
-                    HEARD,
-                    Piece::Asks(Asked {
-                        after: &["00000001b408cf70f4de3798e713f31a2a885f13"],
-                        ..AT_303
-                    }),
-                ],
-                ..FILE
-            }],
-            ..KEYED
-        },
+        text: &[
+            HEARD,
+            Piece::Asks(Asked {
+                after: &["00000001b408cf70f4de3798e713f31a2a885f13"],
+                ..AT_303
+            }),
+        ],
         want: &[Want::Whole(5, REPLIED)],
-        ..ROW
+        ..KEYED
     },
     Row {
         name: "a_reply_of_a_script_is_sealed_as_its_request_is, under another identifier",
-        run: Run {
-            files: &[File {
-                text: &[
-                    HEARD,
-                    Piece::Asks(Asked {
-                        after: &["00000002b408cf70f4de3798e713f31a2a885f12"],
-                        ..AT_303
-                    }),
-                ],
-                ..FILE
-            }],
-            ..KEYED
-        },
+        text: &[
+            HEARD,
+            Piece::Asks(Asked {
+                after: &["00000002b408cf70f4de3798e713f31a2a885f12"],
+                ..AT_303
+            }),
+        ],
         want: &[Want::Whole(5, REPLIED)],
-        ..ROW
+        ..KEYED
     },
 ];
 

@@ -1,7 +1,7 @@
 //! Rows of tables: a run, and what it writes, how it ends and what its links have sent.
 
 use crate::pieces::{Piece, joined};
-use crate::runs::{File, RUN, Run, run};
+use crate::runs::{ROW, Row, run};
 use crate::test_station::CLIENT;
 use feed_link::{Address, Gate, HoldGate, LinkEvent, MemoryLink, MemoryOutside};
 use radio_engine::Status;
@@ -40,42 +40,11 @@ pub const SENT: Sent<'static> = Sent {
     events: None,
 };
 
-/// A row of a table: its name, a run, and what that writes, how it ends, and what the first links have sent, in their order.
-#[derive(Clone, Copy)]
-pub struct Row<'a> {
-    pub name: &'a str,
-    pub run: Run<'a>,
-    pub want: &'a [Want<'a>],
-    pub end: Status,
-    pub sent: &'a [Sent<'a>],
-}
-
-/// A row whose run ends whole.
-pub const ROW: Row<'static> = Row {
-    name: "",
-    run: RUN,
-    want: &[],
-    end: Status::Done,
-    sent: &[],
-};
-
-/// A row of a run over a station file and a file `a`, whose reading of a number fails: its whole text is these texts, one after the other.
-#[derive(Clone, Copy)]
-pub struct Case<'a> {
-    pub name: &'a str,
-    pub words: &'a [&'a str],
-    pub station: &'a [&'a str],
-    pub text: &'a [Piece<'a>],
-    pub fails: u64,
-    pub want: &'a [&'a str],
-    pub end: Status,
-}
-
 /// A run that writes these pieces one by one, and ends so.
 #[derive(Clone, Copy)]
 pub struct Pieces<'a> {
     pub name: &'a str,
-    pub run: Run<'a>,
+    pub run: Row<'a>,
     pub pieces: &'a [&'a str],
     pub end: Status,
 }
@@ -183,7 +152,7 @@ pub fn are_sent(link: &MemoryLink, address: Address, wants: &[&[u8]]) -> bool {
 
 // A row is as it is wanted.
 fn is_met(rt: &HostRuntime, row: &Row<'_>) -> Result<(), Fail> {
-    let ran = run(rt, &row.run)?;
+    let ran = run(rt, row)?;
     for want in row.want {
         fits(rt, row.name, ran.written.as_slice(), want)?;
     }
@@ -201,55 +170,22 @@ pub fn are_met(rt: &HostRuntime, rows: &[Row<'_>]) -> Result<(), Fail> {
     Ok(())
 }
 
-/// A case is as it is wanted.
-pub fn is_told(rt: &HostRuntime, case: &Case<'_>) -> Result<(), Fail> {
-    let files = [File {
-        name: "a",
-        text: case.text,
-        bytes: &[],
-        fails: case.fails,
-    }];
-    let ran = run(
-        rt,
-        &Run {
-            words: case.words,
-            station: case.station,
-            files: &files,
-            ..RUN
-        },
-    )?;
-    let want = joined(rt.alloc(), case.want)?;
-    same_text(rt, case.name, ran.written.as_slice(), want.as_str());
-    same_status(rt, case.name, ran.status, case.end);
-    Ok(())
-}
-
-/// Each case is as it is wanted.
-pub fn are_told(rt: &HostRuntime, cases: &[Case<'_>]) -> Result<(), Fail> {
-    for case in cases {
-        is_told(rt, case)?;
-    }
-    Ok(())
-}
-
 /// A text of the file `a`, and what is written of it.
 #[derive(Clone, Copy)]
-pub struct Told<'a> {
-    pub text: &'a str,
-    pub want: &'a [&'a str],
-}
+pub struct Told<'a>(pub &'a str, pub &'a [&'a str]);
 
-/// Each of these texts is told so, where all else is as in a case.
-pub fn each_is_told(rt: &HostRuntime, case: &Case<'_>, rows: &[Told<'_>]) -> Result<(), Fail> {
-    for row in rows {
-        let text = [Piece::Text(row.text)];
-        is_told(
+/// Each of these texts is told so, where all else is as in a row.
+pub fn are_told(rt: &HostRuntime, row: &Row<'_>, texts: &[Told<'_>]) -> Result<(), Fail> {
+    for Told(told, wanted) in texts {
+        let text = [Piece::Text(told)];
+        let want = [Want::Is(wanted)];
+        is_met(
             rt,
-            &Case {
-                name: row.text,
+            &Row {
+                name: told,
                 text: &text,
-                want: row.want,
-                ..*case
+                want: &want,
+                ..*row
             },
         )?;
     }
@@ -259,16 +195,15 @@ pub fn each_is_told(rt: &HostRuntime, case: &Case<'_>, rows: &[Told<'_>]) -> Res
 /// Each of these arguments asks for no command.
 pub fn are_usage(rt: &HostRuntime, lists: &[&[&str]]) -> Result<(), Fail> {
     for words in lists {
-        is_told(
+        is_met(
             rt,
-            &Case {
+            &Row {
                 name: "usage",
                 words,
                 station: &[""],
-                text: &[],
-                fails: 0,
-                want: &["status 1 usage\n"],
+                want: &[Want::Is(&["status 1 usage\n"])],
                 end: Status::Usage,
+                ..ROW
             },
         )?;
     }
@@ -284,7 +219,7 @@ pub fn stops_at(
 ) -> Result<(), Fail> {
     let ran = run(
         rt,
-        &Run {
+        &Row {
             writing: writing as u64,
             ..row.run
         },
@@ -309,8 +244,8 @@ pub fn stops_at_each_writing(rt: &HostRuntime, row: &Pieces<'_>) -> Result<(), F
 
 /// A run where memory may be refused. What it writes is the whole text, or the status of want of memory alone, or, where the output in memory
 /// found no room for more, a prefix of the text. Where the run wasn't reached nothing is judged.
-pub fn wants_memory(rt: &HostRuntime, judged: &Run<'_>, whole: &str, end: Status) {
-    let Ok(ran) = run(rt, judged) else {
+pub fn wants_memory(rt: &HostRuntime, row: &Row<'_>, whole: &str, end: Status) {
+    let Ok(ran) = run(rt, row) else {
         return;
     };
     let written = ran.written.as_slice();

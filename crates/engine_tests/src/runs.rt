@@ -4,6 +4,7 @@ ghost use Rattle.std.specs.Prelude.{◌≡◌, IfOk, false};
 ghost use Rattle.feed_link.specs.MemoryOutside.{is_gate_out};
 
 use crate::pieces::{Piece, joined, text_of};
+use crate::rows::{Sent, Want};
 use feed_link::{
     Address, FakeOpen, Gate, MemoryLink, MemoryOutside, MemorySink, MemorySource, NamedLog,
     OpenGate, Planned,
@@ -42,28 +43,42 @@ pub struct Wire<'a> {
     pub fails: u64,
 }
 
-/// Arguments, and what is outside: the texts of the station file `s`, the other files, the links in their order. A reading of the station file,
-/// an opening and a writing fail, counted from 1, or 0 for none. With no text there is no station file.
+/// A row of a table: its name; arguments; what is outside; what is written, how it ends, and what the first links have sent, in their order.
+///
+/// Outside are the station file `s` of these texts, or none without a text; a file `a`; other files; and links in their order. The reading of
+/// `s` and of `a`, the opening and the writing of a number fail, counted from 1, or 0 for none.
 #[derive(Clone, Copy)]
-pub struct Run<'a> {
+pub struct Row<'a> {
+    pub name: &'a str,
     pub words: &'a [&'a str],
     pub station: &'a [&'a str],
+    pub reading: u64,
+    pub text: &'a [Piece<'a>],
+    pub fails: u64,
     pub files: &'a [File<'a>],
     pub links: &'a [Wire<'a>],
-    pub reading: u64,
     pub opening: u64,
     pub writing: u64,
+    pub want: &'a [Want<'a>],
+    pub end: Status,
+    pub sent: &'a [Sent<'a>],
 }
 
-/// A run of no arguments, over nothing.
-pub const RUN: Run<'static> = Run {
+/// A run of no arguments, with no station.
+pub const ROW: Row<'static> = Row {
+    name: "",
     words: &[],
     station: &[],
+    reading: 0,
+    text: &[],
+    fails: 0,
     files: &[],
     links: &[],
-    reading: 0,
     opening: 0,
     writing: 0,
+    want: &[],
+    end: Status::Done,
+    sent: &[],
 };
 
 /// What a run wrote, how it ended, and the outside after it.
@@ -78,30 +93,34 @@ fn moment(microseconds: u32) -> Local {
     Local::new(u64::from(microseconds)).unwrap()
 }
 
-fn named(alloc: Global, name: &str, bytes: Vec<u8>, fails: u64) -> Result<NamedLog, AllocError> {
-    let source = MemorySource::new(bytes, vec![in alloc; fails]?);
-    Ok(NamedLog::new(String::from_str(alloc, name)?, source))
-}
-
 fn file_of(alloc: Global, file: &File<'_>) -> Result<NamedLog, AllocError> {
     let text = text_of(alloc, file.text)?;
     let mut bytes = Vec::from_slice(alloc, text.as_str().as_bytes())?;
     bytes.extend_from_slice(file.bytes)?;
-    named(alloc, file.name, bytes, file.fails)
+    let source = MemorySource::new(bytes, vec![in alloc; file.fails]?);
+    Ok(NamedLog::new(String::from_str(alloc, file.name)?, source))
 }
 
-fn station_of(alloc: Global, run: &Run<'_>) -> Result<NamedLog, AllocError> {
-    let text = joined(alloc, run.station)?;
+fn station_of(alloc: Global, row: &Row<'_>) -> Result<NamedLog, AllocError> {
+    let text = joined(alloc, row.station)?;
     let bytes = Vec::from_slice(alloc, text.as_str().as_bytes())?;
-    named(alloc, "s", bytes, run.reading)
+    let source = MemorySource::new(bytes, vec![in alloc; row.reading]?);
+    Ok(NamedLog::new(String::from_str(alloc, "s")?, source))
 }
 
-fn files_of(alloc: Global, run: &Run<'_>) -> Result<Vec<NamedLog>, AllocError> {
+fn files_of(alloc: Global, row: &Row<'_>) -> Result<Vec<NamedLog>, AllocError> {
     let mut logs = Vec::new(alloc);
-    if !run.station.is_empty() {
-        logs.push(station_of(alloc, run)?)?;
+    if !row.station.is_empty() {
+        logs.push(station_of(alloc, row)?)?;
     }
-    for file in run.files {
+    let log = File {
+        name: "a",
+        text: row.text,
+        bytes: &[],
+        fails: row.fails,
+    };
+    logs.push(file_of(alloc, &log)?)?;
+    for file in row.files {
         logs.push(file_of(alloc, file)?)?;
     }
     Ok(logs)
@@ -140,30 +159,30 @@ fn links_of(alloc: Global, wires: &[Wire<'_>]) -> Result<Vec<MemoryLink>, FakeOp
     Ok(links)
 }
 
-/// The outside of a run, with this gate.
+/// The outside of a row, with this gate.
 pub fn outside_of<G: Gate + Drop>(
     alloc: Global,
-    run: &Run<'_>,
+    row: &Row<'_>,
     gate: G,
 ) -> Result<MemoryOutside<G>, FakeOpen>
     ensures { IfOk result (λ outside. is_gate_out outside ≡ false) }
 {
-    let logs = files_of(alloc, run)?;
-    let links = links_of(alloc, run.links)?;
-    let fails = vec![in alloc; run.opening]?;
+    let logs = files_of(alloc, row)?;
+    let links = links_of(alloc, row.links)?;
+    let fails = vec![in alloc; row.opening]?;
     MemoryOutside::new(alloc, logs, links, gate, fails, 12, 100)
 }
 
 /// Runs with this gate.
 pub fn run_with<G: Gate + Drop>(
     rt: &HostRuntime,
-    run: &Run<'_>,
+    row: &Row<'_>,
     gate: G,
 ) -> Result<Ran<G>, FakeOpen> {
     let alloc = rt.alloc();
-    let mut outside = outside_of(alloc, run, gate)?;
-    let mut out = MemorySink::new(alloc, vec![in alloc; run.writing]?);
-    let status = run_over(rt, run.words, &mut outside, &mut out)?;
+    let mut outside = outside_of(alloc, row, gate)?;
+    let mut out = MemorySink::new(alloc, vec![in alloc; row.writing]?);
+    let status = run_over(rt, row.words, &mut outside, &mut out)?;
     Ok(Ran {
         written: out.into_bytes(),
         status,
@@ -172,8 +191,8 @@ pub fn run_with<G: Gate + Drop>(
 }
 
 /// Runs with a gate that holds nobody.
-pub fn run(rt: &HostRuntime, run: &Run<'_>) -> Result<Ran<OpenGate>, FakeOpen> {
-    run_with(rt, run, OpenGate::new())
+pub fn run(rt: &HostRuntime, row: &Row<'_>) -> Result<Ran<OpenGate>, FakeOpen> {
+    run_with(rt, row, OpenGate::new())
 }
 
 /// The receivers of each plan.

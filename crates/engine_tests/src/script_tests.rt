@@ -1,8 +1,8 @@
 //! Tests of `replay` over the fakes: full journals, swaps, leap seconds, bad lines, and stations and words that are refused.
 
 use crate::pieces::{Asked, Frame, Piece, Width};
-use crate::rows::{Case, ROW, Row, Told, Want, are_met, are_told, are_usage, each_is_told};
-use crate::runs::{File, RUN, Run};
+use crate::rows::{Told, Want, are_met, are_told, are_usage};
+use crate::runs::{File, ROW, Row};
 use crate::test_station::{EMPTY_PAGE, FILE, FRAME, KEY, RADIO};
 use radio_engine::Status;
 use std::test::Fail;
@@ -14,21 +14,20 @@ const LIMIT_2: [&str; 7] = ["replay", "--station", "s", "--script", "a", "--limi
 const SERVER: &str = "[[server]]\naddress = \"127.0.0.1\"\nport = 123\n";
 
 // A radio of DCF77, an empty script.
-const REPLAY: Run<'static> = Run {
+const REPLAY: Row<'static> = Row {
     words: &WORDS,
     station: &[RADIO],
-    files: &[FILE],
-    ..RUN
+    ..ROW
 };
 
 // An empty script gives an empty page.
-const REPLAYED: Case<'static> = Case {
+const REPLAYED: Row<'static> = Row {
     name: "",
     words: &WORDS,
     station: &[RADIO],
     text: &[],
     fails: 0,
-    want: &[EMPTY_PAGE, "status 0\n"],
+    want: &[Want::Is(&[EMPTY_PAGE, "status 0\n"])],
     end: Status::Done,
 };
 
@@ -47,14 +46,8 @@ const ANSWER: Piece<'static> = Piece::Text(
 const WORKED: [Row<'static>; 4] = [
     Row {
         name: "a_full_journal_goes_on",
-        run: Run {
-            words: &LIMIT_2,
-            files: &[File {
-                text: &[Piece::Pulses(0, 182_000_000), Piece::Asks(ASKS)],
-                ..FILE
-            }],
-            ..REPLAY
-        },
+        words: &LIMIT_2,
+        text: &[Piece::Pulses(0, 182_000_000), Piece::Asks(ASKS)],
         want: &[
             Want::Begins(
                 "j2 1 0 0 62000000 lone 3976257600\nj2 2 0 0 122000000 verdict 3976257660 0\nreply e40006ec",
@@ -64,62 +57,44 @@ const WORKED: [Row<'static>; 4] = [
             ),
         ],
         end: Status::JournalFull,
-        ..ROW
+        ..REPLAY
     },
     // A bad line comes before it.
     Row {
         name: "a_full_journal_goes_on, to a bad line",
-        run: Run {
-            words: &LIMIT_2,
-            files: &[File {
-                text: &[
-                    Piece::Pulses(0, 182_000_000),
-                    Piece::Asks(ASKS),
-                    Piece::Text("\n"),
-                ],
-                ..FILE
-            }],
-            ..REPLAY
-        },
+        words: &LIMIT_2,
+        text: &[
+            Piece::Pulses(0, 182_000_000),
+            Piece::Asks(ASKS),
+            Piece::Text("\n"),
+        ],
         want: &[Want::Ends(
             "\npage 2 0 0 494e4954 0 122000000 0 0 1048576 0000000000000000 0 0\nstatus 5 script 181\n",
         )],
         end: Status::BadLine,
-        ..ROW
+        ..REPLAY
     },
     Row {
         name: "servers_are_asked",
-        run: Run {
-            station: &[SERVER],
-            files: &[File {
-                text: &[Piece::Text("ask 0 1000000\n"), ANSWER, ANSWER],
-                ..FILE
-            }],
-            ..REPLAY
-        },
+        station: &[SERVER],
+        text: &[Piece::Text("ask 0 1000000\n"), ANSWER, ANSWER],
         want: &[Want::Begins(
             "asked 230006ec0000000000000000000000000000000000000000000000000000000000000000000000008000000100000000\n\
 j2 1 0 0 1010000 sample 17077897383243199545 40802189 8837 2 7f000001 256 512\nj2 2 0 0 1010000 declined 3\n",
         )],
-        ..ROW
+        ..REPLAY
     },
     Row {
         name: "a_swap_loses_its_half_frame",
-        run: Run {
-            files: &[File {
-                text: &[
-                    Piece::Pulses(0, 90_000_000),
-                    Piece::Text("swap 0\n"),
-                    Piece::Pulses(90_000_000, 182_000_000),
-                ],
-                ..FILE
-            }],
-            ..REPLAY
-        },
+        text: &[
+            Piece::Pulses(0, 90_000_000),
+            Piece::Text("swap 0\n"),
+            Piece::Pulses(90_000_000, 182_000_000),
+        ],
         want: &[Want::Begins(
             "j2 1 0 0 62000000 lone 3976257600\nj2 2 0 0 182000000 lone 3976257720\npage 2 ",
         )],
-        ..ROW
+        ..REPLAY
     },
 ];
 
@@ -128,112 +103,91 @@ fn scripts_are_played(rt: HostRuntime) -> Result<(), Fail> {
     are_met(&rt, &WORKED)
 }
 
-const BAD: Case<'static> = Case {
+const BAD: Row<'static> = Row {
     end: Status::BadLine,
     ..REPLAYED
 };
 
 const BAD_LINES: [Told<'static>; 10] = [
-    Told {
-        text: "pulse 1 0 100000\n",
-        want: &[EMPTY_PAGE, "status 5 script 1\n"],
-    },
-    Told {
-        text: "\n",
-        want: &[EMPTY_PAGE, "status 5 script 1\n"],
-    },
-    Told {
-        text: "pulse 0 1 100000\npulse 0 1 100000\n",
-        want: &[EMPTY_PAGE, "status 5 script 2\n"],
-    },
-    Told {
-        text: "pulse 0 1 100000\npulse 0 2 100000",
-        want: &[EMPTY_PAGE, "status 5 script 2\n"],
-    },
-    Told {
-        text: "pulse 0 1 2000001\n",
-        want: &[EMPTY_PAGE, "status 5 script 1\n"],
-    },
-    Told {
-        text: "pulse 0  1 100000\n",
-        want: &[EMPTY_PAGE, "status 5 script 1\n"],
-    },
-    Told {
-        text: "ask 0 1\n",
-        want: &[EMPTY_PAGE, "status 5 script 1\n"],
-    },
-    Told {
-        text: "swap 0\nswap 0\nswap 0\nswap 0\n",
-        want: &[EMPTY_PAGE, "status 5 script 4\n"],
-    },
-    Told {
-        text: "request 8 1 1 23\n",
-        want: &[EMPTY_PAGE, "status 5 script 1\n"],
-    },
-    Told {
-        text: "request 0 2 1 23\n",
-        want: &[EMPTY_PAGE, "status 5 script 1\n"],
-    },
+    Told("pulse 1 0 100000\n", &[EMPTY_PAGE, "status 5 script 1\n"]),
+    Told("\n", &[EMPTY_PAGE, "status 5 script 1\n"]),
+    Told(
+        "pulse 0 1 100000\npulse 0 1 100000\n",
+        &[EMPTY_PAGE, "status 5 script 2\n"],
+    ),
+    Told(
+        "pulse 0 1 100000\npulse 0 2 100000",
+        &[EMPTY_PAGE, "status 5 script 2\n"],
+    ),
+    Told("pulse 0 1 2000001\n", &[EMPTY_PAGE, "status 5 script 1\n"]),
+    Told("pulse 0  1 100000\n", &[EMPTY_PAGE, "status 5 script 1\n"]),
+    Told("ask 0 1\n", &[EMPTY_PAGE, "status 5 script 1\n"]),
+    Told(
+        "swap 0\nswap 0\nswap 0\nswap 0\n",
+        &[EMPTY_PAGE, "status 5 script 4\n"],
+    ),
+    Told("request 8 1 1 23\n", &[EMPTY_PAGE, "status 5 script 1\n"]),
+    Told("request 0 2 1 23\n", &[EMPTY_PAGE, "status 5 script 1\n"]),
 ];
 
 #[test]
 fn a_script_ends_at_its_first_bad_line(rt: HostRuntime) -> Result<(), Fail> {
-    each_is_told(&rt, &BAD, &BAD_LINES)
+    are_told(&rt, &BAD, &BAD_LINES)
 }
 
 // A station with a fault.
-const FAULTY: Case<'static> = Case {
+const FAULTY: Row<'static> = Row {
     name: "a_station_with_a_fault",
     text: &[Piece::Text("swap 0\n")],
     end: Status::Station,
     ..REPLAYED
 };
 
-const FAULTS: [Case<'static>; 8] = [
-    Case {
+const FAULTS: [Row<'static>; 8] = [
+    Row {
         station: &["[[radio]]\nplan = \"jjy\"\nlog = \"log\"\n"],
-        want: &["status 3 station range radio.0.plan\n"],
+        want: &[Want::Is(&["status 3 station range radio.0.plan\n"])],
         ..FAULTY
     },
-    Case {
+    Row {
         station: &["leap = 1\n"],
-        want: &["status 3 station unknown leap\n"],
+        want: &[Want::Is(&["status 3 station unknown leap\n"])],
         ..FAULTY
     },
-    Case {
+    Row {
         station: &["bound = \n"],
-        want: &["status 3 station toml\n"],
+        want: &[Want::Is(&["status 3 station toml\n"])],
         ..FAULTY
     },
-    Case {
+    Row {
         station: &["holdover = 600\n"],
-        want: &["status 3 station unknown holdover\n"],
+        want: &[Want::Is(&["status 3 station unknown holdover\n"])],
         ..FAULTY
     },
-    Case {
+    Row {
         station: &["[[radio]]\nplan = \"dcf\"\n"],
-        want: &["status 3 station missing radio.0.log\n"],
+        want: &[Want::Is(&["status 3 station missing radio.0.log\n"])],
         ..FAULTY
     },
-    Case {
+    Row {
         station: &[
             "link = [{port=1},{port=1},{port=1},{port=1},{port=1},{port=1},{port=1},{port=1},{port=1}]\n",
         ],
-        want: &["status 3 station many link 9\n"],
+        want: &[Want::Is(&["status 3 station many link 9\n"])],
         ..FAULTY
     },
-    Case {
+    Row {
         name: "a_key_that_stands_twice",
         station: &[RADIO, KEY, KEY],
         text: &[],
-        want: &["status 3 station range key.1.id\n"],
+        want: &[Want::Is(&["status 3 station range key.1.id\n"])],
         ..FAULTY
     },
-    Case {
+    Row {
         name: "a_holdover_without_a_value",
         station: &["holdover = \n"],
         text: &[],
-        want: &["status 3 station toml\n"],
+        want: &[Want::Is(&["status 3 station toml\n"])],
         ..FAULTY
     },
 ];
@@ -241,27 +195,21 @@ const FAULTS: [Case<'static>; 8] = [
 // A station that is no UTF-8.
 const NO_TEXT: [Row<'static>; 1] = [Row {
     name: "a_station_with_a_fault, no text",
-    run: Run {
-        station: &[],
-        files: &[
-            File {
-                name: "s",
-                text: &[Piece::Text("bound = ")],
-                bytes: b"\xff\n",
-                fails: 0,
-            },
-            FILE,
-        ],
-        ..REPLAY
-    },
+    station: &[],
+    files: &[File {
+        name: "s",
+        text: &[Piece::Text("bound = ")],
+        bytes: b"\xff\n",
+        fails: 0,
+    }],
     want: &[Want::Is(&["status 3 station toml\n"])],
     end: Status::Station,
-    ..ROW
+    ..REPLAY
 }];
 
 #[test]
 fn a_station_with_a_fault(rt: HostRuntime) -> Result<(), Fail> {
-    are_told(&rt, &FAULTS)?;
+    are_met(&rt, &FAULTS)?;
     are_met(&rt, &NO_TEXT)
 }
 
@@ -269,51 +217,33 @@ fn a_station_with_a_fault(rt: HostRuntime) -> Result<(), Fail> {
 const LONG: [Row<'static>; 3] = [
     Row {
         name: "a_station_of_65536_bytes_is_whole",
-        run: Run {
-            station: &[],
-            files: &[
-                File {
-                    name: "s",
-                    text: &[Piece::Times(65_536, "#")],
-                    ..FILE
-                },
-                FILE,
-            ],
-            ..REPLAY
-        },
+        station: &[],
+        files: &[File {
+            name: "s",
+            text: &[Piece::Times(65_536, "#")],
+            ..FILE
+        }],
         want: &[Want::Is(&[EMPTY_PAGE, "status 0\n"])],
-        ..ROW
+        ..REPLAY
     },
     Row {
         name: "a_station_of_65536_bytes_is_whole, and one more too long",
-        run: Run {
-            station: &[],
-            files: &[
-                File {
-                    name: "s",
-                    text: &[Piece::Times(65_537, "#")],
-                    ..FILE
-                },
-                FILE,
-            ],
-            ..REPLAY
-        },
+        station: &[],
+        files: &[File {
+            name: "s",
+            text: &[Piece::Times(65_537, "#")],
+            ..FILE
+        }],
         want: &[Want::Is(&["status 10 long station\n"])],
         end: Status::TooLong,
-        ..ROW
+        ..REPLAY
     },
     Row {
         name: "a_line_of_4096_bytes_is_bad",
-        run: Run {
-            files: &[File {
-                text: &[Piece::Text("swap 0\n"), Piece::Times(4096, "0")],
-                ..FILE
-            }],
-            ..REPLAY
-        },
+        text: &[Piece::Text("swap 0\n"), Piece::Times(4096, "0")],
         want: &[Want::Is(&[EMPTY_PAGE, "status 5 script 2\n"])],
         end: Status::BadLine,
-        ..ROW
+        ..REPLAY
     },
 ];
 
@@ -330,29 +260,29 @@ const USAGE: [&[&str]; 4] = [
 ];
 
 // Valid words, and a log under that name.
-const VALID: [Case<'static>; 1] = [Case {
+const VALID: [Row<'static>; 1] = [Row {
     name: "words_of_other_commands_are_usage",
     words: &["decode", "--plan=dcf", "--log=a"],
-    want: &["status 0\n"],
+    want: &[Want::Is(&["status 0\n"])],
     ..REPLAYED
 }];
 
 #[test]
 fn words_of_other_commands_are_usage(rt: HostRuntime) -> Result<(), Fail> {
     are_usage(&rt, &USAGE)?;
-    are_told(&rt, &VALID)
+    are_met(&rt, &VALID)
 }
 
 // The answers are those of `a_full_journal_goes_on`, 1.4 ms earlier.
-const DELAYED: Case<'static> = Case {
+const DELAYED: Row<'static> = Row {
     name: "a_delay_is_taken_off",
     station: &[RADIO, "delay = 1400\n"],
-    want: &[
+    want: &[Want::Is(&[
         "j2 1 0 0 61998600 lone 3976257600\n",
         "j2 2 0 0 121998600 verdict 3976257660 0\n",
         "page 2 0 0 494e4954 0 121998600 0 0 1048576 0000000000000000 0 0\n",
         "status 0\n",
-    ],
+    ])],
     ..REPLAYED
 };
 
@@ -396,18 +326,18 @@ const MSF_NOON_1: Frame<'static> = Frame {
     ..MSF_NOON
 };
 
-const SWAPS: [Case<'static>; 3] = [
-    Case {
+const SWAPS: [Row<'static>; 3] = [
+    Row {
         text: &[Piece::Pulses(0, 122_000_000)],
         ..DELAYED
     },
     // A radio that is swapped in has the delay too.
-    Case {
+    Row {
         text: &[Piece::Text("swap 0\n"), Piece::Pulses(0, 122_000_000)],
         ..DELAYED
     },
     // The pulse after the swap is received by the new receiver alone, and the one before it by the old one alone.
-    Case {
+    Row {
         name: "a_swap_of_msf_loses_its_frame",
         station: &["[[radio]]\nplan = \"msf\"\nlog = \"log\"\n"],
         text: &[
@@ -420,16 +350,16 @@ const SWAPS: [Case<'static>; 3] = [
             Piece::Marks(MSF_NOON_1),
             Piece::Text("pulse 0 122000000 500000\npulse 0 123000000 100000\n"),
         ],
-        want: &[
+        want: &[Want::Is(&[
             "j2 1 0 0 122000000 lone 3976257660\n",
             "page 1 0 0 494e4954 0 122000000 0 0 1048576 0000000000000000 0 0\n",
             "status 0\n",
-        ],
+        ])],
         ..REPLAYED
     },
 ];
 
 #[test]
 fn a_radio_is_swapped(rt: HostRuntime) -> Result<(), Fail> {
-    are_told(&rt, &SWAPS)
+    are_met(&rt, &SWAPS)
 }

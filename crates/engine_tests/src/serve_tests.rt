@@ -2,8 +2,8 @@
 //! answer that was worked by hand from RFC 5905, section 8, and clients whose answers are those of section 7.3 there.
 
 use crate::pieces::Piece;
-use crate::rows::{ROW, Row, SENT, Sent, Want, are_met};
-use crate::runs::{Datagram, File, RUN, Run, Wire};
+use crate::rows::{SENT, Sent, Want, are_met};
+use crate::runs::{Datagram, File, ROW, Row, Wire};
 use crate::test_station::{
     ANSWERS, ASKS, EMPTY_PAGE, FILE, LINK, LONE, LONE_PAGE, NO_TIME, RADIO, SECOND_LINK,
     SECOND_RADIO, SERVER, SERVER_3, TWO_MINUTES, VERDICT, VERDICT_PAGE, WIRE,
@@ -20,9 +20,9 @@ const AFTER_4: [&str; 7] = ["serve", "--station", "s", "--during", "0", "--after
 
 const LIMIT_1: [&str; 7] = ["serve", "--station", "s", "--during", "0", "--limit", "1"];
 
-const SERVE: Run<'static> = Run {
+const SERVE: Row<'static> = Row {
     words: &WORDS,
-    ..RUN
+    ..ROW
 };
 
 const SAMPLE: &str =
@@ -60,76 +60,64 @@ const ASKED_5: Wire<'static> = Wire {
 const POLLED: [Row<'static>; 4] = [
     Row {
         name: "a_server_is_polled",
-        run: Run {
-            station: &[SERVER],
-            links: &[Wire {
-                hears: &FROM_A_STRANGER,
-                ..ANSWERED
-            }],
-            ..SERVE
-        },
+        station: &[SERVER],
+        links: &[Wire {
+            hears: &FROM_A_STRANGER,
+            ..ANSWERED
+        }],
         want: &[Want::Is(&[
             "j2 1 0 0 1010000 declined 1\n",
             "j2 2 0 0 1010000 sample 17077897383243199545 40802189 8837 2 7f000001 256 512\n",
             "page 2 0 0 494e4954 0 1010000 0 0 1048576 0000000000000000 0 0\n",
             "status 0\n",
         ])],
-        ..ROW
+        ..SERVE
     },
     // The link's third call, its second sending, fails.
     Row {
         name: "a_poller_ends_by_a_fault",
-        run: Run {
-            station: &[SERVER_3],
-            links: &[Wire {
-                fails: 3,
-                ..ANSWERED
-            }],
-            ..SERVE
-        },
+        station: &[SERVER_3],
+        links: &[Wire {
+            fails: 3,
+            ..ANSWERED
+        }],
         want: &[Want::Is(&[SAMPLE, SAMPLE_PAGE, "status 7 feed 0\n"])],
         end: Status::LinkFault,
-        ..ROW
+        ..SERVE
     },
     // Three polls are to be made, and the link ends in the second: that is no fault.
     Row {
         name: "a_server_whose_link_ends_is_no_fault",
-        run: Run {
-            station: &[SERVER_3],
-            links: &[Wire {
-                hears: &[ANSWERS],
-                ..ANSWERED
-            }],
-            ..SERVE
-        },
+        station: &[SERVER_3],
+        links: &[Wire {
+            hears: &[ANSWERS],
+            ..ANSWERED
+        }],
         want: &[Want::Is(&[SAMPLE, SAMPLE_PAGE, "status 0\n"])],
-        ..ROW
+        ..SERVE
     },
     // The server can't be asked, and nothing can be received on the link: of two with one number the server is reported, since it is a feed.
     Row {
         name: "a_server_at_fault_is_told_before_a_link",
-        run: Run {
-            words: &DURING_2,
-            station: &[LINK, SERVER],
-            links: &[
-                Wire {
-                    fails: 1,
-                    ..ANSWERED
-                },
-                Wire {
-                    fails: 1,
-                    ..ASKED_5
-                },
-            ],
-            ..SERVE
-        },
+        words: &DURING_2,
+        station: &[LINK, SERVER],
+        links: &[
+            Wire {
+                fails: 1,
+                ..ANSWERED
+            },
+            Wire {
+                fails: 1,
+                ..ASKED_5
+            },
+        ],
         want: &[Want::Is(&[
             "link 0 answered 0 dropped 0 again 0 kissed 0 unkept 0 end linkfault\n",
             EMPTY_PAGE,
             "status 7 feed 0\n",
         ])],
         end: Status::LinkFault,
-        ..ROW
+        ..SERVE
     },
 ];
 
@@ -141,15 +129,12 @@ fn servers_are_polled(rt: HostRuntime) -> Result<(), Fail> {
 const LINKED: [Row<'static>; 5] = [
     Row {
         name: "a_link_that_ends_is_told",
-        run: Run {
-            words: &DURING_2,
-            station: &[LINK],
-            links: &[Wire {
-                hears: &[ASKS],
-                ..WIRE
-            }],
-            ..SERVE
-        },
+        words: &DURING_2,
+        station: &[LINK],
+        links: &[Wire {
+            hears: &[ASKS],
+            ..WIRE
+        }],
         want: &[Want::Is(&[
             "link 0 answered 1 dropped 0 again 0 kissed 0 unkept 0 end linkend\n",
             EMPTY_PAGE,
@@ -160,21 +145,18 @@ const LINKED: [Row<'static>; 5] = [
             last: &NO_TIME,
             ..SENT
         }],
-        ..ROW
+        ..SERVE
     },
     // Each of the first three sendings is the second call of its turn.
     Row {
         name: "the_third_sending_fails",
-        run: Run {
-            words: &AFTER_4,
-            station: &[RADIO, LINK],
-            files: &[TWO_MINUTES],
-            links: &[Wire {
-                fails: 6,
-                ..ASKED_5
-            }],
-            ..SERVE
-        },
+        words: &AFTER_4,
+        station: &[RADIO, LINK],
+        text: &TWO_MINUTES,
+        links: &[Wire {
+            fails: 6,
+            ..ASKED_5
+        }],
         want: &[Want::Is(&[
             LONE,
             VERDICT,
@@ -187,45 +169,39 @@ const LINKED: [Row<'static>; 5] = [
             count: Some(2),
             ..SENT
         }],
-        ..ROW
+        ..SERVE
     },
     Row {
         name: "a_hearing_fails",
-        run: Run {
-            words: &DURING_2,
-            station: &[LINK],
-            links: &[Wire {
-                fails: 3,
-                ..ASKED_5
-            }],
-            ..SERVE
-        },
+        words: &DURING_2,
+        station: &[LINK],
+        links: &[Wire {
+            fails: 3,
+            ..ASKED_5
+        }],
         want: &[Want::Is(&[
             "link 0 answered 1 dropped 0 again 0 kissed 0 unkept 0 end linkfault\n",
             EMPTY_PAGE,
             "status 7 link 0\n",
         ])],
         end: Status::LinkFault,
-        ..ROW
+        ..SERVE
     },
     // Of two with one number the first is reported; the rest of the station goes on.
     Row {
         name: "the_first_of_two_is_told",
-        run: Run {
-            words: &DURING_2,
-            station: &[LINK, SECOND_LINK],
-            links: &[
-                Wire {
-                    fails: 3,
-                    ..ASKED_5
-                },
-                Wire {
-                    fails: 1,
-                    ..ASKED_5
-                },
-            ],
-            ..SERVE
-        },
+        words: &DURING_2,
+        station: &[LINK, SECOND_LINK],
+        links: &[
+            Wire {
+                fails: 3,
+                ..ASKED_5
+            },
+            Wire {
+                fails: 1,
+                ..ASKED_5
+            },
+        ],
         want: &[Want::Is(&[
             "link 0 answered 1 dropped 0 again 0 kissed 0 unkept 0 end linkfault\n",
             "link 1 answered 0 dropped 0 again 0 kissed 0 unkept 0 end linkfault\n",
@@ -233,25 +209,22 @@ const LINKED: [Row<'static>; 5] = [
             "status 7 link 0\n",
         ])],
         end: Status::LinkFault,
-        ..ROW
+        ..SERVE
     },
     Row {
         name: "the_first_of_two_is_told, where the first is at no fault",
-        run: Run {
-            words: &DURING_2,
-            station: &[LINK, SECOND_LINK],
-            links: &[
-                Wire {
-                    hears: &[ASKS, ASKS],
-                    ..WIRE
-                },
-                Wire {
-                    fails: 3,
-                    ..ASKED_5
-                },
-            ],
-            ..SERVE
-        },
+        words: &DURING_2,
+        station: &[LINK, SECOND_LINK],
+        links: &[
+            Wire {
+                hears: &[ASKS, ASKS],
+                ..WIRE
+            },
+            Wire {
+                fails: 3,
+                ..ASKED_5
+            },
+        ],
         want: &[Want::Is(&[
             "link 0 answered 2 dropped 0 again 0 kissed 0 unkept 0 end count\n",
             "link 1 answered 1 dropped 0 again 0 kissed 0 unkept 0 end linkfault\n",
@@ -259,7 +232,7 @@ const LINKED: [Row<'static>; 5] = [
             "status 7 link 1\n",
         ])],
         end: Status::LinkFault,
-        ..ROW
+        ..SERVE
     },
 ];
 
@@ -271,70 +244,50 @@ fn links_are_served(rt: HostRuntime) -> Result<(), Fail> {
 const HEARD: [Row<'static>; 9] = [
     Row {
         name: "a_station_with_nothing_in_it_is_served",
-        run: Run {
-            station: &[""],
-            ..SERVE
-        },
+        station: &[""],
         want: &[Want::Is(&[EMPTY_PAGE, "status 0\n"])],
-        ..ROW
+        ..SERVE
     },
     // The lines of 1,024 bytes are read, among them that of 62 s.
     Row {
         name: "a_read_fails_in_the_middle",
-        run: Run {
-            station: &[RADIO],
-            files: &[File {
-                fails: 3,
-                ..TWO_MINUTES
-            }],
-            ..SERVE
-        },
+        station: &[RADIO],
+        text: &TWO_MINUTES,
+        fails: 3,
         want: &[Want::Is(&[LONE, LONE_PAGE, "status 4 read feed 0\n"])],
         end: Status::ReadFault,
-        ..ROW
+        ..SERVE
     },
     // A closing mark is dated as much earlier as the signal was on its way.
     Row {
         name: "a_radio_is_heard_with_its_delay",
-        run: Run {
-            station: &[
-                "[[radio]]\nplan = \"msf\"\nlog = \"a\"\n",
-                SECOND_RADIO,
-                "delay = 1400\n",
-            ],
-            files: &[
-                FILE,
-                File {
-                    name: "b",
-                    ..TWO_MINUTES
-                },
-            ],
-            ..SERVE
-        },
+        station: &[
+            "[[radio]]\nplan = \"msf\"\nlog = \"a\"\n",
+            SECOND_RADIO,
+            "delay = 1400\n",
+        ],
+        files: &[File {
+            name: "b",
+            text: &TWO_MINUTES,
+            ..FILE
+        }],
         want: &[Want::Is(&[
             "j2 1 0 1 61998600 lone 3976257600\n",
             "j2 2 0 1 121998600 verdict 3976257660 0\n",
             "page 2 0 0 494e4954 0 121998600 0 0 1048576 0000000000000000 0 0\n",
             "status 0\n",
         ])],
-        ..ROW
+        ..SERVE
     },
     Row {
         name: "a_bad_line_ends_its_feed_alone",
-        run: Run {
-            station: &[RADIO, SECOND_RADIO],
-            files: &[
-                File {
-                    text: &[Piece::Text("1000000 100000\n900000 100000\n")],
-                    ..FILE
-                },
-                File {
-                    name: "b",
-                    ..TWO_MINUTES
-                },
-            ],
-            ..SERVE
-        },
+        station: &[RADIO, SECOND_RADIO],
+        text: &[Piece::Text("1000000 100000\n900000 100000\n")],
+        files: &[File {
+            name: "b",
+            text: &TWO_MINUTES,
+            ..FILE
+        }],
         want: &[Want::Is(&[
             "j2 1 0 1 62000000 lone 3976257600\n",
             "j2 2 0 1 122000000 verdict 3976257660 0\n",
@@ -342,77 +295,53 @@ const HEARD: [Row<'static>; 9] = [
             "status 5 line 0 2\n",
         ])],
         end: Status::BadLine,
-        ..ROW
+        ..SERVE
     },
     Row {
         name: "a_full_journal_is_told",
-        run: Run {
-            words: &LIMIT_1,
-            station: &[RADIO],
-            files: &[TWO_MINUTES],
-            ..SERVE
-        },
+        words: &LIMIT_1,
+        station: &[RADIO],
+        text: &TWO_MINUTES,
         want: &[Want::Is(&[LONE, LONE_PAGE, "status 6 full 1\n"])],
         end: Status::JournalFull,
-        ..ROW
+        ..SERVE
     },
     // A bad line has a lesser number than a full journal, and a read that failed than a bad line, on whatever feed.
     Row {
         name: "the_least_number_is_told",
-        run: Run {
-            words: &LIMIT_1,
-            station: &[RADIO],
-            files: &[File {
-                text: &[Piece::Minutes(2), Piece::Text("bad\n")],
-                ..FILE
-            }],
-            ..SERVE
-        },
+        words: &LIMIT_1,
+        station: &[RADIO],
+        text: &[Piece::Minutes(2), Piece::Text("bad\n")],
         want: &[Want::Is(&[LONE, LONE_PAGE, "status 5 line 0 121\n"])],
         end: Status::BadLine,
-        ..ROW
+        ..SERVE
     },
     Row {
         name: "the_least_number_is_told, of two feeds",
-        run: Run {
-            station: &[RADIO, SECOND_RADIO],
-            files: &[
-                File {
-                    text: &[Piece::Text("bad\n")],
-                    ..FILE
-                },
-                File {
-                    name: "b",
-                    fails: 1,
-                    ..FILE
-                },
-            ],
-            ..SERVE
-        },
+        station: &[RADIO, SECOND_RADIO],
+        text: &[Piece::Text("bad\n")],
+        files: &[File {
+            name: "b",
+            fails: 1,
+            ..FILE
+        }],
         want: &[Want::Is(&[EMPTY_PAGE, "status 4 read feed 1\n"])],
         end: Status::ReadFault,
-        ..ROW
+        ..SERVE
     },
     Row {
         name: "one_log_of_two_radios_is_opened_once",
-        run: Run {
-            station: &[RADIO, RADIO],
-            files: &[FILE],
-            ..SERVE
-        },
+        station: &[RADIO, RADIO],
         want: &[Want::Is(&["status 2 open feed 1\n"])],
         end: Status::OpenFault,
-        ..ROW
+        ..SERVE
     },
     Row {
         name: "a_faulty_station_is_not_served",
-        run: Run {
-            station: &["holdover = 600\n"],
-            ..SERVE
-        },
+        station: &["holdover = 600\n"],
         want: &[Want::Is(&["status 3 station unknown holdover\n"])],
         end: Status::Station,
-        ..ROW
+        ..SERVE
     },
 ];
 

@@ -97,16 +97,10 @@ pub const FILE: File<'static> = File {
 };
 
 /// The log of two of the minutes.
-pub const TWO_MINUTES: File<'static> = File {
-    text: &[Piece::Minutes(2)],
-    ..FILE
-};
+pub const TWO_MINUTES: [Piece<'static>; 1] = [Piece::Minutes(2)];
 
 /// The log of five of the minutes.
-pub const FIVE_MINUTES: File<'static> = File {
-    text: &[Piece::Minutes(5)],
-    ..FILE
-};
+pub const FIVE_MINUTES: [Piece<'static>; 1] = [Piece::Minutes(5)];
 
 /// A frame of 59 marks that begins at 2 s, in a log of DCF77. Each bit is Zero.
 pub const FRAME: Frame<'static> = Frame {

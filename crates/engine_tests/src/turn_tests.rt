@@ -2,10 +2,10 @@
 
 use crate::pieces::Piece;
 use crate::rows::{
-    Pieces, ROW, Row, SENT, Sent, Want, are_met, are_sent, fits, has_held, have_sent, holds,
-    same_status, stops_at_each_writing,
+    Pieces, SENT, Sent, Want, are_met, are_sent, fits, has_held, have_sent, holds, same_status,
+    stops_at_each_writing,
 };
-use crate::runs::{Datagram, File, RUN, Ran, Run, Wire, run, run_with};
+use crate::runs::{Datagram, File, ROW, Ran, Row, Wire, run, run_with};
 use crate::test_station::{
     ANSWERS, ASKS, CLIENT, FILE, FIVE_MINUTES, KEY, LINK, LONE, RADIO, REPLY, SECOND_LINK,
     SECOND_RADIO, TIME, TWO_MINUTES, VERDICT, VERDICT_PAGE, WIRE,
@@ -25,17 +25,14 @@ const ASKED_5: Wire<'static> = Wire {
 };
 
 // A server, a link and a radio: the feeds of a station are numbered in order, the radios first.
-const ALL: Run<'static> = Run {
+const ALL: Row<'static> = Row {
     words: &["serve", "--station", "s"],
     station: &[
         LINK,
         "[[server]]\naddress = \"127.0.0.1\"\nport = 123\n",
         RADIO,
     ],
-    files: &[File {
-        text: &[Piece::Text("bad\n")],
-        ..FILE
-    }],
+    text: &[Piece::Text("bad\n")],
     links: &[
         Wire {
             moment: 1_000_000,
@@ -47,7 +44,7 @@ const ALL: Run<'static> = Run {
             ..WIRE
         },
     ],
-    ..RUN
+    ..ROW
 };
 
 // Nothing was received or sent on either link.
@@ -60,27 +57,27 @@ const UNOPENED: Row<'static> = Row {
     name: "each_opening_may_fail",
     end: Status::OpenFault,
     sent: &UNUSED,
-    ..ROW
+    ..ALL
 };
 
 const OPENINGS: [Row<'static>; 4] = [
     Row {
-        run: Run { opening: 1, ..ALL },
+        opening: 1,
         want: &[Want::Is(&["status 2 open station\n"])],
         ..UNOPENED
     },
     Row {
-        run: Run { opening: 2, ..ALL },
+        opening: 2,
         want: &[Want::Is(&["status 2 open feed 0\n"])],
         ..UNOPENED
     },
     Row {
-        run: Run { opening: 3, ..ALL },
+        opening: 3,
         want: &[Want::Is(&["status 2 open feed 1\n"])],
         ..UNOPENED
     },
     Row {
-        run: Run { opening: 4, ..ALL },
+        opening: 4,
         want: &[Want::Is(&["status 2 open link 0\n"])],
         ..UNOPENED
     },
@@ -95,12 +92,12 @@ fn each_opening_may_fail(rt: HostRuntime) -> Result<(), Fail> {
 // The lines of the journal, of the link, of the page, and the status line, each of which may not be taken.
 const WRITINGS: Pieces<'static> = Pieces {
     name: "each_writing_may_fail",
-    run: Run {
+    run: Row {
         words: &AFTER_4,
         station: &[RADIO, LINK],
-        files: &[TWO_MINUTES],
+        text: &TWO_MINUTES,
         links: &[ASKED_5],
-        ..RUN
+        ..ROW
     },
     pieces: &[
         LONE,
@@ -118,7 +115,7 @@ fn each_writing_may_fail(rt: HostRuntime) -> Result<(), Fail> {
 }
 
 // Three radios that receive alike and two links.
-const THREE_RADIOS: Run<'static> = Run {
+const THREE_RADIOS: Row<'static> = Row {
     words: &FOUR_AND_ONE,
     station: &[
         RADIO,
@@ -127,19 +124,21 @@ const THREE_RADIOS: Run<'static> = Run {
         LINK,
         SECOND_LINK,
     ],
+    text: &FIVE_MINUTES,
     files: &[
-        FIVE_MINUTES,
         File {
             name: "b",
-            ..FIVE_MINUTES
+            text: &FIVE_MINUTES,
+            ..FILE
         },
         File {
             name: "c",
-            ..FIVE_MINUTES
+            text: &FIVE_MINUTES,
+            ..FILE
         },
     ],
     links: &[ASKED_5, ASKED_5],
-    ..RUN
+    ..ROW
 };
 
 // The end of what is written: the page of five minutes that three radios have received alike.
@@ -220,10 +219,10 @@ const SEALED: [u8; 68] = [
     0x29, 0x23, 0x62, 0x77,
 ];
 
-const KEYED: Run<'static> = Run {
+const KEYED: Row<'static> = Row {
     words: &AFTER_4,
     station: &[RADIO, LINK, KEY],
-    files: &[FIVE_MINUTES],
+    text: &FIVE_MINUTES,
     links: &[Wire {
         hears: &[
             Datagram {
@@ -238,7 +237,7 @@ const KEYED: Run<'static> = Run {
         ],
         ..WIRE
     }],
-    ..RUN
+    ..ROW
 };
 
 // The first request is authentic by the station's key. The second has a wrong last byte, and the third has no digest.
