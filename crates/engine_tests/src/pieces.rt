@@ -134,16 +134,16 @@ fn add_request(text: &mut String, asked: &Asked<'_>) -> Result<(), AllocError> {
 }
 
 fn add(text: &mut String, piece: &Piece<'_>) -> Result<(), AllocError> {
-    match piece {
+    match *piece {
         Piece::Text(part) => text.push_str(part),
-        Piece::Times(times, part) => add_times(text, *times, part),
+        Piece::Times(times, part) => add_times(text, times, part),
         Piece::Minutes(count) => {
             let closing = count.saturating_mul(60_000_000).saturating_add(2_000_000);
             add_minutes(text, "", 0, closing)
         }
-        Piece::Pulses(after, to) => add_minutes(text, "pulse 0 ", *after, *to),
-        Piece::Marks(frame) => add_marks(text, frame),
-        Piece::Asks(asked) => add_request(text, asked),
+        Piece::Pulses(after, to) => add_minutes(text, "pulse 0 ", after, to),
+        Piece::Marks(frame) => add_marks(text, &frame),
+        Piece::Asks(asked) => add_request(text, &asked),
     }
 }
 

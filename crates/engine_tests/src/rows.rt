@@ -83,15 +83,15 @@ fn is_line(written: &[u8], number: usize, text: &str) -> bool {
 
 /// The text is as it is wanted.
 pub fn fits(rt: &HostRuntime, name: &str, written: &[u8], want: &Want<'_>) -> Result<(), Fail> {
-    match want {
+    match *want {
         Want::Is(texts) => {
             let whole = joined(rt.alloc(), texts)?;
             same_text(rt, name, written, whole.as_str());
         }
         Want::Begins(text) => holds(rt, name, written.starts_with(text.as_bytes())),
         Want::Ends(text) => holds(rt, name, written.ends_with(text.as_bytes())),
-        Want::Line(number, text) => holds(rt, name, has_line(written, *number, text)),
-        Want::Whole(number, text) => holds(rt, name, is_line(written, *number, text)),
+        Want::Line(number, text) => holds(rt, name, has_line(written, number, text)),
+        Want::Whole(number, text) => holds(rt, name, is_line(written, number, text)),
     }
     Ok(())
 }
@@ -176,7 +176,8 @@ pub struct Told<'a>(pub &'a str, pub &'a [&'a str]);
 
 /// Each of these texts is told so, where all else is as in a row.
 pub fn are_told(rt: &HostRuntime, row: &Row<'_>, texts: &[Told<'_>]) -> Result<(), Fail> {
-    for Told(told, wanted) in texts {
+    for told in texts {
+        let Told(told, wanted) = *told;
         let text = [Piece::Text(told)];
         let want = [Want::Is(wanted)];
         is_met(
@@ -199,7 +200,7 @@ pub fn are_usage(rt: &HostRuntime, lists: &[&[&str]]) -> Result<(), Fail> {
             rt,
             &Row {
                 name: "usage",
-                words,
+                words: *words,
                 station: &[""],
                 want: &[Want::Is(&["status 1 usage\n"])],
                 end: Status::Usage,
