@@ -8,9 +8,11 @@ use crate::stations::{CASE, Case, Done, LINK, RADIO, SECOND_LINK, SERVER, left_h
 use feed_link::{Gate, HoldGate};
 use feed_workers::{PollEnd, PollWork};
 use station_crew::Budget;
+use std::alloc::Global;
+use std::process::Abort;
 use std::sync::{Mutex, Wait};
 use std::test::Fail;
-use std::thread::sleep;
+use std::thread::{Threads, sleep};
 use std::time::Duration;
 use verdict_journal::Journal;
 
@@ -31,7 +33,7 @@ const TWO_LINKS: Case<'static> = Case {
 };
 
 // Both links have answered once.
-fn have_answered(rt: &HostRuntime, ended: &Done) {
+fn have_answered(rt: &impl Abort, ended: &Done) {
     for link in &ended.links {
         let later = link.second.map_or(0, |second| second.answered);
         holds(
@@ -43,10 +45,17 @@ fn have_answered(rt: &HostRuntime, ended: &Done) {
 }
 
 // The requests come in the first phase or in the second. One responder has received, and goes on once the other has answered.
-fn answers_after(rt: &HostRuntime, budget: Budget, held: u32, other: u32) -> Result<(), Fail> {
+fn answers_after<R: Abort + Threads + Wait + Sync>(
+    rt: &R,
+    alloc: Global,
+    budget: Budget,
+    held: u32,
+    other: u32,
+) -> Result<(), Fail> {
     let gate = HoldGate::new(held, 2, other, 3, 1, TURNS);
     let ended = left_held(
         rt,
+        alloc,
         &Case {
             budget,
             ..TWO_LINKS
@@ -70,16 +79,16 @@ const SECOND_PHASE: Budget = Budget {
 
 #[test]
 fn either_link_answers_while_the_other_waits(rt: HostRuntime) -> Result<(), Fail> {
-    answers_after(&rt, FIRST_PHASE, 100, 101)?;
-    answers_after(&rt, FIRST_PHASE, 101, 100)
+    answers_after(&rt, rt.alloc(), FIRST_PHASE, 100, 101)?;
+    answers_after(&rt, rt.alloc(), FIRST_PHASE, 101, 100)
 }
 
 #[test]
 fn either_link_answers_in_the_second_phase_while_the_other_waits(
     rt: HostRuntime,
 ) -> Result<(), Fail> {
-    answers_after(&rt, SECOND_PHASE, 100, 101)?;
-    answers_after(&rt, SECOND_PHASE, 101, 100)
+    answers_after(&rt, rt.alloc(), SECOND_PHASE, 100, 101)?;
+    answers_after(&rt, rt.alloc(), SECOND_PHASE, 101, 100)
 }
 
 const LEAP_FILE: &str = "leap_file = \"leap\"\n";
@@ -115,15 +124,16 @@ fn place_of(journal: &Journal, feed: u32) -> Option<usize> {
 }
 
 // Each feed keeps one entry. One feed comes to its entry, and keeps it once another has kept its own.
-fn keeps_after(
-    rt: &HostRuntime,
+fn keeps_after<R: Abort + Threads + Wait + Sync>(
+    rt: &R,
+    alloc: Global,
     case: &Case<'_>,
     entries: usize,
     held: u32,
     other: u32,
 ) -> Result<(), Fail> {
     let gate = HoldGate::new(held, 1, other, 4, 1, TURNS);
-    let ended = left_held(rt, case, &gate)?;
+    let ended = left_held(rt, alloc, case, &gate)?;
     has_held_once(rt, &gate);
     has_entries(rt, &ended, entries);
     have_heard(rt, &ended, &[WHOLE]);
@@ -139,21 +149,21 @@ fn keeps_after(
 fn of_sixteen_feeds_the_first_and_the_last_wait_for_one_another(
     rt: HostRuntime,
 ) -> Result<(), Fail> {
-    keeps_after(&rt, &SIXTEEN, 16, 0, 15)?;
-    keeps_after(&rt, &SIXTEEN, 16, 15, 0)
+    keeps_after(&rt, rt.alloc(), &SIXTEEN, 16, 0, 15)?;
+    keeps_after(&rt, rt.alloc(), &SIXTEEN, 16, 15, 0)
 }
 
 // Feed 0 is the radio, feed 1 the server, feed 2 the leap second file.
 #[test]
 fn a_radio_and_a_server_wait_for_one_another(rt: HostRuntime) -> Result<(), Fail> {
-    keeps_after(&rt, &THREE, 3, 0, 1)?;
-    keeps_after(&rt, &THREE, 3, 1, 0)
+    keeps_after(&rt, rt.alloc(), &THREE, 3, 0, 1)?;
+    keeps_after(&rt, rt.alloc(), &THREE, 3, 1, 0)
 }
 
 #[test]
 fn a_server_and_a_leap_second_file_wait_for_one_another(rt: HostRuntime) -> Result<(), Fail> {
-    keeps_after(&rt, &THREE, 3, 1, 2)?;
-    keeps_after(&rt, &THREE, 3, 2, 1)
+    keeps_after(&rt, rt.alloc(), &THREE, 3, 1, 2)?;
+    keeps_after(&rt, rt.alloc(), &THREE, 3, 2, 1)
 }
 
 // Which feeds have come to their first entry, a bit for each, and whether one has waited for longer than it was to.
@@ -225,16 +235,20 @@ impl Gate for MeetGate<'_> {
 }
 
 // Sixteen feeds of a station are at their entries at once.
-fn meet(rt: &HostRuntime, case: &Case<'_>) -> Result<Done, Fail> {
-    let gate = MeetGate::new(rt, 16);
-    let ended = left_with(rt, case, &gate)?;
+fn meet<R: Abort + Threads + Wait + Sync>(
+    rt: &R,
+    alloc: Global,
+    case: &Case<'_>,
+    gate: &MeetGate<'_>,
+) -> Result<Done, Fail> {
+    let ended = left_with(rt, alloc, case, gate)?;
     holds(rt, "all have met", gate.has_met(rt));
     Ok(ended)
 }
 
 #[test]
 fn sixteen_feeds_of_all_kinds_meet(rt: HostRuntime) -> Result<(), Fail> {
-    let ended = meet(&rt, &SIXTEEN)?;
+    let ended = meet(&rt, rt.alloc(), &SIXTEEN, &MeetGate::new(&rt, 16))?;
     has_entries(&rt, &ended, 16);
     Ok(())
 }
@@ -252,7 +266,7 @@ const ROUND: PollWork = PollWork {
 
 #[test]
 fn sixteen_servers_meet(rt: HostRuntime) -> Result<(), Fail> {
-    let ended = meet(&rt, &SERVERS)?;
+    let ended = meet(&rt, rt.alloc(), &SERVERS, &MeetGate::new(&rt, 16))?;
     have_polled(&rt, &ended, &[ROUND; 16]);
     Ok(())
 }

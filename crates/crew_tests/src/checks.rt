@@ -8,6 +8,8 @@ use journal_entry::{ENTRY_ROOM, write_entry};
 use responder::{End, Served};
 use station_crew::LinkWork;
 use std::alloc::Global;
+use std::process::Abort;
+use std::sync::Wait;
 use std::test::Fail;
 use verdict_journal::Journal;
 
@@ -43,43 +45,43 @@ pub const TWO: Served = Served {
 };
 
 /// This holds.
-pub fn holds(rt: &HostRuntime, name: &str, fact: bool) {
+pub fn holds(rt: &impl Abort, name: &str, fact: bool) {
     assert!(rt; fact, "{name}");
 }
 
 /// The numbers are the same.
-pub fn same_count(rt: &HostRuntime, name: &str, left: usize, right: usize) {
+pub fn same_count(rt: &impl Abort, name: &str, left: usize, right: usize) {
     assert_eq!(rt; left, right, "{name}");
 }
 
 /// The radios have done this.
-pub fn have_heard(rt: &HostRuntime, ended: &Done, want: &[LogWork]) {
+pub fn have_heard(rt: &impl Abort, ended: &Done, want: &[LogWork]) {
     assert_eq!(rt; ended.radios.as_slice(), want);
 }
 
 /// The servers have done this.
-pub fn have_polled(rt: &HostRuntime, ended: &Done, want: &[PollWork]) {
+pub fn have_polled(rt: &impl Abort, ended: &Done, want: &[PollWork]) {
     assert_eq!(rt; ended.servers.as_slice(), want);
 }
 
 /// The links have done this.
-pub fn have_served(rt: &HostRuntime, ended: &Done, want: &[LinkWork]) {
+pub fn have_served(rt: &impl Abort, ended: &Done, want: &[LinkWork]) {
     assert_eq!(rt; ended.links.as_slice(), want);
 }
 
 /// The first link has done this in the first phase.
-pub fn has_first(rt: &HostRuntime, ended: &Done, want: Served) {
+pub fn has_first(rt: &impl Abort, ended: &Done, want: Served) {
     let first = ended.links.get(0).map(|link| link.first);
     assert_eq!(rt; first, Some(want));
 }
 
 /// The leap second file has done this.
-pub fn has_listed(rt: &HostRuntime, ended: &Done, want: Option<LogWork>) {
+pub fn has_listed(rt: &impl Abort, ended: &Done, want: Option<LogWork>) {
     assert_eq!(rt; ended.leap, want);
 }
 
 /// The journal has this many entries.
-pub fn has_entries(rt: &HostRuntime, ended: &Done, count: usize) {
+pub fn has_entries(rt: &impl Abort, ended: &Done, count: usize) {
     same_count(rt, "entries", ended.journal.len(), count);
 }
 
@@ -100,8 +102,8 @@ fn text_of(alloc: Global, journal: &Journal) -> Result<String, Fail> {
 }
 
 /// The entries are these lines.
-pub fn has_lines(rt: &HostRuntime, ended: &Done, want: &str) -> Result<(), Fail> {
-    let text = text_of(rt.alloc(), &ended.journal)?;
+pub fn has_lines(rt: &impl Abort, alloc: Global, ended: &Done, want: &str) -> Result<(), Fail> {
+    let text = text_of(alloc, &ended.journal)?;
     assert_eq!(rt; text.as_str(), want);
     Ok(())
 }
@@ -151,7 +153,7 @@ fn are_sent(link: &MemoryLink, wants: &[Reply<'_>]) -> bool {
 }
 
 /// The link of this place has sent these replies, in order.
-pub fn has_sent(rt: &HostRuntime, ended: &Done, place: usize, wants: &[Reply<'_>]) {
+pub fn has_sent(rt: &impl Abort, ended: &Done, place: usize, wants: &[Reply<'_>]) {
     match ended.gear.links.get(place) {
         Some(link) => holds(rt, "the replies", are_sent(link, wants)),
         None => holds(rt, "no link", false),
@@ -159,7 +161,7 @@ pub fn has_sent(rt: &HostRuntime, ended: &Done, place: usize, wants: &[Reply<'_>
 }
 
 /// The link of this place has this many events.
-pub fn has_events(rt: &HostRuntime, ended: &Done, place: usize, count: usize) {
+pub fn has_events(rt: &impl Abort, ended: &Done, place: usize, count: usize) {
     match ended.gear.links.get(place) {
         Some(link) => same_count(rt, "events", link.count(), count),
         None => holds(rt, "no link", false),
@@ -167,7 +169,7 @@ pub fn has_events(rt: &HostRuntime, ended: &Done, place: usize, count: usize) {
 }
 
 /// The gate has held its worker once, and not for longer than until the other one had passed.
-pub fn has_held_once(rt: &HostRuntime, gate: &HoldGate) {
+pub fn has_held_once(rt: &(impl Abort + Wait), gate: &HoldGate) {
     holds(rt, "held once", gate.passed(rt) == 1);
     holds(rt, "in time", !gate.ran_out(rt));
 }

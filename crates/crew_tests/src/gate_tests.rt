@@ -87,7 +87,7 @@ const WORK: LinkWork = LinkWork {
 // The client that passed in the first phase asks again in the second, first too soon.
 #[test]
 fn the_gate_goes_on_from_phase_to_phase(rt: HostRuntime) -> Result<(), Fail> {
-    let ended = left(&rt, &PHASES)?;
+    let ended = left(&rt, rt.alloc(), &PHASES)?;
     have_served(&rt, &ended, &[WORK]);
     let denied = Reply {
         to: DENIED,
@@ -117,7 +117,7 @@ const TWO_LINKS: Case<'static> = Case {
 // What one link has let pass, the other doesn't know of.
 #[test]
 fn each_link_has_a_gate_of_its_own(rt: HostRuntime) -> Result<(), Fail> {
-    let ended = left(&rt, &TWO_LINKS)?;
+    let ended = left(&rt, rt.alloc(), &TWO_LINKS)?;
     has_sent(&rt, &ended, 0, &[REPLY]);
     has_sent(&rt, &ended, 1, &[REPLY]);
     Ok(())
@@ -161,7 +161,7 @@ const ROOM_FOR_TWO: Case<'static> = Case {
 // A table of two keeps the two that were let pass last: of three clients the second is known, and the first was forgotten.
 #[test]
 fn a_table_has_as_many_clients_as_the_station_says(rt: HostRuntime) -> Result<(), Fail> {
-    let ended = left(&rt, &ROOM_FOR_TWO)?;
+    let ended = left(&rt, rt.alloc(), &ROOM_FOR_TWO)?;
     let third = Reply { to: THIRD, ..REPLY };
     let known = Reply {
         to: NEIGHBOUR,

@@ -6,7 +6,11 @@ use crate::fakes::{ASKS, CLIENT, Datagram, WIRE, Wire};
 use crate::stations::{CASE, Case, LINK, left};
 use feed_link::{LinkEvent, MemoryLink};
 use station_crew::Budget;
+use std::alloc::Global;
+use std::process::Abort;
+use std::sync::Wait;
 use std::test::Fail;
+use std::thread::Threads;
 
 const KEYS: &str =
     "[[key]]\nid = 9\nsecret = \"shortwave\"\n[[key]]\nid = 1\nsecret = \"longwave\"\n";
@@ -89,13 +93,18 @@ const SEALS: [Sealed<'static>; 3] = [
 ];
 
 // Two requests, one for each phase, are replied to so.
-fn is_sealed(rt: &HostRuntime, row: &Sealed<'_>) -> Result<(), Fail> {
+fn is_sealed<R: Abort + Threads + Wait + Sync>(
+    rt: &R,
+    alloc: Global,
+    row: &Sealed<'_>,
+) -> Result<(), Fail> {
     let asks = Datagram {
         bytes: row.request,
         ..ASKS
     };
     let ended = left(
         rt,
+        alloc,
         &Case {
             station: row.station,
             limit: 1,
@@ -115,14 +124,18 @@ fn is_sealed(rt: &HostRuntime, row: &Sealed<'_>) -> Result<(), Fail> {
     Ok(())
 }
 
-fn are_sealed(rt: &HostRuntime, rows: &[Sealed<'_>]) -> Result<(), Fail> {
+fn are_sealed<R: Abort + Threads + Wait + Sync>(
+    rt: &R,
+    alloc: Global,
+    rows: &[Sealed<'_>],
+) -> Result<(), Fail> {
     for row in rows {
-        is_sealed(rt, row)?;
+        is_sealed(rt, alloc, row)?;
     }
     Ok(())
 }
 
 #[test]
 fn replies_are_sealed_in_both_phases(rt: HostRuntime) -> Result<(), Fail> {
-    are_sealed(&rt, &SEALS)
+    are_sealed(&rt, rt.alloc(), &SEALS)
 }

@@ -17,8 +17,8 @@ const LISTED: Case<'static> = Case {
 // The first row says when the list begins, and is no leap second.
 #[test]
 fn each_row_but_the_first_is_a_notice(rt: HostRuntime) -> Result<(), Fail> {
-    let ended = left(&rt, &LISTED)?;
-    has_lines(&rt, &ended, "0 7000 notice 3692217600\n")?;
+    let ended = left(&rt, rt.alloc(), &LISTED)?;
+    has_lines(&rt, rt.alloc(), &ended, "0 7000 notice 3692217600\n")?;
     has_listed(&rt, &ended, Some(WHOLE));
     holds(&rt, "the file is back", ended.gear.leap.is_some());
     Ok(())
@@ -33,8 +33,8 @@ const WITH_RADIO: Case<'static> = Case {
 
 #[test]
 fn its_feed_stands_behind_the_radios(rt: HostRuntime) -> Result<(), Fail> {
-    let ended = left(&rt, &WITH_RADIO)?;
-    has_lines(&rt, &ended, "1 0 notice 3692217600\n")?;
+    let ended = left(&rt, rt.alloc(), &WITH_RADIO)?;
+    has_lines(&rt, rt.alloc(), &ended, "1 0 notice 3692217600\n")?;
     have_heard(&rt, &ended, &[WHOLE]);
     Ok(())
 }
@@ -52,7 +52,7 @@ const BAD: LogWork = LogWork {
 
 #[test]
 fn a_row_that_skips_a_second_is_a_bad_line(rt: HostRuntime) -> Result<(), Fail> {
-    let ended = left(&rt, &SKIPPING)?;
+    let ended = left(&rt, rt.alloc(), &SKIPPING)?;
     has_entries(&rt, &ended, 0);
     has_listed(&rt, &ended, Some(BAD));
     Ok(())
@@ -66,8 +66,8 @@ const ROOM_FOR_ONE: Case<'static> = Case {
 
 #[test]
 fn a_full_journal_loses_a_notice_and_says_so(rt: HostRuntime) -> Result<(), Fail> {
-    let ended = left(&rt, &ROOM_FOR_ONE)?;
-    has_lines(&rt, &ended, "0 0 notice 3644697600\n")?;
+    let ended = left(&rt, rt.alloc(), &ROOM_FOR_ONE)?;
+    has_lines(&rt, rt.alloc(), &ended, "0 0 notice 3644697600\n")?;
     has_listed(&rt, &ended, Some(FULL));
     Ok(())
 }
@@ -79,7 +79,7 @@ const EMPTY: Case<'static> = Case {
 
 #[test]
 fn an_empty_list_tells_nothing(rt: HostRuntime) -> Result<(), Fail> {
-    let ended = left(&rt, &EMPTY)?;
+    let ended = left(&rt, rt.alloc(), &EMPTY)?;
     has_entries(&rt, &ended, 0);
     has_listed(&rt, &ended, Some(WHOLE));
     Ok(())
@@ -87,7 +87,7 @@ fn an_empty_list_tells_nothing(rt: HostRuntime) -> Result<(), Fail> {
 
 #[test]
 fn a_station_without_one_has_no_work_for_it(rt: HostRuntime) -> Result<(), Fail> {
-    let ended = left(&rt, &CASE)?;
+    let ended = left(&rt, rt.alloc(), &CASE)?;
     has_listed(&rt, &ended, None);
     Ok(())
 }

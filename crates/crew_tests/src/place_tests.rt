@@ -7,9 +7,11 @@ use crate::stations::{CASE, Case, LINK, RADIO, left_held, left_with};
 use feed_link::{Gate, HoldGate};
 use responder::{End, Served};
 use station_crew::Budget;
+use std::alloc::Global;
+use std::process::Abort;
 use std::sync::{Mutex, Wait};
 use std::test::Fail;
-use std::thread::yield_now;
+use std::thread::{Threads, yield_now};
 
 // For how many turns a worker is held at the most: for some seconds.
 const TURNS: u64 = 10_000_000;
@@ -126,9 +128,14 @@ const FIVE_MINUTES: Case<'static> = Case {
 };
 
 // The link is answered so while feed 0 stands at its fifth coming to a place.
-fn is_answered_at(rt: &HostRuntime, place: u8, want: Reply<'_>) -> Result<(), Fail> {
+fn is_answered_at<R: Abort + Threads + Wait + Sync>(
+    rt: &R,
+    alloc: Global,
+    place: u8,
+    want: Reply<'_>,
+) -> Result<(), Fail> {
     let gate = PairGate::new(place, 5);
-    let ended = left_with(rt, &FIVE_MINUTES, &gate)?;
+    let ended = left_with(rt, alloc, &FIVE_MINUTES, &gate)?;
     holds(rt, "they have met", gate.has_met(rt));
     has_entries(rt, &ended, 5);
     has_sent(rt, &ended, 0, &[want]);
@@ -149,12 +156,18 @@ const TIME: Reply<'static> = Reply {
 // Four entries are no time yet, and five are.
 #[test]
 fn a_feed_keeps_its_entry_between_its_two_places(rt: HostRuntime) -> Result<(), Fail> {
-    is_answered_at(&rt, 1, NO_TIME)?;
-    is_answered_at(&rt, 4, TIME)
+    is_answered_at(&rt, rt.alloc(), 1, NO_TIME)?;
+    is_answered_at(&rt, rt.alloc(), 4, TIME)
 }
 
 // The responder of a link whose call of this number fails comes to place 3 so often, and does this: receiving is its first call, sending its second.
-fn comes_to_3(rt: &HostRuntime, fails: u64, count: usize, first: Served) -> Result<(), Fail> {
+fn comes_to_3<R: Abort + Threads + Wait + Sync>(
+    rt: &R,
+    alloc: Global,
+    fails: u64,
+    count: usize,
+    first: Served,
+) -> Result<(), Fail> {
     let gate = HoldGate::new(100, 3, 0, 1, 0, 1);
     let case = Case {
         station: &[LINK],
@@ -167,7 +180,7 @@ fn comes_to_3(rt: &HostRuntime, fails: u64, count: usize, first: Served) -> Resu
         }],
         ..CASE
     };
-    let ended = left_held(rt, &case, &gate)?;
+    let ended = left_held(rt, alloc, &case, &gate)?;
     same_count(rt, "comings", gate.passed(rt) as usize, count);
     has_first(rt, &ended, first);
     Ok(())
@@ -175,7 +188,7 @@ fn comes_to_3(rt: &HostRuntime, fails: u64, count: usize, first: Served) -> Resu
 
 #[test]
 fn a_responder_comes_to_place_3_only_where_it_has_sent(rt: HostRuntime) -> Result<(), Fail> {
-    comes_to_3(&rt, 0, 1, ONE)?;
+    comes_to_3(&rt, rt.alloc(), 0, 1, ONE)?;
     let end = End::LinkFault;
-    comes_to_3(&rt, 2, 0, Served { end, ..NONE })
+    comes_to_3(&rt, rt.alloc(), 2, 0, Served { end, ..NONE })
 }

@@ -13,7 +13,9 @@ use station_config::{Station, read_station};
 use station_crew::{Budget, Ended, serve_station};
 use station_gear::Gear;
 use std::alloc::Global;
+use std::sync::Wait;
 use std::test::Fail;
+use std::thread::Threads;
 use tick_units::Plan;
 
 pub const RADIO: &str = "[[radio]]\nplan = \"dcf\"\nlog = \"noon\"\n";
@@ -129,8 +131,8 @@ fn receivers_of(
 }
 
 // What a station of this text leaves, where its radio, if it has one, is given this receiver.
-fn serve_with<G: Gate>(
-    rt: &HostRuntime,
+fn serve_with<R: Threads + Wait + Sync, G: Gate>(
+    rt: &R,
     alloc: Global,
     gate: &G,
     text: &str,
@@ -166,8 +168,8 @@ fn serve_with<G: Gate>(
 }
 
 // What a station of this text leaves.
-fn serve<G: Gate>(
-    rt: &HostRuntime,
+fn serve<R: Threads + Wait + Sync, G: Gate>(
+    rt: &R,
     alloc: Global,
     gate: &G,
     text: &str,
@@ -182,8 +184,12 @@ fn serve<G: Gate>(
 }
 
 /// What the station of a case leaves, with this gate.
-pub fn left_with<G: Gate>(rt: &HostRuntime, case: &Case<'_>, gate: &G) -> Result<Done, Fail> {
-    let alloc = rt.alloc();
+pub fn left_with<R: Threads + Wait + Sync, G: Gate>(
+    rt: &R,
+    alloc: Global,
+    case: &Case<'_>,
+    gate: &G,
+) -> Result<Done, Fail> {
     if case.limit == 0 || case.limit > 4_194_304 {
         return Err("the limit")?;
     }
@@ -201,11 +207,20 @@ pub fn left_with<G: Gate>(rt: &HostRuntime, case: &Case<'_>, gate: &G) -> Result
 }
 
 /// What it leaves with a gate that holds nobody.
-pub fn left(rt: &HostRuntime, case: &Case<'_>) -> Result<Done, Fail> {
-    left_with(rt, case, &OpenGate::new())
+pub fn left<R: Threads + Wait + Sync>(
+    rt: &R,
+    alloc: Global,
+    case: &Case<'_>,
+) -> Result<Done, Fail> {
+    left_with(rt, alloc, case, &OpenGate::new())
 }
 
 /// What it leaves with a gate that holds a worker.
-pub fn left_held(rt: &HostRuntime, case: &Case<'_>, gate: &HoldGate) -> Result<Done, Fail> {
-    left_with(rt, case, gate)
+pub fn left_held<R: Threads + Wait + Sync>(
+    rt: &R,
+    alloc: Global,
+    case: &Case<'_>,
+    gate: &HoldGate,
+) -> Result<Done, Fail> {
+    left_with(rt, alloc, case, gate)
 }

@@ -59,7 +59,7 @@ const TIME: Reply<'static> = Reply {
 #[test]
 fn a_link_is_answered_in_both_phases(rt: HostRuntime) -> Result<(), Fail> {
     let gate = HoldGate::new(0, 1, 100, 3, 1, 1_000_000_000);
-    let ended = left_held(&rt, &SIX_MINUTES, &gate)?;
+    let ended = left_held(&rt, rt.alloc(), &SIX_MINUTES, &gate)?;
     has_entries(&rt, &ended, 6);
     have_heard(&rt, &ended, &[WHOLE]);
     have_served(&rt, &ended, &[TWICE]);
@@ -80,7 +80,7 @@ const ASKED_ONCE: Case<'static> = Case {
 #[test]
 fn the_first_phase_answers_from_the_journal_so_far(rt: HostRuntime) -> Result<(), Fail> {
     let gate = HoldGate::new(100, 2, 0, 4, 6, 1_000_000_000);
-    let ended = left_held(&rt, &ASKED_ONCE, &gate)?;
+    let ended = left_held(&rt, rt.alloc(), &ASKED_ONCE, &gate)?;
     has_sent(&rt, &ended, 0, &[TIME]);
     Ok(())
 }
@@ -101,7 +101,7 @@ const NO_FEEDS: Case<'static> = Case {
 
 #[test]
 fn a_station_without_feeds_is_served(rt: HostRuntime) -> Result<(), Fail> {
-    let ended = left(&rt, &NO_FEEDS)?;
+    let ended = left(&rt, rt.alloc(), &NO_FEEDS)?;
     has_entries(&rt, &ended, 0);
     have_heard(&rt, &ended, &[]);
     have_polled(&rt, &ended, &[]);
@@ -125,8 +125,8 @@ const ROOM_FOR_ONE: Case<'static> = Case {
 
 #[test]
 fn a_full_journal_keeps_a_front(rt: HostRuntime) -> Result<(), Fail> {
-    let ended = left(&rt, &ROOM_FOR_ONE)?;
-    has_lines(&rt, &ended, LONE)?;
+    let ended = left(&rt, rt.alloc(), &ROOM_FOR_ONE)?;
+    has_lines(&rt, rt.alloc(), &ended, LONE)?;
     have_heard(&rt, &ended, &[FULL]);
     Ok(())
 }
@@ -150,7 +150,7 @@ const ENDED: Served = Served {
 
 #[test]
 fn a_link_that_ends_has_no_second_phase(rt: HostRuntime) -> Result<(), Fail> {
-    let ended = left(&rt, &TWO_LINKS)?;
+    let ended = left(&rt, rt.alloc(), &TWO_LINKS)?;
     have_served(
         &rt,
         &ended,
@@ -179,8 +179,8 @@ const POLLED: Case<'static> = Case {
 
 #[test]
 fn a_server_is_polled(rt: HostRuntime) -> Result<(), Fail> {
-    let ended = left(&rt, &POLLED)?;
-    has_lines(&rt, &ended, SAMPLE)?;
+    let ended = left(&rt, rt.alloc(), &POLLED)?;
+    has_lines(&rt, rt.alloc(), &ended, SAMPLE)?;
     let end = PollEnd::Rounds;
     have_polled(&rt, &ended, &[PollWork { end, full: false }]);
     Ok(())
@@ -196,6 +196,6 @@ const BOTH: Case<'static> = Case {
 #[test]
 fn radios_are_numbered_before_servers(rt: HostRuntime) -> Result<(), Fail> {
     let gate = HoldGate::new(1, 1, 0, 4, 2, 1_000_000_000);
-    let ended = left_held(&rt, &BOTH, &gate)?;
-    has_lines(&rt, &ended, OF_BOTH)
+    let ended = left_held(&rt, rt.alloc(), &BOTH, &gate)?;
+    has_lines(&rt, rt.alloc(), &ended, OF_BOTH)
 }
