@@ -3,11 +3,15 @@
 
 use crate::pieces::Piece;
 use crate::rows::{entries_of, has_held, same_count, same_status};
-use crate::runs::{File, ROW, Ran, Row, Wire, run_with};
+use crate::runs::{File, ROW, Ran, Row, Wire, run_held};
 use crate::test_station::{ANSWERS, FILE, SERVER, WIRE};
 use feed_link::HoldGate;
 use radio_engine::Status;
+use std::alloc::Global;
+use std::process::Abort;
+use std::sync::Wait;
 use std::test::Fail;
+use std::thread::Threads;
 
 // For how many turns a feed is held at the most: for some seconds.
 const TURNS: u64 = 10_000_000;
@@ -121,16 +125,21 @@ struct Pair {
 }
 
 // How often the worker that a gate held has passed its place.
-fn passed(rt: &HostRuntime, ran: &Ran<HoldGate>) -> usize {
+fn passed(rt: &impl Wait, ran: &Ran<HoldGate>) -> usize {
     match ran.outside.turns() {
         Some(gate) => gate.passed(rt) as usize,
         None => 0,
     }
 }
 
-fn keeps_after(rt: &HostRuntime, name: &str, pair: Pair) -> Result<(), Fail> {
+fn keeps_after<R: Abort + Threads + Wait + Sync>(
+    rt: &R,
+    alloc: Global,
+    name: &str,
+    pair: Pair,
+) -> Result<(), Fail> {
     let gate = HoldGate::new(pair.held, 1, pair.other, 4, 1, TURNS);
-    let ran = run_with(rt, &SIXTEEN, gate)?;
+    let ran = run_held(rt, alloc, &SIXTEEN, gate)?;
     has_held(rt, name, &ran.outside);
     same_count(rt, name, passed(rt, &ran), 1);
     same_status(rt, name, ran.status, Status::Done);
@@ -138,10 +147,14 @@ fn keeps_after(rt: &HostRuntime, name: &str, pair: Pair) -> Result<(), Fail> {
     Ok(())
 }
 
-fn keep_after(rt: &HostRuntime, pairs: &[Pair]) -> Result<(), Fail> {
+fn keep_after<R: Abort + Threads + Wait + Sync>(
+    rt: &R,
+    alloc: Global,
+    pairs: &[Pair],
+) -> Result<(), Fail> {
     for pair in pairs {
-        let name = format!(in rt.alloc(); "{} after {}", pair.held, pair.other)?;
-        keeps_after(rt, name.as_str(), *pair)?;
+        let name = format!(in alloc; "{} after {}", pair.held, pair.other)?;
+        keeps_after(rt, alloc, name.as_str(), *pair)?;
     }
     Ok(())
 }
@@ -153,7 +166,7 @@ const ENDS: [Pair; 2] = [Pair { held: 0, other: 15 }, Pair { held: 15, other: 0 
 fn the_first_and_the_last_of_sixteen_feeds_wait_for_one_another(
     rt: HostRuntime,
 ) -> Result<(), Fail> {
-    keep_after(&rt, &ENDS)
+    keep_after(&rt, rt.alloc(), &ENDS)
 }
 
 // Feeds 0 to 11 are radios, four of each plan.
@@ -171,7 +184,7 @@ const RADIOS: [Pair; 6] = [
 
 #[test]
 fn radios_wait_for_one_another(rt: HostRuntime) -> Result<(), Fail> {
-    keep_after(&rt, &RADIOS)
+    keep_after(&rt, rt.alloc(), &RADIOS)
 }
 
 // Feeds 12 to 14 are servers.
@@ -198,5 +211,5 @@ const SERVERS: [Pair; 6] = [
 
 #[test]
 fn servers_wait_for_one_another_and_for_the_other_feeds(rt: HostRuntime) -> Result<(), Fail> {
-    keep_after(&rt, &SERVERS)
+    keep_after(&rt, rt.alloc(), &SERVERS)
 }

@@ -19,13 +19,11 @@ const FAILED: &str = "status 4 read feed 0\n";
 
 // A radio is served whose log's first line is bad.
 const BAD: Row<'static> = Row {
-    name: "",
     words: &WORDS,
     station: &[RADIO],
-    text: &[],
-    fails: 0,
     want: &[Want::Is(&[EMPTY_PAGE, "status 5 line 0 1\n"])],
     end: Status::BadLine,
+    ..ROW
 };
 
 const LINES: [Row<'static>; 9] = [
@@ -83,7 +81,7 @@ const LINES: [Row<'static>; 9] = [
 
 #[test]
 fn lines_are_bad_alone(rt: HostRuntime) -> Result<(), Fail> {
-    are_met(&rt, &LINES)
+    are_met(&rt, rt.alloc(), &LINES)
 }
 
 const READ: Row<'static> = Row {
@@ -130,7 +128,7 @@ const READINGS: [Row<'static>; 6] = [
 
 #[test]
 fn each_reading_of_a_log_may_fail(rt: HostRuntime) -> Result<(), Fail> {
-    are_met(&rt, &READINGS)
+    are_met(&rt, rt.alloc(), &READINGS)
 }
 
 const UNREAD: Row<'static> = Row {
@@ -161,7 +159,7 @@ const STATION_READINGS: [Row<'static>; 2] = [
 
 #[test]
 fn each_reading_of_a_station_that_is_served_may_fail(rt: HostRuntime) -> Result<(), Fail> {
-    are_met(&rt, &STATION_READINGS)
+    are_met(&rt, rt.alloc(), &STATION_READINGS)
 }
 
 // A client's request at 1 s: version 4, a poll of 64 s, and zeros.
@@ -250,7 +248,7 @@ const LENGTHS: [Row<'static>; 4] = [
 
 #[test]
 fn datagrams_are_short_under_48_bytes(rt: HostRuntime) -> Result<(), Fail> {
-    are_met(&rt, &LENGTHS)
+    are_met(&rt, rt.alloc(), &LENGTHS)
 }
 
 // A link to a server that answers three times, at first to the request of 1 s.
@@ -334,13 +332,13 @@ const POLLED: Row<'static> = Row {
 
 #[test]
 fn a_link_fails_in_its_second_turn(rt: HostRuntime) -> Result<(), Fail> {
-    are_met(&rt, &TURNS)
+    are_met(&rt, rt.alloc(), &TURNS)
 }
 
 // Of the second round there is the moment of its request alone.
 #[test]
 fn a_second_sending_that_fails_cuts_its_round(rt: HostRuntime) -> Result<(), Fail> {
-    let ran = run(&rt, &POLLED)?;
+    let ran = run(&rt, rt.alloc(), &POLLED)?;
     let link = ran.outside.link(0).ok_or("a link is out")?;
     let is_moment = matches!(link.event(3), Some(LinkEvent::Moment(_)));
     holds(&rt, "the moment of the request", is_moment);
@@ -352,6 +350,7 @@ fn a_second_sending_that_fails_cuts_its_round(rt: HostRuntime) -> Result<(), Fai
 fn want_of_memory_in_a_serving(rt: HostRuntime) {
     wants_memory(
         &rt,
+        rt.alloc(),
         &Row {
             words: &WORDS,
             station: &[RADIO, LINK],
@@ -373,6 +372,7 @@ page 1 0 0 494e4954 0 62000000 0 0 1048576 0000000000000000 0 0\nstatus 0\n",
 fn want_of_memory_in_a_journal(rt: HostRuntime) {
     wants_memory(
         &rt,
+        rt.alloc(),
         &Row {
             words: &["migrate", "--station", "s", "--journal", "a"],
             station: &[RADIO],

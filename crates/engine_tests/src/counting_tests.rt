@@ -11,20 +11,22 @@ use radio_engine::{Status, run_station};
 use radio_receiver::{CountingReceiver, DcfReceiver, MsfReceiver, WwvbReceiver};
 use receiver_rack::put_in_rack;
 use script_player::BoxedReceiver;
-use std::alloc::AllocError;
+use std::alloc::{AllocError, Global};
+use std::sync::Wait;
 use std::test::Fail;
+use std::thread::Threads;
 use tick_units::Plan;
 
 // Runs the words with four receivers of each plan, each of which counts what it receives.
-fn run_counting<G: Gate + Drop>(
-    rt: &HostRuntime,
+fn run_counting<R: Threads + Wait + Sync, G: Gate + Drop>(
+    rt: &R,
+    alloc: Global,
     words: &[&str],
     outside: &mut MemoryOutside<G>,
     out: &mut MemorySink,
 ) -> Result<Status, AllocError>
     requires { is_gate_out outside.old ≡ false }
 {
-    let alloc = rt.alloc();
     let mut rack: Vec<BoxedReceiver> = Vec::new(alloc);
     for _ in 0..OF_A_PLAN {
         let dcf = CountingReceiver::new(DcfReceiver::new());
@@ -53,20 +55,19 @@ const WHOLE: &str = "j2 1 0 0 62000000 lone 3976257600\nj2 2 0 0 182000000 lone 
 page 2 0 0 494e4954 0 182000000 0 0 1048576 0000000000000000 0 0\nstatus 0\n";
 
 // What is written with receivers that count.
-fn counted(rt: &HostRuntime) -> Result<(Vec<u8>, Status), FakeOpen> {
-    let alloc = rt.alloc();
+fn counted<R: Threads + Wait + Sync>(rt: &R, alloc: Global) -> Result<(Vec<u8>, Status), FakeOpen> {
     let mut outside = outside_of(alloc, &SWAPPED, OpenGate::new())?;
     let mut out = MemorySink::new(alloc, Vec::new(alloc));
-    let status = run_counting(rt, SWAPPED.words, &mut outside, &mut out)?;
+    let status = run_counting(rt, alloc, SWAPPED.words, &mut outside, &mut out)?;
     Ok((out.into_bytes(), status))
 }
 
 #[test]
 fn a_swap_gives_the_same_with_receivers_that_count(rt: HostRuntime) -> Result<(), Fail> {
-    let ran = run(&rt, &SWAPPED)?;
+    let ran = run(&rt, rt.alloc(), &SWAPPED)?;
     same_text(&rt, "as it is", ran.written.as_slice(), WHOLE);
     same_status(&rt, "as it is", ran.status, Status::Done);
-    let (written, status) = counted(&rt)?;
+    let (written, status) = counted(&rt, rt.alloc())?;
     same_text(&rt, "counted", written.as_slice(), WHOLE);
     same_status(&rt, "counted", status, Status::Done);
     Ok(())

@@ -6,7 +6,7 @@ use crate::frames::{
 };
 use crate::pieces::{Frame, Piece};
 use crate::rows::{Want, are_met};
-use crate::runs::Row;
+use crate::runs::{ROW, Row};
 use radio_engine::Status;
 use std::test::Fail;
 
@@ -28,13 +28,8 @@ const VERDICT: &str = "0 122000000 verdict 3976257660 0\n";
 const DONE: &str = "status 0\n";
 
 const DECODED: Row<'static> = Row {
-    name: "",
     words: &WORDS,
-    station: &[],
-    text: &[],
-    fails: 0,
-    want: &[Want::Is(&[])],
-    end: Status::Done,
+    ..ROW
 };
 
 // The log of two frames, the second of which starts where the first has ended.
@@ -164,7 +159,7 @@ const FRAMES: [Row<'static>; 8] = [
 
 #[test]
 fn frames_are_read(rt: HostRuntime) -> Result<(), Fail> {
-    are_met(&rt, &FRAMES)
+    are_met(&rt, rt.alloc(), &FRAMES)
 }
 
 // The first frame but for its place 0, with these marks before the rest.
@@ -224,7 +219,7 @@ const BITS: [Row<'static>; 5] = [
 
 #[test]
 fn bits_are_read(rt: HostRuntime) -> Result<(), Fail> {
-    are_met(&rt, &BITS)
+    are_met(&rt, rt.alloc(), &BITS)
 }
 
 const MSF: Row<'static> = Row {
@@ -288,7 +283,7 @@ const MSF_MINUTES: [Row<'static>; 4] = [
 
 #[test]
 fn msf_minutes_are_read(rt: HostRuntime) -> Result<(), Fail> {
-    are_met(&rt, &MSF_MINUTES)
+    are_met(&rt, rt.alloc(), &MSF_MINUTES)
 }
 
 const WWVB: Row<'static> = Row {
@@ -348,5 +343,5 @@ const WWVB_MINUTES: [Row<'static>; 3] = [
 
 #[test]
 fn wwvb_minutes_are_read(rt: HostRuntime) -> Result<(), Fail> {
-    are_met(&rt, &WWVB_MINUTES)
+    are_met(&rt, rt.alloc(), &WWVB_MINUTES)
 }

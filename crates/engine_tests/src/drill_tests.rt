@@ -2,10 +2,14 @@
 
 use crate::pieces::joined;
 use crate::rows::{Pieces, has_held, holds, same_status, same_text, stops_at};
-use crate::runs::{ROW, Row, run, run_with};
+use crate::runs::{ROW, Row, run, run_held};
 use feed_link::HoldGate;
 use radio_engine::Status;
+use std::alloc::Global;
+use std::process::Abort;
+use std::sync::Wait;
 use std::test::Fail;
+use std::thread::Threads;
 
 // The lines of a drill of seed 7.
 const SEED_7: [&str; 5] = [
@@ -41,9 +45,15 @@ const DRILL: Row<'static> = Row {
 };
 
 // A run over this writes these lines, and ends so. Each test has one drill, since a day takes long where it is interpreted.
-fn tells(rt: &HostRuntime, words: &[&str], want: &[&str], end: Status) -> Result<(), Fail> {
-    let ran = run(rt, &Row { words, ..DRILL })?;
-    let want = joined(rt.alloc(), want)?;
+fn tells<R: Abort + Threads + Wait + Sync>(
+    rt: &R,
+    alloc: Global,
+    words: &[&str],
+    want: &[&str],
+    end: Status,
+) -> Result<(), Fail> {
+    let ran = run(rt, alloc, &Row { words, ..DRILL })?;
+    let want = joined(alloc, want)?;
     same_text(rt, "the text", ran.written.as_slice(), want.as_str());
     same_status(rt, "the status", ran.status, end);
     Ok(())
@@ -51,25 +61,42 @@ fn tells(rt: &HostRuntime, words: &[&str], want: &[&str], end: Status) -> Result
 
 #[test]
 fn a_day_is_told_as_it_was_spelt(rt: HostRuntime) -> Result<(), Fail> {
-    tells(&rt, &["drill", "--seed", "7"], &SEED_7, Status::Done)
+    tells(
+        &rt,
+        rt.alloc(),
+        &["drill", "--seed", "7"],
+        &SEED_7,
+        Status::Done,
+    )
 }
 
 #[test]
 fn a_day_of_the_least_seed(rt: HostRuntime) -> Result<(), Fail> {
-    tells(&rt, &["drill", "--seed", "0"], &SEED_0, Status::Done)
+    tells(
+        &rt,
+        rt.alloc(),
+        &["drill", "--seed", "0"],
+        &SEED_0,
+        Status::Done,
+    )
 }
 
 #[test]
 fn a_day_of_the_greatest_seed(rt: HostRuntime) -> Result<(), Fail> {
     let words = ["drill", "--seed", "4294967295"];
-    tells(&rt, &words, &LAST_SEED, Status::Done)
+    tells(&rt, rt.alloc(), &words, &LAST_SEED, Status::Done)
 }
 
 // A feed waits with its second entry until another has put its entry into the journal: what is printed is the same.
-fn waits(rt: &HostRuntime, held: u32, other: u32) -> Result<(), Fail> {
+fn waits<R: Abort + Threads + Wait + Sync>(
+    rt: &R,
+    alloc: Global,
+    held: u32,
+    other: u32,
+) -> Result<(), Fail> {
     let gate = HoldGate::new(held, 1, other, 4, 1, 1_000_000_000);
-    let ran = run_with(rt, &DRILL, gate)?;
-    let want = joined(rt.alloc(), &SEED_7)?;
+    let ran = run_held(rt, alloc, &DRILL, gate)?;
+    let want = joined(alloc, &SEED_7)?;
     same_text(rt, "the text", ran.written.as_slice(), want.as_str());
     same_status(rt, "the status", ran.status, Status::Done);
     has_held(rt, "the gate", &ran.outside);
@@ -78,19 +105,19 @@ fn waits(rt: &HostRuntime, held: u32, other: u32) -> Result<(), Fail> {
 
 #[test]
 fn the_first_feed_waits_for_the_second(rt: HostRuntime) -> Result<(), Fail> {
-    waits(&rt, 0, 1)
+    waits(&rt, rt.alloc(), 0, 1)
 }
 
 #[test]
 fn the_second_feed_waits_for_the_first(rt: HostRuntime) -> Result<(), Fail> {
-    waits(&rt, 1, 0)
+    waits(&rt, rt.alloc(), 1, 0)
 }
 
 // A day has 1440 minutes of three radios.
 #[test]
 fn a_journal_of_4320_entries_has_room_for_a_day(rt: HostRuntime) -> Result<(), Fail> {
     let words = ["drill", "--seed=7", "--limit=4320"];
-    tells(&rt, &words, &SEED_7, Status::Done)
+    tells(&rt, rt.alloc(), &words, &SEED_7, Status::Done)
 }
 
 // The sum of all numbers of the lines of feeds that aren't the numbers of the feeds.
@@ -111,8 +138,13 @@ fn sum_of_feeds(written: &[u8]) -> u64 {
 }
 
 // A drill fills a journal, and ends so.
-fn fills(rt: &HostRuntime, words: &[&str], end: &str) -> Result<Vec<u8>, Fail> {
-    let ran = run(rt, &Row { words, ..DRILL })?;
+fn fills<R: Abort + Threads + Wait + Sync>(
+    rt: &R,
+    alloc: Global,
+    words: &[&str],
+    end: &str,
+) -> Result<Vec<u8>, Fail> {
+    let ran = run(rt, alloc, &Row { words, ..DRILL })?;
     let written = ran.written;
     holds(rt, "the end", written.as_slice().ends_with(end.as_bytes()));
     same_status(rt, "the status", ran.status, Status::JournalFull);
@@ -122,14 +154,14 @@ fn fills(rt: &HostRuntime, words: &[&str], end: &str) -> Result<Vec<u8>, Fail> {
 #[test]
 fn a_journal_of_4319_entries_is_full(rt: HostRuntime) -> Result<(), Fail> {
     let words = ["drill", "--seed=7", "--limit=4319"];
-    fills(&rt, &words, "\nstatus 6 full 4319\n")?;
+    fills(&rt, rt.alloc(), &words, "\nstatus 6 full 4319\n")?;
     Ok(())
 }
 
 #[test]
 fn a_journal_of_three_entries_is_told(rt: HostRuntime) -> Result<(), Fail> {
     let words = ["drill", "--seed", "7", "--limit", "3"];
-    let written = fills(&rt, &words, " 0 0\nstatus 6 full 3\n")?;
+    let written = fills(&rt, rt.alloc(), &words, " 0 0\nstatus 6 full 3\n")?;
     holds(&rt, "the sum", sum_of_feeds(written.as_slice()) == 3);
     Ok(())
 }
@@ -144,37 +176,44 @@ const CUT: Pieces<'static> = Pieces {
 
 #[test]
 fn the_first_feeds_line_fails(rt: HostRuntime) -> Result<(), Fail> {
-    stops_at(&rt, &CUT, 1, Status::WriteFault)
+    stops_at(&rt, rt.alloc(), &CUT, 1, Status::WriteFault)
 }
 
 #[test]
 fn the_second_feeds_line_fails(rt: HostRuntime) -> Result<(), Fail> {
-    stops_at(&rt, &CUT, 2, Status::WriteFault)
+    stops_at(&rt, rt.alloc(), &CUT, 2, Status::WriteFault)
 }
 
 #[test]
 fn the_third_feeds_line_fails(rt: HostRuntime) -> Result<(), Fail> {
-    stops_at(&rt, &CUT, 3, Status::WriteFault)
+    stops_at(&rt, rt.alloc(), &CUT, 3, Status::WriteFault)
 }
 
 #[test]
 fn the_line_of_the_page_fails(rt: HostRuntime) -> Result<(), Fail> {
-    stops_at(&rt, &CUT, 4, Status::WriteFault)
+    stops_at(&rt, rt.alloc(), &CUT, 4, Status::WriteFault)
 }
 
 #[test]
 fn the_status_line_fails(rt: HostRuntime) -> Result<(), Fail> {
-    stops_at(&rt, &CUT, 5, Status::WriteFault)
+    stops_at(&rt, rt.alloc(), &CUT, 5, Status::WriteFault)
 }
 
 const USAGE: [&str; 1] = ["status 1 usage\n"];
 
 #[test]
 fn a_drill_without_a_seed_is_refused(rt: HostRuntime) -> Result<(), Fail> {
-    tells(&rt, &["drill"], &USAGE, Status::Usage)?;
-    tells(&rt, &["drill", "--seed=4294967296"], &USAGE, Status::Usage)?;
+    tells(&rt, rt.alloc(), &["drill"], &USAGE, Status::Usage)?;
     tells(
         &rt,
+        rt.alloc(),
+        &["drill", "--seed=4294967296"],
+        &USAGE,
+        Status::Usage,
+    )?;
+    tells(
+        &rt,
+        rt.alloc(),
         &["drill", "--seed=7", "--limit=0"],
         &USAGE,
         Status::Usage,

@@ -58,17 +58,30 @@ const SCRIPT: [Piece<'static>; 6] = [
 ];
 
 // What the script gives, without a fault.
-const LINES: [&str; 9] = [
-    "j2 1 0 0 4000000 refused 3\n",
-    "asked 230006ec0000000000000000000000000000000000000000000000000000000000000000000000008000000100000000\n",
-    "j2 2 0 1 1010000 sample 17077897383243199545 40802189 8837 2 7f000001 256 512\n",
-    "drop short\n",
+const REFUSED: &str = "j2 1 0 0 4000000 refused 3\n";
+
+const ASKED: &str =
+    "asked 230006ec0000000000000000000000000000000000000000000000000000000000000000000000008000000100000000\n";
+
+const SAMPLE: &str =
+    "j2 2 0 1 1010000 sample 17077897383243199545 40802189 8837 2 7f000001 256 512\n";
+
+const SHORT: &str = "drop short\n";
+
+const REPLY: &str =
     "reply e40006ec0000000000100000494e4954000000000000000011223344556677880000000100000000\
-0000000100000000\n",
-    "drop version\n",
-    "j2 3 0 1 5000000 declined 3\n",
-    "page 3 0 0 494e4954 0 5000000 0 0 1048576 0000000000000000 0 0\n",
-    "status 0\n",
+0000000100000000\n";
+
+const VERSION: &str = "drop version\n";
+
+const DECLINED: &str = "j2 3 0 1 5000000 declined 3\n";
+
+const PAGE_3: &str = "page 3 0 0 494e4954 0 5000000 0 0 1048576 0000000000000000 0 0\n";
+
+const DONE: &str = "status 0\n";
+
+const LINES: [&str; 9] = [
+    REFUSED, ASKED, SAMPLE, SHORT, REPLY, VERSION, DECLINED, PAGE_3, DONE,
 ];
 
 const WHOLE: Row<'static> = Row {
@@ -97,7 +110,7 @@ const OPENINGS: [Row<'static>; 2] = [
 
 #[test]
 fn each_opening_may_fail(rt: HostRuntime) -> Result<(), Fail> {
-    are_met(&rt, &OPENINGS)
+    are_met(&rt, rt.alloc(), &OPENINGS)
 }
 
 const UNREAD: Row<'static> = Row {
@@ -124,7 +137,7 @@ const STATION_READINGS: [Row<'static>; 3] = [
 
 #[test]
 fn each_reading_of_a_station_may_fail(rt: HostRuntime) -> Result<(), Fail> {
-    are_met(&rt, &STATION_READINGS)
+    are_met(&rt, rt.alloc(), &STATION_READINGS)
 }
 
 const PAGE_2: &str = "page 2 0 0 494e4954 0 4000000 0 0 1048576 0000000000000000 0 0\n";
@@ -147,14 +160,14 @@ const SCRIPT_READINGS: [Row<'static>; 3] = [
     Row {
         fails: 2,
         want: &[Want::Is(&[
-            LINES[0], LINES[1], LINES[2], LINES[3], LINES[4], LINES[5], PAGE_2, FAILED,
+            REFUSED, ASKED, SAMPLE, SHORT, REPLY, VERSION, PAGE_2, FAILED,
         ])],
         ..CUT
     },
     Row {
         fails: 3,
         want: &[Want::Is(&[
-            LINES[0], LINES[1], LINES[2], LINES[3], LINES[4], LINES[5], LINES[6], LINES[7], FAILED,
+            REFUSED, ASKED, SAMPLE, SHORT, REPLY, VERSION, DECLINED, PAGE_3, FAILED,
         ])],
         ..CUT
     },
@@ -162,7 +175,7 @@ const SCRIPT_READINGS: [Row<'static>; 3] = [
 
 #[test]
 fn each_reading_of_a_script_may_fail(rt: HostRuntime) -> Result<(), Fail> {
-    are_met(&rt, &SCRIPT_READINGS)
+    are_met(&rt, rt.alloc(), &SCRIPT_READINGS)
 }
 
 const PAST: [Row<'static>; 1] = [Row {
@@ -178,7 +191,7 @@ const PAST: [Row<'static>; 1] = [Row {
 
 #[test]
 fn calls_past_the_last_fail_nothing(rt: HostRuntime) -> Result<(), Fail> {
-    are_met(&rt, &PAST)
+    are_met(&rt, rt.alloc(), &PAST)
 }
 
 const REPLAYED: Pieces<'static> = Pieces {
@@ -190,7 +203,7 @@ const REPLAYED: Pieces<'static> = Pieces {
 
 #[test]
 fn each_writing_of_a_replay_may_fail(rt: HostRuntime) -> Result<(), Fail> {
-    stops_at_each_writing(&rt, &REPLAYED)
+    stops_at_each_writing(&rt, rt.alloc(), &REPLAYED)
 }
 
 // A station with a fault.
@@ -200,7 +213,7 @@ const FAULTY: Row<'static> = Row {
     ..ROW
 };
 
-const REFUSED: Pieces<'static> = Pieces {
+const FAULTED: Pieces<'static> = Pieces {
     name: "each_writing_of_a_station_fault_may_fail",
     run: FAULTY,
     pieces: &["status 3 station unknown ", "leap", "\n"],
@@ -209,7 +222,7 @@ const REFUSED: Pieces<'static> = Pieces {
 
 #[test]
 fn each_writing_of_a_station_fault_may_fail(rt: HostRuntime) -> Result<(), Fail> {
-    stops_at_each_writing(&rt, &REFUSED)
+    stops_at_each_writing(&rt, rt.alloc(), &FAULTED)
 }
 
 // Minute marks with no second between them.
@@ -232,7 +245,7 @@ const DECODED: Pieces<'static> = Pieces {
 
 #[test]
 fn each_writing_of_a_log_may_fail(rt: HostRuntime) -> Result<(), Fail> {
-    stops_at_each_writing(&rt, &DECODED)
+    stops_at_each_writing(&rt, rt.alloc(), &DECODED)
 }
 
 const FIRST: Row<'static> = Row {
@@ -269,7 +282,7 @@ const WRITINGS: [Row<'static>; 4] = [
 
 #[test]
 fn a_failed_writing_comes_before_other_faults(rt: HostRuntime) -> Result<(), Fail> {
-    are_met(&rt, &WRITINGS)
+    are_met(&rt, rt.alloc(), &WRITINGS)
 }
 
 // Under checks/refuse-allocations.sh each allocation is refused in turn.
@@ -285,13 +298,13 @@ drop version\n\
 j2 3 0 1 5000000 declined 3\n\
 page 3 0 0 494e4954 0 5000000 0 0 1048576 0000000000000000 0 0\n\
 status 0\n";
-    wants_memory(&rt, &WHOLE, whole, Status::Done);
+    wants_memory(&rt, rt.alloc(), &WHOLE, whole, Status::Done);
 }
 
 #[test]
 fn want_of_memory_in_a_log(rt: HostRuntime) {
     let whole = "0 4000000 refused 3\n0 6000000 refused 3\nstatus 0\n";
-    wants_memory(&rt, &MARKS, whole, Status::Done);
+    wants_memory(&rt, rt.alloc(), &MARKS, whole, Status::Done);
 }
 
 const NO_PLAN: Row<'static> = Row {
@@ -306,8 +319,14 @@ const NO_BOUND: Row<'static> = Row {
 
 #[test]
 fn want_of_memory_in_a_refusal(rt: HostRuntime) {
-    wants_memory(&rt, &NO_PLAN, "status 1 usage\n", Status::Usage);
-    wants_memory(&rt, &NO_BOUND, "status 3 station toml\n", Status::Station);
+    wants_memory(&rt, rt.alloc(), &NO_PLAN, "status 1 usage\n", Status::Usage);
+    wants_memory(
+        &rt,
+        rt.alloc(),
+        &NO_BOUND,
+        "status 3 station toml\n",
+        Status::Station,
+    );
     let fault = "status 3 station unknown leap\n";
-    wants_memory(&rt, &FAULTY, fault, Status::Station);
+    wants_memory(&rt, rt.alloc(), &FAULTY, fault, Status::Station);
 }

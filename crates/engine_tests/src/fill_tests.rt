@@ -4,7 +4,11 @@ use crate::rows::{SENT, Sent, entries_of, have_sent, holds, same_count, same_sta
 use crate::runs::{Datagram, File, ROW, Row, Wire, run};
 use crate::test_station::{ASKS, FILE, FIVE_MINUTES, LINK, NO_TIME, RADIO, SECOND_RADIO, WIRE};
 use radio_engine::Status;
+use std::alloc::Global;
+use std::process::Abort;
+use std::sync::Wait;
 use std::test::Fail;
+use std::thread::Threads;
 
 // A row: its name, the arguments, what the link receives, how many of that is answered, and the line of the link. The last reply has no time.
 struct Fill<'a> {
@@ -92,9 +96,14 @@ fn ends_so(written: &[u8], link: &str) -> bool {
 }
 
 // Ten entries are due, and the journal has room for three: of each feed the first ones.
-fn is_filled(rt: &HostRuntime, row: &Fill<'_>) -> Result<(), Fail> {
+fn is_filled<R: Abort + Threads + Wait + Sync>(
+    rt: &R,
+    alloc: Global,
+    row: &Fill<'_>,
+) -> Result<(), Fail> {
     let ran = run(
         rt,
+        alloc,
         &Row {
             words: row.words,
             station: &[RADIO, SECOND_RADIO, LINK],
@@ -130,7 +139,7 @@ fn is_filled(rt: &HostRuntime, row: &Fill<'_>) -> Result<(), Fail> {
 #[test]
 fn two_radios_fill_a_journal(rt: HostRuntime) -> Result<(), Fail> {
     for row in &FILLS {
-        is_filled(&rt, row)?;
+        is_filled(&rt, rt.alloc(), row)?;
     }
     Ok(())
 }

@@ -7,6 +7,7 @@ use crate::runs::{Datagram, ROW, Ran, Row, Wire, run};
 use crate::test_station::{ASKS, CLIENT, FIVE_MINUTES, LINK, RADIO, REPLY, SECOND_LINK, WIRE};
 use feed_link::{Address, LinkEvent, MemoryLink, OpenGate};
 use radio_engine::Status;
+use std::process::Abort;
 use std::test::Fail;
 
 const GAP: &str = "gap = 2000000\n";
@@ -143,7 +144,7 @@ const REPLAYED: [Row<'static>; 4] = [
 
 #[test]
 fn clients_of_a_script_are_judged(rt: HostRuntime) -> Result<(), Fail> {
-    are_met(&rt, &REPLAYED)
+    are_met(&rt, rt.alloc(), &REPLAYED)
 }
 
 const UNHEARD: [Row<'static>; 2] = [
@@ -181,7 +182,7 @@ const UNHEARD: [Row<'static>; 2] = [
 
 #[test]
 fn no_request_is_judged_that_is_dropped(rt: HostRuntime) -> Result<(), Fail> {
-    are_met(&rt, &UNHEARD)
+    are_met(&rt, rt.alloc(), &UNHEARD)
 }
 
 const OTHER: Address = Address {
@@ -261,7 +262,7 @@ fn have_ids(link: &MemoryLink, client: Address, ids: &[&str]) -> bool {
 }
 
 // The replies of a link to a client have these reference IDs.
-fn are_replied(rt: &HostRuntime, ran: &Ran<OpenGate>, place: usize, client: Address, ids: &[&str]) {
+fn are_replied(rt: &impl Abort, ran: &Ran<OpenGate>, place: usize, client: Address, ids: &[&str]) {
     match ran.outside.link(place) {
         Some(link) => holds(rt, "the replies", have_ids(link, client, ids)),
         None => holds(rt, "no link", false),
@@ -277,7 +278,7 @@ fn has_lines(text: &[u8]) -> bool {
 // The second phase goes on with the table of the first: the client that was let pass there gets RATE. Each link has a table of its own.
 #[test]
 fn two_links_judge_over_both_phases(rt: HostRuntime) -> Result<(), Fail> {
-    let ran = run(&rt, &SERVED)?;
+    let ran = run(&rt, rt.alloc(), &SERVED)?;
     holds(&rt, "the links", has_lines(ran.written.as_slice()));
     same_status(&rt, "the status", ran.status, Status::Done);
     are_replied(&rt, &ran, 0, CLIENT, &[ANY, "RATE"]);
@@ -319,7 +320,7 @@ fn times_of(ran: &Ran<OpenGate>) -> usize {
 // The first reply has the time of the page, and the next is the kiss code at the same moments.
 #[test]
 fn a_link_tells_the_time_once_a_gap(rt: HostRuntime) -> Result<(), Fail> {
-    let ran = run(&rt, &ONCE)?;
+    let ran = run(&rt, rt.alloc(), &ONCE)?;
     same_status(&rt, "the status", ran.status, Status::Done);
     same_count(&rt, "the time", times_of(&ran), 1);
     are_replied(&rt, &ran, 0, CLIENT, &[ANY, "RATE"]);

@@ -2,7 +2,7 @@
 
 use crate::pieces::{Asked, Piece};
 use crate::rows::{Want, are_met, fits, same_status, same_text};
-use crate::runs::{File, ROW, Row, Wire, run_with};
+use crate::runs::{File, ROW, Row, Wire, run_held};
 use crate::test_station::{ANSWERS, EMPTY_PAGE, FILE, FIVE_MINUTES, RADIO, SERVER, WIRE};
 use feed_link::HoldGate;
 use radio_engine::Status;
@@ -149,7 +149,7 @@ const LISTS: [Row<'static>; 11] = [
 
 #[test]
 fn leap_second_files_are_read(rt: HostRuntime) -> Result<(), Fail> {
-    are_met(&rt, &LISTS)
+    are_met(&rt, rt.alloc(), &LISTS)
 }
 
 // A server that answers at 1 s beside them.
@@ -190,7 +190,7 @@ const OPENINGS: [Row<'static>; 3] = [
 
 #[test]
 fn it_is_opened_behind_the_logs(rt: HostRuntime) -> Result<(), Fail> {
-    are_met(&rt, &OPENINGS)
+    are_met(&rt, rt.alloc(), &OPENINGS)
 }
 
 const AFTER_THE_SERVER: &str =
@@ -203,7 +203,7 @@ status 0\n";
 #[test]
 fn its_feed_stands_behind_the_servers(rt: HostRuntime) -> Result<(), Fail> {
     let gate = HoldGate::new(2, 1, 1, 4, 1, 1_000_000_000);
-    let ran = run_with(&rt, &WITH_SERVER, gate)?;
+    let ran = run_held(&rt, rt.alloc(), &WITH_SERVER, gate)?;
     same_text(&rt, "the text", ran.written.as_slice(), AFTER_THE_SERVER);
     same_status(&rt, "the status", ran.status, Status::Done);
     Ok(())
@@ -226,8 +226,14 @@ page 6 1 1 44434600 17077896086183477248 302000000 4364906902 0 61542 ed00e13000
 #[test]
 fn the_page_of_a_station_is_armed(rt: HostRuntime) -> Result<(), Fail> {
     let gate = HoldGate::new(1, 1, 0, 4, 5, 1_000_000_000);
-    let ran = run_with(&rt, &COMING, gate)?;
-    fits(&rt, "the end", ran.written.as_slice(), &Want::Ends(ARMED))?;
+    let ran = run_held(&rt, rt.alloc(), &COMING, gate)?;
+    fits(
+        &rt,
+        rt.alloc(),
+        "the end",
+        ran.written.as_slice(),
+        &Want::Ends(ARMED),
+    )?;
     same_status(&rt, "the status", ran.status, Status::Done);
     Ok(())
 }
@@ -257,5 +263,5 @@ const REPLAYED: [Row<'static>; 1] = [Row {
 
 #[test]
 fn a_leap_second_is_replayed(rt: HostRuntime) -> Result<(), Fail> {
-    are_met(&rt, &REPLAYED)
+    are_met(&rt, rt.alloc(), &REPLAYED)
 }

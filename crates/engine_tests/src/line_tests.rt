@@ -4,6 +4,7 @@ use journal_entry::LINE_ROOM;
 use radio_engine::write_link_line;
 use responder::{End, Served};
 use station_crew::LinkWork;
+use std::process::Abort;
 
 const FIRST: Served = Served {
     answered: 1,
@@ -33,7 +34,7 @@ const MOST: Served = Served {
 };
 
 // The line of a link with this number.
-fn is_the_line(rt: &HostRuntime, number: usize, first: Served, second: Option<Served>, text: &str) {
+fn is_the_line(rt: &impl Abort, number: usize, first: Served, second: Option<Served>, text: &str) {
     let mut line = [0; LINE_ROOM];
     let length = write_link_line(number, &LinkWork { first, second }, &mut line);
     same_text(rt, "the line", &line[..length], text);

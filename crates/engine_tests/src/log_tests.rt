@@ -7,6 +7,7 @@ use crate::rows::{
 };
 use crate::runs::{ROW, Row};
 use radio_engine::Status;
+use std::process::Abort;
 use std::test::Fail;
 
 const WORDS: [&str; 5] = ["decode", "--plan", "dcf", "--log", "a"];
@@ -18,13 +19,8 @@ const VERDICT: &str = "0 122000000 verdict 3976257660 0\n";
 const DONE: &str = "status 0\n";
 
 const DECODED: Row<'static> = Row {
-    name: "",
     words: &WORDS,
-    station: &[],
-    text: &[],
-    fails: 0,
-    want: &[Want::Is(&[])],
-    end: Status::Done,
+    ..ROW
 };
 
 // The log of two frames, the second of which starts where the first has ended.
@@ -59,7 +55,7 @@ const BAD_LINES: [Told<'static>; 11] = [
 
 #[test]
 fn a_log_ends_at_its_first_bad_line(rt: HostRuntime) -> Result<(), Fail> {
-    are_told(&rt, &BAD, &BAD_LINES)
+    are_told(&rt, rt.alloc(), &BAD, &BAD_LINES)
 }
 
 const LAWFUL: [Told<'static>; 3] = [
@@ -70,7 +66,7 @@ const LAWFUL: [Told<'static>; 3] = [
 
 #[test]
 fn what_is_lawful_is_taken(rt: HostRuntime) -> Result<(), Fail> {
-    are_told(&rt, &DECODED, &LAWFUL)
+    are_told(&rt, rt.alloc(), &DECODED, &LAWFUL)
 }
 
 const BEFORE: [Row<'static>; 1] = [Row {
@@ -87,7 +83,7 @@ const BEFORE: [Row<'static>; 1] = [Row {
 
 #[test]
 fn entries_before_a_bad_line_stand(rt: HostRuntime) -> Result<(), Fail> {
-    are_met(&rt, &BEFORE)
+    are_met(&rt, rt.alloc(), &BEFORE)
 }
 
 const FAILED: &str = "status 4 read feed 0\n";
@@ -136,7 +132,7 @@ const READINGS: [Row<'static>; 6] = [
 
 #[test]
 fn a_read_that_fails_ends_the_log(rt: HostRuntime) -> Result<(), Fail> {
-    are_met(&rt, &READINGS)
+    are_met(&rt, rt.alloc(), &READINGS)
 }
 
 const UNOPENED: Row<'static> = Row {
@@ -160,7 +156,7 @@ const OPENINGS: [Row<'static>; 2] = [
 
 #[test]
 fn a_log_that_cannot_be_opened(rt: HostRuntime) -> Result<(), Fail> {
-    are_met(&rt, &OPENINGS)
+    are_met(&rt, rt.alloc(), &OPENINGS)
 }
 
 const USAGE: [&[&str]; 7] = [
@@ -175,7 +171,7 @@ const USAGE: [&[&str]; 7] = [
 
 #[test]
 fn other_words_are_usage(rt: HostRuntime) -> Result<(), Fail> {
-    are_usage(&rt, &USAGE)
+    are_usage(&rt, rt.alloc(), &USAGE)
 }
 
 // Each at the place of its number.
@@ -193,7 +189,7 @@ const STATUSES: [Status; 11] = [
     Status::TooLong,
 ];
 
-fn are_numbered(rt: &HostRuntime, statuses: &[Status]) {
+fn are_numbered(rt: &impl Abort, statuses: &[Status]) {
     for (place, status) in statuses.iter().enumerate() {
         same_count(rt, "a status", status.number() as usize, place);
     }
@@ -217,5 +213,5 @@ const WRITINGS: Pieces<'static> = Pieces {
 
 #[test]
 fn each_writing_of_two_minutes_may_fail(rt: HostRuntime) -> Result<(), Fail> {
-    stops_at_each_writing(&rt, &WRITINGS)
+    stops_at_each_writing(&rt, rt.alloc(), &WRITINGS)
 }

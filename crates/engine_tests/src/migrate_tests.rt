@@ -21,13 +21,10 @@ const NONE_KEPT: &str = "page 0 0 0 494e4954 0 0 0 0 1048576 0000000000000000 0 
 
 // An empty journal is moved.
 const MOVED: Row<'static> = Row {
-    name: "",
     words: &WORDS,
     station: &[RADIO],
-    text: &[],
-    fails: 0,
     want: &[Want::Is(&[NONE_KEPT, "status 0\n"])],
-    end: Status::Done,
+    ..ROW
 };
 
 const BOTH: [Row<'static>; 3] = [
@@ -51,7 +48,7 @@ const BOTH: [Row<'static>; 3] = [
 
 #[test]
 fn both_forms_give_the_second(rt: HostRuntime) -> Result<(), Fail> {
-    are_met(&rt, &BOTH)
+    are_met(&rt, rt.alloc(), &BOTH)
 }
 
 const RATED: &str =
@@ -80,7 +77,7 @@ const RATES: [Row<'static>; 2] = [
 
 #[test]
 fn a_line_tells_the_rate_after_it(rt: HostRuntime) -> Result<(), Fail> {
-    are_met(&rt, &RATES)
+    are_met(&rt, rt.alloc(), &RATES)
 }
 
 // The first line of each is bad, and nothing of it is kept.
@@ -132,7 +129,7 @@ const REFUSAL: [&str; 2] = [NONE_KEPT, "status 5 journal 1\n"];
 
 #[test]
 fn lines_of_no_journal(rt: HostRuntime) -> Result<(), Fail> {
-    are_told(&rt, &REFUSED, &NO_JOURNALS)
+    are_told(&rt, rt.alloc(), &REFUSED, &NO_JOURNALS)
 }
 
 // The second line is bad, after a minute that stands there once.
@@ -203,7 +200,7 @@ const CUTS: [Row<'static>; 7] = [
 
 #[test]
 fn lines_before_a_bad_one_stand(rt: HostRuntime) -> Result<(), Fail> {
-    are_met(&rt, &CUTS)
+    are_met(&rt, rt.alloc(), &CUTS)
 }
 
 const SINGLE: [Row<'static>; 5] = [
@@ -256,7 +253,7 @@ const SINGLE: [Row<'static>; 5] = [
 
 #[test]
 fn journals_are_moved(rt: HostRuntime) -> Result<(), Fail> {
-    are_met(&rt, &SINGLE)
+    are_met(&rt, rt.alloc(), &SINGLE)
 }
 
 // A journal of two minutes is moved.
@@ -308,7 +305,7 @@ const FAULTS: [Row<'static>; 5] = [
 
 #[test]
 fn openings_and_readings_that_fail(rt: HostRuntime) -> Result<(), Fail> {
-    are_met(&rt, &FAULTS)
+    are_met(&rt, rt.alloc(), &FAULTS)
 }
 
 // A write that fails is the last: each line is written in one.
@@ -321,5 +318,5 @@ const WRITINGS: Pieces<'static> = Pieces {
 
 #[test]
 fn writings_that_fail(rt: HostRuntime) -> Result<(), Fail> {
-    stops_at_each_writing(&rt, &WRITINGS)
+    stops_at_each_writing(&rt, rt.alloc(), &WRITINGS)
 }

@@ -179,5 +179,5 @@ const REPLAYED: [Row<'static>; 1] = [Row {
 
 #[test]
 fn a_leap_second_ends_a_page(rt: HostRuntime) -> Result<(), Fail> {
-    are_met(&rt, &REPLAYED)
+    are_met(&rt, rt.alloc(), &REPLAYED)
 }

@@ -13,9 +13,11 @@ use radio_receiver::{DcfReceiver, MsfReceiver, Receiver, WwvbReceiver};
 use receiver_rack::put_in_rack;
 use script_player::BoxedReceiver;
 use std::alloc::{AllocError, Global};
-use std::sync::Arc;
+use std::process::Abort;
 use std::sync::atomic::{AtomicU64, Ordering};
+use std::sync::{Arc, Wait};
 use std::test::Fail;
+use std::thread::Threads;
 use tick_units::{Heard, Plan, Reduction};
 
 // How many times more each receiver of a plan adds than the one before it, which adds 1 at first: four hexadecimal digits of a count are of
@@ -72,8 +74,9 @@ struct Counts {
 }
 
 // Runs the words with four receivers of each plan, each of which notes where it receives.
-fn run_noting<G: Gate + Drop>(
-    rt: &HostRuntime,
+fn run_noting<R: Threads + Wait + Sync, G: Gate + Drop>(
+    rt: &R,
+    alloc: Global,
     words: &[&str],
     heard: &Counts,
     outside: &mut MemoryOutside<G>,
@@ -81,7 +84,6 @@ fn run_noting<G: Gate + Drop>(
 ) -> Result<Status, AllocError>
     requires { is_gate_out outside.old ≡ false }
 {
-    let alloc = rt.alloc();
     let mut rack: Vec<BoxedReceiver> = Vec::new(alloc);
     let mut step = 1u64;
     for _ in 0..OF_A_PLAN {
@@ -149,11 +151,14 @@ const SWAPPED: Row<'static> = Row {
 };
 
 // Runs it with receivers that take notes.
-fn noted(rt: &HostRuntime, heard: &Counts) -> Result<Status, FakeOpen> {
-    let alloc = rt.alloc();
+fn noted<R: Threads + Wait + Sync>(
+    rt: &R,
+    alloc: Global,
+    heard: &Counts,
+) -> Result<Status, FakeOpen> {
     let mut outside = outside_of(alloc, &SWAPPED, OpenGate::new())?;
     let mut out = MemorySink::new(alloc, Vec::new(alloc));
-    Ok(run_noting(rt, SWAPPED.words, heard, &mut outside, &mut out)?)
+    Ok(run_noting(rt, alloc, SWAPPED.words, heard, &mut outside, &mut out)?)
 }
 
 fn no_counts(alloc: Global) -> Result<Counts, AllocError> {
@@ -165,7 +170,7 @@ fn no_counts(alloc: Global) -> Result<Counts, AllocError> {
 }
 
 // The count is this one.
-fn is_count(rt: &HostRuntime, count: &AtomicU64, want: u64) {
+fn is_count(rt: &impl Abort, count: &AtomicU64, want: u64) {
     assert_eq!(rt; count.load(Ordering::SeqCst), want);
 }
 
@@ -173,7 +178,7 @@ fn is_count(rt: &HostRuntime, count: &AtomicU64, want: u64) {
 #[test]
 fn receivers_are_used_in_the_order_of_the_rack(rt: HostRuntime) -> Result<(), Fail> {
     let heard = no_counts(rt.alloc())?;
-    let status = noted(&rt, &heard)?;
+    let status = noted(&rt, rt.alloc(), &heard)?;
     same_status(&rt, "the status", status, Status::Done);
     is_count(&rt, &heard.dcf, 0x0005_0004_0002_0003);
     is_count(&rt, &heard.msf, 0x0006_0001);

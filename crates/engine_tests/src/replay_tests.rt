@@ -38,13 +38,12 @@ const FOUR: Piece<'static> = Piece::Pulses(0, 242_000_000);
 
 const FIFTH: Piece<'static> = Piece::Pulses(242_000_000, 302_000_000);
 
-const ENTRIES: [&str; 5] = [
-    "j2 1 0 0 62000000 lone 3976257600\n",
-    "j2 2 0 0 122000000 verdict 3976257660 0\n",
-    "j2 3 0 0 182000000 verdict 3976257720 0\n",
-    "j2 4 0 0 242000000 verdict 3976257780 0\n",
-    "j2 5 0 0 302000000 verdict 3976257840 0\n",
-];
+const FIRST_4: &str = "j2 1 0 0 62000000 lone 3976257600\n\
+j2 2 0 0 122000000 verdict 3976257660 0\n\
+j2 3 0 0 182000000 verdict 3976257720 0\n\
+j2 4 0 0 242000000 verdict 3976257780 0\n";
+
+const LAST: &str = "j2 5 0 0 302000000 verdict 3976257840 0\n";
 
 const NO_TIME: &str = "reply e40006ec0000000000100000494e4954000000000000000011223344556677880000\
 00f300000000000000f30020c49b\n";
@@ -76,12 +75,9 @@ const MINUTES: [Row<'static>; 4] = [
         name: "five_minutes_make_a_page",
         text: &[FOUR, AT_243, FIFTH, Piece::Asks(AT_303)],
         want: &[Want::Is(&[
-            ENTRIES[0],
-            ENTRIES[1],
-            ENTRIES[2],
-            ENTRIES[3],
+            FIRST_4,
             NO_TIME,
-            ENTRIES[4],
+            LAST,
             TIME,
             "page 5 1 1 44434600 17077896086183477248 302000000 4364906902 0 61542 ed00e13000000000 0 0\n",
             "status 0\n",
@@ -143,17 +139,13 @@ const MINUTES: [Row<'static>; 4] = [
 
 #[test]
 fn minutes_make_pages(rt: HostRuntime) -> Result<(), Fail> {
-    are_met(&rt, &MINUTES)
+    are_met(&rt, rt.alloc(), &MINUTES)
 }
 
 const REQUESTS: Row<'static> = Row {
-    name: "",
     words: &WORDS,
     station: &[RADIO],
-    text: &[],
-    fails: 0,
-    want: &[Want::Is(&[])],
-    end: Status::Done,
+    ..ROW
 };
 
 // A request at 1 s.
@@ -205,7 +197,7 @@ const ASKED: [Row<'static>; 2] = [
 
 #[test]
 fn requests_are_answered_or_dropped(rt: HostRuntime) -> Result<(), Fail> {
-    are_met(&rt, &ASKED)
+    are_met(&rt, rt.alloc(), &ASKED)
 }
 
 const KEYED: Row<'static> = Row {
@@ -266,5 +258,5 @@ const SEALS: [Row<'static>; 3] = [
 
 #[test]
 fn a_reply_of_a_script_is_sealed_as_its_request_is(rt: HostRuntime) -> Result<(), Fail> {
-    are_met(&rt, &SEALS)
+    are_met(&rt, rt.alloc(), &SEALS)
 }

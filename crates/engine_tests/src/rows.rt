@@ -5,7 +5,11 @@ use crate::runs::{ROW, Row, run};
 use crate::test_station::CLIENT;
 use feed_link::{Address, Gate, HoldGate, LinkEvent, MemoryLink, MemoryOutside};
 use radio_engine::Status;
+use std::alloc::Global;
+use std::process::Abort;
+use std::sync::Wait;
 use std::test::Fail;
+use std::thread::Threads;
 
 /// What is known of a text.
 #[derive(Clone, Copy)]
@@ -50,22 +54,22 @@ pub struct Pieces<'a> {
 }
 
 /// The bytes are this text.
-pub fn same_text(rt: &HostRuntime, name: &str, left: &[u8], right: &str) {
+pub fn same_text(rt: &impl Abort, name: &str, left: &[u8], right: &str) {
     assert_eq!(rt; left, right.as_bytes(), "{name}");
 }
 
 /// The status is this one.
-pub fn same_status(rt: &HostRuntime, name: &str, left: Status, right: Status) {
+pub fn same_status(rt: &impl Abort, name: &str, left: Status, right: Status) {
     assert_eq!(rt; left, right, "{name}");
 }
 
 /// The numbers are the same.
-pub fn same_count(rt: &HostRuntime, name: &str, left: usize, right: usize) {
+pub fn same_count(rt: &impl Abort, name: &str, left: usize, right: usize) {
     assert_eq!(rt; left, right, "{name}");
 }
 
 /// This holds.
-pub fn holds(rt: &HostRuntime, name: &str, fact: bool) {
+pub fn holds(rt: &impl Abort, name: &str, fact: bool) {
     assert!(rt; fact, "{name}");
 }
 
@@ -82,10 +86,16 @@ fn is_line(written: &[u8], number: usize, text: &str) -> bool {
 }
 
 /// The text is as it is wanted.
-pub fn fits(rt: &HostRuntime, name: &str, written: &[u8], want: &Want<'_>) -> Result<(), Fail> {
+pub fn fits(
+    rt: &impl Abort,
+    alloc: Global,
+    name: &str,
+    written: &[u8],
+    want: &Want<'_>,
+) -> Result<(), Fail> {
     match *want {
         Want::Is(texts) => {
-            let whole = joined(rt.alloc(), texts)?;
+            let whole = joined(alloc, texts)?;
             same_text(rt, name, written, whole.as_str());
         }
         Want::Begins(text) => holds(rt, name, written.starts_with(text.as_bytes())),
@@ -112,7 +122,7 @@ pub fn sent_to(link: &MemoryLink, address: Address) -> (usize, &[u8]) {
 }
 
 /// A link has sent what is wanted.
-fn has_sent(rt: &HostRuntime, name: &str, link: &MemoryLink, want: &Sent<'_>) {
+fn has_sent(rt: &impl Abort, name: &str, link: &MemoryLink, want: &Sent<'_>) {
     let (count, last) = sent_to(link, want.to);
     same_count(rt, name, count, want.count.unwrap_or(count));
     holds(rt, name, last.starts_with(want.last));
@@ -121,7 +131,7 @@ fn has_sent(rt: &HostRuntime, name: &str, link: &MemoryLink, want: &Sent<'_>) {
 
 /// The links have sent what is wanted.
 pub fn have_sent<G: Gate + Drop>(
-    rt: &HostRuntime,
+    rt: &impl Abort,
     name: &str,
     outside: &MemoryOutside<G>,
     wants: &[Sent<'_>],
@@ -151,10 +161,14 @@ pub fn are_sent(link: &MemoryLink, address: Address, wants: &[&[u8]]) -> bool {
 }
 
 // A row is as it is wanted.
-fn is_met(rt: &HostRuntime, row: &Row<'_>) -> Result<(), Fail> {
-    let ran = run(rt, row)?;
+fn is_met<R: Abort + Threads + Wait + Sync>(
+    rt: &R,
+    alloc: Global,
+    row: &Row<'_>,
+) -> Result<(), Fail> {
+    let ran = run(rt, alloc, row)?;
     for want in row.want {
-        fits(rt, row.name, ran.written.as_slice(), want)?;
+        fits(rt, alloc, row.name, ran.written.as_slice(), want)?;
     }
     same_status(rt, row.name, ran.status, row.end);
     holds(rt, row.name, ran.outside.turns().is_some());
@@ -163,9 +177,13 @@ fn is_met(rt: &HostRuntime, row: &Row<'_>) -> Result<(), Fail> {
 }
 
 /// Each row is as it is wanted.
-pub fn are_met(rt: &HostRuntime, rows: &[Row<'_>]) -> Result<(), Fail> {
+pub fn are_met<R: Abort + Threads + Wait + Sync>(
+    rt: &R,
+    alloc: Global,
+    rows: &[Row<'_>],
+) -> Result<(), Fail> {
     for row in rows {
-        is_met(rt, row)?;
+        is_met(rt, alloc, row)?;
     }
     Ok(())
 }
@@ -175,13 +193,19 @@ pub fn are_met(rt: &HostRuntime, rows: &[Row<'_>]) -> Result<(), Fail> {
 pub struct Told<'a>(pub &'a str, pub &'a [&'a str]);
 
 /// Each of these texts is told so, where all else is as in a row.
-pub fn are_told(rt: &HostRuntime, row: &Row<'_>, texts: &[Told<'_>]) -> Result<(), Fail> {
+pub fn are_told<R: Abort + Threads + Wait + Sync>(
+    rt: &R,
+    alloc: Global,
+    row: &Row<'_>,
+    texts: &[Told<'_>],
+) -> Result<(), Fail> {
     for told in texts {
         let Told(told, wanted) = *told;
         let text = [Piece::Text(told)];
         let want = [Want::Is(wanted)];
         is_met(
             rt,
+            alloc,
             &Row {
                 name: told,
                 text: &text,
@@ -194,10 +218,15 @@ pub fn are_told(rt: &HostRuntime, row: &Row<'_>, texts: &[Told<'_>]) -> Result<(
 }
 
 /// Each of these arguments asks for no command.
-pub fn are_usage(rt: &HostRuntime, lists: &[&[&str]]) -> Result<(), Fail> {
+pub fn are_usage<R: Abort + Threads + Wait + Sync>(
+    rt: &R,
+    alloc: Global,
+    lists: &[&[&str]],
+) -> Result<(), Fail> {
     for words in lists {
         is_met(
             rt,
+            alloc,
             &Row {
                 name: "usage",
                 words: *words,
@@ -212,20 +241,22 @@ pub fn are_usage(rt: &HostRuntime, lists: &[&[&str]]) -> Result<(), Fail> {
 }
 
 /// A run whose writing of this number fails writes the pieces before it, and ends so.
-pub fn stops_at(
-    rt: &HostRuntime,
+pub fn stops_at<R: Abort + Threads + Wait + Sync>(
+    rt: &R,
+    alloc: Global,
     row: &Pieces<'_>,
     writing: usize,
     end: Status,
 ) -> Result<(), Fail> {
     let ran = run(
         rt,
+        alloc,
         &Row {
             writing: writing as u64,
             ..row.run
         },
     )?;
-    let mut want = String::new(rt.alloc());
+    let mut want = String::new(alloc);
     for piece in row.pieces.iter().take(writing.saturating_sub(1)) {
         want.push_str(piece)?;
     }
@@ -235,18 +266,28 @@ pub fn stops_at(
 }
 
 /// Where the writing of a piece fails, the pieces before it stand and nothing else. Where the one after the last fails, nothing does.
-pub fn stops_at_each_writing(rt: &HostRuntime, row: &Pieces<'_>) -> Result<(), Fail> {
+pub fn stops_at_each_writing<R: Abort + Threads + Wait + Sync>(
+    rt: &R,
+    alloc: Global,
+    row: &Pieces<'_>,
+) -> Result<(), Fail> {
     let count = row.pieces.len();
     for before in 0..count {
-        stops_at(rt, row, before.saturating_add(1), Status::WriteFault)?;
+        stops_at(rt, alloc, row, before.saturating_add(1), Status::WriteFault)?;
     }
-    stops_at(rt, row, count.saturating_add(1), row.end)
+    stops_at(rt, alloc, row, count.saturating_add(1), row.end)
 }
 
 /// A run where memory may be refused. What it writes is the whole text, or the status of want of memory alone, or, where the output in memory
 /// found no room for more, a prefix of the text. Where the run wasn't reached nothing is judged.
-pub fn wants_memory(rt: &HostRuntime, row: &Row<'_>, whole: &str, end: Status) {
-    let Ok(ran) = run(rt, row) else {
+pub fn wants_memory<R: Abort + Threads + Wait + Sync>(
+    rt: &R,
+    alloc: Global,
+    row: &Row<'_>,
+    whole: &str,
+    end: Status,
+) {
+    let Ok(ran) = run(rt, alloc, row) else {
         return;
     };
     let written = ran.written.as_slice();
@@ -264,7 +305,7 @@ pub fn wants_memory(rt: &HostRuntime, row: &Row<'_>, whole: &str, end: Status) {
 }
 
 /// The worker that a gate held has passed its place, and waited no longer than it was to.
-pub fn has_held(rt: &HostRuntime, name: &str, outside: &MemoryOutside<HoldGate>) {
+pub fn has_held(rt: &(impl Abort + Wait), name: &str, outside: &MemoryOutside<HoldGate>) {
     match outside.turns() {
         Some(gate) => {
             holds(rt, name, gate.passed(rt) >= 1);

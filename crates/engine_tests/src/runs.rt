@@ -6,14 +6,16 @@ ghost use Rattle.feed_link.specs.MemoryOutside.{is_gate_out};
 use crate::pieces::{Piece, joined, text_of};
 use crate::rows::{Sent, Want};
 use feed_link::{
-    Address, FakeOpen, Gate, MemoryLink, MemoryOutside, MemorySink, MemorySource, NamedLog,
-    OpenGate, Planned,
+    Address, FakeOpen, Gate, HoldGate, MemoryLink, MemoryOutside, MemorySink, MemorySource,
+    NamedLog, OpenGate, Planned,
 };
 use radio_engine::{Status, run_station};
 use radio_receiver::{DcfReceiver, MsfReceiver, WwvbReceiver};
 use receiver_rack::put_in_rack;
 use script_player::BoxedReceiver;
 use std::alloc::{AllocError, Global};
+use std::sync::Wait;
+use std::thread::Threads;
 use tick_units::{Local, Plan};
 
 /// A file: its name, its text, bytes after it, and its reading that fails, counted from 1, or 0 for none.
@@ -173,16 +175,16 @@ pub fn outside_of<G: Gate + Drop>(
     MemoryOutside::new(alloc, logs, links, gate, fails, 12, 100)
 }
 
-/// Runs with this gate.
-pub fn run_with<G: Gate + Drop>(
-    rt: &HostRuntime,
+// Runs with this gate.
+fn run_with<R: Threads + Wait + Sync, G: Gate + Drop>(
+    rt: &R,
+    alloc: Global,
     row: &Row<'_>,
     gate: G,
 ) -> Result<Ran<G>, FakeOpen> {
-    let alloc = rt.alloc();
     let mut outside = outside_of(alloc, row, gate)?;
     let mut out = MemorySink::new(alloc, vec![in alloc; row.writing]?);
-    let status = run_over(rt, row.words, &mut outside, &mut out)?;
+    let status = run_over(rt, alloc, row.words, &mut outside, &mut out)?;
     Ok(Ran {
         written: out.into_bytes(),
         status,
@@ -191,23 +193,37 @@ pub fn run_with<G: Gate + Drop>(
 }
 
 /// Runs with a gate that holds nobody.
-pub fn run(rt: &HostRuntime, row: &Row<'_>) -> Result<Ran<OpenGate>, FakeOpen> {
-    run_with(rt, row, OpenGate::new())
+pub fn run<R: Threads + Wait + Sync>(
+    rt: &R,
+    alloc: Global,
+    row: &Row<'_>,
+) -> Result<Ran<OpenGate>, FakeOpen> {
+    run_with(rt, alloc, row, OpenGate::new())
+}
+
+/// Runs with a gate that holds a worker.
+pub fn run_held<R: Threads + Wait + Sync>(
+    rt: &R,
+    alloc: Global,
+    row: &Row<'_>,
+    gate: HoldGate,
+) -> Result<Ran<HoldGate>, FakeOpen> {
+    run_with(rt, alloc, row, gate)
 }
 
 /// The receivers of each plan.
 pub const OF_A_PLAN: usize = 4;
 
 // Runs the words with four receivers of each plan.
-fn run_over<G: Gate + Drop>(
-    rt: &HostRuntime,
+fn run_over<R: Threads + Wait + Sync, G: Gate + Drop>(
+    rt: &R,
+    alloc: Global,
     words: &[&str],
     outside: &mut MemoryOutside<G>,
     out: &mut MemorySink,
 ) -> Result<Status, AllocError>
     requires { is_gate_out outside.old ≡ false }
 {
-    let alloc = rt.alloc();
     let mut rack: Vec<BoxedReceiver> = Vec::new(alloc);
     for _ in 0..OF_A_PLAN {
         put_in_rack(&mut rack, Box::new(alloc, DcfReceiver::new())?, Plan::Dcf)?;

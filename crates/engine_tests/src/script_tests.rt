@@ -22,13 +22,10 @@ const REPLAY: Row<'static> = Row {
 
 // An empty script gives an empty page.
 const REPLAYED: Row<'static> = Row {
-    name: "",
     words: &WORDS,
     station: &[RADIO],
-    text: &[],
-    fails: 0,
     want: &[Want::Is(&[EMPTY_PAGE, "status 0\n"])],
-    end: Status::Done,
+    ..ROW
 };
 
 const ASKS: Asked<'static> = Asked {
@@ -100,7 +97,7 @@ j2 1 0 0 1010000 sample 17077897383243199545 40802189 8837 2 7f000001 256 512\nj
 
 #[test]
 fn scripts_are_played(rt: HostRuntime) -> Result<(), Fail> {
-    are_met(&rt, &WORKED)
+    are_met(&rt, rt.alloc(), &WORKED)
 }
 
 const BAD: Row<'static> = Row {
@@ -132,7 +129,7 @@ const BAD_LINES: [Told<'static>; 10] = [
 
 #[test]
 fn a_script_ends_at_its_first_bad_line(rt: HostRuntime) -> Result<(), Fail> {
-    are_told(&rt, &BAD, &BAD_LINES)
+    are_told(&rt, rt.alloc(), &BAD, &BAD_LINES)
 }
 
 // A station with a fault.
@@ -209,8 +206,8 @@ const NO_TEXT: [Row<'static>; 1] = [Row {
 
 #[test]
 fn a_station_with_a_fault(rt: HostRuntime) -> Result<(), Fail> {
-    are_met(&rt, &FAULTS)?;
-    are_met(&rt, &NO_TEXT)
+    are_met(&rt, rt.alloc(), &FAULTS)?;
+    are_met(&rt, rt.alloc(), &NO_TEXT)
 }
 
 // A station file of these pieces, with nothing in it.
@@ -249,7 +246,7 @@ const LONG: [Row<'static>; 3] = [
 
 #[test]
 fn files_have_a_length(rt: HostRuntime) -> Result<(), Fail> {
-    are_met(&rt, &LONG)
+    are_met(&rt, rt.alloc(), &LONG)
 }
 
 const USAGE: [&[&str]; 4] = [
@@ -269,8 +266,8 @@ const VALID: [Row<'static>; 1] = [Row {
 
 #[test]
 fn words_of_other_commands_are_usage(rt: HostRuntime) -> Result<(), Fail> {
-    are_usage(&rt, &USAGE)?;
-    are_met(&rt, &VALID)
+    are_usage(&rt, rt.alloc(), &USAGE)?;
+    are_met(&rt, rt.alloc(), &VALID)
 }
 
 // The answers are those of `a_full_journal_goes_on`, 1.4 ms earlier.
@@ -361,5 +358,5 @@ const SWAPS: [Row<'static>; 3] = [
 
 #[test]
 fn a_radio_is_swapped(rt: HostRuntime) -> Result<(), Fail> {
-    are_met(&rt, &SWAPS)
+    are_met(&rt, rt.alloc(), &SWAPS)
 }

@@ -123,7 +123,7 @@ const POLLED: [Row<'static>; 4] = [
 
 #[test]
 fn servers_are_polled(rt: HostRuntime) -> Result<(), Fail> {
-    are_met(&rt, &POLLED)
+    are_met(&rt, rt.alloc(), &POLLED)
 }
 
 const LINKED: [Row<'static>; 5] = [
@@ -238,7 +238,7 @@ const LINKED: [Row<'static>; 5] = [
 
 #[test]
 fn links_are_served(rt: HostRuntime) -> Result<(), Fail> {
-    are_met(&rt, &LINKED)
+    are_met(&rt, rt.alloc(), &LINKED)
 }
 
 const HEARD: [Row<'static>; 9] = [
@@ -347,5 +347,5 @@ const HEARD: [Row<'static>; 9] = [
 
 #[test]
 fn radios_are_heard(rt: HostRuntime) -> Result<(), Fail> {
-    are_met(&rt, &HEARD)
+    are_met(&rt, rt.alloc(), &HEARD)
 }

@@ -5,14 +5,18 @@ use crate::rows::{
     Pieces, SENT, Sent, Want, are_met, are_sent, fits, has_held, have_sent, holds, same_status,
     stops_at_each_writing,
 };
-use crate::runs::{Datagram, File, ROW, Ran, Row, Wire, run, run_with};
+use crate::runs::{Datagram, File, ROW, Ran, Row, Wire, run, run_held};
 use crate::test_station::{
     ANSWERS, ASKS, CLIENT, FILE, FIVE_MINUTES, KEY, LINK, LONE, RADIO, REPLY, SECOND_LINK,
     SECOND_RADIO, TIME, TWO_MINUTES, VERDICT, VERDICT_PAGE, WIRE,
 };
 use feed_link::{HoldGate, LinkEvent};
 use radio_engine::Status;
+use std::alloc::Global;
+use std::process::Abort;
+use std::sync::Wait;
 use std::test::Fail;
+use std::thread::Threads;
 
 const AFTER_4: [&str; 7] = ["serve", "--station", "s", "--during", "0", "--after", "4"];
 
@@ -86,7 +90,7 @@ const OPENINGS: [Row<'static>; 4] = [
 // What was opened was not used.
 #[test]
 fn each_opening_may_fail(rt: HostRuntime) -> Result<(), Fail> {
-    are_met(&rt, &OPENINGS)
+    are_met(&rt, rt.alloc(), &OPENINGS)
 }
 
 // The lines of the journal, of the link, of the page, and the status line, each of which may not be taken.
@@ -111,7 +115,7 @@ const WRITINGS: Pieces<'static> = Pieces {
 
 #[test]
 fn each_writing_may_fail(rt: HostRuntime) -> Result<(), Fail> {
-    stops_at_each_writing(&rt, &WRITINGS)
+    stops_at_each_writing(&rt, rt.alloc(), &WRITINGS)
 }
 
 // Three radios that receive alike and two links.
@@ -152,12 +156,17 @@ const REPLIED: [Sent<'static>; 2] = [Sent {
 }; 2];
 
 // Three radios are served with a gate that holds a worker.
-fn held(rt: &HostRuntime, gate: HoldGate) -> Result<Ran<HoldGate>, Fail> {
-    let ran = run_with(rt, &THREE_RADIOS, gate)?;
+fn held<R: Abort + Threads + Wait + Sync>(
+    rt: &R,
+    alloc: Global,
+    gate: HoldGate,
+) -> Result<Ran<HoldGate>, Fail> {
+    let ran = run_held(rt, alloc, &THREE_RADIOS, gate)?;
     has_held(rt, "the gate", &ran.outside);
     same_status(rt, "the status", ran.status, Status::Done);
     fits(
         rt,
+        alloc,
         "the end",
         ran.written.as_slice(),
         &Want::Ends(FIVE_OF_3),
@@ -169,7 +178,11 @@ fn held(rt: &HostRuntime, gate: HoldGate) -> Result<Ran<HoldGate>, Fail> {
 // The first feed waits at its first entry until a responder has answered.
 #[test]
 fn a_feed_waits_for_a_responder(rt: HostRuntime) -> Result<(), Fail> {
-    held(&rt, HoldGate::new(0, 1, 100, 3, 1, 1_000_000_000))?;
+    held(
+        &rt,
+        rt.alloc(),
+        HoldGate::new(0, 1, 100, 3, 1, 1_000_000_000),
+    )?;
     Ok(())
 }
 
@@ -187,7 +200,11 @@ fn has_sent_at(ran: &Ran<HoldGate>, place: usize, begin: &[u8]) -> bool {
 // A responder waits with its first datagram until the first feed has put five entries into the journal; so the page that it reads then has them.
 #[test]
 fn a_responder_waits_for_a_feed(rt: HostRuntime) -> Result<(), Fail> {
-    let ran = held(&rt, HoldGate::new(100, 2, 0, 4, 5, 1_000_000_000))?;
+    let ran = held(
+        &rt,
+        rt.alloc(),
+        HoldGate::new(100, 2, 0, 4, 5, 1_000_000_000),
+    )?;
     holds(&rt, "the first reply", has_sent_at(&ran, 2, &TIME));
     Ok(())
 }
@@ -243,7 +260,7 @@ const KEYED: Row<'static> = Row {
 // The first request is authentic by the station's key. The second has a wrong last byte, and the third has no digest.
 #[test]
 fn a_reply_is_authentic_where_its_request_is(rt: HostRuntime) -> Result<(), Fail> {
-    let ran = run(&rt, &KEYED)?;
+    let ran = run(&rt, rt.alloc(), &KEYED)?;
     same_status(&rt, "the status", ran.status, Status::Done);
     let link = ran.outside.link(0).ok_or("a link is out")?;
     let wants: [&[u8]; 3] = [&SEALED, &REPLY, &REPLY];
