@@ -35,7 +35,10 @@ const TWO_LINKS: Case<'static> = Case {
 // Both links have answered once.
 fn have_answered(rt: &impl Abort, ended: &Done) {
     for link in &ended.links {
-        let later = link.second.map_or(0, |second| second.answered);
+        let later = match link.second {
+            Some(second) => second.answered,
+            None => 0,
+        };
         holds(
             rt,
             "one answer",

@@ -71,8 +71,10 @@ pub fn have_served(rt: &impl Abort, ended: &Done, want: &[LinkWork]) {
 
 /// The first link has done this in the first phase.
 pub fn has_first(rt: &impl Abort, ended: &Done, want: Served) {
-    let first = ended.links.get(0).map(|link| link.first);
-    assert_eq!(rt; first, Some(want));
+    match ended.links.get(0) {
+        Some(link) => assert_eq!(*rt; link.first, want),
+        None => holds(rt, "no link", false),
+    }
 }
 
 /// The leap second file has done this.
@@ -125,14 +127,20 @@ pub const REPLY: Reply<'static> = Reply {
     second: &[],
 };
 
+// Whether these bytes stand there from a place on.
+fn has_at(bytes: &[u8], place: usize, part: &[u8]) -> bool {
+    match bytes.get(place..) {
+        Some(rest) => rest.starts_with(part),
+        None => false,
+    }
+}
+
 fn is_reply(to: Address, bytes: &[u8], want: &Reply<'_>) -> bool {
     to == want.to
         && bytes.len() == 48
         && bytes.starts_with(want.begin)
-        && bytes.get(12..16).is_some_and(|id| id == want.id)
-        && bytes
-            .get(32..)
-            .is_some_and(|rest| rest.starts_with(want.second))
+        && has_at(bytes, 12, want.id)
+        && has_at(bytes, 32, want.second)
 }
 
 // Whether a link has sent these replies, in order.
