@@ -26,7 +26,135 @@ const BAD: Row<'static> = Row {
     ..ROW
 };
 
-const LINES: [Row<'static>; 9] = [
+const READ: Row<'static> = Row {
+    name: "each_reading_of_a_log_may_fail",
+    text: &[Piece::Minutes(2)],
+    end: Status::ReadFault,
+    ..BAD
+};
+
+const UNREAD: Row<'static> = Row {
+    name: "each_reading_of_a_station_that_is_served_may_fail",
+    want: &[Want::Is(&["status 4 read station\n"])],
+    end: Status::ReadFault,
+    ..ONE_RADIO
+};
+
+const ONE_RADIO: Row<'static> = Row {
+    words: &WORDS,
+    station: &[RADIO],
+    fails: 1,
+    ..ROW
+};
+
+// A client's request at 1 s: version 4, a poll of 64 s, and zeros.
+const REQUEST: Datagram<'static> = Datagram {
+    at: 1_000_000,
+    bytes: &[0x23, 0x00, 0x06, 0xec],
+    zeros: 44,
+    ..ASKS
+};
+
+const ONE_LINK: Row<'static> = Row {
+    words: &WORDS,
+    station: &[LINK],
+    ..ROW
+};
+
+const DROPPED: Row<'static> = Row {
+    name: "datagrams_are_short_under_48_bytes",
+    want: &[Want::Is(&[
+        "link 0 answered 0 dropped 1 again 0 kissed 0 unkept 0 end linkend\n",
+        EMPTY_PAGE,
+        "status 0\n",
+    ])],
+    sent: &[Sent {
+        count: Some(0),
+        ..SENT
+    }],
+    ..ONE_LINK
+};
+
+const ANSWERED: Row<'static> = Row {
+    name: "datagrams_are_short_under_48_bytes",
+    want: &[Want::Is(&[
+        "link 0 answered 1 dropped 0 again 0 kissed 0 unkept 0 end linkend\n",
+        EMPTY_PAGE,
+        "status 0\n",
+    ])],
+    sent: &[Sent {
+        count: Some(1),
+        last: &NO_TIME,
+        ..SENT
+    }],
+    ..ONE_LINK
+};
+
+// A link to a server that answers three times, at first to the request of 1 s.
+const SERVED: Wire<'static> = Wire {
+    moment: 1_000_000,
+    hears: &[ANSWERS; 3],
+    fails: 0,
+};
+
+const POLLED: Row<'static> = Row {
+    words: &WORDS,
+    station: &[SERVER_3],
+    links: &[Wire { fails: 3, ..SERVED }],
+    ..ROW
+};
+
+// Of the second round there is the moment of its request alone.
+#[test]
+fn a_second_sending_that_fails_cuts_its_round(rt: HostRuntime) -> Result<(), Fail> {
+    let ran = run(&rt, rt.alloc(), &POLLED)?;
+    let link = ran.outside.link(0).ok_or("a link is out")?;
+    let is_moment = matches!(link.event(3), Some(LinkEvent::Moment(_)));
+    holds(&rt, "the moment of the request", is_moment);
+    Ok(())
+}
+
+// Under checks/refuse-allocations.sh each allocation is refused in turn.
+#[test]
+fn want_of_memory_in_a_serving(rt: HostRuntime) {
+    wants_memory(
+        &rt,
+        rt.alloc(),
+        &Row {
+            words: &WORDS,
+            station: &[RADIO, LINK],
+            text: &[Piece::Minutes(1)],
+            links: &[Wire {
+                hears: &[REQUEST],
+                ..WIRE
+            }],
+            ..ROW
+        },
+        "j2 1 0 0 62000000 lone 3976257600\nlink 0 answered 1 dropped 0 again 0 kissed 0 unkept 0 end linkend\n\
+page 1 0 0 494e4954 0 62000000 0 0 1048576 0000000000000000 0 0\nstatus 0\n",
+        Status::Done,
+    );
+}
+
+// A journal of two entries is moved.
+#[test]
+fn want_of_memory_in_a_journal(rt: HostRuntime) {
+    wants_memory(
+        &rt,
+        rt.alloc(),
+        &Row {
+            words: &["migrate", "--station", "s", "--journal", "a"],
+            station: &[RADIO],
+            text: &[Piece::Text("0 62000000 lone 3976257600\n0 122000000 verdict 3976257660 0\n")],
+            ..ROW
+        },
+        "j2 1 0 0 62000000 lone 3976257600\nj2 2 0 0 122000000 verdict 3976257660 0\n\
+page 2 0 0 494e4954 0 122000000 0 0 1048576 0000000000000000 0 0\nstatus 0\n",
+        Status::Done,
+    );
+}
+
+const INPUTS: [Row<'static>; 17] = [
     Row {
         name: "a_carriage_return_before_the_line_feed_is_bad",
         text: &[Piece::Text("1000000 100000\r\n2000000 100000\r\n")],
@@ -77,22 +205,7 @@ const LINES: [Row<'static>; 9] = [
         fails: 2,
         ..BAD
     },
-];
-
-#[test]
-fn lines_are_bad_alone(rt: HostRuntime) -> Result<(), Fail> {
-    are_met(&rt, rt.alloc(), &LINES)
-}
-
-const READ: Row<'static> = Row {
-    name: "each_reading_of_a_log_may_fail",
-    text: &[Piece::Minutes(2)],
-    end: Status::ReadFault,
-    ..BAD
-};
-
-// The log of two minutes has 1,927 bytes, which are four readings and one that finds its end.
-const READINGS: [Row<'static>; 6] = [
+    // The log of two minutes has 1,927 bytes, which are four readings and one that finds its end.
     Row {
         fails: 1,
         want: &[Want::Is(&[EMPTY_PAGE, FAILED])],
@@ -124,29 +237,7 @@ const READINGS: [Row<'static>; 6] = [
         end: Status::Done,
         ..READ
     },
-];
-
-#[test]
-fn each_reading_of_a_log_may_fail(rt: HostRuntime) -> Result<(), Fail> {
-    are_met(&rt, rt.alloc(), &READINGS)
-}
-
-const UNREAD: Row<'static> = Row {
-    name: "each_reading_of_a_station_that_is_served_may_fail",
-    want: &[Want::Is(&["status 4 read station\n"])],
-    end: Status::ReadFault,
-    ..ONE_RADIO
-};
-
-const ONE_RADIO: Row<'static> = Row {
-    words: &WORDS,
-    station: &[RADIO],
-    fails: 1,
-    ..ROW
-};
-
-// It has two readings, of which the second finds its end. No log is opened then.
-const STATION_READINGS: [Row<'static>; 2] = [
+    // It has two readings, of which the second finds its end. No log is opened then.
     Row {
         reading: 1,
         ..UNREAD
@@ -158,54 +249,11 @@ const STATION_READINGS: [Row<'static>; 2] = [
 ];
 
 #[test]
-fn each_reading_of_a_station_that_is_served_may_fail(rt: HostRuntime) -> Result<(), Fail> {
-    are_met(&rt, rt.alloc(), &STATION_READINGS)
+fn what_is_read_may_be_bad(rt: HostRuntime) -> Result<(), Fail> {
+    are_met(&rt, rt.alloc(), &INPUTS)
 }
 
-// A client's request at 1 s: version 4, a poll of 64 s, and zeros.
-const REQUEST: Datagram<'static> = Datagram {
-    at: 1_000_000,
-    bytes: &[0x23, 0x00, 0x06, 0xec],
-    zeros: 44,
-    ..ASKS
-};
-
-const ONE_LINK: Row<'static> = Row {
-    words: &WORDS,
-    station: &[LINK],
-    ..ROW
-};
-
-const DROPPED: Row<'static> = Row {
-    name: "datagrams_are_short_under_48_bytes",
-    want: &[Want::Is(&[
-        "link 0 answered 0 dropped 1 again 0 kissed 0 unkept 0 end linkend\n",
-        EMPTY_PAGE,
-        "status 0\n",
-    ])],
-    sent: &[Sent {
-        count: Some(0),
-        ..SENT
-    }],
-    ..ONE_LINK
-};
-
-const ANSWERED: Row<'static> = Row {
-    name: "datagrams_are_short_under_48_bytes",
-    want: &[Want::Is(&[
-        "link 0 answered 1 dropped 0 again 0 kissed 0 unkept 0 end linkend\n",
-        EMPTY_PAGE,
-        "status 0\n",
-    ])],
-    sent: &[Sent {
-        count: Some(1),
-        last: &NO_TIME,
-        ..SENT
-    }],
-    ..ONE_LINK
-};
-
-const LENGTHS: [Row<'static>; 4] = [
+const LINKED: [Row<'static>; 7] = [
     Row {
         links: &[Wire {
             hears: &[Datagram {
@@ -244,21 +292,6 @@ const LENGTHS: [Row<'static>; 4] = [
         }],
         ..ANSWERED
     },
-];
-
-#[test]
-fn datagrams_are_short_under_48_bytes(rt: HostRuntime) -> Result<(), Fail> {
-    are_met(&rt, rt.alloc(), &LENGTHS)
-}
-
-// A link to a server that answers three times, at first to the request of 1 s.
-const SERVED: Wire<'static> = Wire {
-    moment: 1_000_000,
-    hears: &[ANSWERS; 3],
-    fails: 0,
-};
-
-const TURNS: [Row<'static>; 3] = [
     // A link receives, answers, and receives: its third call. Its events are the arrival, the moment and the reply.
     Row {
         name: "a_second_hearing_that_fails_leaves_one_turn",
@@ -323,64 +356,7 @@ const TURNS: [Row<'static>; 3] = [
     },
 ];
 
-const POLLED: Row<'static> = Row {
-    words: &WORDS,
-    station: &[SERVER_3],
-    links: &[Wire { fails: 3, ..SERVED }],
-    ..ROW
-};
-
 #[test]
-fn a_link_fails_in_its_second_turn(rt: HostRuntime) -> Result<(), Fail> {
-    are_met(&rt, rt.alloc(), &TURNS)
-}
-
-// Of the second round there is the moment of its request alone.
-#[test]
-fn a_second_sending_that_fails_cuts_its_round(rt: HostRuntime) -> Result<(), Fail> {
-    let ran = run(&rt, rt.alloc(), &POLLED)?;
-    let link = ran.outside.link(0).ok_or("a link is out")?;
-    let is_moment = matches!(link.event(3), Some(LinkEvent::Moment(_)));
-    holds(&rt, "the moment of the request", is_moment);
-    Ok(())
-}
-
-// Under checks/refuse-allocations.sh each allocation is refused in turn.
-#[test]
-fn want_of_memory_in_a_serving(rt: HostRuntime) {
-    wants_memory(
-        &rt,
-        rt.alloc(),
-        &Row {
-            words: &WORDS,
-            station: &[RADIO, LINK],
-            text: &[Piece::Minutes(1)],
-            links: &[Wire {
-                hears: &[REQUEST],
-                ..WIRE
-            }],
-            ..ROW
-        },
-        "j2 1 0 0 62000000 lone 3976257600\nlink 0 answered 1 dropped 0 again 0 kissed 0 unkept 0 end linkend\n\
-page 1 0 0 494e4954 0 62000000 0 0 1048576 0000000000000000 0 0\nstatus 0\n",
-        Status::Done,
-    );
-}
-
-// A journal of two entries is moved.
-#[test]
-fn want_of_memory_in_a_journal(rt: HostRuntime) {
-    wants_memory(
-        &rt,
-        rt.alloc(),
-        &Row {
-            words: &["migrate", "--station", "s", "--journal", "a"],
-            station: &[RADIO],
-            text: &[Piece::Text("0 62000000 lone 3976257600\n0 122000000 verdict 3976257660 0\n")],
-            ..ROW
-        },
-        "j2 1 0 0 62000000 lone 3976257600\nj2 2 0 0 122000000 verdict 3976257660 0\n\
-page 2 0 0 494e4954 0 122000000 0 0 1048576 0000000000000000 0 0\nstatus 0\n",
-        Status::Done,
-    );
+fn links_may_fail(rt: HostRuntime) -> Result<(), Fail> {
+    are_met(&rt, rt.alloc(), &LINKED)
 }

@@ -35,7 +35,40 @@ const DECODED: Row<'static> = Row {
 // The log of two frames, the second of which starts where the first has ended.
 const TWO_FRAMES: [Piece<'static>; 4] = [MARK, Piece::Marks(NOON), Piece::Marks(NOON_1), CLOSING_2];
 
-const FRAMES: [Row<'static>; 8] = [
+// The first frame but for its place 0, with these marks before the rest.
+const REST: Piece<'static> = Piece::Marks(Frame { from: 1, ..NOON });
+
+const MSF: Row<'static> = Row {
+    name: "msf_minutes_are_read",
+    words: &["decode", "--plan", "msf", "--log", "a"],
+    ..DECODED
+};
+
+// The first two seconds, and the others. In the second one bit B alone is 1, so it has another part.
+const MSF_BEGIN: Piece<'static> = Piece::Marks(Frame { to: 2, ..MSF_NOON });
+
+const MSF_REST: Piece<'static> = Piece::Marks(Frame {
+    from: 2,
+    ..MSF_NOON
+});
+
+// A closing mark, and a mark that gives that one.
+const MSF_CLOSING: Piece<'static> = Piece::Text("62000000 500000\n");
+
+const MSF_LAST: Piece<'static> = Piece::Text("63000000 100000\n");
+
+const WWVB: Row<'static> = Row {
+    name: "wwvb_minutes_are_read",
+    words: &["decode", "--plan", "wwvb", "--log", "a"],
+    ..DECODED
+};
+
+// The markers before a frame and after it.
+const WWVB_MARK: Piece<'static> = Piece::Text("1000000 800000\n");
+
+const WWVB_CLOSING: Piece<'static> = Piece::Text("62000000 800000\n");
+
+const MINUTES: [Row<'static>; 20] = [
     Row {
         name: "two_frames_in_a_row_are_a_verdict",
         text: &TWO_FRAMES,
@@ -155,17 +188,6 @@ const FRAMES: [Row<'static>; 8] = [
         ])],
         ..DECODED
     },
-];
-
-#[test]
-fn frames_are_read(rt: HostRuntime) -> Result<(), Fail> {
-    are_met(&rt, rt.alloc(), &FRAMES)
-}
-
-// The first frame but for its place 0, with these marks before the rest.
-const REST: Piece<'static> = Piece::Marks(Frame { from: 1, ..NOON });
-
-const BITS: [Row<'static>; 5] = [
     // The weekday is 0.
     Row {
         name: "the_least_broken_rule_is_named",
@@ -215,33 +237,6 @@ const BITS: [Row<'static>; 5] = [
         want: &[Want::Is(&["0 62000000 refused 2\n", DONE])],
         ..DECODED
     },
-];
-
-#[test]
-fn bits_are_read(rt: HostRuntime) -> Result<(), Fail> {
-    are_met(&rt, rt.alloc(), &BITS)
-}
-
-const MSF: Row<'static> = Row {
-    name: "msf_minutes_are_read",
-    words: &["decode", "--plan", "msf", "--log", "a"],
-    ..DECODED
-};
-
-// The first two seconds, and the others. In the second one bit B alone is 1, so it has another part.
-const MSF_BEGIN: Piece<'static> = Piece::Marks(Frame { to: 2, ..MSF_NOON });
-
-const MSF_REST: Piece<'static> = Piece::Marks(Frame {
-    from: 2,
-    ..MSF_NOON
-});
-
-// A closing mark, and a mark that gives that one.
-const MSF_CLOSING: Piece<'static> = Piece::Text("62000000 500000\n");
-
-const MSF_LAST: Piece<'static> = Piece::Text("63000000 100000\n");
-
-const MSF_MINUTES: [Row<'static>; 4] = [
     Row {
         text: &[
             MSF_BEGIN,
@@ -279,25 +274,6 @@ const MSF_MINUTES: [Row<'static>; 4] = [
         want: &[Want::Is(&["0 62000000 lone 3155760000\n", DONE])],
         ..MSF
     },
-];
-
-#[test]
-fn msf_minutes_are_read(rt: HostRuntime) -> Result<(), Fail> {
-    are_met(&rt, rt.alloc(), &MSF_MINUTES)
-}
-
-const WWVB: Row<'static> = Row {
-    name: "wwvb_minutes_are_read",
-    words: &["decode", "--plan", "wwvb", "--log", "a"],
-    ..DECODED
-};
-
-// The markers before a frame and after it.
-const WWVB_MARK: Piece<'static> = Piece::Text("1000000 800000\n");
-
-const WWVB_CLOSING: Piece<'static> = Piece::Text("62000000 800000\n");
-
-const WWVB_MINUTES: [Row<'static>; 3] = [
     Row {
         text: &[WWVB_MARK, Piece::Marks(WWVB_2024), WWVB_CLOSING],
         want: &[Want::Is(&["0 62000000 lone 3944592060\n", DONE])],
@@ -342,6 +318,6 @@ const WWVB_MINUTES: [Row<'static>; 3] = [
 ];
 
 #[test]
-fn wwvb_minutes_are_read(rt: HostRuntime) -> Result<(), Fail> {
-    are_met(&rt, rt.alloc(), &WWVB_MINUTES)
+fn minutes_are_read(rt: HostRuntime) -> Result<(), Fail> {
+    are_met(&rt, rt.alloc(), &MINUTES)
 }

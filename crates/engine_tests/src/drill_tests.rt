@@ -1,7 +1,7 @@
 //! Tests of `drill`. What it prints of a day was worked out by a program apart (`bench/drill_model.py`) from the minutes as they are spelt.
 
 use crate::pieces::joined;
-use crate::rows::{Pieces, has_held, holds, same_status, same_text, stops_at};
+use crate::rows::{Pieces, has_held, holds, same_status, same_text, stops_at, text_in};
 use crate::runs::{ROW, Row, run, run_held};
 use feed_link::HoldGate;
 use radio_engine::Status;
@@ -121,12 +121,12 @@ fn a_journal_of_4320_entries_has_room_for_a_day(rt: HostRuntime) -> Result<(), F
 }
 
 // The sum of all numbers of the lines of feeds that aren't the numbers of the feeds.
-fn sum_of_feeds(written: &[u8]) -> u64 {
+fn sum_of_feeds(text: &str) -> u64 {
     let mut sum = 0u64;
-    for line in written.split(|byte| *byte == b'\n') {
-        if line.starts_with(b"feed ") {
-            for (place, field) in line.split(|byte| *byte == b' ').enumerate() {
-                if let [digit] = field
+    for line in text.lines() {
+        if line.starts_with("feed ") {
+            for (place, field) in line.split(' ').enumerate() {
+                if let [digit] = field.as_bytes()
                     && place > 1
                 {
                     sum = sum.wrapping_add(u64::from(digit.wrapping_sub(b'0')));
@@ -162,7 +162,11 @@ fn a_journal_of_4319_entries_is_full(rt: HostRuntime) -> Result<(), Fail> {
 fn a_journal_of_three_entries_is_told(rt: HostRuntime) -> Result<(), Fail> {
     let words = ["drill", "--seed", "7", "--limit", "3"];
     let written = fills(&rt, rt.alloc(), &words, " 0 0\nstatus 6 full 3\n")?;
-    holds(&rt, "the sum", sum_of_feeds(written.as_slice()) == 3);
+    holds(
+        &rt,
+        "the sum",
+        sum_of_feeds(text_in(written.as_slice())) == 3,
+    );
     Ok(())
 }
 

@@ -91,54 +91,12 @@ const WHOLE: Row<'static> = Row {
     ..ROW
 };
 
-const OPENINGS: [Row<'static>; 2] = [
-    Row {
-        name: "each_opening_may_fail",
-        opening: 1,
-        want: &[Want::Is(&["status 2 open station\n"])],
-        end: Status::OpenFault,
-        ..WHOLE
-    },
-    Row {
-        name: "each_opening_may_fail, of the script",
-        opening: 2,
-        want: &[Want::Is(&["status 2 open script\n"])],
-        end: Status::OpenFault,
-        ..WHOLE
-    },
-];
-
-#[test]
-fn each_opening_may_fail(rt: HostRuntime) -> Result<(), Fail> {
-    are_met(&rt, rt.alloc(), &OPENINGS)
-}
-
 const UNREAD: Row<'static> = Row {
     name: "each_reading_of_a_station_may_fail",
     want: &[Want::Is(&["status 4 read station\n"])],
     end: Status::ReadFault,
     ..WHOLE
 };
-
-const STATION_READINGS: [Row<'static>; 3] = [
-    Row {
-        reading: 1,
-        ..UNREAD
-    },
-    Row {
-        reading: 2,
-        ..UNREAD
-    },
-    Row {
-        reading: 3,
-        ..UNREAD
-    },
-];
-
-#[test]
-fn each_reading_of_a_station_may_fail(rt: HostRuntime) -> Result<(), Fail> {
-    are_met(&rt, rt.alloc(), &STATION_READINGS)
-}
 
 const PAGE_2: &str = "page 2 0 0 494e4954 0 4000000 0 0 1048576 0000000000000000 0 0\n";
 
@@ -149,50 +107,6 @@ const CUT: Row<'static> = Row {
     end: Status::ReadFault,
     ..WHOLE
 };
-
-// The lines before it stand, and the page of their entries. A line that the reading cut off isn't judged.
-const SCRIPT_READINGS: [Row<'static>; 3] = [
-    Row {
-        fails: 1,
-        want: &[Want::Is(&[EMPTY_PAGE, FAILED])],
-        ..CUT
-    },
-    Row {
-        fails: 2,
-        want: &[Want::Is(&[
-            REFUSED, ASKED, SAMPLE, SHORT, REPLY, VERSION, PAGE_2, FAILED,
-        ])],
-        ..CUT
-    },
-    Row {
-        fails: 3,
-        want: &[Want::Is(&[
-            REFUSED, ASKED, SAMPLE, SHORT, REPLY, VERSION, DECLINED, PAGE_3, FAILED,
-        ])],
-        ..CUT
-    },
-];
-
-#[test]
-fn each_reading_of_a_script_may_fail(rt: HostRuntime) -> Result<(), Fail> {
-    are_met(&rt, rt.alloc(), &SCRIPT_READINGS)
-}
-
-const PAST: [Row<'static>; 1] = [Row {
-    name: "calls_past_the_last_fail_nothing",
-    reading: 4,
-    text: &SCRIPT,
-    fails: 4,
-    opening: 3,
-    writing: 10,
-    want: &[Want::Is(&LINES)],
-    ..WHOLE
-}];
-
-#[test]
-fn calls_past_the_last_fail_nothing(rt: HostRuntime) -> Result<(), Fail> {
-    are_met(&rt, rt.alloc(), &PAST)
-}
 
 const REPLAYED: Pieces<'static> = Pieces {
     name: "each_writing_of_a_replay_may_fail",
@@ -255,36 +169,6 @@ const FIRST: Row<'static> = Row {
     ..WHOLE
 };
 
-// Of several causes a failed writing comes first.
-const WRITINGS: [Row<'static>; 4] = [
-    Row {
-        opening: 1,
-        writing: 1,
-        ..FIRST
-    },
-    Row {
-        opening: 2,
-        writing: 1,
-        ..FIRST
-    },
-    Row {
-        reading: 1,
-        writing: 1,
-        ..FIRST
-    },
-    Row {
-        fails: 1,
-        writing: 2,
-        want: &[Want::Is(&[EMPTY_PAGE])],
-        ..FIRST
-    },
-];
-
-#[test]
-fn a_failed_writing_comes_before_other_faults(rt: HostRuntime) -> Result<(), Fail> {
-    are_met(&rt, rt.alloc(), &WRITINGS)
-}
-
 // Under checks/refuse-allocations.sh each allocation is refused in turn.
 #[test]
 fn want_of_memory_in_a_replay(rt: HostRuntime) {
@@ -329,4 +213,90 @@ fn want_of_memory_in_a_refusal(rt: HostRuntime) {
     );
     let fault = "status 3 station unknown leap\n";
     wants_memory(&rt, rt.alloc(), &FAULTY, fault, Status::Station);
+}
+
+const FAULTS: [Row<'static>; 13] = [
+    Row {
+        name: "each_opening_may_fail",
+        opening: 1,
+        want: &[Want::Is(&["status 2 open station\n"])],
+        end: Status::OpenFault,
+        ..WHOLE
+    },
+    Row {
+        name: "each_opening_may_fail, of the script",
+        opening: 2,
+        want: &[Want::Is(&["status 2 open script\n"])],
+        end: Status::OpenFault,
+        ..WHOLE
+    },
+    Row {
+        reading: 1,
+        ..UNREAD
+    },
+    Row {
+        reading: 2,
+        ..UNREAD
+    },
+    Row {
+        reading: 3,
+        ..UNREAD
+    },
+    // The lines before it stand, and the page of their entries. A line that the reading cut off isn't judged.
+    Row {
+        fails: 1,
+        want: &[Want::Is(&[EMPTY_PAGE, FAILED])],
+        ..CUT
+    },
+    Row {
+        fails: 2,
+        want: &[Want::Is(&[
+            REFUSED, ASKED, SAMPLE, SHORT, REPLY, VERSION, PAGE_2, FAILED,
+        ])],
+        ..CUT
+    },
+    Row {
+        fails: 3,
+        want: &[Want::Is(&[
+            REFUSED, ASKED, SAMPLE, SHORT, REPLY, VERSION, DECLINED, PAGE_3, FAILED,
+        ])],
+        ..CUT
+    },
+    Row {
+        name: "calls_past_the_last_fail_nothing",
+        reading: 4,
+        text: &SCRIPT,
+        fails: 4,
+        opening: 3,
+        writing: 10,
+        want: &[Want::Is(&LINES)],
+        ..WHOLE
+    },
+    // Of several causes a failed writing comes first.
+    Row {
+        opening: 1,
+        writing: 1,
+        ..FIRST
+    },
+    Row {
+        opening: 2,
+        writing: 1,
+        ..FIRST
+    },
+    Row {
+        reading: 1,
+        writing: 1,
+        ..FIRST
+    },
+    Row {
+        fails: 1,
+        writing: 2,
+        want: &[Want::Is(&[EMPTY_PAGE])],
+        ..FIRST
+    },
+];
+
+#[test]
+fn calls_of_a_replay_may_fail(rt: HostRuntime) -> Result<(), Fail> {
+    are_met(&rt, rt.alloc(), &FAULTS)
 }

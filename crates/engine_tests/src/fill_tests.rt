@@ -1,6 +1,6 @@
 //! Two radios that fill a journal of three entries.
 
-use crate::rows::{SENT, Sent, entries_of, have_sent, holds, same_count, same_status};
+use crate::rows::{SENT, Sent, entries_of, have_sent, holds, same_count, same_status, text_in};
 use crate::runs::{Datagram, File, ROW, Row, Wire, run};
 use crate::test_station::{ASKS, FILE, FIVE_MINUTES, LINK, NO_TIME, RADIO, SECOND_RADIO, WIRE};
 use radio_engine::Status;
@@ -60,19 +60,19 @@ const FILLS: [Fill<'static>; 3] = [
     },
 ];
 
-const KEPT: [&[u8]; 3] = [
-    b"62000000 lone 3976257600",
-    b"122000000 verdict 3976257660 0",
-    b"182000000 verdict 3976257720 0",
+const KEPT: [&str; 3] = [
+    "62000000 lone 3976257600",
+    "122000000 verdict 3976257660 0",
+    "182000000 verdict 3976257720 0",
 ];
 
 // How many lines are entries of a feed, or None where these aren't the first ones that are due for its minutes.
-fn front_of(written: &[u8], feed: u8) -> Option<usize> {
+fn front_of(text: &str, feed: &str) -> Option<usize> {
     let mut count = 0usize;
-    for line in written.split(|byte| *byte == b'\n') {
-        if line.starts_with(b"j2 ") {
-            let mut fields = line.splitn(5, |byte| *byte == b' ').skip(3);
-            if fields.next()? == [feed].as_slice() {
+    for line in text.lines() {
+        if line.starts_with("j2 ") {
+            let mut fields = line.splitn(5, ' ').skip(3);
+            if fields.next()? == feed {
                 if fields.next()? != *KEPT.get(count)? {
                     return None;
                 }
@@ -84,15 +84,14 @@ fn front_of(written: &[u8], feed: u8) -> Option<usize> {
 }
 
 // After the three entries come the line of the link, the page and the status.
-fn ends_so(written: &[u8], link: &str) -> bool {
-    let mut last = written.split(|byte| *byte == b'\n').skip(3);
-    last.next() == Some(link.as_bytes())
-        && last
-            .next()
-            .is_some_and(|line| line.starts_with(b"page 3 0 0 494e4954 0 "))
-        && last.next() == Some(b"status 6 full 3".as_slice())
-        && last.next() == Some(b"".as_slice())
-        && last.next().is_none()
+fn ends_so(text: &str, link: &str) -> bool {
+    let mut last = text.lines().skip(3);
+    let has_link = last.next() == Some(link);
+    let Some(page) = last.next() else {
+        return false;
+    };
+    let is_full = last.next() == Some("status 6 full 3");
+    has_link && page.starts_with("page 3 0 0 494e4954 0 ") && is_full && last.next().is_none()
 }
 
 // Ten entries are due, and the journal has room for three: of each feed the first ones.
@@ -121,12 +120,13 @@ fn is_filled<R: Abort + Threads + Wait + Sync>(
         },
     )?;
     let written = ran.written.as_slice();
+    let text = text_in(written);
     same_status(rt, row.name, ran.status, Status::JournalFull);
-    let first = front_of(written, b'0').ok_or("the entries of the first radio")?;
-    let second = front_of(written, b'1').ok_or("the entries of the second radio")?;
+    let first = front_of(text, "0").ok_or("the entries of the first radio")?;
+    let second = front_of(text, "1").ok_or("the entries of the second radio")?;
     same_count(rt, row.name, first.saturating_add(second), 3);
     same_count(rt, row.name, entries_of(written), 3);
-    holds(rt, row.name, ends_so(written, row.line));
+    holds(rt, row.name, ends_so(text, row.line));
     let sent = Sent {
         count: Some(row.answered),
         last: &NO_TIME,

@@ -2,7 +2,7 @@
 //! others. The kiss codes are those of RFC 5905, section 7.4; the minutes are those of the other tests.
 
 use crate::pieces::{Asked, Piece};
-use crate::rows::{Want, are_met, holds, same_count, same_status};
+use crate::rows::{Want, are_met, holds, same_count, same_status, text_in};
 use crate::runs::{Datagram, ROW, Ran, Row, Wire, run};
 use crate::test_station::{ASKS, CLIENT, FIVE_MINUTES, LINK, RADIO, REPLY, SECOND_LINK, WIRE};
 use feed_link::{Address, LinkEvent, MemoryLink, OpenGate};
@@ -45,7 +45,147 @@ const OF_OTHER: Asked<'static> = Asked {
     ..AT_303
 };
 
-const REPLAYED: [Row<'static>; 4] = [
+const OTHER: Address = Address {
+    ip: 0x7f00_0003,
+    port: 5000,
+};
+
+const STRANGER: Address = Address {
+    ip: 0x7f00_0002,
+    port: 5000,
+};
+
+// A request of the denied client.
+const DENIED_ASKS: Datagram<'static> = Datagram {
+    from: STRANGER,
+    ..ASKS
+};
+
+const SERVED: Row<'static> = Row {
+    words: &["serve", "--station", "s", "--during", "1", "--after", "3"],
+    station: &[GAP, RADIO, LINK, SECOND_LINK, DENY],
+    text: &FIVE_MINUTES,
+    links: &[
+        Wire {
+            hears: &[
+                ASKS,
+                DENIED_ASKS,
+                ASKS,
+                Datagram {
+                    from: OTHER,
+                    ..ASKS
+                },
+            ],
+            ..WIRE
+        },
+        Wire {
+            hears: &[ASKS, DENIED_ASKS],
+            ..WIRE
+        },
+    ],
+    ..ROW
+};
+
+// The lines of the two links.
+const LINES: &str =
+    "\nlink 0 answered 2 dropped 0 again 0 kissed 2 unkept 0 end count\nlink 1 answered 1 dropped 0 again 0 kissed 1 unkept 0 end linkend\npage 5 ";
+
+// What stands for the reference ID of a reply that isn't a kiss code.
+const ANY: &str = "";
+
+// Whether a reply has this reference ID.
+fn has_id(reply: &[u8], id: &str) -> bool {
+    let Some(letters) = reply.get(12..16) else {
+        return false;
+    };
+    if id.is_empty() {
+        letters != b"RATE".as_slice() && letters != b"DENY".as_slice()
+    } else {
+        letters == id.as_bytes()
+    }
+}
+
+// Whether the replies that were sent to a client have these reference IDs, in order.
+fn have_ids(link: &MemoryLink, client: Address, ids: &[&str]) -> bool {
+    let mut count = 0usize;
+    for place in 0..link.count() {
+        if let Some(LinkEvent::Sent { to, bytes }) = link.event(place) {
+            if to == client {
+                let Some(id) = ids.get(count) else {
+                    return false;
+                };
+                if !has_id(bytes, id) {
+                    return false;
+                }
+                count = count.saturating_add(1);
+            }
+        }
+    }
+    count == ids.len()
+}
+
+// The replies of a link to a client have these reference IDs.
+fn are_replied(rt: &impl Abort, ran: &Ran<OpenGate>, place: usize, client: Address, ids: &[&str]) {
+    match ran.outside.link(place) {
+        Some(link) => holds(rt, "the replies", have_ids(link, client, ids)),
+        None => holds(rt, "no link", false),
+    }
+}
+
+// The second phase goes on with the table of the first: the client that was let pass there gets RATE. Each link has a table of its own.
+#[test]
+fn two_links_judge_over_both_phases(rt: HostRuntime) -> Result<(), Fail> {
+    let ran = run(&rt, rt.alloc(), &SERVED)?;
+    let text = text_in(ran.written.as_slice());
+    holds(&rt, "the links", text.contains(LINES));
+    same_status(&rt, "the status", ran.status, Status::Done);
+    are_replied(&rt, &ran, 0, CLIENT, &[ANY, "RATE"]);
+    are_replied(&rt, &ran, 0, STRANGER, &["DENY"]);
+    are_replied(&rt, &ran, 0, OTHER, &["DCF\0"]);
+    are_replied(&rt, &ran, 1, CLIENT, &[ANY]);
+    are_replied(&rt, &ran, 1, STRANGER, &["DENY"]);
+    Ok(())
+}
+
+// In the second phase alone.
+const ONCE: Row<'static> = Row {
+    words: &["serve", "--station", "s", "--during", "0", "--after", "4"],
+    station: &[GAP, RADIO, LINK],
+    text: &FIVE_MINUTES,
+    links: &[Wire {
+        hears: &[ASKS, ASKS],
+        ..WIRE
+    }],
+    ..ROW
+};
+
+// How many datagrams that a link has sent are the reply with the time at 303 s.
+fn times_of(ran: &Ran<OpenGate>) -> usize {
+    let Some(link) = ran.outside.link(0) else {
+        return 0;
+    };
+    let mut count = 0usize;
+    for place in 0..link.count() {
+        if let Some(LinkEvent::Sent { to: _, bytes }) = link.event(place) {
+            if bytes == REPLY.as_slice() {
+                count = count.saturating_add(1);
+            }
+        }
+    }
+    count
+}
+
+// The first reply has the time of the page, and the next is the kiss code at the same moments.
+#[test]
+fn a_link_tells_the_time_once_a_gap(rt: HostRuntime) -> Result<(), Fail> {
+    let ran = run(&rt, rt.alloc(), &ONCE)?;
+    same_status(&rt, "the status", ran.status, Status::Done);
+    same_count(&rt, "the time", times_of(&ran), 1);
+    are_replied(&rt, &ran, 0, CLIENT, &[ANY, "RATE"]);
+    Ok(())
+}
+
+const JUDGED: [Row<'static>; 6] = [
     // The gap is counted from the request that was let pass.
     Row {
         name: "a_client_that_asks_within_the_gap",
@@ -140,14 +280,6 @@ const REPLAYED: [Row<'static>; 4] = [
         ],
         ..REPLAY
     },
-];
-
-#[test]
-fn clients_of_a_script_are_judged(rt: HostRuntime) -> Result<(), Fail> {
-    are_met(&rt, rt.alloc(), &REPLAYED)
-}
-
-const UNHEARD: [Row<'static>; 2] = [
     // What a denied client sends is dropped where another's would be, and takes nothing from its gap.
     Row {
         name: "no_request_is_judged_that_is_dropped",
@@ -181,148 +313,6 @@ const UNHEARD: [Row<'static>; 2] = [
 ];
 
 #[test]
-fn no_request_is_judged_that_is_dropped(rt: HostRuntime) -> Result<(), Fail> {
-    are_met(&rt, rt.alloc(), &UNHEARD)
-}
-
-const OTHER: Address = Address {
-    ip: 0x7f00_0003,
-    port: 5000,
-};
-
-const STRANGER: Address = Address {
-    ip: 0x7f00_0002,
-    port: 5000,
-};
-
-// A request of the denied client.
-const DENIED_ASKS: Datagram<'static> = Datagram {
-    from: STRANGER,
-    ..ASKS
-};
-
-const SERVED: Row<'static> = Row {
-    words: &["serve", "--station", "s", "--during", "1", "--after", "3"],
-    station: &[GAP, RADIO, LINK, SECOND_LINK, DENY],
-    text: &FIVE_MINUTES,
-    links: &[
-        Wire {
-            hears: &[
-                ASKS,
-                DENIED_ASKS,
-                ASKS,
-                Datagram {
-                    from: OTHER,
-                    ..ASKS
-                },
-            ],
-            ..WIRE
-        },
-        Wire {
-            hears: &[ASKS, DENIED_ASKS],
-            ..WIRE
-        },
-    ],
-    ..ROW
-};
-
-// The lines of the two links.
-const LINES: &str =
-    "\nlink 0 answered 2 dropped 0 again 0 kissed 2 unkept 0 end count\nlink 1 answered 1 dropped 0 again 0 kissed 1 unkept 0 end linkend\npage 5 ";
-
-// What stands for the reference ID of a reply that isn't a kiss code.
-const ANY: &str = "";
-
-// Whether a reply has this reference ID.
-fn has_id(reply: &[u8], id: &str) -> bool {
-    let Some(letters) = reply.get(12..16) else {
-        return false;
-    };
-    if id.is_empty() {
-        letters != b"RATE".as_slice() && letters != b"DENY".as_slice()
-    } else {
-        letters == id.as_bytes()
-    }
-}
-
-// Whether the replies that were sent to a client have these reference IDs, in order.
-fn have_ids(link: &MemoryLink, client: Address, ids: &[&str]) -> bool {
-    let mut count = 0usize;
-    for place in 0..link.count() {
-        if let Some(LinkEvent::Sent { to, bytes }) = link.event(place) {
-            if to == client {
-                if !ids.get(count).is_some_and(|id| has_id(bytes, id)) {
-                    return false;
-                }
-                count = count.saturating_add(1);
-            }
-        }
-    }
-    count == ids.len()
-}
-
-// The replies of a link to a client have these reference IDs.
-fn are_replied(rt: &impl Abort, ran: &Ran<OpenGate>, place: usize, client: Address, ids: &[&str]) {
-    match ran.outside.link(place) {
-        Some(link) => holds(rt, "the replies", have_ids(link, client, ids)),
-        None => holds(rt, "no link", false),
-    }
-}
-
-// Whether a text has the lines of the two links.
-fn has_lines(text: &[u8]) -> bool {
-    let mut parts = text.windows(LINES.len());
-    parts.any(|part| part == LINES.as_bytes())
-}
-
-// The second phase goes on with the table of the first: the client that was let pass there gets RATE. Each link has a table of its own.
-#[test]
-fn two_links_judge_over_both_phases(rt: HostRuntime) -> Result<(), Fail> {
-    let ran = run(&rt, rt.alloc(), &SERVED)?;
-    holds(&rt, "the links", has_lines(ran.written.as_slice()));
-    same_status(&rt, "the status", ran.status, Status::Done);
-    are_replied(&rt, &ran, 0, CLIENT, &[ANY, "RATE"]);
-    are_replied(&rt, &ran, 0, STRANGER, &["DENY"]);
-    are_replied(&rt, &ran, 0, OTHER, &["DCF\0"]);
-    are_replied(&rt, &ran, 1, CLIENT, &[ANY]);
-    are_replied(&rt, &ran, 1, STRANGER, &["DENY"]);
-    Ok(())
-}
-
-// In the second phase alone.
-const ONCE: Row<'static> = Row {
-    words: &["serve", "--station", "s", "--during", "0", "--after", "4"],
-    station: &[GAP, RADIO, LINK],
-    text: &FIVE_MINUTES,
-    links: &[Wire {
-        hears: &[ASKS, ASKS],
-        ..WIRE
-    }],
-    ..ROW
-};
-
-// How many datagrams that a link has sent are the reply with the time at 303 s.
-fn times_of(ran: &Ran<OpenGate>) -> usize {
-    let Some(link) = ran.outside.link(0) else {
-        return 0;
-    };
-    let mut count = 0usize;
-    for place in 0..link.count() {
-        if let Some(LinkEvent::Sent { to: _, bytes }) = link.event(place) {
-            if bytes == REPLY.as_slice() {
-                count = count.saturating_add(1);
-            }
-        }
-    }
-    count
-}
-
-// The first reply has the time of the page, and the next is the kiss code at the same moments.
-#[test]
-fn a_link_tells_the_time_once_a_gap(rt: HostRuntime) -> Result<(), Fail> {
-    let ran = run(&rt, rt.alloc(), &ONCE)?;
-    same_status(&rt, "the status", ran.status, Status::Done);
-    same_count(&rt, "the time", times_of(&ran), 1);
-    are_replied(&rt, &ran, 0, CLIENT, &[ANY, "RATE"]);
-    Ok(())
+fn clients_of_a_script_are_judged(rt: HostRuntime) -> Result<(), Fail> {
+    are_met(&rt, rt.alloc(), &JUDGED)
 }

@@ -33,7 +33,74 @@ const LISTED: Row<'static> = Row {
 // 65 bytes of remarks.
 const REMARK: &str = "#234567890123456789012345678901234567890123456789012345678901234\n";
 
-const LISTS: [Row<'static>; 11] = [
+// A server that answers at 1 s beside them.
+const WITH_SERVER: Row<'static> = Row {
+    station: &[LEAP_FILE, RADIO, SERVER],
+    links: &[Wire {
+        moment: 1_000_000,
+        hears: &[ANSWERS],
+        ..WIRE
+    }],
+    ..LISTED
+};
+
+const UNOPENED: Row<'static> = Row {
+    name: "it_is_opened_behind_the_logs",
+    end: Status::OpenFault,
+    ..WITH_SERVER
+};
+
+const AFTER_THE_SERVER: &str =
+    "j2 1 0 1 1010000 sample 17077897383243199545 40802189 8837 2 7f000001 256 512\n\
+j2 2 0 2 0 notice 3692217600\n\
+page 2 0 0 494e4954 0 1010000 0 0 1048576 0000000000000000 0 0\n\
+status 0\n";
+
+// Its worker waits until the server's has kept its sample: its feed is the last one, after the server's.
+#[test]
+fn its_feed_stands_behind_the_servers(rt: HostRuntime) -> Result<(), Fail> {
+    let gate = HoldGate::new(2, 1, 1, 4, 1, 1_000_000_000);
+    let ran = run_held(&rt, rt.alloc(), &WITH_SERVER, gate)?;
+    same_text(&rt, "the text", ran.written.as_slice(), AFTER_THE_SERVER);
+    same_status(&rt, "the status", ran.status, Status::Done);
+    Ok(())
+}
+
+// A leap second at the end of a month whose first minutes a radio receives.
+const COMING: Row<'static> = Row {
+    text: &FIVE_MINUTES,
+    files: &[File {
+        text: &[Piece::Text("3692217600 37\n3978892800 38\n")],
+        ..LIST
+    }],
+    ..LISTED
+};
+
+const ARMED: &str = "j2 6 0 1 0 notice 3978892800\n\
+page 6 1 1 44434600 17077896086183477248 302000000 4364906902 0 61542 ed00e13000000000 3978892800 0\nstatus 0\n";
+
+// Its worker waits until the radio has received five minutes of 1 January 2026. A leap second at the end of that month is then still to come.
+#[test]
+fn the_page_of_a_station_is_armed(rt: HostRuntime) -> Result<(), Fail> {
+    let gate = HoldGate::new(1, 1, 0, 4, 5, 1_000_000_000);
+    let ran = run_held(&rt, rt.alloc(), &COMING, gate)?;
+    fits(
+        &rt,
+        rt.alloc(),
+        "the end",
+        ran.written.as_slice(),
+        &Want::Ends(ARMED),
+    )?;
+    same_status(&rt, "the status", ran.status, Status::Done);
+    Ok(())
+}
+
+// What `replay` writes of a leap second that is announced at noon for midnight, and the reply to a request a second later: its leap indicator is 1.
+const ANNOUNCED: &str = "j2 6 0 1 302000000 notice 3976300800\n\
+reply 640106ec000000000000f06744434600ed00e130000000001122334455667788ed00e13100000000ed00e1310020c49b\n\
+page 6 1 1 44434600 17077896086183477248 302000000 4364906902 0 61542 ed00e13000000000 3976300800 0\nstatus 0\n";
+
+const LISTED_ALL: [Row<'static>; 15] = [
     Row {
         name: "each_row_but_the_first_is_told",
         want: &[Want::Is(&[NOTICE, NOTICE_PAGE, "status 0\n"])],
@@ -145,32 +212,7 @@ const LISTS: [Row<'static>; 11] = [
         end: Status::OpenFault,
         ..LISTED
     },
-];
-
-#[test]
-fn leap_second_files_are_read(rt: HostRuntime) -> Result<(), Fail> {
-    are_met(&rt, rt.alloc(), &LISTS)
-}
-
-// A server that answers at 1 s beside them.
-const WITH_SERVER: Row<'static> = Row {
-    station: &[LEAP_FILE, RADIO, SERVER],
-    links: &[Wire {
-        moment: 1_000_000,
-        hears: &[ANSWERS],
-        ..WIRE
-    }],
-    ..LISTED
-};
-
-const UNOPENED: Row<'static> = Row {
-    name: "it_is_opened_behind_the_logs",
-    end: Status::OpenFault,
-    ..WITH_SERVER
-};
-
-// The station is opened first, then the log of feed 0, then the file of feed 2, then the link of feed 1.
-const OPENINGS: [Row<'static>; 3] = [
+    // The station is opened first, then the log of feed 0, then the file of feed 2, then the link of feed 1.
     Row {
         opening: 2,
         want: &[Want::Is(&["status 2 open feed 0\n"])],
@@ -186,82 +228,26 @@ const OPENINGS: [Row<'static>; 3] = [
         want: &[Want::Is(&["status 2 open feed 1\n"])],
         ..UNOPENED
     },
+    Row {
+        name: "a_leap_second_is_replayed",
+        words: &["replay", "--station", "s", "--script", "a"],
+        text: &[
+            Piece::Pulses(0, 302_000_000),
+            Piece::Text("leap 1 302000000 3976300800\n"),
+            Piece::Asks(Asked {
+                connection: 0,
+                arrived: 303_000_000,
+                sent: 303_000_500,
+                first: "23",
+                after: &[],
+            }),
+        ],
+        want: &[Want::Ends(ANNOUNCED)],
+        ..LISTED
+    },
 ];
 
 #[test]
-fn it_is_opened_behind_the_logs(rt: HostRuntime) -> Result<(), Fail> {
-    are_met(&rt, rt.alloc(), &OPENINGS)
-}
-
-const AFTER_THE_SERVER: &str =
-    "j2 1 0 1 1010000 sample 17077897383243199545 40802189 8837 2 7f000001 256 512\n\
-j2 2 0 2 0 notice 3692217600\n\
-page 2 0 0 494e4954 0 1010000 0 0 1048576 0000000000000000 0 0\n\
-status 0\n";
-
-// Its worker waits until the server's has kept its sample: its feed is the last one, after the server's.
-#[test]
-fn its_feed_stands_behind_the_servers(rt: HostRuntime) -> Result<(), Fail> {
-    let gate = HoldGate::new(2, 1, 1, 4, 1, 1_000_000_000);
-    let ran = run_held(&rt, rt.alloc(), &WITH_SERVER, gate)?;
-    same_text(&rt, "the text", ran.written.as_slice(), AFTER_THE_SERVER);
-    same_status(&rt, "the status", ran.status, Status::Done);
-    Ok(())
-}
-
-// A leap second at the end of a month whose first minutes a radio receives.
-const COMING: Row<'static> = Row {
-    text: &FIVE_MINUTES,
-    files: &[File {
-        text: &[Piece::Text("3692217600 37\n3978892800 38\n")],
-        ..LIST
-    }],
-    ..LISTED
-};
-
-const ARMED: &str = "j2 6 0 1 0 notice 3978892800\n\
-page 6 1 1 44434600 17077896086183477248 302000000 4364906902 0 61542 ed00e13000000000 3978892800 0\nstatus 0\n";
-
-// Its worker waits until the radio has received five minutes of 1 January 2026. A leap second at the end of that month is then still to come.
-#[test]
-fn the_page_of_a_station_is_armed(rt: HostRuntime) -> Result<(), Fail> {
-    let gate = HoldGate::new(1, 1, 0, 4, 5, 1_000_000_000);
-    let ran = run_held(&rt, rt.alloc(), &COMING, gate)?;
-    fits(
-        &rt,
-        rt.alloc(),
-        "the end",
-        ran.written.as_slice(),
-        &Want::Ends(ARMED),
-    )?;
-    same_status(&rt, "the status", ran.status, Status::Done);
-    Ok(())
-}
-
-// What `replay` writes of a leap second that is announced at noon for midnight, and the reply to a request a second later: its leap indicator is 1.
-const ANNOUNCED: &str = "j2 6 0 1 302000000 notice 3976300800\n\
-reply 640106ec000000000000f06744434600ed00e130000000001122334455667788ed00e13100000000ed00e1310020c49b\n\
-page 6 1 1 44434600 17077896086183477248 302000000 4364906902 0 61542 ed00e13000000000 3976300800 0\nstatus 0\n";
-
-const REPLAYED: [Row<'static>; 1] = [Row {
-    name: "a_leap_second_is_replayed",
-    words: &["replay", "--station", "s", "--script", "a"],
-    text: &[
-        Piece::Pulses(0, 302_000_000),
-        Piece::Text("leap 1 302000000 3976300800\n"),
-        Piece::Asks(Asked {
-            connection: 0,
-            arrived: 303_000_000,
-            sent: 303_000_500,
-            first: "23",
-            after: &[],
-        }),
-    ],
-    want: &[Want::Ends(ANNOUNCED)],
-    ..LISTED
-}];
-
-#[test]
-fn a_leap_second_is_replayed(rt: HostRuntime) -> Result<(), Fail> {
-    are_met(&rt, rt.alloc(), &REPLAYED)
+fn leap_second_files_are_read(rt: HostRuntime) -> Result<(), Fail> {
+    are_met(&rt, rt.alloc(), &LISTED_ALL)
 }

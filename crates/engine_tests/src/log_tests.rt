@@ -69,23 +69,6 @@ fn what_is_lawful_is_taken(rt: HostRuntime) -> Result<(), Fail> {
     are_told(&rt, rt.alloc(), &DECODED, &LAWFUL)
 }
 
-const BEFORE: [Row<'static>; 1] = [Row {
-    name: "entries_before_a_bad_line_stand",
-    text: &[
-        Piece::Text("0 100000\n"),
-        Piece::Marks(NOON),
-        Piece::Marks(NOON_1),
-        Piece::Text("122000000 100000\n122000000 100000\n"),
-    ],
-    want: &[Want::Is(&[LONE, VERDICT, "status 5 line 0 121\n"])],
-    ..BAD
-}];
-
-#[test]
-fn entries_before_a_bad_line_stand(rt: HostRuntime) -> Result<(), Fail> {
-    are_met(&rt, rt.alloc(), &BEFORE)
-}
-
 const FAILED: &str = "status 4 read feed 0\n";
 
 const UNREAD: Row<'static> = Row {
@@ -95,69 +78,12 @@ const UNREAD: Row<'static> = Row {
     ..DECODED
 };
 
-// The log has five readings: four pieces, the last of them short, and the end.
-const READINGS: [Row<'static>; 6] = [
-    Row {
-        fails: 1,
-        want: &[Want::Is(&[FAILED])],
-        ..UNREAD
-    },
-    Row {
-        fails: 2,
-        want: &[Want::Is(&[FAILED])],
-        ..UNREAD
-    },
-    Row {
-        fails: 3,
-        want: &[Want::Is(&[LONE, FAILED])],
-        ..UNREAD
-    },
-    Row {
-        fails: 4,
-        want: &[Want::Is(&[LONE, FAILED])],
-        ..UNREAD
-    },
-    Row {
-        fails: 5,
-        want: &[Want::Is(&[LONE, VERDICT, FAILED])],
-        ..UNREAD
-    },
-    Row {
-        fails: 6,
-        want: &[Want::Is(&[LONE, VERDICT, DONE])],
-        end: Status::Done,
-        ..UNREAD
-    },
-];
-
-#[test]
-fn a_read_that_fails_ends_the_log(rt: HostRuntime) -> Result<(), Fail> {
-    are_met(&rt, rt.alloc(), &READINGS)
-}
-
 const UNOPENED: Row<'static> = Row {
     name: "a_log_that_cannot_be_opened",
     want: &[Want::Is(&["status 2 open feed 0\n"])],
     end: Status::OpenFault,
     ..ROW
 };
-
-const OPENINGS: [Row<'static>; 2] = [
-    Row {
-        words: &["decode", "--plan", "dcf", "--log", "other"],
-        ..UNOPENED
-    },
-    Row {
-        words: &WORDS,
-        opening: 1,
-        ..UNOPENED
-    },
-];
-
-#[test]
-fn a_log_that_cannot_be_opened(rt: HostRuntime) -> Result<(), Fail> {
-    are_met(&rt, rt.alloc(), &OPENINGS)
-}
 
 const USAGE: [&[&str]; 7] = [
     &[],
@@ -214,4 +140,64 @@ const WRITINGS: Pieces<'static> = Pieces {
 #[test]
 fn each_writing_of_two_minutes_may_fail(rt: HostRuntime) -> Result<(), Fail> {
     stops_at_each_writing(&rt, rt.alloc(), &WRITINGS)
+}
+
+const LOGS: [Row<'static>; 9] = [
+    Row {
+        name: "entries_before_a_bad_line_stand",
+        text: &[
+            Piece::Text("0 100000\n"),
+            Piece::Marks(NOON),
+            Piece::Marks(NOON_1),
+            Piece::Text("122000000 100000\n122000000 100000\n"),
+        ],
+        want: &[Want::Is(&[LONE, VERDICT, "status 5 line 0 121\n"])],
+        ..BAD
+    },
+    // The log has five readings: four pieces, the last of them short, and the end.
+    Row {
+        fails: 1,
+        want: &[Want::Is(&[FAILED])],
+        ..UNREAD
+    },
+    Row {
+        fails: 2,
+        want: &[Want::Is(&[FAILED])],
+        ..UNREAD
+    },
+    Row {
+        fails: 3,
+        want: &[Want::Is(&[LONE, FAILED])],
+        ..UNREAD
+    },
+    Row {
+        fails: 4,
+        want: &[Want::Is(&[LONE, FAILED])],
+        ..UNREAD
+    },
+    Row {
+        fails: 5,
+        want: &[Want::Is(&[LONE, VERDICT, FAILED])],
+        ..UNREAD
+    },
+    Row {
+        fails: 6,
+        want: &[Want::Is(&[LONE, VERDICT, DONE])],
+        end: Status::Done,
+        ..UNREAD
+    },
+    Row {
+        words: &["decode", "--plan", "dcf", "--log", "other"],
+        ..UNOPENED
+    },
+    Row {
+        words: &WORDS,
+        opening: 1,
+        ..UNOPENED
+    },
+];
+
+#[test]
+fn logs_may_fail(rt: HostRuntime) -> Result<(), Fail> {
+    are_met(&rt, rt.alloc(), &LOGS)
 }

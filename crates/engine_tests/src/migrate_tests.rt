@@ -27,58 +27,11 @@ const MOVED: Row<'static> = Row {
     ..ROW
 };
 
-const BOTH: [Row<'static>; 3] = [
-    Row {
-        name: "both_forms_give_the_second, of the first",
-        text: &[Piece::Text(BARE)],
-        want: &[Want::Is(&[FIRST, SECOND, TWO, "status 0\n"])],
-        ..MOVED
-    },
-    Row {
-        name: "both_forms_give_the_second, of the second",
-        text: &[Piece::Text(FIRST), Piece::Text(SECOND)],
-        want: &[Want::Is(&[FIRST, SECOND, TWO, "status 0\n"])],
-        ..MOVED
-    },
-    Row {
-        name: "both_forms_give_the_second, of none",
-        ..MOVED
-    },
-];
-
-#[test]
-fn both_forms_give_the_second(rt: HostRuntime) -> Result<(), Fail> {
-    are_met(&rt, rt.alloc(), &BOTH)
-}
-
 const RATED: &str =
     "j2 1 0 0 62000000 lone 3976257600\nj2 2 0 0 122000000 verdict 3976257660 0\nj2 3 0 0 182000000 verdict 3976257720 0\nj2 4 0 0 242000000 verdict 3976257780 0\nj2 5 0 0 302000000 verdict 3976257840 0\nj2 6 -53687 0 362003000 verdict 3976257900 0\n";
 
 const RATED_PAGE: &str =
     "page 6 1 1 44434600 17077896086170592347 362003000 37547671946 0 28981 ed00e16c00000000 0 -53687\n";
-
-// Five exact minutes, and one that comes 3 ms late: the counter loses 12.5 parts per million.
-const RATES: [Row<'static>; 2] = [
-    Row {
-        name: "a_line_tells_the_rate_after_it",
-        text: &[Piece::Text(
-            "0 62000000 lone 3976257600\n0 122000000 verdict 3976257660 0\n0 182000000 verdict 3976257720 0\n0 242000000 verdict 3976257780 0\n0 302000000 verdict 3976257840 0\n0 362003000 verdict 3976257900 0\n",
-        )],
-        want: &[Want::Is(&[RATED, RATED_PAGE, "status 0\n"])],
-        ..MOVED
-    },
-    Row {
-        name: "a_line_tells_the_rate_after_it, of the second form",
-        text: &[Piece::Text(RATED)],
-        want: &[Want::Is(&[RATED, RATED_PAGE, "status 0\n"])],
-        ..MOVED
-    },
-];
-
-#[test]
-fn a_line_tells_the_rate_after_it(rt: HostRuntime) -> Result<(), Fail> {
-    are_met(&rt, rt.alloc(), &RATES)
-}
 
 // The first line of each is bad, and nothing of it is kept.
 const NO_JOURNALS: [Told<'static>; 25] = [
@@ -152,7 +105,70 @@ const CUT_LATER: Row<'static> = Row {
     ..CUT
 };
 
-const CUTS: [Row<'static>; 7] = [
+// A journal of two minutes is moved.
+const MOVES: Row<'static> = Row {
+    words: &WORDS,
+    station: &[RADIO],
+    text: &[Piece::Text(BARE)],
+    ..ROW
+};
+
+const UNOPENED: Row<'static> = Row {
+    name: "openings_and_readings_that_fail",
+    end: Status::OpenFault,
+    ..MOVES
+};
+
+const UNREAD: Row<'static> = Row {
+    end: Status::ReadFault,
+    ..UNOPENED
+};
+
+// A write that fails is the last: each line is written in one.
+const WRITINGS: Pieces<'static> = Pieces {
+    name: "writings_that_fail",
+    run: MOVES,
+    pieces: &[FIRST, SECOND, TWO, "status 0\n"],
+    end: Status::Done,
+};
+
+#[test]
+fn writings_that_fail(rt: HostRuntime) -> Result<(), Fail> {
+    stops_at_each_writing(&rt, rt.alloc(), &WRITINGS)
+}
+
+const MOVES_ALL: [Row<'static>; 22] = [
+    Row {
+        name: "both_forms_give_the_second, of the first",
+        text: &[Piece::Text(BARE)],
+        want: &[Want::Is(&[FIRST, SECOND, TWO, "status 0\n"])],
+        ..MOVED
+    },
+    Row {
+        name: "both_forms_give_the_second, of the second",
+        text: &[Piece::Text(FIRST), Piece::Text(SECOND)],
+        want: &[Want::Is(&[FIRST, SECOND, TWO, "status 0\n"])],
+        ..MOVED
+    },
+    Row {
+        name: "both_forms_give_the_second, of none",
+        ..MOVED
+    },
+    // Five exact minutes, and one that comes 3 ms late: the counter loses 12.5 parts per million.
+    Row {
+        name: "a_line_tells_the_rate_after_it",
+        text: &[Piece::Text(
+            "0 62000000 lone 3976257600\n0 122000000 verdict 3976257660 0\n0 182000000 verdict 3976257720 0\n0 242000000 verdict 3976257780 0\n0 302000000 verdict 3976257840 0\n0 362003000 verdict 3976257900 0\n",
+        )],
+        want: &[Want::Is(&[RATED, RATED_PAGE, "status 0\n"])],
+        ..MOVED
+    },
+    Row {
+        name: "a_line_tells_the_rate_after_it, of the second form",
+        text: &[Piece::Text(RATED)],
+        want: &[Want::Is(&[RATED, RATED_PAGE, "status 0\n"])],
+        ..MOVED
+    },
     Row {
         text: &[MINUTE, Piece::Text("0 122000000 verdict 3976257660\n")],
         ..CUT
@@ -196,14 +212,6 @@ const CUTS: [Row<'static>; 7] = [
         ],
         ..CUT_LATER
     },
-];
-
-#[test]
-fn lines_before_a_bad_one_stand(rt: HostRuntime) -> Result<(), Fail> {
-    are_met(&rt, rt.alloc(), &CUTS)
-}
-
-const SINGLE: [Row<'static>; 5] = [
     // Each at a bound, and moments that fall.
     Row {
         name: "what_is_lawful_is_moved",
@@ -249,33 +257,6 @@ const SINGLE: [Row<'static>; 5] = [
         end: Status::Station,
         ..MOVED
     },
-];
-
-#[test]
-fn journals_are_moved(rt: HostRuntime) -> Result<(), Fail> {
-    are_met(&rt, rt.alloc(), &SINGLE)
-}
-
-// A journal of two minutes is moved.
-const MOVES: Row<'static> = Row {
-    words: &WORDS,
-    station: &[RADIO],
-    text: &[Piece::Text(BARE)],
-    ..ROW
-};
-
-const UNOPENED: Row<'static> = Row {
-    name: "openings_and_readings_that_fail",
-    end: Status::OpenFault,
-    ..MOVES
-};
-
-const UNREAD: Row<'static> = Row {
-    end: Status::ReadFault,
-    ..UNOPENED
-};
-
-const FAULTS: [Row<'static>; 5] = [
     Row {
         opening: 1,
         want: &[Want::Is(&["status 2 open station\n"])],
@@ -304,19 +285,6 @@ const FAULTS: [Row<'static>; 5] = [
 ];
 
 #[test]
-fn openings_and_readings_that_fail(rt: HostRuntime) -> Result<(), Fail> {
-    are_met(&rt, rt.alloc(), &FAULTS)
-}
-
-// A write that fails is the last: each line is written in one.
-const WRITINGS: Pieces<'static> = Pieces {
-    name: "writings_that_fail",
-    run: MOVES,
-    pieces: &[FIRST, SECOND, TWO, "status 0\n"],
-    end: Status::Done,
-};
-
-#[test]
-fn writings_that_fail(rt: HostRuntime) -> Result<(), Fail> {
-    stops_at_each_writing(&rt, rt.alloc(), &WRITINGS)
+fn journals_are_moved(rt: HostRuntime) -> Result<(), Fail> {
+    are_met(&rt, rt.alloc(), &MOVES_ALL)
 }

@@ -70,7 +70,35 @@ page 6 1 1 44434600 17077896086170592347 362003000 37547671946 0 28981 ed00e16c0
 const HALF_A_SECOND: &str =
     "\npage 5 0 0 494e4954 0 302000000 0 0 1048576 0000000000000000 0 0\nstatus 0\n";
 
-const MINUTES: [Row<'static>; 4] = [
+const REQUESTS: Row<'static> = Row {
+    words: &WORDS,
+    station: &[RADIO],
+    ..ROW
+};
+
+// A request at 1 s.
+const ASKS: Asked<'static> = Asked {
+    arrived: 1_000_000,
+    sent: 1_000_000,
+    ..AT_303
+};
+
+const KEYED: Row<'static> = Row {
+    station: &[RADIO, KEY],
+    ..REPLAY
+};
+
+// The five minutes of a radio.
+const HEARD: Piece<'static> = Piece::Pulses(0, 302_000_000);
+
+const REPLIED: &str =
+    "reply 240106ec000000000000f06744434600ed00e130000000001122334455667788ed00e13100000000ed00e1310020c49b";
+
+const SEALED: &str =
+    "reply 240106ec000000000000f06744434600ed00e130000000001122334455667788ed00e13100000000ed00e1310020c49b\
+00000001c6347df5e2b59807072bd69b399065c3";
+
+const REPLAYED: [Row<'static>; 9] = [
     Row {
         name: "five_minutes_make_a_page",
         text: &[FOUR, AT_243, FIFTH, Piece::Asks(AT_303)],
@@ -135,27 +163,6 @@ const MINUTES: [Row<'static>; 4] = [
         want: &[Want::Ends(HALF_A_SECOND)],
         ..REPLAY
     },
-];
-
-#[test]
-fn minutes_make_pages(rt: HostRuntime) -> Result<(), Fail> {
-    are_met(&rt, rt.alloc(), &MINUTES)
-}
-
-const REQUESTS: Row<'static> = Row {
-    words: &WORDS,
-    station: &[RADIO],
-    ..ROW
-};
-
-// A request at 1 s.
-const ASKS: Asked<'static> = Asked {
-    arrived: 1_000_000,
-    sent: 1_000_000,
-    ..AT_303
-};
-
-const ASKED: [Row<'static>; 2] = [
     Row {
         name: "requests_are_answered_or_dropped",
         text: &[
@@ -193,31 +200,8 @@ const ASKED: [Row<'static>; 2] = [
         want: &[Want::Is(&["drop short\n", EMPTY_PAGE, "status 0\n"])],
         ..REQUESTS
     },
-];
-
-#[test]
-fn requests_are_answered_or_dropped(rt: HostRuntime) -> Result<(), Fail> {
-    are_met(&rt, rt.alloc(), &ASKED)
-}
-
-const KEYED: Row<'static> = Row {
-    station: &[RADIO, KEY],
-    ..REPLAY
-};
-
-// The five minutes of a radio.
-const HEARD: Piece<'static> = Piece::Pulses(0, 302_000_000);
-
-const REPLIED: &str =
-    "reply 240106ec000000000000f06744434600ed00e130000000001122334455667788ed00e13100000000ed00e1310020c49b";
-
-const SEALED: &str =
-    "reply 240106ec000000000000f06744434600ed00e130000000001122334455667788ed00e13100000000ed00e1310020c49b\
-00000001c6347df5e2b59807072bd69b399065c3";
-
-// MD5 of `longwave` and the request, and of `longwave` and the reply, by Python's `hashlib`; then the request's with another last byte, and
-// under another identifier.
-const SEALS: [Row<'static>; 3] = [
+    // MD5 of `longwave` and the request, and of `longwave` and the reply, by Python's `hashlib`; then the request's with another last byte, and
+    // under another identifier.
     Row {
         name: "a_reply_of_a_script_is_sealed_as_its_request_is",
         text: &[
@@ -257,6 +241,6 @@ const SEALS: [Row<'static>; 3] = [
 ];
 
 #[test]
-fn a_reply_of_a_script_is_sealed_as_its_request_is(rt: HostRuntime) -> Result<(), Fail> {
-    are_met(&rt, rt.alloc(), &SEALS)
+fn scripts_of_five_minutes_are_played(rt: HostRuntime) -> Result<(), Fail> {
+    are_met(&rt, rt.alloc(), &REPLAYED)
 }

@@ -73,16 +73,20 @@ pub fn holds(rt: &impl Abort, name: &str, fact: bool) {
     assert!(rt; fact, "{name}");
 }
 
-// Whether the line of this number begins so.
-fn has_line(written: &[u8], number: usize, text: &str) -> bool {
-    let line = written.split(|byte| *byte == b'\n').nth(number);
-    line.is_some_and(|line| line.starts_with(text.as_bytes()))
+/// A text that was written, or none where it is no UTF-8. Lines of it need no closure, and a closure is proved as three functions.
+pub fn text_in(written: &[u8]) -> &str {
+    match std::str::from_utf8(written) {
+        Ok(text) => text,
+        Err(_) => "",
+    }
 }
 
-// Whether the line of this number is this.
-fn is_line(written: &[u8], number: usize, text: &str) -> bool {
-    let line = written.split(|byte| *byte == b'\n').nth(number);
-    line.is_some_and(|line| line == text.as_bytes())
+// The line of this number, or an empty one.
+fn line_of(written: &[u8], number: usize) -> &str {
+    match text_in(written).lines().nth(number) {
+        Some(line) => line,
+        None => "",
+    }
 }
 
 /// The text is as it is wanted.
@@ -100,8 +104,8 @@ pub fn fits(
         }
         Want::Begins(text) => holds(rt, name, written.starts_with(text.as_bytes())),
         Want::Ends(text) => holds(rt, name, written.ends_with(text.as_bytes())),
-        Want::Line(number, text) => holds(rt, name, has_line(written, number, text)),
-        Want::Whole(number, text) => holds(rt, name, is_line(written, number, text)),
+        Want::Line(number, text) => holds(rt, name, line_of(written, number).starts_with(text)),
+        Want::Whole(number, text) => holds(rt, name, line_of(written, number) == text),
     }
     Ok(())
 }
@@ -150,7 +154,10 @@ pub fn are_sent(link: &MemoryLink, address: Address, wants: &[&[u8]]) -> bool {
     for place in 0..link.count() {
         if let Some(LinkEvent::Sent { to, bytes }) = link.event(place) {
             if to == address {
-                if !wants.get(count).is_some_and(|want| bytes == *want) {
+                let Some(want) = wants.get(count) else {
+                    return false;
+                };
+                if bytes != *want {
                     return false;
                 }
                 count = count.saturating_add(1);
@@ -317,8 +324,11 @@ pub fn has_held(rt: &(impl Abort + Wait), name: &str, outside: &MemoryOutside<Ho
 
 /// How many lines are entries of a journal.
 pub fn entries_of(written: &[u8]) -> usize {
-    written
-        .split(|byte| *byte == b'\n')
-        .filter(|line| line.starts_with(b"j2 "))
-        .count()
+    let mut count = 0usize;
+    for line in text_in(written).lines() {
+        if line.starts_with("j2 ") {
+            count = count.saturating_add(1);
+        }
+    }
+    count
 }

@@ -40,66 +40,6 @@ const ANSWER: Piece<'static> = Piece::Text(
     "answer 0 1010000 240206ec00000100000002000a00000100000000000000008000000100000000ed00e13100000000ed00e1310020c49b\n",
 );
 
-const WORKED: [Row<'static>; 4] = [
-    Row {
-        name: "a_full_journal_goes_on",
-        words: &LIMIT_2,
-        text: &[Piece::Pulses(0, 182_000_000), Piece::Asks(ASKS)],
-        want: &[
-            Want::Begins(
-                "j2 1 0 0 62000000 lone 3976257600\nj2 2 0 0 122000000 verdict 3976257660 0\nreply e40006ec",
-            ),
-            Want::Ends(
-                "\npage 2 0 0 494e4954 0 122000000 0 0 1048576 0000000000000000 0 0\nstatus 6 full 2\n",
-            ),
-        ],
-        end: Status::JournalFull,
-        ..REPLAY
-    },
-    // A bad line comes before it.
-    Row {
-        name: "a_full_journal_goes_on, to a bad line",
-        words: &LIMIT_2,
-        text: &[
-            Piece::Pulses(0, 182_000_000),
-            Piece::Asks(ASKS),
-            Piece::Text("\n"),
-        ],
-        want: &[Want::Ends(
-            "\npage 2 0 0 494e4954 0 122000000 0 0 1048576 0000000000000000 0 0\nstatus 5 script 181\n",
-        )],
-        end: Status::BadLine,
-        ..REPLAY
-    },
-    Row {
-        name: "servers_are_asked",
-        station: &[SERVER],
-        text: &[Piece::Text("ask 0 1000000\n"), ANSWER, ANSWER],
-        want: &[Want::Begins(
-            "asked 230006ec0000000000000000000000000000000000000000000000000000000000000000000000008000000100000000\n\
-j2 1 0 0 1010000 sample 17077897383243199545 40802189 8837 2 7f000001 256 512\nj2 2 0 0 1010000 declined 3\n",
-        )],
-        ..REPLAY
-    },
-    Row {
-        name: "a_swap_loses_its_half_frame",
-        text: &[
-            Piece::Pulses(0, 90_000_000),
-            Piece::Text("swap 0\n"),
-            Piece::Pulses(90_000_000, 182_000_000),
-        ],
-        want: &[Want::Begins(
-            "j2 1 0 0 62000000 lone 3976257600\nj2 2 0 0 182000000 lone 3976257720\npage 2 ",
-        )],
-        ..REPLAY
-    },
-];
-
-#[test]
-fn scripts_are_played(rt: HostRuntime) -> Result<(), Fail> {
-    are_met(&rt, rt.alloc(), &WORKED)
-}
-
 const BAD: Row<'static> = Row {
     end: Status::BadLine,
     ..REPLAYED
@@ -210,45 +150,6 @@ fn a_station_with_a_fault(rt: HostRuntime) -> Result<(), Fail> {
     are_met(&rt, rt.alloc(), &NO_TEXT)
 }
 
-// A station file of these pieces, with nothing in it.
-const LONG: [Row<'static>; 3] = [
-    Row {
-        name: "a_station_of_65536_bytes_is_whole",
-        station: &[],
-        files: &[File {
-            name: "s",
-            text: &[Piece::Times(65_536, "#")],
-            ..FILE
-        }],
-        want: &[Want::Is(&[EMPTY_PAGE, "status 0\n"])],
-        ..REPLAY
-    },
-    Row {
-        name: "a_station_of_65536_bytes_is_whole, and one more too long",
-        station: &[],
-        files: &[File {
-            name: "s",
-            text: &[Piece::Times(65_537, "#")],
-            ..FILE
-        }],
-        want: &[Want::Is(&["status 10 long station\n"])],
-        end: Status::TooLong,
-        ..REPLAY
-    },
-    Row {
-        name: "a_line_of_4096_bytes_is_bad",
-        text: &[Piece::Text("swap 0\n"), Piece::Times(4096, "0")],
-        want: &[Want::Is(&[EMPTY_PAGE, "status 5 script 2\n"])],
-        end: Status::BadLine,
-        ..REPLAY
-    },
-];
-
-#[test]
-fn files_have_a_length(rt: HostRuntime) -> Result<(), Fail> {
-    are_met(&rt, rt.alloc(), &LONG)
-}
-
 const USAGE: [&[&str]; 4] = [
     &["decode", "--log", "a"],
     &["serve", "--station", "s", "--limit", "07"],
@@ -323,7 +224,59 @@ const MSF_NOON_1: Frame<'static> = Frame {
     ..MSF_NOON
 };
 
-const SWAPS: [Row<'static>; 3] = [
+const PLAYED: [Row<'static>; 10] = [
+    Row {
+        name: "a_full_journal_goes_on",
+        words: &LIMIT_2,
+        text: &[Piece::Pulses(0, 182_000_000), Piece::Asks(ASKS)],
+        want: &[
+            Want::Begins(
+                "j2 1 0 0 62000000 lone 3976257600\nj2 2 0 0 122000000 verdict 3976257660 0\nreply e40006ec",
+            ),
+            Want::Ends(
+                "\npage 2 0 0 494e4954 0 122000000 0 0 1048576 0000000000000000 0 0\nstatus 6 full 2\n",
+            ),
+        ],
+        end: Status::JournalFull,
+        ..REPLAY
+    },
+    // A bad line comes before it.
+    Row {
+        name: "a_full_journal_goes_on, to a bad line",
+        words: &LIMIT_2,
+        text: &[
+            Piece::Pulses(0, 182_000_000),
+            Piece::Asks(ASKS),
+            Piece::Text("\n"),
+        ],
+        want: &[Want::Ends(
+            "\npage 2 0 0 494e4954 0 122000000 0 0 1048576 0000000000000000 0 0\nstatus 5 script 181\n",
+        )],
+        end: Status::BadLine,
+        ..REPLAY
+    },
+    Row {
+        name: "servers_are_asked",
+        station: &[SERVER],
+        text: &[Piece::Text("ask 0 1000000\n"), ANSWER, ANSWER],
+        want: &[Want::Begins(
+            "asked 230006ec0000000000000000000000000000000000000000000000000000000000000000000000008000000100000000\n\
+j2 1 0 0 1010000 sample 17077897383243199545 40802189 8837 2 7f000001 256 512\nj2 2 0 0 1010000 declined 3\n",
+        )],
+        ..REPLAY
+    },
+    Row {
+        name: "a_swap_loses_its_half_frame",
+        text: &[
+            Piece::Pulses(0, 90_000_000),
+            Piece::Text("swap 0\n"),
+            Piece::Pulses(90_000_000, 182_000_000),
+        ],
+        want: &[Want::Begins(
+            "j2 1 0 0 62000000 lone 3976257600\nj2 2 0 0 182000000 lone 3976257720\npage 2 ",
+        )],
+        ..REPLAY
+    },
     Row {
         text: &[Piece::Pulses(0, 122_000_000)],
         ..DELAYED
@@ -354,9 +307,40 @@ const SWAPS: [Row<'static>; 3] = [
         ])],
         ..REPLAYED
     },
+    // A station file of these pieces, with nothing in it.
+    Row {
+        name: "a_station_of_65536_bytes_is_whole",
+        station: &[],
+        files: &[File {
+            name: "s",
+            text: &[Piece::Times(65_536, "#")],
+            ..FILE
+        }],
+        want: &[Want::Is(&[EMPTY_PAGE, "status 0\n"])],
+        ..REPLAY
+    },
+    Row {
+        name: "a_station_of_65536_bytes_is_whole, and one more too long",
+        station: &[],
+        files: &[File {
+            name: "s",
+            text: &[Piece::Times(65_537, "#")],
+            ..FILE
+        }],
+        want: &[Want::Is(&["status 10 long station\n"])],
+        end: Status::TooLong,
+        ..REPLAY
+    },
+    Row {
+        name: "a_line_of_4096_bytes_is_bad",
+        text: &[Piece::Text("swap 0\n"), Piece::Times(4096, "0")],
+        want: &[Want::Is(&[EMPTY_PAGE, "status 5 script 2\n"])],
+        end: Status::BadLine,
+        ..REPLAY
+    },
 ];
 
 #[test]
-fn a_radio_is_swapped(rt: HostRuntime) -> Result<(), Fail> {
-    are_met(&rt, rt.alloc(), &SWAPS)
+fn scripts_are_played(rt: HostRuntime) -> Result<(), Fail> {
+    are_met(&rt, rt.alloc(), &PLAYED)
 }

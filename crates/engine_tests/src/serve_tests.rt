@@ -57,7 +57,7 @@ const ASKED_5: Wire<'static> = Wire {
     ..WIRE
 };
 
-const POLLED: [Row<'static>; 4] = [
+const SERVED: [Row<'static>; 18] = [
     Row {
         name: "a_server_is_polled",
         station: &[SERVER],
@@ -119,14 +119,6 @@ const POLLED: [Row<'static>; 4] = [
         end: Status::LinkFault,
         ..SERVE
     },
-];
-
-#[test]
-fn servers_are_polled(rt: HostRuntime) -> Result<(), Fail> {
-    are_met(&rt, rt.alloc(), &POLLED)
-}
-
-const LINKED: [Row<'static>; 5] = [
     Row {
         name: "a_link_that_ends_is_told",
         words: &DURING_2,
@@ -234,14 +226,6 @@ const LINKED: [Row<'static>; 5] = [
         end: Status::LinkFault,
         ..SERVE
     },
-];
-
-#[test]
-fn links_are_served(rt: HostRuntime) -> Result<(), Fail> {
-    are_met(&rt, rt.alloc(), &LINKED)
-}
-
-const HEARD: [Row<'static>; 9] = [
     Row {
         name: "a_station_with_nothing_in_it_is_served",
         station: &[""],
@@ -346,6 +330,6 @@ const HEARD: [Row<'static>; 9] = [
 ];
 
 #[test]
-fn radios_are_heard(rt: HostRuntime) -> Result<(), Fail> {
-    are_met(&rt, rt.alloc(), &HEARD)
+fn stations_are_served(rt: HostRuntime) -> Result<(), Fail> {
+    are_met(&rt, rt.alloc(), &SERVED)
 }
