@@ -3,7 +3,7 @@
 
 use crate::checks::same_count;
 use crate::fakes::{ASKS, CLIENT, Datagram, WIRE, Wire};
-use crate::stations::{CASE, Case, LINK, left};
+use crate::stations::{Case, LINK, left};
 use feed_link::{LinkEvent, MemoryLink};
 use station_crew::Budget;
 use std::alloc::Global;
@@ -102,6 +102,7 @@ fn is_sealed<R: Abort + Threads + Wait + Sync>(
         bytes: row.request,
         ..ASKS
     };
+    // Each field is stated: the borrow checker doesn't cover a row of this call's lifetime over a constant's, where a field is an `Option`.
     let ended = left(
         rt,
         alloc,
@@ -112,11 +113,13 @@ fn is_sealed<R: Abort + Threads + Wait + Sync>(
                 during: 1,
                 after: 1,
             },
+            minutes: &[],
+            leap: None,
+            servers: &[],
             links: &[Wire {
                 hears: &[asks, asks],
                 ..WIRE
             }],
-            ..CASE
         },
     )?;
     let link = ended.gear.links.get(0).ok_or("no link")?;
