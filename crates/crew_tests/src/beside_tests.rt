@@ -1,10 +1,14 @@
 //! Workers that need one another: each station here is served only where its feeds and its links run side by side.
 
-use crate::tests::{RADIO, SERVER, answered, asked, minutes, no_gear, same, serve};
-use feed_link::{Gate, HoldGate, MemorySource};
-use feed_workers::{LogEnd, LogWork, PollEnd, PollWork};
+use crate::checks::{
+    WHOLE, has_entries, has_held_once, has_listed, have_heard, have_polled, holds,
+};
+use crate::fakes::{ANSWERED, ASKED};
+use crate::stations::{CASE, Case, Done, LINK, RADIO, SECOND_LINK, SERVER, left_held, left_with};
+use feed_link::{Gate, HoldGate};
+use feed_workers::{PollEnd, PollWork};
 use station_crew::Budget;
-use std::alloc::{AllocError, Global};
+use std::alloc::Global;
 use std::process::Abort;
 use std::sync::{Mutex, Wait};
 use std::test::Fail;
@@ -20,75 +24,95 @@ const WAIT: u32 = 5_000;
 
 const LIST: &str = "3644697600\t36\n3692217600\t37\n";
 
-const NO_HEARINGS: Budget = Budget {
-    during: 0,
-    after: 0,
+// Two links receive a request each.
+const TWO_LINKS: Case<'static> = Case {
+    station: &[LINK, SECOND_LINK],
+    limit: 1,
+    links: &[ASKED, ASKED],
+    ..CASE
 };
 
-// The gate has held its worker once, and not for longer than until the other one had passed.
-fn has_held_once(rt: &(impl Abort + Wait), gate: &HoldGate) {
-    same(rt, gate.passed(rt), 1);
-    assert!(*rt; !gate.ran_out(rt));
+// Both links have answered once.
+fn have_answered(rt: &impl Abort, ended: &Done) {
+    for link in &ended.work.links {
+        let later = match link.second {
+            Some(second) => second.answered,
+            None => 0,
+        };
+        holds(
+            rt,
+            "one answer",
+            link.first.answered.saturating_add(later) == 1,
+        );
+    }
 }
 
-// Two links receive a request each, in the first phase or in the second. One responder has received, and goes on once the other has answered.
-fn answers_after<R: Threads + Wait + Sync + Abort>(
+// The requests come in the first phase or in the second. One responder has received, and goes on once the other has answered.
+fn answers_after<R: Abort + Threads + Wait + Sync>(
     rt: &R,
     alloc: Global,
     budget: Budget,
     held: u32,
     other: u32,
 ) -> Result<(), Fail> {
-    let mut gear = no_gear(alloc);
-    gear.links.push(asked(alloc, 1)?)?;
-    gear.links.push(asked(alloc, 1)?)?;
-    let station = "[[link]]\nport = 5123\n[[link]]\nport = 5124\n";
     let gate = HoldGate::new(held, 2, other, 3, 1, TURNS);
-    let ended = serve(rt, alloc, &gate, station, 1, budget, gear)?;
+    let ended = left_held(
+        rt,
+        alloc,
+        &Case {
+            budget,
+            ..TWO_LINKS
+        },
+        &gate,
+    )?;
     has_held_once(rt, &gate);
-    for link in &ended.work.links {
-        let later = link.second.map_or(0, |second| second.answered);
-        same(rt, link.first.answered.saturating_add(later), 1);
-    }
+    have_answered(rt, &ended);
     Ok(())
 }
 
+const FIRST_PHASE: Budget = Budget {
+    during: 1,
+    after: 0,
+};
+
+const SECOND_PHASE: Budget = Budget {
+    during: 0,
+    after: 1,
+};
+
 #[test]
 fn either_link_answers_while_the_other_waits(rt: HostRuntime) -> Result<(), Fail> {
-    let budget = Budget {
-        during: 1,
-        after: 0,
-    };
-    answers_after(&rt, rt.alloc(), budget, 100, 101)?;
-    answers_after(&rt, rt.alloc(), budget, 101, 100)
+    answers_after(&rt, rt.alloc(), FIRST_PHASE, 100, 101)?;
+    answers_after(&rt, rt.alloc(), FIRST_PHASE, 101, 100)
 }
 
 #[test]
 fn either_link_answers_in_the_second_phase_while_the_other_waits(
     rt: HostRuntime,
 ) -> Result<(), Fail> {
-    let budget = Budget {
-        during: 0,
-        after: 1,
-    };
-    answers_after(&rt, rt.alloc(), budget, 100, 101)?;
-    answers_after(&rt, rt.alloc(), budget, 101, 100)
+    answers_after(&rt, rt.alloc(), SECOND_PHASE, 100, 101)?;
+    answers_after(&rt, rt.alloc(), SECOND_PHASE, 101, 100)
 }
 
-fn listed(alloc: Global) -> Result<MemorySource, Fail> {
-    let bytes = Vec::from_slice(alloc, LIST.as_bytes())?;
-    Ok(MemorySource::new(bytes, Vec::new(alloc)))
-}
+const LEAP_FILE: &str = "leap_file = \"leap\"\n";
 
-// A station of one radio, this many servers and a leap second file.
-fn of_all_kinds(alloc: Global, servers: u32) -> Result<String, AllocError> {
-    let mut text = String::from_str(alloc, "leap_file = \"leap\"\n")?;
-    text.push_str(RADIO)?;
-    for _ in 0..servers {
-        text.push_str(SERVER)?;
-    }
-    Ok(text)
-}
+// A radio, a server and a leap second file; and a radio, fourteen servers and a leap second file.
+const THREE: Case<'static> = Case {
+    station: &[LEAP_FILE, RADIO, SERVER],
+    minutes: &[1],
+    leap: Some(LIST),
+    servers: &[ANSWERED],
+    ..CASE
+};
+
+const SIXTEEN: Case<'static> = Case {
+    station: &[
+        LEAP_FILE, RADIO, SERVER, SERVER, SERVER, SERVER, SERVER, SERVER, SERVER, SERVER, SERVER,
+        SERVER, SERVER, SERVER, SERVER, SERVER,
+    ],
+    servers: &[ANSWERED; 14],
+    ..THREE
+};
 
 // The place of the first entry of a feed in a journal.
 fn place_of(journal: &Journal, feed: u32) -> Option<usize> {
@@ -102,35 +126,24 @@ fn place_of(journal: &Journal, feed: u32) -> Option<usize> {
     None
 }
 
-// Of a radio, this many servers and a leap second file each keeps one entry. One feed comes to its entry, and keeps it once another has kept its
-// own.
-fn keeps_after<R: Threads + Wait + Sync + Abort>(
+// Each feed keeps one entry. One feed comes to its entry, and keeps it once another has kept its own.
+fn keeps_after<R: Abort + Threads + Wait + Sync>(
     rt: &R,
     alloc: Global,
-    servers: u32,
+    case: &Case<'_>,
+    entries: usize,
     held: u32,
     other: u32,
 ) -> Result<(), Fail> {
-    let mut gear = no_gear(alloc);
-    gear.logs.push(minutes(alloc, 1)?)?;
-    for _ in 0..servers {
-        gear.servers.push(answered(alloc)?)?;
-    }
-    gear.leap = Some(listed(alloc)?);
-    let station = of_all_kinds(alloc, servers)?;
     let gate = HoldGate::new(held, 1, other, 4, 1, TURNS);
-    let ended = serve(rt, alloc, &gate, station.as_str(), 20, NO_HEARINGS, gear)?;
+    let ended = left_held(rt, alloc, case, &gate)?;
     has_held_once(rt, &gate);
-    same(rt, ended.journal.len(), servers as usize + 2);
-    let whole = LogWork {
-        end: LogEnd::Whole,
-        full: false,
-    };
-    same(rt, ended.work.radios.get(0).copied(), Some(whole));
-    same(rt, ended.work.leap, Some(whole));
+    has_entries(rt, &ended, entries);
+    have_heard(rt, &ended, &[WHOLE]);
+    has_listed(rt, &ended, Some(WHOLE));
     let first = place_of(&ended.journal, other).ok_or("no entry of the other")?;
     let later = place_of(&ended.journal, held).ok_or("no entry of the one held")?;
-    assert!(*rt; first < later);
+    holds(rt, "the order", first < later);
     Ok(())
 }
 
@@ -139,21 +152,21 @@ fn keeps_after<R: Threads + Wait + Sync + Abort>(
 fn of_sixteen_feeds_the_first_and_the_last_wait_for_one_another(
     rt: HostRuntime,
 ) -> Result<(), Fail> {
-    keeps_after(&rt, rt.alloc(), 14, 0, 15)?;
-    keeps_after(&rt, rt.alloc(), 14, 15, 0)
+    keeps_after(&rt, rt.alloc(), &SIXTEEN, 16, 0, 15)?;
+    keeps_after(&rt, rt.alloc(), &SIXTEEN, 16, 15, 0)
 }
 
 // Feed 0 is the radio, feed 1 the server, feed 2 the leap second file.
 #[test]
 fn a_radio_and_a_server_wait_for_one_another(rt: HostRuntime) -> Result<(), Fail> {
-    keeps_after(&rt, rt.alloc(), 1, 0, 1)?;
-    keeps_after(&rt, rt.alloc(), 1, 1, 0)
+    keeps_after(&rt, rt.alloc(), &THREE, 3, 0, 1)?;
+    keeps_after(&rt, rt.alloc(), &THREE, 3, 1, 0)
 }
 
 #[test]
 fn a_server_and_a_leap_second_file_wait_for_one_another(rt: HostRuntime) -> Result<(), Fail> {
-    keeps_after(&rt, rt.alloc(), 1, 1, 2)?;
-    keeps_after(&rt, rt.alloc(), 1, 2, 1)
+    keeps_after(&rt, rt.alloc(), &THREE, 3, 1, 2)?;
+    keeps_after(&rt, rt.alloc(), &THREE, 3, 2, 1)
 }
 
 // Which feeds have come to their first entry, a bit for each, and whether one has waited for longer than it was to.
@@ -224,42 +237,39 @@ impl Gate for MeetGate<'_> {
     }
 }
 
-// Each feed is at its entry at once.
-#[test]
-fn sixteen_feeds_of_all_kinds_meet(rt: HostRuntime) -> Result<(), Fail> {
-    let alloc = rt.alloc();
-    let mut gear = no_gear(alloc);
-    gear.logs.push(minutes(alloc, 1)?)?;
-    for _ in 0..14u32 {
-        gear.servers.push(answered(alloc)?)?;
-    }
-    gear.leap = Some(listed(alloc)?);
-    let station = of_all_kinds(alloc, 14)?;
-    let gate = MeetGate::new(&rt, 16);
-    let ended = serve(&rt, alloc, &gate, station.as_str(), 20, NO_HEARINGS, gear)?;
-    assert!(rt; gate.has_met(&rt));
-    same(&rt, ended.journal.len(), 16);
-    Ok(())
+// Sixteen feeds of a station are at their entries at once.
+fn meet<R: Abort + Threads + Wait + Sync>(
+    rt: &R,
+    alloc: Global,
+    case: &Case<'_>,
+    gate: &MeetGate<'_>,
+) -> Result<Done, Fail> {
+    let ended = left_with(rt, alloc, case, gate)?;
+    holds(rt, "all have met", gate.has_met(rt));
+    Ok(ended)
 }
 
 #[test]
+fn sixteen_feeds_of_all_kinds_meet(rt: HostRuntime) -> Result<(), Fail> {
+    let ended = meet(&rt, rt.alloc(), &SIXTEEN, &MeetGate::new(&rt, 16))?;
+    has_entries(&rt, &ended, 16);
+    Ok(())
+}
+
+const SERVERS: Case<'static> = Case {
+    station: &[SERVER; 16],
+    servers: &[ANSWERED; 16],
+    ..CASE
+};
+
+const ROUND: PollWork = PollWork {
+    end: PollEnd::Rounds,
+    full: false,
+};
+
+#[test]
 fn sixteen_servers_meet(rt: HostRuntime) -> Result<(), Fail> {
-    let alloc = rt.alloc();
-    let mut gear = no_gear(alloc);
-    let mut station = String::new(alloc);
-    for _ in 0..16u32 {
-        gear.servers.push(answered(alloc)?)?;
-        station.push_str(SERVER)?;
-    }
-    let gate = MeetGate::new(&rt, 16);
-    let ended = serve(&rt, alloc, &gate, station.as_str(), 20, NO_HEARINGS, gear)?;
-    assert!(rt; gate.has_met(&rt));
-    let round = PollWork {
-        end: PollEnd::Rounds,
-        full: false,
-    };
-    for place in 0..16usize {
-        same(&rt, ended.work.servers.get(place).copied(), Some(round));
-    }
+    let ended = meet(&rt, rt.alloc(), &SERVERS, &MeetGate::new(&rt, 16))?;
+    have_polled(&rt, &ended, &[ROUND; 16]);
     Ok(())
 }

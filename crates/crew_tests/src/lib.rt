@@ -5,6 +5,10 @@
 #[cfg(test)]
 mod beside_tests;
 #[cfg(test)]
+mod checks;
+#[cfg(test)]
+mod fakes;
+#[cfg(test)]
 mod gate_tests;
 #[cfg(test)]
 mod key_tests;
@@ -14,5 +18,7 @@ mod leap_tests;
 mod number_tests;
 #[cfg(test)]
 mod place_tests;
+#[cfg(test)]
+mod stations;
 #[cfg(test)]
 mod tests;

@@ -1,12 +1,12 @@
 //! What is done before and after each place of the gate. A feed comes to places 1 and 4 before its entry is kept and after it; a responder comes to
 //! place 2 before it reads the page, and to place 3 after it has sent.
 
-use crate::tests::{
-    CLIENT, LINK, RADIO, REQUEST, asked, counts, minutes, moment, no_gear, reply, same, serve,
-};
-use feed_link::{Gate, HoldGate, MemoryLink, Planned};
-use responder::End;
-use station_crew::{Budget, LinkWork};
+use crate::checks::{NONE, ONE, REPLY, Reply, has_entries, has_first, has_sent, holds, same_count};
+use crate::fakes::{ASKED, ASKS, WIRE, Wire};
+use crate::stations::{CASE, Case, LINK, RADIO, left_held, left_with};
+use feed_link::{Gate, HoldGate};
+use responder::{End, Served};
+use station_crew::Budget;
 use std::alloc::Global;
 use std::process::Abort;
 use std::sync::{Mutex, Wait};
@@ -117,75 +117,78 @@ impl Gate for PairGate {
     }
 }
 
-// What the link is answered while feed 0, a radio that receives five minutes, stands at its fifth coming to a place: the first byte, the
-// stratum, the reference ID.
-fn answered_at<R: Threads + Wait + Sync + Abort>(
+// A radio that receives five minutes, and a link that receives a request.
+const FIVE_MINUTES: Case<'static> = Case {
+    station: &[RADIO, LINK],
+    limit: 9,
+    budget: ONE_EACH,
+    minutes: &[5],
+    links: &[ASKED],
+    ..CASE
+};
+
+// The link is answered so while feed 0 stands at its fifth coming to a place.
+fn is_answered_at<R: Abort + Threads + Wait + Sync>(
     rt: &R,
     alloc: Global,
     place: u8,
-) -> Result<(u8, u8, [u8; 4]), Fail> {
-    let mut gear = no_gear(alloc);
-    gear.logs.push(minutes(alloc, 5)?)?;
-    gear.links.push(asked(alloc, 1)?)?;
-    let mut station = String::from_str(alloc, RADIO)?;
-    station.push_str(LINK)?;
+    want: Reply<'_>,
+) -> Result<(), Fail> {
     let gate = PairGate::new(place, 5);
-    let ended = serve(rt, alloc, &gate, station.as_str(), 9, ONE_EACH, gear)?;
-    assert!(*rt; gate.has_met(rt));
-    same(rt, ended.journal.len(), 5);
-    let link = ended.gear.links.get(0).ok_or("no link")?;
-    let (first, stratum, id, _) = reply(link, 0).ok_or("no reply")?;
-    Ok((first, stratum, id))
+    let ended = left_with(rt, alloc, &FIVE_MINUTES, &gate)?;
+    holds(rt, "they have met", gate.has_met(rt));
+    has_entries(rt, &ended, 5);
+    has_sent(rt, &ended, 0, &[want]);
+    Ok(())
 }
+
+const NO_TIME: Reply<'static> = Reply {
+    begin: &[0xe4, 0],
+    ..REPLY
+};
+
+const TIME: Reply<'static> = Reply {
+    begin: &[0x24, 1],
+    id: b"DCF\0",
+    ..REPLY
+};
 
 // Four entries are no time yet, and five are.
 #[test]
 fn a_feed_keeps_its_entry_between_its_two_places(rt: HostRuntime) -> Result<(), Fail> {
-    same(&rt, answered_at(&rt, rt.alloc(), 1)?, (0xe4, 0, *b"INIT"));
-    same(&rt, answered_at(&rt, rt.alloc(), 4)?, (0x24, 1, *b"DCF\0"));
-    Ok(())
+    is_answered_at(&rt, rt.alloc(), 1, NO_TIME)?;
+    is_answered_at(&rt, rt.alloc(), 4, TIME)
 }
 
-// A link that receives a request, and whose call of this number fails: receiving is its first, sending its second.
-fn failing(alloc: Global, fails: u64) -> Result<MemoryLink, Fail> {
-    let mut hearings = Vec::new(alloc);
-    hearings.push(Planned::Datagram {
-        from: CLIENT,
-        at: moment(363_000_000),
-        bytes: Vec::from_slice(alloc, &REQUEST)?,
-    })?;
-    let fails = vec![in alloc; fails]?;
-    Ok(MemoryLink::new(alloc, hearings, Vec::new(alloc), fails, 40, 4000)?)
-}
-
-// How often the responder of such a link has come to place 3, and what it did.
-fn come_to_3<R: Threads + Wait + Sync + Abort>(
+// The responder of a link whose call of this number fails comes to place 3 so often, and does this: receiving is its first call, sending its second.
+fn comes_to_3<R: Abort + Threads + Wait + Sync>(
     rt: &R,
     alloc: Global,
     fails: u64,
-) -> Result<(u32, Option<LinkWork>), Fail> {
-    let mut gear = no_gear(alloc);
-    gear.links.push(failing(alloc, fails)?)?;
+    count: usize,
+    first: Served,
+) -> Result<(), Fail> {
     let gate = HoldGate::new(100, 3, 0, 1, 0, 1);
-    let ended = serve(rt, alloc, &gate, LINK, 1, ONE_EACH, gear)?;
-    Ok((gate.passed(rt), ended.work.links.get(0).copied()))
+    let case = Case {
+        station: &[LINK],
+        limit: 1,
+        budget: ONE_EACH,
+        links: &[Wire {
+            hears: &[ASKS],
+            fails,
+            ..WIRE
+        }],
+        ..CASE
+    };
+    let ended = left_held(rt, alloc, &case, &gate)?;
+    same_count(rt, "comings", gate.passed(rt) as usize, count);
+    has_first(rt, &ended, first);
+    Ok(())
 }
 
 #[test]
 fn a_responder_comes_to_place_3_only_where_it_has_sent(rt: HostRuntime) -> Result<(), Fail> {
-    let (passed, work) = come_to_3(&rt, rt.alloc(), 0)?;
-    same(&rt, passed, 1);
-    same(
-        &rt,
-        work.map(|link| link.first),
-        Some(counts(1, End::Count)),
-    );
-    let (passed, work) = come_to_3(&rt, rt.alloc(), 2)?;
-    same(&rt, passed, 0);
-    same(
-        &rt,
-        work.map(|link| link.first),
-        Some(counts(0, End::LinkFault)),
-    );
-    Ok(())
+    comes_to_3(&rt, rt.alloc(), 0, 1, ONE)?;
+    let end = End::LinkFault;
+    comes_to_3(&rt, rt.alloc(), 2, 0, Served { end, ..NONE })
 }

@@ -1,10 +1,10 @@
--- What the search leaves open of `tests::serve`: the receiver that is boxed is blank, since its `new` says so.
+-- What the search leaves open of `stations::serve`: the receiver that is boxed is blank, since its `new` says so.
 use Rattle.std.proofs.Common.{◌≡◌, ◌∙◌, refl, sym, subst, inl, inr, rules}
 use denote.Param.Object.{read_made}
 use Rattle.tick_units.specs.declared.marks.Plan.TheVariants.{Dcf}
 use Rattle.radio_receiver.specs.Histories.{History, blank_of}
-use Rattle.crew_tests.proofs.tests.serve.OwnLists.{own-1}
-use Rattle.crew_tests.proofs.tests.serve.Goals as goal
+use Rattle.crew_tests.proofs.stations.serve.OwnLists.{own-1}
+use Rattle.crew_tests.proofs.stations.serve.Goals as goal
 
 pub serve_with-requires-clause-stands : goal.serve_with-requires-clause-stands
 serve_with-requires-clause-stands g c κs within =

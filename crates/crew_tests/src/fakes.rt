@@ -1,0 +1,170 @@
+//! Logs and links in memory, stated by constants.
+
+use feed_link::{Address, MemoryLink, MemorySource, Planned};
+use std::alloc::Global;
+use std::test::Fail;
+use tick_units::Local;
+
+pub const CLIENT: Address = Address {
+    ip: 0x7f00_0001,
+    port: 5000,
+};
+
+/// A datagram that a link receives: its sender, its moment in microseconds, its bytes and as many zeros after them.
+#[derive(Clone, Copy)]
+pub struct Datagram<'a> {
+    pub from: Address,
+    pub at: u32,
+    pub bytes: &'a [u8],
+    pub zeros: u32,
+}
+
+/// A link: its first moment in microseconds, the datagrams that it receives before its end, and its call that fails, counted from 1, or 0 for
+/// none.
+#[derive(Clone, Copy)]
+pub struct Wire<'a> {
+    pub moment: u32,
+    pub hears: &'a [Datagram<'a>],
+    pub fails: u64,
+}
+
+// A request of version 4 with a poll of 64 s, sent at 0x1122334455667788 by the client's clock.
+const REQUEST: [u8; 48] = [
+    0x23, 0x00, 0x06, 0xec, 0x00, 0x00, 0x00, 0x00, 0x00, 0x00, 0x00, 0x00, 0x00, 0x00, 0x00, 0x00, // to the refid
+    0x00, 0x00, 0x00, 0x00, 0x00, 0x00, 0x00, 0x00, 0x00, 0x00, 0x00, 0x00, 0x00, 0x00, 0x00, 0x00, // to the origin
+    0x00, 0x00, 0x00, 0x00, 0x00, 0x00, 0x00, 0x00, 0x11, 0x22, 0x33, 0x44, 0x55, 0x66, 0x77, 0x88,
+];
+
+// The answer of a server of stratum 2 to the request of 1 s, received at 2026-01-01 12:05:05 UTC and answered half a millisecond later.
+const ANSWER: [u8; 48] = [
+    0x24, 0x02, 0x06, 0xec, 0x00, 0x00, 0x01, 0x00, 0x00, 0x00, 0x02, 0x00, 0x0a, 0x00, 0x00, 0x01, // to the refid
+    0x00, 0x00, 0x00, 0x00, 0x00, 0x00, 0x00, 0x00, 0x80, 0x00, 0x00, 0x01, 0x00, 0x00, 0x00, 0x00, // to the origin
+    0xed, 0x00, 0xe1, 0x31, 0x00, 0x00, 0x00, 0x00, 0xed, 0x00, 0xe1, 0x31, 0x00, 0x20, 0xc4, 0x9b,
+];
+
+/// The client's request, at 363 s.
+pub const ASKS: Datagram<'static> = Datagram {
+    from: CLIENT,
+    at: 363_000_000,
+    bytes: &REQUEST,
+    zeros: 0,
+};
+
+/// A link that receives nothing but its end, and one that receives a request, and so on.
+pub const WIRE: Wire<'static> = Wire {
+    moment: 0,
+    hears: &[],
+    fails: 0,
+};
+
+pub const ASKED: Wire<'static> = Wire {
+    hears: &[ASKS],
+    ..WIRE
+};
+
+pub const ASKED_2: Wire<'static> = Wire {
+    hears: &[ASKS, ASKS],
+    ..WIRE
+};
+
+pub const ASKED_3: Wire<'static> = Wire {
+    hears: &[ASKS, ASKS, ASKS],
+    ..WIRE
+};
+
+/// A link whose first moment is 1 s, over which a server answers.
+pub const ANSWERED: Wire<'static> = Wire {
+    moment: 1_000_000,
+    hears: &[Datagram {
+        from: Address {
+            ip: 0x7f00_0001,
+            port: 123,
+        },
+        at: 1_010_000,
+        bytes: &ANSWER,
+        zeros: 0,
+    }],
+    fails: 0,
+};
+
+fn moment(microseconds: u32) -> Local {
+    Local::new(u64::from(microseconds)).unwrap()
+}
+
+fn datagram_of(alloc: Global, datagram: &Datagram<'_>) -> Result<Planned, Fail> {
+    let mut bytes = Vec::new(alloc);
+    for byte in datagram.bytes {
+        bytes.push(*byte)?;
+    }
+    for _ in 0..datagram.zeros {
+        bytes.push(0)?;
+    }
+    Ok(Planned::Datagram {
+        from: datagram.from,
+        at: moment(datagram.at),
+        bytes,
+    })
+}
+
+/// The link that is stated.
+pub fn link_of(alloc: Global, wire: &Wire<'_>) -> Result<MemoryLink, Fail> {
+    let mut hearings = Vec::new(alloc);
+    for datagram in wire.hears {
+        hearings.push(datagram_of(alloc, datagram)?)?;
+    }
+    let moments = vec![in alloc; moment(wire.moment)]?;
+    let fails = vec![in alloc; wire.fails]?;
+    Ok(MemoryLink::new(alloc, hearings, moments, fails, 40, 4000)?)
+}
+
+/// A file of this text.
+pub fn source_of(alloc: Global, text: &str) -> Result<MemorySource, Fail> {
+    let bytes = Vec::from_slice(alloc, text.as_bytes())?;
+    Ok(MemorySource::new(bytes, Vec::new(alloc)))
+}
+
+// The places that are One in the frame that announces 12:00 UTC.
+const NOON: [u32; 12] = [18, 20, 29, 30, 33, 35, 36, 44, 45, 51, 52, 55];
+
+// Whether the frame of a minute after 13:00, 0 to 7, has a one at a place: the minute's three bits stand at 21, 22 and 23, their parity at 28.
+fn is_one(minute: u32, place: u32) -> bool {
+    match place {
+        21 => minute & 1 != 0,
+        22 => minute & 2 != 0,
+        23 => minute & 4 != 0,
+        28 => minute.count_ones() & 1 != 0,
+        _ => NOON.contains(&place),
+    }
+}
+
+// The lines of the frame of a minute after 13:00, which starts at 2 s in the first minute.
+fn add_frame(text: &mut String, minute: u32) -> Result<(), Fail> {
+    for place in 0..59u32 {
+        let second = u64::from(minute)
+            .saturating_mul(60)
+            .saturating_add(u64::from(place))
+            .saturating_add(2);
+        let at = second.saturating_mul(1_000_000);
+        let width = if is_one(minute, place) {
+            200_000
+        } else {
+            100_000
+        };
+        writeln!(text, "{at} {width}")?;
+    }
+    Ok(())
+}
+
+/// The log of this many minutes: the last one closes 2 s after their sum. The log of none is empty.
+pub fn minutes(alloc: Global, count: u32) -> Result<MemorySource, Fail> {
+    if count == 0 {
+        return source_of(alloc, "");
+    }
+    let mut text = String::from_str(alloc, "0 100000\n")?;
+    for minute in 0..count {
+        add_frame(&mut text, minute)?;
+    }
+    let at = u64::from(count).saturating_mul(60).saturating_add(2);
+    writeln!(text, "{at}000000 100000")?;
+    source_of(alloc, text.as_str())
+}

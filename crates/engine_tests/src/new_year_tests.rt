@@ -1,0 +1,183 @@
+//! `replay` over a leap second: New Year of 2017, as DCF77 sent it.
+
+use crate::pieces::{Asked, Frame, Piece, Width};
+use crate::rows::{Want, are_met};
+use crate::runs::{ROW, Row};
+use crate::test_station::{FRAME, RADIO};
+use std::test::Fail;
+
+// The places that are One in each frame of 1 January 2017 (winter time), and those of its frames from 00:55 to 01:03, computed
+// from the calendar by PTB's table. A leap second is announced up to 01:00.
+const NEW_YEAR: Width<'static> = Width {
+    width: 200_000,
+    places: &[18, 20, 36, 42, 43, 44, 45, 50, 51, 52, 54, 58],
+};
+
+const MINUTE: Frame<'static> = Frame {
+    before: "pulse 0 ",
+    ..FRAME
+};
+
+const BEFORE_1: Frame<'static> = Frame {
+    widths: &[
+        NEW_YEAR,
+        Width {
+            width: 200_000,
+            places: &[19, 21, 23, 25, 27],
+        },
+    ],
+    ..MINUTE
+};
+
+const BEFORE_2: Frame<'static> = Frame {
+    widths: &[
+        NEW_YEAR,
+        Width {
+            width: 200_000,
+            places: &[19, 22, 23, 25, 27],
+        },
+    ],
+    start: 62_000_000,
+    ..MINUTE
+};
+
+const BEFORE_3: Frame<'static> = Frame {
+    widths: &[
+        NEW_YEAR,
+        Width {
+            width: 200_000,
+            places: &[19, 21, 22, 23, 25, 27, 28],
+        },
+    ],
+    start: 122_000_000,
+    ..MINUTE
+};
+
+const BEFORE_4: Frame<'static> = Frame {
+    widths: &[
+        NEW_YEAR,
+        Width {
+            width: 200_000,
+            places: &[19, 24, 25, 27, 28],
+        },
+    ],
+    start: 182_000_000,
+    ..MINUTE
+};
+
+const BEFORE_5: Frame<'static> = Frame {
+    widths: &[
+        NEW_YEAR,
+        Width {
+            width: 200_000,
+            places: &[19, 21, 24, 25, 27],
+        },
+    ],
+    start: 242_000_000,
+    ..MINUTE
+};
+
+const LEAP: Frame<'static> = Frame {
+    widths: &[
+        NEW_YEAR,
+        Width {
+            width: 200_000,
+            places: &[19, 29, 35],
+        },
+    ],
+    start: 302_000_000,
+    to: 60,
+    ..MINUTE
+};
+
+const AFTER_1: Frame<'static> = Frame {
+    widths: &[
+        NEW_YEAR,
+        Width {
+            width: 200_000,
+            places: &[21, 28, 29, 35],
+        },
+    ],
+    start: 363_000_000,
+    ..MINUTE
+};
+
+const AFTER_2: Frame<'static> = Frame {
+    widths: &[
+        NEW_YEAR,
+        Width {
+            width: 200_000,
+            places: &[22, 28, 29, 35],
+        },
+    ],
+    start: 423_000_000,
+    ..MINUTE
+};
+
+const AFTER_3: Frame<'static> = Frame {
+    widths: &[
+        NEW_YEAR,
+        Width {
+            width: 200_000,
+            places: &[21, 22, 29, 35],
+        },
+    ],
+    start: 483_000_000,
+    ..MINUTE
+};
+
+// Five frames, the one with the leap second, and three more. After the mark that begins the sixth, two requests.
+const SCRIPT: [Piece<'static>; 14] = [
+    Piece::Text("pulse 0 0 100000\n"),
+    Piece::Marks(BEFORE_1),
+    Piece::Marks(BEFORE_2),
+    Piece::Marks(BEFORE_3),
+    Piece::Marks(BEFORE_4),
+    Piece::Marks(BEFORE_5),
+    Piece::Marks(Frame { to: 1, ..LEAP }),
+    Piece::Asks(ASKS),
+    Piece::Asks(Asked {
+        arrived: 362_000_000,
+        sent: 362_000_000,
+        ..ASKS
+    }),
+    Piece::Marks(Frame { from: 1, ..LEAP }),
+    Piece::Marks(AFTER_1),
+    Piece::Marks(AFTER_2),
+    Piece::Marks(AFTER_3),
+    Piece::Text("pulse 0 543000000 100000\n"),
+];
+
+const ASKS: Asked<'static> = Asked {
+    connection: 0,
+    arrived: 361_999_999,
+    sent: 361_999_999,
+    first: "23",
+    after: &[],
+};
+
+const ENTRIES: &str =
+    "j2 1 0 0 62000000 lone 3692217300\nj2 2 0 0 122000000 verdict 3692217360 3692217600\nj2 3 0 0 182000000 verdict 3692217420 3692217600\n\
+j2 4 0 0 242000000 verdict 3692217480 3692217600\nj2 5 0 0 302000000 verdict 3692217540 3692217600\nreply 640106ec";
+
+const END: &str =
+    "\nj2 6 0 0 363000000 verdict 3692217600 3692217600\nj2 7 0 0 423000000 verdict 3692217660 0\nj2 8 0 0 483000000 verdict 3692217720 0\n\
+j2 9 0 0 543000000 verdict 3692217780 0\npage 9 1 1 44434600 15857952282642481152 543000000 4605906902 0 61542 dc12c5b400000000 0 0\nstatus 0\n";
+
+const REPLAYED: [Row<'static>; 1] = [Row {
+    name: "a_leap_second_ends_a_page",
+    words: &["replay", "--station", "s", "--script", "a"],
+    station: &[RADIO],
+    text: &SCRIPT,
+    want: &[
+        Want::Begins(ENTRIES),
+        Want::Line(6, "reply e40006ec"),
+        Want::Ends(END),
+    ],
+    ..ROW
+}];
+
+#[test]
+fn a_leap_second_ends_a_page(rt: HostRuntime) -> Result<(), Fail> {
+    are_met(&rt, rt.alloc(), &REPLAYED)
+}
