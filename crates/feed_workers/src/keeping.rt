@@ -16,45 +16,42 @@ const BEFORE: u8 = 1;
 
 const BEHIND: u8 = 4;
 
-// Appends an entry, where there is room.
-fn offer<N: HubName, R: Wait>(
-    rt: &R,
-    hub: &Hub<N>,
-    pass: &mut FeedPass,
-    entry: Entry,
-    full: &mut bool,
-)
-    requires pass { IsOfFeed N.table (length N.settings.sources) entry.feed pass.old }
-    requires lawful { IsLawfulWhat entry.what }
-    ensures pass { IsOfFeed N.table (length N.settings.sources) entry.feed pass.new }
-    ensures kept { (begun : Claim) (due : List Entry) →
-        Keeps (share_of begun pass.old N.limit full.old) due →
-        Keeps (share_of begun pass.new N.limit full.new) (due ++ entry ∷ []) }
-{
-    match hub.append(rt, pass, entry) {
-        Ok(_) => {}
-        Err(_) => *full = true,
-    }
+/// By what a feed's worker keeps its entries: the runtime, the hub, and the gate that it passes.
+#[derive(Drop)]
+pub struct Post<'a, N: HubName, R, G> {
+    pub rt: &'a R,
+    pub hub: &'a Hub<N>,
+    pub gate: &'a G,
 }
 
-// Keeps an entry that is due, where there is room, and passes the gate before it and after it.
-pub fn keep<N: HubName, R: Wait, G: Gate>(
-    rt: &R,
-    hub: &Hub<N>,
-    gate: &G,
-    pass: &mut FeedPass,
-    entry: Entry,
-    full: &mut bool,
-)
-    requires pass { IsOfFeed N.table (length N.settings.sources) entry.feed pass.old }
-    requires lawful { IsLawfulWhat entry.what }
-    ensures pass { IsOfFeed N.table (length N.settings.sources) entry.feed pass.new }
-    ensures kept { (begun : Claim) (due : List Entry) →
-        Keeps (share_of begun pass.old N.limit full.old) due →
-        Keeps (share_of begun pass.new N.limit full.new) (due ++ entry ∷ []) }
-{
-    let feed = entry.feed;
-    gate.pass(rt, feed, BEFORE);
-    offer(rt, hub, pass, entry, full);
-    gate.pass(rt, feed, BEHIND);
+impl<N: HubName, R: Wait, G: Gate> Post<'_, N, R, G> {
+    // Appends an entry, where there is room.
+    fn offer(&self, pass: &mut FeedPass, entry: Entry, full: &mut bool)
+        requires pass { IsOfFeed N.table (length N.settings.sources) entry.feed pass.old }
+        requires lawful { IsLawfulWhat entry.what }
+        ensures pass { IsOfFeed N.table (length N.settings.sources) entry.feed pass.new }
+        ensures kept { (begun : Claim) (due : List Entry) →
+            Keeps (share_of begun pass.old N.limit full.old) due →
+            Keeps (share_of begun pass.new N.limit full.new) (due ++ entry ∷ []) }
+    {
+        match self.hub.append(self.rt, pass, entry) {
+            Ok(_) => {}
+            Err(_) => *full = true,
+        }
+    }
+
+    /// Keeps an entry that is due, where there is room, and passes the gate before it and after it.
+    pub fn keep(&self, pass: &mut FeedPass, entry: Entry, full: &mut bool)
+        requires pass { IsOfFeed N.table (length N.settings.sources) entry.feed pass.old }
+        requires lawful { IsLawfulWhat entry.what }
+        ensures pass { IsOfFeed N.table (length N.settings.sources) entry.feed pass.new }
+        ensures kept { (begun : Claim) (due : List Entry) →
+            Keeps (share_of begun pass.old N.limit full.old) due →
+            Keeps (share_of begun pass.new N.limit full.new) (due ++ entry ∷ []) }
+    {
+        let feed = entry.feed;
+        self.gate.pass(self.rt, feed, BEFORE);
+        self.offer(pass, entry, full);
+        self.gate.pass(self.rt, feed, BEHIND);
+    }
 }

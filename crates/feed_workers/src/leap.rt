@@ -10,7 +10,7 @@ ghost use Rattle.page_cell.specs.declared.view.Claim.{Claim};
 ghost use Rattle.page_cell.specs.Passes.{claim_of};
 ghost use Rattle.tick_units.specs.Years.{end_of_told};
 
-use crate::keeping::keep;
+use crate::keeping::Post;
 use crate::work::{LogEnd, LogWork};
 use feed_link::{Gate, Source};
 use file_reader::{FileEnd, FileReader, Pulled};
@@ -26,9 +26,7 @@ const LIMIT: usize = 1 << 16;
 
 // Keeps the notice of a leap second, where one was found.
 fn notice<N: HubName, R: Wait, G: Gate>(
-    rt: &R,
-    hub: &Hub<N>,
-    gate: &G,
+    post: &Post<'_, N, R, G>,
     start: Local,
     pass: &mut FeedPass,
     found: Option<u64>,
@@ -48,15 +46,13 @@ fn notice<N: HubName, R: Wait, G: Gate>(
             at: start,
             what: What::Notice(second),
         };
-        keep(rt, hub, gate, pass, entry, full);
+        post.keep(pass, entry, full);
     }
 }
 
 // Takes a byte, and keeps the notice of the row that it ends. Fails where the line that it ends is bad.
 fn take_byte<N: HubName, R: Wait, G: Gate>(
-    rt: &R,
-    hub: &Hub<N>,
-    gate: &G,
+    post: &Post<'_, N, R, G>,
     reader: &mut LeapReader,
     start: Local,
     pass: &mut FeedPass,
@@ -71,7 +67,7 @@ fn take_byte<N: HubName, R: Wait, G: Gate>(
 {
     match reader.take(byte) {
         Ok(found) => {
-            notice(rt, hub, gate, start, pass, found, full);
+            notice(post, start, pass, found, full);
             Ok(())
         }
         Err(bad) => Err(bad),
@@ -80,9 +76,7 @@ fn take_byte<N: HubName, R: Wait, G: Gate>(
 
 // Takes a piece of a file, up to a bad line, and answers with that line, where there is one.
 fn take_piece<N: HubName, R: Wait, G: Gate>(
-    rt: &R,
-    hub: &Hub<N>,
-    gate: &G,
+    post: &Post<'_, N, R, G>,
     reader: &mut LeapReader,
     start: Local,
     pass: &mut FeedPass,
@@ -96,7 +90,7 @@ fn take_piece<N: HubName, R: Wait, G: Gate>(
         NoticesPiece reader.new start (share_of begun pass.new N.limit full.new) (bytes ++ piece.now) result }
 {
     for place in 0..piece.len() {
-        match take_byte(rt, hub, gate, reader, start, pass, piece[place], full) {
+        match take_byte(post, reader, start, pass, piece[place], full) {
             Ok(()) => {}
             Err(bad) => return Some(bad.line),
         }
@@ -106,9 +100,7 @@ fn take_piece<N: HubName, R: Wait, G: Gate>(
 
 // At the end of the file: keeps the notice of a last line without its line feed, and answers how the file ends.
 fn finish_list<N: HubName, R: Wait, G: Gate>(
-    rt: &R,
-    hub: &Hub<N>,
-    gate: &G,
+    post: &Post<'_, N, R, G>,
     reader: &mut LeapReader,
     start: Local,
     pass: &mut FeedPass,
@@ -122,7 +114,7 @@ fn finish_list<N: HubName, R: Wait, G: Gate>(
 {
     match reader.finish() {
         Ok(found) => {
-            notice(rt, hub, gate, start, pass, found, full);
+            notice(post, start, pass, found, full);
             LogEnd::Whole
         }
         Err(bad) => LogEnd::BadLine { line: bad.line },
@@ -131,9 +123,7 @@ fn finish_list<N: HubName, R: Wait, G: Gate>(
 
 // Reads a file to its end, a bad line, a fault or 2^16 bytes, whichever comes first, and keeps the entries that are due.
 fn read_list<L: Source, N: HubName, R: Wait, G: Gate>(
-    rt: &R,
-    hub: &Hub<N>,
-    gate: &G,
+    post: &Post<'_, N, R, G>,
     log: &mut L,
     start: Local,
     pass: &mut FeedPass,
@@ -151,7 +141,7 @@ fn read_list<L: Source, N: HubName, R: Wait, G: Gate>(
         match reader.pull(log) {
             Pulled::Piece => {
                 let piece = reader.piece();
-                match take_piece(rt, hub, gate, &mut list, start, pass, piece, &mut full) {
+                match take_piece(post, &mut list, start, pass, piece, &mut full) {
                     None => {}
                     Some(line) => {
                         return LogWork {
@@ -162,7 +152,7 @@ fn read_list<L: Source, N: HubName, R: Wait, G: Gate>(
                 }
             }
             Pulled::Ended(FileEnd::Whole) => {
-                let end = finish_list(rt, hub, gate, &mut list, start, pass, &mut full);
+                let end = finish_list(post, &mut list, start, pass, &mut full);
                 return LogWork { end, full };
             }
             Pulled::Ended(FileEnd::Fault) => {
@@ -209,8 +199,9 @@ impl<L: Source + Drop> LeapWorker<L> {
             IsOfFeed N.table (length N.settings.sources) feed self.new.pass }
         ensures runs { RunsLeap self.old.start (leap_intake L.state N.limit self.old self.new result) result.end }
     {
+        let post = Post { rt, hub, gate };
         let LeapWorker { log, start, pass } = self;
-        read_list(rt, hub, gate, log, *start, pass)
+        read_list(&post, log, *start, pass)
     }
 
     /// Gives back the file and the pass.

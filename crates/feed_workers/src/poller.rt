@@ -14,7 +14,7 @@ ghost use Rattle.poll_core.specs.Histories.{Event, judge};
 ghost use Rattle.poll_core.specs.Histories.Event.{Answered};
 ghost use Rattle.poll_core.specs.Polling.{HasPolled, asked_at};
 
-use crate::keeping::keep;
+use crate::keeping::Post;
 use crate::work::{PollEnd, PollWork};
 use feed_link::{Address, Arrival, Failed, Gate, Hearing, Link};
 use journal_entry::{Entry, What};
@@ -46,6 +46,13 @@ enum Heard {
     End,
     // A call of the link failed.
     Fault,
+}
+
+// The server that is polled, and the number of its feed.
+#[derive(Clone, Copy)]
+struct Peer {
+    feed: u32,
+    server: Address,
 }
 
 // What a datagram is in the journal, and whether it is an accepted answer.
@@ -81,9 +88,7 @@ fn judge_datagram(poll: &mut Poll, arrival: &Arrival, bytes: &[u8]) -> Judged
 
 // One hearing; keeps the entry of a datagram.
 fn hear_once<L: Link, N: HubName, R: Wait, G: Gate>(
-    rt: &R,
-    hub: &Hub<N>,
-    gate: &G,
+    post: &Post<'_, N, R, G>,
     feed: u32,
     poll: &mut Poll,
     link: &mut L,
@@ -107,7 +112,7 @@ fn hear_once<L: Link, N: HubName, R: Wait, G: Gate>(
             let judged = judge_datagram(poll, &arrival, &piece[..arrival.length]);
             let Judged { what, accepted } = judged;
             let at = arrival.at;
-            keep(rt, hub, gate, pass, Entry { feed, at, what }, full);
+            post.keep(pass, Entry { feed, at, what }, full);
             if accepted { Heard::Over } else { Heard::On }
         }
         Ok(Hearing::Quiet) => Heard::Over,
@@ -118,39 +123,36 @@ fn hear_once<L: Link, N: HubName, R: Wait, G: Gate>(
 
 // Makes one poll, and answers why the polling ends with it, if it does.
 fn poll_once<L: Link, N: HubName, R: Wait, G: Gate>(
-    rt: &R,
-    hub: &Hub<N>,
-    gate: &G,
-    feed: u32,
-    server: Address,
+    post: &Post<'_, N, R, G>,
+    peer: Peer,
     poll: &mut Poll,
     link: &mut L,
     pass: &mut FeedPass,
     full: &mut bool,
 ) -> Option<PollEnd>
-    requires pass { IsOfFeed N.table (length N.settings.sources) feed pass.old }
+    requires pass { IsOfFeed N.table (length N.settings.sources) peer.feed pass.old }
     ensures link { L.opening link.new ≡ L.opening link.old }
-    ensures pass { IsOfFeed N.table (length N.settings.sources) feed pass.new }
+    ensures pass { IsOfFeed N.table (length N.settings.sources) peer.feed pass.new }
     ensures goes { IfNone result ((before : LinkState) (begun : Claim) (count : ℕ) →
         let had = share_of begun pass.old N.limit full.old in
         let has = share_of begun pass.new N.limit full.new in
-        Polled poll.old (session_at server before (L.state link.old) had) count → begun.number ≡ feed →
-        Polled poll.new (session_at server before (L.state link.new) has) (count + 1)) }
+        Polled poll.old (session_at peer.server before (L.state link.old) had) count → begun.number ≡ peer.feed →
+        Polled poll.new (session_at peer.server before (L.state link.new) has) (count + 1)) }
     ensures stops { IfSome result (λ end. (before : LinkState) (begun : Claim) (count polls : ℕ) →
         count < polls →
         let had = share_of begun pass.old N.limit full.old in
         let has = share_of begun pass.new N.limit full.new in
-        Polled poll.old (session_at server before (L.state link.old) had) count → begun.number ≡ feed →
-        RunsPolls (session_at server before (L.state link.new) has) polls end) }
+        Polled poll.old (session_at peer.server before (L.state link.old) had) count → begun.number ≡ peer.feed →
+        RunsPolls (session_at peer.server before (L.state link.new) has) polls end) }
 {
     let moment = link.moment();
     let request = poll.ask(moment);
-    match link.send(server, &request) {
+    match link.send(peer.server, &request) {
         Ok(()) => {}
         Err(Failed) => return Some(PollEnd::LinkFault),
     }
     'hearings: for _ in 0..HEARINGS {
-        match hear_once(rt, hub, gate, feed, poll, link, pass, full) {
+        match hear_once(post, peer.feed, poll, link, pass, full) {
             Heard::On => {}
             Heard::Over => return None,
             Heard::End => return Some(PollEnd::LinkEnd),
@@ -184,6 +186,7 @@ impl<L: Link + Drop> PollWorker<L> {
         ensures asks { (self.new.server ≡ self.old.server) × (self.new.polls ≡ self.old.polls) }
         ensures runs { RunsPolls (session_of L.state N.limit self.old self.new result) self.old.polls result.end }
     {
+        let post = Post { rt, hub, gate };
         let feed = self.pass.number();
         let PollWorker {
             server,
@@ -194,9 +197,9 @@ impl<L: Link + Drop> PollWorker<L> {
         let mut poll = Poll::new(*server);
         let mut full = false;
         'polls: for _ in 0..*polls {
-            let end = poll_once(
-                rt, hub, gate, feed, *server, &mut poll, link, pass, &mut full,
-            );
+            let server = *server;
+            let peer = Peer { feed, server };
+            let end = poll_once(&post, peer, &mut poll, link, pass, &mut full);
             if let Some(end) = end {
                 return PollWork { end, full };
             }

@@ -9,7 +9,7 @@ ghost use Rattle.page_cell.specs.Passes.{claim_of};
 ghost use Rattle.tick_units.specs.Log.{bad_at_end};
 ghost use Rattle.tick_units.specs.declared.marks.Plan.{Plan};
 
-use crate::keeping::keep;
+use crate::keeping::Post;
 use crate::work::{LogEnd, LogWork};
 use feed_link::{Gate, Source};
 use file_reader::{FileEnd, FileReader, Pulled};
@@ -42,9 +42,7 @@ struct Took {
 
 // Takes bytes up to the end of a line, up to a bad line, or all of them, and keeps the entry that they complete.
 fn take_line<N: HubName, R: Wait, G: Gate>(
-    rt: &R,
-    hub: &Hub<N>,
-    gate: &G,
+    post: &Post<'_, N, R, G>,
     decoder: &mut LogDecoder<BoxedReceiver>,
     pass: &mut FeedPass,
     bytes: &[u8],
@@ -67,7 +65,7 @@ fn take_line<N: HubName, R: Wait, G: Gate>(
     match found {
         Ok(None) => Took { count, bad: None },
         Ok(Some(entry)) => {
-            keep(rt, hub, gate, pass, entry, full);
+            post.keep(pass, entry, full);
             Took { count, bad: None }
         }
         Err(bad) => Took {
@@ -79,9 +77,7 @@ fn take_line<N: HubName, R: Wait, G: Gate>(
 
 // Takes a piece of a log, up to a bad line, and answers with that line, where there is one.
 fn hear_piece<N: HubName, R: Wait, G: Gate>(
-    rt: &R,
-    hub: &Hub<N>,
-    gate: &G,
+    post: &Post<'_, N, R, G>,
     decoder: &mut LogDecoder<BoxedReceiver>,
     pass: &mut FeedPass,
     piece: &[u8],
@@ -99,7 +95,7 @@ fn hear_piece<N: HubName, R: Wait, G: Gate>(
 {
     let mut rest = piece;
     'rest: while !rest.is_empty() {
-        let took = take_line(rt, hub, gate, decoder, pass, rest, full);
+        let took = take_line(post, decoder, pass, rest, full);
         match took.bad {
             Some(line) => return Some(line),
             None => rest = rest.split_at(took.count).1,
@@ -121,9 +117,7 @@ fn at_end(decoder: &LogDecoder<BoxedReceiver>) -> LogEnd
 
 // Reads a log of at most this many bytes, to its end, a bad line or a fault, and keeps the entries that are due.
 pub fn read_log<L: Source, N: HubName, R: Wait, G: Gate>(
-    rt: &R,
-    hub: &Hub<N>,
-    gate: &G,
+    post: &Post<'_, N, R, G>,
     decoder: &mut LogDecoder<BoxedReceiver>,
     log: &mut L,
     pass: &mut FeedPass,
@@ -145,7 +139,7 @@ pub fn read_log<L: Source, N: HubName, R: Wait, G: Gate>(
     'pieces: loop {
         match reader.pull(log) {
             Pulled::Piece => {
-                match hear_piece(rt, hub, gate, decoder, pass, reader.piece(), &mut full) {
+                match hear_piece(post, decoder, pass, reader.piece(), &mut full) {
                     None => {}
                     Some(line) => {
                         return LogWork {
@@ -203,8 +197,9 @@ impl<L: Source + Drop> WorkerOf<L, BoxedReceiver> {
             HasDecoded stands_for self.old.decoder (claim_of self.old.pass.view).number plan delay [] →
             RunsLog plan delay (log_intake L.state N.limit self.old self.new result) result.end }
     {
+        let post = Post { rt, hub, gate };
         let WorkerOf { decoder, log, pass } = self;
-        read_log(rt, hub, gate, decoder, log, pass, LIMIT)
+        read_log(&post, decoder, log, pass, LIMIT)
     }
 
     /// Gives back the log and the pass. The receiver is dropped.

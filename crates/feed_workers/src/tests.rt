@@ -4,6 +4,7 @@ ghost use Rattle.std.specs.Prelude.{◌≡◌, ◌<◌, ◌≤◌, [], All};
 ghost use Rattle.page_cell.specs.Passes.{key_of};
 ghost use Rattle.system_fold.specs.Settings.{AreLawful};
 
+use crate::keeping::Post;
 use crate::radio::read_log;
 use crate::{LogEnd, LogWork, RadioWorker};
 use feed_link::{OpenGate, SureSource};
@@ -102,10 +103,14 @@ fn run_log<N: HubName, R: Wait>(
         return None;
     }
     let mut worker = RadioWorker::new(receiver, log, pass);
-    let work = read_log(
+    let gate = OpenGate::new();
+    let post = Post {
         rt,
-        &hub,
-        &OpenGate::new(),
+        hub: &hub,
+        gate: &gate,
+    };
+    let work = read_log(
+        &post,
         &mut worker.decoder,
         &mut worker.log,
         &mut worker.pass,

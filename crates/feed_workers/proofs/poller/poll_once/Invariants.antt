@@ -13,9 +13,9 @@ use Rattle.feed_workers.proofs.poller.poll_once.Given as goal
 abbrev pub invariant-hearings : goal.invariant-hearings
 invariant-hearings g l = record {
   link : g.L.Link.opening l.link ≡ g.L.Link.opening l.fn.link;
-  pass : IsOfFeed g.N.HubName.table (length g.N.HubName.settings.sources) l.fn.feed l.pass;
+  pass : IsOfFeed g.N.HubName.table (length g.N.HubName.settings.sources) l.fn.peer.feed l.pass;
   asked : ForSome (asked_at l.poll) (λ moment. moment ≤ (g.L.Link.state l.link).latest);
   so_far : (before : LinkState) (begun : Claim) (count : ℕ) →
-      Polled l.fn.poll (session_at l.fn.server before (g.L.Link.state l.fn.link) (share_of begun l.fn.pass g.N.HubName.limit l.fn.full)) count → begun.number ≡ l.fn.feed →
-      InRound l.poll (session_at l.fn.server before (g.L.Link.state l.link) (share_of begun l.pass g.N.HubName.limit l.full)) count l.counter;
+      Polled l.fn.poll (session_at l.fn.peer.server before (g.L.Link.state l.fn.link) (share_of begun l.fn.pass g.N.HubName.limit l.fn.full)) count → begun.number ≡ l.fn.peer.feed →
+      InRound l.poll (session_at l.fn.peer.server before (g.L.Link.state l.link) (share_of begun l.pass g.N.HubName.limit l.full)) count l.counter;
 }
