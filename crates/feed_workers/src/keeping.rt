@@ -14,7 +14,7 @@ use verdict_journal::{Hub, HubName};
 // The places of the gate that a feed's worker passes: before it appends an entry, and after it.
 const BEFORE: u8 = 1;
 
-const BEHIND: u8 = 4;
+const AFTER: u8 = 4;
 
 /// By what a feed's worker keeps its entries: the runtime, the hub, and the gate that it passes.
 #[derive(Drop)]
@@ -52,6 +52,6 @@ impl<N: HubName, R: Wait, G: Gate> Post<'_, N, R, G> {
         let feed = entry.feed;
         self.gate.pass(self.rt, feed, BEFORE);
         self.offer(pass, entry, full);
-        self.gate.pass(self.rt, feed, BEHIND);
+        self.gate.pass(self.rt, feed, AFTER);
     }
 }
