@@ -187,10 +187,10 @@ def place_links(specs: Specs, text: str) -> str:
 
 
 def look_up_tests(top: Path, text: str) -> None:
-    """Looks up each test that the page names. It raises Missing."""
+    """Looks up each test that the page names: a function, or a row of a table with that name. It raises Missing."""
     names = {name for paragraph in TESTS.findall(text) for name in re.findall(r"`(\w+)`", paragraph)}
     for path in sorted(top.glob("crates/*/src/**/*.rt")):
-        names -= set(re.findall(r"#\[test\]\s*fn (\w+)", path.read_text(encoding="utf-8")))
+        names -= set(re.findall(r"(?:#\[test\]\s*fn |\bname: \")(\w+)", path.read_text(encoding="utf-8")))
     if names:
         raise Missing(f"no test {sorted(names)[0]}")
 

@@ -65,6 +65,10 @@ pub fn serve(turns: u8) -> u8
     turns
 }
 
+const ROWS: [Row; 1] = [Row {
+    name: "it_is_asked",
+}];
+
 #[test]
 fn it_is_served() {}
 """
@@ -169,7 +173,7 @@ class Made(unittest.TestCase):
         self.refused("no definition low.Low.gone", "[`gone`](../crates/low/specs/Low.antt#L1)\n")
 
     def test_tests_are_looked_up(self):
-        self.make("Tests: `it_is_served`.\n\n")
+        self.make("Tests: `it_is_served`, `it_is_asked`.\n\n")
         self.refused("no test serve", "Tests: `it_is_served`,\n`serve`.\n\n")
 
     def test_a_part_has_an_end(self):
