@@ -1,0 +1,54 @@
+"""The kinds of cases: of each those that are meant for something, and how a seed makes others."""
+
+import itertools
+import random
+from typing import Callable, NamedTuple
+
+from . import decode_directed, decode_pairs, migrate_pages, migrate_texts, replay_requests, replay_scripts, served, stations
+from .case import Case
+from .drawn import decode_case, migrate_case
+from .drawn_scripts import replay_case
+
+
+class Kind(NamedTuple):
+    """A kind: its cases that are meant for something, how others are drawn, and how many of each hundred cases are of it."""
+
+    directed: Callable[[], list[Case]]
+    draw: Callable[[random.Random], Case] | None
+    share: int
+
+
+def _decode() -> list[Case]:
+    plans = [decode_directed.all_of(plan) for plan in ("dcf", "msf", "wwvb")]
+    return [*itertools.chain(*plans), *decode_pairs.all_of()]
+
+
+def _drill(draw: random.Random) -> Case:
+    return served.drill_case(draw.randrange(2**32))
+
+
+KINDS = {
+    "decode": Kind(_decode, decode_case, 40),
+    "migrate": Kind(lambda: [*migrate_pages.all_of(), *migrate_texts.all_of()], migrate_case, 30),
+    "replay": Kind(lambda: [*replay_requests.all_of(), *replay_scripts.all_of()], replay_case, 20),
+    "station": Kind(lambda: list(stations.all_of()), None, 0),
+    "serve": Kind(lambda: list(served.all_of()), served.serve_case, 10),
+    "drill": Kind(lambda: [served.drill_case(7)], _drill, 0),
+}
+# How many drawn cases there are for each drawn day of `drill`, which takes as long as some hundred others.
+CASES_OF_A_DAY = 5000
+
+
+def drawn(cases: int) -> dict[str, int]:
+    """How many cases of each kind are drawn, of so many in all."""
+    return {name: cases // CASES_OF_A_DAY if name == "drill" else cases * kind.share // 100 for name, kind in KINDS.items()}
+
+
+def case(name: str, directed: list[Case], number: int, seed: int) -> Case:
+    """The case of a number: one that is meant for something, or past those one that is drawn."""
+    if number < len(directed):
+        return directed[number]
+    draw = KINDS[name].draw
+    if draw is None:
+        raise IndexError(number)
+    return draw(random.Random(f"{seed}/{name}/{number}"))
