@@ -14,6 +14,7 @@ TOP = pathlib.Path(__file__).resolve().parent.parent
 sys.path[:0] = [str(TOP / "checks"), str(TOP / "bench")]
 
 import made_log
+import page_model
 from model import clients, commands, dates, exchanges, leap_list, listed, notes, page, receiver, replies, run, spelling, station, units
 from model.cases import decode_directed, drawn, journals, kinds, scripts
 from model.cases.case import Case
@@ -105,6 +106,19 @@ class Pages(unittest.TestCase):
     def test_a_cut_lasts(self):
         told = [Entry(0, 60000000, "verdict", (NOON + 60, NOON + 90)), Entry(0, 95000000, "refused", (3,)), Entry(0, 120000000, "verdict", (NOON + 120, 0))]
         self.assertEqual((journal(told).cut, len(journal(told).sources())), (90000000, 1))
+
+
+    def test_drawn_journals_as_another_model_has_them(self):
+        """bench/page_model.py works a page out from the list alone."""
+        synchronised = 0
+        for number in range(120):
+            draw = random.Random(number)
+            names = drawn.kinds_of(draw)
+            entries = drawn.entries(draw, names)
+            found = journal(entries, names).page
+            synchronised += found.sync
+            self.assertEqual(found.line(), page_model.page([page_model.parse(entry.text()) for entry in entries], names, 1000))
+        self.assertGreater(synchronised, 20)
 
 
 class Packets(unittest.TestCase):

@@ -28,9 +28,10 @@ class Outcome(NamedTuple):
 
 def run(program: str, folder: pathlib.Path, one: Case) -> Ended:
     """What the program writes in a folder with the case's files, and its status."""
-    for name, data in one.files.items():
-        (folder / name).write_bytes(data)
-    done = subprocess.run([program, *one.words], cwd=folder, stdin=subprocess.DEVNULL, capture_output=True, timeout=LONGEST)
+    with one.beside() as more:
+        for name, data in {**one.files, **more}.items():
+            (folder / name).write_bytes(data)
+        done = subprocess.run([program, *one.words], cwd=folder, stdin=subprocess.DEVNULL, capture_output=True, timeout=LONGEST)
     return Ended(done.stdout.decode("utf-8", "replace"), done.returncode)
 
 

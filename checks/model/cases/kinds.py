@@ -4,7 +4,7 @@ import itertools
 import random
 from typing import Callable, NamedTuple
 
-from . import decode_directed, decode_pairs, migrate_pages, migrate_texts, replay_requests, replay_scripts, served, stations
+from . import decode_directed, decode_pairs, migrate_pages, migrate_texts, replay_requests, replay_scripts, served, stations, wire
 from .case import Case
 from .drawn import decode_case, migrate_case
 from .drawn_scripts import replay_case
@@ -33,6 +33,7 @@ KINDS = {
     "replay": Kind(lambda: [*replay_requests.all_of(), *replay_scripts.all_of()], replay_case, 20),
     "station": Kind(lambda: list(stations.all_of()), None, 0),
     "serve": Kind(lambda: list(served.all_of()), served.serve_case, 10),
+    "wire": Kind(lambda: list(wire.all_of()), None, 0),
     "drill": Kind(lambda: [served.drill_case(7)], _drill, 0),
 }
 # How many drawn cases there are for each drawn day of `drill`, which takes as long as some hundred others.
