@@ -61,7 +61,9 @@ def report(outcome: Outcome, seed: int, took: float, show: bool) -> int:
         for name in sorted(outcome.met):
             print(f"{outcome.met[name]:8} {name}")
     met = len(listed.LISTED & set(outcome.met))
-    print(f"model: {outcome.cases} cases, seed {seed}, in {took:.0f} s: {len(wrong)} wrong; {met} of {len(listed.LISTED)} rules, refusals and outcomes met")
+    print(
+        f"model: {outcome.cases} cases, seed {seed}, in {took:.0f} s: {len(wrong)} wrong; {met} of {len(listed.LISTED)} rules, refusals and outcomes met"
+    )
     return int(bool(wrong))
 
 

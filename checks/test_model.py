@@ -24,7 +24,9 @@ from model.spelling import Tape
 
 NOON = decode_directed.NOON
 # docs/PAGE.md works out the page of this journal, and of one more minute.
-FIVE = [Entry(0, 62000000, "lone", (NOON,))] + [Entry(0, (62 + 60 * i) * 10**6, "verdict", (NOON + 60 * i, 0)) for i in range(1, 5)]
+FIVE = [Entry(0, 62000000, "lone", (NOON,))] + [
+    Entry(0, (62 + 60 * i) * 10**6, "verdict", (NOON + 60 * i, 0)) for i in range(1, 5)
+]
 SIXTH = Entry(0, 362003000, "verdict", (NOON + 300, 0))
 PAGES = (
     "page 5 1 1 44434600 17077896086183477248 302000000 4364906902 0 61542 ed00e13000000000 0 0",
@@ -46,7 +48,9 @@ class Units(unittest.TestCase):
 
     def test_dates(self):
         self.assertEqual((dates.second_of(2026, 1, 1), dates.second_of(1970, 1, 1)), (3976214400, 2208988800))
-        self.assertEqual([dates.is_date(year, 2, 29) for year in (2000, 2024, 2026, 2100)], [True, True, False, False])
+        self.assertEqual(
+            [dates.is_date(year, 2, 29) for year in (2000, 2024, 2026, 2100)], [True, True, False, False]
+        )
         self.assertEqual(dates.month_after(NOON), dates.second_of(2026, 2, 1))
         self.assertEqual((dates.midnight_from(NOON), dates.midnight_from(3976300800)), (3976300800, 3976300800))
 
@@ -63,7 +67,9 @@ class Frames(unittest.TestCase):
     def test_made_logs(self):
         for plan in ("dcf", "msf", "wwvb"):
             for seed in (7, 2**31 - 2, 2**32 - 1):
-                self.assertEqual(spelling.made_log(plan, seed, 60).decode(), made_log.made(plan, spelling.DRILL_FIRST, 60, seed))
+                self.assertEqual(
+                    spelling.made_log(plan, seed, 60).decode(), made_log.made(plan, spelling.DRILL_FIRST, 60, seed)
+                )
 
     def test_each_edit_breaks_its_rule(self):
         for plan in ("dcf", "msf", "wwvb"):
@@ -76,7 +82,10 @@ class Frames(unittest.TestCase):
         leap = dates.second_of(2017, 1, 1)
         for minutes, due in (
             ([(NOON, 0, False), (NOON + 60, 0, False)], ["lone 3976257600", "verdict 3976257660 0"]),
-            ([(NOON, 0, False), (NOON + 120, 0, False)], ["lone 3976257600", "differs 3976257600 3976257720 60000000"]),
+            (
+                [(NOON, 0, False), (NOON + 120, 0, False)],
+                ["lone 3976257600", "differs 3976257600 3976257720 60000000"],
+            ),
             ([(leap - 60, leap, False), (leap, leap, False)], ["lone 3692217540", "verdict 3692217600 3692217600"]),
             ([(3983734740, 0, False), (3983734800, 0, True)], ["lone 3983734740", "verdict 3983734800 0"]),
         ):
@@ -94,17 +103,25 @@ class Pages(unittest.TestCase):
     def test_the_pages_that_are_worked_out(self):
         self.assertEqual(journal(FIVE).page.line(), PAGES[0])
         self.assertEqual(journal([*FIVE, SIXTH]).page.line(), PAGES[1])
-        self.assertEqual(journal(FIVE, bound=500).page.line(), "page 5 0 0 494e4954 0 302000000 0 0 1048576 0000000000000000 0 0")
+        self.assertEqual(
+            journal(FIVE, bound=500).page.line(), "page 5 0 0 494e4954 0 302000000 0 0 1048576 0000000000000000 0 0"
+        )
 
     def test_four_sources_of_which_one_is_discarded(self):
         """Offsets 0, 0, 0 and 40 have selection jitters of 533, 533, 533 and 1600."""
         for jitter, left in ((0, [0, 1, 2]), (2000, [0, 1, 2, 3])):
             blank = journal([journals.sample(0, 5)] * 8, ["server"]).sources()[0]
-            sources = [blank._replace(feed=feed, offset=off, jitter2=jitter) for feed, off in enumerate((0, 0, 0, 40))]
+            sources = [
+                blank._replace(feed=feed, offset=off, jitter2=jitter) for feed, off in enumerate((0, 0, 0, 40))
+            ]
             self.assertEqual([one.feed for one in page.selection.clustered(sources, 5)], left)
 
     def test_a_cut_lasts(self):
-        told = [Entry(0, 60000000, "verdict", (NOON + 60, NOON + 90)), Entry(0, 95000000, "refused", (3,)), Entry(0, 120000000, "verdict", (NOON + 120, 0))]
+        told = [
+            Entry(0, 60000000, "verdict", (NOON + 60, NOON + 90)),
+            Entry(0, 95000000, "refused", (3,)),
+            Entry(0, 120000000, "verdict", (NOON + 120, 0)),
+        ]
         self.assertEqual((journal(told).cut, len(journal(told).sources())), (90000000, 1))
 
 
@@ -117,7 +134,9 @@ class Pages(unittest.TestCase):
             entries = drawn.entries(draw, names)
             found = journal(entries, names).page
             synchronised += found.sync
-            self.assertEqual(found.line(), page_model.page([page_model.parse(entry.text()) for entry in entries], names, 1000))
+            self.assertEqual(
+                found.line(), page_model.page([page_model.parse(entry.text()) for entry in entries], names, 1000)
+            )
         self.assertGreater(synchronised, 20)
 
 
@@ -144,13 +163,17 @@ class Packets(unittest.TestCase):
     def test_the_exchange_that_is_worked_out(self):
         asked = exchanges.request(10**6)
         self.assertEqual(asked.hex(), "230006ec" + "00" * 36 + "8000000100000000")
-        answer = bytes.fromhex("240206ec00000100000002000a000001" + "00" * 8 + "8000000100000000ed00e13100000000ed00e1310020c49b")
+        answer = bytes.fromhex(
+            "240206ec00000100000002000a000001" + "00" * 8 + "8000000100000000ed00e13100000000ed00e1310020c49b"
+        )
         history = [exchanges.Event(10**6, asked, is_request=True)]
         self.assertIsNone(exchanges.refusal(history, answer))
         due = (17077897383243199545, 40802189, 8837, 2, 0x7F000001, 256, 512)
         self.assertEqual(exchanges.sample(10**6, 1010000, answer, 0x7F000001), due)
         history.append(exchanges.Event(1010000, answer, taken=True))
-        self.assertEqual((exchanges.refusal(history, answer), exchanges.refusal(history, answer, is_stranger=True)), (3, 1))
+        self.assertEqual(
+            (exchanges.refusal(history, answer), exchanges.refusal(history, answer, is_stranger=True)), (3, 1)
+        )
 
     def test_eras(self):
         for word, second in ((0, 4294967296), (3155673600, 3155673600), (3155673599, 7450640895)):

@@ -128,7 +128,9 @@ def _mingled(station: Station, due: list[list[Entry]], limit: int, status: str, 
 
 def drill(seed: int) -> Ended:
     """What `drill` writes with room for all of its day."""
-    read = stations.read(b'radio = [{plan = "dcf", log = "0"}, {plan = "msf", log = "1"}, {plan = "wwvb", log = "2"}]')
+    read = stations.read(
+        b'radio = [{plan = "dcf", log = "0"}, {plan = "msf", log = "1"}, {plan = "wwvb", log = "2"}]'
+    )
     assert isinstance(read, Station)
     journal = read.journal()
     written = []

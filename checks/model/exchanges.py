@@ -88,6 +88,8 @@ def sample(asked: int, at: int, datagram: bytes, address: int) -> tuple[int, ...
     if not -32 <= header.precision <= 4:
         met(f"answer: a precision {'below' if header.precision < 0 else 'above'} the range")
     dispersion = PRECISION + precision_of(header.precision) + phi(at - asked)
-    return (offset, max(PRECISION, delay), dispersion, header.stratum, address, header.root_delay, header.root_dispersion)
+    return (
+        offset, max(PRECISION, delay), dispersion, header.stratum, address, header.root_delay, header.root_dispersion
+    )
 
 

@@ -99,5 +99,7 @@ def is_boundary(plan: str, before: Mark | None, mark: Mark) -> bool:
 
 def segments(plan: str, found: Sequence[Mark]) -> list[Segment]:
     """The segments between each two boundaries that follow one another."""
-    begins = [place for place, mark in enumerate(found) if is_boundary(plan, found[place - 1] if place else None, mark)]
+    begins = [
+        place for place, mark in enumerate(found) if is_boundary(plan, found[place - 1] if place else None, mark)
+    ]
     return [Segment(found[first:last], found[last]) for first, last in zip(begins, begins[1:])]

@@ -29,7 +29,9 @@ def symbols_of(bits: Bits, length: int) -> list[Symbol]:
 
 def _civil(bits: Bits) -> int:
     """The civil time as a second; the date has to be one."""
-    return dates.second_of(2000 + YEAR.value(bits), MONTH.value(bits), DAY.value(bits), HOUR.value(bits), MINUTE.value(bits))
+    return dates.second_of(
+        2000 + YEAR.value(bits), MONTH.value(bits), DAY.value(bits), HOUR.value(bits), MINUTE.value(bits)
+    )
 
 
 def _minute(bits: Bits) -> int:
@@ -88,7 +90,12 @@ RULES = (
     Rule(19, "WeekdayRange", lambda _, bits: WEEKDAY.value(bits) == 0),
     Rule(20, "MonthRange", lambda _, bits: MONTH.has_odd_digit(bits) or not 1 <= MONTH.value(bits) <= 12),
     Rule(21, "YearRange", lambda _, bits: YEAR.has_odd_digit(bits)),
-    Rule(22, "NoSuchDate", lambda _, bits: not dates.is_date(2000 + YEAR.value(bits), MONTH.value(bits), DAY.value(bits))),
+    Rule(
+        22,
+        "NoSuchDate",
+        lambda _,
+        bits: not dates.is_date(2000 + YEAR.value(bits), MONTH.value(bits), DAY.value(bits)),
+    ),
     Rule(23, "WeekdayDiffers", lambda _, bits: WEEKDAY.value(bits) != dates.civil(_civil(bits)).isoweekday()),
     Rule(24, "LeapMinute", _is_bad_leap_minute),
 )

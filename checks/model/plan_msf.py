@@ -34,7 +34,9 @@ def symbols_of(bits: Bits, length: int) -> list[Symbol]:
 
 
 def _civil(bits: Bits) -> int:
-    return dates.second_of(2000 + YEAR.value(bits), MONTH.value(bits), DAY.value(bits), HOUR.value(bits), MINUTE.value(bits))
+    return dates.second_of(
+        2000 + YEAR.value(bits), MONTH.value(bits), DAY.value(bits), HOUR.value(bits), MINUTE.value(bits)
+    )
 
 
 def coded(bits: Bits) -> Coded:
@@ -84,6 +86,11 @@ RULES = (
     Rule(38, "WeekdayRange", lambda _, bits: WEEKDAY.value(bits) == 7),
     Rule(39, "MonthRange", lambda _, bits: MONTH.has_odd_digit(bits) or not 1 <= MONTH.value(bits) <= 12),
     Rule(40, "YearRange", lambda _, bits: YEAR.has_odd_digit(bits)),
-    Rule(41, "NoSuchDate", lambda _, bits: not dates.is_date(2000 + YEAR.value(bits), MONTH.value(bits), DAY.value(bits))),
+    Rule(
+        41,
+        "NoSuchDate",
+        lambda _,
+        bits: not dates.is_date(2000 + YEAR.value(bits), MONTH.value(bits), DAY.value(bits)),
+    ),
     Rule(42, "WeekdayDiffers", lambda _, bits: WEEKDAY.value(bits) != dates.civil(_civil(bits)).isoweekday() % 7),
 )

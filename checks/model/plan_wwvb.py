@@ -23,7 +23,9 @@ def bits_of(symbols: list[Symbol]) -> Bits:
 
 
 def symbols_of(bits: Bits, length: int) -> list[Symbol]:
-    return [Symbol.LONG if place in MARKERS else Symbol.ONE if bits[place] else Symbol.ZERO for place in range(length)]
+    return [
+        Symbol.LONG if place in MARKERS else Symbol.ONE if bits[place] else Symbol.ZERO for place in range(length)
+    ]
 
 
 def put_parities(bits: Bits) -> None:

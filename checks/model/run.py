@@ -31,7 +31,9 @@ def run(program: str, folder: pathlib.Path, one: Case) -> Ended:
     with one.beside() as more:
         for name, data in {**one.files, **more}.items():
             (folder / name).write_bytes(data)
-        done = subprocess.run([program, *one.words], cwd=folder, stdin=subprocess.DEVNULL, capture_output=True, timeout=LONGEST)
+        done = subprocess.run(
+            [program, *one.words], cwd=folder, stdin=subprocess.DEVNULL, capture_output=True, timeout=LONGEST
+        )
     return Ended(done.stdout.decode("utf-8", "replace"), done.returncode)
 
 
@@ -94,7 +96,11 @@ def all_cases(program: str, folder: pathlib.Path, drawn: dict[str, int], seed: i
     pool = []
     for place in range(workers):
         tasks.put(None)
-        pool.append(context.Process(target=_work, args=(program, folder / str(place), tasks, directed, seed, told), daemon=True))
+        pool.append(
+            context.Process(
+                target=_work, args=(program, folder / str(place), tasks, directed, seed, told), daemon=True
+            )
+        )
         pool[-1].start()
     outcomes = [_next(told, pool) for _ in pool]
     met = sum((one.met for one in outcomes), collections.Counter())

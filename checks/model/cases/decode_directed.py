@@ -20,7 +20,9 @@ def of_log(plan: str, name: str, log: bytes, meant: str | None = None) -> Case:
     return Case(f"{plan}: {name}", words, {"log": log}, lambda _: decode(plan, log), meant)
 
 
-def spelt(plan: str, minute: int = NOON, leap_at: int = 0, summer: bool = False, edit: Edit | None = None) -> list[Symbol]:
+def spelt(
+    plan: str, minute: int = NOON, leap_at: int = 0, summer: bool = False, edit: Edit | None = None
+) -> list[Symbol]:
     """A minute's symbols, with an edit of its bits."""
     module = PLANS[plan]
     symbols = module.spelt(Coded(minute, leap_at, summer))
@@ -71,10 +73,19 @@ def first_rules(plan: str) -> Iterator[Case]:
         meant = rule(plan, 1) if gap in (899999, 1100001) else None
         yield changed(plan, f"marks {gap} apart", lambda tape: tape.move(tape.place(1, 30), gap - 1000000), meant)
         if plan != "dcf":
-            yield changed(plan, f"a closing mark {gap} after the last", lambda tape: tape.move(tape.place(2, 0), gap - 1000000), meant)
-    yield changed(plan, "the first two marks too near", lambda tape: tape.move(tape.place(1, 0), 100001, 1), rule(plan, 1))
+            yield changed(
+                plan,
+                f"a closing mark {gap} after the last",
+                lambda tape: tape.move(tape.place(2, 0), gap - 1000000),
+                meant,
+            )
+    yield changed(
+        plan, "the first two marks too near", lambda tape: tape.move(tape.place(1, 0), 100001, 1), rule(plan, 1)
+    )
     yield changed(plan, "an odd width", lambda tape: tape.widen(tape.place(1, 30), 30000), rule(plan, 2))
-    yield changed(plan, "an odd width at the first mark", lambda tape: tape.widen(tape.place(1, 58), 30000), rule(plan, 2))
+    yield changed(
+        plan, "an odd width at the first mark", lambda tape: tape.widen(tape.place(1, 58), 30000), rule(plan, 2)
+    )
     for count in (0, 1, 30, 58):
 
         def drop(tape: Tape, count: int = count) -> None:
@@ -83,7 +94,9 @@ def first_rules(plan: str) -> Iterator[Case]:
         yield changed(plan, f"mark {count} is lost", drop)
     length = 59 if plan == "dcf" else 60
     for marks in (length - 2, length - 1, length + 1, length + 2, 70):
-        yield of_log(plan, f"a minute of {marks} marks", _minute_of(plan, marks).log(), rule(plan, 3) if marks != 60 else None)
+        yield of_log(
+            plan, f"a minute of {marks} marks", _minute_of(plan, marks).log(), rule(plan, 3) if marks != 60 else None
+        )
         if marks > length + 1:
             tape = _minute_of(plan, marks)
             tape.widen(tape.place(1, marks - 1), 30000)
@@ -109,9 +122,13 @@ def widths(plan: str) -> Iterator[Case]:
     place = {"dcf": 0, "msf": 58, "wwvb": 8}[plan]
     for least, most, symbol in CLASSES[plan]:
         for width in (least - 1, least, most, most + 1):
-            yield changed(plan, f"a width of {width}, by {symbol.value}", lambda tape: tape.widen(tape.place(1, place), width))
+            yield changed(
+                plan, f"a width of {width}, by {symbol.value}", lambda tape: tape.widen(tape.place(1, place), width)
+            )
     for width in (1, 2000000):
-        yield changed(plan, f"a width of {width}", lambda tape: tape.widen(tape.place(1, place), width), rule(plan, 2))
+        yield changed(
+            plan, f"a width of {width}", lambda tape: tape.widen(tape.place(1, place), width), rule(plan, 2)
+        )
 
 
 def values(plan: str) -> Iterator[Case]:
@@ -123,8 +140,14 @@ def values(plan: str) -> Iterator[Case]:
     places = range(60) if plan != "msf" else [*range(1, 60), *range(101, 160)]
     minutes = [spelt(plan, edit=flip(place)) for place in places]
     yield of_log(plan, "each bit flipped alone", Tape(plan, minutes).log())
-    days = [dates.second_of(year, 1, 1) + 86400 * day + 43200 for year in (2000, 2001) for day in range(dates.days_of(year))]
-    yield of_log(plan, "each day of two years", Tape(plan, [spelt(plan, day) for day in days]).log(), f"{plan}: differs, by its minute")
+    noons = [dates.second_of(year, 1, 1, 12) + dates.DAY * day for year in (2000, 2001) for day in range(366)]
+    days = [noon for noon in noons if dates.civil(noon).year < 2002]
+    yield of_log(
+        plan,
+        "each day of two years",
+        Tape(plan, [spelt(plan, day) for day in days]).log(),
+        f"{plan}: differs, by its minute",
+    )
     years = [dates.second_of(year, month, 1) for year in range(2000, 2100) for month in (1, 3)]
     yield of_log(plan, "each year", Tape(plan, [spelt(plan, second) for second in years[1:]]).log())
 

@@ -17,7 +17,8 @@ from .journals import BASE, BEGAN, of_text, station, text
 EVENTS = [
     dates.second_of(*date)
     for date in (
-        (2000, 1, 1), (2000, 3, 1), (2015, 7, 1), (2016, 12, 31), (2017, 1, 1), (2024, 2, 29), (2024, 3, 1), (2026, 3, 29), (2026, 10, 25), (2036, 2, 7),
+        (2000, 1, 1), (2000, 3, 1), (2015, 7, 1), (2016, 12, 31), (2017, 1, 1), (2024, 2, 29), (2024, 3, 1),
+        (2026, 3, 29), (2026, 10, 25), (2036, 2, 7),
         (2050, 7, 1), (2099, 12, 31), (2026, 1, 1), (2026, 5, 1),
     )
 ]
@@ -59,7 +60,11 @@ def edited(draw: random.Random, plan: str, symbols: list[Symbol]) -> list[Symbol
             symbols = PLANS[plan].symbols_of(bits, max(1, min(60, len(symbols))))
         elif kind < 0.8 and symbols:
             place = draw.randrange(len(symbols))
-            symbols = [*symbols[:place], draw.choice([*WIDTHS[plan], *[Symbol.ONLY_B] * (plan == "msf")]), *symbols[place + 1 :]]
+            symbols = [
+                *symbols[:place],
+                draw.choice([*WIDTHS[plan], *[Symbol.ONLY_B] * (plan == "msf")]),
+                *symbols[place + 1 :],
+            ]
         elif kind < 0.9:
             symbols = symbols + [draw.choice((Symbol.ZERO, Symbol.ONE))] * draw.choice((1, 1, 2, 11))
         else:
@@ -76,17 +81,23 @@ def spoil(draw: random.Random, tape: Tape) -> None:
         place = draw.randrange(len(tape.beats))
         how = draw.random()
         if how < 0.3:
-            tape.move(place, draw.choice((-100001, -100000, 99999, 100000, 100001, 900000, 500000, -500000, 60 * SECOND)))
+            tape.move(
+                place, draw.choice((-100001, -100000, 99999, 100000, 100001, 900000, 500000, -500000, 60 * SECOND))
+            )
         elif how < 0.5:
             tape.move(place, draw.choice((-100001, -100000, 100000, 100001, 50000)), 1)
         elif how < 0.75:
             least, most_of_class, _ = draw.choice(CLASSES[tape.plan])
-            tape.widen(place, draw.choice((least - 1, least, most_of_class, most_of_class + 1, draw.randint(1, 2000000))))
+            tape.widen(
+                place, draw.choice((least - 1, least, most_of_class, most_of_class + 1, draw.randint(1, 2000000)))
+            )
         elif how < 0.9:
             tape.remove(place)
         else:
             after = draw.choice((149999, 150000, 200000, 250000, 250001, 400000))
-            tape.beats[place] = tape.beats[place]._replace(parts=((0, 100000), (after, draw.choice((100000, 100000, 200000)))))
+            tape.beats[place] = tape.beats[place]._replace(
+                parts=((0, 100000), (after, draw.choice((100000, 100000, 200000))))
+            )
 
 
 def log(draw: random.Random, plan: str, count: int) -> bytes:
@@ -123,16 +134,41 @@ def entry(draw: random.Random, kinds: list[str], at: int, leap_at: int) -> Entry
     if kind == "leap":
         return Entry(feed, at, "notice", (draw.choice((0, leap_at, second, second - 1, second + 1)),))
     if kind == "server" and other < 0.85:
-        off = draw.choice((0, draw.randint(-(10**7), 10**7), draw.randint(-(2**34), 2**34), draw.choice((2**40, -(2**42), 2**65 - BASE))))
-        delay, dispersion = draw.choice((4096, draw.randrange(2**28), 2**33)), draw.choice((4096 + 2**12, draw.randrange(2**28), 2**36))
+        off = draw.choice(
+            (
+                0,
+                draw.randint(-(10**7), 10**7),
+                draw.randint(-(2**34), 2**34),
+                draw.choice((2**40, -(2**42), 2**65 - BASE)),
+            )
+        )
+        delay, dispersion = draw.choice((4096, draw.randrange(2**28), 2**33)), draw.choice(
+            (4096 + 2**12, draw.randrange(2**28), 2**36)
+        )
         root = (draw.choice((0, 100, draw.randrange(2**18))), draw.choice((0, 200, draw.randrange(2**17))))
-        return Entry(feed, at, "sample", (BASE + off, delay, dispersion, draw.choice((1, 1, 2, 3, 14, 15)), draw.randrange(2**32), *root))
+        return Entry(
+            feed,
+            at,
+            "sample",
+            (BASE + off, delay, dispersion, draw.choice((1, 1, 2, 3, 14, 15)), draw.randrange(2**32), *root),
+        )
     if kind == "server":
         return Entry(feed, at, "declined", (draw.randrange(11),))
     if other < 0.85:
         late = draw.choice((0, draw.randint(0, 9000), draw.randint(0, 9000), 500000))
-        return Entry(feed, second * 10**6 - BEGAN * 10**6 + late if second >= BEGAN else at, "verdict", (second, draw.choice((0, 0, 0, leap_at))))
-    return draw.choice((Entry(feed, at, "lone", (second,)), Entry(feed, at, "refused", (draw.randrange(60),)), Entry(feed, at, "differs", (second, second, 5))))
+        return Entry(
+            feed,
+            second * 10**6 - BEGAN * 10**6 + late if second >= BEGAN else at,
+            "verdict",
+            (second, draw.choice((0, 0, 0, leap_at))),
+        )
+    return draw.choice(
+        (
+            Entry(feed, at, "lone", (second,)),
+            Entry(feed, at, "refused", (draw.randrange(60),)),
+            Entry(feed, at, "differs", (second, second, 5)),
+        )
+    )
 
 
 def entries(draw: random.Random, kinds: list[str]) -> list[Entry]:

@@ -21,7 +21,9 @@ def toml(draw: random.Random, kinds: list[str]) -> bytes:
         top.append(f"gap = {draw.choice((1, 1000000, 20000000, 60000000))}\n")
     if draw.random() < 0.5:
         top.append(f"clients = {draw.choice((1, 2, 3, 5))}\n")
-    tables = [f'[[key]]\nid = {number}\nsecret = "{secret.decode()}"\n' for number, secret in KEYS.items() if draw.random() < 0.5]
+    tables = [
+        f'[[key]]\nid = {number}\nsecret = "{secret.decode()}"\n' for number, secret in KEYS.items() if draw.random() < 0.5
+    ]
     if draw.random() < 0.3:
         tables.append(f'[[deny]]\nnet = "127.0.0.{draw.randrange(10)}/{draw.choice((28, 29, 30, 31, 32))}"\n')
     bound = draw.choice((1000, 1000, 1000, 500, 50, 16000))
@@ -33,7 +35,11 @@ def toml(draw: random.Random, kinds: list[str]) -> bytes:
 def radio(draw: random.Random, feed: int, plan: str, minutes: int, leap_at: int) -> Timed:
     """A radio's pulses; its first minute begins at 60 s."""
     named = draw.choice((0, 0, leap_at)) if plan != "msf" else 0
-    coded = [spelt(plan, BEGAN + 120 + 60 * i, named if plan == "wwvb" or BEGAN + 120 + 60 * i < named else 0) for i in range(minutes)]
+    coded = [
+        spelt(
+            plan, BEGAN + 120 + 60 * i, named if plan == "wwvb" or BEGAN + 120 + 60 * i < named else 0
+        ) for i in range(minutes)
+    ]
     if draw.random() < 0.5:
         coded = [edited(draw, plan, symbols) if draw.random() < 0.2 else symbols for symbols in coded]
     tape = Tape(plan, coded, 60 * SECOND)
@@ -52,8 +58,15 @@ def server(draw: random.Random, feed: int, until: int) -> Timed:
     while at < until:
         changes = {}
         if draw.random() < 0.2:
-            name = draw.choice(("leap", "version", "mode", "stratum", "precision", "root_delay", "root_dispersion", "origin", "receive", "transmit"))
-            most = {"leap": 3, "version": 7, "mode": 7, "stratum": 255, "precision": 127}.get(name, 2**21 if name.startswith("root") else 2**64 - 1)
+            name = draw.choice(
+                (
+                    "leap", "version", "mode", "stratum", "precision", "root_delay", "root_dispersion", "origin",
+                    "receive", "transmit",
+                )
+            )
+            most = {
+                "leap": 3, "version": 7, "mode": 7, "stratum": 255, "precision": 127
+            }.get(name, 2**21 if name.startswith("root") else 2**64 - 1)
             changes[name] = draw.choice((0, most, draw.randint(0, most)))
         datagram = answer(at, off + draw.randint(-(2**22), 2**22), **changes)
         took = draw.choice((0, 2000, 2000, 5000, 10**6))
@@ -69,14 +82,31 @@ def requests(draw: random.Random, until: int) -> Timed:
     """Requests of some clients, of which some are none, and some long after all else."""
     found = []
     for _ in range(draw.randint(2, 12)):
-        at = draw.choice((draw.randrange(until), draw.randrange(until), draw.randrange(until, 2 * until), until + draw.randrange(10**10), 2**50 - 1 - SECOND))
-        datagram = draw.choice((b"\x23", b"\x23", b"\x1b", b"\x24", b"\x2b", b"\xe3")) + draw.randbytes(3) + QUERY[4:40] + draw.randbytes(8)
+        at = draw.choice(
+            (
+                draw.randrange(until),
+                draw.randrange(until),
+                draw.randrange(until, 2 * until),
+                until + draw.randrange(10**10),
+                2**50 - 1 - SECOND,
+            )
+        )
+        datagram = draw.choice(
+            (b"\x23", b"\x23", b"\x1b", b"\x24", b"\x2b", b"\xe3")
+        ) + draw.randbytes(3) + QUERY[4:40] + draw.randbytes(8)
         kind = draw.random()
         if kind < 0.3:
             datagram = sealed(datagram, *draw.choice(list(KEYS.items())))
         elif kind < 0.4:
             datagram = (datagram + bytes(20))[: draw.choice((47, 49, 67, 68))]
-        found.append((at, request(datagram, at, at + draw.choice((0, 40, 500, SECOND)), draw.choice((0, 0, 1, 7, draw.randrange(8))))))
+        found.append(
+            (
+                at,
+                request(
+                    datagram, at, at + draw.choice((0, 40, 500, SECOND)), draw.choice((0, 0, 1, 7, draw.randrange(8)))
+                ),
+            )
+        )
     return found
 
 
@@ -90,7 +120,11 @@ def replay_case(draw: random.Random) -> Case:
         if kind == "server":
             timed += server(draw, feed, until)
         elif kind == "leap":
-            timed += [(at, f"leap {feed} {at} {draw.choice((0, leap_at, leap_at, BEGAN, draw.choice(EVENTS)))}") for at in sorted(draw.choices(range(until), k=2))]
+            timed += [
+                (
+                    at, f"leap {feed} {at} {draw.choice((0, leap_at, leap_at, BEGAN, draw.choice(EVENTS)))}"
+                ) for at in sorted(draw.choices(range(until), k=2))
+            ]
         else:
             timed += radio(draw, feed, kind, minutes, leap_at)
             if kinds.count(kind) < 4 and draw.random() < 0.15:

@@ -123,7 +123,10 @@ def _parities(plan: str, first: int) -> dict[int, list[tuple[str, Edit]]]:
 BREAKS: dict[str, dict[int, list[tuple[str, Edit]]]] = {
     "dcf": {
         10: [("start bit 1", set_to(1, dcf.START))],
-        11: [("both zone bits 1", set_to(1, dcf.SUMMER, dcf.STANDARD)), ("both zone bits 0", set_to(0, dcf.SUMMER, dcf.STANDARD))],
+        11: [
+            ("both zone bits 1", set_to(1, dcf.SUMMER, dcf.STANDARD)),
+            ("both zone bits 0", set_to(0, dcf.SUMMER, dcf.STANDARD)),
+        ],
         12: [("time bit 0", set_to(0, dcf.TIME))],
         **_parities("dcf", 13),
         **_ranges("dcf", 16, True),
@@ -146,7 +149,10 @@ BREAKS: dict[str, dict[int, list[tuple[str, Edit]]]] = {
     "wwvb": {
         51: [(f"place {place}, which is always 0", set_to(1, place)) for place in wwvb.RESERVED],
         52: [
-            (f"the sign of DUT1 {one:03b}", together(set_to(0, 36, 37, 38), flip(*(36 + i for i in range(3) if one >> (2 - i) & 1))))
+            (
+                f"the sign of DUT1 {one:03b}",
+                together(set_to(0, 36, 37, 38), flip(*(36 + i for i in range(3) if one >> (2 - i) & 1))),
+            )
             for one in (0, 1, 3, 4, 6, 7)
         ],
         **_ranges("wwvb", 53, False),

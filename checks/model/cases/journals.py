@@ -11,7 +11,11 @@ from .case import Case
 # The second at which the host's counter was 0: 2026-01-01 12:00 UTC.
 BEGAN = 3976257600
 BASE = BEGAN * SECOND
-LETTERS = {"dcf": '[[radio]]\nplan = "dcf"\nlog = "x"\n', "msf": '[[radio]]\nplan = "msf"\nlog = "x"\n', "wwvb": '[[radio]]\nplan = "wwvb"\nlog = "x"\n'}
+LETTERS = {
+    "dcf": '[[radio]]\nplan = "dcf"\nlog = "x"\n',
+    "msf": '[[radio]]\nplan = "msf"\nlog = "x"\n',
+    "wwvb": '[[radio]]\nplan = "wwvb"\nlog = "x"\n',
+}
 
 
 def station(kinds: Sequence[str], bound: int = 1000) -> bytes:
@@ -26,7 +30,10 @@ def verdict(feed: int, seconds: int, late: int = 0, leap_at: int = 0) -> Entry:
     return Entry(feed, seconds * 10**6 + late, "verdict", (BEGAN + seconds, leap_at))
 
 
-def sample(feed: int, at: int, off: int = 0, delay: int = 4096, dispersion: int = 4294968, stratum: int = 1, root: tuple[int, int] = (0, 0)) -> Entry:
+def sample(
+    feed: int, at: int, off: int = 0, delay: int = 4096, dispersion: int = 4294968, stratum: int = 1,
+    root: tuple[int, int] = (0, 0),
+) -> Entry:
     """A sample at a moment, off the true time by so many units."""
     return Entry(feed, at, "sample", (BASE + off, delay, dispersion, stratum, 0x0A000001 + feed, *root))
 
@@ -48,5 +55,7 @@ def of_text(name: str, toml: bytes, journal: bytes, meant: str | None = None) ->
     return Case(name, words, {"station": toml, "journal": journal}, lambda _: migrate(toml, journal), meant)
 
 
-def of(name: str, kinds: Sequence[str], entries: Sequence[Entry], meant: str | None = None, bound: int = 1000) -> Case:
+def of(
+    name: str, kinds: Sequence[str], entries: Sequence[Entry], meant: str | None = None, bound: int = 1000
+) -> Case:
     return of_text(name, station(kinds, bound), text(entries), meant)

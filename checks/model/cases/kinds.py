@@ -42,7 +42,9 @@ CASES_OF_A_DAY = 5000
 
 def drawn(cases: int) -> dict[str, int]:
     """How many cases of each kind are drawn, of so many in all."""
-    return {name: cases // CASES_OF_A_DAY if name == "drill" else cases * kind.share // 100 for name, kind in KINDS.items()}
+    return {
+        name: cases // CASES_OF_A_DAY if name == "drill" else cases * kind.share // 100 for name, kind in KINDS.items()
+    }
 
 
 def case(name: str, directed: list[Case], number: int, seed: int) -> Case:

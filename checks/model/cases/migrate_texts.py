@@ -32,12 +32,18 @@ NUMBERS = [
     ("1 5 sample 1 2 3 4 0a000001 6 {}", (0, 2**32 - 1, 2**32)),
 ]
 SPELLINGS = [
-    "", " ", "0", "0 5", "0 5 lone", "0 5 lone ", "0 5 lone 7 ", " 0 5 lone 7", "0  5 lone 7", "00 5 lone 7", "0 05 lone 7", "0 5 lone 07", "0 5 lone +7",
-    "0 5 lone -7", "0 5 lone -0", "0 5 Lone 7", "0 5 lone 7 8", "0 5 lone 0x7", "0\t5 lone 7", "0 5 lone 7\r", "0 5 verdict 3976257660", "0 5 word 7",
-    "0 5 verdict 3976257660 0 0", "0 5 differs 1 2", "0 5 differs 1 2 3 4", "1 5 sample 1 2 3 4 0a000001 6", "1 5 sample 1 2 3 4 0a000001 6 7 8",
-    "1 5 sample -0 2 3 4 0a000001 6 7", "1 5 sample +1 2 3 4 0a000001 6 7", "j1 1 0 0 5 lone 7", "j2", "j2 ", "j21 0 0 5 lone 7", "J2 1 0 0 5 lone 7",
-    "j2 1 0 0 5 lone 7 ", "j2 1 0 0 5 lone", "j2 01 0 0 5 lone 7", "j2 0 0 0 5 lone 7", "j2 2 0 0 5 lone 7", "j2 1 1 0 5 lone 7", "j2 1 -0 0 5 lone 7",
-    "j2 1 00 0 5 lone 7", "j2 1 +0 0 5 lone 7", "j2 1 0 9 5 lone 7", "j2 1 0 0 5 lone 7", "j2  1 0 0 5 lone 7", "j2 18446744073709551616 0 0 5 lone 7",
+    "", " ", "0", "0 5", "0 5 lone", "0 5 lone ", "0 5 lone 7 ", " 0 5 lone 7", "0  5 lone 7", "00 5 lone 7",
+    "0 05 lone 7", "0 5 lone 07", "0 5 lone +7",
+    "0 5 lone -7", "0 5 lone -0", "0 5 Lone 7", "0 5 lone 7 8", "0 5 lone 0x7", "0\t5 lone 7", "0 5 lone 7\r",
+    "0 5 verdict 3976257660", "0 5 word 7",
+    "0 5 verdict 3976257660 0 0", "0 5 differs 1 2", "0 5 differs 1 2 3 4", "1 5 sample 1 2 3 4 0a000001 6",
+    "1 5 sample 1 2 3 4 0a000001 6 7 8",
+    "1 5 sample -0 2 3 4 0a000001 6 7", "1 5 sample +1 2 3 4 0a000001 6 7", "j1 1 0 0 5 lone 7", "j2", "j2 ",
+    "j21 0 0 5 lone 7", "J2 1 0 0 5 lone 7",
+    "j2 1 0 0 5 lone 7 ", "j2 1 0 0 5 lone", "j2 01 0 0 5 lone 7", "j2 0 0 0 5 lone 7", "j2 2 0 0 5 lone 7",
+    "j2 1 1 0 5 lone 7", "j2 1 -0 0 5 lone 7",
+    "j2 1 00 0 5 lone 7", "j2 1 +0 0 5 lone 7", "j2 1 0 9 5 lone 7", "j2 1 0 0 5 lone 7", "j2  1 0 0 5 lone 7",
+    "j2 18446744073709551616 0 0 5 lone 7",
     "j2 1 2147484 0 5 lone 7", "j2 1 -2147484 0 5 lone 7",
 ]
 
@@ -59,7 +65,9 @@ def lines() -> Iterator[Case]:
 
 def numbered() -> Iterator[Case]:
     """Version 2: rates and numbers that are right, and that aren't."""
-    entries = [verdict(0, 60 * i, 0 if i < 5 else 3000) for i in range(1, 7)] + [Entry(2, 5, "notice", (3976300800,)), sample(1, 7)]
+    entries = [
+        verdict(0, 60 * i, 0 if i < 5 else 3000) for i in range(1, 7)
+    ] + [Entry(2, 5, "notice", (3976300800,)), sample(1, 7)]
     toml = station(KINDS)
     good = text(entries, KINDS)
     yield of_text("a journal of version 2", toml, good, "journal: version 2")
@@ -68,9 +76,19 @@ def numbered() -> Iterator[Case]:
         word, number, rate, rest = lines_of[place].split(b" ", 3)
         for other in (int(rate) + 1, int(rate) - 1, -int(rate) - 5):
             spoilt = b" ".join([word, number, str(other).encode(), rest])
-            yield of_text(f"line {place + 1} has the rate {other}", toml, b"".join([*lines_of[:place], spoilt, *lines_of[place + 1 :]]), "journal: another rate")
+            yield of_text(
+                f"line {place + 1} has the rate {other}",
+                toml,
+                b"".join([*lines_of[:place], spoilt, *lines_of[place + 1 :]]),
+                "journal: another rate",
+            )
         spoilt = b" ".join([word, str(place + 2).encode(), rate, rest])
-        yield of_text(f"line {place + 1} has number {place + 2}", toml, b"".join([*lines_of[:place], spoilt, *lines_of[place + 1 :]]), "journal: bad line")
+        yield of_text(
+            f"line {place + 1} has number {place + 2}",
+            toml,
+            b"".join([*lines_of[:place], spoilt, *lines_of[place + 1 :]]),
+            "journal: bad line",
+        )
         yield of_text(f"line {place + 1} is lost", toml, b"".join([*lines_of[:place], *lines_of[place + 1 :]]))
     yield of_text("a line of version 1 in a journal of version 2", toml, good + GOOD, "journal: bad line")
     yield of_text("a line of version 2 in a journal of version 1", toml, GOOD + lines_of[1], "journal: bad line")

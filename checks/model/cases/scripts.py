@@ -20,7 +20,9 @@ ANCHOR = 360 * SECOND
 GOOD = Header(0, 4, 4, 2, 6, -20, 256, 512, 0x0A000001, 0, 0, 0, 0)
 
 
-def of(name: str, toml: bytes, lines: Sequence[str], meant: str | None = None, limit: int = LIMIT, end: bytes = b"") -> Case:
+def of(
+    name: str, toml: bytes, lines: Sequence[str], meant: str | None = None, limit: int = LIMIT, end: bytes = b""
+) -> Case:
     """A script of these lines, and what stands after its last line feed."""
     words = ["replay", "--station", "station", "--script", "script"] + ["--limit", str(limit)] * (limit != LIMIT)
     script = "".join(f"{line}\n" for line in lines).encode("latin-1") + end
@@ -54,7 +56,9 @@ def exchange(feed: int, asked: int, datagram: bytes, took: int = 2000) -> list[s
     return [f"ask {feed} {asked}", f"answer {feed} {asked + took} {datagram.hex()}"]
 
 
-def exchanges_of(feed: int, count: int, off: int = 0, first: int = SECOND, step: int = SECOND, **changes) -> list[str]:
+def exchanges_of(
+    feed: int, count: int, off: int = 0, first: int = SECOND, step: int = SECOND, **changes
+) -> list[str]:
     """Exchanges that are all taken."""
     asked = [first + step * i for i in range(count)]
     return [line for one in asked for line in exchange(feed, one, answer(one, off, **changes))]

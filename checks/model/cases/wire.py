@@ -50,7 +50,9 @@ class Server:
             serving = threading.Thread(target=self._serve, args=(own, stranger))
             serving.start()
             port = own.getsockname()[1]
-            yield {"station": f'[[server]]\naddress = "{LOOPBACK}"\nport = {port}\npolls = {len(self.polls)}\n'.encode()}
+            yield {
+                "station": f'[[server]]\naddress = "{LOOPBACK}"\nport = {port}\npolls = {len(self.polls)}\n'.encode()
+            }
             serving.join()
 
     def _serve(self, own: socket.socket, stranger: socket.socket) -> None:
@@ -168,7 +170,9 @@ class Client:
         return ended([*lines, link, journal.page.line()], "status 0")
 
 
-def _judged(station: stations.Station, page: Page, gate: Gate, datagram: bytes, got: bytes | None) -> tuple[str, str | None]:
+def _judged(
+    station: stations.Station, page: Page, gate: Gate, datagram: bytes, got: bytes | None
+) -> tuple[str, str | None]:
     """The code of a request, and what is wrong with its reply: its moments are read from it, and it is made again from them. The page's
     rate is 0.
     """
@@ -196,7 +200,14 @@ def _answer(client: socket.socket, datagram: bytes) -> bytes | None:
 
 def asked() -> Iterator[Case]:
     key = '[[key]]\nid = 5\nsecret = "longwave"\n'
-    other = [QUERY[:47], b"\x2b" + QUERY[1:], b"\x24" + QUERY[1:], QUERY + bytes(20), sealed(QUERY, 5, b"longwave"), b"\x1b" + QUERY[1:]]
+    other = [
+        QUERY[:47],
+        b"\x2b" + QUERY[1:],
+        b"\x24" + QUERY[1:],
+        QUERY + bytes(20),
+        sealed(QUERY, 5, b"longwave"),
+        b"\x1b" + QUERY[1:],
+    ]
     for name, top, tables, meant in (
         ("a client of a link", "", key, "wire: a sealed reply"),
         ("a client that asks too often", "gap = 60000000\n", key, "wire: a kiss code"),
