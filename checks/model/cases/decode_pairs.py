@@ -60,7 +60,7 @@ def summer(plan: str) -> Iterator[Case]:
 
 
 def leaps_dcf() -> Iterator[Case]:
-    """Announcements of DCF77, and its minute of 60 marks."""
+    """Announcements of DCF77."""
     for name, first, leap_at in (
         ("an hour before it", MONTH_END - 3600, MONTH_END),
         ("a day before it", MONTH_END - 86400, MONTH_END),
@@ -78,6 +78,10 @@ def leaps_dcf() -> Iterator[Case]:
             Tape("dcf", minutes).log(),
             "dcf: verdict, of two leap seconds",
         )
+
+
+def leap_minutes() -> Iterator[Case]:
+    """The minute of 60 marks of DCF77."""
     for microseconds in (
         59899999, 59900000, 60000000, 60100000, 60100001, 60500000, 60899999, 60900000, 61100000, 61100001
     ):
@@ -212,5 +216,5 @@ def all_of() -> Iterator[Case]:
     for plan in ("dcf", "msf", "wwvb"):
         for one in plans:
             yield from one(plan)
-    for other in (leaps_dcf, leaps_wwvb, joins, gaps, lines):
+    for other in (leaps_dcf, leap_minutes, leaps_wwvb, joins, gaps, lines):
         yield from other()

@@ -124,44 +124,23 @@ def kinds_of(draw: random.Random) -> list[str]:
     return radios + servers + ["leap"] * draw.choice((0, 0, 1)) or ["dcf"]
 
 
-def entry(draw: random.Random, kinds: list[str], at: int, leap_at: int) -> Entry:
-    """An entry of one of the feeds at a moment, mostly near the true time."""
-    feed = draw.randrange(len(kinds))
-    at = max(0, at + draw.choice((0, 0, 0, draw.randint(-2000, 2000), -draw.randrange(10**8))))
-    kind = kinds[feed] if draw.random() < 0.97 else draw.choice(("dcf", "server", "leap"))
-    other = draw.random()
-    second = BEGAN + at // 10**6 + draw.choice((0,) * 12 + (1, -1, 3600))
-    if kind == "leap":
-        return Entry(feed, at, "notice", (draw.choice((0, leap_at, second, second - 1, second + 1)),))
-    if kind == "server" and other < 0.85:
-        off = draw.choice(
-            (
-                0,
-                draw.randint(-(10**7), 10**7),
-                draw.randint(-(2**34), 2**34),
-                draw.choice((2**40, -(2**42), 2**65 - BASE)),
-            )
-        )
-        delay, dispersion = draw.choice((4096, draw.randrange(2**28), 2**33)), draw.choice(
-            (4096 + 2**12, draw.randrange(2**28), 2**36)
-        )
-        root = (draw.choice((0, 100, draw.randrange(2**18))), draw.choice((0, 200, draw.randrange(2**17))))
-        return Entry(
-            feed,
-            at,
-            "sample",
-            (BASE + off, delay, dispersion, draw.choice((1, 1, 2, 3, 14, 15)), draw.randrange(2**32), *root),
-        )
-    if kind == "server":
-        return Entry(feed, at, "declined", (draw.randrange(11),))
-    if other < 0.85:
-        late = draw.choice((0, draw.randint(0, 9000), draw.randint(0, 9000), 500000))
-        return Entry(
-            feed,
-            second * 10**6 - BEGAN * 10**6 + late if second >= BEGAN else at,
-            "verdict",
-            (second, draw.choice((0, 0, 0, leap_at))),
-        )
+def sample_of(draw: random.Random, feed: int, at: int) -> Entry:
+    """A server's sample, mostly near the true time."""
+    near, far = draw.randint(-(10**7), 10**7), draw.randint(-(2**34), 2**34)
+    off = draw.choice((0, near, far, draw.choice((2**40, -(2**42), 2**65 - BASE))))
+    delay = draw.choice((4096, draw.randrange(2**28), 2**33))
+    dispersion = draw.choice((4096 + 2**12, draw.randrange(2**28), 2**36))
+    root = (draw.choice((0, 100, draw.randrange(2**18))), draw.choice((0, 200, draw.randrange(2**17))))
+    stratum, address = draw.choice((1, 1, 2, 3, 14, 15)), draw.randrange(2**32)
+    return Entry(feed, at, "sample", (BASE + off, delay, dispersion, stratum, address, *root))
+
+
+def answer_of(draw: random.Random, feed: int, at: int, second: int, leap_at: int) -> Entry:
+    """A radio's answer, mostly a verdict."""
+    late = draw.choice((0, draw.randint(0, 9000), draw.randint(0, 9000), 500000))
+    if draw.random() < 0.85:
+        moment = (second - BEGAN) * 10**6 + late if second >= BEGAN else at
+        return Entry(feed, moment, "verdict", (second, draw.choice((0, 0, 0, leap_at))))
     return draw.choice(
         (
             Entry(feed, at, "lone", (second,)),
@@ -169,6 +148,21 @@ def entry(draw: random.Random, kinds: list[str], at: int, leap_at: int) -> Entry
             Entry(feed, at, "differs", (second, second, 5)),
         )
     )
+
+
+def entry(draw: random.Random, kinds: list[str], at: int, leap_at: int) -> Entry:
+    """An entry of one of the feeds at a moment, here and there of a kind that the feed would not make."""
+    feed = draw.randrange(len(kinds))
+    at = max(0, at + draw.choice((0, 0, 0, draw.randint(-2000, 2000), -draw.randrange(10**8))))
+    kind = kinds[feed] if draw.random() < 0.97 else draw.choice(("dcf", "server", "leap"))
+    second = BEGAN + at // 10**6 + draw.choice((0,) * 12 + (1, -1, 3600))
+    if kind == "leap":
+        return Entry(feed, at, "notice", (draw.choice((0, leap_at, second, second - 1, second + 1)),))
+    if kind == "server":
+        return sample_of(draw, feed, at) if draw.random() < 0.85 else Entry(
+            feed, at, "declined", (draw.randrange(11),)
+        )
+    return answer_of(draw, feed, at, second, leap_at)
 
 
 def entries(draw: random.Random, kinds: list[str]) -> list[Entry]:

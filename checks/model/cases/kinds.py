@@ -2,9 +2,11 @@
 
 import itertools
 import random
+from types import ModuleType
 from typing import Callable, NamedTuple
 
-from . import decode_directed, decode_pairs, migrate_pages, migrate_texts, replay_requests, replay_scripts, served, stations, wire
+from . import decode_directed, decode_pairs, migrate_choices, migrate_leaps, migrate_pages, migrate_texts
+from . import replay_exchanges, replay_requests, replay_scripts, served, stations, wire
 from .case import Case
 from .drawn import decode_case, migrate_case
 from .drawn_scripts import replay_case
@@ -23,17 +25,21 @@ def _decode() -> list[Case]:
     return [*itertools.chain(*plans), *decode_pairs.all_of()]
 
 
+def _of(*modules: ModuleType) -> Callable[[], list[Case]]:
+    return lambda: [case for module in modules for case in module.all_of()]
+
+
 def _drill(draw: random.Random) -> Case:
     return served.drill_case(draw.randrange(2**32))
 
 
 KINDS = {
     "decode": Kind(_decode, decode_case, 40),
-    "migrate": Kind(lambda: [*migrate_pages.all_of(), *migrate_texts.all_of()], migrate_case, 30),
-    "replay": Kind(lambda: [*replay_requests.all_of(), *replay_scripts.all_of()], replay_case, 20),
-    "station": Kind(lambda: list(stations.all_of()), None, 0),
-    "serve": Kind(lambda: list(served.all_of()), served.serve_case, 10),
-    "wire": Kind(lambda: list(wire.all_of()), None, 0),
+    "migrate": Kind(_of(migrate_pages, migrate_choices, migrate_leaps, migrate_texts), migrate_case, 30),
+    "replay": Kind(_of(replay_requests, replay_exchanges, replay_scripts), replay_case, 20),
+    "station": Kind(_of(stations), None, 0),
+    "serve": Kind(_of(served), served.serve_case, 10),
+    "wire": Kind(_of(wire), None, 0),
     "drill": Kind(lambda: [served.drill_case(7)], _drill, 0),
 }
 # How many drawn cases there are for each drawn day of `drill`, which takes as long as some hundred others.

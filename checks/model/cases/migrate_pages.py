@@ -2,7 +2,6 @@
 
 from typing import Iterator, Sequence
 
-from .. import dates
 from ..entries import Entry
 from ..units import LEAST_DISPERSION, MOST_RATE, SECOND, local_span
 from .case import Case
@@ -56,6 +55,10 @@ def held_samples() -> Iterator[Case]:
     yield of(
         "a later refused frame", DCF, [verdict(0, 60 * i) for i in range(1, 6)] + [Entry(0, 10**9, "refused", (3,))]
     )
+
+
+def foreign() -> Iterator[Case]:
+    """Entries that are no samples."""
     others = [sample(0, MINUTE * i) for i in range(1, 6)] + [
         Entry(0, MINUTE * i, "lone", (BEGAN,)) for i in range(1, 6)
     ]
@@ -130,134 +133,7 @@ def bounds() -> Iterator[Case]:
             )
 
 
-def selections() -> Iterator[Case]:
-    one = eight(0, dispersion=10**6)
-    distance = -(-LEAST_DISPERSION // 2) + sum(-(-(10**6) // 2 ** (i + 1)) for i in range(8))
-    for apart in (2 * distance - 1, 2 * distance, 2 * distance + 1, distance, distance + 1, 0):
-        entries = one + eight(1, apart, dispersion=10**6)
-        yield of(f"two sources {apart} apart", SERVER * 2, entries)
-        yield of(f"two sources {-apart} apart", SERVER * 2, one + eight(1, -apart, dispersion=10**6))
-        third = eight(2, 10**11, dispersion=10**6)
-        yield of(f"two sources {apart} apart and a false one", SERVER * 3, entries + third, None)
-    for name, offs in (
-        ("an even split", (0, 5, 10**10, 10**10 + 5)),
-        ("two of five are false", (0, 5, 9, 10**10, -(10**10))),
-        ("three of five are false", (0, 5, 2 * 10**10, 10**10, -(10**10))),
-        ("sixteen agree", tuple(range(0, 1600, 100))),
-        ("seven of fifteen are false", (*range(0, 800, 100), *(10**10 * i for i in range(1, 8)))),
-        ("an offset outside of what all contain", (0, distance + 5, 2 * distance - 5)),
-    ):
-        entries = [entry for feed, off in enumerate(offs) for entry in eight(feed, off, dispersion=10**6)]
-        yield of(f"selection where {name}", SERVER * len(offs), entries)
-    wide = eight(0, dispersion=2 * 10**9) + eight(1, 10**9, dispersion=10**6) + eight(2, -(10**9), dispersion=10**6)
-    yield of("a wide interval over two that differ", SERVER * 3, wide)
-    wide = eight(0, 10**7, dispersion=2 * 10**9) + eight(1, 0, dispersion=10**6) + eight(2, 100, dispersion=10**6)
-    yield of("an offset outside of an interval that holds", SERVER * 3, wide)
-
-
-def clusters() -> Iterator[Case]:
-    for jitter in (39, 40, 41):
-        entries: list[Entry] = []
-        for feed, off in enumerate((0, 0, 0, 40)):
-            entries += [sample(feed, MINUTE, off, delay=4096), sample(feed, MINUTE, off + jitter, delay=5000)]
-            entries += [sample(feed, MINUTE, off + jitter, delay=6000 + i) for i in range(6)]
-        meant = "page: more than three are left" if jitter > 40 else "page: a source is discarded"
-        yield of(f"four sources of a jitter of {jitter}", SERVER * 4, entries, meant)
-    for name, offs in (
-        ("two are equally far", (100, 0, 0, 100)), ("four pairs", (0, 7, 0, 7, 0, 7, 0, 7)),
-        ("sixteen", [i * i * 50 for i in range(16)])
-    ):
-        entries = [entry for feed, off in enumerate(offs) for entry in eight(feed, off)]
-        meant = "page: of equal spreads the later is discarded" if name != "sixteen" else "page: a source is discarded"
-        yield of(f"clustering where {name}", SERVER * len(offs), entries, meant)
-    strata = [
-        entry for feed in range(5) for entry in eight(
-            feed, 10 * feed, stratum=(3, 2, 2, 1, 4)[feed], delay=4096 + 10**8 * (feed % 2)
-        )
-    ]
-    yield of("survivors by stratum, distance and feed", SERVER * 5, strata)
-    late = [
-        *eight(0, 100, dispersion=10**6),
-        *eight(1, 200, at=3 * MINUTE, dispersion=5 * 10**6),
-        *eight(2, 300, at=2 * MINUTE),
-    ]
-    yield of("the newest sample isn't the peer's", SERVER * 3, late)
-
-
-def leaps() -> Iterator[Case]:
-    """Words, moments, the cut, and what is armed."""
-    hour = BEGAN + 3600
-    three = ["dcf", "msf", "leap"]
-    good = [verdict(0, 60 * i) for i in range(1, 6)]
-    for seconds in (-3600, 0, 1, 299, 300, 301, 3600, 43200):
-        leap_at = BEGAN + seconds
-        told = [verdict(0, 60 * i, 0, leap_at) for i in range(1, 6)]
-        yield of(f"verdicts that name a leap second {seconds} s on", three, told + [verdict(1, 310)])
-        noticed = [
-            *good, Entry(2, 0, "notice", (leap_at,)), verdict(1, 310), *[verdict(0, 60 * i) for i in range(6, 11)]
-        ]
-        yield of(f"a notice of a leap second {seconds} s on", three, noticed)
-        yield of(f"a notice first, of a leap second {seconds} s on", three, [noticed[5], *good, verdict(1, 310)])
-    yield of(
-        "a notice without a verdict", three, [Entry(2, 5, "notice", (hour,))], "page: a notice without a verdict"
-    )
-    over = [Entry(2, 5, "notice", (BEGAN,)), *good]
-    yield of("a notice of a leap second that is over", three, over, "page: a notice of a leap second that is over")
-    yield of(
-        "a later notice without one takes the word back",
-        three,
-        [*good, Entry(2, 5, "notice", (hour,)), Entry(2, 5, "notice", (0,))],
-    )
-    word = verdict(0, 300, 0, hour)
-    for name, after in (
-        ("a lone frame", Entry(0, 310 * 10**6, "lone", (BEGAN,))),
-        ("a refused frame", Entry(0, 310 * 10**6, "refused", (3,))),
-        ("a frame that differs", Entry(0, 310 * 10**6, "differs", (BEGAN, BEGAN, 5))),
-        ("a verdict without one", verdict(0, 360)),
-    ):
-        yield of(f"a word and then {name}", three, [*good[:4], word, after])
-    early = Entry(0, 5, "verdict", (BEGAN, dates.second_of(2025, 1, 1)))
-    yield of(
-        "a leap second before the counter began",
-        three,
-        [early, *good],
-        "page: a leap second before the counter began",
-    )
-    passed = [verdict(0, 60 * i, 0, BEGAN + 305) for i in range(1, 6)] + [verdict(0, 60 * i) for i in range(6, 12)]
-    yield of("a leap second that is taken back before it passes", three, passed)
-    others = [*passed[:5], Entry(1, 305 * 10**6, "refused", (3,)), *passed[5:]]
-    yield of(
-        "a leap second that passes by another feed's entry", three, others, "page: a sample from before a leap second"
-    )
-    both = [verdict(feed, 60 * i, 0, hour) for i in range(1, 6) for feed in (1, 0)]
-    yield of("two words of one moment", three, both, "page: two leap seconds at one moment")
-    two = [verdict(0, 60 * i, 0, hour) for i in range(1, 6)] + [verdict(1, 60, 0, hour - 40000)]
-    yield of("two words, the other feed's sooner", three, two, "page: until by a leap second")
-    foreign = [*good, verdict(1, 305, 7, 0), Entry(3, 5, "notice", (hour,))]
-    yield of(
-        "a notice dated by another feed", ["dcf", "msf", "server", "leap"], foreign, "page: until by a leap second"
-    )
-    yield of(
-        "a server's verdict is its word",
-        ["dcf", "server"],
-        [*good, verdict(1, 300, 0, hour)],
-        "page: until by a leap second",
-    )
-    yield of(
-        "a radio's notice is its word",
-        DCF,
-        [*good, Entry(0, 300 * 10**6, "notice", (hour,))],
-        "page: until by a leap second",
-    )
-    falls = [*good, verdict(1, 10, 0, BEGAN + 200), verdict(0, 360)]
-    yield of(
-        "a leap second whose moment lies among samples", three, falls, "page: a sample from before a leap second"
-    )
-    exact = [verdict(0, 60 * i) for i in range(1, 10)] + [verdict(1, 10, 0, BEGAN + 300)]
-    yield of("a sample at the leap second itself is held", three, exact)
-
-
 def all_of() -> Iterator[Case]:
-    groups: Sequence = (held_samples, rates, distances, bounds, selections, clusters, leaps)
+    groups: Sequence = (held_samples, foreign, rates, distances, bounds)
     for group in groups:
         yield from group()

@@ -9,6 +9,9 @@ from .scripts import ANCHOR, QUERY, answer, exchange, exchanges_of, minutes, of,
 DCF = station(["dcf"])
 # How long a page of five minutes of DCF77 is good is in the page that docs/PAGE.md works out.
 UNTIL = ANCHOR + 4062906902
+SECOND = 10**6
+START = ANCHOR + SECOND
+GAP = "gap = 2000000\n"
 FIVE = pulses(0, minutes("dcf", 5))
 
 
@@ -88,66 +91,47 @@ def leaps() -> Iterator[Case]:
     )
 
 
-def gates() -> Iterator[Case]:
-    def judged(name: str, keys: str, *asked: tuple[int, int], meant: str | None = None) -> Case:
-        lines = [request(link=link, arrived=at, sent=at) for link, at in asked]
-        return of(name, keys.encode() + DCF, FIVE + lines, meant)
+def judged(name: str, keys: str, asked: list[tuple[int, int]], meant: str | None = None, tables: str = "") -> Case:
+    """Requests of clients by their links, at moments after the page of five minutes."""
+    toml = keys.encode() + DCF + tables.encode()
+    lines = [request(link=link, arrived=START + after, sent=START + after) for link, after in asked]
+    return of(name, toml, FIVE + lines, meant)
 
-    second = 10**6
-    start = ANCHOR + second
-    gap = "gap = 2000000\n"
+
+def gaps() -> Iterator[Case]:
     for after in (0, 1, 1999999, 2000000, 2000001):
-        yield judged(
-            f"a request {after} after another",
-            gap,
-            (0, start),
-            (0, start + after),
-            meant="reply: RATE" if after < 2000000 else None,
-        )
-    several = [(0, start + second * i) for i in (0, 1, 2, 3, 4, 4, 5, 6)]
-    yield judged("asking within the gap doesn't prolong it", gap, *several, meant="reply: RATE")
-    yield judged("an earlier arrival", gap, (0, start), (0, start - 10 * second), (0, start + 2 * second))
-    yield judged(
-        "each link is another client",
-        gap,
-        *((link, start + link) for link in range(8)),
-        *((link, start + second) for link in range(8)),
-    )
-    for clients in (1, 2, 3, 7, 8):
-        turns = [(link, start + 1000 * turn + link) for turn in range(3) for link in (0, 1, 2, 0, 3, 4, 5, 6, 7, 1)]
-        meant = "gate: a client is forgotten" if clients < 8 else "reply: RATE"
-        yield judged(f"a table of {clients} clients", gap + f"clients = {clients}\n", *turns, meant=meant)
-    fresh = [(0, start), (1, start + 1), (0, start + 2), (2, start + 3), (0, start + 4), (1, start + 5)]
-    yield judged(
-        "a client that asks too often comes to the first place",
-        gap + "clients = 2\n",
-        *fresh,
-        meant="gate: a client is forgotten",
-    )
-    yield judged(
-        "a gap of a minute",
-        "gap = 60000000\n",
-        (0, start),
-        (0, start + 59999999),
-        (0, start + 60000000),
-        meant="reply: RATE",
-    )
-    yield judged("no gap", "clients = 1\n", *several)
+        meant = "reply: RATE" if after < 2000000 else None
+        yield judged(f"a request {after} after another", GAP, [(0, 0), (0, after)], meant)
+    several = [(0, SECOND * i) for i in (0, 1, 2, 3, 4, 4, 5, 6)]
+    yield judged("asking within the gap doesn't prolong it", GAP, several, "reply: RATE")
+    yield judged("an earlier arrival", GAP, [(0, 10 * SECOND), (0, 0), (0, 12 * SECOND)], "reply: RATE")
+    each = [(link, link + SECOND * turn) for turn in range(2) for link in range(8)]
+    yield judged("each link is another client", GAP, each, "reply: RATE")
+    minute = [(0, 0), (0, 59999999), (0, 60000000)]
+    yield judged("a gap of a minute", "gap = 60000000\n", minute, "reply: RATE")
+    yield judged("no gap", "clients = 1\n", several)
+    lines = [request(b"\x2b" + QUERY[1:]), request(), request(QUERY[:47]), request()]
+    yield of("what is dropped is not judged", GAP.encode() + DCF, FIVE + lines, "reply: RATE")
+
+
+def clients() -> Iterator[Case]:
+    for count in (1, 2, 3, 7, 8):
+        turns = [(link, 1000 * turn + link) for turn in range(3) for link in (0, 1, 2, 0, 3, 4, 5, 6, 7, 1)]
+        meant = "gate: a client is forgotten" if count < 8 else "reply: RATE"
+        yield judged(f"a table of {count} clients", f"{GAP}clients = {count}\n", turns, meant)
+    fresh = [(0, 0), (1, 1), (0, 2), (2, 3), (0, 4), (1, 5)]
+    name = "a client that asks too often comes to the first place"
+    yield judged(name, GAP + "clients = 2\n", fresh, "gate: a client is forgotten")
+
+
+def nets() -> Iterator[Case]:
+    asked = [(link, link) for link in range(8)] * 2
     for net in (
         "127.0.0.2/32", "127.0.0.0/31", "127.0.0.7/30", "127.0.0.8/29", "0.0.0.0/0", "128.0.0.0/1", "1.2.3.4/1",
-        "127.0.0.9/32", "126.0.0.0/8", "127.255.0.0/9",
+        "127.0.0.9/32", "126.0.0.0/8", "127.255.0.0/9", "126.255.255.255/7",
     ):
-        asked = [(link, start + link) for link in range(8)]
-        yield judged(f"the net {net} is denied", gap, *asked, meant=None)._replace(**_denied(net, asked, gap))
-    lines = [request(b"\x2b" + QUERY[1:]), request(), request(QUERY[:47]), request()]
-    yield of("what is dropped is not judged", gap.encode() + DCF, FIVE + lines, "reply: RATE")
-
-
-def _denied(net: str, asked: list[tuple[int, int]], keys: str) -> dict:
-    toml = keys.encode() + DCF + f'[[deny]]\nnet = "192.0.2.7/32"\n[[deny]]\nnet = "{net}"\n'.encode()
-    lines = [request(link=link, arrived=at, sent=at) for link, at in asked * 2]
-    case = of(net, toml, FIVE + lines)
-    return {"files": case.files, "due": case.due}
+        tables = f'[[deny]]\nnet = "192.0.2.7/32"\n[[deny]]\nnet = "{net}"\n'
+        yield judged(f"the net {net} is denied", GAP, asked, None, tables)
 
 
 def keys() -> Iterator[Case]:
@@ -209,5 +193,5 @@ def mingled() -> Iterator[Case]:
 
 
 def all_of() -> Iterator[Case]:
-    for group in (drops, answers, leaps, gates, keys, mingled):
+    for group in (drops, answers, leaps, gaps, clients, nets, keys, mingled):
         yield from group()

@@ -33,35 +33,44 @@ def row(second: int | str, difference: int | str, rest: str = "\n") -> bytes:
 LIST = row(FIRST, 35) + row(SECOND, 36) + row(THIRD, 37)
 
 
-def lists() -> Iterator[Case]:
+LINES = (
+    "", " ", "\t \t", "#", "# 1 2", "#$\t5", "#@\t5", "#h 1 2", "\r", " \r", "#\r\r", "\r\r", " #", "x", "1",
+    "1 ", "1 1", "-1 1", "0 1", f"{THIRD}", f"{THIRD} ",
+    f"{THIRD}  \t 37 \t", f"{THIRD} 37\r", f"{THIRD} 37 \r", f"{THIRD} 37\r\r", f"{THIRD} 37 #",
+    f"{THIRD} 37\t# x \x01", f"{THIRD} 37#", f"{THIRD} 37 x", f"{THIRD} 37 37",
+    f" {THIRD} 37", f"{THIRD},37", f"{THIRD} 037", f"{THIRD} 0037", f"{THIRD} 37.0", f"{THIRD} +37",
+    f"0{THIRD} 37", f"+{THIRD} 37", f"{THIRD} 36", f"{THIRD} 38", f"{THIRD} 35",
+    f"{THIRD} 0", f"{SECOND} 37", f"{SECOND - 86400} 37", f"{FIRST} 37", f"{THIRD + 1} 37", f"{THIRD - 1} 37",
+    f"{THIRD + 86400} 37", f"{THIRD + 60} 37", f"{PAST_SECOND} 37",
+    f"{dates.second_of(2100, 1, 1)} 37", f"{dates.second_of(2099, 12, 1)} 37",
+    f"{dates.second_of(2100, 2, 1)} 37", "9999999999 37", "10000000000 37", f"{THIRD} 37 " + "#" + "x" * 5000,
+)
+FIRST_ROWS = (
+    "0 0", "0 255", "0 256", f"{dates.second_of(1972, 1, 1)} 10", "2592000 5", "2678400 5", "5097600 5",
+    "5011200 5", "0000000000 000", "00000000000 0", "0 1000", "0 999",
+)
+
+
+def rows() -> Iterator[Case]:
+    """Each form of a line, in the middle and at the end of a list, and at its beginning."""
     yield of_list("a list of three rows", LIST, "leap list: rows")
     yield of_list("an empty list", b"", "leap list: no row")
-    for line in (
-        "", " ", "\t \t", "#", "# 1 2", "#$\t5", "#@\t5", "#h 1 2", "\r", " \r", "#\r\r", "\r\r", " #", "x", "1",
-        "1 ", "1 1", "-1 1", "0 1", f"{THIRD}", f"{THIRD} ",
-        f"{THIRD}  \t 37 \t", f"{THIRD} 37\r", f"{THIRD} 37 \r", f"{THIRD} 37\r\r", f"{THIRD} 37 #",
-        f"{THIRD} 37\t# x \x01", f"{THIRD} 37#", f"{THIRD} 37 x", f"{THIRD} 37 37",
-        f" {THIRD} 37", f"{THIRD},37", f"{THIRD} 037", f"{THIRD} 0037", f"{THIRD} 37.0", f"{THIRD} +37",
-        f"0{THIRD} 37", f"+{THIRD} 37", f"{THIRD} 36", f"{THIRD} 38", f"{THIRD} 35",
-        f"{THIRD} 0", f"{SECOND} 37", f"{SECOND - 86400} 37", f"{FIRST} 37", f"{THIRD + 1} 37", f"{THIRD - 1} 37",
-        f"{THIRD + 86400} 37", f"{THIRD + 60} 37", f"{PAST_SECOND} 37",
-        f"{dates.second_of(2100, 1, 1)} 37", f"{dates.second_of(2099, 12, 1)} 37",
-        f"{dates.second_of(2100, 2, 1)} 37", "9999999999 37", "10000000000 37", f"{THIRD} 37 " + "#" + "x" * 5000,
-    ):
+    for line in LINES:
         yield of_list(
             f"the line {line[:40]!r}",
             row(FIRST, 35) + row(SECOND, 36) + line.encode("latin-1") + b"\n" + row(dates.second_of(2018, 1, 1), 38),
         )
         yield of_list(f"the last line {line[:40]!r}", row(FIRST, 35) + row(SECOND, 36) + line.encode("latin-1"))
-    for line in (
-        "0 0", "0 255", "0 256", f"{dates.second_of(1972, 1, 1)} 10", "2592000 5", "2678400 5", "5097600 5",
-        "5011200 5", "0000000000 000", "00000000000 0", "0 1000", "0 999",
-    ):
+    for line in FIRST_ROWS:
         yield of_list(f"the first row {line}", f"{line}\n".encode() + row(FIRST, 6) + row(SECOND, 7), None)
     for last in (254, 255, 256):
         yield of_list(
             f"a difference of {last}", row(FIRST, 254) + row(SECOND, 255) + (row(THIRD, 256) if last == 256 else b"")
         )
+
+
+def sizes() -> Iterator[Case]:
+    """Lists by the limits of bytes and of entries."""
     for size in (MOST_BYTES - 1, MOST_BYTES, MOST_BYTES + 1, MOST_BYTES + 5000):
         meant = "status 10" if size > MOST_BYTES else "leap list: rows"
         yield of_list(f"a list of {size} bytes", LIST + b"#" * (size - len(LIST) - 1) + b"\n", meant)
@@ -148,5 +157,6 @@ def drill_case(seed: int) -> Case:
 
 
 def all_of() -> Iterator[Case]:
-    yield from lists()
+    yield from rows()
+    yield from sizes()
     yield from logs()
