@@ -1,7 +1,7 @@
 #!/usr/bin/env python3
-"""Compares the program with a model of what it computes, checks/model, which is written from the pages of docs/ and shares no code with it.
-Each case is a run over files that are meant for a rule, a bound or an outcome, or that a seed makes; the whole text and the exit status
-have to be the model's. RADIO_NTPD names another program.
+"""Compares the program with a model of what it computes, checks/model, which is written from the pages of docs/ and
+shares no code with it. Each case is a run over files that are meant for a rule, a bound or an outcome, or that a seed
+makes; the whole text and the exit status have to be the model's. RADIO_NTPD names another program.
 
     model.py [CASES [SEED]]             all cases that are meant for something, and so many drawn ones
     model.py --one KIND NUMBER [SEED]   one of them: writes its files, its command and both texts into a folder
@@ -61,9 +61,8 @@ def report(outcome: Outcome, seed: int, took: float, show: bool) -> int:
         for name in sorted(outcome.met):
             print(f"{outcome.met[name]:8} {name}")
     met = len(listed.LISTED & set(outcome.met))
-    print(
-        f"model: {outcome.cases} cases, seed {seed}, in {took:.0f} s: {len(wrong)} wrong; {met} of {len(listed.LISTED)} rules, refusals and outcomes met"
-    )
+    listed_met = f"{met} of {len(listed.LISTED)} rules, refusals and outcomes met"
+    print(f"model: {outcome.cases} cases, seed {seed}, in {took:.0f} s: {len(wrong)} wrong; {listed_met}")
     return int(bool(wrong))
 
 

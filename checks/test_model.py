@@ -1,7 +1,8 @@
 #!/usr/bin/env python3
-"""Tests of the model: on the examples that docs/ works out, on minutes that another maker spells, and on programs that are wrong.
+"""Tests of the model: on the examples that docs/ works out, on minutes that another maker spells, and on programs
+that are wrong.
 
-    checks/test_model.py
+checks/test_model.py
 """
 
 import pathlib
@@ -15,7 +16,8 @@ sys.path[:0] = [str(TOP / "checks"), str(TOP / "bench")]
 
 import made_log
 import page_model
-from model import clients, commands, dates, exchanges, leap_list, listed, notes, page, receiver, replies, run, spelling, station, units
+from model import clients, commands, dates, exchanges, leap_list, listed, notes, page, receiver, replies, run
+from model import spelling, station, units
 from model.cases import decode_directed, drawn, journals, kinds, scripts
 from model.cases.case import Case
 from model.entries import Entry

@@ -1,4 +1,6 @@
-"""The gate of clients: denied nets, and the least gap between two requests of one client (docs/PROTOCOL.md, "Kiss codes")."""
+"""The gate of clients: denied nets, and the least gap between two requests of one client (docs/PROTOCOL.md, "Kiss
+codes").
+"""
 
 import ipaddress
 from typing import Sequence
@@ -9,7 +11,9 @@ PASS, DENY, RATE = "", "DENY", "RATE"
 
 
 class Gate:
-    """A gate: the denied nets, the gap in microseconds, and a table of the clients that it remembers, the latest used first."""
+    """A gate: the denied nets, the gap in microseconds, and a table of the clients that it remembers, the latest used
+    first.
+    """
 
     def __init__(self, nets: Sequence[str], gap: int, clients: int):
         self.nets = [ipaddress.ip_network(net, strict=False) for net in nets]

@@ -92,7 +92,9 @@ def _entry_of(station: Station, line: str, is_numbered: bool, number: int) -> En
 
 
 def serve(station: bytes, files: dict[str, bytes], limit: int, text: str) -> Ended:
-    """What `serve` writes of a station without servers and links, where the feeds' entries are mingled as in a text that it wrote."""
+    """What `serve` writes of a station without servers and links, where the feeds' entries are mingled as in a text
+    that it wrote.
+    """
     read = stations.read(station)
     assert isinstance(read, Station), read
     due, faults = [], []

@@ -1,4 +1,6 @@
-"""Requests to a server, and which answers are taken (docs/PROTOCOL.md, "How a server is asked"; RFC 5905 section 8 and appendix A)."""
+"""Requests to a server, and which answers are taken (docs/PROTOCOL.md, "How a server is asked"; RFC 5905 section 8
+and appendix A).
+"""
 
 from typing import NamedTuple
 

@@ -8,7 +8,9 @@ Bits = list[int]
 
 
 class Coded(NamedTuple):
-    """What a frame says: the second that begins at its closing mark, where an announced leap second ends (or 0), summer time."""
+    """What a frame says: the second that begins at its closing mark, where an announced leap second ends (or 0),
+    summer time.
+    """
 
     minute: int
     leap_at: int = 0

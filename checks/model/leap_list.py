@@ -13,8 +13,8 @@ MOST_BYTES = 65536
 
 
 def notices(data: bytes) -> tuple[list[int], int | None]:
-    """The seconds of the rows after the first one, and the number of the first bad line. A last line without its line feed counts only
-    where the file's end was read.
+    """The seconds of the rows after the first one, and the number of the first bad line. A last line without its line
+    feed counts only where the file's end was read.
     """
     *lines, last = data[:MOST_BYTES].split(b"\n")
     if last and len(data) <= MOST_BYTES:

@@ -1,4 +1,5 @@
-"""What the cases have to meet: each rule, each refusal, each outcome, by the names with which the modules note them."""
+"""What the cases have to meet: each rule, each refusal, each outcome, by the names with which the modules note them.
+"""
 
 from .receiver import PLANS
 
@@ -81,7 +82,8 @@ LISTED = frozenset(
         *(f"answer: refused by {code}" for code in range(1, 11)),
         *(f"answer: {name}" for name in ("a delay below the precision", "a time of the second era")),
         *(f"answer: a precision {name} the range" for name in ("below", "above")),
-        *(f"wire: {name}" for name in ("a round of eight hearings", "a round that silence ends", "a sealed reply", "a kiss code", "a reply")),
+        *(f"wire: a round {name}" for name in ("of eight hearings", "that silence ends")),
+        *(f"wire: {name}" for name in ("a sealed reply", "a kiss code", "a reply")),
         *(f"script: {name}" for name in ("swap", "an entry is lost", "bad line", "no line feed at the end")),
         *(f"log: {name}" for name in ("bad line", "no line feed at the end")),
         *(f"journal: {name}" for name in ("version 1", "version 2", "bad line", "another rate")),

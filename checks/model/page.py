@@ -1,4 +1,6 @@
-"""The page of a journal (docs/PAGE.md): samples, leap seconds, held samples, and the fields that selection and combining give."""
+"""The page of a journal (docs/PAGE.md): samples, leap seconds, held samples, and the fields that selection and
+combining give.
+"""
 
 from typing import NamedTuple, Sequence
 
@@ -32,14 +34,15 @@ class Page(NamedTuple):
 
     def line(self) -> str:
         return (
-            f"page {self.length} {int(self.sync)} {self.stratum} {self.refid:08x} {self.offset} {self.anchor} {self.until} "
-            f"{self.root_delay} {self.root_dispersion} {self.reference:016x} {self.leap_at} {self.rate}"
+            f"page {self.length} {int(self.sync)} {self.stratum} {self.refid:08x} {self.offset} {self.anchor} "
+            f"{self.until} {self.root_delay} {self.root_dispersion} {self.reference:016x} {self.leap_at} {self.rate}"
         )
 
 
 class Journal:
-    """A journal of feeds of these kinds (a plan, "server" or "leap") under a bound in milliseconds. What it keeps beside the list is said
-    of the whole list: each feed's samples in order, its last verdict or notice, the last verdict of all, `now` and `cut`.
+    """A journal of feeds of these kinds (a plan, "server" or "leap") under a bound in milliseconds. What it keeps
+    beside the list is said of the whole list: each feed's samples in order, its last verdict or notice, the last
+    verdict of all, `now` and `cut`.
     """
 
     def __init__(self, kinds: Sequence[str], bound: int):

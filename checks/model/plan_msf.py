@@ -1,4 +1,6 @@
-"""MSF's amplitude code as NPL publishes it (docs/CODE_PLANS.md). Bit A of place k stands at k among the bits, bit B at B + k."""
+"""MSF's amplitude code as NPL publishes it (docs/CODE_PLANS.md). Bit A of place k stands at k among the bits, bit B
+at B + k.
+"""
 
 from . import dates
 from .fields import Bits, Coded, Field, Rule, has_bad_spacing, has_odd_width, ones

@@ -1,4 +1,6 @@
-"""What a receiver answers for a list of reductions: each segment judged by itself and the one just before it (docs/CODE_PLANS.md)."""
+"""What a receiver answers for a list of reductions: each segment judged by itself and the one just before it
+(docs/CODE_PLANS.md).
+"""
 
 from types import ModuleType
 from typing import NamedTuple, Sequence
@@ -14,7 +16,9 @@ MINUTE, LONG_MINUTE, SLACK = 60_000_000, 61_000_000, 100_000
 
 
 class Answer(NamedTuple):
-    """An answer: the place of the reduction with which it is known, the start of the closing mark, its keyword and numbers."""
+    """An answer: the place of the reduction with which it is known, the start of the closing mark, its keyword and
+    numbers.
+    """
 
     known: int
     close: int
@@ -53,8 +57,8 @@ def _answer(plan: str, before, here) -> Answer:
     follows = abs(apart - MINUTE) <= SLACK or is_long and abs(apart - LONG_MINUTE) <= SLACK
     if now.minute == then.minute + 60 and follows:
         leap_at = now.leap_at if now.leap_at == then.leap_at else 0
-        leap = "a leap second" if leap_at else "of two leap seconds" if now.leap_at != then.leap_at else "no leap second"
-        met(f"{plan}: verdict, {leap}")
+        agreed = "a leap second" if leap_at else "no leap second"
+        met(f"{plan}: verdict, {agreed if now.leap_at == then.leap_at else 'of two leap seconds'}")
         return Answer(close.known, close.at, "verdict", (now.minute, leap_at))
     met(f"{plan}: differs, {'by its minute' if follows else 'by the counter'}")
     return Answer(close.known, close.at, "differs", (then.minute, now.minute, apart))

@@ -1,4 +1,6 @@
-"""The reply to a datagram of a client (docs/PROTOCOL.md, "The answer", "Kiss codes" and "Keys"; RFC 5905, appendix A, fast_xmit)."""
+"""The reply to a datagram of a client (docs/PROTOCOL.md, "The answer", "Kiss codes" and "Keys"; RFC 5905, appendix A,
+fast_xmit).
+"""
 
 import hashlib
 

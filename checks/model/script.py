@@ -1,4 +1,6 @@
-"""What `replay` writes of a script (docs/FORMATS.md, "Replay script"). Which lines are valid is judged by checks/grammar.py."""
+"""What `replay` writes of a script (docs/FORMATS.md, "Replay script"). Which lines are valid is judged by
+checks/grammar.py.
+"""
 
 from typing import Iterator
 
@@ -15,7 +17,8 @@ FIRST_CLIENT = 0x7F000001
 
 
 def _due(station: Station, lines: list[list[str]]) -> dict[int, Entry]:
-    """The entry of each line at which a radio's receiver answers. A swap puts a blank receiver in the radio's place."""
+    """The entry of each line at which a radio's receiver answers. A swap puts a blank receiver in the radio's place.
+    """
     found: dict[int, Entry] = {}
     for feed, radio in enumerate(station.radios):
         heard: list[tuple[int, Reduction]] = []

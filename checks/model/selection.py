@@ -1,4 +1,6 @@
-"""Selection, clustering and combining (docs/PAGE.md sections 6 to 8; RFC 5905 sections 11.2.1 to 11.2.3 in this project's profile)."""
+"""Selection, clustering and combining (docs/PAGE.md sections 6 to 8; RFC 5905 sections 11.2.1 to 11.2.3 in this
+project's profile).
+"""
 
 from typing import Sequence
 

@@ -1,4 +1,6 @@
-"""Minutes as reductions: how a coded minute is sent, and the logs that `drill` makes (docs/FORMATS.md, "The made log")."""
+"""Minutes as reductions: how a coded minute is sent, and the logs that `drill` makes (docs/FORMATS.md, "The made
+log").
+"""
 
 from typing import Iterator, NamedTuple, Sequence
 
@@ -32,8 +34,8 @@ def parts_of(plan: str, symbol: Symbol) -> tuple[tuple[int, int], ...]:
 
 
 class Tape:
-    """Minutes as they are sent, with what has to come before the first and after the last. `begins` has the place of the first mark of
-    each minute and of the mark that closes the last.
+    """Minutes as they are sent, with what has to come before the first and after the last. `begins` has the place of
+    the first mark of each minute and of the mark that closes the last.
     """
 
     def __init__(self, plan: str, minutes: Sequence[Sequence[Symbol]], start: int = 2 * SECOND):
@@ -79,7 +81,9 @@ class Tape:
                 yield beat.at + after, width
 
     def log(self) -> bytes:
-        """The tape as a log; a reduction that would start at or before the one before it is left out, as a receiver's log has none."""
+        """The tape as a log; a reduction that would start at or before the one before it is left out, as a receiver's
+        log has none.
+        """
         lines, last = [], -1
         for at, width in self.reductions():
             if at > last:

@@ -1,4 +1,6 @@
-"""Units and their roundings (docs/PROTOCOL.md, "Units"; RFC 5905 section 6). A span counts 2^-32 s, a moment microseconds."""
+"""Units and their roundings (docs/PROTOCOL.md, "Units"; RFC 5905 section 6). A span counts 2^-32 s, a moment
+microseconds.
+"""
 
 SECOND = 2**32
 MICROSECONDS = 10**6

@@ -9,9 +9,9 @@ Files = dict[str, bytes]
 
 
 class Case(NamedTuple):
-    """A run of the program in a folder that has these files. `due` gives the text and the status that it must have, from the text that it
-    wrote: the feeds of `serve` may be mingled in any way. `meant` names something that the case has to meet. `beside` is entered before
-    the run, and gives more files.
+    """A run of the program in a folder that has these files. `due` gives the text and the status that it must have,
+    from the text that it wrote: the feeds of `serve` may be mingled in any way. `meant` names something that the case
+    has to meet. `beside` is entered before the run, and gives more files.
     """
 
     name: str

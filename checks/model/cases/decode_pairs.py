@@ -1,4 +1,6 @@
-"""Logs for `decode` that are each meant for something of two minutes: pairs, leap seconds, calendars; and lines of logs."""
+"""Logs for `decode` that are each meant for something of two minutes: pairs, leap seconds, calendars; and lines of
+logs.
+"""
 
 from typing import Callable, Iterator
 

@@ -1,4 +1,6 @@
-"""Scripts that a seed makes: radios' minutes, exchanges, leap seconds and requests in order of time, with odd lines here and there."""
+"""Scripts that a seed makes: radios' minutes, exchanges, leap seconds and requests in order of time, with odd lines
+here and there.
+"""
 
 import random
 
@@ -21,9 +23,8 @@ def toml(draw: random.Random, kinds: list[str]) -> bytes:
         top.append(f"gap = {draw.choice((1, 1000000, 20000000, 60000000))}\n")
     if draw.random() < 0.5:
         top.append(f"clients = {draw.choice((1, 2, 3, 5))}\n")
-    tables = [
-        f'[[key]]\nid = {number}\nsecret = "{secret.decode()}"\n' for number, secret in KEYS.items() if draw.random() < 0.5
-    ]
+    rows = [f'[[key]]\nid = {number}\nsecret = "{secret.decode()}"\n' for number, secret in KEYS.items()]
+    tables = [row for row in rows if draw.random() < 0.5]
     if draw.random() < 0.3:
         tables.append(f'[[deny]]\nnet = "127.0.0.{draw.randrange(10)}/{draw.choice((28, 29, 30, 31, 32))}"\n')
     bound = draw.choice((1000, 1000, 1000, 500, 50, 16000))

@@ -13,7 +13,9 @@ from .drawn_scripts import replay_case
 
 
 class Kind(NamedTuple):
-    """A kind: its cases that are meant for something, how others are drawn, and how many of each hundred cases are of it."""
+    """A kind: its cases that are meant for something, how others are drawn, and how many of each hundred cases are of
+    it.
+    """
 
     directed: Callable[[], list[Case]]
     draw: Callable[[random.Random], Case] | None

@@ -1,4 +1,6 @@
-"""Journals for `migrate` that are each meant for something of leap seconds: words, moments, the cut, and what is armed."""
+"""Journals for `migrate` that are each meant for something of leap seconds: words, moments, the cut, and what is
+armed.
+"""
 
 from typing import Iterator
 

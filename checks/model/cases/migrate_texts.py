@@ -10,7 +10,7 @@ KINDS = ["dcf", "server", "leap"]
 FIRST, PAST = 3155587200, 6311606400
 GOOD = b"0 60000000 lone 3976257660\n"
 
-# Lines of version 1: each number at its bounds and past them, each field missing and doubled, each spelling that is none.
+# Lines of version 1, with each number at its bounds and past them.
 NUMBERS = [
     ("{} 5 lone 7", (0, 1, 2, 3, 4294967295, 4294967296)),
     ("0 {} lone 7", (0, 2**50 - 1, 2**50, 2**64)),
@@ -31,6 +31,7 @@ NUMBERS = [
     ("1 5 sample 1 2 3 4 0a000001 {} 7", (0, 2**32 - 1, 2**32)),
     ("1 5 sample 1 2 3 4 0a000001 6 {}", (0, 2**32 - 1, 2**32)),
 ]
+# Fields that are missing or too many, and spellings that are none.
 SPELLINGS = [
     "", " ", "0", "0 5", "0 5 lone", "0 5 lone ", "0 5 lone 7 ", " 0 5 lone 7", "0  5 lone 7", "00 5 lone 7",
     "0 05 lone 7", "0 5 lone 07", "0 5 lone +7",

@@ -1,4 +1,6 @@
-"""Station files for `replay` with a script of one request: each key at its bounds, each fault, and of two faults the first."""
+"""Station files for `replay` with a script of one request: each key at its bounds, each fault, and of two faults the
+first.
+"""
 
 from typing import Iterator
 

@@ -1,4 +1,6 @@
-"""Stations for `serve` with servers and clients on sockets of 127.0.0.1: moments are taken from what went over the wire."""
+"""Stations for `serve` with servers and clients on sockets of 127.0.0.1: moments are taken from what went over the
+wire.
+"""
 
 import contextlib
 import itertools
@@ -116,7 +118,9 @@ def polled() -> Iterator[Case]:
 
 
 class Client:
-    """A client of a link: sends its datagrams one by one, each after the reply to the one before. The first one has a reply."""
+    """A client of a link: sends its datagrams one by one, each after the reply to the one before. The first one has a
+    reply.
+    """
 
     def __init__(self, top: str, tables: str, datagrams: Sequence[bytes]):
         self.top, self.tables, self.datagrams = top, tables, datagrams
@@ -173,8 +177,8 @@ class Client:
 def _judged(
     station: stations.Station, page: Page, gate: Gate, datagram: bytes, got: bytes | None
 ) -> tuple[str, str | None]:
-    """The code of a request, and what is wrong with its reply: its moments are read from it, and it is made again from them. The page's
-    rate is 0.
+    """The code of a request, and what is wrong with its reply: its moments are read from it, and it is made again
+    from them. The page's rate is 0.
     """
     header = read(got or b"")
     stamps = (header.receive, header.transmit) if header else (page.offset, page.offset)
@@ -182,7 +186,9 @@ def _judged(
     code = gate.judge(CLIENT, arrived)
     due = replies.reply(code, page, station.keys, datagram, arrived, sent)
     met("wire: a kiss code" if code else "wire: a sealed reply" if len(due) > LENGTH else "wire: a reply")
-    return code, None if got == due and arrived <= sent else f"the reply is {got.hex() if got else None}, not {due.hex()}"
+    if got == due and arrived <= sent:
+        return code, None
+    return code, f"the reply is {got.hex() if got else None}, not {due.hex()}"
 
 
 def _answer(client: socket.socket, datagram: bytes) -> bytes | None:
