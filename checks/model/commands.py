@@ -12,6 +12,7 @@ from .spelling import made_log
 from .station import Station
 
 LIMIT = 1048576
+MOST_OF_STATION = 65536
 
 
 class Ended(NamedTuple):
@@ -42,24 +43,44 @@ def due_log(feed: int, plan: str, delay: int, log: bytes) -> tuple[list[Entry], 
     return [entries.of_answer(feed, delay, answer) for answer in receiver.heard(plan, found)], bad
 
 
-def decode(plan: str, log: bytes) -> Ended:
+def unopened(what: str) -> Ended:
+    """A file that isn't there."""
+    return ended([], f"status 2 open {what}")
+
+
+def decode(plan: str, log: bytes | None) -> Ended:
+    if log is None:
+        return unopened("feed 0")
     found, bad = due_log(0, plan, 0, log)
     return ended([entry.text() for entry in found], f"status 5 line 0 {bad}" if bad else "status 0")
 
 
-def replay(station: bytes, text: bytes, limit: int = LIMIT) -> Ended:
-    read = stations.read(station)
-    if isinstance(read, str):
-        met(f"station: {read.split(' ')[0]}")
-        return ended([], f"status 3 station {read}")
-    return ended(*script.replay(read, text, limit))
+def station_of(text: bytes | None) -> Station | Ended:
+    """The station of a file, or how a command ends that has none."""
+    if text is None:
+        return unopened("station")
+    if len(text) > MOST_OF_STATION:
+        return ended([], "status 10 long station")
+    read = stations.read(text)
+    if isinstance(read, Station):
+        return read
+    met(f"station: {read.split(' ')[0]}")
+    return ended([], f"status 3 station {read}")
 
 
-def migrate(station: bytes, text: bytes) -> Ended:
-    read = stations.read(station)
-    if isinstance(read, str):
-        met(f"station: {read.split(' ')[0]}")
-        return ended([], f"status 3 station {read}")
+def replay(station: bytes | None, text: bytes | None, limit: int = LIMIT) -> Ended:
+    read = station_of(station)
+    if isinstance(read, Ended):
+        return read
+    return unopened("script") if text is None else ended(*script.replay(read, text, limit))
+
+
+def migrate(station: bytes | None, text: bytes | None) -> Ended:
+    read = station_of(station)
+    if isinstance(read, Ended):
+        return read
+    if text is None:
+        return unopened("journal")
     lines, tail = grammar.cut(text)
     is_numbered = text.startswith(b"j2")
     met(f"journal: version {1 + is_numbered}")
@@ -91,12 +112,17 @@ def _entry_of(station: Station, line: str, is_numbered: bool, number: int) -> En
     return found[2] if found and found[0] == number else None
 
 
-def serve(station: bytes, files: dict[str, bytes], limit: int, text: str) -> Ended:
+def serve(station: bytes | None, files: dict[str, bytes], limit: int, text: str) -> Ended:
     """What `serve` writes of a station without servers and links, where the feeds' entries are mingled as in a text
     that it wrote.
     """
-    read = stations.read(station)
-    assert isinstance(read, Station), read
+    read = station_of(station)
+    if isinstance(read, Ended):
+        return read
+    names = [radio.log for radio in read.radios] + ([] if read.leap_file is None else [read.leap_file])
+    for feed, name in enumerate(names):
+        if name not in files:
+            return unopened(f"feed {feed}")
     due, faults = [], []
     for feed, radio in enumerate(read.radios):
         found, bad = due_log(feed, radio.plan, radio.delay, files[radio.log])

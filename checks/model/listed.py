@@ -89,6 +89,6 @@ LISTED = frozenset(
         *(f"journal: {name}" for name in ("version 1", "version 2", "bad line", "another rate")),
         *(f"leap list: {name}" for name in _LEAP_LIST),
         *(f"station: {name}" for name in ("toml", "unknown", "missing", "range", "many")),
-        *(f"status {number}" for number in (0, 3, 5, 6, 10)),
+        *(f"status {number}" for number in (0, 1, 2, 3, 5, 6, 10)),
     ]
 )

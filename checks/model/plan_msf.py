@@ -4,7 +4,7 @@ at B + k.
 
 from . import dates
 from .fields import Bits, Coded, Field, Rule, has_bad_spacing, has_odd_width, ones
-from .marks import Segment, Symbol
+from .marks import Symbol
 
 B = 100
 LENGTHS = (60,)

@@ -5,7 +5,7 @@ import random
 from types import ModuleType
 from typing import Callable, NamedTuple
 
-from . import decode_directed, decode_pairs, migrate_choices, migrate_leaps, migrate_pages, migrate_texts
+from . import decode_directed, decode_pairs, lines, migrate_choices, migrate_leaps, migrate_pages, migrate_texts
 from . import replay_exchanges, replay_requests, replay_scripts, served, stations, wire
 from .case import Case
 from .drawn import decode_case, migrate_case
@@ -36,7 +36,8 @@ def _drill(draw: random.Random) -> Case:
 
 
 KINDS = {
-    "decode": Kind(_decode, decode_case, 40),
+    "lines": Kind(_of(lines), lines.line_case, 5),
+    "decode": Kind(_decode, decode_case, 35),
     "migrate": Kind(_of(migrate_pages, migrate_choices, migrate_leaps, migrate_texts), migrate_case, 30),
     "replay": Kind(_of(replay_requests, replay_exchanges, replay_scripts), replay_case, 20),
     "station": Kind(_of(stations), None, 0),

@@ -176,6 +176,12 @@ def faults() -> Iterator[Case]:
         yield of_text(f"{text!r}, which is no TOML", text, "station: toml")
     yield of("a station of bytes that are not UTF-8", b'leap_file = "\xe9"\n', [request()], "station: toml")
     yield of_text("nothing", "", "status 0")
+    for size in (65535, 65536, 65537, 70000):
+        meant = "status 10" if size > 65536 else "status 0"
+        yield of_text(f"{size} bytes", "#" * size, meant)
+        yield of_text(
+            f"{size} bytes, none of them TOML", "x" * size, "status 10" if size > 65536 else "station: toml"
+        )
 
 
 def all_of() -> Iterator[Case]:
