@@ -30,6 +30,8 @@ from build_lanes import cache_of, make_lanes, shares_libraries
 from crate_graph import PROGRAM, chains, count_lines, read_crates
 
 MOST_JOBS = 4
+# What the crate that begins the longest chain gets at least, also where that is more than the processors: all others wait for it in the end.
+CHAIN_JOBS = 3
 NO_TOOLCHAIN, FAILED, STOPPED = 69, 70, 130
 
 
@@ -61,19 +63,21 @@ class Build:
         ]
         return max(ready, key=self.chain.__getitem__, default=None)
 
-    def jobs(self) -> int:
-        """Returns how many jobs the next crate gets: the processors that nothing else uses, shared with what can start beside it."""
+    def jobs(self, name: str) -> int:
+        """Returns how many jobs a crate gets: the processors that nothing else uses, shared with what can start beside it."""
         idle = self.processors - sum(jobs for _, jobs in self.running.values())
         waiting = sum(
             name not in self.done and name not in self.running and all(it in self.done for it in self.crates[name])
             for name in self.crates
         )
         beside = min(waiting, self.lanes - len(self.running))
-        return max(1, min(MOST_JOBS, idle // max(1, beside)))
+        longest = all(self.chain[it] <= self.chain[name] for it in self.crates if it not in self.done)
+        least = min(CHAIN_JOBS, self.processors) if longest else 1
+        return max(least, min(MOST_JOBS, idle // max(1, beside)))
 
     def start(self, name: str, lane: Path) -> subprocess.Popen:
         """Starts the build of a crate in a lane, in a process group of its own; the program's runs in the checkout."""
-        jobs = self.jobs()
+        jobs = self.jobs(name)
         is_program = name == PROGRAM
         words = ["rt", "run" if is_program else "lib", "--jobs", str(jobs)]
         with open(self.logs / f"{name}.log", "wb") as log:

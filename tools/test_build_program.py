@@ -88,6 +88,17 @@ class Builds(unittest.TestCase):
         build.done.add("low")
         self.assertEqual(build.next_crate(), "right")
 
+    def test_the_longest_chain_has_jobs_of_its_own(self):
+        top = self.room / "top"
+        build = build_program.Build(top, self.room, crate_graph.read_crates(top), 4, 4)
+        build.done.add("low")
+        self.assertEqual(build.jobs("right"), 3)
+        self.assertEqual(build.jobs("left"), 2)
+        build.running["left"] = None, 4
+        self.assertEqual(build.jobs("right"), 3)
+        build.processors = 1
+        self.assertEqual(build.jobs("right"), 1)
+
     def test_a_crate_that_is_not_proved_is_named_with_its_last_lines(self):
         done = self.run_build(BROKEN="right")
         self.assertEqual(done.returncode, 70)

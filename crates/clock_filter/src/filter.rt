@@ -37,7 +37,8 @@ impl Model for Filter {
 
     ghost view = { λ f. f.last.items };
 
-    ghost invariant = { λ f. IsKnown f.cut f.last.items f.known × (f.held.items ≡ in_order may_precede (filter (λ x. nat_le f.cut x.at) f.last.items)) };
+    ghost invariant = { λ f. IsKnown f.cut f.last.items f.known ×
+        (f.held.items ≡ in_order may_precede (filter (λ x. nat_le f.cut x.at) f.last.items)) };
 }
 
 // The figures of the last samples of a source from a cut on, where those from it on are in order.
@@ -96,10 +97,12 @@ impl Filter {
     /// The figures of those of the last eight samples that are not from before `cut`, in microseconds of the host's counter.
     /// `None` where there are no such samples.
     pub fn figures(&self, cut: u64) -> Option<Figures>
-        ensures value { (samples : List Taken) → StandsFor self.now samples → result ≡ figures.figures_of (held cut samples) }
+        ensures value { (samples : List Taken) → StandsFor self.now samples →
+            result ≡ figures.figures_of (held cut samples) }
         ensures timely { IfSome result (IsTimely cut) }
         ensures jitter { IfSome result (λ f. f.jitter2 ≤ 2 ^ 80) }
-        ensures measured { (samples : List Taken) → StandsFor self.now samples → AreLawful samples → IfSome result IsMeasured }
+        ensures measured { (samples : List Taken) → StandsFor self.now samples → AreLawful samples →
+            IfSome result IsMeasured }
     {
         let ready = self.ready(cut)?;
         Some(*ready.get())
@@ -107,10 +110,12 @@ impl Filter {
 
     /// The same figures, with the part of their distance that does not age.
     pub fn ready(&self, cut: u64) -> Option<Ready>
-        ensures value { (samples : List Taken) → StandsFor self.now samples → result ≡ figures.figures_of (held cut samples) }
+        ensures value { (samples : List Taken) → StandsFor self.now samples →
+            result ≡ figures.figures_of (held cut samples) }
         ensures timely { IfSome result (IsTimely cut) }
         ensures jitter { IfSome result (λ f. f.jitter2 ≤ 2 ^ 80) }
-        ensures measured { (samples : List Taken) → StandsFor self.now samples → AreLawful samples → IfSome result IsMeasured }
+        ensures measured { (samples : List Taken) → StandsFor self.now samples → AreLawful samples →
+            IfSome result IsMeasured }
     {
         if cut == self.cut {
             self.known

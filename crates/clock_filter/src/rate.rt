@@ -25,7 +25,8 @@ struct Ends<'a> {
 
 // The sooner of two samples; of equal moments the first.
 fn sooner<'a>(first: Option<&'a Taken>, next: &'a Taken) -> Option<&'a Taken>
-    ensures { option_map (λ t. t.now) result ≡ better (λ y x. nat_lt y.at x.at) (option_map (λ t. t.now) first.entry) next.now }
+    ensures { option_map (λ t. t.now) result ≡ better
+        (λ y x. nat_lt y.at x.at) (option_map (λ t. t.now) first.entry) next.now }
 {
     match first {
         None => Some(next),
@@ -41,7 +42,8 @@ fn sooner<'a>(first: Option<&'a Taken>, next: &'a Taken) -> Option<&'a Taken>
 
 // The later of two samples; of equal moments the last.
 fn later<'a>(last: Option<&'a Taken>, next: &'a Taken) -> Option<&'a Taken>
-    ensures { option_map (λ t. t.now) result ≡ better (λ y x. nat_le x.at y.at) (option_map (λ t. t.now) last.entry) next.now }
+    ensures { option_map (λ t. t.now) result ≡ better
+        (λ y x. nat_le x.at y.at) (option_map (λ t. t.now) last.entry) next.now }
 {
     match last {
         None => Some(next),
@@ -57,8 +59,10 @@ fn later<'a>(last: Option<&'a Taken>, next: &'a Taken) -> Option<&'a Taken>
 
 // These ends, with one sample more.
 fn widened<'a>(ends: Ends<'a>, taken: &'a Taken) -> Ends<'a>
-    ensures first { (xs : List Taken) → option_map (λ t. t.now) ends.entry.first ≡ earliest xs → option_map (λ t. t.now) result.first ≡ earliest (xs ++ taken.now ∷ []) }
-    ensures last { (xs : List Taken) → option_map (λ t. t.now) ends.entry.last ≡ latest xs → option_map (λ t. t.now) result.last ≡ latest (xs ++ taken.now ∷ []) }
+    ensures first { (xs : List Taken) → option_map (λ t. t.now) ends.entry.first ≡ earliest xs →
+        option_map (λ t. t.now) result.first ≡ earliest (xs ++ taken.now ∷ []) }
+    ensures last { (xs : List Taken) → option_map (λ t. t.now) ends.entry.last ≡ latest xs →
+        option_map (λ t. t.now) result.last ≡ latest (xs ++ taken.now ∷ []) }
 {
     Ends {
         first: sooner(ends.first, taken),

@@ -24,7 +24,8 @@ fn with_options<'a>(
     command: Command<'a>,
     names: &[&'a str],
 ) -> Result<Command<'a>, AllocError>
-    ensures { IfOk result (λ c. app_of c ≡ fold (λ a w. with_rule a (option_rule w.now)) (app_of command.entry) names.entry.now) }
+    ensures { IfOk result
+        (λ c. app_of c ≡ fold (λ a w. with_rule a (option_rule w.now)) (app_of command.entry) names.entry.now) }
 {
     let mut command = command;
     for name in names {

@@ -17,7 +17,8 @@ pub fn read_words<'a>(alloc: Global, words: &'a [&'a str]) -> Result<Command<'a>
     ensures only { (a : Asked) → AskFor (map (λ w. w.now) words.entry.now) a → IfOk result (λ c. asked c ≡ a) }
 
     // Arguments that `clap` refuses belong to no command.
-    ensures usage { IfErr result (λ e. e ≡ WordsFault.Usage → (a : Asked) → AskFor (map (λ w. w.now) words.entry.now) a → ⊥) }
+    ensures usage { IfErr result (λ e. e ≡ WordsFault.Usage → (a : Asked) →
+        AskFor (map (λ w. w.now) words.entry.now) a → ⊥) }
 {
     let Ok(grammar) = grammar(alloc) else {
         return Err(WordsFault::Memory);

@@ -74,7 +74,8 @@ fn may_have(row: &[&str], name: &str, value: Option<&str>) -> bool
 
 // Whether each of these options may have the value it was given.
 fn may_all_have(matches: &ArgMatches<'_>, row: &[&str], names: &[&str]) -> bool
-    ensures { result ≡ list_all (λ w. may_have (map (λ w. w.now) row.now) w.now (first_of w.now (rows_of (found_of matches.now)))) names.now }
+    ensures { result ≡ list_all
+        (λ w. may_have (map (λ w. w.now) row.now) w.now (first_of w.now (rows_of (found_of matches.now)))) names.now }
 {
     names
         .iter()
@@ -126,8 +127,10 @@ fn seed(given: Option<&str>) -> Option<u32>
 }
 
 fn decode<'a>(matches: &ArgMatches<'a>) -> Option<Command<'a>>
-    ensures asked { IfSome result (λ c. (name_of (asked c) ≡ codes "decode") × Fit (rows_of (found_of matches.now)) (asked c)) }
-    ensures every { (p : Plan) (log : List ℕ) → Fit (rows_of (found_of matches.now)) (decode p log) → option_map asked result ≡ Some (decode p log) }
+    ensures asked { IfSome result
+        (λ c. (name_of (asked c) ≡ codes "decode") × Fit (rows_of (found_of matches.now)) (asked c)) }
+    ensures every { (p : Plan) (log : List ℕ) → Fit (rows_of (found_of matches.now)) (decode p log) →
+        option_map asked result ≡ Some (decode p log) }
     ensures limits { IfSome result HasLimit }
 {
     if !has_only(matches, &DECODE) {
@@ -140,8 +143,10 @@ fn decode<'a>(matches: &ArgMatches<'a>) -> Option<Command<'a>>
 }
 
 fn replay<'a>(matches: &ArgMatches<'a>) -> Option<Command<'a>>
-    ensures asked { IfSome result (λ c. (name_of (asked c) ≡ codes "replay") × Fit (rows_of (found_of matches.now)) (asked c)) }
-    ensures every { (station script : List ℕ) (n : ℕ) → Fit (rows_of (found_of matches.now)) (replay station script n) → option_map asked result ≡ Some (replay station script n) }
+    ensures asked { IfSome result
+        (λ c. (name_of (asked c) ≡ codes "replay") × Fit (rows_of (found_of matches.now)) (asked c)) }
+    ensures every { (station script : List ℕ) (n : ℕ) → Fit (rows_of (found_of matches.now)) (replay station script n) →
+        option_map asked result ≡ Some (replay station script n) }
     ensures limits { IfSome result HasLimit }
 {
     if !has_only(matches, &REPLAY) {
@@ -155,8 +160,10 @@ fn replay<'a>(matches: &ArgMatches<'a>) -> Option<Command<'a>>
 }
 
 fn serve<'a>(matches: &ArgMatches<'a>) -> Option<Command<'a>>
-    ensures asked { IfSome result (λ c. (name_of (asked c) ≡ codes "serve") × Fit (rows_of (found_of matches.now)) (asked c)) }
-    ensures every { (station : List ℕ) (d a n : ℕ) → Fit (rows_of (found_of matches.now)) (serve station d a n) → option_map asked result ≡ Some (serve station d a n) }
+    ensures asked { IfSome result
+        (λ c. (name_of (asked c) ≡ codes "serve") × Fit (rows_of (found_of matches.now)) (asked c)) }
+    ensures every { (station : List ℕ) (d a n : ℕ) → Fit (rows_of (found_of matches.now)) (serve station d a n) →
+        option_map asked result ≡ Some (serve station d a n) }
     ensures limits { IfSome result HasLimit }
 {
     if !has_only(matches, &SERVE) {
@@ -171,8 +178,10 @@ fn serve<'a>(matches: &ArgMatches<'a>) -> Option<Command<'a>>
 }
 
 fn drill<'a>(matches: &ArgMatches<'a>) -> Option<Command<'a>>
-    ensures asked { IfSome result (λ c. (name_of (asked c) ≡ codes "drill") × Fit (rows_of (found_of matches.now)) (asked c)) }
-    ensures every { (s n : ℕ) → Fit (rows_of (found_of matches.now)) (drill s n) → option_map asked result ≡ Some (drill s n) }
+    ensures asked { IfSome result
+        (λ c. (name_of (asked c) ≡ codes "drill") × Fit (rows_of (found_of matches.now)) (asked c)) }
+    ensures every { (s n : ℕ) → Fit (rows_of (found_of matches.now)) (drill s n) →
+        option_map asked result ≡ Some (drill s n) }
     ensures limits { IfSome result HasLimit }
 {
     if !has_only(matches, &DRILL) {
@@ -185,8 +194,10 @@ fn drill<'a>(matches: &ArgMatches<'a>) -> Option<Command<'a>>
 }
 
 fn migrate<'a>(matches: &ArgMatches<'a>) -> Option<Command<'a>>
-    ensures asked { IfSome result (λ c. (name_of (asked c) ≡ codes "migrate") × Fit (rows_of (found_of matches.now)) (asked c)) }
-    ensures every { (station journal : List ℕ) → Fit (rows_of (found_of matches.now)) (migrate station journal) → option_map asked result ≡ Some (migrate station journal) }
+    ensures asked { IfSome result
+        (λ c. (name_of (asked c) ≡ codes "migrate") × Fit (rows_of (found_of matches.now)) (asked c)) }
+    ensures every { (station journal : List ℕ) → Fit (rows_of (found_of matches.now)) (migrate station journal) →
+        option_map asked result ≡ Some (migrate station journal) }
     ensures limits { IfSome result HasLimit }
 {
     if !has_only(matches, &MIGRATE) {

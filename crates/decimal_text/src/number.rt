@@ -41,7 +41,8 @@ fn number_of(text: &[u8], count: usize, value: u64) -> Option<Number>
     requires within { count ≤ length text.now }
     requires digits { SaysSoFar text.now count value }
     requires small { value < 2 ^ 60 }
-    ensures number { IfSome result (λ number. (number.value ≡ value) × (number.length ≡ count) × (take count text.now ≡ decimal value)) }
+    ensures number { IfSome result
+        (λ number. (number.value ≡ value) × (number.length ≡ count) × (take count text.now ≡ decimal value)) }
     ensures none { IfNone result (take count text.now ≢ decimal value) }
 {
     if count == 0 {

@@ -34,7 +34,8 @@ fn add_log(
     logs: &mut Vec<SureSource>,
 ) -> Result<(), AllocError>
     requires { vec_len logs.old < vec_capacity logs.old }
-    ensures added { OnOk result (map sure_state logs.new.items ≡ map sure_state logs.old.items ++ source_of (day_log plan seed) ∷ []) }
+    ensures added { OnOk result (map sure_state logs.new.items ≡
+        map sure_state logs.old.items ++ source_of (day_log plan seed) ∷ []) }
     ensures count { OnOk result (vec_len logs.new ≡ vec_len logs.old + 1) }
     ensures room { OnOk result (vec_capacity logs.new ≡ vec_capacity logs.old) }
 {

@@ -50,15 +50,20 @@ impl Model for Book {
 
     ghost Value = { Noted };
 
-    ghost view = { λ s. record { events = events_told s.tells s.bytes.items s.rows.items; room = record { events = s.room.events; bytes = s.room.bytes } } };
+    ghost view = { λ s. record {
+      events = events_told s.tells s.bytes.items s.rows.items;
+      room = record { events = s.room.events; bytes = s.room.bytes };
+    } };
 
-    ghost invariant = { λ s. AreRows s.bytes.items s.rows.items × (s.room.bytes ≤ vec_capacity s.bytes) × (s.room.events ≤ vec_capacity s.rows) };
+    ghost invariant = { λ s. AreRows s.bytes.items s.rows.items × (s.room.bytes ≤ vec_capacity s.bytes) ×
+        (s.room.events ≤ vec_capacity s.rows) };
 }
 
 impl Book {
     /// No events, with this room, which is taken here.
     pub fn new(alloc: Global, room: EventRoom) -> Result<Book, AllocError>
-        ensures { IfOk result (λ book. book ≡ record { events = Some []; room = record { events = room.events; bytes = room.bytes } }) }
+        ensures { IfOk result
+            (λ book. book ≡ record { events = Some []; room = record { events = room.events; bytes = room.bytes } }) }
     {
         Ok(Book {
             bytes: Vec::with_capacity(alloc, room.bytes)?,
@@ -130,7 +135,8 @@ fn row_at(rows: &[Row], place: usize) -> &Row
 fn has_room(bytes: &[u8], rows: &[Row], room: EventRoom, more: &[u8]) -> bool
     ensures bytes { OnTrue result (length bytes.now + length more.now ≤ room.bytes) }
     ensures rows { OnTrue result (length rows.now < room.events) }
-    ensures full { OnFalse result ((room.bytes < length bytes.now + length more.now) ⊎ (room.events ≤ length rows.now)) }
+    ensures full { OnFalse result ((room.bytes < length bytes.now + length more.now) ⊎
+        (room.events ≤ length rows.now)) }
 {
     bytes.len() <= room.bytes && more.len() <= room.bytes - bytes.len() && rows.len() < room.events
 }
@@ -145,10 +151,12 @@ fn note_row(
     requires bytes { room.bytes ≤ vec_capacity bytes.old }
     requires rows { room.events ≤ vec_capacity rows.old }
     ensures bytes { OnTrue result (bytes.new.items ≡ bytes.old.items ++ bytes_of (event_seen event.now)) }
-    ensures rows { OnTrue result (IsNotedAs (event_seen event.now) (length bytes.old.items) rows.old.items rows.new.items) }
+    ensures rows { OnTrue result
+        (IsNotedAs (event_seen event.now) (length bytes.old.items) rows.old.items rows.new.items) }
     ensures bytes_kept { OnFalse result (bytes.new.items ≡ bytes.old.items) }
     ensures rows_kept { OnFalse result (rows.new.items ≡ rows.old.items) }
-    ensures full { OnFalse result ((room.bytes < length bytes.old.items + length (bytes_of (event_seen event.now))) ⊎ (room.events ≤ length rows.old.items)) }
+    ensures full { OnFalse result ((room.bytes < length bytes.old.items + length (bytes_of (event_seen event.now))) ⊎
+        (room.events ≤ length rows.old.items)) }
     ensures bytes_capacity { room.bytes ≤ vec_capacity bytes.new }
     ensures rows_capacity { room.events ≤ vec_capacity rows.new }
 {

@@ -114,14 +114,16 @@ where
 
     fn open_link(&mut self, port: u16, start: Local) -> Result<UdpLink<'a, R, UdpSocket>, Failed>
         ensures opened { MatchResult result
-            (λ net. GrowsBy (host_state self.old.faults) (host_state self.new.faults) (answered (LinkAt port start) (OfLink (socket_state net.latest net.faults)) ∷ []))
+            (λ net. GrowsBy (host_state self.old.faults) (host_state self.new.faults)
+            (answered (LinkAt port start) (OfLink (socket_state net.latest net.faults)) ∷ []))
             (λ _. GrowsBy (host_state self.old.faults) (host_state self.new.faults) (failed (LinkAt port start) ∷ [])) }
         ensures number { IfOk result (λ _. IsNext (host_state self.old.faults).openings file_number) }
         ensures cause { HasCause self.old.faults self.new.faults result }
         ensures gate { self.new.is_out ≡ self.old.is_out }
 
         // Its moments count from the start on, by the one counter of this outside.
-        ensures made { IfOk result (λ net. (net.counter ≡ self.old.counter) × (net.start ≡ start) × (net.latest ≡ start)) }
+        ensures made { IfOk result
+            (λ net. (net.counter ≡ self.old.counter) × (net.start ≡ start) × (net.latest ≡ start)) }
         ensures counter { self.new.counter ≡ self.old.counter }
     {
         match bind(self.rt, port) {

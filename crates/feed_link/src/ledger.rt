@@ -58,9 +58,13 @@ impl Model for Ledger {
 
     ghost Value = { Book };
 
-    ghost view = { λ s. record { openings = openings_told s.tells s.names.items s.rows.items; room = record { openings = s.room.openings; names = s.room.names } } };
+    ghost view = { λ s. record {
+      openings = openings_told s.tells s.names.items s.rows.items;
+      room = record { openings = s.room.openings; names = s.room.names };
+    } };
 
-    ghost invariant = { λ s. AreRows s.names.items s.rows.items × (s.room.names ≤ vec_capacity s.names) × (s.room.openings ≤ vec_capacity s.rows) };
+    ghost invariant = { λ s. AreRows s.names.items s.rows.items × (s.room.names ≤ vec_capacity s.names) ×
+        (s.room.openings ≤ vec_capacity s.rows) };
 }
 
 impl Ledger {
@@ -68,7 +72,11 @@ impl Ledger {
 
     /// An empty list with this room, which is taken here.
     pub fn new(alloc: Global, room: Room) -> Result<Ledger, AllocError>
-        ensures { IfOk result (λ ledger. ledger ≡ record { openings = Some []; room = record { openings = room.openings; names = room.names } }) }
+        ensures { IfOk result
+            (λ ledger. ledger ≡ record {
+              openings = Some [];
+              room = record { openings = room.openings; names = room.names };
+            }) }
     {
         Ok(Ledger {
             names: Vec::with_capacity(alloc, room.names)?,
@@ -87,14 +95,22 @@ impl Ledger {
 
     /// Notes the opening of a log.
     pub fn note_log(&mut self, name: &str, opened: Option<Seen>)
-        ensures { Notes self.old self.new (record { what = LogOf name.now; opened = option_map state_of opened; back = None }) }
+        ensures { Notes self.old self.new (record {
+          what = LogOf name.now;
+          opened = option_map state_of opened;
+          back = None;
+        }) }
     {
         self.note(name, None, opened);
     }
 
     /// Notes the opening of a link.
     pub fn note_link(&mut self, port: u16, start: u64, opened: Option<Seen>)
-        ensures { Notes self.old self.new (record { what = LinkAt port start; opened = option_map state_of opened; back = None }) }
+        ensures { Notes self.old self.new (record {
+          what = LinkAt port start;
+          opened = option_map state_of opened;
+          back = None;
+        }) }
     {
         self.note("", Some(Port { port, start }), opened);
     }
@@ -102,7 +118,11 @@ impl Ledger {
     // Notes an opening.
     fn note(&mut self, name: &str, port: Option<Port>, opened: Option<Seen>)
         requires { IfSome port (λ _. length name.now ≡ 0) }
-        ensures { Notes self.old self.new (record { what = wanted_by name.now port; opened = option_map state_of opened; back = None }) }
+        ensures { Notes self.old self.new (record {
+          what = wanted_by name.now port;
+          opened = option_map state_of opened;
+          back = None;
+        }) }
     {
         let room = self.room;
         if !note_row(&mut self.names, &mut self.rows, room, name, port, opened) {
@@ -126,7 +146,8 @@ impl Ledger {
 fn has_room(names: &[u8], rows: &[Row], room: Room, name: &str) -> bool
     ensures names { OnTrue result (length names.now + length name.now ≤ room.names) }
     ensures rows { OnTrue result (length rows.now < room.openings) }
-    ensures full { OnFalse result ((room.names < length names.now + length name.now) ⊎ (room.openings ≤ length rows.now)) }
+    ensures full { OnFalse result ((room.names < length names.now + length name.now) ⊎
+        (room.openings ≤ length rows.now)) }
 {
     names.len() <= room.names
         && name.len() <= room.names - names.len()
@@ -145,10 +166,17 @@ fn note_row(
     requires names { room.names ≤ vec_capacity names.old }
     requires rows { room.openings ≤ vec_capacity rows.old }
     ensures names { OnTrue result (names.new.items ≡ names.old.items ++ name.now) }
-    ensures rows { OnTrue result (rows.new.items ≡ rows.old.items ++ record { port = port; name_at = length names.old.items; name_len = length name.now; opened = opened; back = None } ∷ []) }
+    ensures rows { OnTrue result (rows.new.items ≡ rows.old.items ++ record {
+      port = port;
+      name_at = length names.old.items;
+      name_len = length name.now;
+      opened = opened;
+      back = None;
+    } ∷ []) }
     ensures names_kept { OnFalse result (names.new.items ≡ names.old.items) }
     ensures rows_kept { OnFalse result (rows.new.items ≡ rows.old.items) }
-    ensures full { OnFalse result ((room.names < length names.old.items + length name.now) ⊎ (room.openings ≤ length rows.old.items)) }
+    ensures full { OnFalse result ((room.names < length names.old.items + length name.now) ⊎
+        (room.openings ≤ length rows.old.items)) }
     ensures names_capacity { room.names ≤ vec_capacity names.new }
     ensures rows_capacity { room.openings ≤ vec_capacity rows.new }
 {
@@ -170,7 +198,8 @@ fn note_row(
 // Notes in its row what an object reports as it is given back.
 fn set_back(rows: &mut Vec<Row>, place: usize, seen: Seen)
     requires { place < vec_len rows.old }
-    ensures row { (row : Row) × (slice_get rows.old.items place ≡ Some row) × (rows.new.items ≡ slice_set rows.old.items place (record row { back = Some seen })) }
+    ensures row { (row : Row) × (slice_get rows.old.items place ≡ Some row) ×
+        (rows.new.items ≡ slice_set rows.old.items place (record row { back = Some seen })) }
     ensures capacity { vec_capacity rows.old ≤ vec_capacity rows.new }
 {
     let row = &mut rows[place];

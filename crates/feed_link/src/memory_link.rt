@@ -63,8 +63,10 @@ impl MemoryLink {
     ) -> Result<MemoryLink, FakeOpen>
         ensures calls { IfOk result (λ link. AreStated (link_calls link) fails.items) }
         ensures state { IfOk result (λ link. link_state link ≡ record { events = Some []; latest = 0; faults = 0 }) }
-        ensures room { IfOk result (λ link. link_book link ≡ record { events = Some []; room = record { events = events; bytes = bytes } }) }
-        ensures planned { IfOk result (λ link. (hearings_of link ≡ hearings.items) × (moments_of link ≡ moments.items)) }
+        ensures room { IfOk result
+            (λ link. link_book link ≡ record { events = Some []; room = record { events = events; bytes = bytes } }) }
+        ensures planned { IfOk result
+            (λ link. (hearings_of link ≡ hearings.items) × (moments_of link ≡ moments.items)) }
     {
         Ok(MemoryLink {
             hearings,
@@ -114,7 +116,11 @@ impl MemoryLink {
         ensures planned { event_of result piece.new ≡ next_event self.old.latest (hearings_of self.old) }
         ensures hearings { hearings_of self.new ≡ drop 1 (hearings_of self.old) }
         ensures noted { NotesEvent (link_book self.old) (link_book self.new) (event_of result piece.new) }
-        ensures same { self.new ≡ record self.old { heard = self.new.heard; latest = self.new.latest; book = self.new.book } }
+        ensures same { self.new ≡ record self.old {
+          heard = self.new.heard;
+          latest = self.new.latest;
+          book = self.new.book;
+        } }
     {
         if self.heard >= self.hearings.len() {
             self.book.note(&LinkEvent::End);
@@ -165,10 +171,12 @@ impl Link for MemoryLink {
         ensures called { IsCalled (link_calls self.old) (link_calls self.new) }
         ensures fails { is_ok result ≡ not (fails_next (link_calls self.old)) }
         ensures planned { MatchResult result
-            (λ hearing. (event_of hearing piece.new ≡ next_event self.old.latest (hearings_of self.old)) × (hearings_of self.new ≡ drop 1 (hearings_of self.old)))
+            (λ hearing. (event_of hearing piece.new ≡ next_event self.old.latest (hearings_of self.old)) ×
+            (hearings_of self.new ≡ drop 1 (hearings_of self.old)))
             (λ _. hearings_of self.new ≡ hearings_of self.old) }
         ensures moments { moments_of self.new ≡ moments_of self.old }
-        ensures told { IfOk result (λ hearing. NotesEvent (link_book self.old) (link_book self.new) (event_of hearing piece.new)) }
+        ensures told { IfOk result
+            (λ hearing. NotesEvent (link_book self.old) (link_book self.new) (event_of hearing piece.new)) }
     {
         if self.calls.next_fails() {
             self.faults = self.faults.saturating_add(1);

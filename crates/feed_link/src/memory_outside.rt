@@ -93,10 +93,16 @@ impl<G: Drop> MemoryOutside<G> {
         names: usize,
     ) -> Result<MemoryOutside<G>, FakeOpen>
         ensures logs { IfOk result (λ outside. logs_of outside ≡ logs.items) }
-        ensures links { IfOk result (λ outside. (links_of outside ≡ map (λ link. Some link) links.items) × (next_link outside ≡ 0)) }
+        ensures links { IfOk result
+            (λ outside. (links_of outside ≡ map (λ link. Some link) links.items) × (next_link outside ≡ 0)) }
         ensures gate { IfOk result (λ outside. gate_of outside ≡ Some gate) }
         ensures calls { IfOk result (λ outside. AreStated (outside_calls outside) fails.items) }
-        ensures state { IfOk result (λ outside. outside_state outside ≡ record { openings = Some []; room = record { openings = openings; names = names }; faults = 0 }) }
+        ensures state { IfOk result
+            (λ outside. outside_state outside ≡ record {
+              openings = Some [];
+              room = record { openings = openings; names = names };
+              faults = 0;
+            }) }
     {
         let links = placed(alloc, links)?;
         let ledger = Ledger::new(alloc, Room { openings, names })?;
@@ -113,7 +119,8 @@ impl<G: Drop> MemoryOutside<G> {
 
     /// The link of this place, counted from 0, where there is one and it is not out.
     pub fn link(&self, place: usize) -> Option<&MemoryLink>
-        ensures { MatchOption result (stands_at (links_of self.now) place ≡ None) (λ link. stands_at (links_of self.now) place ≡ Some link.now) }
+        ensures { MatchOption result (stands_at (links_of self.now) place ≡ None)
+            (λ link. stands_at (links_of self.now) place ≡ Some link.now) }
     {
         match self.links.get(place) {
             Some(link) => link.as_ref(),
@@ -153,7 +160,8 @@ impl<G: Drop> MemoryOutside<G> {
     // Takes the next link out of its place.
     fn take_link(&mut self) -> Option<MemoryLink>
         ensures same { self.new ≡ record self.old { links = self.new.links; next = self.new.next } }
-        ensures taken { MatchOption result (TakesNoLink (links_of self.old) (next_link self.old) (links_of self.new) (next_link self.new))
+        ensures taken { MatchOption result
+            (TakesNoLink (links_of self.old) (next_link self.old) (links_of self.new) (next_link self.new))
             (λ link. TakesLink (links_of self.old) (next_link self.old) (links_of self.new) (next_link self.new) link) }
     {
         if self.next >= self.links.len() {
@@ -179,8 +187,11 @@ impl<G: Drop> MemoryOutside<G> {
         ensures same { self.new ≡ record self.old { logs = self.new.logs; calls = self.new.calls } }
         ensures called { IsCalled (outside_calls self.old) (outside_calls self.new) }
         ensures found { MatchOption result
-            ((logs_of self.new ≡ logs_of self.old) × ((fails_next (outside_calls self.old) ≡ true) ⊎ TakesNone name.now (logs_of self.old) (logs_of self.new)))
-            (λ named. (fails_next (outside_calls self.old) ≡ false) × TakesFirst name.now (logs_of self.old) (logs_of self.new) named) }
+            ((logs_of self.new ≡ logs_of self.old) ×
+            ((fails_next (outside_calls self.old) ≡ true) ⊎
+            TakesNone name.now (logs_of self.old) (logs_of self.new)))
+            (λ named. (fails_next (outside_calls self.old) ≡ false) ×
+            TakesFirst name.now (logs_of self.old) (logs_of self.new) named) }
     {
         if self.calls.next_fails() {
             return None;
@@ -190,12 +201,18 @@ impl<G: Drop> MemoryOutside<G> {
 
     // Takes the next link out of its place, unless the call fails.
     fn find_link(&mut self) -> Option<MemoryLink>
-        ensures same { self.new ≡ record self.old { links = self.new.links; next = self.new.next; calls = self.new.calls } }
+        ensures same { self.new ≡ record self.old {
+          links = self.new.links;
+          next = self.new.next;
+          calls = self.new.calls;
+        } }
         ensures called { IsCalled (outside_calls self.old) (outside_calls self.new) }
         ensures found { MatchOption result
-            ((fails_next (outside_calls self.old) ≡ true) × (links_of self.new ≡ links_of self.old) × (next_link self.new ≡ next_link self.old)
+            ((fails_next (outside_calls self.old) ≡ true) × (links_of self.new ≡ links_of self.old) ×
+            (next_link self.new ≡ next_link self.old)
             ⊎ TakesNoLink (links_of self.old) (next_link self.old) (links_of self.new) (next_link self.new))
-            (λ link. (fails_next (outside_calls self.old) ≡ false) × TakesLink (links_of self.old) (next_link self.old) (links_of self.new) (next_link self.new) link) }
+            (λ link. (fails_next (outside_calls self.old) ≡ false) ×
+            TakesLink (links_of self.old) (next_link self.old) (links_of self.new) (next_link self.new) link) }
     {
         if self.calls.next_fails() {
             return None;
@@ -227,7 +244,8 @@ impl<G: Gate + Drop> Outside for MemoryOutside<G> {
 
     fn open_log(&mut self, name: &str) -> Result<MemorySource, Failed>
         ensures opened { MatchResult result
-            (λ log. GrowsBy (outside_state self.old) (outside_state self.new) (answered (LogOf name.now) (OfLog (source_state log)) ∷ []))
+            (λ log. GrowsBy (outside_state self.old) (outside_state self.new)
+            (answered (LogOf name.now) (OfLog (source_state log)) ∷ []))
             (λ _. GrowsBy (outside_state self.old) (outside_state self.new) (failed (LogOf name.now) ∷ [])) }
         ensures number { IfOk result (λ log. IsNext (outside_state self.old).openings log.opening) }
         ensures cause { HasCause self.old.faults self.new.faults result }
@@ -236,8 +254,11 @@ impl<G: Gate + Drop> Outside for MemoryOutside<G> {
         // It hands out the first log of this name. It fails exactly where that was stated or where none is left.
         ensures called { IsCalled (outside_calls self.old) (outside_calls self.new) }
         ensures handed { MatchResult result
-            (λ log. (fails_next (outside_calls self.old) ≡ false) × HandsOut name.now (logs_of self.old) (logs_of self.new) log)
-            (λ _. (logs_of self.new ≡ logs_of self.old) × ((fails_next (outside_calls self.old) ≡ true) ⊎ TakesNone name.now (logs_of self.old) (logs_of self.new))) }
+            (λ log. (fails_next (outside_calls self.old) ≡ false) ×
+            HandsOut name.now (logs_of self.old) (logs_of self.new) log)
+            (λ _. (logs_of self.new ≡ logs_of self.old) ×
+            ((fails_next (outside_calls self.old) ≡ true) ⊎
+            TakesNone name.now (logs_of self.old) (logs_of self.new))) }
         ensures links { (links_of self.new ≡ links_of self.old) × (next_link self.new ≡ next_link self.old) }
         ensures same_gate { gate_of self.new ≡ gate_of self.old }
     {
@@ -258,7 +279,8 @@ impl<G: Gate + Drop> Outside for MemoryOutside<G> {
 
     fn open_link(&mut self, port: u16, start: Local) -> Result<MemoryLink, Failed>
         ensures opened { MatchResult result
-            (λ net. GrowsBy (outside_state self.old) (outside_state self.new) (answered (LinkAt port start) (OfLink (link_state net)) ∷ []))
+            (λ net. GrowsBy (outside_state self.old) (outside_state self.new)
+            (answered (LinkAt port start) (OfLink (link_state net)) ∷ []))
             (λ _. GrowsBy (outside_state self.old) (outside_state self.new) (failed (LinkAt port start) ∷ [])) }
         ensures number { IfOk result (λ net. IsNext (outside_state self.old).openings net.opening) }
         ensures cause { HasCause self.old.faults self.new.faults result }
@@ -267,8 +289,10 @@ impl<G: Gate + Drop> Outside for MemoryOutside<G> {
         // It hands out the next link, and fails exactly where that was stated or where none is left.
         ensures called { IsCalled (outside_calls self.old) (outside_calls self.new) }
         ensures handed { MatchResult result
-            (λ net. (fails_next (outside_calls self.old) ≡ false) × HandsOutLink (links_of self.old) (next_link self.old) (links_of self.new) (next_link self.new) net)
-            (λ _. (fails_next (outside_calls self.old) ≡ true) × (links_of self.new ≡ links_of self.old) × (next_link self.new ≡ next_link self.old)
+            (λ net. (fails_next (outside_calls self.old) ≡ false) ×
+            HandsOutLink (links_of self.old) (next_link self.old) (links_of self.new) (next_link self.new) net)
+            (λ _. (fails_next (outside_calls self.old) ≡ true) × (links_of self.new ≡ links_of self.old) ×
+            (next_link self.new ≡ next_link self.old)
             ⊎ TakesNoLink (links_of self.old) (next_link self.old) (links_of self.new) (next_link self.new)) }
         ensures logs { logs_of self.new ≡ logs_of self.old }
         ensures same_gate { gate_of self.new ≡ gate_of self.old }
@@ -321,12 +345,14 @@ impl<G: Gate + Drop> Outside for MemoryOutside<G> {
 
     fn give_back_link(&mut self, net: MemoryLink)
         requires { IsOut (outside_state self.old).openings net.opening }
-        ensures back { GivesBack (outside_state self.old) (outside_state self.new) net.opening (OfLink (link_state net)) }
+        ensures back { GivesBack (outside_state self.old) (outside_state self.new) net.opening
+            (OfLink (link_state net)) }
         ensures gate { is_gate_out self.new ≡ is_gate_out self.old }
 
         // It stands in its place again, and all else stays.
         ensures place { links_of self.new ≡ put_at net.place net (links_of self.old) }
-        ensures same { (logs_of self.new ≡ logs_of self.old) × (next_link self.new ≡ next_link self.old) × (gate_of self.new ≡ gate_of self.old) }
+        ensures same { (logs_of self.new ≡ logs_of self.old) × (next_link self.new ≡ next_link self.old) ×
+            (gate_of self.new ≡ gate_of self.old) }
     {
         self.ledger
             .put_back(net.opening, Seen::Link(Snapshot::of(&net)));

@@ -78,7 +78,8 @@ impl Sink for MemorySink {
         ensures whole { IfOk result (λ n. n ≡ length piece.now) }
         ensures called { IsCalled (sink_calls self.old) (sink_calls self.new) }
         ensures passes { OnOk result (fails_next (sink_calls self.old) ≡ false) }
-        ensures fails { OnErr result ((fails_next (sink_calls self.old) ≡ true) ⊎ (sink_room self.old < length self.old.bytes.items + length piece.now)) }
+        ensures fails { OnErr result ((fails_next (sink_calls self.old) ≡ true) ⊎
+            (sink_room self.old < length self.old.bytes.items + length piece.now)) }
     {
         if self.calls.next_fails() || !self.add(piece) {
             self.faults = self.faults.saturating_add(1);

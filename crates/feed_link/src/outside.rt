@@ -66,7 +66,8 @@ pub trait Outside {
     /// Opens the log of this name.
     fn open_log(&mut self, name: &str) -> Result<Self::Log, Failed>
         ensures opened { MatchResult result
-            (λ log. GrowsBy (state self.old) (state self.new) (answered (LogOf name.now) (OfLog (Self.Log.state log)) ∷ []))
+            (λ log. GrowsBy (state self.old) (state self.new)
+            (answered (LogOf name.now) (OfLog (Self.Log.state log)) ∷ []))
             (λ _. GrowsBy (state self.old) (state self.new) (failed (LogOf name.now) ∷ [])) }
         ensures number { IfOk result (λ log. IsNext (state self.old).openings (Self.Log.opening log)) }
         ensures cause { HasCause (state self.old).faults (state self.new).faults result }
@@ -75,7 +76,8 @@ pub trait Outside {
     /// Opens a link on this port, or on any free one where it is 0. Its moments count from `start` on.
     fn open_link(&mut self, port: u16, start: Local) -> Result<Self::Net, Failed>
         ensures opened { MatchResult result
-            (λ net. GrowsBy (state self.old) (state self.new) (answered (LinkAt port start) (OfLink (Self.Net.state net)) ∷ []))
+            (λ net. GrowsBy (state self.old) (state self.new)
+            (answered (LinkAt port start) (OfLink (Self.Net.state net)) ∷ []))
             (λ _. GrowsBy (state self.old) (state self.new) (failed (LinkAt port start) ∷ [])) }
         ensures number { IfOk result (λ net. IsNext (state self.old).openings (Self.Net.opening net)) }
         ensures cause { HasCause (state self.old).faults (state self.new).faults result }
@@ -102,6 +104,7 @@ pub trait Outside {
     /// Takes back a link that it opened.
     fn give_back_link(&mut self, net: Self::Net)
         requires { IsOut (state self.old).openings (Self.Net.opening net) }
-        ensures back { GivesBack (state self.old) (state self.new) (Self.Net.opening net) (OfLink (Self.Net.state net)) }
+        ensures back { GivesBack (state self.old) (state self.new) (Self.Net.opening net)
+            (OfLink (Self.Net.state net)) }
         ensures gate { gate_out self.new ≡ gate_out self.old };
 }

@@ -207,7 +207,13 @@ fn send_whole<S: DatagramSocket>(socket: &mut S, to: Address, bytes: &[u8]) -> R
 impl<'a, R: Clock, S: DatagramSocket + Drop> UdpLink<'a, R, S> {
     /// The link of a socket, whose moments count from `start` on.
     pub fn new(socket: S, counter: Counter<'a, R>, start: Local) -> UdpLink<'a, R, S>
-        ensures { result ≡ record { socket = socket; counter = counter.entry; start = start; latest = start; faults = 0 } }
+        ensures { result ≡ record {
+          socket = socket;
+          counter = counter.entry;
+          start = start;
+          latest = start;
+          faults = 0;
+        } }
     {
         UdpLink {
             socket,
@@ -244,8 +250,10 @@ impl<R: Clock + Sync, S: DatagramSocket + Send + Drop> Link for UdpLink<'_, R, S
 
     fn hear(&mut self, piece: &mut [u8; 1024]) -> Result<Hearing, Failed>
         ensures heard { MatchResult result
-            (λ hearing. Hears (socket_state self.old.latest self.old.faults) (socket_state self.new.latest self.new.faults) hearing piece.new)
-            (λ _. IsDeaf (socket_state self.old.latest self.old.faults) (socket_state self.new.latest self.new.faults)) }
+            (λ hearing. Hears (socket_state self.old.latest self.old.faults)
+            (socket_state self.new.latest self.new.faults) hearing piece.new)
+            (λ _. IsDeaf (socket_state self.old.latest self.old.faults)
+            (socket_state self.new.latest self.new.faults)) }
         ensures cause { HasCause self.old.faults self.new.faults result }
         ensures number { file_number ≡ file_number }
 
@@ -271,7 +279,8 @@ impl<R: Clock + Sync, S: DatagramSocket + Send + Drop> Link for UdpLink<'_, R, S
     }
 
     fn moment(&mut self) -> Local
-        ensures told { TellsMoment (socket_state self.old.latest self.old.faults) (socket_state self.new.latest self.new.faults) result }
+        ensures told { TellsMoment (socket_state self.old.latest self.old.faults)
+            (socket_state self.new.latest self.new.faults) result }
         ensures number { file_number ≡ file_number }
 
         // It reads the counter again, and the socket stays as it is.
@@ -283,7 +292,8 @@ impl<R: Clock + Sync, S: DatagramSocket + Send + Drop> Link for UdpLink<'_, R, S
     }
 
     fn send(&mut self, to: Address, bytes: &[u8]) -> Result<(), Failed>
-        ensures sent { Sends (socket_state self.old.latest self.old.faults) (socket_state self.new.latest self.new.faults) result to bytes.now }
+        ensures sent { Sends (socket_state self.old.latest self.old.faults)
+            (socket_state self.new.latest self.new.faults) result to bytes.now }
         ensures cause { HasCause self.old.faults self.new.faults result }
         ensures number { file_number ≡ file_number }
 

@@ -104,7 +104,8 @@ pub fn open_and_decode<O: Outside, K: Sink>(
     out: &mut K,
 ) -> Status
     ensures gate { O.gate_out outside.new ≡ O.gate_out outside.old }
-    ensures runs { RunsDecode plan name.now (O.state outside.old) (O.state outside.new) (K.state out.old) (K.state out.new) result }
+    ensures runs { RunsDecode plan name.now (O.state outside.old) (O.state outside.new) (K.state out.old)
+        (K.state out.new) result }
 {
     let Ok(mut log) = outside.open_log(name) else {
         return finish(Ending::NotOpened(Subject::Feed(0)), out);

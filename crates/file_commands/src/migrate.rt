@@ -50,7 +50,8 @@ fn move_whole<S: Source, K: Sink>(journal: &mut S, mover: &mut JournalMover, out
     requires { IsEven mover.old }
     ensures number { S.opening journal.new ≡ S.opening journal.old }
     ensures runs { (of : StationFields) → IsMovedBy mover.old of [] [] None →
-        RunsThrough (journal_of of) (S.state journal.old) (S.state journal.new) (K.state out.old) (K.state out.new) result }
+        RunsThrough (journal_of of) (S.state journal.old) (S.state journal.new) (K.state out.old)
+        (K.state out.new) result }
 {
     match read_lines(journal, mover, LIMIT, out) {
         Ok(reach) => finish_page(&mover.mover.page(), migrate_ending(reach), out),
@@ -68,7 +69,8 @@ fn open_and_move<O: Outside, K: Sink>(
     requires { IsEven mover }
     ensures gate { O.gate_out outside.new ≡ O.gate_out outside.old }
     ensures tried { (of : StationFields) → IsMovedBy mover of [] [] None →
-        TriesFile Subject.Journal (journal_of of) name.now (O.state outside.old) (O.state outside.new) (K.state out.old) (K.state out.new) result }
+        TriesFile Subject.Journal (journal_of of) name.now (O.state outside.old) (O.state outside.new) (K.state out.old)
+        (K.state out.new) result }
 {
     let mut mover = mover;
     let Ok(mut journal) = outside.open_log(name) else {
@@ -82,7 +84,8 @@ fn open_and_move<O: Outside, K: Sink>(
 // The mover for a station file whose reading ended in this way, or what keeps the station from being used.
 fn prepare(alloc: Global, end: FileEnd, text: &[u8]) -> Result<JournalMover, Obstacle>
     ensures even { IfOk result IsEven }
-    ensures judged { MatchResult result (λ mover. (end ≡ Whole) × ((of : StationFields) × Says text.now of × IsMovedBy mover of [] [] None))
+    ensures judged { MatchResult result
+        (λ mover. (end ≡ Whole) × ((of : StationFields) × Says text.now of × IsMovedBy mover of [] [] None))
         (λ obstacle. IsObstacle end text.now obstacle) }
 {
     match judge(alloc, end, text) {
@@ -101,7 +104,8 @@ pub fn run_migrate<O: Outside, K: Sink>(
 ) -> Status
     ensures gate { O.gate_out outside.new ≡ O.gate_out outside.old }
     ensures runs { Lacks (O.state outside.old) (O.state outside.new) (K.state out.old) (K.state out.new) result
-        ⊎ RunsMigrate station.now journal.now (O.state outside.old) (O.state outside.new) (K.state out.old) (K.state out.new) result }
+        ⊎ RunsMigrate station.now journal.now (O.state outside.old) (O.state outside.new) (K.state out.old)
+        (K.state out.new) result }
 {
     let Ok(mut text) = Vec::with_capacity(alloc, STATION_LIMIT) else {
         return finish(Ending::NoMemory, out);

@@ -53,7 +53,8 @@ fn play_whole<S: Source, K: Sink>(
     requires none { replayer.old.lines ≡ 0 }
     ensures number { S.opening script.new ≡ S.opening script.old }
     ensures replays { (station : StationFields) → IsPlayedBy stands_for replayer.old station limit [] [] None →
-        RunsThrough (script_of limit station) (S.state script.old) (S.state script.new) (K.state out.old) (K.state out.new) result }
+        RunsThrough (script_of limit station) (S.state script.old) (S.state script.new) (K.state out.old)
+        (K.state out.new) result }
 {
     match read_lines(script, replayer, LIMIT, out) {
         Ok(reach) => {
@@ -75,7 +76,8 @@ fn play<S: Source, K: Sink>(
     requires { IsReady least_start player }
     ensures number { S.opening script.new ≡ S.opening script.old }
     ensures replays { (station : StationFields) → HasPlayed stands_for player station limit [] →
-        RunsThrough (script_of limit station) (S.state script.old) (S.state script.new) (K.state out.old) (K.state out.new) result }
+        RunsThrough (script_of limit station) (S.state script.old) (S.state script.new) (K.state out.old)
+        (K.state out.new) result }
 {
     let mut replayer = Replayer::new(player);
     play_whole(script, &mut replayer, limit, out)
@@ -92,7 +94,8 @@ fn open_and_play<O: Outside, K: Sink>(
     requires { IsReady least_start player }
     ensures gate { O.gate_out outside.new ≡ O.gate_out outside.old }
     ensures tried { (station : StationFields) → HasPlayed stands_for player station limit [] →
-        TriesFile Subject.Script (script_of limit station) name.now (O.state outside.old) (O.state outside.new) (K.state out.old) (K.state out.new) result }
+        TriesFile Subject.Script (script_of limit station) name.now (O.state outside.old) (O.state outside.new)
+        (K.state out.old) (K.state out.new) result }
 {
     let Ok(mut script) = outside.open_log(name) else {
         return finish(Ending::NotOpened(Subject::Script), out);
@@ -113,7 +116,8 @@ fn prepare(
     requires rack { IsRack stands_for rack.items }
     requires most { limit ≤ 2 ^ 22 }
     ensures ready { IfOk result (IsReady least_start) }
-    ensures judged { MatchResult result (λ player. (end ≡ Whole) × ((of : StationFields) × Says text.now of × HasPlayed stands_for player of limit []))
+    ensures judged { MatchResult result
+        (λ player. (end ≡ Whole) × ((of : StationFields) × Says text.now of × HasPlayed stands_for player of limit []))
         (λ obstacle. IsObstacle end text.now obstacle) }
 {
     let station = match judge(alloc, end, text) {
@@ -140,7 +144,8 @@ pub fn run_replay<O: Outside, K: Sink>(
     requires most { limit ≤ 2 ^ 22 }
     ensures gate { O.gate_out outside.new ≡ O.gate_out outside.old }
     ensures runs { Lacks (O.state outside.old) (O.state outside.new) (K.state out.old) (K.state out.new) result
-        ⊎ RunsReplay station.now script.now limit (O.state outside.old) (O.state outside.new) (K.state out.old) (K.state out.new) result }
+        ⊎ RunsReplay station.now script.now limit (O.state outside.old) (O.state outside.new) (K.state out.old)
+        (K.state out.new) result }
 {
     let Ok(mut text) = Vec::with_capacity(alloc, STATION_LIMIT) else {
         return finish(Ending::NoMemory, out);

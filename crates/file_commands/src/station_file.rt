@@ -46,7 +46,8 @@ pub fn open_station<O: Outside>(
 /// # Errors
 /// What keeps it from being used.
 pub fn judge(alloc: Global, end: FileEnd, text: &[u8]) -> Result<Station, Obstacle>
-    ensures { MatchResult result (λ of. (end ≡ Whole) × Says text.now of) (λ obstacle. IsObstacle end text.now obstacle) }
+    ensures { MatchResult result (λ of. (end ≡ Whole) × Says text.now of)
+        (λ obstacle. IsObstacle end text.now obstacle) }
 {
     match end {
         FileEnd::Whole => match read_station(alloc, text) {

@@ -54,7 +54,8 @@ pub(crate) fn is_odd(symbol: Symbol) -> bool
 /// place.
 pub fn value<P: Places>(bit: Bit, segment: &P, place: usize, weights: &[u8]) -> u16
     requires { place + length weights.now ≤ 61 }
-    ensures value { (marks : List Mark) → P.stands_for segment.now marks → result ≡ value (has_bit bit) marks place weights.now }
+    ensures value { (marks : List Mark) → P.stands_for segment.now marks →
+        result ≡ value (has_bit bit) marks place weights.now }
     ensures most { result ≤ sum weights.now }
 {
     let mut sum = 0;
@@ -70,7 +71,8 @@ pub fn value<P: Places>(bit: Bit, segment: &P, place: usize, weights: &[u8]) -> 
 pub fn is_odd_over<P: Places>(bit: Bit, segment: &P, first: usize, last: usize) -> bool
     requires in_order { first ≤ last }
     requires places { last < 61 }
-    ensures { (marks : List Mark) → P.stands_for segment.now marks → result ≡ is_odd_over (has_bit bit) marks first last }
+    ensures { (marks : List Mark) → P.stands_for segment.now marks →
+        result ≡ is_odd_over (has_bit bit) marks first last }
 {
     let mut ones = 0u32;
     for place in first..last + 1 {
@@ -84,7 +86,8 @@ pub fn is_odd_over<P: Places>(bit: Bit, segment: &P, first: usize, last: usize) 
 /// Whether the bits of the places from `first` on are these.
 pub fn has_pattern<P: Places>(bit: Bit, segment: &P, first: usize, pattern: &[bool]) -> bool
     requires { first + length pattern.now ≤ 61 }
-    ensures { (marks : List Mark) → P.stands_for segment.now marks → result ≡ has_pattern (has_bit bit) marks first pattern.now }
+    ensures { (marks : List Mark) → P.stands_for segment.now marks →
+        result ≡ has_pattern (has_bit bit) marks first pattern.now }
 {
     for (i, wanted) in pattern.iter().enumerate() {
         if segment.is_set(bit, first + i) != *wanted {

@@ -31,9 +31,12 @@ pub trait CodePlan {
 
     /// What a segment says, however its marks are kept, or the least number of a rule that it breaks.
     fn judge<P: Places>(segment: &P, close: Local) -> Result<Coded, Broken>
-        ensures ok { (marks : List Mark) → P.stands_for segment.now marks → IfOk result (λ c. (first marks close ≡ None) × (c ≡ coded marks)) }
-        ensures err { (marks : List Mark) → P.stands_for segment.now marks → IfErr result (λ broken. first marks close ≡ Some broken.rule) }
-        ensures least { (marks : List Mark) → P.stands_for segment.now marks → IfErr result (λ broken. IsLeastBroken (rules marks close) broken.rule) }
+        ensures ok { (marks : List Mark) → P.stands_for segment.now marks →
+            IfOk result (λ c. (first marks close ≡ None) × (c ≡ coded marks)) }
+        ensures err { (marks : List Mark) → P.stands_for segment.now marks →
+            IfErr result (λ broken. first marks close ≡ Some broken.rule) }
+        ensures least { (marks : List Mark) → P.stands_for segment.now marks →
+            IfErr result (λ broken. IsLeastBroken (rules marks close) broken.rule) }
         ensures holds { IfOk result holds };
 }
 
@@ -82,9 +85,12 @@ impl<C: CodePlan> Frame<C> {
 
     /// What the marks say, closed by a mark that starts at this moment; or the least number of a rule that they break.
     pub fn close(&self, at: Local) -> Result<Coded, Broken>
-        ensures ok { (marks : List Mark) → HasMarks self.now marks → IfOk result (λ c. (C.first marks at ≡ None) × (c ≡ C.coded marks)) }
-        ensures err { (marks : List Mark) → HasMarks self.now marks → IfErr result (λ broken. C.first marks at ≡ Some broken.rule) }
-        ensures least { (marks : List Mark) → HasMarks self.now marks → IfErr result (λ broken. IsLeastBroken (C.rules marks at) broken.rule) }
+        ensures ok { (marks : List Mark) → HasMarks self.now marks →
+            IfOk result (λ c. (C.first marks at ≡ None) × (c ≡ C.coded marks)) }
+        ensures err { (marks : List Mark) → HasMarks self.now marks →
+            IfErr result (λ broken. C.first marks at ≡ Some broken.rule) }
+        ensures least { (marks : List Mark) → HasMarks self.now marks →
+            IfErr result (λ broken. IsLeastBroken (C.rules marks at) broken.rule) }
         ensures holds { IfOk result C.holds }
     {
         C::judge(&self.words, at)

@@ -29,7 +29,8 @@ pub struct PlaceBits {
 #[inline]
 fn with_bit(word: u64, bit: bool, place: usize) -> u64
     requires { place < 61 }
-    ensures { (test : Symbol → Bool) (marks : List Mark) (mark : Mark) → word ≡ word_of test marks → length marks ≡ place
+    ensures { (test : Symbol → Bool) (marks : List Mark) (mark : Mark) → word ≡ word_of test marks →
+        length marks ≡ place
         → bit ≡ test mark.symbol → result ≡ word_of test (marks ++ mark ∷ []) }
 {
     word | u64::from(bit) << place

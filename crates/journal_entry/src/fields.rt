@@ -37,7 +37,8 @@ impl<'a> Fields<'a> {
 
     // The next field: the bytes up to a space or to the end.
     pub fn next(&mut self) -> &'a [u8]
-        ensures { (field : List ℕ) (fields : List (List ℕ)) → has_space field ≡ false → HasFields self.old (field ∷ fields) →
+        ensures { (field : List ℕ) (fields : List (List ℕ)) → has_space field ≡ false →
+            HasFields self.old (field ∷ fields) →
             (result.now ≡ field) × HasFields self.new fields }
     {
         let rest = self.rest;
@@ -97,7 +98,8 @@ impl<'a> Fields<'a> {
     // The next field as a span.
     #[tactic(auto, using(crate::proofs::DigitLaws::no_space_in_span))]
     pub fn next_span(&mut self) -> Span
-        ensures { (z : ℤ) (fields : List (List ℕ)) → unsigned_abs z < 2 ^ 70 → HasFields self.old (signed_decimal z ∷ fields) →
+        ensures { (z : ℤ) (fields : List (List ℕ)) → unsigned_abs z < 2 ^ 70 →
+            HasFields self.old (signed_decimal z ∷ fields) →
             (result ≡ z) × HasFields self.new fields }
     {
         span_of(self.next())
@@ -105,7 +107,8 @@ impl<'a> Fields<'a> {
 
     // The next field as a rate.
     pub fn next_rate(&mut self) -> i32
-        ensures { (z : ℤ) (fields : List (List ℕ)) → unsigned_abs z < 2 ^ 31 → HasFields self.old (signed_decimal z ∷ fields) →
+        ensures { (z : ℤ) (fields : List (List ℕ)) → unsigned_abs z < 2 ^ 31 →
+            HasFields self.old (signed_decimal z ∷ fields) →
             (result ≡ z) × HasFields self.new fields }
     {
         i32::try_from(self.next_span().get()).unwrap_or(0)

@@ -36,7 +36,12 @@ impl Model for ClientGate {
 
     ghost Value = { Gate };
 
-    ghost view = { λ g. record { denied = nets_of g.denied; gap = g.gap; clients = g.clients.cap; table = g.clients.entries } };
+    ghost view = { λ g. record {
+      denied = nets_of g.denied;
+      gap = g.gap;
+      clients = g.clients.cap;
+      table = g.clients.entries;
+    } };
 
     ghost invariant = { λ g. g.gap ≤ 60000000 };
 }
@@ -61,7 +66,8 @@ impl ClientGate {
         requires gap { gap ≤ 60000000 }
         requires least { 1 ≤ clients }
         requires most { clients ≤ 65536 }
-        ensures opened { IfOk result (λ gate. gate ≡ record { denied = nets_of deny.now; gap = gap; clients = clients; table = [] }) }
+        ensures opened { IfOk result
+            (λ gate. gate ≡ record { denied = nets_of deny.now; gap = gap; clients = clients; table = [] }) }
     {
         let Some(room) = NonZeroUsize::new(clients as usize) else {
             unreachable!();

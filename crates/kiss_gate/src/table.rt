@@ -33,9 +33,12 @@ pub(crate) fn judge_known(
     at: Local,
 ) -> Option<Code>
     requires { gap ≤ 60000000 }
-    ensures code { result ≡ option_map (λ last. if is_soon gap at (Some last) then Rate else Pass) (lookup (nat_eq ip) clients.old.entries) }
-    ensures soon { result ≡ Some Rate → clients.new ≡ lru_cache (in_front ip (lookup (nat_eq ip) clients.old.entries) clients.old.entries) clients.old.cap }
-    ensures passed { result ≡ Some Pass → clients.new ≡ lru_cache (take clients.old.cap ((ip, at) ∷ remove_entry (nat_eq ip) clients.old.entries)) clients.old.cap }
+    ensures code { result ≡ option_map
+        (λ last. if is_soon gap at (Some last) then Rate else Pass) (lookup (nat_eq ip) clients.old.entries) }
+    ensures soon { result ≡ Some Rate → clients.new ≡
+        lru_cache (in_front ip (lookup (nat_eq ip) clients.old.entries) clients.old.entries) clients.old.cap }
+    ensures passed { result ≡ Some Pass → clients.new ≡
+        lru_cache (take clients.old.cap ((ip, at) ∷ remove_entry (nat_eq ip) clients.old.entries)) clients.old.cap }
     ensures unknown { result ≡ None → clients.new ≡ clients.old }
 {
     // There is room for all pairs.
@@ -49,7 +52,8 @@ pub(crate) fn judge_known(
 // Puts a client's pair in the first place, with a new moment, and drops the last pair where there would be too many. Returns
 // whether there was memory for it.
 pub(crate) fn put_in_front(clients: &mut LruCache<u32, Local>, ip: u32, at: Local) -> bool
-    ensures stored { result ≡ true → clients.new ≡ lru_cache (take clients.old.cap ((ip, at) ∷ remove_entry (nat_eq ip) clients.old.entries)) clients.old.cap }
+    ensures stored { result ≡ true → clients.new ≡
+        lru_cache (take clients.old.cap ((ip, at) ∷ remove_entry (nat_eq ip) clients.old.entries)) clients.old.cap }
     ensures left { result ≡ false → clients.new ≡ clients.old }
     ensures known { result ≡ false → lookup (nat_eq ip) clients.old.entries ≡ None }
 {

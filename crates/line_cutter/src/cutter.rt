@@ -56,7 +56,8 @@ impl LineCutter {
     /// Takes from a piece what stands up to and including its first line feed, or all of it. Where the line would be too long it
     /// takes nothing, and says at which byte that shows.
     pub fn take(&mut self, piece: &[u8]) -> Taken
-        ensures taken { (too_long : ℕ) (bytes : List ℕ) → HasTaken self.old too_long bytes → TakesPiece self.new too_long bytes piece.now result }
+        ensures taken { (too_long : ℕ) (bytes : List ℕ) → HasTaken self.old too_long bytes →
+            TakesPiece self.new too_long bytes piece.now result }
         ensures within { result.count ≤ length piece.now }
         ensures progress { 0 < length piece.now → 0 < result.count }
     {

@@ -53,7 +53,8 @@ impl<R: Receiver> LogDecoder<R> {
         requires { R.least_start receiver ≡ 0 }
         ensures ready { IsReady R.least_start result }
         ensures feed { feed_of result ≡ feed }
-        ensures start { (plan : Plan) (delay : ℕ) → R.stands_for receiver (record { plan = plan; delay = delay; reductions = [] }) →
+        ensures start { (plan : Plan) (delay : ℕ) →
+            R.stands_for receiver (record { plan = plan; delay = delay; reductions = [] }) →
             HasDecoded R.stands_for result feed plan delay [] }
     {
         LogDecoder {
@@ -75,7 +76,8 @@ impl<R: Receiver> LogDecoder<R> {
         ensures ready { IsReady R.least_start self.new }
         ensures feed { feed_of self.new ≡ feed_of self.old }
         ensures lawful { IfOk result.found (λ found. IfSome found (IsEntryOf (feed_of self.old))) }
-        ensures taken { (feed : ℕ) (plan : Plan) (delay : ℕ) (before : List ℕ) → HasDecoded R.stands_for self.old feed plan delay before →
+        ensures taken { (feed : ℕ) (plan : Plan) (delay : ℕ) (before : List ℕ) →
+            HasDecoded R.stands_for self.old feed plan delay before →
             DecodesFront R.stands_for self.new feed plan delay before (take result.count bytes.now) result.found }
     {
         let mut count = 0;
@@ -100,7 +102,8 @@ impl<R: Receiver> LogDecoder<R> {
     ///
     /// `BadLine` where one was returned, or where bytes stand after the last line feed.
     pub fn finish(&self) -> Result<(), BadLine>
-        ensures { (feed : ℕ) (plan : Plan) (delay : ℕ) (bytes : List ℕ) → HasDecoded R.stands_for self.now feed plan delay bytes → MatchResult result
+        ensures { (feed : ℕ) (plan : Plan) (delay : ℕ) (bytes : List ℕ) →
+            HasDecoded R.stands_for self.now feed plan delay bytes → MatchResult result
             (λ _. bad_at_end bytes ≡ None)
             (λ bad. bad_at_end bytes ≡ Some bad.line) }
     {
@@ -118,9 +121,11 @@ impl<R: Receiver> LogDecoder<R> {
         ensures reader { self.new.reader ≡ self.old.reader }
         ensures feed { self.new.feed ≡ self.old.feed }
         ensures lawful { IfOk result (λ found. IfSome found (IsEntryOf (feed_of self.old))) }
-        ensures heard { (plan : Plan) (delay : ℕ) (before longer : List ℕ) → IsFound before longer found → R.stands_for self.old.receiver (history_of plan delay before) →
+        ensures heard { (plan : Plan) (delay : ℕ) (before longer : List ℕ) → IsFound before longer found →
+            R.stands_for self.old.receiver (history_of plan delay before) →
             HearsLine R.stands_for self.new.receiver self.old.feed plan delay before longer result }
-        ensures least { (before longer : List ℕ) → IsFound before longer found → R.least_start self.old.receiver ≤ least_after (pulses before) →
+        ensures least { (before longer : List ℕ) → IsFound before longer found →
+            R.least_start self.old.receiver ≤ least_after (pulses before) →
             R.least_start self.new.receiver ≤ least_after (pulses longer) }
     {
         match found {

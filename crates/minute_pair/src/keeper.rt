@@ -75,7 +75,8 @@ impl SegmentKeeper {
 
     // Begins a segment.
     fn begin(&mut self, mark: Mark)
-        ensures frame { (plan : Plan) (marks : List Mark) → HasMarksOf self.old.frame plan marks → HasMarksOf self.new.frame plan (mark ∷ []) }
+        ensures frame { (plan : Plan) (marks : List Mark) → HasMarksOf self.old.frame plan marks →
+            HasMarksOf self.new.frame plan (mark ∷ []) }
         ensures opened { self.new.is_open ≡ true }
     {
         let mut frame = Frame::new(self.frame.plan());
@@ -87,7 +88,8 @@ impl SegmentKeeper {
     // Takes the next mark, and returns the segment that it closes, if it closes one.
     #[inline(always)]
     pub fn hear(&mut self, mark: Mark) -> Option<Closed>
-        ensures heard { (plan : Plan) (marks : List Mark) → HasKept self.old plan marks → HasKept self.new plan (marks ++ mark ∷ []) }
+        ensures heard { (plan : Plan) (marks : List Mark) → HasKept self.old plan marks →
+            HasKept self.new plan (marks ++ mark ∷ []) }
         ensures closed { (plan : Plan) (marks : List Mark) → HasKept self.old plan marks → MatchOption result
             (segments_of plan (marks ++ mark ∷ []) ≡ segments_of plan marks)
             (λ closed. Closes plan marks mark closed) }

@@ -42,9 +42,11 @@ impl Pairing {
     /// Takes the next mark, and returns the answer to the segment that it closes, if it closes one, at this mark's start.
     #[inline(always)]
     pub fn hear(&mut self, mark: Mark) -> Option<Heard>
-        ensures heard { (plan : Plan) (marks : List Mark) → HasPaired self.old plan marks → HasPaired self.new plan (marks ++ mark ∷ []) }
+        ensures heard { (plan : Plan) (marks : List Mark) → HasPaired self.old plan marks →
+            HasPaired self.new plan (marks ++ mark ∷ []) }
         ensures answered { (plan : Plan) (marks : List Mark) → HasPaired self.old plan marks →
-            answers plan (segments_of plan (marks ++ mark ∷ [])) ≡ answers plan (segments_of plan marks) ++ option_to_list result }
+            answers plan (segments_of plan (marks ++ mark ∷ [])) ≡
+            answers plan (segments_of plan marks) ++ option_to_list result }
 
         // A believed second, and its leap second, lie in the supported years, 2000 to 2099 and a day or two around them.
         ensures years { IfSome result (λ heard. BelievesYears heard.kind) }

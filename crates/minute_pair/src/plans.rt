@@ -44,7 +44,8 @@ impl Frame {
     // Reads the next mark.
     #[inline(always)]
     pub fn add(&mut self, mark: Mark)
-        ensures { (plan : Plan) (marks : List Mark) → HasMarksOf self.old plan marks → HasMarksOf self.new plan (marks ++ mark ∷ []) }
+        ensures { (plan : Plan) (marks : List Mark) → HasMarksOf self.old plan marks →
+            HasMarksOf self.new plan (marks ++ mark ∷ []) }
     {
         match self {
             Frame::OfDcf(frame) => frame.add(mark),
@@ -67,7 +68,8 @@ impl Frame {
 
     // Whether the marks have the 60th of a minute with a leap second.
     pub fn has_leap(&self) -> bool
-        ensures { (plan : Plan) (marks : List Mark) (close : ℕ) → HasMarksOf self.now plan marks → result ≡ has_leap_second plan (record { marks = marks; close = close }) }
+        ensures { (plan : Plan) (marks : List Mark) (close : ℕ) → HasMarksOf self.now plan marks →
+            result ≡ has_leap_second plan (record { marks = marks; close = close }) }
     {
         match self {
             Frame::OfDcf(frame) => frame.count() == 60,
@@ -78,7 +80,8 @@ impl Frame {
 
     // What the marks say by the plan, or the least rule that they break.
     pub fn close(&self, at: Local) -> Result<Coded, Broken>
-        ensures judged { (plan : Plan) (marks : List Mark) → HasMarksOf self.now plan marks → result ≡ judged plan (record { marks = marks; close = at }) }
+        ensures judged { (plan : Plan) (marks : List Mark) → HasMarksOf self.now plan marks →
+            result ≡ judged plan (record { marks = marks; close = at }) }
         ensures years { IfOk result (λ coded. SaysYears coded) }
     {
         match self {

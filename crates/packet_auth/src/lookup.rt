@@ -9,7 +9,9 @@ use crate::key::{DIGEST_LENGTH, Key};
 // Whether one of these keys has this identifier and makes this digest of a header.
 pub(crate) fn vouches(keys: &[Key], id: u32, header: &[u8], claimed: &[u8]) -> bool
     requires { length claimed.now ≡ 16 }
-    ensures found { result ≡ list_any (λ key. (key_fields key).id == id && bytes_eq (digest (key_fields key).secret header.now) claimed.now) keys.now }
+    ensures found { result ≡ list_any
+        (λ key. (key_fields key).id == id && bytes_eq
+        (digest (key_fields key).secret header.now) claimed.now) keys.now }
 {
     keys.iter()
         .any(|key| key.id == id && key.makes(header, claimed))

@@ -32,7 +32,8 @@ impl Meanwhile for Nothing {
 // The ten words of the bank of a count.
 fn load_words(banks: &Banks, token: &mut Token, first: u64) -> [u64; 10]
     requires own { (token.old.table_id ≡ banks.now.shared.table_id) × (banks.now.shared.table_id.words ≡ 21) }
-    requires trying { (token.old.me.0.watch.trying ≡ true) × (token.old.me.0.watch.first ≡ first) × (token.old.me.0.watch.loaded ≡ []) }
+    requires trying { (token.old.me.0.watch.trying ≡ true) × (token.old.me.0.watch.first ≡ first) ×
+        (token.old.me.0.watch.loaded ≡ []) }
     ensures own { token.new.table_id ≡ token.old.table_id }
     ensures me { token.new.me ≡ (with_loaded result 10 token.old.me.0, token.old.me.1) }
     ensures ten { length result ≡ 10 }

@@ -60,7 +60,8 @@ impl PageCell {
         requires next { number ≡ b.old.view.given }
         requires room { number < length (key_of b.old.view).sources }
         ensures cell { (b.new.table ≡ b.old.table) × (result.table ≡ b.old.table) }
-        ensures baton { (b.new.view.list ≡ b.old.view.list) × (key_of b.new.view ≡ key_of b.old.view) × (b.new.view.given ≡ number + 1) }
+        ensures baton { (b.new.view.list ≡ b.old.view.list) × (key_of b.new.view ≡ key_of b.old.view) ×
+            (b.new.view.given ≡ number + 1) }
         ensures feed { claim_of result.view ≡ new_claim number }
     {
         let token = self.banks.shared.split_seat::<GivesFeed>(&mut b.token);
@@ -99,7 +100,8 @@ impl PageCell {
         requires room { count ≤ length (key_of b.old.view).sources }
         ensures cell { b.new.table ≡ b.old.table }
         ensures baton { (b.new.view.list ≡ b.old.view.list) × (key_of b.new.view ≡ key_of b.old.view) }
-        ensures claims { IfOk result (λ fs. map (λ f. claim_of f.view) fs.items ≡ map new_claim (range_with_len 0 count)) }
+        ensures claims { IfOk result
+            (λ fs. map (λ f. claim_of f.view) fs.items ≡ map new_claim (range_with_len 0 count)) }
         ensures feeds { IfOk result (λ fs. All (λ f. f.table ≡ self.now.table) fs.items) }
     {
         let mut feeds = Vec::new(alloc);
@@ -121,7 +123,9 @@ impl PageCell {
     ) -> Result<Vec<ReadPass>, CellOpen>
         requires { b.old.table ≡ self.now.table }
         ensures same { b.new ≡ b.old }
-        ensures readers { IfOk result (λ rs. All (λ r. (r.table ≡ self.now.table) × (r.view.seen ≡ 0) × (r.view.readings ≡ []) × (r.view.watch.torn ≡ 0)) rs.items) }
+        ensures readers { IfOk result
+            (λ rs. All (λ r. (r.table ≡ self.now.table) × (r.view.seen ≡ 0) × (r.view.readings ≡ []) ×
+            (r.view.watch.torn ≡ 0)) rs.items) }
         ensures numbers { IfOk result (λ rs. map (λ r. r.number) rs.items ≡ range_with_len 0 count) }
         ensures count { IfOk result (λ rs. vec_len rs ≡ count) }
     {
@@ -139,10 +143,14 @@ impl PageCell {
     pub fn open(alloc: Global, s: &Settings, readers: u32) -> Result<CellParts, CellOpen>
         requires lawful { AreLawful s.now }
         requires few { readers ≤ 8 }
-        ensures baton { IfOk result (λ p. (p.baton.table ≡ p.cell.table) × (p.baton.view.list ≡ []) × (key_of p.baton.view ≡ s.now)) }
-        ensures claims { IfOk result (λ p. map (λ f. claim_of f.view) p.feeds.items ≡ map new_claim (range_with_len 0 (length s.now.sources))) }
+        ensures baton { IfOk result
+            (λ p. (p.baton.table ≡ p.cell.table) × (p.baton.view.list ≡ []) × (key_of p.baton.view ≡ s.now)) }
+        ensures claims { IfOk result
+            (λ p. map (λ f. claim_of f.view) p.feeds.items ≡ map new_claim (range_with_len 0 (length s.now.sources))) }
         ensures feeds { IfOk result (λ p. All (λ f. f.table ≡ p.cell.table) p.feeds.items) }
-        ensures readers { IfOk result (λ p. All (λ r. (r.table ≡ p.cell.table) × (r.view.seen ≡ 0) × (r.view.readings ≡ []) × (r.view.watch.torn ≡ 0)) p.readers.items) }
+        ensures readers { IfOk result
+            (λ p. All (λ r. (r.table ≡ p.cell.table) × (r.view.seen ≡ 0) × (r.view.readings ≡ []) ×
+            (r.view.watch.torn ≡ 0)) p.readers.items) }
         ensures numbers { IfOk result (λ p. map (λ r. r.number) p.readers.items ≡ range_with_len 0 readers) }
         ensures count { IfOk result (λ p. vec_len p.readers ≡ readers) }
     {

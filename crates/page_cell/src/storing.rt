@@ -33,7 +33,8 @@ pub(crate) fn begin(
     ten: &[u64; 10],
     count: usize,
 )
-    requires own { (baton.old.table_id ≡ banks.now.shared.table_id) × (feed.old.table_id ≡ banks.now.shared.table_id) × (banks.now.shared.table_id.words ≡ 21) }
+    requires own { (baton.old.table_id ≡ banks.now.shared.table_id) × (feed.old.table_id ≡ banks.now.shared.table_id) ×
+        (banks.now.shared.table_id.words ≡ 21) }
     requires baton { IsBaton total baton.old.me.0 }
     requires feed { (number : _) × (n : _) × IsFeed number n feed.old.me.0 }
     requires count { (count ≤ 10) × (total < 2 ^ 63) }
@@ -51,7 +52,8 @@ pub(crate) fn store_count<K: Published>(banks: &Banks, token: &mut Token, e: &En
     requires entry { e.now ≡ K.entry }
     requires publisher { (before : _) × IsPublisher e.now.feed before token.old.me.0 }
     requires total { total ≡ length (token.old.me.0.list ++ e.now ∷ []) }
-    requires stored { AreWords token.old.me.0.stored (page_of (key_of token.old.me.0) (token.old.me.0.list ++ e.now ∷ [])) }
+    requires stored { AreWords token.old.me.0.stored
+        (page_of (key_of token.old.me.0) (token.old.me.0.list ++ e.now ∷ [])) }
     ensures own { token.new.table_id ≡ token.old.table_id }
     ensures me { token.new.me ≡ (added e.now token.old.me.0, token.old.me.1) }
     ensures seen { All (λ c. IsPrefix c.seen token.old.me.0.list) token.old.me.0.feeds }

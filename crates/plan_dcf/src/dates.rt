@@ -21,7 +21,8 @@ const DAY: u64 = 86_400;
 fn ends_with_leap<P: Places>(segment: &P, second: u64) -> bool
     requires from { first_told ≤ second }
     requires below { second < end_of_told }
-    ensures { (marks : List Mark) → P.stands_for segment.now marks → result ≡ (announces_leap marks && begins_month second) }
+    ensures { (marks : List Mark) → P.stands_for segment.now marks →
+        result ≡ (announces_leap marks && begins_month second) }
 {
     announces_leap(segment) && begins_month(second)
 }

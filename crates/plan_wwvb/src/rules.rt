@@ -31,7 +31,8 @@ const MINUS: [bool; 3] = [false, true, false];
 // One of these places is not Long.
 fn lacks_long<P: Places>(segment: &P, places: &[usize]) -> bool
     requires { IsTrue (list_all (λ place. nat_lt place 61) places.now) }
-    ensures { (marks : List Mark) → P.stands_for segment.now marks → result ≡ list_any (λ place. not (is_set is_long marks place)) places.now }
+    ensures { (marks : List Mark) → P.stands_for segment.now marks →
+        result ≡ list_any (λ place. not (is_set is_long marks place)) places.now }
 {
     for place in places {
         if !segment.is_long(*place) {
@@ -44,7 +45,8 @@ fn lacks_long<P: Places>(segment: &P, places: &[usize]) -> bool
 // One of these places is 1.
 fn has_one<P: Places>(segment: &P, places: &[usize]) -> bool
     requires { IsTrue (list_all (λ place. nat_lt place 61) places.now) }
-    ensures { (marks : List Mark) → P.stands_for segment.now marks → result ≡ list_any (is_set is_one marks) places.now }
+    ensures { (marks : List Mark) → P.stands_for segment.now marks →
+        result ≡ list_any (is_set is_one marks) places.now }
 {
     for place in places {
         if segment.is_set(Bit::Only, *place) {
@@ -70,7 +72,8 @@ fn is_marker_place(place: usize) -> bool
 // This place is Long and is no marker's.
 fn strays<P: Places>(segment: &P, place: usize) -> bool
     requires { place < 61 }
-    ensures { (marks : List Mark) → P.stands_for segment.now marks → result ≡ (is_set is_long marks place && not (is_marker_place place)) }
+    ensures { (marks : List Mark) → P.stands_for segment.now marks →
+        result ≡ (is_set is_long marks place && not (is_marker_place place)) }
 {
     segment.is_long(place) && !is_marker_place(place)
 }

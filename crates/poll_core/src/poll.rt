@@ -78,8 +78,11 @@ impl Poll {
 
     // The exchange that a datagram completes.
     fn exchange_in(&self, from: Address, bytes: &[u8]) -> Result<Exchange, PollRefusal>
-        ensures refused { IfErr result (λ refusal. first_refusal (table self.now.server self.now.asked self.now.accepted from bytes.now) ≡ Some refusal) }
-        ensures passed { OnOk result (first_refusal (table self.now.server self.now.asked self.now.accepted from bytes.now) ≡ None) }
+        ensures refused { IfErr result
+            (λ refusal. first_refusal (table self.now.server self.now.asked self.now.accepted from bytes.now) ≡
+            Some refusal) }
+        ensures passed { OnOk result
+            (first_refusal (table self.now.server self.now.asked self.now.accepted from bytes.now) ≡ None) }
         ensures asked { IfOk result (λ exchange. self.now.asked ≡ Some exchange.asked) }
         ensures header { IfOk result (λ exchange. exchange.header ≡ fields bytes.now) }
     {

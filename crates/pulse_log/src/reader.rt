@@ -83,7 +83,8 @@ impl LineReader {
         requires { 0 < length bytes.now }
         ensures some { 0 < result.count }
         ensures within { result.count ≤ length bytes.now }
-        ensures taken { (before : List ℕ) → HasRead self.old before → TakesFront self.new before (take result.count bytes.now) result.found }
+        ensures taken { (before : List ℕ) → HasRead self.old before →
+            TakesFront self.new before (take result.count bytes.now) result.found }
     {
         if self.is_between_lines() {
             if let Some(line) = line_in_front(bytes, self.least) {
@@ -126,7 +127,8 @@ impl LineReader {
         requires { 0 < length bytes.now }
         ensures some { 0 < result.count }
         ensures within { result.count ≤ length bytes.now }
-        ensures taken { (before : List ℕ) → HasRead self.old before → TakesFront self.new before (take result.count bytes.now) result.found }
+        ensures taken { (before : List ℕ) → HasRead self.old before →
+            TakesFront self.new before (take result.count bytes.now) result.found }
     {
         let count = self.go_on(bytes);
         match bytes.get(count) {

@@ -35,12 +35,14 @@ pub fn make<K: Sink>(
     requires until { first ≤ 6311260800 }
     requires some { 1 ≤ minutes }
     requires few { minutes ≤ 1440 }
-    ensures written { OnOk result (WritesAll (K.state out.old) (K.state out.new) (text_of (made plan first minutes seed))) }
+    ensures written { OnOk result
+        (WritesAll (K.state out.old) (K.state out.new) (text_of (made plan first minutes seed))) }
     ensures lines { IfOk result (λ n. n ≡ length (made plan first minutes seed)) }
 
     // It is a valid log, in which a reader finds exactly these reductions.
     ensures read { IfOk result (λ _. IsReadAs (text_of (made plan first minutes seed)) (made plan first minutes seed)) }
-    ensures failed { OnErr result (WritesFront (K.state out.old) (K.state out.new) (text_of (made plan first minutes seed))) }
+    ensures failed { OnErr result
+        (WritesFront (K.state out.old) (K.state out.new) (text_of (made plan first minutes seed))) }
 {
     let mut log = LogWriter::new(plan, seed);
     log.write(opening_index(plan), opening_symbols(plan), out)?;

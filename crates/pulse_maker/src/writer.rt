@@ -43,8 +43,10 @@ fn write_reduction<K: Sink>(r: Reduction, out: &mut K) -> Result<(), Failed>
 // Writes the one reduction that says a symbol from a start on.
 fn write_whole<K: Sink>(plan: Plan, start: u64, symbol: Symbol, out: &mut K) -> Result<(), Failed>
     requires { start < 2 ^ 46 }
-    ensures ok { OnOk result (WritesAll (K.state out.old) (K.state out.new) (text_of (record { at = start; width = width_of plan symbol } ∷ []))) }
-    ensures err { OnErr result (WritesFront (K.state out.old) (K.state out.new) (text_of (record { at = start; width = width_of plan symbol } ∷ []))) }
+    ensures ok { OnOk result (WritesAll (K.state out.old) (K.state out.new)
+        (text_of (record { at = start; width = width_of plan symbol } ∷ []))) }
+    ensures err { OnErr result (WritesFront (K.state out.old) (K.state out.new)
+        (text_of (record { at = start; width = width_of plan symbol } ∷ []))) }
 {
     write_reduction(reduction_at(start, width_of(plan, symbol)), out)
 }
@@ -53,7 +55,8 @@ fn write_whole<K: Sink>(plan: Plan, start: u64, symbol: Symbol, out: &mut K) -> 
 fn write_parts<K: Sink>(plan: Plan, start: u64, symbol: Symbol, out: &mut K) -> Result<u64, Failed>
     requires { start < 2 ^ 45 }
     ensures ok { OnOk result (WritesAll (K.state out.old) (K.state out.new) (text_of (parts_of plan start symbol))) }
-    ensures err { OnErr result (WritesFront (K.state out.old) (K.state out.new) (text_of (parts_of plan start symbol))) }
+    ensures err { OnErr result
+        (WritesFront (K.state out.old) (K.state out.new) (text_of (parts_of plan start symbol))) }
     ensures lines { IfOk result (λ n. n ≡ length (parts_of plan start symbol)) }
     ensures few { IfOk result (λ n. n ≤ 2) }
 {

@@ -63,7 +63,8 @@ pub fn run_station<R: Threads + Wait + Sync, O: Outside, K: Sink>(
 
     // Where nothing has a fault, all is done.
     ensures complete { (asked : Asked) → AskFor (map (λ w. w.now) words.now) asked →
-        IsFaultless asked (O.state outside.old) (O.state outside.new) → (Rose (K.state out.old).faults (K.state out.new).faults → ⊥) →
+        IsFaultless asked (O.state outside.old) (O.state outside.new) →
+        (Rose (K.state out.old).faults (K.state out.new).faults → ⊥) →
         IsComplete asked result }
 {
     match read_words(alloc, words) {

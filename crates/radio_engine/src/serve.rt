@@ -105,7 +105,8 @@ fn serve_open<R: Threads + Wait + Sync, O: Outside>(
     requires blank { AreBlank stands_for least_start station.now.radios kit.receivers.items }
     requires gear { IsWhole station.now kit.gear }
     requires gate { O.gate_out outside.old ≡ false }
-    requires out { AreOut (O.state outside.old).openings (numbers_of (λ log. O.Log.opening log) (λ net. O.Net.opening net) kit.gear) }
+    requires out { AreOut (O.state outside.old).openings (numbers_of (λ log. O.Log.opening log)
+        (λ net. O.Net.opening net) kit.gear) }
     ensures gate { O.gate_out outside.new ≡ O.gate_out outside.old }
     ensures served { let logs = seen (λ log. O.Log.state log) (λ log. O.Log.opening log) in
         let sights = sights_of logs (seen (λ net. O.Net.state net) (λ net. O.Net.opening net)) in
@@ -202,7 +203,8 @@ pub fn run_serve<R: Threads + Wait + Sync, O: Outside, K: Sink>(
     requires gate { O.gate_out outside.old ≡ false }
     ensures gate { O.gate_out outside.new ≡ O.gate_out outside.old }
     ensures runs { Lacks (O.state outside.old) (O.state outside.new) (K.state out.old) (K.state out.new) result
-        ⊎ RunsServe name.now orders.budget.during orders.budget.after orders.limit (O.state outside.old) (O.state outside.new) (K.state out.old) (K.state out.new) result }
+        ⊎ RunsServe name.now orders.budget.during orders.budget.after orders.limit (O.state outside.old)
+        (O.state outside.new) (K.state out.old) (K.state out.new) result }
 {
     let Ok(mut text) = Vec::with_capacity(alloc, STATION_LIMIT) else {
         return finish(Ending::NoMemory, out);

@@ -56,8 +56,10 @@ fn run_program<R: Threads + Wait + Sync, O: Outside, K: Sink>(
 ) -> ExitCode
     requires { O.gate_out outside.old ≡ false }
     ensures { (status : Status) × (exit_status result ≡ number_of status) × MatchResult words.now
-        (λ w. IsRun (map (λ t. string_bytes t) w.items) (O.state outside.old) (O.state outside.new) (K.state out.old) (K.state out.new) status)
-        (λ _. Answers (status_of NoMemory) status (K.state out.old) (K.state out.new) (status_line NoMemory) × (O.state outside.new ≡ O.state outside.old)) }
+        (λ w. IsRun (map (λ t. string_bytes t) w.items) (O.state outside.old) (O.state outside.new) (K.state out.old)
+        (K.state out.new) status)
+        (λ _. Answers (status_of NoMemory) status (K.state out.old) (K.state out.new) (status_line NoMemory) ×
+        (O.state outside.new ≡ O.state outside.old)) }
 {
     exit_code(run_given(rt, alloc, words, outside, out))
 }
@@ -72,8 +74,10 @@ fn run_given<R: Threads + Wait + Sync, O: Outside, K: Sink>(
 ) -> Status
     requires { O.gate_out outside.old ≡ false }
     ensures { MatchResult words.now
-        (λ w. IsRun (map (λ t. string_bytes t) w.items) (O.state outside.old) (O.state outside.new) (K.state out.old) (K.state out.new) result)
-        (λ _. Answers (status_of NoMemory) result (K.state out.old) (K.state out.new) (status_line NoMemory) × (O.state outside.new ≡ O.state outside.old)) }
+        (λ w. IsRun (map (λ t. string_bytes t) w.items) (O.state outside.old) (O.state outside.new) (K.state out.old)
+        (K.state out.new) result)
+        (λ _. Answers (status_of NoMemory) result (K.state out.old) (K.state out.new) (status_line NoMemory) ×
+        (O.state outside.new ≡ O.state outside.old)) }
 {
     match words {
         Ok(words) => run_words(rt, alloc, words.as_slice(), outside, out),
@@ -114,7 +118,8 @@ where
 fn words_of(alloc: Global, all: io::Result<Args>) -> Result<Vec<String>, AllocError>
     ensures given { IfOk all (λ args. IfOk result (λ words. words.items ≡ drop 1 (into_iter_items args))) }
     ensures memory { IfErr all (λ e. error_kind e ≡ ErrorKind.OutOfMemory → result ≡ Err alloc_error) }
-    ensures no_text { IfErr all (λ e. (error_kind e ≡ ErrorKind.OutOfMemory → ⊥) → IsOkAnd result (λ words. words.items ≡ [])) }
+    ensures no_text { IfErr all (λ e. (error_kind e ≡ ErrorKind.OutOfMemory → ⊥) →
+        IsOkAnd result (λ words. words.items ≡ [])) }
 {
     match all {
         Ok(all) => behind_the_name(alloc, all),
@@ -175,7 +180,8 @@ fn run_words<R: Threads + Wait + Sync, O: Outside, K: Sink>(
     out: &mut K,
 ) -> Status
     requires { O.gate_out outside.old ≡ false }
-    ensures { IsRun (map (λ w. string_bytes w) words.now) (O.state outside.old) (O.state outside.new) (K.state out.old) (K.state out.new) result }
+    ensures { IsRun (map (λ w. string_bytes w) words.now) (O.state outside.old) (O.state outside.new) (K.state out.old)
+        (K.state out.new) result }
 {
     match run(rt, alloc, words, outside, out) {
         Ok(status) => status,
@@ -196,7 +202,8 @@ fn run<R: Threads + Wait + Sync, O: Outside, K: Sink>(
 ) -> Result<Status, AllocError>
     requires { O.gate_out outside.old ≡ false }
     ensures { MatchResult result
-        (λ status. IsRun (map (λ w. string_bytes w) words.now) (O.state outside.old) (O.state outside.new) (K.state out.old) (K.state out.new) status)
+        (λ status. IsRun (map (λ w. string_bytes w) words.now) (O.state outside.old) (O.state outside.new)
+        (K.state out.old) (K.state out.new) status)
         (λ _. (O.state outside.new ≡ O.state outside.old) × (K.state out.new ≡ K.state out.old)) }
 {
     let texts = texts_of(alloc, words)?;

@@ -57,7 +57,8 @@ impl Chain {
     #[inline(always)]
     pub fn hear(&mut self, reduction: Reduction) -> Option<Heard>
         ensures heard { (h : History) → HasChained self.old h → HasChained self.new (with_reduction h reduction) }
-        ensures answered { (h : History) → HasChained self.old h → answers_of (with_reduction h reduction) ≡ answers_of h ++ option_to_list result }
+        ensures answered { (h : History) → HasChained self.old h →
+            answers_of (with_reduction h reduction) ≡ answers_of h ++ option_to_list result }
         ensures least { self.new.least_start ≡ reduction.at + 1 }
         ensures years { IfSome result (λ heard. BelievesYears heard.kind) }
     {
@@ -86,8 +87,10 @@ impl Chain {
     // plans would do.
     #[inline(always)]
     pub fn hear_as(&mut self, plan: Plan, reduction: Reduction) -> Option<Heard>
-        ensures heard { (h : History) → h.plan ≡ plan → HasChained self.old h → HasChained self.new (with_reduction h reduction) }
-        ensures answered { (h : History) → h.plan ≡ plan → HasChained self.old h → answers_of (with_reduction h reduction) ≡ answers_of h ++ option_to_list result }
+        ensures heard { (h : History) → h.plan ≡ plan → HasChained self.old h →
+            HasChained self.new (with_reduction h reduction) }
+        ensures answered { (h : History) → h.plan ≡ plan → HasChained self.old h →
+            answers_of (with_reduction h reduction) ≡ answers_of h ++ option_to_list result }
         ensures least { self.new.least_start ≡ reduction.at + 1 }
         ensures years { IfSome result (λ heard. BelievesYears heard.kind) }
     {

@@ -17,7 +17,8 @@ impl<T: Receiver> CountingReceiver<T> {
     /// A receiver around this blank one, which stands for what that one stands for.
     pub fn new(inner: T) -> CountingReceiver<T>
         requires blank { T.least_start inner ≡ 0 }
-        ensures stands { (h : History) → T.stands_for inner h → ⟦<CountingReceiver<T> as Receiver>⟧.stands_for result h }
+        ensures stands { (h : History) → T.stands_for inner h →
+            ⟦<CountingReceiver<T> as Receiver>⟧.stands_for result h }
         ensures least { ⟦<CountingReceiver<T> as Receiver>⟧.least_start result ≡ 0 }
     {
         // A blank receiver has received nothing, so there is nothing to count.
@@ -27,7 +28,8 @@ impl<T: Receiver> CountingReceiver<T> {
 
     /// How many reductions it has received, or `u64::MAX` where there were more.
     pub fn count(&self) -> u64
-        ensures { (h : History) → ⟦<CountingReceiver<T> as Receiver>⟧.stands_for self.now h → result ≡ count_of h.reductions }
+        ensures { (h : History) → ⟦<CountingReceiver<T> as Receiver>⟧.stands_for self.now h →
+            result ≡ count_of h.reductions }
     {
         self.count
     }

@@ -32,7 +32,8 @@ pub trait Receiver: Drop {
     fn hear(&mut self, reduction: Reduction) -> Option<Heard>
         requires { least_start self.old ≤ reduction.at }
         ensures heard { (h : History) → stands_for self.old h → stands_for self.new (with_reduction h reduction) }
-        ensures answered { (h : History) → stands_for self.old h → answers_of (with_reduction h reduction) ≡ answers_of h ++ option_to_list result }
+        ensures answered { (h : History) → stands_for self.old h →
+            answers_of (with_reduction h reduction) ≡ answers_of h ++ option_to_list result }
         ensures least { least_start self.new ≡ reduction.at + 1 }
 
         // A believed second, and its leap second, lie in the supported years, 2000 to 2099 and a day or two around them.

@@ -20,7 +20,8 @@ pub fn put_in_rack(
 ) -> Result<(), AllocError>
     requires { stands_for receiver (blank_of plan) }
     ensures { (d m w : ℕ) → HasOfEach stands_for d m w rack.old.items →
-        OnOk result (HasOfEach stands_for (with_one plan Dcf d) (with_one plan Msf m) (with_one plan Wwvb w) rack.new.items) }
+        OnOk result (HasOfEach stands_for (with_one plan Dcf d) (with_one plan Msf m)
+        (with_one plan Wwvb w) rack.new.items) }
 {
     rack.push(receiver)?;
     Ok(())

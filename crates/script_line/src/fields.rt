@@ -97,7 +97,8 @@ impl<'a> Fields<'a> {
     pub fn next_width(&mut self) -> Option<u32>
         ensures width { IfSome result (λ n. (1 ≤ n) × (n ≤ 2000000)
             × ((fields : List (List ℕ)) → HasSpaced self.new fields → HasSpaced self.old (decimal n ∷ fields))) }
-        ensures every { (n : ℕ) (fields : List (List ℕ)) → 1 ≤ n → n ≤ 2000000 → HasSpaced self.old (decimal n ∷ fields) →
+        ensures every { (n : ℕ) (fields : List (List ℕ)) → 1 ≤ n → n ≤ 2000000 →
+            HasSpaced self.old (decimal n ∷ fields) →
             (result ≡ Some n) × HasSpaced self.new fields }
     {
         let width = self.next_number(WIDEST)?;
@@ -131,7 +132,8 @@ impl<'a> Fields<'a> {
     // The one field that is left, as a datagram.
     pub fn datagram(&self) -> Option<Datagram<'a>>
         ensures datagram { IfSome result (λ bytes. IsDatagram bytes × HasSpaced self.now (encode_lower bytes ∷ [])) }
-        ensures every { (bytes : List ℕ) → IsDatagram bytes → HasSpaced self.now (encode_lower bytes ∷ []) → result ≡ Some bytes }
+        ensures every { (bytes : List ℕ) → IsDatagram bytes → HasSpaced self.now (encode_lower bytes ∷ []) →
+            result ≡ Some bytes }
     {
         let [b' ', digits @ ..] = self.rest else {
             return None;

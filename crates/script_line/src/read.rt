@@ -35,7 +35,8 @@ pub fn read_line<'a>(text: &'a [u8]) -> Option<ScriptLine<'a>>
 // A reduction that a radio's receiver receives.
 fn read_pulse<'a>(mut fields: Fields<'a>) -> Option<ScriptLine<'a>>
     ensures line { IfSome result (λ line. IsOfFields fields.entry line × (word_of line ≡ codes "pulse")) }
-    ensures every { (feed : ℕ) (reduction : reduction.Reduction) → IsOfFields fields.entry (ScriptLine.Pulse feed reduction) →
+    ensures every { (feed : ℕ) (reduction : reduction.Reduction) →
+        IsOfFields fields.entry (ScriptLine.Pulse feed reduction) →
         result ≡ Some (ScriptLine.Pulse feed reduction) }
 {
     let feed = fields.next_feed()?;
@@ -52,7 +53,8 @@ fn read_pulse<'a>(mut fields: Fields<'a>) -> Option<ScriptLine<'a>>
 // A poller asks.
 fn read_ask<'a>(mut fields: Fields<'a>) -> Option<ScriptLine<'a>>
     ensures line { IfSome result (λ line. IsOfFields fields.entry line × (word_of line ≡ codes "ask")) }
-    ensures every { (feed at : ℕ) → IsOfFields fields.entry (ScriptLine.Ask feed at) → result ≡ Some (ScriptLine.Ask feed at) }
+    ensures every { (feed at : ℕ) → IsOfFields fields.entry (ScriptLine.Ask feed at) →
+        result ≡ Some (ScriptLine.Ask feed at) }
 {
     let feed = fields.next_feed()?;
     let at = fields.next_moment()?;
@@ -91,7 +93,8 @@ fn read_swap<'a>(mut fields: Fields<'a>) -> Option<ScriptLine<'a>>
 // A client's datagram.
 fn read_request<'a>(mut fields: Fields<'a>) -> Option<ScriptLine<'a>>
     ensures line { IfSome result (λ line. IsOfFields fields.entry line × (word_of line ≡ codes "request")) }
-    ensures every { (connection arrived sent : ℕ) (bytes : List ℕ) → IsOfFields fields.entry (ScriptLine.Request connection arrived sent bytes) →
+    ensures every { (connection arrived sent : ℕ) (bytes : List ℕ) →
+        IsOfFields fields.entry (ScriptLine.Request connection arrived sent bytes) →
         result ≡ Some (ScriptLine.Request connection arrived sent bytes) }
 {
     let connection = fields.next_connection()?;
@@ -112,7 +115,8 @@ fn read_request<'a>(mut fields: Fields<'a>) -> Option<ScriptLine<'a>>
 // A leap second that the file announces.
 fn read_leap<'a>(mut fields: Fields<'a>) -> Option<ScriptLine<'a>>
     ensures line { IfSome result (λ line. IsOfFields fields.entry line × (word_of line ≡ codes "leap")) }
-    ensures every { (feed at leap_at : ℕ) → IsOfFields fields.entry (ScriptLine.Leap feed at leap_at) → result ≡ Some (ScriptLine.Leap feed at leap_at) }
+    ensures every { (feed at leap_at : ℕ) → IsOfFields fields.entry (ScriptLine.Leap feed at leap_at) →
+        result ≡ Some (ScriptLine.Leap feed at leap_at) }
 {
     let feed = fields.next_feed()?;
     let at = fields.next_moment()?;

@@ -52,9 +52,11 @@ impl Journal {
     // An entry that is due. It is dropped where the journal is full.
     pub fn take(&mut self, e: &Entry) -> Outcome
         requires { IsLawful (length self.old.fold.feeds) e.now }
-        ensures kept { (settings : SettingsFields) (limit : ℕ) (entries : List Entry) → HasKept self.old settings limit entries →
+        ensures kept { (settings : SettingsFields) (limit : ℕ) (entries : List Entry) →
+            HasKept self.old settings limit entries →
             HasKept self.new settings limit (entries ++ e.now ∷ []) }
-        ensures outcome { (settings : SettingsFields) (limit : ℕ) (entries : List Entry) → HasKept self.old settings limit entries →
+        ensures outcome { (settings : SettingsFields) (limit : ℕ) (entries : List Entry) →
+            HasKept self.old settings limit entries →
             result ≡ outcome_of_due settings limit entries (Some e.now) }
         ensures feeds { length self.new.fold.feeds ≡ length self.old.fold.feeds }
     {
@@ -73,7 +75,8 @@ impl Journal {
 
     // The page of the entries kept.
     pub fn page(&self) -> Page
-        ensures { (settings : SettingsFields) (limit : ℕ) (entries : List Entry) → HasKept self.now settings limit entries →
+        ensures { (settings : SettingsFields) (limit : ℕ) (entries : List Entry) →
+            HasKept self.now settings limit entries →
             result ≡ page_of settings (take limit entries) }
     {
         self.fold.page()
@@ -81,7 +84,8 @@ impl Journal {
 
     // Whether one was dropped.
     pub fn is_full(&self) -> bool
-        ensures { (settings : SettingsFields) (limit : ℕ) (entries : List Entry) → HasKept self.now settings limit entries →
+        ensures { (settings : SettingsFields) (limit : ℕ) (entries : List Entry) →
+            HasKept self.now settings limit entries →
             result ≡ nat_lt limit (length entries) }
     {
         self.is_full

@@ -102,7 +102,8 @@ impl Player<BoxedReceiver> {
         requires line { IsLine line.now }
         requires ready { IsReady least_start self.old }
         ensures ready { IsReady least_start self.new }
-        ensures plays { (station : StationFields) (limit : ℕ) (before : List Played) → HasPlayed stands_for self.old station limit before →
+        ensures plays { (station : StationFields) (limit : ℕ) (before : List Played) →
+            HasPlayed stands_for self.old station limit before →
             Plays stands_for self.new station limit before line.now result }
     {
         match line {
@@ -124,7 +125,8 @@ impl Player<BoxedReceiver> {
     fn hear(&mut self, feed: u32, reduction: Reduction) -> Result<Outcome, NotLawful>
         requires { IsReady least_start self.old }
         ensures ready { IsReady least_start self.new }
-        ensures plays { (station : StationFields) (limit : ℕ) (before : List Played) → HasPlayed stands_for self.old station limit before →
+        ensures plays { (station : StationFields) (limit : ℕ) (before : List Played) →
+            HasPlayed stands_for self.old station limit before →
             Plays stands_for self.new station limit before (lines.Pulse feed reduction) result }
     {
         match self.radios.hear(feed, reduction)? {
@@ -137,7 +139,8 @@ impl Player<BoxedReceiver> {
     fn ask(&mut self, feed: u32, at: Local) -> Result<Outcome, NotLawful>
         requires { IsReady least_start self.old }
         ensures ready { IsReady least_start self.new }
-        ensures plays { (station : StationFields) (limit : ℕ) (before : List Played) → HasPlayed stands_for self.old station limit before →
+        ensures plays { (station : StationFields) (limit : ℕ) (before : List Played) →
+            HasPlayed stands_for self.old station limit before →
             Plays stands_for self.new station limit before (lines.Ask feed at) result }
     {
         let request = self.servers.ask(feed, at)?;
@@ -153,7 +156,8 @@ impl Player<BoxedReceiver> {
     ) -> Result<Outcome, NotLawful>
         requires { IsReady least_start self.old }
         ensures ready { IsReady least_start self.new }
-        ensures plays { (station : StationFields) (limit : ℕ) (before : List Played) → HasPlayed stands_for self.old station limit before →
+        ensures plays { (station : StationFields) (limit : ℕ) (before : List Played) →
+            HasPlayed stands_for self.old station limit before →
             Plays stands_for self.new station limit before (lines.Answer feed at datagram.now) result }
     {
         let mut room = [0; 1024];
@@ -166,7 +170,8 @@ impl Player<BoxedReceiver> {
     fn swap(&mut self, feed: u32) -> Result<Outcome, NotLawful>
         requires { IsReady least_start self.old }
         ensures ready { IsReady least_start self.new }
-        ensures plays { (station : StationFields) (limit : ℕ) (before : List Played) → HasPlayed stands_for self.old station limit before →
+        ensures plays { (station : StationFields) (limit : ℕ) (before : List Played) →
+            HasPlayed stands_for self.old station limit before →
             Plays stands_for self.new station limit before (lines.Swap feed) result }
     {
         self.radios.swap(feed)?;
@@ -178,7 +183,8 @@ impl Player<BoxedReceiver> {
         requires told { leap_at < end_of_told }
         requires ready { IsReady least_start self.old }
         ensures ready { IsReady least_start self.new }
-        ensures plays { (station : StationFields) (limit : ℕ) (before : List Played) → HasPlayed stands_for self.old station limit before →
+        ensures plays { (station : StationFields) (limit : ℕ) (before : List Played) →
+            HasPlayed stands_for self.old station limit before →
             Plays stands_for self.new station limit before (lines.Leap feed at leap_at) result }
     {
         let entry = self.leap.tell(feed, at, leap_at)?;
@@ -196,8 +202,10 @@ impl Player<BoxedReceiver> {
         requires moments { arrived ≤ sent }
         requires ready { IsReady least_start self.old }
         ensures ready { IsReady least_start self.new }
-        ensures given { (station : StationFields) (limit : ℕ) (before : List Played) → HasPlayed stands_for self.old station limit before →
-            HasGiven stands_for self.new station limit before (lines.Request connection arrived sent datagram.now) result }
+        ensures given { (station : StationFields) (limit : ℕ) (before : List Played) →
+            HasPlayed stands_for self.old station limit before →
+            HasGiven stands_for self.new station limit before
+            (lines.Request connection arrived sent datagram.now) result }
     {
         let mut room = [0; 1024];
         let length = datagram.write(&mut room);
@@ -219,8 +227,10 @@ impl Player<BoxedReceiver> {
         requires moments { arrived ≤ sent }
         requires ready { IsReady least_start self.old }
         ensures ready { IsReady least_start self.new }
-        ensures given { (station : StationFields) (limit : ℕ) (before : List Played) → HasPlayed stands_for self.old station limit before →
-            HasGiven stands_for self.new station limit before (lines.Request connection arrived sent request.now.datagram.now) result }
+        ensures given { (station : StationFields) (limit : ℕ) (before : List Played) →
+            HasPlayed stands_for self.old station limit before →
+            HasGiven stands_for self.new station limit before
+            (lines.Request connection arrived sent request.now.datagram.now) result }
     {
         let page = self.page();
         let judged = self.clients.judge(sender_of(connection), arrived);
@@ -232,7 +242,8 @@ impl Player<BoxedReceiver> {
 
     /// The page of the entries kept so far.
     pub fn page(&self) -> Page
-        ensures { (station : StationFields) (limit : ℕ) (before : List Played) → HasPlayed stands_for self.now station limit before →
+        ensures { (station : StationFields) (limit : ℕ) (before : List Played) →
+            HasPlayed stands_for self.now station limit before →
             result ≡ page_after station limit (lines_of before) }
     {
         self.journal.page()
@@ -240,7 +251,8 @@ impl Player<BoxedReceiver> {
 
     /// Whether an entry was due when the journal was full.
     pub fn is_full(&self) -> bool
-        ensures { (station : StationFields) (limit : ℕ) (before : List Played) → HasPlayed stands_for self.now station limit before →
+        ensures { (station : StationFields) (limit : ℕ) (before : List Played) →
+            HasPlayed stands_for self.now station limit before →
             result ≡ replay.is_full station limit (lines_of before) }
     {
         self.journal.is_full()

@@ -46,8 +46,10 @@ impl Radio<BoxedReceiver> {
         ensures plan { self.new.plan ≡ self.old.plan }
         ensures delay { self.new.delay_us ≡ self.old.delay_us }
         ensures least { self.new.least ≡ reduction.at + 1 }
-        ensures heard { (h : History) → stands_for self.old.receiver h → stands_for self.new.receiver (with_reduction h reduction) }
-        ensures answered { (h : History) → stands_for self.old.receiver h → answers_of (with_reduction h reduction) ≡ answers_of h ++ option_to_list result }
+        ensures heard { (h : History) → stands_for self.old.receiver h →
+            stands_for self.new.receiver (with_reduction h reduction) }
+        ensures answered { (h : History) → stands_for self.old.receiver h →
+            answers_of (with_reduction h reduction) ≡ answers_of h ++ option_to_list result }
         ensures ready { least_start self.new.receiver ≤ self.new.least }
         ensures years { IfSome result (λ heard. BelievesYears heard.kind) }
     {
@@ -61,7 +63,8 @@ impl Radio<BoxedReceiver> {
         ensures plan { self.new.plan ≡ self.old.plan }
         ensures delay { self.new.delay_us ≡ self.old.delay_us }
         ensures least { self.new.least ≡ self.old.least }
-        ensures fitted { (h : History) → stands_for receiver h → stands_for self.new.receiver (with_delay h self.old.delay_us) }
+        ensures fitted { (h : History) → stands_for receiver h →
+            stands_for self.new.receiver (with_delay h self.old.delay_us) }
         ensures ready { least_start self.new.receiver ≤ self.new.least }
     {
         self.receiver = fit(receiver, self.delay_us);

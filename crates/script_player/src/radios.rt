@@ -69,7 +69,8 @@ impl Radios<BoxedReceiver> {
         requires left { 1 ≤ left_of plan self.old.left.items }
         requires delay { delay_us ≤ 100000 }
         ensures ready { AreReady least_start self.new }
-        ensures added { (station : StationFields) (fields : RadioFields) → fields.plan ≡ plan → fields.delay ≡ delay_us → HasRadios stands_for self.old station [] →
+        ensures added { (station : StationFields) (fields : RadioFields) → fields.plan ≡ plan →
+            fields.delay ≡ delay_us → HasRadios stands_for self.old station [] →
             OnOk result (HasRadios stands_for self.new (with_radio station fields) []) }
     {
         let receiver = take_of(&mut self.left, plan).unwrap();
@@ -82,8 +83,10 @@ impl Radios<BoxedReceiver> {
         requires { AreReady least_start self.old }
         ensures ready { AreReady least_start self.new }
         ensures count { vec_len self.new.fitted ≡ vec_len self.old.fitted }
-        ensures heard { (station : StationFields) (lines : List ScriptLine) → HasRadios stands_for self.old station lines →
-            Gives (may_hear (radio_of station feed) feed reduction lines) (HasHeardPulse stands_for self.new station lines feed reduction)
+        ensures heard { (station : StationFields) (lines : List ScriptLine) →
+            HasRadios stands_for self.old station lines →
+            Gives (may_hear (radio_of station feed) feed reduction lines)
+            (HasHeardPulse stands_for self.new station lines feed reduction)
             (HasRadios stands_for self.new station lines) result }
         ensures lawful { IfOk result (λ entry. IfSome entry (λ e. IsLawful (vec_len self.old.fitted) e)) }
     {
@@ -103,8 +106,10 @@ impl Radios<BoxedReceiver> {
         requires { AreReady least_start self.old }
         ensures ready { AreReady least_start self.new }
         ensures count { vec_len self.new.fitted ≡ vec_len self.old.fitted }
-        ensures swapped { (station : StationFields) (lines : List ScriptLine) → HasRadios stands_for self.old station lines →
-            Gives (may_swap station (radio_of station feed) lines) (λ _. HasRadios stands_for self.new station (lines ++ Swap feed ∷ []))
+        ensures swapped { (station : StationFields) (lines : List ScriptLine) →
+            HasRadios stands_for self.old station lines →
+            Gives (may_swap station (radio_of station feed) lines)
+            (λ _. HasRadios stands_for self.new station (lines ++ Swap feed ∷ []))
             (HasRadios stands_for self.new station lines) result }
     {
         let place = feed as usize;

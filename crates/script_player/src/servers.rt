@@ -57,7 +57,8 @@ impl Servers {
     // The place of a server, where this moment is not below its last one.
     fn place_of(&self, feed: u32, at: Local) -> Result<usize, NotLawful>
         ensures lawful { (station : StationFields) (lines : List ScriptLine) → HasServers self.now station lines →
-            Gives (may_poll (server_of station feed) feed at lines) (λ place. feed ≡ length station.radios + place) (Unit {0}) result }
+            Gives (may_poll (server_of station feed) feed at lines)
+            (λ place. feed ≡ length station.radios + place) (Unit {0}) result }
         ensures within { IfOk result (λ place. place < vec_len self.now.servers) }
         ensures place { IfOk result (λ place. feed ≡ self.now.first + place) }
         ensures timely { IfOk result (λ place. IsTimely self.now.servers.items place at) }
@@ -80,7 +81,8 @@ impl Servers {
         ensures count { vec_len self.new.servers ≡ vec_len self.old.servers }
         ensures first { self.new.first ≡ self.old.first }
         ensures asked { (station : StationFields) (lines : List ScriptLine) → HasServers self.old station lines →
-            Gives (may_poll (server_of station feed) feed at lines) (λ _. HasServers self.new station (lines ++ Ask feed at ∷ []))
+            Gives (may_poll (server_of station feed) feed at lines)
+            (λ _. HasServers self.new station (lines ++ Ask feed at ∷ []))
             (HasServers self.new station lines) result }
         ensures request { IfOk result (λ bytes. bytes ≡ layout (request_header at)) }
     {
@@ -93,7 +95,8 @@ impl Servers {
         ensures count { vec_len self.new.servers ≡ vec_len self.old.servers }
         ensures first { self.new.first ≡ self.old.first }
         ensures answered { (station : StationFields) (lines : List ScriptLine) → HasServers self.old station lines →
-            Gives (may_poll (server_of station feed) feed at lines) (HasAnswered self.new station lines feed at datagram.now)
+            Gives (may_poll (server_of station feed) feed at lines)
+            (HasAnswered self.new station lines feed at datagram.now)
             (HasServers self.new station lines) result }
         ensures lawful { IfOk result (λ e. IsLawful (self.old.first + vec_len self.old.servers) e) }
     {

@@ -95,15 +95,18 @@ impl Sweep {
     // The place of a feed's candidate: after those of lesser feeds.
     fn place_of(&self, feed: u32) -> usize
         ensures within { result ≤ length self.now }
-        ensures point { IsPartitionPoint (λ (x : Candidate). nat_lt x.feed feed ≡ true) (λ (x : Candidate). nat_lt x.feed feed ≡ false) self.now result }
+        ensures point { IsPartitionPoint (λ (x : Candidate). nat_lt x.feed feed ≡ true)
+            (λ (x : Candidate). nat_lt x.feed feed ≡ false) self.now result }
     {
         self.standing.partition_point(|c| c.feed < feed)
     }
 
     // Whether the candidate at a place is there and of a feed.
     fn has_at(&self, place: usize, feed: u32) -> bool
-        ensures there { result ≡ true → (place < length self.now) × ((d : Candidate) → (slice_index_or self.now place d).feed ≡ feed) }
-        ensures not_there { result ≡ false → place < length self.now → (d : Candidate) → (slice_index_or self.now place d).feed ≢ feed }
+        ensures there { result ≡ true → (place < length self.now) ×
+            ((d : Candidate) → (slice_index_or self.now place d).feed ≡ feed) }
+        ensures not_there { result ≡ false → place < length self.now → (d : Candidate) →
+            (slice_index_or self.now place d).feed ≢ feed }
     {
         let standing = self.standing.as_slice();
         place < standing.len() && standing[place].feed == feed
@@ -129,7 +132,8 @@ impl Sweep {
         requires room { length self.old < 16 }
         requires within { place ≤ length self.old }
         requires before { (k : ℕ) (d : Candidate) → k < place → (slice_index_or self.old k d).feed < c.feed }
-        requires after { (k : ℕ) (d : Candidate) → place ≤ k → k < length self.old → c.feed < (slice_index_or self.old k d).feed }
+        requires after { (k : ℕ) (d : Candidate) → place ≤ k → k < length self.old →
+            c.feed < (slice_index_or self.old k d).feed }
         requires measured { IsTrue (is_measured c) }
         ensures { self.new ≡ insert self.old place c }
     {
@@ -153,7 +157,8 @@ impl Sweep {
     /// The interval that enough of the candidates agree on, as `select` gives it of them in any order.
     pub fn chime(&self) -> Option<Chime>
         ensures chime { result ≡ chime_of self.now }
-        ensures any_order { (candidates : List Candidate) → IsPermutation self.now candidates → result ≡ chime_of candidates }
+        ensures any_order { (candidates : List Candidate) → IsPermutation self.now candidates →
+            result ≡ chime_of candidates }
         ensures narrow { IfSome result (λ chime. (chime.high -ℤ chime.low) ≤ℤ pos (2 ^ 33)) }
     {
         match unanimous(self.standing.as_slice(), &self.lowers, &self.uppers) {

@@ -41,12 +41,17 @@ fn start(table: &Table) -> Option<Local>
 // The top table, or the first of its keys whose value is not of its type and range.
 fn read_top<'a>(table: &'a Table) -> Result<Top<'a>, &'static str>
     ensures numbers { IfOk result (λ t. t.numbers ≡ top_of (table_view table.now)) }
-    ensures leap_file { IfOk result (λ t. option_map (λ name. name.now) t.leap_file ≡ leap_file_of (table_view table.now)) }
-    ensures radios { IfOk result (λ t. tables_from 0 (items_view t.radios.now) ≡ tables_at radio_row (table_view table.now)) }
-    ensures servers { IfOk result (λ t. tables_from 0 (items_view t.servers.now) ≡ tables_at server_row (table_view table.now)) }
-    ensures links { IfOk result (λ t. tables_from 0 (items_view t.links.now) ≡ tables_at link_row (table_view table.now)) }
+    ensures leap_file { IfOk result
+        (λ t. option_map (λ name. name.now) t.leap_file ≡ leap_file_of (table_view table.now)) }
+    ensures radios { IfOk result
+        (λ t. tables_from 0 (items_view t.radios.now) ≡ tables_at radio_row (table_view table.now)) }
+    ensures servers { IfOk result
+        (λ t. tables_from 0 (items_view t.servers.now) ≡ tables_at server_row (table_view table.now)) }
+    ensures links { IfOk result
+        (λ t. tables_from 0 (items_view t.links.now) ≡ tables_at link_row (table_view table.now)) }
     ensures keys { IfOk result (λ t. tables_from 0 (items_view t.keys.now) ≡ tables_at key_row (table_view table.now)) }
-    ensures deny { IfOk result (λ t. tables_from 0 (items_view t.deny.now) ≡ tables_at deny_row (table_view table.now)) }
+    ensures deny { IfOk result
+        (λ t. tables_from 0 (items_view t.deny.now) ≡ tables_at deny_row (table_view table.now)) }
     ensures good { IfOk result (λ _. bad_in top_rows (table_view table.now) ≡ []) }
     ensures bad { IfErr result (λ k. slice_get (bad_in top_rows (table_view table.now)) 0 ≡ Some k.now) }
 {

@@ -27,7 +27,8 @@ pub enum KeyFault<'a> {
 
 // The fault of a table's misread value, with the table's part and place.
 fn placed(part: Part, place: usize, misread: Misread) -> KeyFault<'static>
-    ensures { (bad more : List Text) → IsMisread bad misread → IsMisreadAt (map (key_in part place) bad ++ more) result }
+    ensures { (bad more : List Text) → IsMisread bad misread →
+        IsMisreadAt (map (key_in part place) bad ++ more) result }
 {
     match misread {
         Misread::Range(key) => KeyFault::Range(Spot { part, place, key }),
@@ -42,7 +43,9 @@ fn add_radio(
     item: &Value,
 ) -> Result<(), KeyFault<'static>>
     requires { keys_at missing_in (sheets Part.Radio (table_at place (view item.now))) ≡ [] }
-    ensures added { IfOk result (λ _. Adds Part.Radio radio_of (table_at place (view item.now)) (map radio_kept radios.old.items) (map radio_kept radios.new.items)) }
+    ensures added { IfOk result
+        (λ _. Adds Part.Radio radio_of (table_at place (view item.now)) (map radio_kept radios.old.items)
+        (map radio_kept radios.new.items)) }
     ensures bad { IfErr result (IsMisreadAt (keys_at bad_in (sheets Part.Radio (table_at place (view item.now))))) }
 {
     let Some(table) = item.as_table() else {
@@ -63,7 +66,9 @@ fn add_server(
     item: &Value,
 ) -> Result<(), KeyFault<'static>>
     requires { keys_at missing_in (sheets Part.Server (table_at place (view item.now))) ≡ [] }
-    ensures added { IfOk result (λ _. Adds Part.Server server_of (table_at place (view item.now)) (map server_fields servers.old.items) (map server_fields servers.new.items)) }
+    ensures added { IfOk result
+        (λ _. Adds Part.Server server_of (table_at place (view item.now)) (map server_fields servers.old.items)
+        (map server_fields servers.new.items)) }
     ensures bad { IfErr result (IsMisreadAt (keys_at bad_in (sheets Part.Server (table_at place (view item.now))))) }
 {
     let Some(table) = item.as_table() else {
@@ -80,7 +85,8 @@ fn add_server(
 
 fn add_link(links: &mut Vec<u16>, place: usize, item: &Value) -> Result<(), KeyFault<'static>>
     requires { keys_at missing_in (sheets Part.Link (table_at place (view item.now))) ≡ [] }
-    ensures added { IfOk result (λ _. Adds Part.Link (number_at port_row) (table_at place (view item.now)) links.old.items links.new.items) }
+    ensures added { IfOk result
+        (λ _. Adds Part.Link (number_at port_row) (table_at place (view item.now)) links.old.items links.new.items) }
     ensures bad { IfErr result (IsMisreadAt (keys_at bad_in (sheets Part.Link (table_at place (view item.now))))) }
 {
     let Some(table) = item.as_table() else {
@@ -113,8 +119,10 @@ fn add_key(
     item: &Value,
 ) -> Result<(), KeyFault<'static>>
     requires { keys_at missing_in (sheets Part.Key (table_at place (view item.now))) ≡ [] }
-    ensures added { IfOk result (λ _. AddsKeys (table_at place (view item.now)) (map key_kept keys.old.items) (map key_kept keys.new.items)) }
-    ensures bad { IfErr result (IsMisreadAt (bad_in_keys (ids_of (map key_kept keys.old.items)) (table_at place (view item.now)))) }
+    ensures added { IfOk result
+        (λ _. AddsKeys (table_at place (view item.now)) (map key_kept keys.old.items) (map key_kept keys.new.items)) }
+    ensures bad { IfErr result
+        (IsMisreadAt (bad_in_keys (ids_of (map key_kept keys.old.items)) (table_at place (view item.now)))) }
 {
     let Some(table) = item.as_table() else {
         return Ok(());
@@ -127,7 +135,9 @@ fn add_key(
 
 fn add_net(nets: &mut Vec<DeniedNet>, place: usize, item: &Value) -> Result<(), KeyFault<'static>>
     requires { keys_at missing_in (sheets Part.Deny (table_at place (view item.now))) ≡ [] }
-    ensures added { IfOk result (λ _. Adds Part.Deny net_of (table_at place (view item.now)) (map net_kept nets.old.items) (map net_kept nets.new.items)) }
+    ensures added { IfOk result
+        (λ _. Adds Part.Deny net_of (table_at place (view item.now)) (map net_kept nets.old.items)
+        (map net_kept nets.new.items)) }
     ensures bad { IfErr result (IsMisreadAt (keys_at bad_in (sheets Part.Deny (table_at place (view item.now))))) }
 {
     let Some(table) = item.as_table() else {
@@ -145,8 +155,10 @@ fn add_net(nets: &mut Vec<DeniedNet>, place: usize, item: &Value) -> Result<(), 
 // The radios of these tables, in order; else the first bad value among them, or lack of memory.
 pub fn read_radios(alloc: Global, items: &[Value]) -> Result<Vec<Radio>, KeyFault<'static>>
     requires { keys_at missing_in (sheets Part.Radio (tables_from 0 (items_view items.now))) ≡ [] }
-    ensures read { IfOk result (λ v. Adds Part.Radio radio_of (tables_from 0 (items_view items.now)) [] (map radio_kept v.items)) }
-    ensures bad { IfErr result (IsMisreadAt (keys_at bad_in (sheets Part.Radio (tables_from 0 (items_view items.now))))) }
+    ensures read { IfOk result
+        (λ v. Adds Part.Radio radio_of (tables_from 0 (items_view items.now)) [] (map radio_kept v.items)) }
+    ensures bad { IfErr result
+        (IsMisreadAt (keys_at bad_in (sheets Part.Radio (tables_from 0 (items_view items.now))))) }
 {
     let mut radios = Vec::new(alloc);
     for (place, item) in items.iter().enumerate() {
@@ -158,8 +170,10 @@ pub fn read_radios(alloc: Global, items: &[Value]) -> Result<Vec<Radio>, KeyFaul
 // The servers of these tables, in order; else the first bad value among them, or lack of memory.
 pub fn read_servers(alloc: Global, items: &[Value]) -> Result<Vec<ServerRow>, KeyFault<'static>>
     requires { keys_at missing_in (sheets Part.Server (tables_from 0 (items_view items.now))) ≡ [] }
-    ensures read { IfOk result (λ v. Adds Part.Server server_of (tables_from 0 (items_view items.now)) [] (map server_fields v.items)) }
-    ensures bad { IfErr result (IsMisreadAt (keys_at bad_in (sheets Part.Server (tables_from 0 (items_view items.now))))) }
+    ensures read { IfOk result
+        (λ v. Adds Part.Server server_of (tables_from 0 (items_view items.now)) [] (map server_fields v.items)) }
+    ensures bad { IfErr result
+        (IsMisreadAt (keys_at bad_in (sheets Part.Server (tables_from 0 (items_view items.now))))) }
 {
     let mut servers = Vec::new(alloc);
     for (place, item) in items.iter().enumerate() {
@@ -171,8 +185,10 @@ pub fn read_servers(alloc: Global, items: &[Value]) -> Result<Vec<ServerRow>, Ke
 // The ports of the serving links of these tables, in order; else the first bad value among them, or lack of memory.
 pub fn read_links(alloc: Global, items: &[Value]) -> Result<Vec<u16>, KeyFault<'static>>
     requires { keys_at missing_in (sheets Part.Link (tables_from 0 (items_view items.now))) ≡ [] }
-    ensures read { IfOk result (λ v. Adds Part.Link (number_at port_row) (tables_from 0 (items_view items.now)) [] v.items) }
-    ensures bad { IfErr result (IsMisreadAt (keys_at bad_in (sheets Part.Link (tables_from 0 (items_view items.now))))) }
+    ensures read { IfOk result
+        (λ v. Adds Part.Link (number_at port_row) (tables_from 0 (items_view items.now)) [] v.items) }
+    ensures bad { IfErr result
+        (IsMisreadAt (keys_at bad_in (sheets Part.Link (tables_from 0 (items_view items.now))))) }
 {
     let mut links = Vec::new(alloc);
     for (place, item) in items.iter().enumerate() {
@@ -198,8 +214,10 @@ pub fn read_keys(alloc: Global, items: &[Value]) -> Result<Vec<SharedKey>, KeyFa
 // The denied nets of these tables, in order; else the first bad value among them, or lack of memory.
 pub fn read_nets(alloc: Global, items: &[Value]) -> Result<Vec<DeniedNet>, KeyFault<'static>>
     requires { keys_at missing_in (sheets Part.Deny (tables_from 0 (items_view items.now))) ≡ [] }
-    ensures read { IfOk result (λ v. Adds Part.Deny net_of (tables_from 0 (items_view items.now)) [] (map net_kept v.items)) }
-    ensures bad { IfErr result (IsMisreadAt (keys_at bad_in (sheets Part.Deny (tables_from 0 (items_view items.now))))) }
+    ensures read { IfOk result
+        (λ v. Adds Part.Deny net_of (tables_from 0 (items_view items.now)) [] (map net_kept v.items)) }
+    ensures bad { IfErr result
+        (IsMisreadAt (keys_at bad_in (sheets Part.Deny (tables_from 0 (items_view items.now))))) }
 {
     let mut nets = Vec::new(alloc);
     for (place, item) in items.iter().enumerate() {

@@ -115,7 +115,8 @@ fn has(table: &Table, key: &str) -> bool
 }
 
 fn first_absent(keys: &[&'static str], table: &Table) -> Option<&'static str>
-    ensures { option_map (λ k. k.now) result ≡ slice_get (filter (λ k. is_none (get_member k (table_view table.now))) (map (λ w. w.now) keys.now)) 0 }
+    ensures { option_map (λ k. k.now) result ≡
+        slice_get (filter (λ k. is_none (get_member k (table_view table.now))) (map (λ w. w.now) keys.now)) 0 }
 {
     for key in keys {
         if !has(table, key) {
@@ -141,7 +142,8 @@ fn first_in<'a>(check: Check, part: Part, table: &'a Table) -> Option<&'a str>
 }
 
 fn first_in_item<'a>(check: Check, part: Part, place: usize, item: &'a Value) -> Option<Spot<'a>>
-    ensures { option_map spot_text result ≡ slice_get (keys_at (keys_for check) (sheets part (table_at place (view item.now)))) 0 }
+    ensures { option_map spot_text result ≡
+        slice_get (keys_at (keys_for check) (sheets part (table_at place (view item.now)))) 0 }
 {
     match item.as_table() {
         Some(table) => match first_in(check, part, table) {
@@ -153,7 +155,8 @@ fn first_in_item<'a>(check: Check, part: Part, place: usize, item: &'a Value) ->
 }
 
 fn first_in_items<'a>(check: Check, part: Part, items: &'a [Value]) -> Option<Spot<'a>>
-    ensures { option_map spot_text result ≡ slice_get (keys_at (keys_for check) (sheets part (tables_from 0 (items_view items.now)))) 0 }
+    ensures { option_map spot_text result ≡
+        slice_get (keys_at (keys_for check) (sheets part (tables_from 0 (items_view items.now)))) 0 }
 {
     for (place, item) in items.iter().enumerate() {
         let spot = first_in_item(check, part, place, item);
@@ -203,7 +206,8 @@ pub fn tables<'a>(table: &'a Table, key: &str) -> Option<&'a [Value]>
 }
 
 fn first_in_array<'a>(check: Check, part: Part, table: &'a Table, key: &str) -> Option<Spot<'a>>
-    ensures { option_map spot_text result ≡ slice_get (keys_at (keys_for check) (sheets part (read_or [] tables_in (get_member key.now (table_view table.now))))) 0 }
+    ensures { option_map spot_text result ≡ slice_get
+        (keys_at (keys_for check) (sheets part (read_or [] tables_in (get_member key.now (table_view table.now))))) 0 }
 {
     match tables(table, key) {
         Some(items) => first_in_items(check, part, items),
@@ -213,7 +217,8 @@ fn first_in_array<'a>(check: Check, part: Part, table: &'a Table, key: &str) -> 
 
 // The same of the arrays at these keys: the radios come first, and then the servers and the links.
 fn first_in_arrays<'a>(check: Check, table: &'a Table) -> Option<Spot<'a>>
-    ensures { option_map spot_text result ≡ slice_get (keys_at (keys_for check) (item_sheets (table_view table.now))) 0 }
+    ensures { option_map spot_text result ≡
+        slice_get (keys_at (keys_for check) (item_sheets (table_view table.now))) 0 }
 {
     let radio = first_in_array(check, Part::Radio, table, "radio");
     if radio.is_some() {
@@ -228,7 +233,8 @@ fn first_in_arrays<'a>(check: Check, table: &'a Table) -> Option<Spot<'a>>
 
 // The same of the arrays about clients: the shared keys come first, and then the denied nets.
 fn first_in_clients<'a>(check: Check, table: &'a Table) -> Option<Spot<'a>>
-    ensures { option_map spot_text result ≡ slice_get (keys_at (keys_for check) (client_sheets (table_view table.now))) 0 }
+    ensures { option_map spot_text result ≡
+        slice_get (keys_at (keys_for check) (client_sheets (table_view table.now))) 0 }
 {
     let key = first_in_array(check, Part::Key, table, "key");
     if key.is_some() {
@@ -239,7 +245,8 @@ fn first_in_clients<'a>(check: Check, table: &'a Table) -> Option<Spot<'a>>
 
 // The same of all arrays.
 fn first_in_all<'a>(check: Check, table: &'a Table) -> Option<Spot<'a>>
-    ensures { option_map spot_text result ≡ slice_get (keys_at (keys_for check) (item_sheets (table_view table.now) ++ client_sheets (table_view table.now))) 0 }
+    ensures { option_map spot_text result ≡ slice_get
+        (keys_at (keys_for check) (item_sheets (table_view table.now) ++ client_sheets (table_view table.now))) 0 }
 {
     let item = first_in_arrays(check, table);
     if item.is_some() {

@@ -47,7 +47,8 @@ fn whole(value: &Value, least: u64, most: u64) -> Option<u64>
 // The whole number in a range at a key, or else the default.
 pub fn number(table: &Table, key: &str, least: u64, most: u64, default: u64) -> Option<u64>
     requires { default ≤ most }
-    ensures read { IsRead (whole least most) default (whole_in least most) (get_member key.now (table_view table.now)) result }
+    ensures read { IsRead (whole least most) default (whole_in least most)
+        (get_member key.now (table_view table.now)) result }
     ensures most { IfSome result (λ n. n ≤ most) }
 {
     match value_at(table, key) {
@@ -66,7 +67,8 @@ fn filled_text(value: &Value) -> Option<&str>
 
 // The text at a key where there is a value, which is not empty.
 pub fn some_text<'a>(table: &'a Table, key: &str) -> Option<Option<&'a str>>
-    ensures { IsRead text None some_text_in (get_member key.now (table_view table.now)) (option_map (option_map (λ t. t.now)) result) }
+    ensures { IsRead text None some_text_in (get_member key.now (table_view table.now))
+        (option_map (option_map (λ t. t.now)) result) }
 {
     match value_at(table, key) {
         Some(value) => Some(Some(filled_text(value)?)),
@@ -99,7 +101,8 @@ fn is_secret(text: &str) -> bool
 // The secret of a key.
 fn secret(table: &Table) -> Option<&str>
     requires { IsSome (get_member (codes "secret") (table_view table.now)) }
-    ensures read { IsRead secret [] secret_in (get_member (codes "secret") (table_view table.now)) (option_map (λ t. t.now) result) }
+    ensures read { IsRead secret [] secret_in (get_member (codes "secret") (table_view table.now)) (option_map
+        (λ t. t.now) result) }
     ensures least { IfSome result (λ t. 1 ≤ length t.now) }
     ensures most { IfSome result (λ t. length t.now ≤ 32) }
 {
@@ -110,7 +113,8 @@ fn secret(table: &Table) -> Option<&str>
 // The identifier of a key.
 fn id(table: &Table) -> Option<u32>
     requires { IsSome (get_member (codes "id") (table_view table.now)) }
-    ensures read { IsRead (whole 1 (2 ^ 32 - 1)) 0 (whole_in 1 (2 ^ 32 - 1)) (get_member (codes "id") (table_view table.now)) result }
+    ensures read { IsRead (whole 1 (2 ^ 32 - 1)) 0 (whole_in 1 (2 ^ 32 - 1))
+        (get_member (codes "id") (table_view table.now)) result }
     ensures some { IfSome result (λ n. 0 < n) }
 {
     let id = whole(value_at(table, "id")?, 1, u64::from(u32::MAX))?;
@@ -148,7 +152,8 @@ fn port(table: &Table) -> Option<u16>
 
 fn cidr(table: &Table) -> Option<DeniedNet>
     requires { IsSome (get_member (codes "net") (table_view table.now)) }
-    ensures { IsRead net all_addresses net_in (get_member (codes "net") (table_view table.now)) (option_map net_kept result) }
+    ensures { IsRead net all_addresses net_in (get_member (codes "net") (table_view table.now))
+        (option_map net_kept result) }
 {
     denied_net(value_at(table, "net")?.as_str()?)
 }

@@ -81,7 +81,8 @@ pub struct Parts {
 // The feeds of the radios.
 fn add_radios(settings: &mut Settings, radios: &[Radio])
     requires { length settings.old.sources + length radios.now ≤ 16 }
-    ensures { settings.new ≡ record settings.old { sources = settings.old.sources ++ map (λ r. kind_of_radio (radio_kept r)) radios.now } }
+    ensures { settings.new ≡
+        record settings.old { sources = settings.old.sources ++ map (λ r. kind_of_radio (radio_kept r)) radios.now } }
 {
     for radio in radios {
         settings.add(SourceKind::Radio(radio.plan));
@@ -91,7 +92,10 @@ fn add_radios(settings: &mut Settings, radios: &[Radio])
 // The feeds of the servers.
 fn add_servers(settings: &mut Settings, servers: &[ServerRow])
     requires { length settings.old.sources + length servers.now ≤ 16 }
-    ensures { settings.new ≡ record settings.old { sources = settings.old.sources ++ map (λ s. kind_of_server (server_fields s)) servers.now } }
+    ensures { settings.new ≡ record settings.old {
+      sources = settings.old.sources ++ map
+          (λ s. kind_of_server (server_fields s)) servers.now;
+    } }
 {
     for server in servers {
         settings.add(SourceKind::Server(server.address));
@@ -101,7 +105,8 @@ fn add_servers(settings: &mut Settings, servers: &[ServerRow])
 // The feed of the leap second file, where there is one.
 fn add_leap(settings: &mut Settings, leap_file: &Option<String>)
     requires { length settings.old.sources + length (leap_feeds (option_map string_bytes leap_file.now)) ≤ 16 }
-    ensures { settings.new ≡ record settings.old { sources = settings.old.sources ++ leap_feeds (option_map string_bytes leap_file.now) } }
+    ensures { settings.new ≡
+        record settings.old { sources = settings.old.sources ++ leap_feeds (option_map string_bytes leap_file.now) } }
 {
     if leap_file.is_some() {
         settings.add(SourceKind::Leap);

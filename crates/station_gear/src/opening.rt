@@ -17,8 +17,10 @@ fn open_logs<O: Outside>(
     requires none { logs.old.items ≡ [] }
     requires room { length station.now.radios ≤ vec_capacity logs.old }
     ensures opened { MatchResult result
-        (λ _. OpensAll (logs_needed station.now) (map (λ log. O.Log.opening log) logs.new.items) (log_states (λ log. O.Log.state log) logs.new.items) (O.state outside.old) (O.state outside.new))
-        (λ _. StopsIn (logs_needed station.now) (map (λ log. O.Log.opening log) logs.new.items) (log_states (λ log. O.Log.state log) logs.new.items) (O.state outside.old) (O.state outside.new)) }
+        (λ _. OpensAll (logs_needed station.now) (map (λ log. O.Log.opening log) logs.new.items) (log_states
+        (λ log. O.Log.state log) logs.new.items) (O.state outside.old) (O.state outside.new))
+        (λ _. StopsIn (logs_needed station.now) (map (λ log. O.Log.opening log) logs.new.items) (log_states
+        (λ log. O.Log.state log) logs.new.items) (O.state outside.old) (O.state outside.new)) }
     ensures gate { O.gate_out outside.new ≡ O.gate_out outside.old }
 {
     while let Some(radio) = station.radio(logs.len()) {
@@ -33,7 +35,8 @@ fn open_logs<O: Outside>(
 // Opens the leap second file, where the station names one.
 fn open_leap<O: Outside>(outside: &mut O, station: &Station) -> Result<Option<O::Log>, Failed>
     ensures opened { MatchResult result
-        (λ leap. OpensAll (leap_needed station.now) (map (λ log. O.Log.opening log) (option_to_list leap)) (log_states (λ log. O.Log.state log) (option_to_list leap)) (O.state outside.old) (O.state outside.new))
+        (λ leap. OpensAll (leap_needed station.now) (map (λ log. O.Log.opening log) (option_to_list leap)) (log_states
+        (λ log. O.Log.state log) (option_to_list leap)) (O.state outside.old) (O.state outside.new))
         (λ _. StopsIn (leap_needed station.now) [] [] (O.state outside.old) (O.state outside.new)) }
     ensures named { IfOk result (λ leap. is_some leap ≡ is_some station.now.leap_file) }
     ensures gate { O.gate_out outside.new ≡ O.gate_out outside.old }
@@ -56,8 +59,10 @@ fn open_servers<O: Outside>(
     requires none { servers.old.items ≡ [] }
     requires room { length station.now.servers ≤ vec_capacity servers.old }
     ensures opened { MatchResult result
-        (λ _. OpensAll (servers_needed station.now) (map (λ net. O.Net.opening net) servers.new.items) (link_states (λ net. O.Net.state net) servers.new.items) (O.state outside.old) (O.state outside.new))
-        (λ _. StopsIn (servers_needed station.now) (map (λ net. O.Net.opening net) servers.new.items) (link_states (λ net. O.Net.state net) servers.new.items) (O.state outside.old) (O.state outside.new)) }
+        (λ _. OpensAll (servers_needed station.now) (map (λ net. O.Net.opening net) servers.new.items) (link_states
+        (λ net. O.Net.state net) servers.new.items) (O.state outside.old) (O.state outside.new))
+        (λ _. StopsIn (servers_needed station.now) (map (λ net. O.Net.opening net) servers.new.items) (link_states
+        (λ net. O.Net.state net) servers.new.items) (O.state outside.old) (O.state outside.new)) }
     ensures gate { O.gate_out outside.new ≡ O.gate_out outside.old }
 {
     while servers.len() < station.servers() {
@@ -78,8 +83,10 @@ fn open_links<O: Outside>(
     requires none { links.old.items ≡ [] }
     requires room { length station.now.links ≤ vec_capacity links.old }
     ensures opened { MatchResult result
-        (λ _. OpensAll (links_needed station.now) (map (λ net. O.Net.opening net) links.new.items) (link_states (λ net. O.Net.state net) links.new.items) (O.state outside.old) (O.state outside.new))
-        (λ _. StopsIn (links_needed station.now) (map (λ net. O.Net.opening net) links.new.items) (link_states (λ net. O.Net.state net) links.new.items) (O.state outside.old) (O.state outside.new)) }
+        (λ _. OpensAll (links_needed station.now) (map (λ net. O.Net.opening net) links.new.items) (link_states
+        (λ net. O.Net.state net) links.new.items) (O.state outside.old) (O.state outside.new))
+        (λ _. StopsIn (links_needed station.now) (map (λ net. O.Net.opening net) links.new.items) (link_states
+        (λ net. O.Net.state net) links.new.items) (O.state outside.old) (O.state outside.new)) }
     ensures gate { O.gate_out outside.new ≡ O.gate_out outside.old }
 {
     while let Some(row) = station.link(links.len()) {
@@ -109,9 +116,14 @@ pub fn open_gear<O: Outside>(
 ) -> Result<(), Missing>
     requires { IsEmptyFor station.now gear.old }
     ensures opened { MatchResult result
-        (λ _. OpensAll (wanted_by station.now) (numbers_of (λ log. O.Log.opening log) (λ net. O.Net.opening net) gear.new) (states_of (λ log. O.Log.state log) (λ net. O.Net.state net) gear.new) (O.state outside.old) (O.state outside.new))
-        (λ missing. StopsAt station.now missing (numbers_of (λ log. O.Log.opening log) (λ net. O.Net.opening net) gear.new) (states_of (λ log. O.Log.state log) (λ net. O.Net.state net) gear.new) (O.state outside.old) (O.state outside.new)) }
-    ensures places { MatchResult result (λ _. IsWhole station.now gear.new) (λ missing. IsUpTo station.now missing gear.new) }
+        (λ _. OpensAll (wanted_by station.now) (numbers_of (λ log. O.Log.opening log)
+        (λ net. O.Net.opening net) gear.new) (states_of (λ log. O.Log.state log)
+        (λ net. O.Net.state net) gear.new) (O.state outside.old) (O.state outside.new))
+        (λ missing. StopsAt station.now missing (numbers_of (λ log. O.Log.opening log)
+        (λ net. O.Net.opening net) gear.new) (states_of (λ log. O.Log.state log)
+        (λ net. O.Net.state net) gear.new) (O.state outside.old) (O.state outside.new)) }
+    ensures places { MatchResult result (λ _. IsWhole station.now gear.new)
+        (λ missing. IsUpTo station.now missing gear.new) }
     ensures gate { O.gate_out outside.new ≡ O.gate_out outside.old }
 {
     let radios = station.radios();

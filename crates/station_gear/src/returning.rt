@@ -10,7 +10,8 @@ use feed_link::Outside;
 // Gives back logs, in order.
 fn give_back_logs<O: Outside>(outside: &mut O, logs: Vec<O::Log>)
     requires { AreOut (O.state outside.old).openings (map (λ log. O.Log.opening log) logs.items) }
-    ensures back { GivesAllBack (O.state outside.old) (O.state outside.new) (map (λ log. O.Log.opening log) logs.items) (log_states (λ log. O.Log.state log) logs.items) }
+    ensures back { GivesAllBack (O.state outside.old) (O.state outside.new) (map
+        (λ log. O.Log.opening log) logs.items) (log_states (λ log. O.Log.state log) logs.items) }
     ensures gate { O.gate_out outside.new ≡ O.gate_out outside.old }
 {
     for log in logs {
@@ -21,7 +22,8 @@ fn give_back_logs<O: Outside>(outside: &mut O, logs: Vec<O::Log>)
 // Gives back a log, where there is one.
 fn give_back_leap<O: Outside>(outside: &mut O, leap: Option<O::Log>)
     requires { AreOut (O.state outside.old).openings (map (λ log. O.Log.opening log) (option_to_list leap)) }
-    ensures back { GivesAllBack (O.state outside.old) (O.state outside.new) (map (λ log. O.Log.opening log) (option_to_list leap)) (log_states (λ log. O.Log.state log) (option_to_list leap)) }
+    ensures back { GivesAllBack (O.state outside.old) (O.state outside.new) (map
+        (λ log. O.Log.opening log) (option_to_list leap)) (log_states (λ log. O.Log.state log) (option_to_list leap)) }
     ensures gate { O.gate_out outside.new ≡ O.gate_out outside.old }
 {
     if let Some(log) = leap {
@@ -32,7 +34,8 @@ fn give_back_leap<O: Outside>(outside: &mut O, leap: Option<O::Log>)
 // Gives back links, in order.
 fn give_back_links<O: Outside>(outside: &mut O, links: Vec<O::Net>)
     requires { AreOut (O.state outside.old).openings (map (λ net. O.Net.opening net) links.items) }
-    ensures back { GivesAllBack (O.state outside.old) (O.state outside.new) (map (λ net. O.Net.opening net) links.items) (link_states (λ net. O.Net.state net) links.items) }
+    ensures back { GivesAllBack (O.state outside.old) (O.state outside.new) (map
+        (λ net. O.Net.opening net) links.items) (link_states (λ net. O.Net.state net) links.items) }
     ensures gate { O.gate_out outside.new ≡ O.gate_out outside.old }
 {
     for link in links {
@@ -42,8 +45,10 @@ fn give_back_links<O: Outside>(outside: &mut O, links: Vec<O::Net>)
 
 /// Gives back all logs and links of a gear, in the order in which they were opened.
 pub fn give_back_gear<O: Outside>(outside: &mut O, gear: Gear<O::Log, O::Net>)
-    requires { AreOut (O.state outside.old).openings (numbers_of (λ log. O.Log.opening log) (λ net. O.Net.opening net) gear) }
-    ensures back { GivesAllBack (O.state outside.old) (O.state outside.new) (numbers_of (λ log. O.Log.opening log) (λ net. O.Net.opening net) gear) (states_of (λ log. O.Log.state log) (λ net. O.Net.state net) gear) }
+    requires { AreOut (O.state outside.old).openings (numbers_of (λ log. O.Log.opening log)
+        (λ net. O.Net.opening net) gear) }
+    ensures back { GivesAllBack (O.state outside.old) (O.state outside.new) (numbers_of (λ log. O.Log.opening log)
+        (λ net. O.Net.opening net) gear) (states_of (λ log. O.Log.state log) (λ net. O.Net.state net) gear) }
     ensures gate { O.gate_out outside.new ≡ O.gate_out outside.old }
 {
     let Gear {

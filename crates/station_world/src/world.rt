@@ -80,7 +80,8 @@ impl World {
     fn enter(&mut self, e: &Entry) -> Result<(), StepRefusal>
         requires what { IsLawfulWhat e.now.what }
         requires room { length self.old.journal < 2 ^ 22 }
-        ensures ok { IfOk result (λ u. (refusal_of self.old (Enter e.now) ≡ None) × (self.new ≡ after self.old (Enter e.now))) }
+        ensures ok { IfOk result
+            (λ u. (refusal_of self.old (Enter e.now) ≡ None) × (self.new ≡ after self.old (Enter e.now))) }
         ensures err { IfErr result (λ r. (refusal_of self.old (Enter e.now) ≡ reason r) × (self.new ≡ self.old)) }
         ensures chained { IsChained self.old × IsChained self.new }
     {
@@ -117,7 +118,8 @@ impl World {
     }
 
     fn read(&mut self, number: u32) -> Result<Page, StepRefusal>
-        ensures ok { IfOk result (λ p. (refusal_of self.old (Read number) ≡ None) × (self.new ≡ after self.old (Read number)) × (p ≡ published_page self.old)) }
+        ensures ok { IfOk result (λ p. (refusal_of self.old (Read number) ≡ None) ×
+            (self.new ≡ after self.old (Read number)) × (p ≡ published_page self.old)) }
         ensures err { IfErr result (λ r. (refusal_of self.old (Read number) ≡ reason r) × (self.new ≡ self.old)) }
         ensures chained { IsChained self.old × IsChained self.new }
     {
@@ -130,7 +132,8 @@ impl World {
     }
 
     fn tell(&mut self, number: u32, told: u64) -> Result<(), StepRefusal>
-        ensures ok { IfOk result (λ u. (refusal_of self.old (Tell number told) ≡ None) × (self.new ≡ after self.old (Tell number told))) }
+        ensures ok { IfOk result
+            (λ u. (refusal_of self.old (Tell number told) ≡ None) × (self.new ≡ after self.old (Tell number told))) }
         ensures err { IfErr result (λ r. (refusal_of self.old (Tell number told) ≡ reason r) × (self.new ≡ self.old)) }
         ensures chained { IsChained self.old × IsChained self.new }
     {
@@ -152,7 +155,8 @@ impl World {
     /// Makes a step; a reading gives a page, and any other step none. A step that is refused leaves the world as it was.
     pub fn step(&mut self, s: Step) -> Result<Option<Page>, StepRefusal>
         requires { MayCome (length self.old.journal) s }
-        ensures ok { IfOk result (λ page. (refusal_of self.old s ≡ None) × (self.new ≡ after self.old s) × (page ≡ given self.old s)) }
+        ensures ok { IfOk result
+            (λ page. (refusal_of self.old s ≡ None) × (self.new ≡ after self.old s) × (page ≡ given self.old s)) }
         ensures err { IfErr result (λ r. (refusal_of self.old s ≡ reason r) × (self.new ≡ self.old)) }
         ensures chained { IsChained self.new }
         ensures rises { Rises self.old self.new }

@@ -66,7 +66,8 @@ fn look_at(number: u32, feed: &Feed, cut: u64, now: Local, fit: &mut Sources, sw
     requires room { length (others number sweep.old) < 16 }
     ensures source { IfSome (fits.fit_source cut now (number, feed.now)) (IsFit now) }
     ensures fit { fit.new ≡ fit.old ++ cons_option (fits.fit_source cut now (number, feed.now)) [] }
-    ensures sweep { sweep.new ≡ with_some number (option_map (selecting.candidate_of now) (fits.fit_source cut now (number, feed.now))) sweep.old }
+    ensures sweep { sweep.new ≡ with_some number
+        (option_map (selecting.candidate_of now) (fits.fit_source cut now (number, feed.now))) sweep.old }
 {
     match fit_source(number, feed, cut, now) {
         Some(source) => {

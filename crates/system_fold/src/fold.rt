@@ -122,7 +122,8 @@ impl FoldState {
 
     /// The page of the journal.
     pub fn page(&self) -> Page
-        ensures { (settings : SettingsFields) (journal : List Entry) → StandsForJournal self.now settings journal → result ≡ page_of settings journal }
+        ensures { (settings : SettingsFields) (journal : List Entry) → StandsForJournal self.now settings journal →
+            result ≡ page_of settings journal }
     {
         let inputs = PageInputs {
             length: self.length,

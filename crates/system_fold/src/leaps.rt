@@ -208,7 +208,8 @@ impl Leaps {
     // Keeps the word of an entry, if it is one.
     fn note_word(&mut self, e: &Entry)
         requires { e.now.feed < 16 }
-        ensures { self.new ≡ record self.old { words = words_with self.old.words e.now.feed (word_in e.now.at e.now.what) } }
+        ensures { self.new ≡
+            record self.old { words = words_with self.old.words e.now.feed (word_in e.now.at e.now.what) } }
     {
         if let Some(word) = word_said(e.at, &e.what) {
             self.words.put(e.feed, word);
@@ -228,7 +229,8 @@ impl Leaps {
     pub fn step(&mut self, e: &Entry)
         requires { e.now.feed < 16 }
         ensures moment { e.now.at < 2 ^ 50 }
-        ensures leaps { (journal : List Entry) → KeepsLeaps self.old journal → KeepsLeaps self.new (journal ++ e.now ∷ []) }
+        ensures leaps { (journal : List Entry) → KeepsLeaps self.old journal →
+            KeepsLeaps self.new (journal ++ e.now ∷ []) }
     {
         self.note_word(e);
         self.note_verdict(e);

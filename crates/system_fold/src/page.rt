@@ -60,7 +60,8 @@ fn told_by(inputs: &PageInputs, peer: &Source, fresh: Local, root_disp: Short, o
     requires offset { IsLength offset }
     requires root_disp { root_disp.0 ≡ pages.page_dispersion inputs.now.moment peer.now }
     requires within { is_above inputs.now.bound root_disp.0 0 ≡ false }
-    ensures { (others : List Source) → fresh ≡ fresh_of (peer.now ∷ others) → result ≡ pages.told_by inputs.now peer.now others offset }
+    ensures { (others : List Source) → fresh ≡ fresh_of (peer.now ∷ others) →
+        result ≡ pages.told_by inputs.now peer.now others offset }
 {
     Page {
         length: inputs.length,
@@ -85,7 +86,8 @@ pub fn page_from(inputs: &PageInputs, peer: &Source, fresh: Local, offset: Span)
     requires inputs { AreBounded inputs.now }
     requires peer { IsFit inputs.now.moment peer.now }
     requires offset { IsLength offset }
-    ensures { (others : List Source) → fresh ≡ fresh_of (peer.now ∷ others) → result ≡ pages.page_from inputs.now (peer.now ∷ others) offset }
+    ensures { (others : List Source) → fresh ≡ fresh_of (peer.now ∷ others) →
+        result ≡ pages.page_from inputs.now (peer.now ∷ others) offset }
 {
     let root_disp = root_disp_of(peer, inputs.moment);
     if inputs.is_above(root_disp) {

@@ -113,7 +113,8 @@ fn leaps_of(journal: &[Entry]) -> Leaps
 fn take_own(feed: &mut Feed, number: u32, e: &Entry)
     requires { IsLawfulWhat e.now.what }
     ensures kind { feed.new.kind ≡ feed.old.kind }
-    ensures filter { (journal : List Entry) → filters.StandsFor feed.old.filter (samples_of feed.old.kind number journal) →
+    ensures filter { (journal : List Entry) →
+        filters.StandsFor feed.old.filter (samples_of feed.old.kind number journal) →
         filters.StandsFor feed.new.filter (samples_of feed.old.kind number (journal ++ e.now ∷ [])) }
 {
     if e.feed == number {

@@ -116,7 +116,8 @@ fn source_at(fit: &[Source], feed: u32) -> Option<&Source>
 
 // The first of two sources, where there is one.
 fn first_of<'a>(first: Option<&'a Source>, next: Option<&'a Source>) -> Option<&'a Source>
-    ensures { (xs : List Source) → option_map (λ s. s.now) first.entry ≡ slice_get xs 0 → option_map (λ s. s.now) result ≡ slice_get (xs ++ cons_option (option_map (λ s. s.now) next.entry) []) 0 }
+    ensures { (xs : List Source) → option_map (λ s. s.now) first.entry ≡ slice_get xs 0 →
+        option_map (λ s. s.now) result ≡ slice_get (xs ++ cons_option (option_map (λ s. s.now) next.entry) []) 0 }
 {
     match first {
         Some(source) => Some(source),
@@ -126,7 +127,8 @@ fn first_of<'a>(first: Option<&'a Source>, next: Option<&'a Source>) -> Option<&
 
 // The later of a moment and that of a source's newest sample, if there is a source.
 fn fresher(fresh: Local, source: Option<&Source>) -> Local
-    ensures { (xs : List Source) → fresh ≡ fresh_of xs → result ≡ fresh_of (xs ++ cons_option (option_map (λ s. s.now) source.entry) []) }
+    ensures { (xs : List Source) → fresh ≡ fresh_of xs →
+        result ≡ fresh_of (xs ++ cons_option (option_map (λ s. s.now) source.entry) []) }
 {
     match source {
         Some(source) => later(fresh, source.figures.get().newest),

@@ -80,8 +80,10 @@ impl Words {
 
     /// The words that have to be read: none where none of them names a leap second, which is the common case, and else all.
     pub fn telling(&self) -> &[Option<Word>]
-        ensures passed { (now : ℕ) (last : Option Verdict) → passed_among now last result.now ≡ passed_among now last self.now }
-        ensures armed { (now : ℕ) (last : Option Verdict) → armed_among now last result.now ≡ armed_among now last self.now }
+        ensures passed { (now : ℕ) (last : Option Verdict) →
+            passed_among now last result.now ≡ passed_among now last self.now }
+        ensures armed { (now : ℕ) (last : Option Verdict) →
+            armed_among now last result.now ≡ armed_among now last self.now }
     {
         if self.silent { &[] } else { &self.of }
     }

@@ -81,7 +81,8 @@ impl<N: HubName> Hub<N> {
         requires lawful { AreLawful settings.now }
         requires fresh { parts.baton.view.list ≡ [] }
         requires limit { (limit ≡ N.limit) × (0 < limit) × (limit ≤ 4194304) }
-        ensures passes { IfOk result (λ p. (p.feeds.items ≡ parts.feeds.items) × (p.readers.items ≡ parts.readers.items)) }
+        ensures passes { IfOk result
+            (λ p. (p.feeds.items ≡ parts.feeds.items) × (p.readers.items ≡ parts.readers.items)) }
     {
         let CellParts {
             cell,

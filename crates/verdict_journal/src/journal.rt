@@ -28,7 +28,8 @@ impl Model for Journal {
 
     ghost view = { λ j. record { entries = j.baton.view.list; settings = key_of j.baton.view; limit = j.limit } };
 
-    ghost invariant = { λ j. (j.lines.items ≡ numbered_of (key_of j.baton.view) j.baton.view.list) × (vec_len j.lines ≡ length j.baton.view.list) × (j.page ≡ page_of (key_of j.baton.view) j.baton.view.list) };
+    ghost invariant = { λ j. (j.lines.items ≡ numbered_of (key_of j.baton.view) j.baton.view.list) ×
+        (vec_len j.lines ≡ length j.baton.view.list) × (j.page ≡ page_of (key_of j.baton.view) j.baton.view.list) };
 }
 
 // The entry of a line.

@@ -37,7 +37,8 @@ impl<N: HubName> Model for JournalState<N> {
 
     ghost view = { λ s. record { entries = s.baton.view.list; settings = key_of s.baton.view; limit = s.limit } };
 
-    ghost invariant = { λ s. IsKept s.lines.items (vec_capacity s.lines) s.fold s.limit s.baton × (s.baton.table ≡ N.table) × (key_of s.baton.view ≡ N.settings) × (s.limit ≡ N.limit) };
+    ghost invariant = { λ s. IsKept s.lines.items (vec_capacity s.lines) s.fold s.limit s.baton ×
+        (s.baton.table ≡ N.table) × (key_of s.baton.view ≡ N.settings) × (s.limit ≡ N.limit) };
 }
 
 impl<N: HubName> JournalState<N> {
@@ -54,8 +55,10 @@ impl<N: HubName> JournalState<N> {
         ensures seen { (claim_of f.new.view).seen ≡ self.new.entries }
         ensures same { (self.new.settings ≡ self.old.settings) × (self.new.limit ≡ self.old.limit) }
         ensures within { (length self.new.entries ≤ self.new.limit) × (self.new.limit ≡ N.limit) }
-        ensures ok { IfOk result (λ n. (self.new.entries ≡ self.old.entries ++ e ∷ []) × (n ≡ length self.new.entries) × ((claim_of f.new.view).own ≡ (claim_of f.old.view).own ++ e ∷ [])) }
-        ensures full { IfErr result (λ x. (x.limit ≡ self.old.limit) × (length self.old.entries ≡ self.old.limit) × (self.new.entries ≡ self.old.entries) × ((claim_of f.new.view).own ≡ (claim_of f.old.view).own)) }
+        ensures ok { IfOk result (λ n. (self.new.entries ≡ self.old.entries ++ e ∷ []) × (n ≡ length self.new.entries) ×
+            ((claim_of f.new.view).own ≡ (claim_of f.old.view).own ++ e ∷ [])) }
+        ensures full { IfErr result (λ x. (x.limit ≡ self.old.limit) × (length self.old.entries ≡ self.old.limit) ×
+            (self.new.entries ≡ self.old.entries) × ((claim_of f.new.view).own ≡ (claim_of f.old.view).own)) }
     {
         if self.lines.len() >= self.limit as usize {
             cell.show(&mut self.baton, f);

@@ -28,7 +28,8 @@ fn write_page_line(page: &Page, line: &mut Line) -> usize
 
 /// Writes the line of a page, and then the status line. The answer is the status, or a write fault.
 pub fn finish_page<K: Sink>(page: &Page, ending: Ending, out: &mut K) -> Status
-    ensures { Answers (status_of ending) result (K.state out.old) (K.state out.new) (page_text page.now ++ status_line ending) }
+    ensures { Answers (status_of ending) result (K.state out.old) (K.state out.new)
+        (page_text page.now ++ status_line ending) }
 {
     let mut line = [0; LINE_ROOM];
     let length = write_page_line(page, &mut line);

@@ -71,7 +71,8 @@ impl Mover {
 
     // Whether a line has the form of those before it.
     fn has_form(&self, line: &JournalLine) -> bool
-        ensures { (before : List journal.JournalLine) → IsFormOf self.now.form before → (IsTrue result ↔ HasFormOf before line.now) }
+        ensures { (before : List journal.JournalLine) → IsFormOf self.now.form before →
+            (IsTrue result ↔ HasFormOf before line.now) }
     {
         match self.form {
             Some(form) => line.form() == form,
@@ -83,7 +84,8 @@ impl Mover {
     pub fn take(&mut self, line: &JournalLine, number: u64) -> Option<Numbered>
         requires { self.old.fold.length < 2 ^ 22 }
         ensures grown { self.new.fold.length ≤ self.old.fold.length + 1 }
-        ensures moves { (settings : SettingsFields) (before : List journal.JournalLine) → number ≡ length before + 1 → length before < 4194304 →
+        ensures moves { (settings : SettingsFields) (before : List journal.JournalLine) → number ≡ length before + 1 →
+            length before < 4194304 →
             HasMoved self.old settings before None → MovesLine self.new settings before line.now number result }
     {
         if !self.has_form(line) || !is_lawful(line.entry(), self.sources) {

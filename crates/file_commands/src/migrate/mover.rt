@@ -35,7 +35,8 @@ fn move_text(mover: &mut Mover, text: &[u8], number: u64, line: &mut Line) -> Op
     requires { mover.old.fold.length < 2 ^ 22 }
     ensures grown { mover.new.fold.length ≤ mover.old.fold.length + 1 }
     ensures fits { MatchOption result (Unit {0}) (λ size. size ≤ LINE_ROOM) }
-    ensures moves { (settings : SettingsFields) (before : List JournalLine) → number ≡ length before + 1 → length before < 4194304 →
+    ensures moves { (settings : SettingsFields) (before : List JournalLine) → number ≡ length before + 1 →
+        length before < 4194304 →
         HasMoved mover.old settings before None → MovesText mover.new settings before text.now number line.new result }
 {
     let Some(read) = read_line(text) else {
@@ -52,7 +53,8 @@ impl JournalMover {
     pub fn new(mover: Mover) -> JournalMover
         requires { mover.fold.length ≡ 0 }
         ensures even { IsEven result }
-        ensures moved { (of : StationFields) → HasMoved mover (settings_of of) [] None → IsMovedBy result of [] [] None }
+        ensures moved { (of : StationFields) → HasMoved mover (settings_of of) [] None →
+            IsMovedBy result of [] [] None }
     {
         JournalMover {
             cutter: LineCutter::new(TOO_LONG),
@@ -68,8 +70,10 @@ impl JournalMover {
         ensures even { IsEven self.new }
         ensures cutter { self.new.cutter ≡ self.old.cutter }
         ensures fits { Fits result }
-        ensures moves { (of : StationFields) (before : List JournalLine) → self.old.lines ≡ length before → HasMoved self.old.mover (settings_of of) before None →
-            IsMovedLine self.old.lines self.new.lines self.new.mover of before (line_in self.old.cutter) line.new result }
+        ensures moves { (of : StationFields) (before : List JournalLine) → self.old.lines ≡ length before →
+            HasMoved self.old.mover (settings_of of) before None →
+            IsMovedLine self.old.lines self.new.lines self.new.mover of before
+            (line_in self.old.cutter) line.new result }
     {
         let number = self.lines + 1;
         self.lines = number;

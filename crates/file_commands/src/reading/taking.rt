@@ -40,16 +40,19 @@ pub trait Taker {
         ensures room { room self.old ≤ room self.new + result.count }
         ensures fits { Fits result.gives }
         ensures holds { (of : Case) (before text : List ℕ) → holds self.old of before text None →
-            holds self.new of (before ++ take result.count bytes.now) (text ++ given result.gives line.new) (bad_of result.gives) };
+            holds self.new of (before ++ take result.count bytes.now) (text ++ given result.gives line.new)
+            (bad_of result.gives) };
 
     // How far a reading came that came to the end.
     fn at_end(&self) -> Reach
         requires ready { is_ready self.now }
         requires room { 0 < room self.now }
-        ensures { (of : Case) (bytes text : List ℕ) → holds self.now of bytes text None → EndsAt result (bad_in_the_end None bytes) };
+        ensures { (of : Case) (bytes text : List ℕ) → holds self.now of bytes text None →
+            EndsAt result (bad_in_the_end None bytes) };
 
     // Up to a bad line the text that it has given is that of its bytes.
-    ghost held_says: { (taker : Self) (of : Case) (bytes text : List ℕ) → holds taker of bytes text None → says of bytes text };
+    ghost held_says: { (taker : Self) (of : Case) (bytes text : List ℕ) → holds taker of bytes text None →
+        says of bytes text };
 }
 
 // Takes a piece of a file, up to a bad line or a write that fails.
@@ -59,7 +62,9 @@ fn take_piece<T: Taker, K: Sink>(taker: &mut T, piece: &[u8], out: &mut K) -> Ta
     ensures ready { T.is_ready taker.new }
     ensures room { T.room taker.old ≤ T.room taker.new + length piece.now }
     ensures takes { (of : T.Case) (bytes text : List ℕ) (start : SinkState) → T.holds taker.old of bytes text None →
-        WritesAll start (K.state out.old) text → TakesPiece (T.holds taker.new of) (T.says of) result start (K.state out.new) (bytes ++ piece.now) (length piece.now) }
+        WritesAll start (K.state out.old) text →
+        TakesPiece (T.holds taker.new of) (T.says of) result start (K.state out.new) (bytes ++ piece.now)
+        (length piece.now) }
 {
     let mut line = [0; LINE_ROOM];
     let mut rest = piece;
@@ -87,7 +92,8 @@ pub fn read_lines<S: Source, T: Taker, K: Sink>(
     requires room { limit < T.room taker.old }
     ensures number { S.opening file.new ≡ S.opening file.old }
     ensures ends { (of : T.Case) → T.holds taker.old of [] [] None →
-        EndsTaking (T.holds taker.new of) (T.says of) limit (S.state file.old) (S.state file.new) (K.state out.old) (K.state out.new) result }
+        EndsTaking (T.holds taker.new of) (T.says of) limit (S.state file.old) (S.state file.new) (K.state out.old)
+        (K.state out.new) result }
 {
     let mut reader = FileReader::new(limit);
     'pieces: loop {

@@ -36,7 +36,8 @@ fn play_text(
     requires ready { IsReady least_start player.old }
     ensures ready { IsReady least_start player.new }
     ensures fits { MatchResult result (λ length. length ≤ LINE_ROOM) (λ _. Unit {0}) }
-    ensures plays { (station : StationFields) (limit : ℕ) (before : List Played) → HasPlayed stands_for player.old station limit before →
+    ensures plays { (station : StationFields) (limit : ℕ) (before : List Played) →
+        HasPlayed stands_for player.old station limit before →
         PlaysNext stands_for player.new station limit before text.now line.new result }
 {
     let Some(script_line) = read_line(text) else {
@@ -72,8 +73,10 @@ impl Replayer<BoxedReceiver> {
         ensures cutter { self.new.cutter ≡ self.old.cutter }
         ensures fits { Fits result }
         ensures lines { self.new.lines ≤ self.old.lines + 1 }
-        ensures plays { (station : StationFields) (limit : ℕ) (before : List Played) → HasPlayed stands_for self.old.player station limit before →
-            IsPlayedLine stands_for self.old.lines self.new.lines self.new.player station limit before (line_in self.old.cutter) line.new result }
+        ensures plays { (station : StationFields) (limit : ℕ) (before : List Played) →
+            HasPlayed stands_for self.old.player station limit before →
+            IsPlayedLine stands_for self.old.lines self.new.lines self.new.player station limit before
+            (line_in self.old.cutter) line.new result }
     {
         match play_text(&mut self.player, self.cutter.line(), line) {
             Ok(length) => {
@@ -94,7 +97,8 @@ impl Taker for Replayer<BoxedReceiver> {
 
     ghost says = { λ of. script_says of.station of.limit };
 
-    ghost holds = { λ replayer of. IsPlayedBy (λ b h. (Receiver-box b).stands_for b.value h) replayer of.station of.limit };
+    ghost holds = { λ replayer of. IsPlayedBy
+        (λ b h. (Receiver-box b).stands_for b.value h) replayer of.station of.limit };
 
     ghost is_ready = { λ replayer. IsReady (λ b. (Receiver-box b).least_start b.value) replayer.player };
 

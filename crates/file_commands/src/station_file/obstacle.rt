@@ -59,7 +59,8 @@ fn end_at_key<K: Sink>(front: &[u8], key: &KeyText, out: &mut K) -> Status
 
 // The status line of a key of which there are too many, with a text of their number.
 fn end_at_many<K: Sink>(key: &KeyText, count: &[u8], out: &mut K) -> Status
-    ensures { Answers Station result (K.state out.old) (K.state out.new) (codes "status 3 station many " ++ (key.now ++ count.now)) }
+    ensures { Answers Station result (K.state out.old) (K.state out.new)
+        (codes "status 3 station many " ++ (key.now ++ count.now)) }
 {
     end_three(out, b"status 3 station many ", key.bytes(), count)
 }
@@ -86,7 +87,8 @@ fn finish_faulty<K: Sink>(fault: &StationFault, out: &mut K) -> Status
 
 /// Writes the status line of a run that an obstacle ends. The answer is its status, or a write fault.
 pub fn finish_at<K: Sink>(obstacle: &Obstacle, out: &mut K) -> Status
-    ensures { IsTold obstacle.now → Answers (status_at obstacle.now) result (K.state out.old) (K.state out.new) (line_at obstacle.now) }
+    ensures { IsTold obstacle.now →
+        Answers (status_at obstacle.now) result (K.state out.old) (K.state out.new) (line_at obstacle.now) }
 {
     match obstacle {
         Obstacle::Ends(ending) => finish(*ending, out),
