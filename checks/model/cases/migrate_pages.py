@@ -109,13 +109,14 @@ def _at_distance(distance: int, part: str, more: int) -> list[Entry]:
     if part == "delay":
         return eight(0, delay=2 * (distance - dispersion) + 2 * more)
     left = distance - (-(-LEAST_DISPERSION // 2))
-    least = next(
-        d for d in range(left, left + 2**26, 2**8) if sum(-(-d // 2 ** (i + 1)) for i in range(8)) > left - 2**9
-    )
-    exact = next(
-        d for d in range(least - 2**11, least + 2**12) if sum(-(-d // 2 ** (i + 1)) for i in range(8)) >= left
-    )
-    return eight(0, dispersion=exact + more)
+
+    def stages(each: int) -> int:
+        return sum(-(-each // 2 ** (i + 1)) for i in range(8))
+
+    most = next(each for each in range(left * 256 // 255 + 8, 0, -1) if stages(each) <= left)
+    entries = eight(0, dispersion=most)
+    # Of equal delays the later sample stands first, so the first one counts 1/256.
+    return [sample(0, MINUTE, dispersion=most + 256 * (left - stages(most) + more)), *entries[1:]]
 
 
 def bounds() -> Iterator[Case]:
