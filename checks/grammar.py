@@ -264,12 +264,12 @@ class Script:
         self.used = {plan: plans.count(plan) for plan in plans}
 
     def is_bad(self, line):
-        fields = line.split(" ")
-        if len(line) >= 4096:
+        word, *fields = line.split(" ")
+        if len(line) >= 4096 or word not in ("pulse", "ask", "answer", "swap", "request", "leap"):
             return True
         try:
-            return not getattr(self, "is_" + fields[0])(*fields[1:])
-        except (AttributeError, TypeError):
+            return not getattr(self, "is_" + word)(*fields)
+        except TypeError:
             return True
 
     def feed(self, text, *plans):

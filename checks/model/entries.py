@@ -1,0 +1,55 @@
+"""Entries of a journal: their texts, and which a journal may have. The forms are read by checks/grammar.py."""
+
+from typing import NamedTuple
+
+import grammar
+
+from .receiver import Answer, moment
+
+
+class Entry(NamedTuple):
+    """What one feed reported at one moment: the keyword and the numbers after it. An address is a number."""
+
+    feed: int
+    at: int
+    word: str
+    values: tuple[int, ...]
+
+    def text(self) -> str:
+        """Version 1 of the text, without its line feed."""
+        values = [str(value) for value in self.values]
+        if self.word == "sample":
+            values[4] = f"{self.values[4]:08x}"
+        return " ".join([str(self.feed), str(self.at), self.word, *values])
+
+
+def of_answer(feed: int, delay: int, answer: Answer) -> Entry:
+    """A receiver's answer as an entry."""
+    return Entry(feed, moment(answer.close, delay), answer.word, answer.values)
+
+
+def read(text: str, feeds: int) -> Entry | None:
+    """The entry of a text that a journal of so many feeds may have, else None."""
+    try:
+        found = grammar.Entry(text)
+    except grammar.Wrong:
+        return None
+    if not found.is_lawful(feeds):
+        return None
+    values = [int(value, 16) if isinstance(value, str) else value for value in found.values]
+    return Entry(found.feed, found.at, found.word, tuple(values))
+
+
+def read_numbered(text: str, feeds: int) -> tuple[int, int, Entry] | None:
+    """The number, the rate and the entry of a text of version 2, else None."""
+    try:
+        length, rate, plain = grammar.numbered(text)
+    except grammar.Wrong:
+        return None
+    entry = read(plain, feeds)
+    return None if entry is None else (length, rate, entry)
+
+
+def numbered(length: int, rate: int, entry: Entry) -> str:
+    """Version 2 of an entry's text."""
+    return f"j2 {length} {rate} {entry.text()}"

@@ -1,0 +1,73 @@
+"""A station of a TOML text (docs/FORMATS.md, "Station file"). Its fault is judged by checks/grammar.py."""
+
+import ipaddress
+import tomllib
+from typing import NamedTuple, Sequence
+
+import grammar
+
+from .clients import Gate
+from .page import Journal
+
+
+
+class Radio(NamedTuple):
+    plan: str
+    log: str
+    delay: int
+
+
+class Station(NamedTuple):
+    """A station without a fault."""
+
+    bound: int
+    start: int
+    gap: int
+    clients: int
+    leap_file: str | None
+    radios: Sequence[Radio]
+    servers: Sequence[int]
+    keys: dict[int, bytes]
+    nets: Sequence[str]
+
+    @property
+    def kinds(self) -> list[str]:
+        """What each feed is: a plan, "server" or "leap"."""
+        leap = ["leap"] if self.leap_file is not None else []
+        return [radio.plan for radio in self.radios] + ["server"] * len(self.servers) + leap
+
+    @property
+    def forms(self) -> list[str | None]:
+        """The feeds as checks/grammar.py names them."""
+        names = {"server": grammar.SERVER, "leap": grammar.LEAP}
+        return [names.get(kind, kind) for kind in self.kinds]
+
+    def journal(self) -> Journal:
+        return Journal(self.kinds, self.bound)
+
+    def gate(self) -> Gate:
+        return Gate(self.nets, self.gap, self.clients)
+
+
+def read(text: bytes) -> Station | str:
+    """The station, or its fault as the status line names it."""
+    try:
+        table = tomllib.loads(text.decode())
+    except ValueError:
+        return "toml"
+    fault = grammar.station_fault(table)
+    if fault:
+        return fault
+    radios = [Radio(one["plan"], one["log"], one.get("delay", 0)) for one in table.get("radio", [])]
+    servers = [int(ipaddress.ip_address(one["address"])) for one in table.get("server", [])]
+    return Station(
+        bound=table.get("bound", 1000),
+        start=table.get("start", 0),
+        gap=table.get("gap", 0),
+        clients=table.get("clients", 1024),
+        leap_file=table.get("leap_file"),
+        radios=radios,
+        servers=servers,
+        keys={one["id"]: one["secret"].encode() for one in table.get("key", [])},
+        nets=[one["net"] for one in table.get("deny", [])],
+    )
