@@ -15,36 +15,22 @@ mod drill_tests;
 #[cfg(test)]
 mod fault_tests;
 #[cfg(test)]
-mod fill_tests;
-#[cfg(test)]
-mod frames;
-#[cfg(test)]
 mod gate_tests;
 #[cfg(test)]
 mod leap_tests;
 #[cfg(test)]
 mod line_tests;
 #[cfg(test)]
-mod log_tests;
-#[cfg(test)]
 mod migrate_tests;
-#[cfg(test)]
-mod new_year_tests;
-#[cfg(test)]
-mod pieces;
 #[cfg(test)]
 mod rack_tests;
 #[cfg(test)]
 mod replay_tests;
 #[cfg(test)]
-mod rows;
+mod row_tests;
 #[cfg(test)]
 mod runs;
-#[cfg(test)]
-mod script_tests;
 #[cfg(test)]
 mod serve_tests;
 #[cfg(test)]
 mod test_station;
-#[cfg(test)]
-mod turn_tests;
