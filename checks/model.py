@@ -3,7 +3,7 @@
 shares no code with it. Each case is a run over files that are meant for a rule, a bound or an outcome, or that a seed
 makes; the whole text and the exit status have to be the model's. RADIO_NTPD names another program.
 
-    model.py [CASES [SEED]]             all cases that are meant for something, and so many drawn ones
+    model.py [CASES [SEED]]             all cases that are meant for something, and this many drawn ones
     model.py --one KIND NUMBER [SEED]   one of them: writes its files, its command and both texts into a folder
 """
 

@@ -29,7 +29,7 @@ def of_answer(feed: int, delay: int, answer: Answer) -> Entry:
 
 
 def read(text: str, feeds: int) -> Entry | None:
-    """The entry of a text that a journal of so many feeds may have, else None."""
+    """The entry of a text that a journal of this many feeds may have, else None."""
     try:
         found = grammar.Entry(text)
     except grammar.Wrong:

@@ -85,7 +85,7 @@ def _work(program: str, folder: pathlib.Path, tasks, directed: dict[str, list[Ca
 
 
 def all_cases(program: str, folder: pathlib.Path, drawn: dict[str, int], seed: int) -> Outcome:
-    """All directed cases, and so many drawn ones of each kind, on all processors."""
+    """All directed cases, and this many drawn ones of each kind, on all processors."""
     context = multiprocessing.get_context("fork")
     tasks, told, workers = context.Queue(), context.Queue(), os.cpu_count() or 1
     directed = {name: kind.directed() for name, kind in KINDS.items()}

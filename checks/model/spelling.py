@@ -64,7 +64,7 @@ class Tape:
         return self.begins[minute] + place
 
     def move(self, place: int, by: int, count: int | None = None) -> None:
-        """Moves so many beats from this place on, or all of them."""
+        """Moves this many beats from this place on, or all of them."""
         last = len(self.beats) if count is None else place + count
         self.beats[place:last] = [beat._replace(at=beat.at + by) for beat in self.beats[place:last]]
 

@@ -21,7 +21,7 @@ def local_span(moment: int) -> int:
 
 
 def phi(microseconds: int) -> int:
-    """15 parts per million of so many microseconds, as a span rounded up."""
+    """15 parts per million of this many microseconds, as a span rounded up."""
     return ceiling(15 * microseconds * SECOND, 10**12)
 
 

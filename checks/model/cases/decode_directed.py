@@ -111,7 +111,7 @@ def first_rules(plan: str) -> Iterator[Case]:
 
 
 def _minute_of(plan: str, marks: int) -> Tape:
-    """Three minutes, of which the middle one has so many marks."""
+    """Three minutes, of which the middle one has this many marks."""
     middle = spelt(plan, NOON + 60)
     middle = middle[:marks] + [Symbol.ZERO] * (marks - len(middle))
     return Tape(plan, [spelt(plan), middle, spelt(plan, NOON + 120)])

@@ -93,8 +93,8 @@ def leap_minutes() -> Iterator[Case]:
     symbols = [spelt("dcf", MONTH_END + 60 * i, MONTH_END if i < 1 else 0) for i in (-2, -1, 0, 1)]
     last = plan_dcf.LEAP
     for name, edit in (("59 is One", flip(59)), ("of no announcement", set_to(0, last))):
-        spoilt = [*symbols[:2], spelt("dcf", MONTH_END, MONTH_END, edit=edit), symbols[3]]
-        yield of_log("dcf", f"a minute of 60 marks, {name}", Tape("dcf", spoilt).log(), rule("dcf", 24))
+        damaged = [*symbols[:2], spelt("dcf", MONTH_END, MONTH_END, edit=edit), symbols[3]]
+        yield of_log("dcf", f"a minute of 60 marks, {name}", Tape("dcf", damaged).log(), rule("dcf", 24))
     short = [*symbols[:2], symbols[2][:59], symbols[3]]
     yield of_log("dcf", "a leap second's minute of 59 marks", Tape("dcf", short).log(), rule("dcf", 24))
     long = [
@@ -208,8 +208,8 @@ def lines() -> Iterator[Case]:
     log = Tape("dcf", [spelt("dcf"), spelt("dcf", NOON + 60)]).log()
     lines_of = log.splitlines(keepends=True)
     for place in (1, 60, 61, len(lines_of) - 1):
-        spoilt = b"".join([*lines_of[:place], b"x\n", *lines_of[place:]])
-        yield of_log("dcf", f"line {place + 1} of a log is bad", spoilt, "log: bad line")
+        damaged = b"".join([*lines_of[:place], b"x\n", *lines_of[place:]])
+        yield of_log("dcf", f"line {place + 1} of a log is bad", damaged, "log: bad line")
     yield of_log("dcf", "the last line has no line feed", log[:-1], "log: no line feed at the end")
 
 

@@ -26,7 +26,7 @@ def station(kinds: Sequence[str], bound: int = 1000) -> bytes:
 
 
 def verdict(feed: int, seconds: int, late: int = 0, leap_at: int = 0) -> Entry:
-    """A verdict so many seconds after the counter began, heard so many microseconds late."""
+    """A verdict this many seconds after the counter began, heard this many microseconds late."""
     return Entry(feed, seconds * 10**6 + late, "verdict", (BEGAN + seconds, leap_at))
 
 
@@ -34,7 +34,7 @@ def sample(
     feed: int, at: int, off: int = 0, delay: int = 4096, dispersion: int = 4294968, stratum: int = 1,
     root: tuple[int, int] = (0, 0),
 ) -> Entry:
-    """A sample at a moment, off the true time by so many units."""
+    """A sample at a moment, off the true time by this many units."""
     return Entry(feed, at, "sample", (BASE + off, delay, dispersion, stratum, 0x0A000001 + feed, *root))
 
 

@@ -50,7 +50,7 @@ CASES_OF_A_DAY = 5000
 
 
 def drawn(cases: int) -> dict[str, int]:
-    """How many cases of each kind are drawn, of so many in all."""
+    """How many cases of each kind are drawn, of this many in all."""
     return {
         name: cases // CASES_OF_A_DAY if name == "drill" else cases * kind.share // 100 for name, kind in KINDS.items()
     }

@@ -76,18 +76,18 @@ def numbered() -> Iterator[Case]:
     for place in range(len(lines_of)):
         word, number, rate, rest = lines_of[place].split(b" ", 3)
         for other in (int(rate) + 1, int(rate) - 1, -int(rate) - 5):
-            spoilt = b" ".join([word, number, str(other).encode(), rest])
+            damaged = b" ".join([word, number, str(other).encode(), rest])
             yield of_text(
                 f"line {place + 1} has the rate {other}",
                 toml,
-                b"".join([*lines_of[:place], spoilt, *lines_of[place + 1 :]]),
+                b"".join([*lines_of[:place], damaged, *lines_of[place + 1 :]]),
                 "journal: another rate",
             )
-        spoilt = b" ".join([word, str(place + 2).encode(), rate, rest])
+        damaged = b" ".join([word, str(place + 2).encode(), rate, rest])
         yield of_text(
             f"line {place + 1} has number {place + 2}",
             toml,
-            b"".join([*lines_of[:place], spoilt, *lines_of[place + 1 :]]),
+            b"".join([*lines_of[:place], damaged, *lines_of[place + 1 :]]),
             "journal: bad line",
         )
         yield of_text(f"line {place + 1} is lost", toml, b"".join([*lines_of[:place], *lines_of[place + 1 :]]))

@@ -146,12 +146,12 @@ def keys() -> Iterator[Case]:
             "reply: sealed",
         )
     good = sealed(QUERY, 1, b"longwave")
-    spoilt = [
+    damaged = [
         good[:place] + bytes(
             [good[place] ^ bit]
         ) + good[place + 1 :] for place in range(len(good)) for bit in (1, 128)
     ]
-    yield of("each byte of a sealed request", toml, FIVE + [request(one) for one in spoilt], "reply: not sealed")
+    yield of("each byte of a sealed request", toml, FIVE + [request(one) for one in damaged], "reply: not sealed")
     lengths = [request(one) for one in (good[:-1], good + b"\0", good[:52], good[:48] + good[52:], good + good[48:])]
     yield of("lengths of a sealed request", toml, FIVE + lengths, "reply: not sealed")
     others = [

@@ -35,7 +35,7 @@ def pulses(feed: int, tape: Tape, first: int = 0, last: int | None = None) -> li
 
 
 def minutes(plan: str, count: int, late: int = 0) -> Tape:
-    """Minutes of a plan from the counter's 60 s on, the closing mark of the last one so many microseconds late."""
+    """Minutes of a plan from the counter's 60 s on, the closing mark of the last one this many microseconds late."""
     tape = Tape(plan, [spelt(plan, BEGAN + 120 + 60 * minute) for minute in range(count)], 60 * SECOND)
     tape.move(tape.begins[count], late)
     return tape
@@ -46,7 +46,7 @@ def request(datagram: bytes = QUERY, arrived: int = ANCHOR + SECOND, sent: int |
 
 
 def answer(asked: int, off: int = 0, header: Header = GOOD, **changes) -> bytes:
-    """An answer to the request of a moment by a server whose time is off by so many units, a millisecond each way."""
+    """An answer to the request of a moment by a server whose time is off by this many units, a millisecond each way."""
     arrived = BASE + local_span(asked) + 2**32 // 1000 + off
     stamps = {"origin": transmit_of(asked), "receive": arrived % 2**64, "transmit": (arrived + 4096) % 2**64}
     return header._replace(**{**stamps, **changes}).bytes()

@@ -103,9 +103,9 @@ def logs() -> Iterator[Case]:
     for limit in (1, 3, 17, 19, 20, 21):
         yield of(f"three radios and a list under a limit of {limit}", both, files, None, limit)
     for names in (("dcf",), ("msf", "wwvb"), ("leap",), ("wwvb", "leap"), ("dcf", "leap")):
-        spoilt = {name: data + b"x\n" * (name in names) for name, data in files.items()}
-        yield of(f"bad lines of {names}", both, spoilt, "status 5")
-        yield of(f"bad lines of {names} under a limit", both, spoilt, "status 5", 3)
+        damaged = {name: data + b"x\n" * (name in names) for name, data in files.items()}
+        yield of(f"bad lines of {names}", both, damaged, "status 5")
+        yield of(f"bad lines of {names} under a limit", both, damaged, "status 5", 3)
     yield of(
         "a radio whose log is empty, and a list",
         'leap_file = "leap"\n' + LETTERS["dcf"].replace('"x"', '"dcf"'),
