@@ -9,36 +9,19 @@ set -eu
 minutes=${1:-3000}
 runs=${2:-9}
 commit=${3:-b43d563}
-top=$(cd "$(dirname "$0")/.." && pwd)
-work=$(mktemp -d)
-trap 'rm -rf "$work"' EXIT
+. "$(dirname "$0")/small_program.sh"
 crates="tick_units feed_link file_reader sink_text pulse_log second_marks civil_minute frame_rules civil_frame plan_dcf plan_msf
     plan_wwvb minute_pair journal_entry radio_receiver log_decoder"
 . "$top/bench/decode_program.sh"
 for tree in before after; do
-    mkdir -p "$work/$tree/crates"
-    if [ "$tree" = before ]; then
-        for crate in $crates; do git -C "$top" archive "$commit" "crates/$crate" | tar -x -C "$work/before"; done
-        git -C "$top" show "$commit:crates.txt" > "$work/all.txt"
-    else
-        for crate in $crates; do
-            mkdir "$work/after/crates/$crate"
-            # What a check kept there is taken along, so that nothing is proved twice.
-            for part in src specs proofs out; do
-                if [ -d "$top/crates/$crate/$part" ]; then cp -a "$top/crates/$crate/$part" "$work/after/crates/$crate/"; fi
-            done
-        done
-        cp "$top/crates.txt" "$work/all.txt"
-    fi
-    for crate in $crates; do grep "^$crate:" "$work/all.txt"; done > "$work/$tree/crates.txt"
+    if [ "$tree" = before ]; then bring_of "$commit" "$work/before" $crates; else bring "$work/after" $crates; fi
     echo "decode_loop: tick_units feed_link file_reader sink_text pulse_log journal_entry radio_receiver log_decoder" >> "$work/$tree/crates.txt"
-    cp "$top/HANDLES" "$work/$tree/"
     cp -r "$work/loop" "$work/$tree/crates/decode_loop"
     if [ "$tree" = before ]; then
         # Until boxed receivers were receivers, decoders had calls of their own for a receiver of a known type.
         sed -i 's/LogDecoder::new(/LogDecoder::direct(/; s/self\.take(bytes)/self.take_direct(bytes)/; s/self\.finish()/self.finish_direct()/' "$work/before/crates/decode_loop/src/main.rt"
     fi
-    (cd "$work/$tree/crates/decode_loop" && rt run > "$work/build.log" 2>&1) || { cat "$work/build.log" >&2; exit 1; }
+    build "$work/$tree/crates/decode_loop"
     cp "$work/$tree/crates/decode_loop/out/decode_loop" "$work/$tree.program"
 done
 gcc -O2 -o "$work/plain.program" "$top/bench/plain_decoder.c"

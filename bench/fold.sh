@@ -8,26 +8,15 @@
 set -eu
 entries=${1:-200}
 commit=${2:-b43d563}
-top=$(cd "$(dirname "$0")/.." && pwd)
-work=$(mktemp -d)
-trap 'rm -rf "$work"' EXIT
+. "$(dirname "$0")/small_program.sh"
 crates="tick_units feed_link journal_entry clock_filter select_core cluster_core clock_page system_fold"
-mkdir -p "$work/after/crates" "$work/before/crates"
-for crate in $crates; do
-    mkdir "$work/after/crates/$crate"
-    # What a check kept there is taken along, so that nothing is proved twice.
-    for part in src specs proofs out; do
-        if [ -d "$top/crates/$crate/$part" ]; then cp -a "$top/crates/$crate/$part" "$work/after/crates/$crate/"; fi
-    done
-    git -C "$top" archive "$commit" "crates/$crate" | tar -x -C "$work/before"
-    grep "^$crate:" "$top/crates.txt" >> "$work/crates.txt"
-done
-echo "fold_loop: tick_units feed_link journal_entry clock_page system_fold" >> "$work/crates.txt"
+bring "$work/after" $crates
+bring_of "$commit" "$work/before" $crates
 . "$top/bench/fold_program.sh"
 for tree in before after; do
-    cp "$work/crates.txt" "$work/$tree/"
+    echo "fold_loop: tick_units feed_link journal_entry clock_page system_fold" >> "$work/$tree/crates.txt"
     cp -r "$work/loop" "$work/$tree/crates/fold_loop"
-    (cd "$work/$tree/crates/fold_loop" && rt run -- 1 0 1 > "$work/build.log" 2>&1) || { cat "$work/build.log" >&2; exit 1; }
+    build "$work/$tree/crates/fold_loop" 1 0 1
 done
 
 # The instructions of a run of a tree with a number of servers, of them off, and of entries; it leaves the sum of what the

@@ -9,17 +9,9 @@
 #
 #     bench/gate.sh
 set -eu
-top=$(cd "$(dirname "$0")/.." && pwd)
-work=$(mktemp -d)
-trap 'rm -rf "$work"' EXIT
+. "$(dirname "$0")/small_program.sh"
+bring "$work" tick_units ntp_packet clock_page reply_core kiss_gate
 mkdir -p "$work/crates/gate_loop/src"
-for crate in tick_units ntp_packet clock_page reply_core kiss_gate; do
-    mkdir "$work/crates/$crate"
-    for part in src specs proofs out; do
-        if [ -d "$top/crates/$crate/$part" ]; then cp -a "$top/crates/$crate/$part" "$work/crates/$crate/"; fi
-    done
-    grep "^$crate:" "$top/crates.txt" >> "$work/crates.txt"
-done
 echo "gate_loop: tick_units reply_core kiss_gate" >> "$work/crates.txt"
 cat > "$work/crates/gate_loop/src/main.rt" <<'RATTLE'
 //! Judges a request of each of a number of senders of the file `senders`, 4 bytes a sender, a microsecond after the one before.
@@ -96,8 +88,10 @@ int main(int argc, char **argv) {
 }
 C
 gcc -O2 -o "$work/find" "$work/find.c"
-(cd "$work/crates/gate_loop" && rt check > "$work/check.log" 2>&1 && : > senders && rt run -- 0 0 0 > "$work/run.log" 2>&1) || { tail -5 "$work/check.log" "$work/run.log"; exit 1; }
-program=$work/crates/gate_loop/out/gate_loop
+loop=$work/crates/gate_loop
+: > "$loop/senders"
+build "$loop" 0 0 0
+program=$loop/out/gate_loop
 mkdir "$work/spread" "$work/place" "$work/most" "$work/known" "$work/soon"
 python3 -c '
 import random, struct, sys

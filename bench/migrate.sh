@@ -11,20 +11,13 @@ short=${1:-100000}
 long=${2:-1000000}
 runs=${3:-3}
 . "$(dirname "$0")/built.sh"
+. "$(dirname "$0")/small_program.sh"
 
-mkdir -p "$work/crates"
-for crate in tick_units feed_link journal_entry clock_filter select_core cluster_core clock_page system_fold; do
-    mkdir "$work/crates/$crate"
-    # What a check kept there is taken along, so that nothing is proved twice.
-    for part in src specs proofs out; do
-        if [ -d "$top/crates/$crate/$part" ]; then cp -a "$top/crates/$crate/$part" "$work/crates/$crate/"; fi
-    done
-    grep "^$crate:" "$top/crates.txt" >> "$work/crates.txt"
-done
+bring "$work" tick_units feed_link journal_entry clock_filter select_core cluster_core clock_page system_fold
 echo "fold_loop: tick_units feed_link journal_entry clock_page system_fold" >> "$work/crates.txt"
 . "$top/bench/fold_program.sh"
 mv "$work/loop" "$work/crates/fold_loop"
-(cd "$work/crates/fold_loop" && rt run -- 1 0 1 > "$work/build.log" 2>&1) || { cat "$work/build.log" >&2; exit 1; }
+build "$work/crates/fold_loop" 1 0 1
 
 # The entries of that program, as lines.
 python3 -B - "$long" > "$work/long" <<'PY'

@@ -7,23 +7,12 @@
 #     bench/page.sh [COUNT]
 set -eu
 count=${1:-200000}
-top=$(cd "$(dirname "$0")/.." && pwd)
-work=$(mktemp -d)
-trap 'rm -rf "$work"' EXIT
+. "$(dirname "$0")/small_program.sh"
 crates="tick_units feed_link journal_entry clock_filter select_core cluster_core clock_page system_fold page_cell"
 loop="$work/crates/page_loop"
+bring "$work" $crates
 mkdir -p "$loop/src" "$loop/proofs/Writer/publish" "$loop/proofs/write_all" "$loop/proofs/read_all" "$loop/proofs/fold_often" \
     "$loop/proofs/of_one_feed"
-cp "$top/HANDLES" "$work/"
-for crate in $crates; do
-    mkdir "$work/crates/$crate"
-    for part in src specs proofs; do
-        [ -d "$top/crates/$crate/$part" ] && cp -r "$top/crates/$crate/$part" "$work/crates/$crate/"
-    done
-    # What is kept of an earlier check is worth minutes.
-    [ -d "$top/crates/$crate/out" ] && cp -a "$top/crates/$crate/out" "$work/crates/$crate/"
-    grep "^$crate:" "$top/crates.txt" >> "$work/crates.txt"
-done
 echo "page_loop: tick_units feed_link journal_entry clock_page system_fold page_cell atomic_table" >> "$work/crates.txt"
 cat > "$loop/src/main.rt" <<'RATTLE'
 //! Publishes and reads a number of pages, in one thread or in several.
@@ -414,7 +403,7 @@ loop-i-preserved c =
     let e : Entry = record { feed = 0; at = c.beginning.result; what = Notice 0 } in
     record { journal = i.journal ++ e ∷ []; stands = c.step.ensures c.args.settings.now i.journal i.stands; few = omega (arith, few, length-append i.journal (e ∷ [])) }
 ANTT
-(cd "$loop" && rt run -- 1 1 > "$work/build.log" 2>&1) || { cat "$work/build.log" >&2; exit 1; }
+build "$loop" 1 1
 ${CC:-cc} -O2 -pthread -o "$work/plain" "$top/bench/plain_seqlock.c"
 program="$loop/out/page_loop"
 

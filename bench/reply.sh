@@ -6,23 +6,10 @@
 #     bench/reply.sh [REPLIES]
 set -eu
 replies=${1:-10000}
-top=$(cd "$(dirname "$0")/.." && pwd)
-work=$(mktemp -d)
-trap 'rm -rf "$work"' EXIT
+. "$(dirname "$0")/small_program.sh"
+bring "$work" tick_units ntp_packet clock_page reply_core
 mkdir -p "$work/crates/reply_loop/src"
-for crate in tick_units ntp_packet clock_page reply_core; do
-    mkdir "$work/crates/$crate"
-    for part in src specs proofs out; do
-        if [ -d "$top/crates/$crate/$part" ]; then cp -a "$top/crates/$crate/$part" "$work/crates/$crate/"; fi
-    done
-done
-cat > "$work/crates.txt" <<'CRATES'
-tick_units:
-ntp_packet: tick_units byteorder
-clock_page: tick_units
-reply_core: tick_units ntp_packet clock_page
-reply_loop: tick_units clock_page reply_core
-CRATES
+echo 'reply_loop: tick_units clock_page reply_core' >> "$work/crates.txt"
 cat > "$work/crates/reply_loop/src/main.rt" <<'RATTLE'
 //! Answers a number of requests, each from a page that is read from its ten words.
 #![tactic(auto)]
@@ -84,7 +71,7 @@ fn main(rt: HostRuntime) -> io::Result<()> {
 }
 RATTLE
 gcc -O2 -o "$work/plain" "$top/bench/plain_reply.c"
-(cd "$work/crates/reply_loop" && rt run -- 1 > "$work/build.log" 2>&1) || { cat "$work/build.log" >&2; exit 1; }
+build "$work/crates/reply_loop" 1
 ours="$work/crates/reply_loop/out/reply_loop"
 
 # The instructions of a run with that many replies.

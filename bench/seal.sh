@@ -6,17 +6,9 @@
 #     bench/seal.sh [REPLIES]
 set -eu
 replies=${1:-10000}
-top=$(cd "$(dirname "$0")/.." && pwd)
-work=$(mktemp -d)
-trap 'rm -rf "$work"' EXIT
+. "$(dirname "$0")/small_program.sh"
+bring "$work" tick_units ntp_packet packet_auth clock_page reply_core sealed_reply
 mkdir -p "$work/crates/seal_loop/src"
-for crate in tick_units ntp_packet packet_auth clock_page reply_core sealed_reply; do
-    mkdir "$work/crates/$crate"
-    for part in src specs proofs out; do
-        if [ -d "$top/crates/$crate/$part" ]; then cp -a "$top/crates/$crate/$part" "$work/crates/$crate/"; fi
-    done
-    grep "^$crate:" "$top/crates.txt" >> "$work/crates.txt"
-done
 echo 'seal_loop: tick_units clock_page packet_auth reply_core sealed_reply' >> "$work/crates.txt"
 cat > "$work/crates/seal_loop/src/main.rt" <<'RATTLE'
 //! Replies to a number of requests, which are authentic, or with the word `plain` aren't.
@@ -99,7 +91,7 @@ int main(int argc, char **argv) {
 }
 C
 gcc -O2 -w -o "$work/plain" "$work/plain.c" -lcrypto
-(cd "$work/crates/seal_loop" && rt run -- 1 > "$work/build.log" 2>&1) || { cat "$work/build.log" >&2; exit 1; }
+build "$work/crates/seal_loop" 1
 ours="$work/crates/seal_loop/out/seal_loop"
 
 # The instructions of a run.

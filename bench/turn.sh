@@ -7,19 +7,10 @@
 #     bench/turn.sh [TURNS]
 set -eu
 turns=${1:-2000}
-top=$(cd "$(dirname "$0")/.." && pwd)
-work=$(mktemp -d)
-trap 'rm -rf "$work"' EXIT
+. "$(dirname "$0")/small_program.sh"
+bring "$work" tick_units feed_link journal_entry clock_filter select_core cluster_core clock_page system_fold ntp_packet packet_auth \
+    reply_core kiss_gate sealed_reply page_cell responder
 mkdir -p "$work/crates/turn_loop/src" "$work/crates/turn_loop/proofs/settings_of_none"
-for crate in tick_units feed_link journal_entry clock_filter select_core cluster_core clock_page system_fold ntp_packet packet_auth reply_core \
-    kiss_gate sealed_reply page_cell responder; do
-    mkdir "$work/crates/$crate"
-    for part in src specs proofs out; do
-        if [ -d "$top/crates/$crate/$part" ]; then cp -a "$top/crates/$crate/$part" "$work/crates/$crate/"; fi
-    done
-    grep "^$crate:" "$top/crates.txt" >> "$work/crates.txt"
-done
-cp "$top/HANDLES" "$work/"
 echo "turn_loop: tick_units feed_link journal_entry system_fold packet_auth kiss_gate page_cell responder" >> "$work/crates.txt"
 cat > "$work/crates/turn_loop/src/main.rt" <<'RATTLE'
 //! Serves a number of datagrams on a port, from the page of no entry.
@@ -126,7 +117,7 @@ while True:
     except OSError:
         pass
 PYTHON
-(cd "$work/crates/turn_loop" && rt check > "$work/check.log" 2>&1 && rt run -- 0 0 > "$work/run.log" 2>&1) || { tail -5 "$work/check.log" "$work/run.log"; exit 1; }
+build "$work/crates/turn_loop" 0 0
 port=$(python3 -c 'import socket; s = socket.socket(socket.AF_INET, socket.SOCK_DGRAM); s.bind(("127.0.0.1", 0)); print(s.getsockname()[1])')
 python3 "$work/client.py" "$port" &
 client=$!

@@ -1,7 +1,7 @@
 #!/bin/sh
 # Spoils logs of each plan, scripts, stations and journals by chance, COUNT of each kind (100 thousand), but stops after SECONDS (600):
 # cut off, bytes changed, lines lost, doubled and put out of order. The program runs over each. It may not crash, hang, or hold more than a
-# megabyte of data, and what it writes and how it ends is judged by a reader of its own from docs/FORMATS.md, checks/grammar.py. The files
+# megabyte of data, and what it writes and how it ends is judged by a reader of its own from docs/FORMATS.md, checks/grammar. The files
 # hang on a fixed seed alone; one that went wrong is written by
 #
 #     python3 -B checks/torture.py --one KIND NUMBER

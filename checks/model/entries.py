@@ -1,4 +1,4 @@
-"""Entries of a journal: their texts, and which a journal may have. The forms are read by checks/grammar.py."""
+"""Entries of a journal: their texts, and which a journal may have. The forms are read by checks/grammar."""
 
 from typing import NamedTuple
 
@@ -34,7 +34,7 @@ def read(text: str, feeds: int) -> Entry | None:
         found = grammar.Entry(text)
     except grammar.Wrong:
         return None
-    if not found.is_lawful(feeds):
+    if not found.is_valid(feeds):
         return None
     values = [int(value, 16) if isinstance(value, str) else value for value in found.values]
     return Entry(found.feed, found.at, found.word, tuple(values))

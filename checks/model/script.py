@@ -1,5 +1,5 @@
 """What `replay` writes of a script (docs/FORMATS.md, "Replay script"). Which lines are valid is judged by
-checks/grammar.py.
+checks/grammar.
 """
 
 from typing import Iterator

@@ -1,4 +1,4 @@
-"""A station of a TOML text (docs/FORMATS.md, "Station file"). Its fault is judged by checks/grammar.py."""
+"""A station of a TOML text (docs/FORMATS.md, "Station file"). Its fault is judged by checks/grammar."""
 
 import ipaddress
 import tomllib
@@ -38,7 +38,7 @@ class Station(NamedTuple):
 
     @property
     def forms(self) -> list[str | None]:
-        """The feeds as checks/grammar.py names them."""
+        """The feeds as checks/grammar names them."""
         names = {"server": grammar.SERVER, "leap": grammar.LEAP}
         return [names.get(kind, kind) for kind in self.kinds]
 
