@@ -1,7 +1,6 @@
 -- What a reader has to believe: Run (what the program does). It stands on station_report (Headline, Serving, Drilling) and on
--- file_commands (how a command ends, and the commands that run through files). Ended is scaffolding of private functions.
+-- file_commands (how a command ends, and the commands that run through files).
 pub mod Run
-pub mod Ended
 pub use Rattle.file_commands.specs.Endings
 pub use Rattle.file_commands.specs.Writing
 pub use Rattle.file_commands.specs.Unopened

@@ -1,20 +1,20 @@
 //! `drill`: makes up a day of three radios in memory, serves it, and reports the result.
-ghost use Rattle.std.specs.Prelude.{◌≡◌, ◌<◌, ◌≤◌, ◌⊎◌, IfOk, false};
+ghost use Rattle.std.specs.Prelude.{◌≡◌, ℕ, ◌<◌, ◌≤◌, ◌⊎◌, IfOk, false};
 ghost use Rattle.station_report.specs.DrillScaffold.{HasDayGear, HasDrilled};
 ghost use Rattle.station_report.specs.Drilling.{Drills};
 ghost use Rattle.file_commands.specs.Unopened.{Lacks};
 ghost use Rattle.receiver_rack.specs.Racks.{IsRack};
 ghost use Rattle.station_config.specs.Station.{one_of_each};
 ghost use Rattle.crew_work.specs.Served.{AreBlank};
+ghost use Rattle.station_gear.specs.Opens.{IsWhole};
 
-use crate::serve::serve_gated;
 use drill_day::make_logs;
 use feed_link::{Outside, Sink, SureSource};
 use file_commands::{Ending, Status, finish};
 use radio_receiver::{BoxedReceiver, Receiver};
 use receiver_rack::fit_radios;
 use station_config::Station;
-use station_crew::{Budget, Ended, Kit, Orders};
+use station_crew::{Budget, Ended, Kit, Orders, serve_station};
 use station_gear::Gear;
 use station_report::{Done, finish_drilled};
 use std::alloc::{AllocError, Global};
@@ -56,26 +56,32 @@ fn day_kit<T: Drop>(
     })
 }
 
-// Serves a station of three radios on the logs of a day.
+// Serves a station of three radios on the logs of a day, with the outside's gate.
 fn serve_day<R: Threads + Wait + Sync, O: Outside>(
     rt: &R,
     alloc: Global,
     station: &Station,
-    orders: Orders,
+    limit: u32,
     kit: Kit<BoxedReceiver, SureSource, O::Net>,
-    seed: u32,
     outside: &mut O,
 ) -> Result<Done, AllocError>
-    requires limit { (0 < orders.limit) × (orders.limit ≤ 4194304) }
+    requires limit { (0 < limit) × (limit ≤ 4194304) }
     requires station { station.now ≡ one_of_each }
     requires blank { AreBlank stands_for least_start station.now.radios kit.receivers.items }
-    requires gear { HasDayGear seed kit.gear }
+    requires gear { IsWhole station.now kit.gear }
     requires gate { O.gate_out outside.old ≡ false }
     ensures same { O.state outside.new ≡ O.state outside.old }
     ensures gate { O.gate_out outside.new ≡ O.gate_out outside.old }
-    ensures drilled { IfOk result (λ done. HasDrilled seed orders.limit done) }
+    ensures drilled { (seed : ℕ) → HasDayGear seed kit.gear → IfOk result (λ done. HasDrilled seed limit done) }
 {
-    match serve_gated(rt, alloc, station, orders, kit, outside) {
+    let orders = Orders {
+        limit,
+        budget: NO_HEARING,
+    };
+    let gate = outside.gate();
+    let ended = serve_station(rt, alloc, &gate, station, orders, kit);
+    outside.give_back_gate(gate);
+    match ended {
         Ok(ended) => {
             let Ended { journal, work, .. } = ended;
             Ok(Done { journal, work })
@@ -84,33 +90,7 @@ fn serve_day<R: Threads + Wait + Sync, O: Outside>(
     }
 }
 
-// Makes up a day and serves it.
-fn drill<R: Threads + Wait + Sync, O: Outside>(
-    rt: &R,
-    alloc: Global,
-    station: &Station,
-    seed: u32,
-    limit: u32,
-    rack: Vec<BoxedReceiver>,
-    outside: &mut O,
-) -> Result<Done, AllocError>
-    requires limit { (0 < limit) × (limit ≤ 4194304) }
-    requires station { station.now ≡ one_of_each }
-    requires rack { IsRack stands_for rack.items }
-    requires gate { O.gate_out outside.old ≡ false }
-    ensures same { O.state outside.new ≡ O.state outside.old }
-    ensures gate { O.gate_out outside.new ≡ O.gate_out outside.old }
-    ensures drilled { IfOk result (λ done. HasDrilled seed limit done) }
-{
-    let kit = day_kit(alloc, station, seed, rack)?;
-    let orders = Orders {
-        limit,
-        budget: NO_HEARING,
-    };
-    serve_day(rt, alloc, station, orders, kit, seed, outside)
-}
-
-// Runs a drill with a rack of receivers, and writes its report after that.
+// Makes up a day, serves it with receivers of the rack, and writes its report after that.
 pub fn run_drill<R: Threads + Wait + Sync, O: Outside, K: Sink>(
     rt: &R,
     alloc: Global,
@@ -130,7 +110,10 @@ pub fn run_drill<R: Threads + Wait + Sync, O: Outside, K: Sink>(
     let Ok(station) = Station::one_of_each(alloc) else {
         return finish(Ending::NoMemory, out);
     };
-    match drill(rt, alloc, &station, seed, limit, rack, outside) {
+    let Ok(kit) = day_kit(alloc, &station, seed, rack) else {
+        return finish(Ending::NoMemory, out);
+    };
+    match serve_day(rt, alloc, &station, limit, kit, outside) {
         Ok(done) => finish_drilled(&station, &done, limit, out),
         Err(AllocError) => finish(Ending::NoMemory, out),
     }

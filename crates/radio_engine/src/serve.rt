@@ -1,17 +1,13 @@
 //! `serve`: serves a station, and then writes its journal, how its links ended, and the page of the journal.
-ghost use Rattle.std.specs.Prelude.{◌≡◌, ◌<◌, ◌≤◌, ◌⊎◌, [], All, IfOk, MatchResult, false, true, length, vec_len};
-ghost use Rattle.radio_engine.specs.Ended.{EndsAll};
-ghost use Rattle.station_report.specs.Crewing.{GivesServed, GivesUnused, LeavesAll, TriesServe, subject_of};
+ghost use Rattle.std.specs.Prelude.{◌≡◌, ◌<◌, ◌≤◌, ◌⊎◌, IfOk, false};
+ghost use Rattle.station_report.specs.Crewing.{TriesServe, subject_of};
 ghost use Rattle.file_commands.specs.Unopened.{Lacks};
-ghost use Rattle.feed_link.specs.ManyOut.{AreOut};
 ghost use Rattle.station_report.specs.Serving.{RunsServe};
 ghost use Rattle.receiver_rack.specs.Racks.{IsRack};
-ghost use Rattle.station_config.specs.Station.{IsStation};
-ghost use Rattle.crew_work.specs.Served.{AreBlank, seen, sights_of};
-ghost use Rattle.station_gear.specs.Gears.{IsEmptyFor, numbers_of};
-ghost use Rattle.station_gear.specs.Opens.{IsWhole};
+ghost use Rattle.crew_work.specs.Served.{AreBlank};
+ghost use Rattle.station_gear.specs.Gears.{IsEmptyFor};
 
-use feed_link::{Link, Outside, Sink, Source};
+use feed_link::{Outside, Sink};
 use file_commands::{
     Ending, STATION_LIMIT, Status, Subject, finish, finish_at, judge, open_station,
 };
@@ -51,97 +47,8 @@ fn make_kit<L: Drop, T: Drop>(
     })
 }
 
-// Serves a station whose logs and links are open, with the outside's gate.
-pub fn serve_gated<R: Threads + Wait + Sync, O: Outside, L: Source + Drop, T: Link + Drop>(
-    rt: &R,
-    alloc: Global,
-    station: &Station,
-    orders: Orders,
-    kit: Kit<BoxedReceiver, L, T>,
-    outside: &mut O,
-) -> Result<Ended<L, T>, Gear<L, T>>
-    requires limit { (0 < orders.limit) × (orders.limit ≤ 4194304) }
-    requires blank { AreBlank stands_for least_start station.now.radios kit.receivers.items }
-    requires gear { IsWhole station.now kit.gear }
-    requires gate { O.gate_out outside.old ≡ false }
-    ensures same { O.state outside.new ≡ O.state outside.old }
-    ensures gate { O.gate_out outside.new ≡ O.gate_out outside.old }
-    ensures served { let sights = sights_of (seen L.state L.opening) (seen T.state T.opening) in
-        MatchResult result (λ ended. EndsAll sights station.now orders kit.gear ended) (λ gear. gear ≡ kit.gear) }
-{
-    let gate = outside.gate();
-    let ended = serve_station(rt, alloc, &gate, station, orders, kit);
-    outside.give_back_gate(gate);
-    ended
-}
-
-// Serves a station whose logs and links are open, and gives them back.
-fn serve_open<R: Threads + Wait + Sync, O: Outside>(
-    rt: &R,
-    alloc: Global,
-    station: &Station,
-    orders: Orders,
-    kit: Kit<BoxedReceiver, O::Log, O::Net>,
-    outside: &mut O,
-) -> Result<Done, Ending>
-    requires limit { (0 < orders.limit) × (orders.limit ≤ 4194304) }
-    requires blank { AreBlank stands_for least_start station.now.radios kit.receivers.items }
-    requires gear { IsWhole station.now kit.gear }
-    requires gate { O.gate_out outside.old ≡ false }
-    requires out { AreOut (O.state outside.old).openings (numbers_of O.Log.opening
-        O.Net.opening kit.gear) }
-    ensures gate { O.gate_out outside.new ≡ O.gate_out outside.old }
-    ensures served { let logs = seen O.Log.state O.Log.opening in
-        let sights = sights_of logs (seen O.Net.state O.Net.opening) in
-        MatchResult result
-        (λ done. let Left = LeavesAll sights station.now orders kit.gear done in
-        GivesServed sights Left (O.state outside.old) (O.state outside.new))
-        (λ due. GivesUnused sights kit.gear (O.state outside.old) (O.state outside.new) due) }
-{
-    match serve_gated(rt, alloc, station, orders, kit, outside) {
-        Ok(ended) => {
-            let Ended {
-                journal,
-                gear,
-                work,
-            } = ended;
-            give_back_gear(outside, gear);
-            Ok(Done { journal, work })
-        }
-        Err(gear) => {
-            give_back_gear(outside, gear);
-            Err(Ending::NoMemory)
-        }
-    }
-}
-
-// Opens the logs and links of a station, serves it and gives them back.
-fn open_and_serve<R: Threads + Wait + Sync, O: Outside>(
-    rt: &R,
-    alloc: Global,
-    station: &Station,
-    orders: Orders,
-    kit: Kit<BoxedReceiver, O::Log, O::Net>,
-    outside: &mut O,
-) -> Result<Done, Ending>
-    requires limit { (0 < orders.limit) × (orders.limit ≤ 4194304) }
-    requires blank { AreBlank stands_for least_start station.now.radios kit.receivers.items }
-    requires gear { IsEmptyFor station.now kit.gear }
-    requires gate { O.gate_out outside.old ≡ false }
-    ensures gate { O.gate_out outside.new ≡ O.gate_out outside.old }
-    ensures tried { TriesServe station.now orders (O.state outside.old) (O.state outside.new) result }
-{
-    let mut kit = kit;
-    match open_gear(outside, station, &mut kit.gear) {
-        Ok(()) => serve_open(rt, alloc, station, orders, kit, outside),
-        Err(missing) => {
-            give_back_gear(outside, kit.gear);
-            Err(Ending::NotOpened(subject_of(station, missing)))
-        }
-    }
-}
-
-// Serves a station that was read.
+// Serves a station that was read: makes its kit, opens its logs and links, has it served with the outside's gate, and gives all
+// back.
 fn serve<R: Threads + Wait + Sync, O: Outside>(
     rt: &R,
     alloc: Global,
@@ -156,9 +63,30 @@ fn serve<R: Threads + Wait + Sync, O: Outside>(
     ensures gate { O.gate_out outside.new ≡ O.gate_out outside.old }
     ensures tried { TriesServe station.now orders (O.state outside.old) (O.state outside.new) result }
 {
-    match make_kit(alloc, station, rack) {
-        Ok(kit) => open_and_serve(rt, alloc, station, orders, kit, outside),
-        Err(AllocError) => Err(Ending::NoMemory),
+    let Ok(mut kit) = make_kit(alloc, station, rack) else {
+        return Err(Ending::NoMemory);
+    };
+    if let Err(missing) = open_gear(outside, station, &mut kit.gear) {
+        give_back_gear(outside, kit.gear);
+        return Err(Ending::NotOpened(subject_of(station, missing)));
+    }
+    let gate = outside.gate();
+    let ended = serve_station(rt, alloc, &gate, station, orders, kit);
+    outside.give_back_gate(gate);
+    match ended {
+        Ok(ended) => {
+            let Ended {
+                journal,
+                gear,
+                work,
+            } = ended;
+            give_back_gear(outside, gear);
+            Ok(Done { journal, work })
+        }
+        Err(gear) => {
+            give_back_gear(outside, gear);
+            Err(Ending::NoMemory)
+        }
     }
 }
 

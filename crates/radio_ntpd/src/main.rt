@@ -43,8 +43,8 @@ fn main(rt: HostRuntime) -> ExitCode {
     code
 }
 
-// Runs the program: the command that the arguments ask for. Where there was not enough memory for them, it writes only the status
-// line. It ends with the number of its status.
+// Runs the program: the command that the arguments ask for. Where there was not enough memory for them, or there is not for what
+// the command is handed, it opens nothing and writes only the status line. It ends with the number of its status.
 fn run_program<R: Threads + Wait + Sync, O: Outside, K: Sink>(
     rt: &R,
     alloc: Global,
@@ -59,27 +59,12 @@ fn run_program<R: Threads + Wait + Sync, O: Outside, K: Sink>(
         (λ _. Answers (status_of NoMemory) status (K.state out.old) (K.state out.new) (status_line NoMemory) ×
         (O.state outside.new ≡ O.state outside.old)) }
 {
-    exit_code(run_given(rt, alloc, words, outside, out))
-}
-
-// The status of the program.
-fn run_given<R: Threads + Wait + Sync, O: Outside, K: Sink>(
-    rt: &R,
-    alloc: Global,
-    words: &Result<Vec<String>, AllocError>,
-    outside: &mut O,
-    out: &mut K,
-) -> Status
-    requires { O.gate_out outside.old ≡ false }
-    ensures { MatchResult words.now
-        (λ w. IsRun (map (λ t. string_bytes t) w.items) (O.state outside.old) (O.state outside.new) (K.state out.old)
-        (K.state out.new) result)
-        (λ _. Answers (status_of NoMemory) result (K.state out.old) (K.state out.new) (status_line NoMemory) ×
-        (O.state outside.new ≡ O.state outside.old)) }
-{
-    match words {
-        Ok(words) => run_words(rt, alloc, words.as_slice(), outside, out),
-        Err(_) => end_without_memory(out),
+    let Ok(words) = words else {
+        return exit_code(end_without_memory(out));
+    };
+    match run_words(rt, alloc, words.as_slice(), outside, out) {
+        Ok(status) => exit_code(status),
+        Err(AllocError) => exit_code(end_without_memory(out)),
     }
 }
 
@@ -168,30 +153,12 @@ fn texts_of<'a>(alloc: Global, words: &'a [String]) -> Result<Vec<&'a str>, Allo
     Ok(texts)
 }
 
-// Runs the command that arguments ask for. Where there is not enough memory before it begins, it opens nothing and writes the
-// status line.
-fn run_words<R: Threads + Wait + Sync, O: Outside, K: Sink>(
-    rt: &R,
-    alloc: Global,
-    words: &[String],
-    outside: &mut O,
-    out: &mut K,
-) -> Status
-    requires { O.gate_out outside.old ≡ false }
-    ensures { IsRun (map (λ w. string_bytes w) words.now) (O.state outside.old) (O.state outside.new) (K.state out.old)
-        (K.state out.new) result }
-{
-    match run(rt, alloc, words, outside, out) {
-        Ok(status) => status,
-        Err(AllocError) => end_without_memory(out),
-    }
-}
-
 // The receivers of each plan.
 const OF_A_PLAN: usize = 4;
 
-// Runs the command with four receivers of each plan, where there is memory for them.
-fn run<R: Threads + Wait + Sync, O: Outside, K: Sink>(
+// Runs the command that arguments ask for, with four receivers of each plan. Where there is not enough memory for the texts of the
+// arguments and the receivers, it does nothing.
+fn run_words<R: Threads + Wait + Sync, O: Outside, K: Sink>(
     rt: &R,
     alloc: Global,
     words: &[String],

@@ -3,15 +3,24 @@ use Rattle.std.proofs.Common.{subst}
 use Rattle.feed_link.specs.Memory.{sure_state}
 use Rattle.station_config.specs.Station.{StationFields}
 use Rattle.crew_work.specs.Served.{seen, sights_of}
-use Rattle.radio_engine.specs.Ended.{done_of}
-use Rattle.station_report.specs.Crewing.{LeavesAll}
+use Rattle.crew_work.specs.declared.work.Orders.{Orders}
 use Rattle.station_report.proofs.DrillLaws.{drilled}
+use Rattle.radio_engine.proofs.ServeLaws.{EndsAll, done_of}
 use Rattle.radio_engine.proofs.drill.serve_day.Goals as goal
 
 pub returns-in-Ok-clause-drilled : goal.returns-in-Ok-clause-drilled
-returns-in-Ok-clause-drilled g c =
+returns-in-Ok-clause-drilled g c = λ seed day.
+    let orders : Orders = record { limit = c.args.limit; budget = record { during = 0; after = 0 } } in
+    let gear = c.args.kit.gear in
+    let told = c.in-Ok.ensures in
     let ended = c.in-Ok.ended in
-    drilled (λ log. 0) g.O.Net.Link.state g.O.Net.Link.opening c.args.orders c.args.seed c.args.kit.gear
-    (done_of ended) ended.gear c.requires.gear
-    (subst (λ (of : StationFields). LeavesAll (sights_of (seen sure_state (λ log. 0)) (seen g.O.Net.Link.state g.O.Net.Link.opening)) of c.args.orders c.args.kit.gear (done_of ended) ended.gear)
-    c.requires.station c.in-Ok.ensures.served)
+    let sights = sights_of (seen sure_state (λ log. 0)) (seen g.O.Net.Link.state g.O.Net.Link.opening) in
+    let ends : EndsAll sights c.args.station.now orders gear ended = record {
+      of_station = told.journal;
+      radios_served = told.radios;
+      servers_served = told.servers;
+      leap_served = told.leap;
+      links_served = told.links;
+    } in
+    drilled (λ log. 0) g.O.Net.Link.state g.O.Net.Link.opening orders seed gear (done_of ended) ended.gear day
+    (subst (λ (of : StationFields). EndsAll sights of orders gear ended) c.requires.station ends)
