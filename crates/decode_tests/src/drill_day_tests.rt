@@ -50,7 +50,7 @@ fn days_are_those_of_another_program(rt: HostRuntime) -> Result<(), Fail> {
         ),
     ];
     for (seed, sums) in table {
-        let mut logs = make_logs(rt.alloc(), seed)?;
+        let mut logs = make_logs(&rt, rt.alloc(), seed)?;
         assert_eq!(rt; logs.len(), 3);
         for place in 0..3 {
             assert_eq!(rt; sum_of(&mut logs[place]), sums[place], "{seed} {place}");

@@ -7,6 +7,7 @@ ghost use Rattle.tick_units.specs.declared.marks.Plan.{Plan};
 use feed_link::{Failed, MemorySink, SureSource};
 use pulse_maker::make;
 use std::alloc::{AllocError, Global};
+use std::thread::{Threads, join};
 use tick_units::Plan;
 
 // 2026-03-01 00:00 UTC.
@@ -26,36 +27,34 @@ fn make_log(alloc: Global, plan: Plan, seed: u32) -> Result<SureSource, AllocErr
     }
 }
 
-// One log more.
-fn add_log(
-    alloc: Global,
-    plan: Plan,
-    seed: u32,
-    logs: &mut Vec<SureSource>,
-) -> Result<(), AllocError>
-    requires { vec_len logs.old < vec_capacity logs.old }
-    ensures added { OnOk result (map sure_state logs.new.items ≡
-        map sure_state logs.old.items ++ source_of (day_log plan seed) ∷ []) }
-    ensures count { OnOk result (vec_len logs.new ≡ vec_len logs.old + 1) }
-    ensures room { OnOk result (vec_capacity logs.new ≡ vec_capacity logs.old) }
-{
-    logs.push_reserved(make_log(alloc, plan, seed)?);
-    Ok(())
-}
-
-/// The logs of a day, made up in memory: one of each plan, in the order DCF77, MSF, WWVB. Their jitter and their damaged minutes
-/// come from the seed. Each has at most three million bytes.
+/// The logs of a day, made up in memory side by side: one of each plan, in the order DCF77, MSF, WWVB. Their jitter and their damaged
+/// minutes come from the seed. Each has at most three million bytes.
 ///
 /// Fails where memory runs out.
-pub fn make_logs(alloc: Global, seed: u32) -> Result<Vec<SureSource>, AllocError>
+pub fn make_logs<R: Threads + Sync>(
+    rt: &R,
+    alloc: Global,
+    seed: u32,
+) -> Result<Vec<SureSource>, AllocError>
     ensures logs { IfOk result (λ logs. map sure_state logs.items ≡ map source_of (day_logs seed)) }
 
     // They are valid logs. As many entries are due for each as a day has minutes, and none names a leap second.
     ensures due { IfOk result (λ _. (feed : ℕ) (plan : Plan) → IsDay feed plan seed) }
 {
+    let (dcf, (msf, wwvb)) = join(
+        rt,
+        || make_log(alloc, Plan::Dcf, seed),
+        || {
+            join(
+                rt,
+                || make_log(alloc, Plan::Msf, seed),
+                || make_log(alloc, Plan::Wwvb, seed),
+            )
+        },
+    );
     let mut logs = Vec::with_capacity(alloc, 3)?;
-    add_log(alloc, Plan::Dcf, seed, &mut logs)?;
-    add_log(alloc, Plan::Msf, seed, &mut logs)?;
-    add_log(alloc, Plan::Wwvb, seed, &mut logs)?;
+    logs.push_reserved(dcf?);
+    logs.push_reserved(msf?);
+    logs.push_reserved(wwvb?);
     Ok(logs)
 }

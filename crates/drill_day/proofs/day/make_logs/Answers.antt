@@ -3,4 +3,4 @@ use Rattle.drill_day.proofs.DayLaws.{day_is}
 use Rattle.drill_day.proofs.day.make_logs.Goals as goal
 
 pub returns-clause-due : goal.returns-clause-due
-returns-clause-due c = λ feed plan. day_is feed plan c.args.seed
+returns-clause-due g c = λ feed plan. day_is feed plan c.args.seed
