@@ -2,6 +2,7 @@
 -- file_commands (how a command ends, and the commands that run through files). Ended is scaffolding of private functions.
 pub mod Run
 pub mod Ended
+pub use Rattle.file_commands.specs.Effects
 pub use Rattle.file_commands.specs.Endings
 pub use Rattle.file_commands.specs.Writing
 pub use Rattle.file_commands.specs.Unopened

@@ -2,6 +2,7 @@
 ghost use Rattle.std.specs.Prelude.{◌≡◌, ◌<◌, ◌≤◌, ◌⊎◌, IfOk, false};
 ghost use Rattle.station_report.specs.DrillScaffold.{HasDayGear, HasDrilled};
 ghost use Rattle.station_report.specs.Drilling.{Drills};
+ghost use Rattle.file_commands.specs.Effects.{effect_of};
 ghost use Rattle.file_commands.specs.Unopened.{Lacks};
 ghost use Rattle.receiver_rack.specs.Racks.{IsRack};
 ghost use Rattle.station_config.specs.Station.{one_of_each};
@@ -124,8 +125,9 @@ pub fn run_drill<R: Threads + Wait + Sync, O: Outside, K: Sink>(
     requires rack { IsRack stands_for rack.items }
     requires gate { O.gate_out outside.old ≡ false }
     ensures gate { O.gate_out outside.new ≡ O.gate_out outside.old }
-    ensures runs { Lacks (O.state outside.old) (O.state outside.new) (K.state out.old) (K.state out.new) result
-        ⊎ Drills seed limit (O.state outside.old) (O.state outside.new) (K.state out.old) (K.state out.new) result }
+    ensures runs { let effect = effect_of (O.state outside.old) (O.state outside.new) (K.state out.old)
+        (K.state out.new) result in
+        Lacks effect ⊎ Drills seed limit effect }
 {
     let Ok(station) = Station::one_of_each(alloc) else {
         return finish(Ending::NoMemory, out);

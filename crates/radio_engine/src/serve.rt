@@ -2,6 +2,7 @@
 ghost use Rattle.std.specs.Prelude.{◌≡◌, ◌<◌, ◌≤◌, ◌⊎◌, [], All, IfOk, MatchResult, false, true, length, vec_len};
 ghost use Rattle.radio_engine.specs.Ended.{EndsAll};
 ghost use Rattle.station_report.specs.Crewing.{GivesServed, GivesUnused, LeavesAll, TriesServe, subject_of};
+ghost use Rattle.file_commands.specs.Effects.{effect_of};
 ghost use Rattle.file_commands.specs.Unopened.{Lacks};
 ghost use Rattle.feed_link.specs.ManyOut.{AreOut};
 ghost use Rattle.station_report.specs.Serving.{RunsServe};
@@ -176,9 +177,9 @@ pub fn run_serve<R: Threads + Wait + Sync, O: Outside, K: Sink>(
     requires rack { IsRack stands_for rack.items }
     requires gate { O.gate_out outside.old ≡ false }
     ensures gate { O.gate_out outside.new ≡ O.gate_out outside.old }
-    ensures runs { Lacks (O.state outside.old) (O.state outside.new) (K.state out.old) (K.state out.new) result
-        ⊎ RunsServe name.now orders.budget.during orders.budget.after orders.limit (O.state outside.old)
-        (O.state outside.new) (K.state out.old) (K.state out.new) result }
+    ensures runs { let effect = effect_of (O.state outside.old) (O.state outside.new) (K.state out.old)
+        (K.state out.new) result in
+        Lacks effect ⊎ RunsServe name.now orders effect }
 {
     let Ok(mut text) = Vec::with_capacity(alloc, STATION_LIMIT) else {
         return finish(Ending::NoMemory, out);

@@ -8,7 +8,7 @@ use Rattle.radio_engine.proofs.RunLaws.{run_unbegun}
 use Rattle.radio_ntpd.proofs.run_words.Goals as goal
 
 pub returns-in-Err : goal.returns-in-Err
-returns-in-Err g c = run_unbegun _ _ _ _ _ _ (record {
+returns-in-Err g c = run_unbegun _ _ (record {
   unchanged = c.in-Err.ensures.0;
   written = subst (λ (s : SinkState). Answers (status_of NoMemory) c.end_without_memory.result s (g.K.Sink.state c.end_without_memory.new.out) (status_line NoMemory)) c.in-Err.ensures.1 c.end_without_memory.ensures;
 })

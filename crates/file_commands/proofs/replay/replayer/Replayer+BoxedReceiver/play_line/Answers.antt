@@ -5,6 +5,6 @@ use Rattle.file_commands.proofs.PlayingLaws.{played_line}
 use Rattle.file_commands.proofs.replay.replayer.Replayer+BoxedReceiver.play_line.Goals as goal
 
 pub returns-in-Ok-clause-plays : goal.returns-in-Ok-clause-plays
-returns-in-Ok-clause-plays g c = λ station limit before h.
-    let plays = c.in-Ok.ensures.plays station limit before h in
-    played_line _ _ station limit _ _ before _ _ c.in-Ok.length plays.0 refl (subst (λ (t : List ℕ). says_played station before t plays.0) c.line.ensures plays.1) plays.2 plays.3
+returns-in-Ok-clause-plays g c = λ of before h.
+    let plays = c.in-Ok.ensures.plays of before h in
+    played_line _ _ of _ before _ c.in-Ok.length plays.0 refl (subst (λ (t : List ℕ). says_played of.station before t plays.0) c.line.ensures plays.1) plays.2 plays.3
