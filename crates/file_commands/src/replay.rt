@@ -54,7 +54,8 @@ fn play_whole<S: Source, K: Sink>(
     requires ready { IsReady least_start replayer.old.player }
     requires none { replayer.old.lines ≡ 0 }
     ensures number { S.opening script.new ≡ S.opening script.old }
-    ensures replays { (station : StationFields) → IsPlayedBy stands_for replayer.old (case_of station limit) [] [] None →
+    ensures replays { (station : StationFields) →
+        IsPlayedBy stands_for replayer.old (case_of station limit) [] [] None →
         RunsThrough (script_of limit station) (S.state script.old) (S.state script.new) (K.state out.old)
         (K.state out.new) result }
 {

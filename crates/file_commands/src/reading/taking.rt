@@ -3,7 +3,8 @@ ghost use Rattle.std.specs.Prelude.{◌≡◌, ◌+◌, ◌<◌, ◌≤◌, ◌+
 ghost use Rattle.feed_link.specs.Told.{SinkState};
 ghost use Rattle.journal_entry.specs.declared.writer.TheConstants.{LINE_ROOM};
 ghost use Rattle.file_commands.specs.Reading.{bad_in_the_end};
-ghost use Rattle.file_commands.specs.Taking.{Holds, Says, Fits, given, bad_of, flow_of, output_of, EndsAt, TakesPiece, EndsTaking};
+ghost use Rattle.file_commands.specs.Taking.{Holds, Says, Fits, given, bad_of, EndsAt, TakesPiece, EndsTaking};
+ghost use Rattle.file_commands.specs.Taking.{flow_of, output_of};
 ghost use Rattle.sink_text.specs.Writing.{WritesAll};
 
 use crate::reading::{Line, Reach, Taken, Took, write_given};
