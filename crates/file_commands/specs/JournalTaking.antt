@@ -15,12 +15,12 @@ pub record IsEven (m : JournalMover) : Type 0 where
 abbrev pub journal_way : StationFields → LineWay MoverFields
 journal_way of = record { file = journal_of of; stands = λ mover lines bad. HasMoved mover (settings_of of) lines bad; room = 300 }
 
-abbrev pub moving : JournalMover → LineTaker MoverFields
-moving m = line_taker m.mover m.cutter m.lines
+abbrev pub journal_taker : JournalMover → LineTaker MoverFields
+journal_taker m = line_taker m.mover m.cutter m.lines
 
 -- it has taken these bytes, has converted their lines and given the text of these, and has met this bad line
 abbrev pub IsMovedBy : JournalMover → StationFields → List ℕ → List ℕ → Option ℕ → Type 0
-IsMovedBy m of bytes text bad = IsTakenBy (journal_way of) (moving m) bytes text bad
+IsMovedBy m of bytes text bad = IsTakenBy (journal_way of) (journal_taker m) bytes text bad
 
 -- the text that the lines of these bytes give, none of which is bad
 abbrev pub journal_says : StationFields → List ℕ → List ℕ → Type 0

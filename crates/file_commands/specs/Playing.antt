@@ -15,12 +15,12 @@ use Rattle.file_commands.specs.declared.replay.replayer.Replayer.{Replayer}
 abbrev pub script_way : {B : Type 0} → (B → History → Type 0) → ReplayCase → LineWay (Player B)
 script_way stands of = record { file = script_of of.limit of.station; stands = λ player played bad. HasPlayed stands player of played; room = 4096 }
 
-abbrev pub playing : {B : Type 0} → Replayer B → LineTaker (Player B)
-playing r = line_taker r.player r.cutter r.lines
+abbrev pub script_taker : {B : Type 0} → Replayer B → LineTaker (Player B)
+script_taker r = line_taker r.player r.cutter r.lines
 
 -- it has taken these bytes, has played their lines and given the text of these, and has met this bad line
 abbrev pub IsPlayedBy : {B : Type 0} → (B → History → Type 0) → Replayer B → ReplayCase → List ℕ → List ℕ → Option ℕ → Type 0
-IsPlayedBy stands r of bytes text bad = IsTakenBy (script_way stands of) (playing r) bytes text bad
+IsPlayedBy stands r of bytes text bad = IsTakenBy (script_way stands of) (script_taker r) bytes text bad
 
 -- the text that the lines of these bytes give, none of which is bad
 abbrev pub script_says : ReplayCase → List ℕ → List ℕ → Type 0

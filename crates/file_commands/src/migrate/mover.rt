@@ -3,7 +3,7 @@ ghost use Rattle.std.specs.Prelude.{◌≡◌, ◌+◌, ◌<◌, ◌≤◌, ◌^
 ghost use Rattle.journal_entry.specs.declared.line.JournalLine.{JournalLine};
 ghost use Rattle.journal_entry.specs.declared.writer.TheConstants.{LINE_ROOM};
 ghost use Rattle.line_cutter.specs.Cutting.{line_in};
-ghost use Rattle.file_commands.specs.JournalTaking.{IsEven, IsMovedBy, journal_way, moving};
+ghost use Rattle.file_commands.specs.JournalTaking.{IsEven, IsMovedBy, journal_way, journal_taker};
 ghost use Rattle.file_commands.specs.LineTaking.{TakesLine, line_texts};
 ghost use Rattle.file_commands.specs.Moving.{HasMoved, MovesText};
 ghost use Rattle.file_commands.specs.Taking.{Fits};
@@ -74,7 +74,7 @@ impl JournalMover {
         ensures fits { Fits result }
         ensures moves { (of : StationFields) (before : List JournalLine) → self.old.lines ≡ length before →
             HasMoved self.old.mover (settings_of of) before None →
-            TakesLine (journal_way of) self.old.lines (moving self.new) before
+            TakesLine (journal_way of) self.old.lines (journal_taker self.new) before
             (line_texts (line_in self.old.cutter) line.new) result }
     {
         let number = self.lines + 1;

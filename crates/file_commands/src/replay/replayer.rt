@@ -2,7 +2,7 @@
 ghost use Rattle.std.specs.Prelude.{◌≡◌, ◌+◌, ◌-◌, ◌<◌, ◌≤◌, ◌^◌, List, [], None, Some, length, take, MatchResult};
 ghost use Rattle.journal_entry.specs.declared.writer.TheConstants.{LINE_ROOM};
 ghost use Rattle.file_commands.specs.LineTaking.{TakesLine, line_texts};
-ghost use Rattle.file_commands.specs.Playing.{IsPlayedBy, PlaysNext, playing, script_way};
+ghost use Rattle.file_commands.specs.Playing.{IsPlayedBy, PlaysNext, script_taker, script_way};
 ghost use Rattle.file_commands.specs.Taking.{Fits};
 ghost use Rattle.line_cutter.specs.Cutting.{line_in};
 ghost use Rattle.script_player.specs.KeptPlayer.{HasPlayed, IsReady};
@@ -73,7 +73,7 @@ impl Replayer<BoxedReceiver> {
         ensures fits { Fits result }
         ensures lines { self.new.lines ≤ self.old.lines + 1 }
         ensures plays { (of : ReplayCase) (before : List Played) → HasPlayed stands_for self.old.player of before →
-            TakesLine (script_way stands_for of) self.old.lines (playing self.new) before
+            TakesLine (script_way stands_for of) self.old.lines (script_taker self.new) before
             (line_texts (line_in self.old.cutter) line.new) result }
     {
         match play_text(&mut self.player, self.cutter.line(), line) {
