@@ -96,7 +96,7 @@ impl Taker for Replayer<BoxedReceiver> {
 
     ghost says = { script_says };
 
-    ghost holds = { IsPlayedBy (λ b h. (Receiver-box b).stands_for b.value h) };
+    ghost holds = { λ replayer of. IsPlayedBy (λ b h. (Receiver-box b).stands_for b.value h) replayer of };
 
     ghost is_ready = { λ replayer. IsReady (λ b. (Receiver-box b).least_start b.value) replayer.player };
 
