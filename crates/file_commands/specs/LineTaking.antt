@@ -19,10 +19,10 @@ pub record LineWay (T : Type 0) : Type 1 where
 pub record LineTaker (T : Type 0) : Type 0 where
   pub taker : T
   pub cutter : LineCutter
-  pub lines : ℕ
+  pub count : ℕ
 
 abbrev pub line_taker : {T : Type 0} → T → LineCutter → ℕ → LineTaker T
-line_taker taker cutter lines = record { taker = taker; cutter = cutter; lines = lines }
+line_taker taker cutter count = record { taker = taker; cutter = cutter; count = count }
 
 -- the text of a line, and the content of the line in which a text is given for it
 pub record LineTexts : Type 0 where
@@ -39,7 +39,7 @@ pub record IsTakenBy {T : Type 0} (way : LineWay T) (lines : LineTaker T) (bytes
   pub text_is : text ≡ way.file.text items
   pub taken : way.stands lines.taker items bad
   pub cut : bad ≡ None → HasTaken lines.cutter way.room bytes
-  pub count : bad ≡ None → lines.lines ≡ length items
+  pub count : bad ≡ None → lines.count ≡ length items
 
 -- the text that the lines of these bytes give, none of which is bad
 abbrev pub file_says : LineFile → List ℕ → List ℕ → Type 0
@@ -49,7 +49,7 @@ file_says f bytes text = (items : List f.Item) × HasItemsOf f bytes items None 
 -- stand here
 abbrev pub TakesLine : {T : Type 0} → (way : LineWay T) → ℕ → LineTaker T → List way.file.Item → LineTexts → Gives → Type 0
 TakesLine way count now items line Nothing = ⊥
-TakesLine way count now items line (Text size) = (now.lines ≡ count + 1)
+TakesLine way count now items line (Text size) = (now.count ≡ count + 1)
     × ((item : way.file.Item) × way.file.says items line.text item × way.stands now.taker (items ++ item ∷ []) None
     × (way.file.text (items ++ item ∷ []) ≡ way.file.text items ++ take size line.given))
 TakesLine way count now items line (Bad number) = (number ≡ count + 1)
