@@ -20,7 +20,7 @@ use Rattle.file_commands.specs.Decoding.{Decodes, most_of_a_log}
 use Rattle.file_commands.specs.Endings.{status_of, status_line, ending_at}
 use Rattle.file_commands.specs.LogTaking.{IsDecodedBy, IsFound, log_says}
 use Rattle.file_commands.specs.Reading.{ReadsLines, bad_in_the_end}
-use Rattle.file_commands.specs.Taking.{given, bad_of, EndsItself, EndsStopped}
+use Rattle.file_commands.specs.Taking.{given, bad_of, flow_of, EndsItself, EndsStopped}
 use Rattle.file_commands.specs.Text.{log_text}
 use Rattle.sink_text.specs.Writing.{WritesAll}
 use Rattle.file_commands.specs.Writing.{Answers}
@@ -87,7 +87,7 @@ module _ {B : Type 0} (stands : B → History → Type 0) where
 
   -- the status line after the lines
   pub decodes_after : (plan : Plan) (d : LogDecoder B) (file file_now : SourceState) (out out_mid out_now : SinkState) (reach : Reach) (result : Status) →
-      EndsItself (IsDecodedBy stands d plan) most_of_a_log file file_now out out_mid reach →
+      EndsItself (IsDecodedBy stands d plan) most_of_a_log (flow_of file file_now out out_mid) reach →
       Answers (status_of (ending_at (Feed 0) reach)) result out_mid out_now (status_line (ending_at (Feed 0) reach)) → Decodes plan file file_now out out_now result
   decodes_after plan d file file_now out out_mid out_now reach result h answers =
       let decoded : IsDecodedBy stands d plan h.front h.text h.bad = h.held in
@@ -102,7 +102,7 @@ module _ {B : Type 0} (stands : B → History → Type 0) where
       })
 
 -- a write failed in the lines that the last piece adds
-pub decodes_stopped : (plan : Plan) (file file_now : SourceState) (out out_now : SinkState) → EndsStopped (log_says plan) most_of_a_log file file_now out out_now → Decodes plan file file_now out out_now WriteFault
+pub decodes_stopped : (plan : Plan) (file file_now : SourceState) (out out_now : SinkState) → EndsStopped (log_says plan) most_of_a_log (flow_of file file_now out out_now) → Decodes plan file file_now out out_now WriteFault
 decodes_stopped plan file file_now out out_now h =
     let s = h.stops in
     let grows = lines_grow 0 plan 0 (s.earlier ++ s.next) s.behind in

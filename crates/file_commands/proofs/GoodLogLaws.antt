@@ -5,11 +5,11 @@ use Rattle.std.proofs.lemmas.List.{append-nil, length-append}
 use Rattle.std.proofs.lemmas.Bool.{false≢true}
 use Rattle.feed_link.specs.Faults.{Rose, RoseByOne}
 use Rattle.feed_link.specs.Told.{SourceState, SinkState, Takes, NoneLeft}
-use Rattle.feed_link.specs.Openings.{OutsideState}
 use Rattle.pulse_log.proofs.LogLaws.{bad_stays}
 use Rattle.tick_units.specs.Log.{bad_line, bad_at_end, or_unfinished, lines_of}
 use Rattle.tick_units.specs.declared.marks.Plan.{Plan}
 use Rattle.file_commands.specs.Decoding.{Decodes, IsGoodLog, HasGoodLog, RunsDecode, most_of_a_log}
+use Rattle.file_commands.specs.Effects.{Effect}
 use Rattle.file_commands.specs.Endings.{status_of, ending_at}
 use Rattle.file_reader.specs.Ends.{HasReadFront, EndsReading}
 use Rattle.file_reader.specs.declared.reader.FileEnd.{FileEnd}
@@ -90,10 +90,10 @@ good_done plan opened back out out_now result d good no_write = elim d [
   ]
 ]
 
-pub log_done : (plan : Plan) (name : List ℕ) (outside outside_now : OutsideState) (out out_now : SinkState) (result : Status) →
-    HasGoodLog name outside outside_now → (Rose out.faults out_now.faults → ⊥) → RunsDecode plan name outside outside_now out out_now result → result ≡ Done
-log_done plan name outside outside_now out out_now result p no_write did = elim did [
-  | inl not ↦ absurd (one_failed outside outside_now p.before p.were name p.opened p.back p.are not.opens)
-  | inr h ↦ (let same = one_opened outside outside_now p.before p.were name p.opened p.back p.are h.opened h.back h.opens in
-      good_done plan h.opened h.back out out_now result h.decodes (subst (λ (s : SourceState). IsGoodLog s h.back) (sym same.0) (subst (λ (s : SourceState). IsGoodLog p.opened s) (sym same.1) p.good)) no_write)
+pub log_done : (plan : Plan) (name : List ℕ) (effect : Effect) → HasGoodLog name effect.outside effect.outside_now → (Rose effect.out.faults effect.out_now.faults → ⊥) →
+    RunsDecode plan name effect → effect.status ≡ Done
+log_done plan name effect p no_write did = elim did [
+  | inl not ↦ absurd (one_failed effect.outside effect.outside_now p.before p.were name p.opened p.back p.are not.opens)
+  | inr h ↦ (let same = one_opened effect.outside effect.outside_now p.before p.were name p.opened p.back p.are h.opened h.back h.opens in
+      good_done plan h.opened h.back effect.out effect.out_now effect.status h.decodes (subst (λ (s : SourceState). IsGoodLog s h.back) (sym same.0) (subst (λ (s : SourceState). IsGoodLog p.opened s) (sym same.1) p.good)) no_write)
 ]

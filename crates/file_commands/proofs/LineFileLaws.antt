@@ -11,7 +11,6 @@ use Rattle.file_reader.specs.Ends.{EndsReading, HasReadFront}
 use Rattle.file_reader.specs.declared.reader.FileEnd.{FileEnd}
 use Rattle.file_reader.specs.declared.reader.FileEnd.TheVariants.{Whole, Fault, TooLong}
 use Rattle.line_cutter.proofs.ItemLaws.{bad_stays, one_reading}
-use Rattle.line_cutter.specs.declared.cutter.LineCutter.{LineCutter}
 use Rattle.station_config.specs.Faults.{Says}
 use Rattle.station_config.specs.Station.{StationFields}
 use Rattle.station_config.specs.Values.{station_of}
@@ -25,13 +24,14 @@ use Rattle.file_commands.specs.declared.ending.subject.Subject.TheVariants.{Stat
 use Rattle.file_commands.specs.declared.reading.Reach.{Reach}
 use Rattle.file_commands.specs.declared.reading.Reach.TheVariants.{AtEnd, AtBadLine}
 use Rattle.file_commands.specs.declared.station_file.obstacle.Obstacle.{Obstacle}
+use Rattle.file_commands.specs.Effects.{Effect, effect_of}
 use Rattle.file_commands.specs.Endings.{status_of, status_line}
 use Rattle.file_commands.specs.Keeping.{OpensStation, TriesFile}
 use Rattle.file_commands.specs.LineFiles.{LineFile, HasItemsOf, RunsThrough, RunsAgainst, IsGoodFile, HasGoodFile, needed_by}
-use Rattle.file_commands.specs.LineTaking.{IsTakenBy, file_says}
+use Rattle.file_commands.specs.LineTaking.{IsTakenBy, LineTaker, LineWay, file_says}
 use Rattle.file_commands.specs.Reading.{ReadsLines}
 use Rattle.file_commands.specs.StationFile.{HasStation, IsObstacle, IsStation, status_at, line_at}
-use Rattle.file_commands.specs.Taking.{EndsItself, EndsStopped}
+use Rattle.file_commands.specs.Taking.{EndsItself, EndsStopped, flow_of}
 use Rattle.file_commands.specs.Text.{page_text}
 use Rattle.sink_text.specs.Writing.{WritesAll}
 use Rattle.file_commands.specs.Writing.{Answers}
@@ -45,18 +45,18 @@ items_stay : (f : LineFile) (items : List f.Item) (front behind : List ℕ) (bad
 items_stay f items front behind None h none = subst (λ (b : List ℕ). HasItemsOf f b items None) (sym (ap (λ (b : List ℕ). front ++ b) (none refl) ∙ append-nil front)) h
 items_stay f items front behind (Some n) h none = bad_stays f.says f.too_long items n front behind h
 
-module _ {T : Type 0} (f : LineFile) (stands : T → List f.Item → Option ℕ → Type 0) (room : ℕ) (taker : T) (cutter : LineCutter) (count : ℕ) where
+module _ {T : Type 0} (way : LineWay T) (lines : LineTaker T) where
   pub runs_after : (file file_now : SourceState) (out out_mid out_now : SinkState) (reach : Reach) (result : Status) (page : PageFields) (due : Ending) →
-      EndsItself (IsTakenBy f stands room taker cutter count) f.most file file_now out out_mid reach →
-      ((items : List f.Item) (bad : Option ℕ) → stands taker items bad → page ≡ f.page items) →
-      ((items : List f.Item) (bad : Option ℕ) → stands taker items bad → due ≡ f.ending reach items) → Answers (status_of due) result out_mid out_now (page_text page ++ status_line due) → RunsThrough f file file_now out out_now result
+      EndsItself (IsTakenBy way lines) way.file.most (flow_of file file_now out out_mid) reach →
+      ((items : List way.file.Item) (bad : Option ℕ) → way.stands lines.taker items bad → page ≡ way.file.page items) →
+      ((items : List way.file.Item) (bad : Option ℕ) → way.stands lines.taker items bad → due ≡ way.file.ending reach items) → Answers (status_of due) result out_mid out_now (page_text page ++ status_line due) → RunsThrough way.file file file_now out out_now result
   runs_after file file_now out out_mid out_now reach result page due h page_is due_is answers =
-      let p : IsTakenBy f stands room taker cutter count h.front h.text h.bad = h.held in
+      let p : IsTakenBy way lines h.front h.text h.bad = h.held in
       inl (record {
         bytes = h.front ++ h.behind;
         items = p.items;
         bad = h.bad;
-        said = items_stay f p.items h.front h.behind h.bad p.said h.none_behind;
+        said = items_stay way.file p.items h.front h.behind h.bad p.said h.none_behind;
         reach = reach;
         read = h.read;
         due = due;
@@ -66,13 +66,13 @@ module _ {T : Type 0} (f : LineFile) (stands : T → List f.Item → Option ℕ 
         written = subst (λ (q : PageFields). Answers (status_of due) result out_mid out_now (page_text q ++ status_line due)) (page_is p.items h.bad p.taken) answers;
       })
 
-  pub taken_says : (bytes text : List ℕ) (bad : Option ℕ) → IsTakenBy f stands room taker cutter count bytes text bad → bad ≡ None → file_says f bytes text
+  pub taken_says : (bytes text : List ℕ) (bad : Option ℕ) → IsTakenBy way lines bytes text bad → bad ≡ None → file_says way.file bytes text
   taken_says bytes text bad h none =
-      let held = subst (λ (b : Option ℕ). IsTakenBy f stands room taker cutter count bytes text b) none h in
+      let held = subst (λ (b : Option ℕ). IsTakenBy way lines bytes text b) none h in
       (held.items, held.said, held.text_is)
 
 -- a write failed in what the last piece gives
-pub runs_stopped : (f : LineFile) (file file_now : SourceState) (out out_now : SinkState) → EndsStopped (file_says f) f.most file file_now out out_now → RunsThrough f file file_now out out_now WriteFault
+pub runs_stopped : (f : LineFile) (file file_now : SourceState) (out out_now : SinkState) → EndsStopped (file_says f) f.most (flow_of file file_now out out_now) → RunsThrough f file file_now out out_now WriteFault
 runs_stopped f file file_now out out_now h =
     let s = h.stops in
     inr (record {
@@ -98,12 +98,12 @@ runs_stopped f file file_now out out_now h =
 module _ (what : Subject) (file_of : StationFields → LineFile) (name file_name : List ℕ) (outside outside_now : OutsideState) (out out_now : SinkState) (result : Status) where
   -- the station could not be opened
   pub station_failed : MakesOpenings (LogOf name ∷ []) outside outside_now [] (Some (LogOf name)) →
-      Answers (status_of (NotOpened Station)) result out out_now (status_line (NotOpened Station)) → RunsAgainst what file_of name file_name outside outside_now out out_now result
+      Answers (status_of (NotOpened Station)) result out out_now (status_line (NotOpened Station)) → RunsAgainst what file_of name file_name (effect_of outside outside_now out out_now result)
   station_failed opens answers = inl (record { opens = opens_front (LogOf name ∷ []) (LogOf file_name ∷ []) outside outside_now [] (Some (LogOf name)) opens; written = answers })
 
   -- the station can't be used
   pub ends_at : (end : FileEnd) (bytes : List ℕ) (due : Obstacle) → OpensStation name outside outside_now end bytes → IsObstacle end bytes due →
-      Answers (status_at due) result out out_now (line_at due) → RunsAgainst what file_of name file_name outside outside_now out out_now result
+      Answers (status_at due) result out out_now (line_at due) → RunsAgainst what file_of name file_name (effect_of outside outside_now out out_now result)
   ends_at end bytes due h cause answers = inr (inl (record {
     opened = h.opened;
     back = h.back;
@@ -118,7 +118,7 @@ module _ (what : Subject) (file_of : StationFields → LineFile) (name file_name
 
   -- and then the file
   pub file_tried : (mid : OutsideState) (bytes : List ℕ) (of : StationFields) → OpensStation name outside mid Whole bytes → Says bytes of →
-      TriesFile what (file_of of) file_name mid outside_now out out_now result → RunsAgainst what file_of name file_name outside outside_now out out_now result
+      TriesFile what (file_of of) file_name (effect_of mid outside_now out out_now result) → RunsAgainst what file_of name file_name (effect_of outside outside_now out out_now result)
   file_tried mid bytes of h says (inl not) = inr (inr (inl (record {
     of = of;
     opened = h.opened;
@@ -226,15 +226,15 @@ read_station of said opened back h is =
     let same = whole_text is.bytes is.read.extra front.0 h.text front.2 is.read.cause.0 (none_left back.left front.0 front.1 is.read.cause.1) in
     one_station is.bytes said of is.says (subst (λ (b : List ℕ). Says b of) same h.says)
 
-module _ (what : Subject) (file_of : StationFields → LineFile) (readable : (of : StationFields) → IsReadable (file_of of)) (name file_name : List ℕ) (outside outside_now : OutsideState) (out out_now : SinkState) (result : Status)
-    (p : HasGoodFile file_of name file_name outside outside_now) (no_write : Rose out.faults out_now.faults → ⊥) where
-  pub against_done : RunsAgainst what file_of name file_name outside outside_now out out_now result → result ≡ Done
-  against_done (inl not) = absurd (two_failed_first outside outside_now p.before p.were (needed_by name file_name) name file_name p.opened p.back p.file_opened p.file_back p.are not.opens)
-  against_done (inr (inl ends)) = absurd (two_only_first outside outside_now p.before p.were (needed_by name file_name) name file_name p.opened p.back p.file_opened p.file_back p.are ends.opened ends.back ends.opens)
-  against_done (inr (inr (inl lacks))) = absurd (two_failed_next outside outside_now p.before p.were (needed_by name file_name) name file_name p.opened p.back p.file_opened p.file_back p.are lacks.opened lacks.back lacks.file.opens)
+module _ (what : Subject) (file_of : StationFields → LineFile) (readable : (of : StationFields) → IsReadable (file_of of)) (name file_name : List ℕ) (effect : Effect)
+    (p : HasGoodFile file_of name file_name effect.outside effect.outside_now) (no_write : Rose effect.out.faults effect.out_now.faults → ⊥) where
+  pub against_done : RunsAgainst what file_of name file_name effect → effect.status ≡ Done
+  against_done (inl not) = absurd (two_failed_first effect.outside effect.outside_now p.before p.were (needed_by name file_name) name file_name p.opened p.back p.file_opened p.file_back p.are not.opens)
+  against_done (inr (inl ends)) = absurd (two_only_first effect.outside effect.outside_now p.before p.were (needed_by name file_name) name file_name p.opened p.back p.file_opened p.file_back p.are ends.opened ends.back ends.opens)
+  against_done (inr (inr (inl lacks))) = absurd (two_failed_next effect.outside effect.outside_now p.before p.were (needed_by name file_name) name file_name p.opened p.back p.file_opened p.file_back p.are lacks.opened lacks.back lacks.file.opens)
   against_done (inr (inr (inr h))) =
-      let same = two_opened outside outside_now p.before p.were (needed_by name file_name) name file_name p.opened p.back p.file_opened p.file_back p.are h.opened h.back h.file_opened h.file_back h.opens in
+      let same = two_opened effect.outside effect.outside_now p.before p.were (needed_by name file_name) name file_name p.opened p.back p.file_opened p.file_back p.are h.opened h.back h.file_opened h.file_back h.opens in
       let is_station = subst (λ (s : SourceState). IsStation p.of s h.back) (sym same.0.0) (subst (λ (s : SourceState). IsStation p.of p.opened s) (sym same.0.1) p.is_station) in
       let said = read_station p.of h.of h.opened h.back is_station h.station in
       let good = subst (λ (s : SourceState). IsGoodFile (file_of p.of) s h.file_back) (sym same.1.0) (subst (λ (s : SourceState). IsGoodFile (file_of p.of) p.file_opened s) (sym same.1.1) p.is_file) in
-      file_done (file_of h.of) (readable h.of) h.file_opened h.file_back out out_now result h.runs (subst (λ (k : StationFields). IsGoodFile (file_of k) h.file_opened h.file_back) (sym said) good) no_write
+      file_done (file_of h.of) (readable h.of) h.file_opened h.file_back effect.out effect.out_now effect.status h.runs (subst (λ (k : StationFields). IsGoodFile (file_of k) h.file_opened h.file_back) (sym said) good) no_write

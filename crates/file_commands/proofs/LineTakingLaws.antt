@@ -9,8 +9,8 @@ use Rattle.line_cutter.specs.declared.cutter.LineCutter.{LineCutter}
 use Rattle.line_cutter.specs.declared.cutter.Taken.{Taken}
 use Rattle.pulse_log.proofs.LogLaws.{lines_more, lines_end}
 use Rattle.tick_units.specs.Log.{Lines, lines_of, has_tail}
-use Rattle.file_commands.specs.LineFiles.{LineFile, HasItemsOf}
-use Rattle.file_commands.specs.LineTaking.{IsTakenBy, TakesLine}
+use Rattle.file_commands.specs.LineFiles.{HasItemsOf}
+use Rattle.file_commands.specs.LineTaking.{IsTakenBy, LineWay, TakesLine, line_taker, line_texts}
 use Rattle.file_commands.specs.Reading.{bad_in_the_end}
 use Rattle.file_commands.specs.Taking.{given, bad_of}
 use Rattle.file_commands.specs.declared.reading.Gives.{Gives}
@@ -24,60 +24,60 @@ no_tail_by : (b : Bool) (n : ℕ) → b ≡ false → ◌≡◌ {A = Option ℕ}
 no_tail_by false n e = refl
 no_tail_by true n e = cc
 
-module _ {T : Type 0} (f : LineFile) (stands : T → List f.Item → Option ℕ → Type 0) (room : ℕ) (some : (n : ℕ) → 0 < f.too_long n) (ends : (taker : T) (items : List f.Item) (n : ℕ) → stands taker items None → stands taker items (Some n)) (taker : T) (cutter : LineCutter) (lines : ℕ) where
+module _ {T : Type 0} (way : LineWay T) (some : (n : ℕ) → 0 < way.file.too_long n) (ends : (taker : T) (items : List way.file.Item) (n : ℕ) → way.stands taker items None → way.stands taker items (Some n)) (taker : T) (cutter : LineCutter) (lines : ℕ) where
   -- the end, with bytes after the last line feed or none
-  pub tail_bad : (bytes text : List ℕ) (found : Bool) → IsTakenBy f stands room taker cutter lines bytes text None → ((b : List ℕ) → HasTaken cutter room b → found ≡ has_tail b) → found ≡ true →
+  pub tail_bad : (bytes text : List ℕ) (found : Bool) → IsTakenBy way (line_taker taker cutter lines) bytes text None → ((b : List ℕ) → HasTaken cutter way.room b → found ≡ has_tail b) → found ≡ true →
       bad_in_the_end None bytes ≡ Some (lines + 1)
   tail_bad bytes text found h tail is =
       let count = h.count refl in
-      let whole = complete_count f.says f.too_long bytes h.items h.said in
+      let whole = complete_count way.file.says way.file.too_long bytes h.items h.said in
       tail_by (has_tail bytes) (length (lines_of bytes).complete + 1) (sym (tail bytes (h.cut refl)) ∙ is) ∙ ap (λ n. Some (n + 1)) (whole ∙ sym count)
 
-  pub no_tail : (bytes text : List ℕ) (found : Bool) → IsTakenBy f stands room taker cutter lines bytes text None → ((b : List ℕ) → HasTaken cutter room b → found ≡ has_tail b) → found ≡ false →
+  pub no_tail : (bytes text : List ℕ) (found : Bool) → IsTakenBy way (line_taker taker cutter lines) bytes text None → ((b : List ℕ) → HasTaken cutter way.room b → found ≡ has_tail b) → found ≡ false →
       bad_in_the_end None bytes ≡ None
   no_tail bytes text found h tail is = no_tail_by (has_tail bytes) (length (lines_of bytes).complete + 1) (sym (tail bytes (h.cut refl)) ∙ is)
 
-  module _ (bytes : List ℕ) (taken : Taken) (cutter_now : LineCutter) (takes : (b : List ℕ) → HasTaken cutter room b → TakesPiece cutter_now room b bytes taken) where
+  module _ (bytes : List ℕ) (taken : Taken) (cutter_now : LineCutter) (takes : (b : List ℕ) → HasTaken cutter way.room b → TakesPiece cutter_now way.room b bytes taken) where
     -- this many bytes were cut, in this way
-    cut_by : (before : List ℕ) (cut : Cut) → taken.cut ≡ cut → HasTaken cutter room before → IsCut cut cutter_now room before bytes (take taken.count bytes)
-    cut_by before cut is h = subst (λ (k : Cut). IsCut k cutter_now room before bytes (take taken.count bytes)) is (takes before h).cut
+    cut_by : (before : List ℕ) (cut : Cut) → taken.cut ≡ cut → HasTaken cutter way.room before → IsCut cut cutter_now way.room before bytes (take taken.count bytes)
+    cut_by before cut is h = subst (λ (k : Cut). IsCut k cutter_now way.room before bytes (take taken.count bytes)) is (takes before h).cut
 
-    pub took_more : (before text : List ℕ) → IsTakenBy f stands room taker cutter lines before text None → room ≤ f.too_long lines → taken.cut ≡ More →
-        IsTakenBy f stands room taker cutter_now lines (before ++ take taken.count bytes) (text ++ []) None
+    pub took_more : (before text : List ℕ) → IsTakenBy way (line_taker taker cutter lines) before text None → way.room ≤ way.file.too_long lines → taken.cut ≡ More →
+        IsTakenBy way (line_taker taker cutter_now lines) (before ++ take taken.count bytes) (text ++ []) None
     took_more before text h within is =
         let cut = cut_by before More is (h.cut refl) in
-        let short = short_unfinished cutter_now room (before ++ take taken.count bytes) cut.0 in
-        let limit : room ≤ f.too_long (length h.items) = subst (λ n. room ≤ f.too_long n) (h.count refl) within in
+        let short = short_unfinished cutter_now way.room (before ++ take taken.count bytes) cut.0 in
+        let limit : way.room ≤ way.file.too_long (length h.items) = subst (λ n. way.room ≤ way.file.too_long n) (h.count refl) within in
         record {
           items = h.items;
-          said = same_items f.says f.too_long before h.items h.said (before ++ take taken.count bytes) cut.2 (omega arith);
+          said = same_items way.file.says way.file.too_long before h.items h.said (before ++ take taken.count bytes) cut.2 (omega arith);
           text_is = append-nil text ∙ h.text_is;
           taken = h.taken;
           cut = λ _. cut.0;
           count = λ _. h.count refl;
         }
 
-    pub took_long : (before text : List ℕ) → IsTakenBy f stands room taker cutter lines before text None → f.too_long lines ≤ room → taken.cut ≡ TooLong →
-        IsTakenBy f stands room taker cutter_now lines (before ++ take taken.count bytes) (text ++ []) (Some (lines + 1))
+    pub took_long : (before text : List ℕ) → IsTakenBy way (line_taker taker cutter lines) before text None → way.file.too_long lines ≤ way.room → taken.cut ≡ TooLong →
+        IsTakenBy way (line_taker taker cutter_now lines) (before ++ take taken.count bytes) (text ++ []) (Some (lines + 1))
     took_long before text h within is =
         let cut = cut_by before TooLong is (h.cut refl) in
         let long = cut.1 in
-        let limit : f.too_long (length h.items) ≤ room = subst (λ n. f.too_long n ≤ room) (h.count refl) within in
-        let said : HasItemsOf f (before ++ take taken.count bytes) h.items (Some (length h.items + 1)) = too_long_line f.says f.too_long before h.items h.said (before ++ take taken.count bytes) cut.2 (omega arith) in
+        let limit : way.file.too_long (length h.items) ≤ way.room = subst (λ n. way.file.too_long n ≤ way.room) (h.count refl) within in
+        let said : HasItemsOf way.file (before ++ take taken.count bytes) h.items (Some (length h.items + 1)) = too_long_line way.file.says way.file.too_long before h.items h.said (before ++ take taken.count bytes) cut.2 (omega arith) in
         record {
           items = h.items;
-          said = subst (λ (n : ℕ). HasItemsOf f (before ++ take taken.count bytes) h.items (Some (n + 1))) (sym (h.count refl)) said;
+          said = subst (λ (n : ℕ). HasItemsOf way.file (before ++ take taken.count bytes) h.items (Some (n + 1))) (sym (h.count refl)) said;
           text_is = append-nil text ∙ h.text_is;
           taken = ends taker h.items (lines + 1) h.taken;
           cut = λ none. absurd (let e : ◌≡◌ {A = Option ℕ} (Some (lines + 1)) None = none in cc);
           count = λ none. absurd (let e : ◌≡◌ {A = Option ℕ} (Some (lines + 1)) None = none in cc);
         }
 
-    module _ (before text : List ℕ) (h : IsTakenBy f stands room taker cutter lines before text None) (later : T) (lines_now : ℕ) (final : LineCutter) (same : final ≡ cutter_now) (line : List ℕ)
-        (cut : HasTaken cutter_now room (before ++ take taken.count bytes) × ((lines_of (before ++ take taken.count bytes)).unfinished ≡ [])
+    module _ (before text : List ℕ) (h : IsTakenBy way (line_taker taker cutter lines) before text None) (later : T) (lines_now : ℕ) (final : LineCutter) (same : final ≡ cutter_now) (line : List ℕ)
+        (cut : HasTaken cutter_now way.room (before ++ take taken.count bytes) × ((lines_of (before ++ take taken.count bytes)).unfinished ≡ [])
         × ((lines_of (before ++ take taken.count bytes)).complete ≡ (lines_of before).complete ++ line_in cutter_now ∷ [])) where
-      took_one : (gives : Gives) → TakesLine f stands lines lines_now later h.items (line_in cutter_now) line gives →
-          IsTakenBy f stands room later final lines_now (before ++ take taken.count bytes) (text ++ given gives line) (bad_of gives)
+      took_one : (gives : Gives) → TakesLine way lines (line_taker later final lines_now) h.items (line_texts (line_in cutter_now) line) gives →
+          IsTakenBy way (line_taker later final lines_now) (before ++ take taken.count bytes) (text ++ given gives line) (bad_of gives)
       took_one Nothing p = absurd p
       took_one (Text n) p =
           let item = p.1.0 in
@@ -85,51 +85,51 @@ module _ {T : Type 0} (f : LineFile) (stands : T → List f.Item → Option ℕ 
           let least = some (length (h.items ++ item ∷ [])) in
           record {
             items = h.items ++ item ∷ [];
-            said = next_item f.says f.too_long before h.items h.said (before ++ take taken.count bytes) (line_in cutter_now) item cut.2 (omega arith) p.1.1;
+            said = next_item way.file.says way.file.too_long before h.items h.said (before ++ take taken.count bytes) (line_in cutter_now) item cut.2 (omega arith) p.1.1;
             text_is = ap (λ (t : List ℕ). t ++ take n line) h.text_is ∙ sym p.1.3;
             taken = p.1.2;
-            cut = λ _. subst (λ (k : LineCutter). HasTaken k room (before ++ take taken.count bytes)) (sym same) cut.0;
+            cut = λ _. subst (λ (k : LineCutter). HasTaken k way.room (before ++ take taken.count bytes)) (sym same) cut.0;
             count = λ _. p.0 ∙ ap (λ (k : ℕ). k + 1) (h.count refl) ∙ sym (length_push h.items item);
           }
       took_one (Bad number) p =
-          let said : HasItemsOf f (before ++ take taken.count bytes) h.items (Some (length h.items + 1)) = bad_line f.says f.too_long before h.items h.said (before ++ take taken.count bytes) (line_in cutter_now) cut.2 (inr p.1) in
+          let said : HasItemsOf way.file (before ++ take taken.count bytes) h.items (Some (length h.items + 1)) = bad_line way.file.says way.file.too_long before h.items h.said (before ++ take taken.count bytes) (line_in cutter_now) cut.2 (inr p.1) in
           record {
             items = h.items;
-            said = subst (λ (n : ℕ). HasItemsOf f (before ++ take taken.count bytes) h.items (Some n)) (sym (p.0 ∙ ap (λ (k : ℕ). k + 1) (h.count refl))) said;
+            said = subst (λ (n : ℕ). HasItemsOf way.file (before ++ take taken.count bytes) h.items (Some n)) (sym (p.0 ∙ ap (λ (k : ℕ). k + 1) (h.count refl))) said;
             text_is = append-nil text ∙ h.text_is;
             taken = p.2;
             cut = λ none. absurd (let e : ◌≡◌ {A = Option ℕ} (Some number) None = none in cc);
             count = λ none. absurd (let e : ◌≡◌ {A = Option ℕ} (Some number) None = none in cc);
           }
 
-    pub took_line : (before text : List ℕ) (later : T) (lines_now : ℕ) (final : LineCutter) (line : List ℕ) (gives : Gives) → IsTakenBy f stands room taker cutter lines before text None → taken.cut ≡ Line → final ≡ cutter_now →
-        ((items : List f.Item) → lines ≡ length items → stands taker items None → TakesLine f stands lines lines_now later items (line_in cutter_now) line gives) →
-        IsTakenBy f stands room later final lines_now (before ++ take taken.count bytes) (text ++ given gives line) (bad_of gives)
+    pub took_line : (before text : List ℕ) (later : T) (lines_now : ℕ) (final : LineCutter) (line : List ℕ) (gives : Gives) → IsTakenBy way (line_taker taker cutter lines) before text None → taken.cut ≡ Line → final ≡ cutter_now →
+        ((items : List way.file.Item) → lines ≡ length items → way.stands taker items None → TakesLine way lines (line_taker later final lines_now) items (line_texts (line_in cutter_now) line) gives) →
+        IsTakenBy way (line_taker later final lines_now) (before ++ take taken.count bytes) (text ++ given gives line) (bad_of gives)
     took_line before text later lines_now final line gives h is same takes_line =
         took_one before text h later lines_now final same line (cut_by before Line is (h.cut refl)) gives (takes_line h.items (h.count refl) h.taken)
 
   -- after the last line that there may be any byte makes a bad one
-  pub took_none : (bytes before text : List ℕ) → IsTakenBy f stands room taker cutter lines before text None → 0 < length bytes → f.too_long lines ≡ 1 →
-      ((items : List f.Item) (t : List ℕ) (item : f.Item) → lines ≡ length items → f.says items t item → ⊥) →
-      IsTakenBy f stands room taker cutter lines (before ++ take 1 bytes) (text ++ []) (Some (lines + 1))
+  pub took_none : (bytes before text : List ℕ) → IsTakenBy way (line_taker taker cutter lines) before text None → 0 < length bytes → way.file.too_long lines ≡ 1 →
+      ((items : List way.file.Item) (t : List ℕ) (item : way.file.Item) → lines ≡ length items → way.file.says items t item → ⊥) →
+      IsTakenBy way (line_taker taker cutter lines) (before ++ take 1 bytes) (text ++ []) (Some (lines + 1))
   took_none [] before text h more limit none = absurd (omega arith)
   took_none (byte ∷ bytes) before text h more limit none =
       let said = by_byte (eqb byte 10) refl in
       record {
         items = h.items;
-        said = subst (λ (n : ℕ). HasItemsOf f (before ++ byte ∷ []) h.items (Some (n + 1))) (sym (h.count refl)) said;
+        said = subst (λ (n : ℕ). HasItemsOf way.file (before ++ byte ∷ []) h.items (Some (n + 1))) (sym (h.count refl)) said;
         text_is = append-nil text ∙ h.text_is;
         taken = ends taker h.items (lines + 1) h.taken;
         cut = λ none. absurd (let e : ◌≡◌ {A = Option ℕ} (Some (lines + 1)) None = none in cc);
         count = λ none. absurd (let e : ◌≡◌ {A = Option ℕ} (Some (lines + 1)) None = none in cc);
       }
     where
-      one : f.too_long (length h.items) ≡ 1
-      one = subst (λ n. f.too_long n ≡ 1) (h.count refl) limit
+      one : way.file.too_long (length h.items) ≡ 1
+      one = subst (λ n. way.file.too_long n ≡ 1) (h.count refl) limit
 
-      by_byte : (feed : Bool) → eqb byte 10 ≡ feed → HasItemsOf f (before ++ byte ∷ []) h.items (Some (length h.items + 1))
-      by_byte true feed = bad_line f.says f.too_long before h.items h.said (before ++ byte ∷ []) (lines_of before).unfinished (ap (λ (l : Lines). l.complete) (lines_end before byte feed)) (inr (λ item says. none h.items (lines_of before).unfinished item (h.count refl) says))
+      by_byte : (feed : Bool) → eqb byte 10 ≡ feed → HasItemsOf way.file (before ++ byte ∷ []) h.items (Some (length h.items + 1))
+      by_byte true feed = bad_line way.file.says way.file.too_long before h.items h.said (before ++ byte ∷ []) (lines_of before).unfinished (ap (λ (l : Lines). l.complete) (lines_end before byte feed)) (inr (λ item says. none h.items (lines_of before).unfinished item (h.count refl) says))
       by_byte false feed =
           let len = length_push (lines_of before).unfinished byte in
-          let long : f.too_long (length h.items) ≤ length (lines_of (before ++ byte ∷ [])).unfinished = rw (lines_more before byte feed) (omega (arith, one)) in
-          too_long_line f.says f.too_long before h.items h.said (before ++ byte ∷ []) (ap (λ (l : Lines). l.complete) (lines_more before byte feed)) long
+          let long : way.file.too_long (length h.items) ≤ length (lines_of (before ++ byte ∷ [])).unfinished = rw (lines_more before byte feed) (omega (arith, one)) in
+          too_long_line way.file.says way.file.too_long before h.items h.said (before ++ byte ∷ []) (ap (λ (l : Lines). l.complete) (lines_more before byte feed)) long

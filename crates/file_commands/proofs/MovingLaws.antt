@@ -19,7 +19,9 @@ use Rattle.journal_entry.proofs.SameLaws.{same_line}
 use Rattle.system_fold.specs.Numbered.{numbered, numbered_after, numbered_behind}
 use Rattle.station_config.specs.Station.{StationFields, settings_of}
 use Rattle.system_fold.specs.Settings.{SettingsFields}
-use Rattle.file_commands.specs.JournalTaking.{IsMovedLine}
+use Rattle.file_commands.specs.JournalTaking.{journal_way, journal_taker}
+use Rattle.file_commands.specs.LineTaking.{LineTexts, TakesLine}
+use Rattle.file_commands.specs.declared.migrate.mover.JournalMover.{JournalMover}
 use Rattle.file_commands.specs.Moving.{HasMoved, IsFormOf, IsMoving, MoverFields, MovesLine, MovesText}
 use Rattle.file_commands.specs.declared.reading.Gives.TheVariants.{Bad, Text}
 use Rattle.file_commands.specs.Migrating.{HasFormOf, TellsNumber, entries_of, journal_line_limit, journal_text, most_lines, says_line}
@@ -82,14 +84,14 @@ journal_more settings lines line =
     ∙ lines_push (numbered settings (entries_of lines)) (numbered_behind settings (entries_of lines) (entry_of line))
 
 -- a text that was moved is the next line
-pub moved_line : (of : StationFields) (count count_now : ℕ) (before : List JournalLine) (text given : List ℕ) (size : ℕ) (m : MoverFields) → count_now ≡ count + 1 →
-    MovesText m (settings_of of) before text count_now given (Some size) → IsMovedLine count count_now m of before text given (Text size)
-moved_line of count count_now before text given size m one h =
+pub moved_line : (of : StationFields) (count : ℕ) (m : JournalMover) (before : List JournalLine) (line : LineTexts) (size : ℕ) → m.lines ≡ count + 1 →
+    MovesText m.mover (settings_of of) before line m.lines (Some size) → TakesLine (journal_way of) count (journal_taker m) before line (Text size)
+moved_line of count m before line size one h =
     (one, (h.0, h.1, h.2, journal_more (settings_of of) before h.0 ∙ ap (λ (t : List ℕ). journal_text (settings_of of) (entries_of before) ++ t) (sym h.3)))
 
-pub refused_line : (of : StationFields) (count count_now : ℕ) (before : List JournalLine) (text given : List ℕ) (m : MoverFields) → count_now ≡ count + 1 →
-    MovesText m (settings_of of) before text count_now given None → IsMovedLine count count_now m of before text given (Bad count_now)
-refused_line of count count_now before text given m one h = (one, h.0, h.1)
+pub refused_line : (of : StationFields) (count : ℕ) (m : JournalMover) (before : List JournalLine) (line : LineTexts) → m.lines ≡ count + 1 →
+    MovesText m.mover (settings_of of) before line m.lines None → TakesLine (journal_way of) count (journal_taker m) before line (Bad m.lines)
+refused_line of count m before line one h = (one, h.0, h.1)
 
 -- ---- one line more of a mover
 

@@ -5,7 +5,7 @@ use Rattle.feed_link.specs.Told.{SourceState, SinkState, Takes}
 use Rattle.file_reader.specs.Ends.{HasReadFront, EndsReading}
 use Rattle.file_reader.specs.declared.reader.FileEnd.TheVariants.{Whole, Fault, TooLong}
 use Rattle.file_commands.specs.Reading.{ReadsLines, bad_in_the_end}
-use Rattle.file_commands.specs.Taking.{Holds, Says, TakesAll, MeetsBad, Stops, EndsAt, EndsItself, EndsStopped}
+use Rattle.file_commands.specs.Taking.{Holds, Says, TakesAll, MeetsBad, Stops, EndsAt, EndsItself, EndsStopped, flow_of}
 use Rattle.file_commands.specs.declared.reading.Reach.{Reach}
 use Rattle.file_commands.specs.declared.reading.Reach.TheVariants.{AtEnd, AtBadLine}
 
@@ -18,7 +18,7 @@ front_of_whole limit file file_now bytes h = record {
 }
 
 module _ (holds : Holds) (limit : ℕ) (file file_now : SourceState) (out out_now : SinkState) (bytes : List ℕ) where
-  ends_with : (reach : Reach) → TakesAll holds out out_now bytes → ReadsLines reach limit file file_now bytes None → EndsItself holds limit file file_now out out_now reach
+  ends_with : (reach : Reach) → TakesAll holds out out_now bytes → ReadsLines reach limit file file_now bytes None → EndsItself holds limit (flow_of file file_now out out_now) reach
   ends_with reach h read = record {
     front = bytes;
     behind = [];
@@ -38,19 +38,19 @@ module _ (holds : Holds) (limit : ℕ) (file file_now : SourceState) (out out_no
   at_end (AtBadLine line) end read = (front_of_whole limit file file_now bytes read, inr (read.cause.1, refl, end))
 
   pub ends_whole : (reach : Reach) → TakesAll holds out out_now bytes → EndsReading Whole limit file file_now bytes → EndsAt reach (bad_in_the_end None bytes) →
-      EndsItself holds limit file file_now out out_now reach
+      EndsItself holds limit (flow_of file file_now out out_now) reach
   ends_whole reach h read end = ends_with reach h (at_end reach end read)
 
   -- a read failed
-  pub ends_fault : TakesAll holds out out_now bytes → EndsReading Fault limit file file_now bytes → EndsItself holds limit file file_now out out_now (AtEnd Fault)
+  pub ends_fault : TakesAll holds out out_now bytes → EndsReading Fault limit file file_now bytes → EndsItself holds limit (flow_of file file_now out out_now) (AtEnd Fault)
   ends_fault h read = ends_with (AtEnd Fault) h (read, refl)
 
   -- there are more bytes than the limit
-  pub ends_long : TakesAll holds out out_now bytes → EndsReading TooLong limit file file_now bytes → EndsItself holds limit file file_now out out_now (AtEnd TooLong)
+  pub ends_long : TakesAll holds out out_now bytes → EndsReading TooLong limit file file_now bytes → EndsItself holds limit (flow_of file file_now out out_now) (AtEnd TooLong)
   ends_long h read = ends_with (AtEnd TooLong) h (read, refl)
 
   -- one of the bytes read ends a bad line
-  pub ends_bad : (line : ℕ) → MeetsBad holds line out out_now bytes → HasReadFront limit file file_now bytes → EndsItself holds limit file file_now out out_now (AtBadLine line)
+  pub ends_bad : (line : ℕ) → MeetsBad holds line out out_now bytes → HasReadFront limit file file_now bytes → EndsItself holds limit (flow_of file file_now out out_now) (AtBadLine line)
   ends_bad line h read = record {
     front = h.front;
     behind = h.behind;
@@ -64,7 +64,7 @@ module _ (holds : Holds) (limit : ℕ) (file file_now : SourceState) (out out_no
 
 -- a write failed
 pub ends_stopped : (says : Says) (limit : ℕ) (file file_now : SourceState) (out out_now : SinkState) (bytes : List ℕ) (most : ℕ) → most ≤ 512 → Stops says out out_now bytes most → HasReadFront limit file file_now bytes →
-    EndsStopped says limit file file_now out out_now
+    EndsStopped says limit (flow_of file file_now out out_now)
 ends_stopped says limit file file_now out out_now bytes most small h read = record {
   bytes = bytes;
   read = read;

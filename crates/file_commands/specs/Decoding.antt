@@ -7,6 +7,7 @@ use Rattle.feed_link.specs.Openings.Wanted.{LogOf}
 use Rattle.file_reader.specs.Ends.{HasReadFront}
 use Rattle.tick_units.specs.declared.marks.Plan.{Plan}
 use Rattle.tick_units.specs.Log.{bad_line, bad_at_end}
+use Rattle.file_commands.specs.Effects.{Effect}
 use Rattle.file_commands.specs.Endings.{status_of, status_line, ending_at}
 use Rattle.file_commands.specs.Opening.{CannotOpen}
 use Rattle.file_commands.specs.Reading.{ReadsLines}
@@ -54,17 +55,15 @@ abbrev pub needed_by_decode : List ℕ → List Wanted
 needed_by_decode name = LogOf name ∷ []
 
 -- the log was opened once, decoded and given back
-pub record OpensAndDecodes (plan : Plan) (name : List ℕ) (outside outside_now : OutsideState) (out out_now : SinkState) (result : Status) : Type 0 where
+pub record OpensAndDecodes (plan : Plan) (name : List ℕ) (effect : Effect) : Type 0 where
   pub opened : SourceState
   pub back : SourceState
-  pub opens : MakesOpenings (needed_by_decode name) outside outside_now (log_visit name opened back ∷ []) None
-  pub decodes : Decodes plan opened back out out_now result
+  pub opens : MakesOpenings (needed_by_decode name) effect.outside effect.outside_now (log_visit name opened back ∷ []) None
+  pub decodes : Decodes plan opened back effect.out effect.out_now effect.status
 
 -- what becomes of a command to decode a log
-abbrev pub RunsDecode : Plan → List ℕ → OutsideState → OutsideState → SinkState → SinkState → Status → Type 0
-RunsDecode plan name outside outside_now out out_now result =
-    CannotOpen (needed_by_decode name) [] (LogOf name) (Feed 0) outside outside_now out out_now result
-    ⊎ OpensAndDecodes plan name outside outside_now out out_now result
+abbrev pub RunsDecode : Plan → List ℕ → Effect → Type 0
+RunsDecode plan name effect = CannotOpen (needed_by_decode name) [] (LogOf name) (Feed 0) effect ⊎ OpensAndDecodes plan name effect
 
 -- a log that has no fault, and that reported its bytes before and after
 pub record IsGoodLog (opened back : SourceState) : Type 0 where

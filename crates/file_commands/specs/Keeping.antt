@@ -1,14 +1,14 @@
 -- Scaffolding: what private functions say of a single opening.
 use Rattle.std.specs.Prelude.{ℕ, ◌⊎◌, None, Some, List, [], ◌∷◌, Result, MatchResult}
-use Rattle.feed_link.specs.Told.{SourceState, SinkState}
+use Rattle.feed_link.specs.Told.{SourceState}
 use Rattle.feed_link.specs.Openings.{OutsideState, MakesOpenings, log_visit}
 use Rattle.feed_link.specs.Openings.Wanted.{LogOf}
 use Rattle.file_reader.specs.Ends.{EndsReading}
 use Rattle.file_reader.specs.declared.reader.FileEnd.{FileEnd}
+use Rattle.file_commands.specs.Effects.{Effect}
 use Rattle.file_commands.specs.LineFiles.{LineFile, RunsThrough}
 use Rattle.file_commands.specs.Opening.{CannotOpen}
 use Rattle.file_commands.specs.StationFile.{most_of_a_station}
-use Rattle.file_commands.specs.declared.ending.status.Status.{Status}
 use Rattle.file_commands.specs.declared.ending.subject.Subject.{Subject}
 
 -- the station file was opened once, read and given back
@@ -25,14 +25,12 @@ TriesStation name outside outside_now bytes result = MatchResult result
     (λ _. MakesOpenings (LogOf name ∷ []) outside outside_now [] (Some (LogOf name)))
 
 -- a file of lines was opened once, run through and given back
-pub record RunsFile (f : LineFile) (name : List ℕ) (outside outside_now : OutsideState) (out out_now : SinkState) (result : Status) : Type 0 where
+pub record RunsFile (f : LineFile) (name : List ℕ) (effect : Effect) : Type 0 where
   pub opened : SourceState
   pub back : SourceState
-  pub opens : MakesOpenings (LogOf name ∷ []) outside outside_now (log_visit name opened back ∷ []) None
-  pub runs : RunsThrough f opened back out out_now result
+  pub opens : MakesOpenings (LogOf name ∷ []) effect.outside effect.outside_now (log_visit name opened back ∷ []) None
+  pub runs : RunsThrough f opened back effect.out effect.out_now effect.status
 
 -- or it could not be opened
-abbrev pub TriesFile : Subject → LineFile → List ℕ → OutsideState → OutsideState → SinkState → SinkState → Status → Type 0
-TriesFile what f name outside outside_now out out_now result =
-    CannotOpen (LogOf name ∷ []) [] (LogOf name) what outside outside_now out out_now result
-    ⊎ RunsFile f name outside outside_now out out_now result
+abbrev pub TriesFile : Subject → LineFile → List ℕ → Effect → Type 0
+TriesFile what f name effect = CannotOpen (LogOf name ∷ []) [] (LogOf name) what effect ⊎ RunsFile f name effect

@@ -11,6 +11,7 @@ use Rattle.file_reader.specs.declared.reader.FileEnd.TheVariants.{Whole}
 use Rattle.line_cutter.specs.Items.{HasItems, Saying}
 use Rattle.station_config.specs.Station.{StationFields}
 use Rattle.tick_units.specs.Log.{has_tail}
+use Rattle.file_commands.specs.Effects.{Effect}
 use Rattle.file_commands.specs.Endings.{status_of, status_line}
 use Rattle.file_commands.specs.Opening.{CannotOpen}
 use Rattle.file_commands.specs.Reading.{ReadsLines}
@@ -84,31 +85,31 @@ abbrev pub needed_by : List ℕ → List ℕ → List Wanted
 needed_by name file_name = LogOf name ∷ LogOf file_name ∷ []
 
 -- the station was read to its end, and the file could not be opened
-pub record LacksFile (what : Subject) (name file_name : List ℕ) (outside outside_now : OutsideState) (out out_now : SinkState) (result : Status) : Type 0 where
+pub record LacksFile (what : Subject) (name file_name : List ℕ) (effect : Effect) : Type 0 where
   pub of : StationFields
   pub opened : SourceState
   pub back : SourceState
   pub station : HasStation opened back of
-  pub file : CannotOpen (needed_by name file_name) (log_visit name opened back ∷ []) (LogOf file_name) what outside outside_now out out_now result
+  pub file : CannotOpen (needed_by name file_name) (log_visit name opened back ∷ []) (LogOf file_name) what effect
 
 -- the station was read to its end, and the file was opened once, run through and given back
-pub record OpensAndRuns (file_of : StationFields → LineFile) (name file_name : List ℕ) (outside outside_now : OutsideState) (out out_now : SinkState) (result : Status) : Type 0 where
+pub record OpensAndRuns (file_of : StationFields → LineFile) (name file_name : List ℕ) (effect : Effect) : Type 0 where
   pub of : StationFields
   pub opened : SourceState
   pub back : SourceState
   pub station : HasStation opened back of
   pub file_opened : SourceState
   pub file_back : SourceState
-  pub opens : MakesOpenings (needed_by name file_name) outside outside_now (log_visit name opened back ∷ log_visit file_name file_opened file_back ∷ []) None
-  pub runs : RunsThrough (file_of of) file_opened file_back out out_now result
+  pub opens : MakesOpenings (needed_by name file_name) effect.outside effect.outside_now (log_visit name opened back ∷ log_visit file_name file_opened file_back ∷ []) None
+  pub runs : RunsThrough (file_of of) file_opened file_back effect.out effect.out_now effect.status
 
 -- what becomes of a command that runs through a file against a station
-abbrev pub RunsAgainst : Subject → (StationFields → LineFile) → List ℕ → List ℕ → OutsideState → OutsideState → SinkState → SinkState → Status → Type 0
-RunsAgainst what file_of name file_name outside outside_now out out_now result =
-    CannotOpen (needed_by name file_name) [] (LogOf name) Station outside outside_now out out_now result
-    ⊎ (EndsAtStation (needed_by name file_name) name outside outside_now out out_now result
-    ⊎ (LacksFile what name file_name outside outside_now out out_now result
-    ⊎ OpensAndRuns file_of name file_name outside outside_now out out_now result))
+abbrev pub RunsAgainst : Subject → (StationFields → LineFile) → List ℕ → List ℕ → Effect → Type 0
+RunsAgainst what file_of name file_name effect =
+    CannotOpen (needed_by name file_name) [] (LogOf name) Station effect
+    ⊎ (EndsAtStation (needed_by name file_name) name effect
+    ⊎ (LacksFile what name file_name effect
+    ⊎ OpensAndRuns file_of name file_name effect))
 
 -- a file that has no fault, and that reported its bytes before and after: none of its lines is bad, the last is finished, and
 -- nothing that they say ends a command otherwise

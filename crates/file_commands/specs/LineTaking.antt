@@ -8,25 +8,50 @@ use Rattle.file_commands.specs.LineFiles.{LineFile, HasItemsOf}
 use Rattle.file_commands.specs.declared.reading.Gives.{Gives}
 use Rattle.file_commands.specs.declared.reading.Gives.TheVariants.{Nothing, Text, Bad}
 
--- it has taken these bytes, has given this text for their lines, and has met this bad line; the cutter has this much room for a line
-pub record IsTakenBy {T : Type 0} (f : LineFile) (stands : T → List f.Item → Option ℕ → Type 0) (room : ℕ) (taker : T) (cutter : LineCutter) (lines : ℕ) (bytes text : List ℕ) (bad : Option ℕ) : Type 0 where
-  pub items : List f.Item
-  pub said : HasItemsOf f bytes items bad
-  pub text_is : text ≡ f.text items
-  pub taken : stands taker items bad
-  pub cut : bad ≡ None → HasTaken cutter room bytes
-  pub count : bad ≡ None → lines ≡ length items
+-- a way to take the lines of a kind of file: when something stands for the items that they say, with their first bad line, and how
+-- much room a cutter has for a line
+pub record LineWay (T : Type 0) : Type 1 where
+  pub file : LineFile
+  pub stands : T → List file.Item → Option ℕ → Type 0
+  pub room : ℕ
+
+-- something that takes lines, with the cutter of its lines and their count
+pub record LineTaker (T : Type 0) : Type 0 where
+  pub taker : T
+  pub cutter : LineCutter
+  pub count : ℕ
+
+abbrev pub line_taker : {T : Type 0} → T → LineCutter → ℕ → LineTaker T
+line_taker taker cutter count = record { taker = taker; cutter = cutter; count = count }
+
+-- the text of a line, and the content of the line in which a text is given for it
+pub record LineTexts : Type 0 where
+  pub text : List ℕ
+  pub given : List ℕ
+
+abbrev pub line_texts : List ℕ → List ℕ → LineTexts
+line_texts text given = record { text = text; given = given }
+
+-- it has taken these bytes, has given this text for their lines, and has met this bad line
+pub record IsTakenBy {T : Type 0} (way : LineWay T) (lines : LineTaker T) (bytes text : List ℕ) (bad : Option ℕ) : Type 0 where
+  pub items : List way.file.Item
+  pub said : HasItemsOf way.file bytes items bad
+  pub text_is : text ≡ way.file.text items
+  pub taken : way.stands lines.taker items bad
+  pub cut : bad ≡ None → HasTaken lines.cutter way.room bytes
+  pub count : bad ≡ None → lines.count ≡ length items
 
 -- the text that the lines of these bytes give, none of which is bad
 abbrev pub file_says : LineFile → List ℕ → List ℕ → Type 0
 file_says f bytes text = (items : List f.Item) × HasItemsOf f bytes items None × (text ≡ f.text items)
 
--- a text was taken as the next line, with the lines counted, and this text was given for it; or it says nothing that may stand
--- here
-abbrev pub TakesLine : {T : Type 0} → (f : LineFile) → (T → List f.Item → Option ℕ → Type 0) → ℕ → ℕ → T → List f.Item → List ℕ → List ℕ → Gives → Type 0
-TakesLine f stands count count_now taker items text line Nothing = ⊥
-TakesLine f stands count count_now taker items text line (Text size) = (count_now ≡ count + 1)
-    × ((item : f.Item) × f.says items text item × stands taker (items ++ item ∷ []) None × (f.text (items ++ item ∷ []) ≡ f.text items ++ take size line))
-TakesLine f stands count count_now taker items text line (Bad number) = (number ≡ count + 1)
-    × ((item : f.Item) → f.says items text item → ⊥)
-    × stands taker items (Some number)
+-- a text was taken as the line after so many, with the lines counted, and a text was given for it; or it says nothing that may
+-- stand here
+abbrev pub TakesLine : {T : Type 0} → (way : LineWay T) → ℕ → LineTaker T → List way.file.Item → LineTexts → Gives → Type 0
+TakesLine way count now items line Nothing = ⊥
+TakesLine way count now items line (Text size) = (now.count ≡ count + 1)
+    × ((item : way.file.Item) × way.file.says items line.text item × way.stands now.taker (items ++ item ∷ []) None
+    × (way.file.text (items ++ item ∷ []) ≡ way.file.text items ++ take size line.given))
+TakesLine way count now items line (Bad number) = (number ≡ count + 1)
+    × ((item : way.file.Item) → way.file.says items line.text item → ⊥)
+    × way.stands now.taker items (Some number)

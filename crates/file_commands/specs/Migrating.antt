@@ -2,7 +2,6 @@
 -- form.
 use Rattle.std.specs.Prelude.{◌≡◌, ℕ, ◌+◌, ◌<◌, ◌^◌, ◌==◌, List, [], ◌∷◌, ◌++◌, codes, length, map, if◌then◌else◌}
 use Rattle.std.specs.List.{flat_map}
-use Rattle.feed_link.specs.Told.{SinkState}
 use Rattle.feed_link.specs.Openings.{OutsideState}
 use Rattle.journal_entry.specs.Lawful.{IsLawful}
 use Rattle.journal_entry.specs.Lines.{IsLineText, entry_of, form_of}
@@ -16,11 +15,11 @@ use Rattle.station_config.specs.Station.{StationFields, settings_of}
 use Rattle.system_fold.specs.Numbered.{numbered, numbered_behind}
 use Rattle.system_fold.specs.Page.{page_of}
 use Rattle.system_fold.specs.Settings.{SettingsFields}
+use Rattle.file_commands.specs.Effects.{Effect}
 use Rattle.file_commands.specs.Endings.{ending_at}
 use Rattle.file_commands.specs.LineFiles.{LineFile, RunsAgainst, HasGoodFile}
 use Rattle.file_commands.specs.declared.ending.Ending.{Ending}
 use Rattle.file_commands.specs.declared.ending.Ending.TheVariants.{Full}
-use Rattle.file_commands.specs.declared.ending.status.Status.{Status}
 use Rattle.file_commands.specs.declared.ending.subject.Subject.TheVariants.{Journal}
 use Rattle.file_commands.specs.declared.reading.Reach.{Reach}
 use Rattle.file_commands.specs.declared.reading.Reach.TheVariants.{AtEnd, AtBadLine}
@@ -85,7 +84,7 @@ journal_of station = record {
 }
 
 -- what becomes of a command to convert a journal, and when all that it opens has no fault
-abbrev pub RunsMigrate : List ℕ → List ℕ → OutsideState → OutsideState → SinkState → SinkState → Status → Type 0
+abbrev pub RunsMigrate : List ℕ → List ℕ → Effect → Type 0
 RunsMigrate name journal_name = RunsAgainst Journal journal_of name journal_name
 
 abbrev pub HasGoodJournal : List ℕ → List ℕ → OutsideState → OutsideState → Type 0

@@ -11,6 +11,7 @@ use Rattle.system_fold.specs.KeptFold.{FoldFields, StandsForJournal}
 use Rattle.system_fold.specs.Numbered.{numbered_behind}
 use Rattle.system_fold.specs.Page.{page_of}
 use Rattle.system_fold.specs.Settings.{SettingsFields}
+use Rattle.file_commands.specs.LineTaking.{LineTexts}
 use Rattle.file_commands.specs.Migrating.{MayStand, entries_of, says_line}
 
 -- the fold of the entries taken, the page after the last that was converted, the form of the lines, and the number of feeds
@@ -52,7 +53,7 @@ MovesLine m settings before line number (Some n) = MayStand settings before line
     × HasMoved m settings (before ++ line ∷ []) None × (n ≡ numbered_behind settings (entries_of before) (entry_of line))
 
 -- and to its text: the text of the line in the second form
-abbrev pub MovesText : MoverFields → SettingsFields → List JournalLine → List ℕ → ℕ → List ℕ → Option ℕ → Type 0
-MovesText m settings before text number out None = ((line : JournalLine) → says_line settings before text line → ⊥) × HasMoved m settings before (Some number)
-MovesText m settings before text number out (Some size) = (line : JournalLine) × says_line settings before text line
-    × HasMoved m settings (before ++ line ∷ []) None × (take size out ≡ numbered_text (numbered_behind settings (entries_of before) (entry_of line)) ++ codes "\n")
+abbrev pub MovesText : MoverFields → SettingsFields → List JournalLine → LineTexts → ℕ → Option ℕ → Type 0
+MovesText m settings before texts number None = ((line : JournalLine) → says_line settings before texts.text line → ⊥) × HasMoved m settings before (Some number)
+MovesText m settings before texts number (Some size) = (line : JournalLine) × says_line settings before texts.text line
+    × HasMoved m settings (before ++ line ∷ []) None × (take size texts.given ≡ numbered_text (numbered_behind settings (entries_of before) (entry_of line)) ++ codes "\n")

@@ -1,17 +1,16 @@
 -- What it is to replay a script: a file of lines of scripts, which is played against a station.
 use Rattle.std.specs.Prelude.{ℕ, ◌^◌, Bool, true, false, List}
-use Rattle.feed_link.specs.Told.{SinkState}
 use Rattle.feed_link.specs.Openings.{OutsideState}
 use Rattle.file_reader.specs.declared.reader.FileEnd.TheVariants.{Whole, Fault, TooLong}
 use Rattle.script_player.specs.Replay.{Played, is_full, lines_of, page_after}
 use Rattle.script_player.specs.Texts.{replay_text}
 use Rattle.station_config.specs.Station.{StationFields}
+use Rattle.file_commands.specs.Effects.{Effect}
 use Rattle.file_commands.specs.Endings.{ending_at}
 use Rattle.file_commands.specs.LineFiles.{LineFile, RunsAgainst, HasGoodFile}
 use Rattle.file_commands.specs.Script.{says_played, script_line_limit}
 use Rattle.file_commands.specs.declared.ending.Ending.{Ending}
 use Rattle.file_commands.specs.declared.ending.Ending.TheVariants.{Full}
-use Rattle.file_commands.specs.declared.ending.status.Status.{Status}
 use Rattle.file_commands.specs.declared.ending.subject.Subject.TheVariants.{Script}
 use Rattle.file_commands.specs.declared.reading.Reach.{Reach}
 use Rattle.file_commands.specs.declared.reading.Reach.TheVariants.{AtEnd, AtBadLine}
@@ -38,7 +37,7 @@ script_of limit station = record {
 }
 
 -- what becomes of a command to replay, and when all that it opens has no fault
-abbrev pub RunsReplay : List ℕ → List ℕ → ℕ → OutsideState → OutsideState → SinkState → SinkState → Status → Type 0
+abbrev pub RunsReplay : List ℕ → List ℕ → ℕ → Effect → Type 0
 RunsReplay name script_name limit = RunsAgainst Script (script_of limit) name script_name
 
 abbrev pub HasGoodScript : List ℕ → List ℕ → ℕ → OutsideState → OutsideState → Type 0

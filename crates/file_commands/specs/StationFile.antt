@@ -1,7 +1,7 @@
 -- What it is to read a station file whole, and what may keep its station from being used.
 use Rattle.std.specs.Prelude.{◌≡◌, ℕ, ◌⊎◌, ◌^◌, IsSome, Some, None, List, [], ◌∷◌, ◌++◌, codes, decimal}
-use Rattle.feed_link.specs.Told.{SourceState, SinkState}
-use Rattle.feed_link.specs.Openings.{OutsideState, Wanted, MakesOpenings, log_visit}
+use Rattle.feed_link.specs.Told.{SourceState}
+use Rattle.feed_link.specs.Openings.{Wanted, MakesOpenings, log_visit}
 use Rattle.file_reader.specs.Ends.{EndsReading}
 use Rattle.file_reader.specs.declared.reader.FileEnd.{FileEnd}
 use Rattle.file_reader.specs.declared.reader.FileEnd.TheVariants as file
@@ -9,8 +9,8 @@ use Rattle.station_config.specs.Faults.{Says, Refuses as RefusesStation}
 use Rattle.station_config.specs.Station.{StationFields}
 use Rattle.station_config.specs.declared.fault.StationFault.{StationFault}
 use Rattle.station_config.specs.declared.fault.StationFault.TheVariants as fault
+use Rattle.file_commands.specs.Effects.{Effect, EndsWith}
 use Rattle.file_commands.specs.Endings.{status_of, status_line}
-use Rattle.file_commands.specs.Writing.{Answers}
 use Rattle.file_commands.specs.declared.ending.Ending.TheVariants.{NotRead, NoMemory, Long}
 use Rattle.file_commands.specs.declared.ending.status.Status.{Status}
 use Rattle.file_commands.specs.declared.ending.status.Status.TheVariants as status
@@ -60,16 +60,16 @@ IsObstacle file.TooLong bytes obstacle = obstacle ≡ Ends (Long Station)
 IsObstacle file.Whole bytes obstacle = (obstacle ≡ Ends NoMemory) ⊎ ((fault : StationFault) × (obstacle ≡ Faulty fault) × IsNamed fault × RefusesStation bytes fault)
 
 -- an obstacle kept the station from being used: nothing more is opened, and only the status line is written
-pub record EndsAtStation (needed : List Wanted) (name : List ℕ) (outside outside_now : OutsideState) (out out_now : SinkState) (result : Status) : Type 0 where
+pub record EndsAtStation (needed : List Wanted) (name : List ℕ) (effect : Effect) : Type 0 where
   pub opened : SourceState
   pub back : SourceState
-  pub opens : MakesOpenings needed outside outside_now (log_visit name opened back ∷ []) None
+  pub opens : MakesOpenings needed effect.outside effect.outside_now (log_visit name opened back ∷ []) None
   pub end : FileEnd
   pub bytes : List ℕ
   pub read : EndsReading end most_of_a_station opened back bytes
   pub due : Obstacle
   pub cause : IsObstacle end bytes due
-  pub written : Answers (status_at due) result out out_now (line_at due)
+  pub written : EndsWith effect (status_at due) (line_at due)
 
 -- the station file was read to its end, and this is the station that it says
 pub record HasStation (opened back : SourceState) (of : StationFields) : Type 0 where

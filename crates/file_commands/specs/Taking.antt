@@ -81,30 +81,46 @@ pub record Stops (says : Says) (start out : SinkState) (bytes : List ℕ) (most 
   pub adds : says (earlier ++ next) (text ++ more)
   pub failed : WritesFront between out more
 
-abbrev pub TakesPiece : Holds → Says → Taken → SinkState → SinkState → List ℕ → ℕ → Type 0
-TakesPiece holds says taken.All start out bytes most = TakesAll holds start out bytes
-TakesPiece holds says (taken.Bad number) start out bytes most = MeetsBad holds number start out bytes
-TakesPiece holds says taken.Stopped start out bytes most = Stops says start out bytes most
+-- what a sink reported at first, and now
+pub record Output : Type 0 where
+  pub start : SinkState
+  pub now : SinkState
+
+abbrev pub output_of : SinkState → SinkState → Output
+output_of was is = record { start = was; now = is }
+
+abbrev pub TakesPiece : Holds → Says → Taken → Output → List ℕ → ℕ → Type 0
+TakesPiece holds says taken.All output bytes most = TakesAll holds output.start output.now bytes
+TakesPiece holds says (taken.Bad number) output bytes most = MeetsBad holds number output.start output.now bytes
+TakesPiece holds says taken.Stopped output bytes most = Stops says output.start output.now bytes most
+
+-- what flows from a file to a sink: what both reported before and now
+pub record Flow : Type 0 where
+  pub file : SourceState
+  pub file_now : SourceState
+  pub out : SinkState
+  pub out_now : SinkState
+
+abbrev pub flow_of : SourceState → SourceState → SinkState → SinkState → Flow
+flow_of file file_now out out_now = record { file = file; file_now = file_now; out = out; out_now = out_now }
 
 -- the reading ended by itself, with the text of the bytes taken written; bytes were read after them only where they have
 -- a bad line
-pub record EndsItself (holds : Holds) (limit : ℕ) (file file_now : SourceState) (out out_now : SinkState) (reach : Reach) : Type 0 where
+pub record EndsItself (holds : Holds) (limit : ℕ) (flow : Flow) (reach : Reach) : Type 0 where
   pub front : List ℕ
   pub behind : List ℕ
   pub text : List ℕ
   pub bad : Option ℕ
   pub held : holds front text bad
   pub none_behind : bad ≡ None → behind ≡ []
-  pub read : ReadsLines reach limit file file_now (front ++ behind) bad
-  pub written : WritesAll out out_now text
+  pub read : ReadsLines reach limit flow.file flow.file_now (front ++ behind) bad
+  pub written : WritesAll flow.out flow.out_now text
 
 -- a write failed in the text of the bytes taken, of which those after the written text came in one piece of 512 bytes
-pub record EndsStopped (says : Says) (limit : ℕ) (file file_now : SourceState) (out out_now : SinkState) : Type 0 where
+pub record EndsStopped (says : Says) (limit : ℕ) (flow : Flow) : Type 0 where
   pub bytes : List ℕ
-  pub read : HasReadFront limit file file_now bytes
-  pub stops : Stops says out out_now bytes 512
+  pub read : HasReadFront limit flow.file flow.file_now bytes
+  pub stops : Stops says flow.out flow.out_now bytes 512
 
-abbrev pub EndsTaking : {E : Type 0} → Holds → Says → ℕ → SourceState → SourceState → SinkState → SinkState → Result Reach E → Type 0
-EndsTaking holds says limit file file_now out out_now result = MatchResult result
-    (λ reach. EndsItself holds limit file file_now out out_now reach)
-    (λ _. EndsStopped says limit file file_now out out_now)
+abbrev pub EndsTaking : {E : Type 0} → Holds → Says → ℕ → Flow → Result Reach E → Type 0
+EndsTaking holds says limit flow result = MatchResult result (EndsItself holds limit flow) (λ _. EndsStopped says limit flow)

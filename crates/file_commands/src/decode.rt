@@ -1,6 +1,7 @@
 //! `decode`: decodes a log, and writes a line for each entry that is due to it.
 ghost use Rattle.std.specs.Prelude.{◌≡◌};
 ghost use Rattle.file_commands.specs.Decoding.{Decodes, RunsDecode};
+ghost use Rattle.file_commands.specs.Effects.{effect_of};
 ghost use Rattle.file_commands.specs.LogTaking.{IsFound};
 ghost use Rattle.radio_receiver.specs.Histories.{blank_of};
 ghost use Rattle.file_commands.specs.Taking.{Fits};
@@ -104,8 +105,8 @@ pub fn open_and_decode<O: Outside, K: Sink>(
     out: &mut K,
 ) -> Status
     ensures gate { O.gate_out outside.new ≡ O.gate_out outside.old }
-    ensures runs { RunsDecode plan name.now (O.state outside.old) (O.state outside.new) (K.state out.old)
-        (K.state out.new) result }
+    ensures runs { RunsDecode plan name.now
+        (effect_of (O.state outside.old) (O.state outside.new) (K.state out.old) (K.state out.new) result) }
 {
     let Ok(mut log) = outside.open_log(name) else {
         return finish(Ending::NotOpened(Subject::Feed(0)), out);

@@ -1,6 +1,7 @@
 //! `migrate`: reads a journal of either form against a station, line by line, and writes it in the second form.
 ghost use Rattle.std.specs.Prelude.{◌≡◌, ◌⊎◌, [], None, IfOk, MatchResult};
 ghost use Rattle.file_reader.specs.declared.reader.FileEnd.TheVariants.{Whole};
+ghost use Rattle.file_commands.specs.Effects.{effect_of};
 ghost use Rattle.file_commands.specs.Keeping.{TriesFile};
 ghost use Rattle.file_commands.specs.LineFiles.{RunsThrough};
 ghost use Rattle.file_commands.specs.Migrating.{RunsMigrate, journal_of, migrate_ending};
@@ -69,8 +70,8 @@ fn open_and_move<O: Outside, K: Sink>(
     requires { IsEven mover }
     ensures gate { O.gate_out outside.new ≡ O.gate_out outside.old }
     ensures tried { (of : StationFields) → IsMovedBy mover of [] [] None →
-        TriesFile Subject.Journal (journal_of of) name.now (O.state outside.old) (O.state outside.new) (K.state out.old)
-        (K.state out.new) result }
+        TriesFile Subject.Journal (journal_of of) name.now
+        (effect_of (O.state outside.old) (O.state outside.new) (K.state out.old) (K.state out.new) result) }
 {
     let mut mover = mover;
     let Ok(mut journal) = outside.open_log(name) else {
@@ -103,9 +104,9 @@ pub fn run_migrate<O: Outside, K: Sink>(
     out: &mut K,
 ) -> Status
     ensures gate { O.gate_out outside.new ≡ O.gate_out outside.old }
-    ensures runs { Lacks (O.state outside.old) (O.state outside.new) (K.state out.old) (K.state out.new) result
-        ⊎ RunsMigrate station.now journal.now (O.state outside.old) (O.state outside.new) (K.state out.old)
-        (K.state out.new) result }
+    ensures runs { let effect = effect_of (O.state outside.old) (O.state outside.new) (K.state out.old)
+        (K.state out.new) result in
+        Lacks effect ⊎ RunsMigrate station.now journal.now effect }
 {
     let Ok(mut text) = Vec::with_capacity(alloc, STATION_LIMIT) else {
         return finish(Ending::NoMemory, out);

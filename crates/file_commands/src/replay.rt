@@ -1,6 +1,7 @@
 //! `replay`: plays a script against a station, line by line.
 ghost use Rattle.std.specs.Prelude.{◌≡◌, ◌≤◌, ◌^◌, ◌⊎◌, [], None, IfOk, MatchResult};
 ghost use Rattle.file_reader.specs.declared.reader.FileEnd.TheVariants.{Whole};
+ghost use Rattle.file_commands.specs.Effects.{effect_of};
 ghost use Rattle.file_commands.specs.Keeping.{TriesFile};
 ghost use Rattle.file_commands.specs.LineFiles.{RunsThrough};
 ghost use Rattle.file_commands.specs.Playing.{IsPlayedBy};
@@ -9,6 +10,7 @@ ghost use Rattle.file_commands.specs.Unopened.{Lacks};
 ghost use Rattle.file_commands.specs.StationFile.{IsObstacle};
 ghost use Rattle.receiver_rack.specs.Racks.{IsRack};
 ghost use Rattle.script_player.specs.KeptPlayer.{HasPlayed, IsReady};
+ghost use Rattle.script_player.specs.Replay.{case_of};
 ghost use Rattle.station_config.specs.Faults.{Says};
 ghost use Rattle.station_config.specs.Station.{StationFields};
 
@@ -52,7 +54,8 @@ fn play_whole<S: Source, K: Sink>(
     requires ready { IsReady least_start replayer.old.player }
     requires none { replayer.old.lines ≡ 0 }
     ensures number { S.opening script.new ≡ S.opening script.old }
-    ensures replays { (station : StationFields) → IsPlayedBy stands_for replayer.old station limit [] [] None →
+    ensures replays { (station : StationFields) →
+        IsPlayedBy stands_for replayer.old (case_of station limit) [] [] None →
         RunsThrough (script_of limit station) (S.state script.old) (S.state script.new) (K.state out.old)
         (K.state out.new) result }
 {
@@ -75,7 +78,7 @@ fn play<S: Source, K: Sink>(
 ) -> Status
     requires { IsReady least_start player }
     ensures number { S.opening script.new ≡ S.opening script.old }
-    ensures replays { (station : StationFields) → HasPlayed stands_for player station limit [] →
+    ensures replays { (station : StationFields) → HasPlayed stands_for player (case_of station limit) [] →
         RunsThrough (script_of limit station) (S.state script.old) (S.state script.new) (K.state out.old)
         (K.state out.new) result }
 {
@@ -93,9 +96,9 @@ fn open_and_play<O: Outside, K: Sink>(
 ) -> Status
     requires { IsReady least_start player }
     ensures gate { O.gate_out outside.new ≡ O.gate_out outside.old }
-    ensures tried { (station : StationFields) → HasPlayed stands_for player station limit [] →
-        TriesFile Subject.Script (script_of limit station) name.now (O.state outside.old) (O.state outside.new)
-        (K.state out.old) (K.state out.new) result }
+    ensures tried { (station : StationFields) → HasPlayed stands_for player (case_of station limit) [] →
+        TriesFile Subject.Script (script_of limit station) name.now
+        (effect_of (O.state outside.old) (O.state outside.new) (K.state out.old) (K.state out.new) result) }
 {
     let Ok(mut script) = outside.open_log(name) else {
         return finish(Ending::NotOpened(Subject::Script), out);
@@ -117,7 +120,8 @@ fn prepare(
     requires most { limit ≤ 2 ^ 22 }
     ensures ready { IfOk result (IsReady least_start) }
     ensures judged { MatchResult result
-        (λ player. (end ≡ Whole) × ((of : StationFields) × Says text.now of × HasPlayed stands_for player of limit []))
+        (λ player. (end ≡ Whole) × ((of : StationFields) × Says text.now of ×
+        HasPlayed stands_for player (case_of of limit) []))
         (λ obstacle. IsObstacle end text.now obstacle) }
 {
     let station = match judge(alloc, end, text) {
@@ -143,9 +147,9 @@ pub fn run_replay<O: Outside, K: Sink>(
     requires rack { IsRack stands_for rack.items }
     requires most { limit ≤ 2 ^ 22 }
     ensures gate { O.gate_out outside.new ≡ O.gate_out outside.old }
-    ensures runs { Lacks (O.state outside.old) (O.state outside.new) (K.state out.old) (K.state out.new) result
-        ⊎ RunsReplay station.now script.now limit (O.state outside.old) (O.state outside.new) (K.state out.old)
-        (K.state out.new) result }
+    ensures runs { let effect = effect_of (O.state outside.old) (O.state outside.new) (K.state out.old)
+        (K.state out.new) result in
+        Lacks effect ⊎ RunsReplay station.now script.now limit effect }
 {
     let Ok(mut text) = Vec::with_capacity(alloc, STATION_LIMIT) else {
         return finish(Ending::NoMemory, out);

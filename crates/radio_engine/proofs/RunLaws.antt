@@ -6,8 +6,9 @@ use Rattle.command_words.specs.Commands.Asked.{decode, drill, migrate, replay, s
 use Rattle.feed_link.specs.Faults.{Rose}
 use Rattle.feed_link.specs.Told.{SinkState}
 use Rattle.feed_link.specs.Openings.{Opening, OutsideState, log_visit, visited}
+use Rattle.file_commands.specs.Effects.{Effect}
 use Rattle.file_commands.specs.Unopened.{Lacks}
-use Rattle.radio_engine.specs.Run.{Runs, IsComplete, IsFaultless, IsRun}
+use Rattle.radio_engine.specs.Run.{Runs, IsComplete, IsFaultless, IsRun, orders_of}
 use Rattle.file_commands.specs.Writing.{Answers}
 use Rattle.file_commands.specs.declared.ending.status.Status.{Status}
 use Rattle.file_commands.specs.declared.ending.status.Status.TheVariants.{Done, Memory}
@@ -35,35 +36,34 @@ not_more told before more one were are =
     absurd (omega (arith, length-append before (one ∷ more)))
 
 -- where no memory was found, nothing was opened, which a command that opens something has as a fault
-pub lacks_done : (asked : Asked) (outside outside_now : OutsideState) (out out_now : SinkState) (result : Status) →
-    IsFaultless asked outside outside_now → (Rose out.faults out_now.faults → ⊥) → Lacks outside outside_now out out_now result → IsComplete asked result
-lacks_done asked outside outside_now out out_now result good no_write lacks = by asked (subst (λ (o : OutsideState). IsFaultless asked outside o) lacks.unchanged good)
+pub lacks_done : (asked : Asked) (effect : Effect) →
+    IsFaultless asked effect.outside effect.outside_now → (Rose effect.out.faults effect.out_now.faults → ⊥) → Lacks effect → IsComplete asked effect.status
+lacks_done asked effect good no_write lacks = by asked (subst (λ (o : OutsideState). IsFaultless asked effect.outside o) lacks.unchanged good)
   where
-    by : (asked : Asked) → IsFaultless asked outside outside → IsComplete asked result
-    by (decode plan log) p = absurd (not_more outside.openings p.before [] (visited (log_visit log p.opened p.back)) p.were p.are)
-    by (replay station script limit) p = absurd (not_more outside.openings p.before _ (visited (log_visit station p.opened p.back)) p.were p.are)
-    by (serve station during after limit) p = absurd (not_more outside.openings p.before _ (visited (log_visit station p.opened p.back)) p.were p.are)
-    by (drill seed limit) p = inr (answered Memory result out out_now _ no_write lacks.written)
-    by (migrate station journal) p = absurd (not_more outside.openings p.before _ (visited (log_visit station p.opened p.back)) p.were p.are)
+    by : (asked : Asked) → IsFaultless asked effect.outside effect.outside → IsComplete asked effect.status
+    by (decode plan log) p = absurd (not_more effect.outside.openings p.before [] (visited (log_visit log p.opened p.back)) p.were p.are)
+    by (replay station script limit) p = absurd (not_more effect.outside.openings p.before _ (visited (log_visit station p.opened p.back)) p.were p.are)
+    by (serve station during after limit) p = absurd (not_more effect.outside.openings p.before _ (visited (log_visit station p.opened p.back)) p.were p.are)
+    by (drill seed limit) p = inr (answered Memory effect.status effect.out effect.out_now _ no_write lacks.written)
+    by (migrate station journal) p = absurd (not_more effect.outside.openings p.before _ (visited (log_visit station p.opened p.back)) p.were p.are)
 
 journal_readable : (of : StationFields) → IsReadable (journal_of of)
 journal_readable of = one_way (journal_of of) (one_line (settings_of of)) (short_line (settings_of of))
 
-pub runs_done : (asked : Asked) (outside outside_now : OutsideState) (out out_now : SinkState) (result : Status) →
-    IsFaultless asked outside outside_now → (Rose out.faults out_now.faults → ⊥) →
-    Lacks outside outside_now out out_now result ⊎ Runs asked outside outside_now out out_now result → IsComplete asked result
-runs_done asked outside outside_now out out_now result good no_write (inl lacks) = lacks_done asked outside outside_now out out_now result good no_write lacks
-runs_done (decode plan log) outside outside_now out out_now result good no_write (inr did) = log_done plan log outside outside_now out out_now result good no_write did
-runs_done (replay station script limit) outside outside_now out out_now result good no_write (inr did) = against_done Script (script_of limit) (script_readable limit) station script outside outside_now out out_now result good no_write did
-runs_done (serve station during after limit) outside outside_now out out_now result good no_write (inr did) = station_done station during after limit outside outside_now out out_now result good no_write did
-runs_done (drill seed limit) outside outside_now out out_now result good no_write (inr did) = inl (answered Done result out out_now _ no_write (did.same good))
-runs_done (migrate station journal) outside outside_now out out_now result good no_write (inr did) = against_done Journal journal_of journal_readable station journal outside outside_now out out_now result good no_write did
+pub runs_done : (asked : Asked) (effect : Effect) →
+    IsFaultless asked effect.outside effect.outside_now → (Rose effect.out.faults effect.out_now.faults → ⊥) →
+    Lacks effect ⊎ Runs asked effect → IsComplete asked effect.status
+runs_done asked effect good no_write (inl lacks) = lacks_done asked effect good no_write lacks
+runs_done (decode plan log) effect good no_write (inr did) = log_done plan log effect good no_write did
+runs_done (replay station script limit) effect good no_write (inr did) = against_done Script (script_of limit) (script_readable limit) station script effect good no_write did
+runs_done (serve station during after limit) effect good no_write (inr did) = station_done station (orders_of during after limit) effect good no_write did
+runs_done (drill seed limit) effect good no_write (inr did) = inl (answered Done effect.status effect.out effect.out_now _ no_write (did.same good))
+runs_done (migrate station journal) effect good no_write (inr did) = against_done Journal journal_of journal_readable station journal effect good no_write did
 
 -- nothing was opened, since no memory was found
-pub run_unbegun : (words : List (List ℕ)) (outside outside_now : OutsideState) (out out_now : SinkState) (result : Status) → Lacks outside outside_now out out_now result →
-    IsRun words outside outside_now out out_now result
-run_unbegun words outside outside_now out out_now result lacks = record {
+pub run_unbegun : (words : List (List ℕ)) (effect : Effect) → Lacks effect → IsRun words effect
+run_unbegun words effect lacks = record {
   refused = λ none. inr lacks;
   runs = λ asked h. inl lacks;
-  complete = λ asked h good no_write. runs_done asked outside outside_now out out_now result good no_write (inl lacks);
+  complete = λ asked h good no_write. runs_done asked effect good no_write (inl lacks);
 }

@@ -3,9 +3,10 @@ use Rattle.std.specs.Prelude.{◌≡◌, ℕ, ◌≤◌, ◌⊎◌, List}
 use Rattle.command_words.specs.Commands.{Asked, AskFor}
 use Rattle.command_words.specs.Commands.Asked.{decode, drill, migrate, replay, serve}
 use Rattle.feed_link.specs.Faults.{Rose}
-use Rattle.feed_link.specs.Told.{SinkState}
 use Rattle.feed_link.specs.Openings.{OutsideState}
+use Rattle.crew_work.specs.declared.work.Orders.{Orders}
 use Rattle.file_commands.specs.Decoding.{RunsDecode, HasGoodLog}
+use Rattle.file_commands.specs.Effects.{Effect}
 use Rattle.station_report.specs.Drilling.{Drills}
 use Rattle.file_commands.specs.Migrating.{RunsMigrate, HasGoodJournal}
 use Rattle.file_commands.specs.Replaying.{RunsReplay, HasGoodScript}
@@ -14,13 +15,17 @@ use Rattle.file_commands.specs.Unopened.{Refuses, Lacks}
 use Rattle.file_commands.specs.declared.ending.status.Status.{Status}
 use Rattle.file_commands.specs.declared.ending.status.Status.TheVariants.{Done, Memory}
 
+-- what is asked of a station: the most entries of its journal, and the hearings of each link while its feeds run and after
+abbrev pub orders_of : (during after limit : ℕ) → Orders
+orders_of during after limit = record { limit = limit; budget = record { during = during; after = after } }
+
 -- what becomes of a command, once there is enough memory for it
-abbrev pub Runs : Asked → OutsideState → OutsideState → SinkState → SinkState → Status → Type 0
-Runs (decode plan log) outside outside_now out out_now result = RunsDecode plan log outside outside_now out out_now result
-Runs (replay station script limit) outside outside_now out out_now result = RunsReplay station script limit outside outside_now out out_now result
-Runs (drill seed limit) outside outside_now out out_now result = Drills seed limit outside outside_now out out_now result
-Runs (migrate station journal) outside outside_now out out_now result = RunsMigrate station journal outside outside_now out out_now result
-Runs (serve station during after limit) outside outside_now out out_now result = RunsServe station during after limit outside outside_now out out_now result
+abbrev pub Runs : Asked → Effect → Type 0
+Runs (decode plan log) effect = RunsDecode plan log effect
+Runs (replay station script limit) effect = RunsReplay station script limit effect
+Runs (drill seed limit) effect = Drills seed limit effect
+Runs (migrate station journal) effect = RunsMigrate station journal effect
+Runs (serve station during after limit) effect = RunsServe station (orders_of during after limit) effect
 
 -- all that a command opens was opened and given back, reported its bytes, and has no fault. A drill opens nothing; its journal
 -- has room for what is due
@@ -42,7 +47,7 @@ IsComplete (serve station during after limit) result = (result ≡ Done) ⊎ (re
 
 -- all that the one call promises for these arguments. `run_station` says it clause by clause, and so does each caller that hands
 -- its arguments on
-pub record IsRun (words : List (List ℕ)) (outside outside_now : OutsideState) (out out_now : SinkState) (result : Status) : Type 0 where
-  pub refused : ((asked : Asked) → AskFor words asked → ⊥) → Refuses outside outside_now out out_now result ⊎ Lacks outside outside_now out out_now result
-  pub runs : (asked : Asked) → AskFor words asked → Lacks outside outside_now out out_now result ⊎ Runs asked outside outside_now out out_now result
-  pub complete : (asked : Asked) → AskFor words asked → IsFaultless asked outside outside_now → (Rose out.faults out_now.faults → ⊥) → IsComplete asked result
+pub record IsRun (words : List (List ℕ)) (effect : Effect) : Type 0 where
+  pub refused : ((asked : Asked) → AskFor words asked → ⊥) → Refuses effect ⊎ Lacks effect
+  pub runs : (asked : Asked) → AskFor words asked → Lacks effect ⊎ Runs asked effect
+  pub complete : (asked : Asked) → AskFor words asked → IsFaultless asked effect.outside effect.outside_now → (Rose effect.out.faults effect.out_now.faults → ⊥) → IsComplete asked effect.status

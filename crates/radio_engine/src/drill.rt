@@ -2,6 +2,7 @@
 ghost use Rattle.std.specs.Prelude.{◌≡◌, ℕ, ◌<◌, ◌≤◌, ◌⊎◌, IfOk, false};
 ghost use Rattle.station_report.specs.DrillScaffold.{HasDayGear, HasDrilled};
 ghost use Rattle.station_report.specs.Drilling.{Drills};
+ghost use Rattle.file_commands.specs.Effects.{effect_of};
 ghost use Rattle.file_commands.specs.Unopened.{Lacks};
 ghost use Rattle.receiver_rack.specs.Racks.{IsRack};
 ghost use Rattle.station_config.specs.Station.{one_of_each};
@@ -28,11 +29,15 @@ const NO_HEARING: Budget = Budget {
 };
 
 // The logs of a day, and no link.
-fn day_gear<T: Drop>(alloc: Global, seed: u32) -> Result<Gear<SureSource, T>, AllocError>
+fn day_gear<R: Threads + Sync, T: Drop>(
+    rt: &R,
+    alloc: Global,
+    seed: u32,
+) -> Result<Gear<SureSource, T>, AllocError>
     ensures { IfOk result (λ gear. HasDayGear seed gear) }
 {
     Ok(Gear {
-        logs: make_logs(alloc, seed)?,
+        logs: make_logs(rt, alloc, seed)?,
         leap: None,
         servers: Vec::new(alloc),
         links: Vec::new(alloc),
@@ -40,7 +45,8 @@ fn day_gear<T: Drop>(alloc: Global, seed: u32) -> Result<Gear<SureSource, T>, Al
 }
 
 // The receivers of the rack, and the logs of a day.
-fn day_kit<T: Drop>(
+fn day_kit<R: Threads + Sync, T: Drop>(
+    rt: &R,
     alloc: Global,
     station: &Station,
     seed: u32,
@@ -52,7 +58,7 @@ fn day_kit<T: Drop>(
 {
     Ok(Kit {
         receivers: fit_radios(alloc, station, rack)?,
-        gear: day_gear(alloc, seed)?,
+        gear: day_gear(rt, alloc, seed)?,
     })
 }
 
@@ -104,13 +110,14 @@ pub fn run_drill<R: Threads + Wait + Sync, O: Outside, K: Sink>(
     requires rack { IsRack stands_for rack.items }
     requires gate { O.gate_out outside.old ≡ false }
     ensures gate { O.gate_out outside.new ≡ O.gate_out outside.old }
-    ensures runs { Lacks (O.state outside.old) (O.state outside.new) (K.state out.old) (K.state out.new) result
-        ⊎ Drills seed limit (O.state outside.old) (O.state outside.new) (K.state out.old) (K.state out.new) result }
+    ensures runs { let effect = effect_of (O.state outside.old) (O.state outside.new) (K.state out.old)
+        (K.state out.new) result in
+        Lacks effect ⊎ Drills seed limit effect }
 {
     let Ok(station) = Station::one_of_each(alloc) else {
         return finish(Ending::NoMemory, out);
     };
-    let Ok(kit) = day_kit(alloc, &station, seed, rack) else {
+    let Ok(kit) = day_kit(rt, alloc, &station, seed, rack) else {
         return finish(Ending::NoMemory, out);
     };
     match serve_day(rt, alloc, &station, limit, kit, outside) {

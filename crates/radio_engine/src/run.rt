@@ -2,6 +2,7 @@
 ghost use Rattle.std.specs.Prelude.{◌≡◌, ◌⊎◌, false, map};
 ghost use Rattle.command_words.specs.Commands.{Asked, AskFor};
 ghost use Rattle.feed_link.specs.Faults.{Rose};
+ghost use Rattle.file_commands.specs.Effects.{effect_of};
 ghost use Rattle.file_commands.specs.Endings.{status_of, status_line};
 ghost use Rattle.radio_engine.specs.Run.{Runs, IsComplete, IsFaultless};
 ghost use Rattle.file_commands.specs.Unopened.{Refuses, Lacks};
@@ -51,14 +52,14 @@ pub fn run_station<R: Threads + Wait + Sync, O: Outside, K: Sink>(
     ensures gate { O.gate_out outside.new ≡ O.gate_out outside.old }
 
     // Refuses arguments that ask for no command, and opens nothing.
-    ensures refused { ((asked : Asked) → AskFor (map (λ w. w.now) words.now) asked → ⊥) →
-        Refuses (O.state outside.old) (O.state outside.new) (K.state out.old) (K.state out.new) result
-        ⊎ Lacks (O.state outside.old) (O.state outside.new) (K.state out.old) (K.state out.new) result }
+    ensures refused { let effect = effect_of (O.state outside.old) (O.state outside.new) (K.state out.old)
+        (K.state out.new) result in
+        ((asked : Asked) → AskFor (map (λ w. w.now) words.now) asked → ⊥) → Refuses effect ⊎ Lacks effect }
 
     // Runs the command that they ask for: what it opens, reads, writes and gives back, and the cause of its answer.
-    ensures runs { (asked : Asked) → AskFor (map (λ w. w.now) words.now) asked →
-        Lacks (O.state outside.old) (O.state outside.new) (K.state out.old) (K.state out.new) result
-        ⊎ Runs asked (O.state outside.old) (O.state outside.new) (K.state out.old) (K.state out.new) result }
+    ensures runs { let effect = effect_of (O.state outside.old) (O.state outside.new) (K.state out.old)
+        (K.state out.new) result in
+        (asked : Asked) → AskFor (map (λ w. w.now) words.now) asked → Lacks effect ⊎ Runs asked effect }
 
     // Where nothing has a fault, all is done.
     ensures complete { (asked : Asked) → AskFor (map (λ w. w.now) words.now) asked →

@@ -1,6 +1,7 @@
 //! `serve`: serves a station, and then writes its journal, how its links ended, and the page of the journal.
 ghost use Rattle.std.specs.Prelude.{◌≡◌, ◌<◌, ◌≤◌, ◌⊎◌, IfOk, false};
 ghost use Rattle.station_report.specs.Crewing.{TriesServe, subject_of};
+ghost use Rattle.file_commands.specs.Effects.{effect_of};
 ghost use Rattle.file_commands.specs.Unopened.{Lacks};
 ghost use Rattle.station_report.specs.Serving.{RunsServe};
 ghost use Rattle.receiver_rack.specs.Racks.{IsRack};
@@ -104,9 +105,9 @@ pub fn run_serve<R: Threads + Wait + Sync, O: Outside, K: Sink>(
     requires rack { IsRack stands_for rack.items }
     requires gate { O.gate_out outside.old ≡ false }
     ensures gate { O.gate_out outside.new ≡ O.gate_out outside.old }
-    ensures runs { Lacks (O.state outside.old) (O.state outside.new) (K.state out.old) (K.state out.new) result
-        ⊎ RunsServe name.now orders.budget.during orders.budget.after orders.limit (O.state outside.old)
-        (O.state outside.new) (K.state out.old) (K.state out.new) result }
+    ensures runs { let effect = effect_of (O.state outside.old) (O.state outside.new) (K.state out.old)
+        (K.state out.new) result in
+        Lacks effect ⊎ RunsServe name.now orders effect }
 {
     let Ok(mut text) = Vec::with_capacity(alloc, STATION_LIMIT) else {
         return finish(Ending::NoMemory, out);

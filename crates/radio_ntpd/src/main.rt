@@ -8,6 +8,7 @@ ghost use Rattle.std.specs.IoError.{error_kind};
 ghost use Rattle.std.specs.Process.{exit_status};
 ghost use Rattle.std.specs.String.{string_bytes};
 ghost use Rattle.std.specs.Vec.Iter.{into_iter_items};
+ghost use Rattle.file_commands.specs.Effects.{effect_of};
 ghost use Rattle.file_commands.specs.Endings.{number_of, status_of, status_line};
 ghost use Rattle.radio_engine.specs.Run.{IsRun};
 ghost use Rattle.file_commands.specs.Writing.{Answers};
@@ -54,8 +55,8 @@ fn run_program<R: Threads + Wait + Sync, O: Outside, K: Sink>(
 ) -> ExitCode
     requires { O.gate_out outside.old ≡ false }
     ensures { (status : Status) × (exit_status result ≡ number_of status) × MatchResult words.now
-        (λ w. IsRun (map (λ t. string_bytes t) w.items) (O.state outside.old) (O.state outside.new) (K.state out.old)
-        (K.state out.new) status)
+        (λ w. IsRun (map (λ t. string_bytes t) w.items)
+        (effect_of (O.state outside.old) (O.state outside.new) (K.state out.old) (K.state out.new) status))
         (λ _. Answers (status_of NoMemory) status (K.state out.old) (K.state out.new) (status_line NoMemory) ×
         (O.state outside.new ≡ O.state outside.old)) }
 {
@@ -167,8 +168,8 @@ fn run_words<R: Threads + Wait + Sync, O: Outside, K: Sink>(
 ) -> Result<Status, AllocError>
     requires { O.gate_out outside.old ≡ false }
     ensures { MatchResult result
-        (λ status. IsRun (map (λ w. string_bytes w) words.now) (O.state outside.old) (O.state outside.new)
-        (K.state out.old) (K.state out.new) status)
+        (λ status. IsRun (map (λ w. string_bytes w) words.now)
+        (effect_of (O.state outside.old) (O.state outside.new) (K.state out.old) (K.state out.new) status))
         (λ _. (O.state outside.new ≡ O.state outside.old) × (K.state out.new ≡ K.state out.old)) }
 {
     let texts = texts_of(alloc, words)?;

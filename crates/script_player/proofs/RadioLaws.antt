@@ -161,7 +161,7 @@ pub hears : {B : Type 0} (stands : B → History → Type 0) (old new : Radios B
     ((h : History) → stands radio.receiver h → answers_of (with_reduction h reduction) ≡ answers_of h ++ option_to_list heard) →
     new.fitted.items ≡ slice_set old.fitted.items feed after → new.left.items ≡ old.left.items → entry ≡ entry_heard feed heard →
     HasRadios stands old station lines →
-    (may_hear (radio_of station feed) feed reduction lines ≡ true) × HasHeardPulse stands new station lines feed reduction entry
+    (may_hear (radio_of station feed) feed reduction lines ≡ true) × HasHeardPulse stands new station lines (Pulse feed reduction) entry
 hears {B} stands old new station lines feed reduction radio after heard entry at timely plan delay least hear answered now left is h =
     let own = fields_at stands old.fitted.items station lines feed radio h.fitted_are at in
     let fields = own.0 in

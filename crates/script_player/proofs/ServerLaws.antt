@@ -153,7 +153,7 @@ pub answers : (old new : Servers) (station : StationFields) (lines : List Script
     ((s : Address) (h : List Event) → HasPolled server.poll s h → HasPolled after.poll s (h ++ Answered at server.address datagram ∷ [])) →
     ((s : Address) (h : List Event) → HasPolled server.poll s h → what ≡ what_answered (judge s h at server.address datagram)) →
     new.first ≡ old.first → new.servers.items ≡ slice_set old.servers.items place after →
-    HasServers old station lines → HasAnswered new station lines feed at datagram (record { feed = feed; at = at; what = what })
+    HasServers old station lines → HasAnswered new station lines (Answer feed at datagram) (record { feed = feed; at = at; what = what })
 answers old new station lines feed place at datagram server after what e here address last answered judged first now h =
     let own = fields_of old station lines feed place server h e here in
     let fields = own.0 in

@@ -2,7 +2,6 @@
 use Rattle.std.specs.Prelude.{◌≡◌, ℕ, ◌+◌, ◌≤◌, ◌++◌, Bool, true, false, nat_lt, Option, Some, option_map, Result, Ok, Err, List, [], ◌∷◌, All, length, take}
 use Rattle.std.specs.List.{slice_get}
 use Rattle.tick_units.specs.declared.marks.Plan.{Plan}
-use Rattle.tick_units.specs.declared.marks.Reduction.{Reduction}
 use Rattle.journal_entry.specs.declared.entry.Entry.{Entry}
 use Rattle.radio_receiver.specs.Histories.{History, least_after}
 use Rattle.poll_core.specs.Polling.{HasPolled}
@@ -12,9 +11,8 @@ use Rattle.receiver_rack.specs.Racks.{IsSpare, left_of}
 use Rattle.packet_auth.specs.Keys.{keys_of}
 use Rattle.station_config.specs.Station.{RadioFields, ServerFields, StationFields, leap_feed, settings_of}
 use Rattle.script_line.specs.declared.line.ScriptLine.{ScriptLine}
-use Rattle.script_line.specs.declared.line.ScriptLine.TheVariants.{Pulse, Answer, Leap}
 use Rattle.script_player.specs.Keeping.{JournalFields}
-use Rattle.script_player.specs.Replay.{MayBePlayed, Played, due, due_of_radio, due_of_server, due_to, events_of, fitted, gate_after, history_of, is_lawful, last_moment, lines_of, outcome, played_so, pulses_of, radio_of, server_of}
+use Rattle.script_player.specs.Replay.{MayBePlayed, Played, ReplayCase, due, due_to, events_of, fitted, gate_after, history_of, is_lawful, last_moment, lines_of, outcome, played_so, pulses_of}
 use Rattle.script_player.specs.declared.leap.LeapFeed.{LeapFeed}
 use Rattle.script_player.specs.declared.outcome.NotLawful.{NotLawful}
 use Rattle.script_player.specs.declared.outcome.Outcome.{Outcome}
@@ -67,9 +65,9 @@ pub record AreReady {B : Type 0} (least_start : B → ℕ) (radios : Radios B) :
   pub left : All (λ spare. least_start spare.receiver ≡ 0) radios.left.items
 
 -- one pulse more, and the entry that was due to it
-pub record HasHeardPulse {B : Type 0} (stands : B → History → Type 0) (radios : Radios B) (station : StationFields) (lines : List ScriptLine) (feed : ℕ) (reduction : Reduction) (entry : Option Entry) : Type 0 where
-  pub played : HasRadios stands radios station (lines ++ Pulse feed reduction ∷ [])
-  pub due_is : entry ≡ due_of_radio (radio_of station feed) feed reduction lines
+pub record HasHeardPulse {B : Type 0} (stands : B → History → Type 0) (radios : Radios B) (station : StationFields) (lines : List ScriptLine) (pulse : ScriptLine) (entry : Option Entry) : Type 0 where
+  pub played : HasRadios stands radios station (lines ++ pulse ∷ [])
+  pub due_is : entry ≡ due_to station lines pulse
 
 -- a server has the poller of its exchanges
 pub record HasServer (server : Server) (fields : ServerFields) (feed : ℕ) (lines : List ScriptLine) : Type 0 where
@@ -91,9 +89,9 @@ pub record HasServers (servers : Servers) (station : StationFields) (lines : Lis
   pub polling : HasPolling servers.servers.items station lines
 
 -- one datagram more, and the entry that was due to it
-pub record HasAnswered (servers : Servers) (station : StationFields) (lines : List ScriptLine) (feed at : ℕ) (datagram : List ℕ) (entry : Entry) : Type 0 where
-  pub played : HasServers servers station (lines ++ Answer feed at datagram ∷ [])
-  pub due_is : Some entry ≡ due_of_server (server_of station feed) feed at datagram lines
+pub record HasAnswered (servers : Servers) (station : StationFields) (lines : List ScriptLine) (answer : ScriptLine) (entry : Entry) : Type 0 where
+  pub played : HasServers servers station (lines ++ answer ∷ [])
+  pub due_is : Some entry ≡ due_to station lines answer
 
 -- the leap second file has its feed's number, where the station names one, and the moment of its last leap second
 pub record HasLeap (leap : LeapFeed) (station : StationFields) (lines : List ScriptLine) : Type 0 where
@@ -101,9 +99,9 @@ pub record HasLeap (leap : LeapFeed) (station : StationFields) (lines : List Scr
   pub last : leap.last ≡ last_moment (leap_feed station) lines
 
 -- one leap second more, and the entry that was due to it
-pub record HasTold (leap : LeapFeed) (station : StationFields) (lines : List ScriptLine) (feed at leap_at : ℕ) (entry : Entry) : Type 0 where
-  pub played : HasLeap leap station (lines ++ Leap feed at leap_at ∷ [])
-  pub due_is : Some entry ≡ due_to station lines (Leap feed at leap_at)
+pub record HasTold (leap : LeapFeed) (station : StationFields) (lines : List ScriptLine) (told : ScriptLine) (entry : Entry) : Type 0 where
+  pub played : HasLeap leap station (lines ++ told ∷ [])
+  pub due_is : Some entry ≡ due_to station lines told
 
 -- the first of the entries that were due are kept, up to the limit
 pub record HasKept (journal : JournalFields) (settings : SettingsFields) (limit : ℕ) (entries : List Entry) : Type 0 where
@@ -112,26 +110,26 @@ pub record HasKept (journal : JournalFields) (settings : SettingsFields) (limit 
   pub count : journal.count ≡ length (take limit entries)
   pub full : journal.is_full ≡ nat_lt limit (length entries)
 
--- a player stands for a station, a limit and the lines so far
-pub record HasPlayed {B : Type 0} (stands : B → History → Type 0) (player : Player B) (station : StationFields) (limit : ℕ) (before : List Played) : Type 0 where
-  pub radios : HasRadios stands player.radios station (lines_of before)
-  pub servers : HasServers player.servers station (lines_of before)
-  pub leap : HasLeap player.leap station (lines_of before)
-  pub journal : HasKept player.journal (settings_of station) limit (due station (lines_of before))
-  pub keys : keys_of player.keys ≡ station.keys
-  pub clients : player.clients ≡ gate_after station before
+-- a player stands for what a script is played for, and for the lines so far
+pub record HasPlayed {B : Type 0} (stands : B → History → Type 0) (player : Player B) (of : ReplayCase) (before : List Played) : Type 0 where
+  pub radios : HasRadios stands player.radios of.station (lines_of before)
+  pub servers : HasServers player.servers of.station (lines_of before)
+  pub leap : HasLeap player.leap of.station (lines_of before)
+  pub journal : HasKept player.journal (settings_of of.station) of.limit (due of.station (lines_of before))
+  pub keys : keys_of player.keys ≡ of.station.keys
+  pub clients : player.clients ≡ gate_after of.station before
 
 -- one line more, and what it gave
-pub record HasGiven {B : Type 0} (stands : B → History → Type 0) (player : Player B) (station : StationFields) (limit : ℕ) (before : List Played) (line : ScriptLine) (given : Outcome) : Type 0 where
+pub record HasGiven {B : Type 0} (stands : B → History → Type 0) (player : Player B) (of : ReplayCase) (before : List Played) (line : ScriptLine) (given : Outcome) : Type 0 where
   pub was_kept : Bool
-  pub may_be : MayBePlayed station before (played_so line was_kept)
-  pub played : HasPlayed stands player station limit (before ++ played_so line was_kept ∷ [])
-  pub outcome_is : given ≡ outcome station limit before (played_so line was_kept)
+  pub may_be : MayBePlayed of.station before (played_so line was_kept)
+  pub played : HasPlayed stands player of (before ++ played_so line was_kept ∷ [])
+  pub outcome_is : given ≡ outcome of.station of.limit before (played_so line was_kept)
 
 -- what a player answers to a line after these lines
-abbrev pub Plays : {B : Type 0} → (B → History → Type 0) → Player B → StationFields → ℕ → List Played → ScriptLine → Result Outcome NotLawful → Type 0
-Plays stands player station limit before line result =
-    Gives (is_lawful station (lines_of before) line) (HasGiven stands player station limit before line) (HasPlayed stands player station limit before) result
+abbrev pub Plays : {B : Type 0} → (B → History → Type 0) → Player B → ReplayCase → List Played → ScriptLine → Result Outcome NotLawful → Type 0
+Plays stands player of before line result =
+    Gives (is_lawful of.station (lines_of before) line) (HasGiven stands player of before line) (HasPlayed stands player of before) result
 
 -- each receiver of a player can receive what its radio may receive next
 abbrev pub IsReady : {B : Type 0} → (B → ℕ) → Player B → Type 0

@@ -198,6 +198,14 @@ played_so script_line was_kept = record { line = script_line; kept = was_kept }
 abbrev pub lines_of : List Played → List ScriptLine
 lines_of played = map (λ p. p.line) played
 
+-- what a script is played for: a station, of whose journal at most this many entries are kept
+pub record ReplayCase : Type 0 where
+  pub station : StationFields
+  pub limit : ℕ
+
+abbrev pub case_of : StationFields → ℕ → ReplayCase
+case_of station limit = record { station = station; limit = limit }
+
 -- the address of a client: 127.0.0.1 for connection 0, 127.0.0.2 for connection 1, and so on
 abbrev pub sender_of : ℕ → ℕ
 sender_of connection = 0x7f000001 + connection

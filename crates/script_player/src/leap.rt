@@ -4,6 +4,7 @@ ghost use Rattle.tick_units.specs.Years.{end_of_told};
 ghost use Rattle.journal_entry.specs.Lawful.{IsLawful};
 ghost use Rattle.station_config.specs.Station.{StationFields};
 ghost use Rattle.script_line.specs.declared.line.ScriptLine.{ScriptLine};
+ghost use Rattle.script_line.specs.declared.line.ScriptLine.TheVariants.{Leap};
 ghost use Rattle.script_player.specs.Replay.{is_leap_feed, may_tell};
 ghost use Rattle.script_player.specs.KeptPlayer.{Gives, HasLeap, HasTold};
 
@@ -41,8 +42,8 @@ impl LeapFeed {
         requires { leap_at < end_of_told }
         ensures number { self.new.number ≡ self.old.number }
         ensures told { (station : StationFields) (lines : List ScriptLine) → HasLeap self.old station lines →
-            Gives (may_tell (is_leap_feed station feed) feed at lines) (HasTold self.new station lines feed at leap_at)
-            (HasLeap self.new station lines) result }
+            Gives (may_tell (is_leap_feed station feed) feed at lines)
+            (HasTold self.new station lines (Leap feed at leap_at)) (HasLeap self.new station lines) result }
         ensures own { IfOk result (λ _. self.old.number ≡ Some feed) }
         ensures lawful { IfOk result (λ e. IsLawful (feed + 1) e) }
     {

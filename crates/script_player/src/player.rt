@@ -2,12 +2,11 @@
 ghost use Rattle.std.specs.Prelude.{◌≡◌, ◌<◌, ◌≤◌, ◌+◌, ◌^◌, [], ℕ, List, Ok, IfOk, vec_len, length};
 ghost use Rattle.std.specs.Option.{ForSome};
 ghost use Rattle.tick_units.specs.Years.{end_of_told};
-ghost use Rattle.station_config.specs.Station.{StationFields};
 ghost use Rattle.script_line.specs.Texts.{IsLine};
 ghost use Rattle.script_line.specs.declared.line.ScriptLine.{ScriptLine};
 ghost use Rattle.script_line.specs.declared.line.ScriptLine.TheVariants as lines;
 ghost use Rattle.script_player.specs.Replay as replay;
-ghost use Rattle.script_player.specs.Replay.{Played, lines_of, page_after, sender_of};
+ghost use Rattle.script_player.specs.Replay.{Played, ReplayCase, case_of, lines_of, page_after, sender_of};
 
 use crate::journal::Journal;
 use crate::leap::LeapFeed;
@@ -69,7 +68,7 @@ impl Player<BoxedReceiver> {
     ) -> Result<Player<BoxedReceiver>, AllocError>
         requires rack { IsRack stands_for rack.items }
         requires limit { limit ≤ 2 ^ 22 }
-        ensures played { IfOk result (λ player. HasPlayed stands_for player station.now limit []) }
+        ensures played { IfOk result (λ player. HasPlayed stands_for player (case_of station.now limit) []) }
         ensures ready { IfOk result (IsReady least_start) }
     {
         let radios = Radios::new(alloc, station, rack)?;
@@ -102,9 +101,8 @@ impl Player<BoxedReceiver> {
         requires line { IsLine line.now }
         requires ready { IsReady least_start self.old }
         ensures ready { IsReady least_start self.new }
-        ensures plays { (station : StationFields) (limit : ℕ) (before : List Played) →
-            HasPlayed stands_for self.old station limit before →
-            Plays stands_for self.new station limit before line.now result }
+        ensures plays { (of : ReplayCase) (before : List Played) → HasPlayed stands_for self.old of before →
+            Plays stands_for self.new of before line.now result }
     {
         match line {
             ScriptLine::Pulse { feed, reduction } => self.hear(*feed, *reduction),
@@ -125,9 +123,8 @@ impl Player<BoxedReceiver> {
     fn hear(&mut self, feed: u32, reduction: Reduction) -> Result<Outcome, NotLawful>
         requires { IsReady least_start self.old }
         ensures ready { IsReady least_start self.new }
-        ensures plays { (station : StationFields) (limit : ℕ) (before : List Played) →
-            HasPlayed stands_for self.old station limit before →
-            Plays stands_for self.new station limit before (lines.Pulse feed reduction) result }
+        ensures plays { (of : ReplayCase) (before : List Played) → HasPlayed stands_for self.old of before →
+            Plays stands_for self.new of before (lines.Pulse feed reduction) result }
     {
         match self.radios.hear(feed, reduction)? {
             Some(entry) => Ok(self.journal.take(&entry)),
@@ -139,9 +136,8 @@ impl Player<BoxedReceiver> {
     fn ask(&mut self, feed: u32, at: Local) -> Result<Outcome, NotLawful>
         requires { IsReady least_start self.old }
         ensures ready { IsReady least_start self.new }
-        ensures plays { (station : StationFields) (limit : ℕ) (before : List Played) →
-            HasPlayed stands_for self.old station limit before →
-            Plays stands_for self.new station limit before (lines.Ask feed at) result }
+        ensures plays { (of : ReplayCase) (before : List Played) → HasPlayed stands_for self.old of before →
+            Plays stands_for self.new of before (lines.Ask feed at) result }
     {
         let request = self.servers.ask(feed, at)?;
         Ok(Outcome::Asked(request))
@@ -156,9 +152,8 @@ impl Player<BoxedReceiver> {
     ) -> Result<Outcome, NotLawful>
         requires { IsReady least_start self.old }
         ensures ready { IsReady least_start self.new }
-        ensures plays { (station : StationFields) (limit : ℕ) (before : List Played) →
-            HasPlayed stands_for self.old station limit before →
-            Plays stands_for self.new station limit before (lines.Answer feed at datagram.now) result }
+        ensures plays { (of : ReplayCase) (before : List Played) → HasPlayed stands_for self.old of before →
+            Plays stands_for self.new of before (lines.Answer feed at datagram.now) result }
     {
         let mut room = [0; 1024];
         let length = datagram.write(&mut room);
@@ -170,9 +165,8 @@ impl Player<BoxedReceiver> {
     fn swap(&mut self, feed: u32) -> Result<Outcome, NotLawful>
         requires { IsReady least_start self.old }
         ensures ready { IsReady least_start self.new }
-        ensures plays { (station : StationFields) (limit : ℕ) (before : List Played) →
-            HasPlayed stands_for self.old station limit before →
-            Plays stands_for self.new station limit before (lines.Swap feed) result }
+        ensures plays { (of : ReplayCase) (before : List Played) → HasPlayed stands_for self.old of before →
+            Plays stands_for self.new of before (lines.Swap feed) result }
     {
         self.radios.swap(feed)?;
         Ok(Outcome::Nothing)
@@ -183,9 +177,8 @@ impl Player<BoxedReceiver> {
         requires told { leap_at < end_of_told }
         requires ready { IsReady least_start self.old }
         ensures ready { IsReady least_start self.new }
-        ensures plays { (station : StationFields) (limit : ℕ) (before : List Played) →
-            HasPlayed stands_for self.old station limit before →
-            Plays stands_for self.new station limit before (lines.Leap feed at leap_at) result }
+        ensures plays { (of : ReplayCase) (before : List Played) → HasPlayed stands_for self.old of before →
+            Plays stands_for self.new of before (lines.Leap feed at leap_at) result }
     {
         let entry = self.leap.tell(feed, at, leap_at)?;
         Ok(self.journal.take(&entry))
@@ -202,10 +195,8 @@ impl Player<BoxedReceiver> {
         requires moments { arrived ≤ sent }
         requires ready { IsReady least_start self.old }
         ensures ready { IsReady least_start self.new }
-        ensures given { (station : StationFields) (limit : ℕ) (before : List Played) →
-            HasPlayed stands_for self.old station limit before →
-            HasGiven stands_for self.new station limit before
-            (lines.Request connection arrived sent datagram.now) result }
+        ensures given { (of : ReplayCase) (before : List Played) → HasPlayed stands_for self.old of before →
+            HasGiven stands_for self.new of before (lines.Request connection arrived sent datagram.now) result }
     {
         let mut room = [0; 1024];
         let length = datagram.write(&mut room);
@@ -227,9 +218,8 @@ impl Player<BoxedReceiver> {
         requires moments { arrived ≤ sent }
         requires ready { IsReady least_start self.old }
         ensures ready { IsReady least_start self.new }
-        ensures given { (station : StationFields) (limit : ℕ) (before : List Played) →
-            HasPlayed stands_for self.old station limit before →
-            HasGiven stands_for self.new station limit before
+        ensures given { (of : ReplayCase) (before : List Played) → HasPlayed stands_for self.old of before →
+            HasGiven stands_for self.new of before
             (lines.Request connection arrived sent request.now.datagram.now) result }
     {
         let page = self.page();
@@ -242,18 +232,16 @@ impl Player<BoxedReceiver> {
 
     /// The page of the entries kept so far.
     pub fn page(&self) -> Page
-        ensures { (station : StationFields) (limit : ℕ) (before : List Played) →
-            HasPlayed stands_for self.now station limit before →
-            result ≡ page_after station limit (lines_of before) }
+        ensures { (of : ReplayCase) (before : List Played) → HasPlayed stands_for self.now of before →
+            result ≡ page_after of.station of.limit (lines_of before) }
     {
         self.journal.page()
     }
 
     /// Whether an entry was due when the journal was full.
     pub fn is_full(&self) -> bool
-        ensures { (station : StationFields) (limit : ℕ) (before : List Played) →
-            HasPlayed stands_for self.now station limit before →
-            result ≡ replay.is_full station limit (lines_of before) }
+        ensures { (of : ReplayCase) (before : List Played) → HasPlayed stands_for self.now of before →
+            result ≡ replay.is_full of.station of.limit (lines_of before) }
     {
         self.journal.is_full()
     }

@@ -86,7 +86,7 @@ impl Radios<BoxedReceiver> {
         ensures heard { (station : StationFields) (lines : List ScriptLine) →
             HasRadios stands_for self.old station lines →
             Gives (may_hear (radio_of station feed) feed reduction lines)
-            (HasHeardPulse stands_for self.new station lines feed reduction)
+            (HasHeardPulse stands_for self.new station lines (Pulse feed reduction))
             (HasRadios stands_for self.new station lines) result }
         ensures lawful { IfOk result (λ entry. IfSome entry (λ e. IsLawful (vec_len self.old.fitted) e)) }
     {

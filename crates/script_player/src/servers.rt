@@ -96,7 +96,7 @@ impl Servers {
         ensures first { self.new.first ≡ self.old.first }
         ensures answered { (station : StationFields) (lines : List ScriptLine) → HasServers self.old station lines →
             Gives (may_poll (server_of station feed) feed at lines)
-            (HasAnswered self.new station lines feed at datagram.now)
+            (HasAnswered self.new station lines (Answer feed at datagram.now))
             (HasServers self.new station lines) result }
         ensures lawful { IfOk result (λ e. IsLawful (self.old.first + vec_len self.old.servers) e) }
     {

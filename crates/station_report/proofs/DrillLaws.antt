@@ -38,6 +38,7 @@ use Rattle.file_commands.specs.Endings.{status_line, status_of}
 use Rattle.station_report.specs.Headline.{HasDueEntries, IsTold, LeapRun, LinkRun, LogRun, PollRun, StationRun, due_in_all, dues, each_cause, full_cause, leap_dues, link_cause, log_cause, poll_cause, radio_dues, server_dues}
 use Rattle.station_report.specs.Serving.{IsGoodLogRun}
 use Rattle.file_commands.specs.Text.{page_text}
+use Rattle.file_commands.specs.Effects.{effect_of}
 use Rattle.file_commands.specs.Writing.{Answers}
 use Rattle.file_commands.specs.declared.ending.Ending.{Ending}
 use Rattle.file_commands.specs.declared.ending.Ending.TheVariants.{Full, Whole}
@@ -308,7 +309,7 @@ told_full limit true due told = told_one (Full limit) due told
 told_full limit false due told = told_none due told
 
 pub drills : (seed limit : ℕ) (done : Done) (outside outside_now : OutsideState) (out out_now : SinkState) (result : Status) → outside_now ≡ outside → HasDrilled seed limit done → FinishesDrill limit done out out_now result →
-    Drills seed limit outside outside_now out out_now result
+    Drills seed limit (effect_of outside outside_now out out_now result)
 drills seed limit done outside outside_now out out_now result unchanged h told =
     let journal = done.journal.entries in
     let total = due_in_all one_of_each (day_run seed journal) in

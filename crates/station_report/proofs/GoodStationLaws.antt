@@ -7,7 +7,7 @@ use Rattle.std.proofs.lemmas.Bool.Decides.{nat_tests}
 use Rattle.std.proofs.lemmas.List.{append-nil, append_cancel_left, length-map}
 use Rattle.std.proofs.lemmas.List.Elements.{All-head, All-tail}
 use Rattle.feed_link.specs.Faults.{Rose}
-use Rattle.feed_link.specs.Openings.{Opening, OutsideState, State, Visit, Wanted, failed, log_visit, visited}
+use Rattle.feed_link.specs.Openings.{Opening, State, Visit, Wanted, failed, log_visit, visited}
 use Rattle.feed_link.specs.Openings.State.{OfLog, OfLink}
 use Rattle.feed_link.specs.Openings.Wanted.{LogOf}
 use Rattle.feed_link.specs.Told.{LinkState, NetEvent, SinkState, SourceState, Adds}
@@ -35,8 +35,10 @@ use Rattle.crew_work.proofs.ListLaws.{length-is-some}
 use Rattle.file_commands.specs.Decoding.{IsGoodLog}
 use Rattle.file_commands.specs.Endings.{status_of}
 use Rattle.station_report.specs.Headline.{EndsPhases, IsAnswered, IsPolled, IsTold, LeapRun, LinkRun, LogRun, PollRun, StationRun, causes, due_in_all, dues, each_cause, full_cause, leap_dues, link_cause, log_cause, poll_cause, radio_dues, server_dues}
+use Rattle.crew_work.specs.declared.work.Orders.{Orders}
 use Rattle.station_report.specs.Serving.{EndsUnserved, HasGoodStation, IsGoodLeapRun, IsGoodLink, IsGoodList, IsGoodLogRun, RunsServe, ServesStation, back_in, opened_in}
 use Rattle.file_commands.specs.StationFile.{EndsAtStation, IsObstacle, IsStation, line_at, most_of_a_station, status_at}
+use Rattle.file_commands.specs.Effects.{Effect}
 use Rattle.file_commands.specs.Writing.{Answers}
 use Rattle.file_commands.specs.declared.ending.Ending.{Ending}
 use Rattle.file_commands.specs.declared.ending.Ending.TheVariants as ending
@@ -322,28 +324,28 @@ list_back run = map (λ (r : LeapRun). OfLog r.back) (option_to_list run.leap)
 abbrev links_back : StationRun → List State
 links_back run = map (λ (r : PollRun). OfLink r.back) run.servers ++ map (λ (r : LinkRun). OfLink r.back) run.links
 
-module _ (name : List ℕ) (during after limit : ℕ) (outside outside_now : OutsideState) (out out_now : SinkState) (result : Status) (p : HasGoodStation name limit outside outside_now) (no_write : Rose out.faults out_now.faults → ⊥) where
+module _ (name : List ℕ) (orders : Orders) (effect : Effect) (p : HasGoodStation name orders.limit effect.outside effect.outside_now) (no_write : Rose effect.out.faults effect.out_now.faults → ⊥) where
   abbrev told : List Opening
   told = map visited (log_visit name p.opened p.back ∷ p.visits)
 
-  at_station : EndsAtStation (LogOf name ∷ []) name outside outside_now out out_now result → result ≡ Memory
+  at_station : EndsAtStation (LogOf name ∷ []) name effect → effect.status ≡ Memory
   at_station h =
-      let e = same_more outside.openings outside_now.openings p.before _ told h.opens.noted.noted p.were p.are in
+      let e = same_more effect.outside.openings effect.outside_now.openings p.before _ told h.opens.noted.noted p.were p.are in
       let same = same_states name h.opened h.back p.opened p.back (first_of _ _ _ _ e) in
       let read = subst (λ s. EndsReading h.end most_of_a_station s p.back h.bytes) same.0 (subst (λ s. EndsReading h.end most_of_a_station h.opened s h.bytes) same.1 h.read) in
-      answered _ result out out_now _ h.written no_write ∙ only_memory p.of p.opened p.back p.is_station p.most p.no_fault h.end h.bytes h.due read h.cause
+      answered _ effect.status effect.out effect.out_now _ h.written no_write ∙ only_memory p.of p.opened p.back p.is_station p.most p.no_fault h.end h.bytes h.due read h.cause
 
-  unserved : EndsUnserved name outside outside_now out out_now result → result ≡ Memory
+  unserved : EndsUnserved name effect → effect.status ≡ Memory
   unserved h = by h.failing refl
     where
-      by : (failing : Option Wanted) → h.failing ≡ failing → result ≡ Memory
-      by None none = answered _ result out out_now _ h.written no_write ∙ ap status_of (subst (λ f. Rattle.station_report.specs.Serving.LacksOne h.of (length h.visits) f h.due) none h.cause)
+      by : (failing : Option Wanted) → h.failing ≡ failing → effect.status ≡ Memory
+      by None none = answered _ effect.status effect.out effect.out_now _ h.written no_write ∙ ap status_of (subst (λ f. Rattle.station_report.specs.Serving.LacksOne h.of (length h.visits) f h.due) none h.cause)
       by (Some what) some =
-          let noted = subst (λ f. Adds outside.openings outside_now.openings (map visited (log_visit name h.opened h.back ∷ h.visits) ++ map failed (option_to_list f))) some h.opens.noted.noted in
-          let e = same_more outside.openings outside_now.openings p.before _ told noted p.were p.are in
+          let noted = subst (λ f. Adds effect.outside.openings effect.outside_now.openings (map visited (log_visit name h.opened h.back ∷ h.visits) ++ map failed (option_to_list f))) some h.opens.noted.noted in
+          let e = same_more effect.outside.openings effect.outside_now.openings p.before _ told noted p.were p.are in
           absurd (none_failed (log_visit name h.opened h.back ∷ h.visits) (log_visit name p.opened p.back ∷ p.visits) what e)
 
-  module _ (h : ServesStation name during after limit outside outside_now out out_now result) (of_is : h.of ≡ p.of) (opened : opened_in h.run ≡ opened_in p.run) (back : back_in h.run ≡ back_in p.run) where
+  module _ (h : ServesStation name orders effect) (of_is : h.of ≡ p.of) (opened : opened_in h.run ≡ opened_in p.run) (back : back_in h.run ≡ back_in p.run) where
     list_sizes : length (option_to_list h.run.leap) ≡ length (option_to_list p.run.leap)
     list_sizes = length-is-some h.run.leap p.run.leap (h.served.logs.leap ∙ ap (λ (o : StationFields). is_some o.leap_file) of_is ∙ sym p.each_list)
 
@@ -386,7 +388,7 @@ module _ (name : List ℕ) (during after limit : ℕ) (outside outside_now : Out
     list = good_list (leap_feed h.of) h.of.top.start h.run.leap p.run.leap h.served.logs.leap_read p.list opened_list.0 back_list.0
 
     clients : each_cause (λ n (r : LinkRun). link_cause n r.end) 0 h.run.links ≡ []
-    clients = good_clients during after _ h.run.journal 0 h.run.links p.run.links h.served.clients.served p.links opened_links.1 back_links.1
+    clients = good_clients orders.budget.during orders.budget.after _ h.run.journal 0 h.run.links p.run.links h.served.clients.served p.links opened_links.1 back_links.1
 
     same_dues : dues h.of h.run ≡ dues p.of p.run
     same_dues =
@@ -394,26 +396,26 @@ module _ (name : List ℕ) (during after limit : ℕ) (outside outside_now : Out
         ap (λ l. l ++ server_dues (length h.of.radios) h.of.servers h.run.servers ++ behind) logs.1 ∙ ap (λ l. radio_dues 0 h.of.radios p.run.radios ++ l ++ behind) polls.1
         ∙ ap (λ l. radio_dues 0 h.of.radios p.run.radios ++ server_dues (length h.of.radios) h.of.servers p.run.servers ++ l) list.1 ∙ ap (λ o. dues o p.run) of_is
 
-    not_full : nat_lt limit (due_in_all h.of h.run) ≡ false
+    not_full : nat_lt orders.limit (due_in_all h.of h.run) ≡ false
     not_full = (let same = ap (sum_by (λ (l : List Entry). length l)) same_dues in let room = p.room in grind (arith, nat_tests))
 
-    no_cause : causes h.of limit h.run ≡ []
-    no_cause = none_of_five _ _ _ _ _ logs.0 polls.0 list.0 clients (ap (λ b. option_to_list (full_cause limit b)) not_full)
+    no_cause : causes h.of orders.limit h.run ≡ []
+    no_cause = none_of_five _ _ _ _ _ logs.0 polls.0 list.0 clients (ap (λ b. option_to_list (full_cause orders.limit b)) not_full)
 
-    all_whole : result ≡ Done
-    all_whole = answered _ result out out_now _ h.served.text.written no_write ∙ ap status_of (nothing_told (causes h.of limit h.run) h.served.due no_cause h.served.cause)
+    all_whole : effect.status ≡ Done
+    all_whole = answered _ effect.status effect.out effect.out_now _ h.served.text.written no_write ∙ ap status_of (nothing_told (causes h.of orders.limit h.run) h.served.due no_cause h.served.cause)
 
-  served : ServesStation name during after limit outside outside_now out out_now result → result ≡ Done
+  served : ServesStation name orders effect → effect.status ≡ Done
   served h =
-      let e = same_more outside.openings outside_now.openings p.before _ told h.opens.noted.noted p.were p.are in
+      let e = same_more effect.outside.openings effect.outside_now.openings p.before _ told h.opens.noted.noted p.were p.are in
       let same = same_states name h.opened h.back p.opened p.back (first_of _ _ _ _ e) in
       let of_is : h.of ≡ p.of = read_station p.of h.of h.opened h.back (subst (λ s. IsStation p.of s h.back) (sym same.0) (subst (λ s. IsStation p.of p.opened s) (sym same.1) p.is_station)) h.station in
       let visits = same_visits h.visits p.visits (sym (append-nil (map visited h.visits)) ∙ rest_of _ _ _ _ e) in
       all_whole h of_is (sym h.opened_are ∙ visits.0 ∙ p.opened_are) (sym h.back_are ∙ visits.1 ∙ p.back_are)
 
-  pub station_done : RunsServe name during after limit outside outside_now out out_now result → (result ≡ Done) ⊎ (result ≡ Memory)
+  pub station_done : RunsServe name orders effect → (effect.status ≡ Done) ⊎ (effect.status ≡ Memory)
   station_done (inl not) =
-      let e = same_more outside.openings outside_now.openings p.before _ told not.opens.noted.noted p.were p.are in
+      let e = same_more effect.outside.openings effect.outside_now.openings p.before _ told not.opens.noted.noted p.were p.are in
       absurd (not_failed name name p.opened p.back (first_of _ _ _ _ e))
   station_done (inr (inl ends)) = inr (at_station ends)
   station_done (inr (inr (inl lacks))) = inr (unserved lacks)

@@ -32,6 +32,7 @@ use Rattle.station_gear.proofs.GearLaws.{all_visited, gear_sizes, same_numbers, 
 use Rattle.system_fold.specs.Page.{page_of}
 use Rattle.crew_work.specs.Served.{seen, sights_of}
 use Rattle.station_report.specs.Crewing.{CannotServe, FinishesDone, GivesServed, GivesUnused, HasEach, IsLeftOf, LeavesAll, ServesAll, TriesServe, any_full, causes_left, end_of, line_of_work, lines_left, subject_of}
+use Rattle.file_commands.specs.Effects.{effect_of}
 use Rattle.file_commands.specs.Endings.{status_of, status_line}
 use Rattle.station_report.specs.Headline.{HasDueEntries, IsTold, LeapRun, LinkRun, LogRun, PollRun, StationRun, causes, dues, each_cause, each_text, full_cause, leap_dues, link_cause, log_cause, poll_cause, radio_dues, served_text, server_dues}
 use Rattle.file_commands.specs.Keeping.{OpensStation}
@@ -395,9 +396,9 @@ module _ {L T : Type 0} (log_state : L → SourceState) (log_opening : L → ℕ
 
 -- ---- the station, and then all of it
 
-module _ (name : List ℕ) (during after limit : ℕ) (outside mid now : OutsideState) (out out_now : SinkState) (result : Status) where
+module _ (name : List ℕ) (orders : Orders) (outside mid now : OutsideState) (out out_now : SinkState) (result : Status) where
   pub ends_at_station : (end : FileEnd) (bytes : List ℕ) (due : Obstacle) → OpensStation name outside now end bytes → IsObstacle end bytes due →
-      Answers (status_at due) result out out_now (line_at due) → RunsServe name during after limit outside now out out_now result
+      Answers (status_at due) result out out_now (line_at due) → RunsServe name orders (effect_of outside now out out_now result)
   ends_at_station end bytes due h cause answers = inr (inl (record {
     opened = h.opened;
     back = h.back;
@@ -411,7 +412,7 @@ module _ (name : List ℕ) (during after limit : ℕ) (outside mid now : Outside
   }))
 
   pub ends_unserved : (of : StationFields) (bytes : List ℕ) (due : Ending) → OpensStation name outside mid Whole bytes → Says bytes of → CannotServe of mid now due →
-      Answers (status_of due) result out out_now (status_line due) → RunsServe name during after limit outside now out out_now result
+      Answers (status_of due) result out out_now (status_line due) → RunsServe name orders (effect_of outside now out out_now result)
   ends_unserved of bytes due h says lacks answers = inr (inr (inl (record {
     of = of;
     opened = h.opened;
@@ -434,7 +435,7 @@ text_same of limit run done left =
 
 pub ends_served : (name : List ℕ) (orders : Orders) (outside mid now : OutsideState) (out out_now : SinkState) (result : Status) (of : StationFields) (bytes : List ℕ) (done : Done) →
     OpensStation name outside mid Whole bytes → Says bytes of → ServesAll of orders mid now done → FinishesDone orders.limit done out out_now result →
-    RunsServe name orders.budget.during orders.budget.after orders.limit outside now out out_now result
+    RunsServe name orders (effect_of outside now out out_now result)
 ends_served name orders outside mid now out out_now result of bytes done h says served finishes = inr (inr (inr (record {
   of = of;
   opened = h.opened;

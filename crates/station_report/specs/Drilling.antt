@@ -2,8 +2,6 @@
 -- often each feed was answered in which way is reported, with the page of the journal. All of it is this project's own.
 use Rattle.std.specs.Prelude.{◌≡◌, ℕ, ◌≤◌, nat_lt, Bool, true, false, None, List, [], ◌∷◌, ◌++◌, count_by, map, codes, decimal, if◌then◌else◌}
 use Rattle.std.specs.List.{flat_map}
-use Rattle.feed_link.specs.Openings.{OutsideState}
-use Rattle.feed_link.specs.Told.{SinkState}
 use Rattle.feed_workers.specs.declared.work.LogEnd.TheVariants as log
 use Rattle.journal_entry.specs.Texts.{spaced}
 use Rattle.journal_entry.specs.declared.entry.Entry.{Entry}
@@ -15,13 +13,12 @@ use Rattle.station_config.specs.Station.{one_of_each, settings_of}
 use Rattle.system_fold.specs.Page.{page_of}
 use Rattle.tick_units.specs.declared.verdicts.Kind.{Kind}
 use Rattle.tick_units.specs.declared.verdicts.Kind.TheVariants.{Verdict, Lone, Differs, Refused}
+use Rattle.file_commands.specs.Effects.{Effect, EndsWith}
 use Rattle.file_commands.specs.Endings.{status_of, status_line}
 use Rattle.station_report.specs.Headline.{HasDueEntries, LogRun, StationRun, due_in_all, dues}
 use Rattle.file_commands.specs.Text.{page_text}
-use Rattle.file_commands.specs.Writing.{Answers}
 use Rattle.file_commands.specs.declared.ending.Ending.{Ending}
 use Rattle.file_commands.specs.declared.ending.Ending.TheVariants.{Full, Whole}
-use Rattle.file_commands.specs.declared.ending.status.Status.{Status}
 
 -- ---- what is reported
 
@@ -86,11 +83,11 @@ day_journal seed = flat_map (λ due. due) (dues one_of_each (day_run seed []))
 -- Nothing is opened. The journal has what is due for the three logs, as the headline has it of a station's; it is reported, and the status is
 -- that of a full journal exactly where more was due than it may have. Where it may have all, what is reported is the same at each run: it is
 -- that of the day's entries one feed after the other
-pub record Drills (seed limit : ℕ) (outside outside_now : OutsideState) (out out_now : SinkState) (result : Status) : Type 0 where
-  pub unchanged : outside_now ≡ outside
+pub record Drills (seed limit : ℕ) (effect : Effect) : Type 0 where
+  pub unchanged : effect.outside_now ≡ effect.outside
   pub journal : List Entry
   pub entries : HasDueEntries one_of_each limit (day_run seed journal)
   pub due : Ending
   pub cause : due ≡ (if nat_lt limit (due_in_all one_of_each (day_run seed journal)) then Full limit else Whole)
-  pub written : Answers (status_of due) result out out_now (drill_text journal ++ status_line due)
-  pub same : 4320 ≤ limit → Answers (status_of Whole) result out out_now (drill_text (day_journal seed) ++ status_line Whole)
+  pub written : EndsWith effect (status_of due) (drill_text journal ++ status_line due)
+  pub same : 4320 ≤ limit → EndsWith effect (status_of Whole) (drill_text (day_journal seed) ++ status_line Whole)

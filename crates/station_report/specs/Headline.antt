@@ -38,6 +38,7 @@ use Rattle.responder.specs.declared.served.End.TheVariants.{Count, LinkEnd, Link
 use Rattle.station_config.specs.Station.{RadioFields, ServerFields, StationFields, gate_of, leap_feed, settings_of}
 use Rattle.crew_work.specs.Lists.{Pairs}
 use Rattle.crew_work.specs.Served.{IsReadOf}
+use Rattle.crew_work.specs.declared.work.Orders.{Orders}
 use Rattle.system_fold.specs.Page.{page_of}
 use Rattle.system_fold.specs.Settings.{IsJournal}
 use Rattle.file_commands.specs.Endings.{number_of, status_of, status_line}
@@ -269,11 +270,11 @@ IsTold all due = ((all ≡ []) × (due ≡ Whole)) ⊎ IsFirstOfLeast all due
 
 -- ---- all of it
 
-pub record IsServed (of : StationFields) (limit during after : ℕ) (run : StationRun) (out out_now : SinkState) (result : Status) : Type 0 where
-  pub entries : HasDueEntries of limit run
+pub record IsServed (of : StationFields) (orders : Orders) (run : StationRun) (out out_now : SinkState) (result : Status) : Type 0 where
+  pub entries : HasDueEntries of orders.limit run
   pub logs : ReadsLogs of run
   pub polls : PollsServers of run
-  pub clients : AnswersLinks of during after run
+  pub clients : AnswersLinks of orders.budget.during orders.budget.after run
   pub due : Ending
   pub text : WritesServed of run due out out_now result
-  pub cause : IsTold (causes of limit run) due
+  pub cause : IsTold (causes of orders.limit run) due

@@ -3,7 +3,7 @@
 use Rattle.std.specs.Prelude.{◌≡◌, ◌⊎◌, ℕ, ◌+◌, ◌-◌, ◌≤◌, nat_lt, true, Option, None, Some, IfSome, IsSome, is_some, List, [], ◌∷◌, ◌++◌, All, length, map, if◌then◌else◌}
 use Rattle.std.specs.Option.{option_to_list}
 use Rattle.feed_link.specs.Faults.{Rose}
-use Rattle.feed_link.specs.Told.{SourceState, SinkState, LinkState, NetEvent}
+use Rattle.feed_link.specs.Told.{SourceState, LinkState, NetEvent}
 use Rattle.feed_link.specs.Openings.{Opening, OutsideState, State, Visit, Wanted, MakesOpenings, log_visit, visited}
 use Rattle.feed_link.specs.Openings.State.{OfLog, OfLink}
 use Rattle.feed_link.specs.Openings.Wanted.{LogOf}
@@ -12,14 +12,14 @@ use Rattle.feed_workers.specs.Leaps.{most_of_a_list}
 use Rattle.leap_file.specs.Rows.{bad_line}
 use Rattle.station_gear.specs.Gears.{wanted_by}
 use Rattle.file_commands.specs.Decoding.{IsGoodLog}
+use Rattle.crew_work.specs.declared.work.Orders.{Orders}
+use Rattle.file_commands.specs.Effects.{Effect, EndsWith}
 use Rattle.file_commands.specs.Endings.{status_of, status_line}
 use Rattle.station_report.specs.Headline.{LeapRun, LogRun, StationRun, IsServed, due_in_all}
 use Rattle.file_commands.specs.Opening.{CannotOpen}
 use Rattle.file_commands.specs.StationFile.{EndsAtStation, HasStation, IsStation, most_of_a_station}
-use Rattle.file_commands.specs.Writing.{Answers}
 use Rattle.file_commands.specs.declared.ending.Ending.{Ending}
 use Rattle.file_commands.specs.declared.ending.Ending.TheVariants.{NoMemory, NotOpened}
-use Rattle.file_commands.specs.declared.ending.status.Status.{Status}
 use Rattle.file_commands.specs.declared.ending.subject.Subject.{Subject}
 use Rattle.file_commands.specs.declared.ending.subject.Subject.TheVariants.{Feed, Link, Station}
 
@@ -40,18 +40,18 @@ LacksOne of place (Some what) due = due ≡ NotOpened (subject_at of place)
 
 -- The station is not served: its logs and links are opened in order up to the one that fails, or as far as there was memory. What was
 -- opened is given back as it was, and the status line alone is written
-pub record EndsUnserved (name : List ℕ) (outside outside_now : OutsideState) (out out_now : SinkState) (result : Status) : Type 0 where
+pub record EndsUnserved (name : List ℕ) (effect : Effect) : Type 0 where
   pub of : StationFields
   pub opened : SourceState
   pub back : SourceState
   pub station : HasStation opened back of
   pub visits : List Visit
   pub failing : Option Wanted
-  pub opens : MakesOpenings (LogOf name ∷ wanted_by of) outside outside_now (log_visit name opened back ∷ visits) failing
+  pub opens : MakesOpenings (LogOf name ∷ wanted_by of) effect.outside effect.outside_now (log_visit name opened back ∷ visits) failing
   pub unused : All (λ visit. visit.back ≡ visit.opened) visits
   pub due : Ending
   pub cause : LacksOne of (length visits) failing due
-  pub written : Answers (status_of due) result out out_now (status_line due)
+  pub written : EndsWith effect (status_of due) (status_line due)
 
 -- what a station's logs and links reported when they were opened, in the order of their openings, and when they were given back
 abbrev pub opened_in : StationRun → List State
@@ -64,25 +64,22 @@ back_in run = map (λ log. OfLog log.back) run.radios ++ (map (λ leap. OfLog le
 
 -- The station, its logs and its links are opened in order, each once, and all are given back. What its workers do with them is the
 -- headline
-pub record ServesStation (name : List ℕ) (during after limit : ℕ) (outside outside_now : OutsideState) (out out_now : SinkState) (result : Status) : Type 0 where
+pub record ServesStation (name : List ℕ) (orders : Orders) (effect : Effect) : Type 0 where
   pub of : StationFields
   pub opened : SourceState
   pub back : SourceState
   pub station : HasStation opened back of
   pub run : StationRun
   pub visits : List Visit
-  pub opens : MakesOpenings (LogOf name ∷ wanted_by of) outside outside_now (log_visit name opened back ∷ visits) None
+  pub opens : MakesOpenings (LogOf name ∷ wanted_by of) effect.outside effect.outside_now (log_visit name opened back ∷ visits) None
   pub opened_are : map (λ visit. visit.opened) visits ≡ opened_in run
   pub back_are : map (λ visit. visit.back) visits ≡ back_in run
-  pub served : IsServed of limit during after run out out_now result
+  pub served : IsServed of orders run effect.out effect.out_now effect.status
 
 -- what becomes of a command to serve a station
-abbrev pub RunsServe : List ℕ → ℕ → ℕ → ℕ → OutsideState → OutsideState → SinkState → SinkState → Status → Type 0
-RunsServe name during after limit outside outside_now out out_now result =
-    CannotOpen (LogOf name ∷ []) [] (LogOf name) Station outside outside_now out out_now result
-    ⊎ (EndsAtStation (LogOf name ∷ []) name outside outside_now out out_now result
-    ⊎ (EndsUnserved name outside outside_now out out_now result
-    ⊎ ServesStation name during after limit outside outside_now out out_now result))
+abbrev pub RunsServe : List ℕ → Orders → Effect → Type 0
+RunsServe name orders effect = CannotOpen (LogOf name ∷ []) [] (LogOf name) Station effect
+    ⊎ (EndsAtStation (LogOf name ∷ []) name effect ⊎ (EndsUnserved name effect ⊎ ServesStation name orders effect))
 
 -- ---- a station without a fault
 

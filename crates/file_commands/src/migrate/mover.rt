@@ -3,7 +3,8 @@ ghost use Rattle.std.specs.Prelude.{◌≡◌, ◌+◌, ◌<◌, ◌≤◌, ◌^
 ghost use Rattle.journal_entry.specs.declared.line.JournalLine.{JournalLine};
 ghost use Rattle.journal_entry.specs.declared.writer.TheConstants.{LINE_ROOM};
 ghost use Rattle.line_cutter.specs.Cutting.{line_in};
-ghost use Rattle.file_commands.specs.JournalTaking.{IsEven, IsMovedBy, IsMovedLine};
+ghost use Rattle.file_commands.specs.JournalTaking.{IsEven, IsMovedBy, journal_way, journal_taker};
+ghost use Rattle.file_commands.specs.LineTaking.{TakesLine, line_texts};
 ghost use Rattle.file_commands.specs.Moving.{HasMoved, MovesText};
 ghost use Rattle.file_commands.specs.Taking.{Fits};
 ghost use Rattle.station_config.specs.Station.{StationFields, settings_of};
@@ -37,7 +38,8 @@ fn move_text(mover: &mut Mover, text: &[u8], number: u64, line: &mut Line) -> Op
     ensures fits { MatchOption result (Unit {0}) (λ size. size ≤ LINE_ROOM) }
     ensures moves { (settings : SettingsFields) (before : List JournalLine) → number ≡ length before + 1 →
         length before < 4194304 →
-        HasMoved mover.old settings before None → MovesText mover.new settings before text.now number line.new result }
+        HasMoved mover.old settings before None →
+        MovesText mover.new settings before (line_texts text.now line.new) number result }
 {
     let Some(read) = read_line(text) else {
         return None;
@@ -72,8 +74,8 @@ impl JournalMover {
         ensures fits { Fits result }
         ensures moves { (of : StationFields) (before : List JournalLine) → self.old.lines ≡ length before →
             HasMoved self.old.mover (settings_of of) before None →
-            IsMovedLine self.old.lines self.new.lines self.new.mover of before
-            (line_in self.old.cutter) line.new result }
+            TakesLine (journal_way of) self.old.lines (journal_taker self.new) before
+            (line_texts (line_in self.old.cutter) line.new) result }
     {
         let number = self.lines + 1;
         self.lines = number;

@@ -4,6 +4,7 @@ ghost use Rattle.feed_link.specs.Told.{SinkState};
 ghost use Rattle.journal_entry.specs.declared.writer.TheConstants.{LINE_ROOM};
 ghost use Rattle.file_commands.specs.Reading.{bad_in_the_end};
 ghost use Rattle.file_commands.specs.Taking.{Holds, Says, Fits, given, bad_of, EndsAt, TakesPiece, EndsTaking};
+ghost use Rattle.file_commands.specs.Taking.{flow_of, output_of};
 ghost use Rattle.sink_text.specs.Writing.{WritesAll};
 
 use crate::reading::{Line, Reach, Taken, Took, write_given};
@@ -63,8 +64,8 @@ fn take_piece<T: Taker, K: Sink>(taker: &mut T, piece: &[u8], out: &mut K) -> Ta
     ensures room { T.room taker.old ≤ T.room taker.new + length piece.now }
     ensures takes { (of : T.Case) (bytes text : List ℕ) (start : SinkState) → T.holds taker.old of bytes text None →
         WritesAll start (K.state out.old) text →
-        TakesPiece (T.holds taker.new of) (T.says of) result start (K.state out.new) (bytes ++ piece.now)
-        (length piece.now) }
+        TakesPiece (T.holds taker.new of) (T.says of) result (output_of start (K.state out.new))
+        (bytes ++ piece.now) (length piece.now) }
 {
     let mut line = [0; LINE_ROOM];
     let mut rest = piece;
@@ -92,8 +93,8 @@ pub fn read_lines<S: Source, T: Taker, K: Sink>(
     requires room { limit < T.room taker.old }
     ensures number { S.opening file.new ≡ S.opening file.old }
     ensures ends { (of : T.Case) → T.holds taker.old of [] [] None →
-        EndsTaking (T.holds taker.new of) (T.says of) limit (S.state file.old) (S.state file.new) (K.state out.old)
-        (K.state out.new) result }
+        EndsTaking (T.holds taker.new of) (T.says of) limit
+        (flow_of (S.state file.old) (S.state file.new) (K.state out.old) (K.state out.new)) result }
 {
     let mut reader = FileReader::new(limit);
     'pieces: loop {

@@ -1,12 +1,12 @@
 //! Cuts the lines of a script out of its bytes and plays them, one after the other.
-ghost use Rattle.std.specs.Prelude.{◌≡◌, ◌+◌, ◌-◌, ◌<◌, ◌≤◌, ◌^◌, ℕ, List, [], None, Some, length, take, MatchResult};
+ghost use Rattle.std.specs.Prelude.{◌≡◌, ◌+◌, ◌-◌, ◌<◌, ◌≤◌, ◌^◌, List, [], None, Some, length, take, MatchResult};
 ghost use Rattle.journal_entry.specs.declared.writer.TheConstants.{LINE_ROOM};
-ghost use Rattle.file_commands.specs.Playing.{IsPlayedBy, IsPlayedLine, PlaysNext};
+ghost use Rattle.file_commands.specs.LineTaking.{TakesLine, line_texts};
+ghost use Rattle.file_commands.specs.Playing.{IsPlayedBy, PlaysNext, script_taker, script_way};
 ghost use Rattle.file_commands.specs.Taking.{Fits};
 ghost use Rattle.line_cutter.specs.Cutting.{line_in};
 ghost use Rattle.script_player.specs.KeptPlayer.{HasPlayed, IsReady};
-ghost use Rattle.script_player.specs.Replay.{Played};
-ghost use Rattle.station_config.specs.Station.{StationFields};
+ghost use Rattle.script_player.specs.Replay.{Played, ReplayCase};
 
 use crate::reading::{Gives, Line, Reach, Taker, Took};
 use file_reader::FileEnd;
@@ -36,9 +36,8 @@ fn play_text(
     requires ready { IsReady least_start player.old }
     ensures ready { IsReady least_start player.new }
     ensures fits { MatchResult result (λ length. length ≤ LINE_ROOM) (λ _. Unit {0}) }
-    ensures plays { (station : StationFields) (limit : ℕ) (before : List Played) →
-        HasPlayed stands_for player.old station limit before →
-        PlaysNext stands_for player.new station limit before text.now line.new result }
+    ensures plays { (of : ReplayCase) (before : List Played) → HasPlayed stands_for player.old of before →
+        PlaysNext stands_for player.new of before (line_texts text.now line.new) result }
 {
     let Some(script_line) = read_line(text) else {
         return Err(NotLawful);
@@ -55,8 +54,8 @@ impl Replayer<BoxedReceiver> {
         requires { IsReady least_start player }
         ensures ready { IsReady least_start result.player }
         ensures none { result.lines ≡ 0 }
-        ensures played { (station : StationFields) (limit : ℕ) → HasPlayed stands_for player station limit [] →
-            IsPlayedBy stands_for result station limit [] [] None }
+        ensures played { (of : ReplayCase) → HasPlayed stands_for player of [] →
+            IsPlayedBy stands_for result of [] [] None }
     {
         Replayer {
             cutter: LineCutter::new(TOO_LONG),
@@ -73,10 +72,9 @@ impl Replayer<BoxedReceiver> {
         ensures cutter { self.new.cutter ≡ self.old.cutter }
         ensures fits { Fits result }
         ensures lines { self.new.lines ≤ self.old.lines + 1 }
-        ensures plays { (station : StationFields) (limit : ℕ) (before : List Played) →
-            HasPlayed stands_for self.old.player station limit before →
-            IsPlayedLine stands_for self.old.lines self.new.lines self.new.player station limit before
-            (line_in self.old.cutter) line.new result }
+        ensures plays { (of : ReplayCase) (before : List Played) → HasPlayed stands_for self.old.player of before →
+            TakesLine (script_way stands_for of) self.old.lines (script_taker self.new) before
+            (line_texts (line_in self.old.cutter) line.new) result }
     {
         match play_text(&mut self.player, self.cutter.line(), line) {
             Ok(length) => {
@@ -90,15 +88,15 @@ impl Replayer<BoxedReceiver> {
 
 impl Taker for Replayer<BoxedReceiver> {
     ghost use Rattle.std.specs.Prelude.{◌-◌, ◌^◌};
-    ghost use Rattle.file_commands.specs.Playing.{IsPlayedBy, ReplayCase, script_says};
+    ghost use Rattle.file_commands.specs.Playing.{IsPlayedBy, script_says};
     ghost use Rattle.script_player.specs.KeptPlayer.{IsReady};
+    ghost use Rattle.script_player.specs.Replay.{ReplayCase};
 
     ghost Case = { ReplayCase };
 
-    ghost says = { λ of. script_says of.station of.limit };
+    ghost says = { script_says };
 
-    ghost holds = { λ replayer of. IsPlayedBy
-        (λ b h. (Receiver-box b).stands_for b.value h) replayer of.station of.limit };
+    ghost holds = { λ replayer of. IsPlayedBy (λ b h. (Receiver-box b).stands_for b.value h) replayer of };
 
     ghost is_ready = { λ replayer. IsReady (λ b. (Receiver-box b).least_start b.value) replayer.player };
 

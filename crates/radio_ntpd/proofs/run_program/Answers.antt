@@ -11,7 +11,7 @@ pub returns-in-Err : goal.returns-in-Err
 returns-in-Err g c = (
   c.end_without_memory-in-Err.result,
   c.exit_code-in-Err.ensures,
-  rw c.in-Ok.is (run_unbegun _ _ _ _ _ _ (record {
+  rw c.in-Ok.is (run_unbegun _ _ (record {
     unchanged = c.in-Err.ensures.0;
     written = subst (λ (s : SinkState). Answers (status_of NoMemory) c.end_without_memory-in-Err.result s (g.K.Sink.state c.end_without_memory-in-Err.new.out) (status_line NoMemory)) c.in-Err.ensures.1 c.end_without_memory-in-Err.ensures;
   })),

@@ -1,6 +1,7 @@
 -- Each receiver that is put in the rack is a blank one, since its `new` says so of what is boxed; and four of each plan are a rack.
 use Rattle.std.proofs.Common.{◌≡◌, ◌∙◌, ℕ, ◌+◌, List, map, ap, refl, sym, subst, inl, inr, arith, rules}
 use Rattle.std.specs.String.{string_bytes}
+use Rattle.file_commands.specs.Effects.{effect_of}
 use Rattle.radio_engine.specs.Run.{IsRun}
 use denote.Param.Object.{read_made}
 use Rattle.tick_units.specs.declared.marks.Plan.TheVariants.{Dcf, Msf, Wwvb}
@@ -43,5 +44,5 @@ run_station-requires-clause-rack g c κs within =
 pub returns : goal.returns
 returns g c =
     let same : map (λ t. t.now) c.as_slice.result.now ≡ map (λ w. string_bytes w) c.args.words.now = ap (λ ts. map (λ t. t.now) ts) c.as_slice.ensures.value ∙ c.in_ok-texts.ensures in
-    subst (λ (words : List (List ℕ)). IsRun words (g.O.Outside.state c.args.outside.now) (g.O.Outside.state c.run_station.new.outside) (g.K.Sink.state c.args.out.now) (g.K.Sink.state c.run_station.new.out) c.run_station.result) same
+    subst (λ (words : List (List ℕ)). IsRun words (effect_of (g.O.Outside.state c.args.outside.now) (g.O.Outside.state c.run_station.new.outside) (g.K.Sink.state c.args.out.now) (g.K.Sink.state c.run_station.new.out) c.run_station.result)) same
     (record { refused = c.run_station.ensures.refused; runs = c.run_station.ensures.runs; complete = c.run_station.ensures.complete })

@@ -10,9 +10,8 @@ use Rattle.radio_engine.proofs.serve.run_serve.Goals as goal
 
 pub returns-in-Err-clause-runs : goal.returns-in-Err-clause-runs
 returns-in-Err-clause-runs g c =
-    let budget = c.args.orders.budget in
     let cause = subst (λ (b : List ℕ). IsObstacle c.in-Ok-open_station.end b c.in-Err.obstacle) c.as_slice.ensures.value c.in-Err.ensures in
-    inr (ends_at_station c.args.name.now budget.during budget.after c.args.orders.limit _ (g.O.Outside.state c.open_station.new.outside) _ _ _ _ c.in-Ok-open_station.end _ c.in-Err.obstacle c.in-Ok-open_station.ensures.tried cause
+    inr (ends_at_station c.args.name.now c.args.orders _ (g.O.Outside.state c.open_station.new.outside) _ _ _ _ c.in-Ok-open_station.end _ c.in-Err.obstacle c.in-Ok-open_station.ensures.tried cause
     (c.finish_at.ensures (told_by c.in-Ok-open_station.end _ c.in-Err.obstacle cause)))
 
 pub returns-in-Ok-serve-clause-runs : goal.returns-in-Ok-serve-clause-runs
@@ -23,7 +22,6 @@ returns-in-Ok-serve-clause-runs g c =
 
 pub returns-clause-runs : goal.returns-clause-runs
 returns-clause-runs g c =
-    let budget = c.args.orders.budget in
     let judged = c.in-Ok-judge.ensures in
     let opens = subst (λ (end : FileEnd). OpensStation c.args.name.now (g.O.Outside.state c.args.outside.now) (g.O.Outside.state c.open_station.new.outside) end c.open_station.new.text.items) judged.0 c.in-Ok-open_station.ensures.tried in
-    inr (ends_unserved c.args.name.now budget.during budget.after c.args.orders.limit _ _ _ _ _ _ c.in-Ok-judge.station _ c.in-Err-serve.ending opens (subst (λ (b : List ℕ). Says b c.in-Ok-judge.station) c.as_slice.ensures.value judged.1) c.in-Err-serve.ensures.tried c.finish-in-Err-serve.ensures)
+    inr (ends_unserved c.args.name.now c.args.orders _ _ _ _ _ _ c.in-Ok-judge.station _ c.in-Err-serve.ending opens (subst (λ (b : List ℕ). Says b c.in-Ok-judge.station) c.as_slice.ensures.value judged.1) c.in-Err-serve.ensures.tried c.finish-in-Err-serve.ensures)

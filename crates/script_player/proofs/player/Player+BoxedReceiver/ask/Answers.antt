@@ -6,11 +6,11 @@ use Rattle.script_player.proofs.PlayerLaws.{asks-server, still-servers}
 use Rattle.script_player.proofs.player.Player+BoxedReceiver.ask.Goals as goal
 
 pub returns-in_err-request-clause-plays : goal.returns-in_err-request-clause-plays
-returns-in_err-request-clause-plays g c station limit before h =
+returns-in_err-request-clause-plays g c of before h =
     let p = err_from_is_err_and c.from_residual.result c.from_residual.ensures.1 in
-    rw p.1 (still-servers _ c.args.self.now _ station limit before _ refl refl refl refl refl (c.in_err-request.ensures.asked station (lines_of before) h.servers) h)
+    rw p.1 (still-servers _ c.args.self.now _ of before _ refl refl refl refl refl (c.in_err-request.ensures.asked of.station (lines_of before) h.servers) h)
 
 pub returns-clause-plays : goal.returns-clause-plays
-returns-clause-plays g c station limit before h =
-    asks-server _ c.args.self.now _ station limit before c.args.feed c.args.at c.in_ok-request.request
-    (c.in_ok-request.ensures.asked station (lines_of before) h.servers) c.in_ok-request.ensures.request refl refl refl refl refl h
+returns-clause-plays g c of before h =
+    asks-server _ c.args.self.now _ of before c.args.feed c.args.at c.in_ok-request.request
+    (c.in_ok-request.ensures.asked of.station (lines_of before) h.servers) c.in_ok-request.ensures.request refl refl refl refl refl h

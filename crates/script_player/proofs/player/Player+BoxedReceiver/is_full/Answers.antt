@@ -4,4 +4,4 @@ use Rattle.script_player.specs.Replay.{due, lines_of}
 use Rattle.script_player.proofs.player.Player+BoxedReceiver.is_full.Goals as goal
 
 pub returns : goal.returns
-returns g c station limit before h = c.is_full.ensures (settings_of station) limit (due station (lines_of before)) h.journal
+returns g c of before h = c.is_full.ensures (settings_of of.station) of.limit (due of.station (lines_of before)) h.journal

@@ -3,19 +3,19 @@ use Rattle.std.proofs.Common.{refl}
 use Rattle.script_player.proofs.player.Player+BoxedReceiver.play.Goals as goal
 
 pub returns-in-Pulse-clause-plays : goal.returns-in-Pulse-clause-plays
-returns-in-Pulse-clause-plays g c station limit before h = rw c.in-Pulse.is (c.hear.ensures.plays station limit before h)
+returns-in-Pulse-clause-plays g c of before h = rw c.in-Pulse.is (c.hear.ensures.plays of before h)
 
 pub returns-in-Ask-clause-plays : goal.returns-in-Ask-clause-plays
-returns-in-Ask-clause-plays g c station limit before h = rw c.in-Ask.is (c.ask.ensures.plays station limit before h)
+returns-in-Ask-clause-plays g c of before h = rw c.in-Ask.is (c.ask.ensures.plays of before h)
 
 pub returns-in-Answer-clause-plays : goal.returns-in-Answer-clause-plays
-returns-in-Answer-clause-plays g c station limit before h = rw c.in-Answer.is (c.answer.ensures.plays station limit before h)
+returns-in-Answer-clause-plays g c of before h = rw c.in-Answer.is (c.answer.ensures.plays of before h)
 
 pub returns-in-Swap-clause-plays : goal.returns-in-Swap-clause-plays
-returns-in-Swap-clause-plays g c station limit before h = rw c.in-Swap.is (c.swap.ensures.plays station limit before h)
+returns-in-Swap-clause-plays g c of before h = rw c.in-Swap.is (c.swap.ensures.plays of before h)
 
 pub returns-in-Request-clause-plays : goal.returns-in-Request-clause-plays
-returns-in-Request-clause-plays g c station limit before h = rw c.in-Request.is (refl, c.reply.ensures.given station limit before h)
+returns-in-Request-clause-plays g c of before h = rw c.in-Request.is (refl, c.reply.ensures.given of before h)
 
 pub returns-in-Leap-clause-plays : goal.returns-in-Leap-clause-plays
-returns-in-Leap-clause-plays g c station limit before h = rw c.in-Leap.is (c.tell.ensures.plays station limit before h)
+returns-in-Leap-clause-plays g c of before h = rw c.in-Leap.is (c.tell.ensures.plays of before h)

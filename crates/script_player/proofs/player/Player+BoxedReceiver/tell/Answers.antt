@@ -6,11 +6,11 @@ use Rattle.script_player.proofs.PlayerLaws.{still-leap, tells-leap}
 use Rattle.script_player.proofs.player.Player+BoxedReceiver.tell.Goals as goal
 
 pub returns-in_err-entry-clause-plays : goal.returns-in_err-entry-clause-plays
-returns-in_err-entry-clause-plays g c station limit before h =
+returns-in_err-entry-clause-plays g c of before h =
     let p = err_from_is_err_and c.from_residual.result c.from_residual.ensures.1 in
-    rw p.1 (still-leap _ c.args.self.now _ station limit before _ refl refl refl refl refl (c.in_err-entry.ensures.told station (lines_of before) h.leap) h)
+    rw p.1 (still-leap _ c.args.self.now _ of before _ refl refl refl refl refl (c.in_err-entry.ensures.told of.station (lines_of before) h.leap) h)
 
 pub returns-clause-plays : goal.returns-clause-plays
-returns-clause-plays g c station limit before h =
-    tells-leap _ c.args.self.now _ station limit before c.args.feed c.args.at c.args.leap_at c.in_ok-entry.entry c.take.result
-    (c.in_ok-entry.ensures.told station (lines_of before) h.leap) refl refl refl refl c.take.ensures.kept c.take.ensures.outcome h
+returns-clause-plays g c of before h =
+    tells-leap _ c.args.self.now _ of before c.args.feed c.args.at c.args.leap_at c.in_ok-entry.entry c.take.result
+    (c.in_ok-entry.ensures.told of.station (lines_of before) h.leap) refl refl refl refl c.take.ensures.kept c.take.ensures.outcome h
