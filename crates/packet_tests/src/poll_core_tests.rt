@@ -298,8 +298,8 @@ fn each_version(rt: HostRuntime) -> Result<(), Fail> {
     Ok(())
 }
 
-// What the table does not speak of: the poll, the reference ID, and a reference timestamp that is later than the transmit timestamp,
-// which RFC 5905's own check of a header refuses (appendix A.5.1.1).
+// No row speaks of the poll, the reference ID or the reference timestamp. RFC 5905's own check refuses a reference timestamp after the
+// transmit timestamp (appendix A.5.1.1); this table does not.
 #[test]
 fn what_no_row_speaks_of_is_taken(rt: HostRuntime) -> Result<(), Fail> {
     let later = [0xed, 0x00, 0xe1, 0x31, 0x00, 0x20, 0xc4, 0x9c];

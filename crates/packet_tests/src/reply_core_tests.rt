@@ -137,8 +137,8 @@ fn a_leap_second_is_announced(rt: HostRuntime) -> Result<(), Fail> {
     Ok(())
 }
 
-// At 304 s second 3976257842 begins. With it begins the warning of a leap second that ends a day later, and ends that of the one
-// that ends there. A request that came in the second before is answered by the second at sending.
+// Second 3976257842 begins at 304 s. Then the warning of a leap second that ends a day later begins, and that of one that ends there is
+// over. A request of the second before is answered by the moment of sending.
 #[test]
 fn a_leap_second_is_announced_by_the_moment_of_sending(rt: HostRuntime) -> Result<(), Fail> {
     for (leap_at, before, after) in [(3_976_344_242, 0x24, 0x64), (3_976_257_842, 0x64, 0x24)] {
