@@ -138,6 +138,14 @@ ends 5 'status 5 line 0 2' decode --plan dcf --log "$work/log"
 # A station file of one byte more than 65536, all of it a comment.
 { printf '#'; head -c 65536 /dev/zero | tr '\0' ' '; } > "$work/station"
 ends 10 'status 10 long station' replay --station "$work/station" --script examples/exchange.script
+# A journal that `migrate` takes has up to 4194304 lines, here of 20 bytes each; a line more is told as a full one.
+yes '0 5 lone 3976257600' | head -n 4194304 > "$work/journal"
+ends 0 'status 0' migrate --station examples/station.toml --journal "$work/journal"
+wrote 'j2 4194304 0 0 5 lone 3976257600$'
+wrote 'page 4194304 0 0 494e4954 0 5 0 '
+echo '0 5 lone 3976257600' >> "$work/journal"
+ends 6 'status 6 full 4194304' migrate --station examples/station.toml --journal "$work/journal"
+rm "$work/journal"
 # Standard streams that are closed: nothing is written to the file that is opened next, and the text can't be taken.
 checked=$((checked + 1))
 ./radio_ntpd decode --plan dcf --log examples/dcf77-hour.log >&-

@@ -5,8 +5,8 @@ from typing import Iterator
 from ..entries import Entry
 from ..units import LEAST_DISPERSION
 from .case import Case
-from .journals import of, sample
-from .migrate_pages import MINUTE, SERVER, eight
+from .journals import of, sample, verdict
+from .migrate_pages import DCF, MINUTE, SERVER, eight
 
 
 def selections() -> Iterator[Case]:
@@ -61,6 +61,11 @@ def clusters() -> Iterator[Case]:
         *eight(2, 300, at=2 * MINUTE),
     ]
     yield of("the newest sample isn't the peer's", SERVER * 3, late)
+    false = [*eight(0), *eight(1, 50), *eight(2, 2**31, at=3 * MINUTE)]
+    yield of("the newest sample is a false source's", SERVER * 3, false, "page: some falsetickers")
+    nearer = [verdict(0, 60 * i, 3000 * (i == 4)) for i in range(1, 5)]
+    nearer += [sample(1, (200 + 5 * i) * 10**6, 1000 * i, delay=3 * 10**7) for i in range(8)]
+    yield of("a peer that is farther than a source of another rate", DCF + SERVER, nearer, "page: the peer is dcf")
 
 
 def all_of() -> Iterator[Case]:

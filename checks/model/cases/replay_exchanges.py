@@ -43,6 +43,12 @@ def refusals() -> Iterator[Case]:
         yield answered(
             f"an answer of stratum {stratum}", answer(ASKED, stratum=stratum), None if 1 <= stratum <= 15 else 8
         )
+    sent = BASE + local_span(ASKED)
+    for reference in (1, sent, sent + 2**32, 2**63, 2**64 - 1):
+        yield answered(f"an answer of reference timestamp {reference}", answer(ASKED, reference=reference), None)
+    for name, values in (("poll", (-128, 0, 3, 18, 127)), ("refid", (0, 0x52415445, 2**32 - 1))):
+        for value in values:
+            yield answered(f"an answer of {name} {value}", answer(ASKED, **{name: value}), None)
     for name in ("receive", "transmit"):
         yield answered(f"an answer whose {name} timestamp is 0", answer(ASKED, **{name: 0}), 9)
         yield answered(f"an answer whose {name} timestamp is 1", answer(ASKED, **{name: 1}), None)

@@ -66,7 +66,9 @@ def leaps() -> Iterator[Case]:
     toml = station(["dcf", "leap"], 16000)
     # The counter began at BEGAN, so a leap second at BEGAN + n has its moment at n seconds.
     for seconds in (86762, 86763, 86764, 86765, 400, 364, 363, 362):
-        lines = [request(arrived=at, sent=at) for at in (363 * 10**6 - 1, 363 * 10**6, 364 * 10**6 - 1, 364 * 10**6)]
+        moments = (363 * 10**6 - 1, 363 * 10**6, 364 * 10**6 - 1, 364 * 10**6)
+        # The indicator is that of the moment of sending.
+        lines = [request(arrived=one, sent=at) for at in moments for one in moments if one <= at]
         near = [f"leap 1 {ANCHOR} {BEGAN + seconds}"]
         yield of(
             f"a leap second {seconds} s on",

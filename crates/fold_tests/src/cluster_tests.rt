@@ -163,6 +163,15 @@ fn one_after_another_is_discarded(rt: HostRuntime) -> Result<(), Fail> {
     check(&rt, &six, &[0, 2, 4], 1)
 }
 
+// The one at 100 agrees with itself to the unit. It goes, and has no say then: of the four that are left the selection jitters are
+// 533, 533, 533 and 1600, and each one's own is greater.
+#[test]
+fn a_discarded_one_has_no_say(rt: HostRuntime) -> Result<(), Fail> {
+    let near = of_a_radio(0, 2000);
+    let five = [of_a_radio(100, 0), near, near, near, of_a_radio(40, 2000)];
+    check(&rt, &five, &[1, 2, 3, 4], 10)
+}
+
 // Weights are 2^62 divided by the distance, and the mean is rounded down.
 #[test]
 fn the_nearer_weighs_more(rt: HostRuntime) -> Result<(), Fail> {

@@ -3,7 +3,7 @@ use crate::journals::{DCF, MSF, Odd, SERVER, WWVB, is_the_page};
 use std::test::Fail;
 
 // Second 3692217060 is 2016-12-31 23:51.
-const SOURCES: [Odd<'static>; 11] = [
+const SOURCES: [Odd<'static>; 12] = [
     Odd {
         why: "nine samples of one radio",
         kinds: &[DCF],
@@ -148,6 +148,25 @@ const SOURCES: [Odd<'static>; 11] = [
             "1 303950826 declined 3",
         ],
         line: "page 5 1 1 44434600 15857950998447259648 303950826 4357702454 0 61551 dc12c39800000000 0 0",
+    },
+    Odd {
+        why: "the rate is the system peer's, a radio's, and not that of a server that is nearer",
+        kinds: &[DCF, SERVER],
+        entries: &[
+            "0 122000000 verdict 3692217060 0",
+            "0 182000000 verdict 3692217120 0",
+            "0 242000000 verdict 3692217180 0",
+            "0 302003000 verdict 3692217240 0",
+            "1 262000000 sample 15857950998447259648 30000000 8837 2 0a000001 256 512",
+            "1 267000000 sample 15857950998447260648 30000000 8837 2 0a000001 256 512",
+            "1 272000000 sample 15857950998447261648 30000000 8837 2 0a000001 256 512",
+            "1 277000000 sample 15857950998447262648 30000000 8837 2 0a000001 256 512",
+            "1 282000000 sample 15857950998447263648 30000000 8837 2 0a000001 256 512",
+            "1 287000000 sample 15857950998447264648 30000000 8837 2 0a000001 256 512",
+            "1 292000000 sample 15857950998447265648 30000000 8837 2 0a000001 256 512",
+            "1 297000000 sample 15857950998447266648 30000000 8837 2 0a000001 256 512",
+        ],
+        line: "page 12 1 1 44434600 15857950998447086200 302003000 4164511139 0 61739 dc12c39800c1f61d 0 -71582",
     },
     Odd {
         why: "a server of stratum 15",

@@ -36,7 +36,7 @@ fn with_rate(offset: Span, leap_at: u64, rate: i32) -> Result<Page, Fail>
 }
 
 // The same, where the counter began 62 s before noon of 2026-01-01.
-fn of_2026(leap_at: u64) -> Result<Page, Fail> {
+pub(crate) fn of_2026(leap_at: u64) -> Result<Page, Fail> {
     of_a_radio(Span::from_seconds(3_976_257_538), leap_at)
 }
 

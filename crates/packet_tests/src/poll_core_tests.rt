@@ -40,6 +40,12 @@ const ANSWER: [u8; 48] = [
 // Where the fields of a header begin.
 const STRATUM: usize = 1;
 
+const POLL: usize = 2;
+
+const REFERENCE_ID: usize = 12;
+
+const REFERENCE: usize = 16;
+
 pub(crate) const ROOT_DISP: usize = 8;
 
 pub(crate) const RECEIVE: usize = 32;
@@ -288,6 +294,24 @@ fn each_version(rt: HostRuntime) -> Result<(), Fail> {
         datagram[..48].copy_from_slice(&with(0, &[first]));
         let found = answered(SERVER, &datagram)?;
         assert_eq!(rt; found, Ok(sample(OFFSET, DELAY, DISPERSION)), "{first}");
+    }
+    Ok(())
+}
+
+// No row speaks of the poll, the reference ID or the reference timestamp. RFC 5905's own check refuses a reference timestamp after the
+// transmit timestamp (appendix A.5.1.1); this table does not.
+#[test]
+fn what_no_row_speaks_of_is_taken(rt: HostRuntime) -> Result<(), Fail> {
+    let later = [0xed, 0x00, 0xe1, 0x31, 0x00, 0x20, 0xc4, 0x9c];
+    for bytes in [
+        with(POLL, &[0x00]),
+        with(POLL, &[0x80]),
+        with(REFERENCE_ID, b"RATE"),
+        with(REFERENCE, &later),
+        with(REFERENCE, &[0xff; 8]),
+    ] {
+        let found = answered(SERVER, &bytes)?;
+        same(&rt, found, Ok(sample(OFFSET, DELAY, DISPERSION)));
     }
     Ok(())
 }

@@ -1,6 +1,7 @@
 //! Requests and their answers, byte by byte.
 ghost use Rattle.std.specs.Prelude.{◌≤◌};
 
+use crate::clock_page_tests::of_2026;
 use crate::shared::{ANSWER, REQUEST, moment, of_a_radio, same};
 use clock_page::Page;
 use reply_core::{Dropped, reply};
@@ -133,6 +134,26 @@ fn a_leap_second_is_announced(rt: HostRuntime) -> Result<(), Fail> {
     let after = answered(&page, &REQUEST, 362_000_000, 362_000_000)?;
     assert!(rt; begins(last, [0x64, 0x01, 0x06, 0xec], *b"DCF\0"));
     assert!(rt; begins(after, [0xe4, 0x00, 0x06, 0xec], *b"INIT"));
+    Ok(())
+}
+
+// Second 3976257842 begins at 304 s. Then the warning of a leap second that ends a day later begins, and that of one that ends there is
+// over. A request of the second before is answered by the moment of sending.
+#[test]
+fn a_leap_second_is_announced_by_the_moment_of_sending(rt: HostRuntime) -> Result<(), Fail> {
+    for (leap_at, before, after) in [(3_976_344_242, 0x24, 0x64), (3_976_257_842, 0x64, 0x24)] {
+        let page = of_2026(leap_at)?;
+        let early = answered(&page, &REQUEST, 303_999_999, 303_999_999)?;
+        let across = answered(&page, &REQUEST, 303_999_999, 304_000_000)?;
+        assert!(rt;
+            begins(early, [before, 0x01, 0x06, 0xec], *b"DCF\0"),
+            "{leap_at}"
+        );
+        assert!(rt;
+            begins(across, [after, 0x01, 0x06, 0xec], *b"DCF\0"),
+            "{leap_at}"
+        );
+    }
     Ok(())
 }
 
