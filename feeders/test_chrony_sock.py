@@ -134,6 +134,20 @@ class Ends(unittest.TestCase):
         self.assertEqual(self.run_it(b"0 5 lone 7\n\xff\n", "/nosuch"), (1, "decode ended without its status line\n"))
         self.assertEqual(self.run_it(b"")[0], 2)
 
+    def test_the_delay_that_was_asked_for(self):
+        """A minute that began a second ago by its log began 50 ms before that, where the signal was 50 ms under way."""
+        with tempfile.TemporaryDirectory() as folder, socket.socket(socket.AF_UNIX, socket.SOCK_DGRAM) as chrony:
+            path = os.path.join(folder, "radio.sock")
+            chrony.bind(path)
+            chrony.settimeout(5)
+            for words, delay in (((), 0), (("--delay", "50000"), 50_000)):
+                with self.subTest(delay=delay):
+                    unix, monotonic = time.time_ns() // 1000, time.monotonic_ns() // 1000
+                    line = f"0 {monotonic - 1_000_000} verdict {NOON} 0\nstatus 0\n"
+                    self.assertEqual(self.run_it(line.encode(), path, "--fresh", "60", *words), (0, ""))
+                    seconds, part, *_ = struct.unpack("<qqdiiii", chrony.recv(100))
+                    self.assertAlmostEqual(seconds * 1_000_000 + part, unix - 1_000_000 - delay, delta=20_000)
+
     def test_signals(self):
         # A test that a shell put into the background has SIGINT ignored, and what it starts would too.
         self.addCleanup(signal.signal, signal.SIGINT, signal.signal(signal.SIGINT, signal.default_int_handler))

@@ -90,6 +90,8 @@ class Reloads(Crews):
         self.assertFalse(Keeper._reload(keeper))
         self.assertEqual(self.crew.refused, f"state: it is {self.folder}/other now, for which the keeper has to be started anew")
         self.assertEqual(self.crew.state.alarms[-1].event, "file-refused")
+        # systemd ends a service whose reload isn't over in time.
+        self.assertEqual([name for name, *_ in self.crew.notify.method_calls], ["reloading", "ready"])
 
 
 class Renewals(Crews):

@@ -5,10 +5,12 @@ import os
 import pathlib
 import shutil
 import tempfile
+import time
 import unittest
 from unittest import mock
 
-from keeper.pulse_log import PulseLog, compress, oldest_kept
+from keeper.journals import name_of
+from keeper.pulse_log import PulseLog, compress, day_of, oldest_kept
 
 DAY = 86400
 
@@ -38,6 +40,15 @@ class Logs(unittest.TestCase):
         self.assertEqual(self.names(), [f"0-dcf.1970010{day}.b0070001.log{end}" for day, end in ((3, ".gz"), (4, ".gz"), (5, ".gz"), (6, ""))])
         self.assertEqual(gzip.decompress((self.folder / "0-dcf.19700104.b0070001.log.gz").read_bytes()), b"31 1\n32 1\n")
         self.assertEqual(self.said, [])
+
+    def test_days_are_those_of_utc_whatever_zone_the_host_has(self):
+        """Half past eleven in the evening of UTC is the next day in a zone 14 hours ahead, and half past noon in one 11 hours after it."""
+        self.addCleanup(time.tzset)
+        for zone in ("XXX-14", "XXX+11", "UTC0"):
+            with self.subTest(zone=zone), mock.patch.dict(os.environ, TZ=zone):
+                time.tzset()
+                self.assertEqual([day_of(unix) for unix in (0.0, DAY - 1800.0, DAY)], ["19700101", "19700101", "19700102"])
+                self.assertEqual(name_of(DAY - 1800.0), "19700101T233000Z")
 
     def test_the_first_day_that_is_kept(self):
         for there, today, due in (([], "20260301", "20260226"), (["20260228"], "20260301", "20260226"), (["20260201", "20260301"], "20260301", "20260130"),

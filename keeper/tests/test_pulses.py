@@ -3,6 +3,7 @@
 import os
 import pathlib
 import tempfile
+import threading
 import time
 import unittest
 
@@ -190,6 +191,20 @@ class Outlets(unittest.TestCase):
         self.outlet.give([Pulse(NOW + place, 100_000) for place in range(2 * PENDING // 18)])
         self.assertTrue(self.outlet.broken)
         self.outlet.close(0.01)
+
+    def test_a_pipe_that_is_full_is_closed_at_the_end_of_a_line(self):
+        """Its reader goes on a little after the close began."""
+        given, got = [], []
+        while not self.outlet.pending:
+            given += (pulses := [Pulse(NOW + len(given) + place, 100_000) for place in range(100)])
+            self.outlet.give(pulses)
+        reader = threading.Timer(0.05, lambda: got.append(os.read(self.taken, 65536)))
+        reader.start()
+        self.outlet.close(20)
+        reader.join()
+        while piece := os.read(self.taken, 65536):
+            got.append(piece)
+        self.assertEqual(b"".join(got), b"".join(b"%d 100000\n" % (pulse.start - 250) for pulse in given))
 
     def test_a_reader_that_has_gone(self):
         taken, given = pipe()

@@ -1,0 +1,98 @@
+#!/usr/bin/env python3
+"""Tests of serial_edges.py over a port that is none: which bits of Linux's modem lines it puts and looks at, and by which clock it stamps.
+
+    feeders/test_serial_edges.py
+
+The numbers are those of Linux for x86 (asm-generic/ioctls.h and termios.h). A port's own hardware isn't run here.
+"""
+
+import contextlib
+import errno
+import io
+import pathlib
+import sys
+import time
+import unittest
+from unittest import mock
+
+HERE = pathlib.Path(__file__).resolve().parent
+sys.path.insert(0, str(HERE))
+
+import serial_edges  # noqa: E402
+
+GET, PUT_ON, PUT_OFF, WAIT = 0x5415, 0x5416, 0x5417, 0x545C
+DTR, RTS = 0x002, 0x004
+INPUTS = {"dcd": 0x040, "cts": 0x020, "dsr": 0x100, "ri": 0x080}
+ALL_INPUTS = sum(INPUTS.values())
+
+
+class Port:
+    """A port as the kernel has it: `outputs` are the bits of its output lines, `inputs` those that each look finds in turn."""
+
+    def __init__(self, outputs: int, inputs: list[int]) -> None:
+        self.outputs, self.inputs, self.waited = outputs, inputs, set()
+
+    def ioctl(self, _port: int, request: int, given) -> None:
+        if request == PUT_ON:
+            self.outputs |= given[0]
+        elif request == PUT_OFF:
+            self.outputs &= ~given[0]
+        elif request == WAIT:
+            self.waited.add(given)
+            if not self.inputs:
+                raise OSError(errno.EIO, "Input/output error")  # it is unplugged
+        elif request == GET:
+            given[0] = self.inputs.pop(0) | self.outputs
+        else:
+            raise AssertionError(f"request {request:#x}")
+
+
+class Ports(unittest.TestCase):
+    def watch(self, port: Port, *words: str) -> list[str]:
+        """What is printed of a port until it is unplugged."""
+        out, said = io.StringIO(), io.StringIO()
+        fakes = (
+            mock.patch("serial_edges.fcntl.ioctl", port.ioctl),
+            mock.patch("serial_edges.signal.signal"),
+            mock.patch.object(sys, "argv", ["serial_edges.py", "/dev/null", *words]),
+            contextlib.redirect_stdout(out),
+            contextlib.redirect_stderr(said),
+        )
+        with contextlib.ExitStack() as stack:
+            for one in fakes:
+                stack.enter_context(one)
+            self.assertEqual(serial_edges.main(), 1)
+        self.assertIn("it was unplugged", said.getvalue())
+        return out.getvalue().splitlines()
+
+    def test_output_lines_are_put_on_and_off(self):
+        """A receiver has its power from them."""
+        for words, before, after in (
+            ((), RTS, RTS), (("--dtr", "on"), 0, DTR), (("--dtr", "off"), DTR | RTS, RTS), (("--rts", "on"), DTR, DTR | RTS), (("--rts", "off"), DTR | RTS, DTR),
+            (("--dtr", "on", "--rts", "off"), RTS, DTR),
+        ):
+            with self.subTest(words=words):
+                port = Port(before, [0])
+                self.assertEqual(self.watch(port, *words), [])
+                self.assertEqual(port.outputs, after)
+
+    def test_the_line_that_was_asked_for_is_watched(self):
+        for name, bit in INPUTS.items():
+            with self.subTest(name=name):
+                # The others change too, and nothing is said of them.
+                port = Port(0, [0, ALL_INPUTS & ~bit, bit, ALL_INPUTS, 0])
+                edges = [line.split()[1] for line in self.watch(port, "--line", name)]
+                self.assertEqual((edges, port.waited), (["rising", "falling"], {bit}))
+        self.assertEqual(len(self.watch(Port(0, [0, INPUTS["dcd"]]))), 1)
+
+    def test_an_edge_has_its_moment_by_the_monotonic_clock(self):
+        began = time.monotonic_ns()
+        (line,) = self.watch(Port(0, [0, INPUTS["dcd"]]))
+        whole, part = line.split()[0].split(".")
+        self.assertEqual(len(part), 9)
+        self.assertTrue(began <= int(whole) * 10**9 + int(part) <= time.monotonic_ns(), line)
+
+
+if __name__ == "__main__":
+    sys.dont_write_bytecode = True
+    unittest.main()

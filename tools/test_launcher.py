@@ -1,0 +1,91 @@
+#!/usr/bin/env python3
+"""Tests of the launcher ./radio_ntpd over a build that only notes that it was asked for: python3 -B tools/test_launcher.py"""
+
+import os
+import shutil
+import subprocess
+import tempfile
+import time
+import unittest
+from pathlib import Path
+
+TOP = Path(__file__).resolve().parent.parent
+# Prints each of its arguments in a line of its own, and ends with 5.
+PROGRAM = """#!/bin/sh
+for one; do printf '<%s>\\n' "$one"; done
+exit 5
+"""
+# Stands in the place of tools/build_program.py: makes the program unless it is to fail.
+BUILD = """import os, pathlib, shutil, sys
+top = pathlib.Path(__file__).resolve().parent.parent
+with open(top / "builds", "a") as notes:
+    notes.write("built\\n")
+if os.environ.get("BUILD_FAILS"):
+    sys.exit(int(os.environ["BUILD_FAILS"]))
+(top / "crates/radio_ntpd/out").mkdir(exist_ok=True)
+shutil.copy(top / "made", top / "crates/radio_ntpd/out/radio_ntpd")
+"""
+
+
+class Launches(unittest.TestCase):
+    def setUp(self):
+        self.top = Path(tempfile.mkdtemp()) / "a place"
+        self.addCleanup(shutil.rmtree, self.top.parent)
+        for name in ("radio_ntpd", "low", "some_tests"):
+            (self.top / "crates" / name / "src").mkdir(parents=True)
+            (self.top / "crates" / name / "src" / "lib.rt").write_text("//! A crate.\n")
+        (self.top / "crates.txt").write_text("low:\nradio_ntpd: low\nsome_tests: low\n")
+        (self.top / "README.md").write_text("A page.\n")
+        (self.top / "tools").mkdir()
+        (self.top / "tools" / "build_program.py").write_text(BUILD)
+        (self.top / "made").write_text(PROGRAM)
+        (self.top / "made").chmod(0o755)
+        shutil.copy(TOP / "radio_ntpd", self.top)
+        for file in self.top.rglob("*"):
+            self.is_made(file, 1000)
+        self.program = self.top / "crates/radio_ntpd/out/radio_ntpd"
+
+    def is_made(self, file: Path, ago: float) -> None:
+        """Has a file as old as this number of seconds."""
+        then = time.time() - ago
+        os.utime(file, (then, then))
+
+    def run_it(self, *words: str, **more: str) -> tuple[int, str]:
+        done = subprocess.run([self.top / "radio_ntpd", *words], env={**os.environ, **more}, stdin=subprocess.DEVNULL, capture_output=True, text=True, timeout=60)
+        return done.returncode, done.stdout
+
+    def builds(self) -> int:
+        notes = self.top / "builds"
+        return len(notes.read_text().splitlines()) if notes.exists() else 0
+
+    def test_arguments_and_status_are_handed_on_as_they_are(self):
+        words = ("decode", "--log", "two words", "", "*", "a\nb", "$HOME", "--", "\\n")
+        self.assertEqual(self.run_it(*words), (5, "".join(f"<{one}>\n" for one in words)))
+        self.assertEqual(self.run_it(), (5, ""))
+        self.assertEqual(self.builds(), 1)
+
+    def test_it_is_built_again_where_a_source_is_newer(self):
+        self.run_it()
+        for file, builds in (("crates/low/src/lib.rt", 1), ("crates.txt", 1), ("crates/radio_ntpd/src/lib.rt", 1), ("crates/some_tests/src/lib.rt", 0), ("README.md", 0)):
+            with self.subTest(file=file):
+                self.is_made(self.program, 500)
+                before = self.builds()
+                self.run_it()
+                self.assertEqual(self.builds(), before)
+                self.is_made(self.top / file, 100)
+                self.run_it()
+                self.assertEqual(self.builds(), before + builds)
+                self.is_made(self.top / file, 1000)
+
+    def test_a_program_is_not_run_that_its_sources_no_longer_give(self):
+        self.run_it()
+        self.is_made(self.program, 500)
+        self.is_made(self.top / "crates/low/src/lib.rt", 100)
+        for _ in range(2):
+            self.assertEqual(self.run_it("drill", BUILD_FAILS="70"), (70, ""))
+        self.assertEqual(self.run_it("drill"), (5, "<drill>\n"))
+        self.assertEqual(self.builds(), 4)
+
+
+if __name__ == "__main__":
+    unittest.main()
