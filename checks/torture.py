@@ -13,6 +13,7 @@ import argparse
 import multiprocessing
 import os
 import pathlib
+import queue
 import random
 import sys
 import tempfile
@@ -21,6 +22,7 @@ import time
 import grammar
 
 from fuzzed_kinds import Kind, kinds
+from limited_runner import LONGEST, Runner
 from spoils import spoil
 
 SEED = 2026
@@ -72,7 +74,12 @@ def judge_all(count: int, seconds: float, seed: int) -> int:
             one.start()
         done = bad = ended = 0
         while ended < workers:
-            name, number, why = told.get()
+            try:
+                name, number, why = told.get(timeout=LONGEST)
+            except queue.Empty:
+                if any(one.is_alive() for one in pool):
+                    continue
+                sys.exit(f"torture.py: {workers - ended} of {workers} workers have ended before their time")
             if name is None:
                 done, ended = done + number, ended + 1
             else:
