@@ -112,7 +112,7 @@ says 2 'status 2 open feed 1' 'radio_ntpd: cannot open feed 1 (nosuch): there is
 # A process that may have four files open has its second server's link refused.
 printf "$server$(echo "$server" | sed 's/4123/4124/')" > "$work/station"
 messages=$((messages + 1))
-(ulimit -n 4 && exec "$program" serve --station "$work/station") > "$work/out" 2> "$work/said" < /dev/null
+(ulimit -n 4 && exec "$program" serve --station "$work/station") > "$work/out" 2> "$work/said" < /dev/null 3>&-
 told=$?
 [ "$told:$(cat "$work/said")" = '2:radio_ntpd: cannot open feed 1 (192.0.2.9 port 4124): the host refuses it' ] ||
     wrong "a server's link that can't be opened ends with $told and says '$(cat "$work/said")'"
@@ -292,7 +292,8 @@ printf '[[link]]\nport = %s\n' "$port" > "$work/station"
 "$program" serve --station "$work/station" --during 2 <&- >&- 2>&- &
 server=$!
 waited=0
-while [ ! -e "/proc/$server/fd/3" ] && [ "$waited" -lt 50 ]; do
+# Its link has number 3, or one that wasn't held.
+until [ -e "/proc/$server/fd/3" ] || readlink "/proc/$server/fd/"[012] | grep -q socket || [ "$waited" -ge 50 ]; do
     sleep 0.1
     waited=$((waited + 1))
 done
