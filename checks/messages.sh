@@ -51,6 +51,10 @@ python3 -B checks/texts.py || bad=1
 # Nothing is said where nothing is wrong.
 says 0 'status 0' '' decode --plan dcf --log examples/dcf77-hour.log
 says 0 'status 0' '' drill --seed 7
+# A log whose one whole minute is alone gave a minute too.
+awk '$1 < 68000000' examples/dcf77-hour.log > "$work/log"
+says 0 'status 0' '' decode --plan dcf --log "$work/log"
+grep -q ' lone ' "$work/out" || wrong 'there is no lone minute'
 
 # The help is one screen, and the version names the kit.
 for word in --help -h help; do
@@ -77,6 +81,7 @@ usage 'radio_ntpd: --seed has no value' drill --seed -1
 usage 'radio_ntpd: no command' --seed 7
 usage 'radio_ntpd: unknown command server' server
 usage 'radio_ntpd: two commands, serve and decode' serve decode
+usage 'radio_ntpd: two commands, serve and --station' serve -- --station a
 usage 'radio_ntpd: --seed is given twice' drill --seed 7 --seed=8
 usage 'radio_ntpd: drill has no option --log' drill --seed 7 --log a
 usage 'radio_ntpd: decode needs --log' decode --plan dcf
@@ -96,6 +101,21 @@ long=$(printf '%0300d' 0)
 says 2 'status 2 open feed 0' "radio_ntpd: cannot open feed 0 ($long): the host refuses it" decode --plan dcf --log "$long"
 printf 'leap_file = "nosuch.list"\n[[radio]]\nplan = "dcf"\nlog = "examples/dcf77-hour.log"\n' > "$work/station"
 says 2 'status 2 open feed 1' 'radio_ntpd: cannot open feed 1 (nosuch.list): there is no such file' serve --station "$work/station"
+# Feeds are the radios, the servers and then the leap second file; each is named, also of a station of many bytes.
+radio='[[radio]]\nplan = "dcf"\nlog = "examples/dcf77-hour.log"\n'
+server='[[server]]\naddress = "192.0.2.9"\nport = 4123\npolls = 0\n'
+{ printf "leap_file = \"nosuch.list\"\n$radio$server$server"; printf '#%9000s\n' ''; } > "$work/station"
+says 2 'status 2 open feed 3' 'radio_ntpd: cannot open feed 3 (nosuch.list): there is no such file' serve --station "$work/station"
+printf '#%9000s\n' '' > "$work/station"
+printf "$radio[[radio]]\nplan = \"msf\"\nlog = \"nosuch\"\n" >> "$work/station"
+says 2 'status 2 open feed 1' 'radio_ntpd: cannot open feed 1 (nosuch): there is no such file' serve --station "$work/station"
+# A process that may have four files open has its second server's link refused.
+printf "$server$(echo "$server" | sed 's/4123/4124/')" > "$work/station"
+messages=$((messages + 1))
+(ulimit -n 4 && exec "$program" serve --station "$work/station") > "$work/out" 2> "$work/said" < /dev/null 3>&-
+told=$?
+[ "$told:$(cat "$work/said")" = '2:radio_ntpd: cannot open feed 1 (192.0.2.9 port 4124): the host refuses it' ] ||
+    wrong "a server's link that can't be opened ends with $told and says '$(cat "$work/said")'"
 # A station that comes by a pipe can't be read once more, so its names are left out.
 messages=$((messages + 1))
 printf '[[radio]]\nplan = "dcf"\nlog = "nosuch"\n' | "$program" serve --station /dev/stdin > "$work/out" 2> "$work/said"
@@ -103,6 +123,9 @@ printf '[[radio]]\nplan = "dcf"\nlog = "nosuch"\n' | "$program" serve --station 
 port=$(python3 -B -c 'import socket; s = socket.socket(socket.AF_INET, socket.SOCK_DGRAM); s.bind(("127.0.0.1", 0)); print(s.getsockname()[1])')
 printf '[[link]]\nport = %s\n[[link]]\nport = %s\n' "$port" "$port" > "$work/station"
 says 2 'status 2 open link 1' "radio_ntpd: cannot open link 1 (port $port): another program or link has the port" serve --station "$work/station"
+other=$(python3 -B checks/ask.py port)
+printf '[[link]]\nport = %s\n' "$port" "$other" "$other" > "$work/station"
+says 2 'status 2 open link 2' "radio_ntpd: cannot open link 2 (port $other): another program or link has the port" serve --station "$work/station"
 # Root may read every file, so it becomes nobody for this.
 mkdir "$work/open"
 : > "$work/open/secret"
@@ -181,8 +204,8 @@ printf '3644697600 36\nodd\n' > "$work/list"
 printf 'leap_file = "%s"\n' "$work/list" > "$work/station"
 says 5 'status 5 line 0 2' "radio_ntpd: line 2 of feed 0 ($work/list) is bad: a row is" serve --station "$work/station"
 printf 'odd\n' > "$work/script"
-says 5 'status 5 script 1' "radio_ntpd: line 1 of the script ($work/script) is bad" replay --station examples/station.toml --script "$work/script"
-says 5 'status 5 journal 1' "radio_ntpd: line 1 of the journal ($work/script) is bad" migrate --station examples/station.toml --journal "$work/script"
+says 5 'status 5 script 1' "radio_ntpd: line 1 of the script ($work/script) is bad: docs/FORMATS.md has the lines of a script," replay --station examples/station.toml --script "$work/script"
+says 5 'status 5 journal 1' "radio_ntpd: line 1 of the journal ($work/script) is bad: docs/FORMATS.md has the lines of a journal;" migrate --station examples/station.toml --journal "$work/script"
 says 6 'status 6 full 3' 'radio_ntpd: there were more entries than a journal may have: 3' drill --seed 7 --limit 3
 if [ -e /dev/full ]; then
     "$program" decode --plan dcf --log examples/dcf77-hour.log > /dev/full 2> "$work/said"
@@ -244,6 +267,10 @@ hint dcf 'its marks look like those of --plan wwvb' 120 800000 200000 500000 200
 hint dcf 'its marks look like those of --plan msf' 120 500000 100000 200000 300000
 says 0 'status 0' 'radio_ntpd: the log gave no minute: its marks look like those of --plan dcf' decode --plan msf --log examples/dcf77-hour.log
 hint dcf 'its marks look like those of this plan, but no minute has them all' 120 100000 100000 200000
+# The same of a counter that has counted for 31 years, whose lines are long.
+awk '{ printf "1000%012d %s\n", $1, $2 }' "$work/log" > "$work/late"
+says 0 'status 0' 'radio_ntpd: the log gave no minute: its marks look like those of this plan, but no minute has them all' \
+    decode --plan dcf --log "$work/late"
 hint dcf 'its widths are those of no plan; it is noise, or high where it should be low' 120 900000 900000 800000
 says 0 'status 0' 'radio_ntpd: the log gave no minute: it has no marks of this plan, or its widths are not in microseconds' \
     decode --plan dcf --log /dev/null
@@ -256,18 +283,25 @@ for to in '&-' /dev/full; do
     [ "$told:$(cat "$work/out")" = '1:status 1 usage' ] || wrong "with standard error $to it ends with $told: $(cat "$work/out")"
 done
 
-# The standard streams stay held: with a closed output, number 1 of a server is the root folder, which can't be written to.
+# A key of 300 characters is named whole.
+long=$(printf '%0300d' 0 | tr 0 k)
+station "$long = 1\n" "unknown $long" "there is no key $long"
+
+# The standard streams stay held: where all of them are closed, their numbers in a server are the root folder, which can't be written to.
 printf '[[link]]\nport = %s\n' "$port" > "$work/station"
-"$program" serve --station "$work/station" --during 2 >&- 2> "$work/said" < /dev/null &
+"$program" serve --station "$work/station" --during 2 <&- >&- 2>&- &
 server=$!
 waited=0
-while [ ! -e "/proc/$server/fd/3" ] && [ "$waited" -lt 50 ]; do
+# Its link has number 3, or one that wasn't held.
+until [ -e "/proc/$server/fd/3" ] || readlink "/proc/$server/fd/"[012] | grep -q socket || [ "$waited" -ge 50 ]; do
     sleep 0.1
     waited=$((waited + 1))
 done
-messages=$((messages + 1))
-held=$(readlink "/proc/$server/fd/1")
-[ "$held" = / ] || wrong "number 1 of a server with a closed output is '$held'"
+for number in 0 1 2; do
+    messages=$((messages + 1))
+    held=$(readlink "/proc/$server/fd/$number")
+    [ "$held" = / ] || wrong "number $number of a server whose streams are closed is '$held'"
+done
 wait "$server"
 told=$?
 [ "$told" = 8 ] || wrong "a server with a closed output ends with $told"

@@ -3,6 +3,7 @@
 import fcntl
 import os
 import select
+import time
 
 from keeper.lines import Pulse
 
@@ -36,20 +37,25 @@ class Outlet:
             self.push()
 
     def push(self) -> None:
-        """Writes what waits, as far as the pipe takes it."""
+        """Writes what waits, as far as the pipe takes it. Its pieces are whole lines; the pipe takes each of them whole, or not at all."""
+        done = 0
         try:
-            while self.pending:
-                self.pending = self.pending[os.write(self.descriptor, self.pending):]
+            while done < len(self.pending):
+                end = self.pending.rfind(b"\n", done, done + select.PIPE_BUF) + 1
+                done += os.write(self.descriptor, self.pending[done:end])
         except BlockingIOError:
-            self.broken = len(self.pending) > PENDING
+            self.broken = len(self.pending) - done > PENDING
         except OSError:
             self.broken = True
+        self.pending = self.pending[done:]
 
     def close(self, wait: float = 0.2) -> None:
-        """Closes the pipe at the end of a line, for which it waits a bounded number of seconds."""
+        """Closes the pipe after a whole line. A reader that is behind has `wait` seconds for what waits; lines that are left are lost."""
         if self.descriptor < 0:
             return
-        if self.pending and not self.broken and select.select([], [self.descriptor], [], wait)[1]:
-            self.push()
+        end = time.monotonic() + wait
+        while self.pending and not self.broken and (left := end - time.monotonic()) > 0:
+            if select.select([], [self.descriptor], [], left)[1]:
+                self.push()
         os.close(self.descriptor)
         self.descriptor = -1

@@ -186,25 +186,56 @@ class Outlets(unittest.TestCase):
         self.assertEqual(os.read(self.taken, 100), b"")
 
     def test_a_pipe_that_nobody_reads_is_given_up(self):
-        self.outlet.give([Pulse(NOW + place, 100_000) for place in range(2 * PENDING // 18)])
+        self.outlet.give([Pulse(NOW + place, 100_000) for place in range(PENDING // 18)])
         self.assertFalse(self.outlet.broken)
         self.outlet.give([Pulse(NOW + place, 100_000) for place in range(2 * PENDING // 18)])
         self.assertTrue(self.outlet.broken)
         self.outlet.close(0.01)
 
-    def test_a_pipe_that_is_full_is_closed_at_the_end_of_a_line(self):
-        """Its reader goes on a little after the close began."""
-        given, got = [], []
-        while not self.outlet.pending:
+    def fill(self, waits: int) -> bytes:
+        """Gives pulses until more than so many bytes wait for the pipe; gives all of their lines."""
+        given: list[Pulse] = []
+        while len(self.outlet.pending) <= waits:
             given += (pulses := [Pulse(NOW + len(given) + place, 100_000) for place in range(100)])
             self.outlet.give(pulses)
+        return b"".join(b"%d 100000\n" % (pulse.start - 250) for pulse in given)
+
+    def rest(self) -> bytes:
+        """What comes out of the pipe until its end."""
+        return b"".join(iter(lambda: os.read(self.taken, 65536), b""))
+
+    def test_a_pipe_that_is_full_is_closed_at_the_end_of_a_line(self):
+        """Its reader goes on a little after the close began."""
+        given, got = self.fill(0), []
         reader = threading.Timer(0.05, lambda: got.append(os.read(self.taken, 65536)))
         reader.start()
         self.outlet.close(20)
         reader.join()
-        while piece := os.read(self.taken, 65536):
-            got.append(piece)
-        self.assertEqual(b"".join(got), b"".join(b"%d 100000\n" % (pulse.start - 250) for pulse in given))
+        self.assertEqual(b"".join(got) + self.rest(), given)
+
+    def test_a_reader_that_is_slow_gets_every_line(self):
+        """Far more waits than the pipe has room for as the close begins."""
+        given, got = self.fill(PENDING // 2), []
+
+        def read() -> None:
+            while piece := os.read(self.taken, 30_000):
+                got.append(piece)
+                time.sleep(0.002)
+
+        reader = threading.Timer(0.05, read)
+        reader.start()
+        self.outlet.close(20)
+        reader.join()
+        self.assertEqual(b"".join(got), given)
+
+    def test_whole_lines_are_lost_where_nobody_reads_within_the_bound(self):
+        given = self.fill(PENDING // 2)
+        began = time.monotonic()
+        self.outlet.close(0.1)
+        self.assertGreaterEqual(time.monotonic() - began, 0.1)
+        got = self.rest()
+        self.assertTrue(given.startswith(got))
+        self.assertEqual(got[-1:], b"\n")
 
     def test_a_reader_that_has_gone(self):
         taken, given = pipe()

@@ -19,7 +19,7 @@ use verdict_journal::Journal;
 // For how many turns a worker is held at the most: for some seconds.
 const TURNS: u64 = 10_000_000;
 
-// For how many milliseconds feeds wait for one another at the most.
+// For how many milliseconds workers wait for one another at the most.
 const WAIT: u32 = 5_000;
 
 const LIST: &str = "3644697600\t36\n3692217600\t37\n";
@@ -169,27 +169,29 @@ fn a_server_and_a_leap_second_file_wait_for_one_another(rt: HostRuntime) -> Resu
     keeps_after(&rt, rt.alloc(), &THREE, 3, 2, 1)
 }
 
-// Which feeds have come to their first entry, a bit for each, and whether one has waited for longer than it was to.
+// Which workers have come to their place, a bit for each, and whether one has waited for longer than it was to.
 #[derive(Drop)]
 struct Met {
     come: u32,
     ran_out: bool,
 }
 
-// A gate at which each feed waits before an entry until this many feeds have come to one. It waits by the clock, since turns take as long as
+// A gate at which each worker waits at a place until this many workers have come to it. It waits by the clock, since turns take as long as
 // the host's load has them.
 #[derive(Drop)]
 struct MeetGate<'a> {
     clock: &'a HostRuntime,
-    feeds: u32,
+    place: u8,
+    workers: u32,
     met: Mutex<Met>,
 }
 
 impl<'a> MeetGate<'a> {
-    fn new(clock: &'a HostRuntime, feeds: u32) -> MeetGate<'a> {
+    fn new(clock: &'a HostRuntime, place: u8, workers: u32) -> MeetGate<'a> {
         MeetGate {
             clock,
-            feeds,
+            place,
+            workers,
             met: Mutex::new(Met {
                 come: 0,
                 ran_out: false,
@@ -197,17 +199,19 @@ impl<'a> MeetGate<'a> {
         }
     }
 
-    fn come<R: Wait>(&self, rt: &R, feed: u32) {
+    // Feeds have the numbers from 0 on, responders those from 100 on.
+    fn come<R: Wait>(&self, rt: &R, worker: u32) {
         let mut met = self.met.lock(rt);
-        if feed < 32 {
-            met.come |= 1 << feed;
+        let place = worker % 100;
+        if place < 32 {
+            met.come |= 1 << place;
         }
     }
 
     // All have come, or one has given up.
     fn is_open<R: Wait>(&self, rt: &R) -> bool {
         let met = self.met.lock(rt);
-        met.ran_out || met.come.count_ones() >= self.feeds
+        met.ran_out || met.come.count_ones() >= self.workers
     }
 
     fn hold<R: Wait>(&self, rt: &R) {
@@ -224,20 +228,20 @@ impl<'a> MeetGate<'a> {
     // All have met, and none has given up.
     fn has_met<R: Wait>(&self, rt: &R) -> bool {
         let met = self.met.lock(rt);
-        !met.ran_out && met.come.count_ones() >= self.feeds
+        !met.ran_out && met.come.count_ones() >= self.workers
     }
 }
 
 impl Gate for MeetGate<'_> {
     fn pass<R: Wait>(&self, rt: &R, worker: u32, place: u8) {
-        if place == 1 {
+        if place == self.place {
             self.come(rt, worker);
             self.hold(rt);
         }
     }
 }
 
-// Sixteen feeds of a station are at their entries at once.
+// The workers of a station are at their places at once.
 fn meet<R: Abort + Threads + Wait + Sync>(
     rt: &R,
     alloc: Global,
@@ -251,7 +255,7 @@ fn meet<R: Abort + Threads + Wait + Sync>(
 
 #[test]
 fn sixteen_feeds_of_all_kinds_meet(rt: HostRuntime) -> Result<(), Fail> {
-    let ended = meet(&rt, rt.alloc(), &SIXTEEN, &MeetGate::new(&rt, 16))?;
+    let ended = meet(&rt, rt.alloc(), &SIXTEEN, &MeetGate::new(&rt, 1, 16))?;
     has_entries(&rt, &ended, 16);
     Ok(())
 }
@@ -269,7 +273,42 @@ const ROUND: PollWork = PollWork {
 
 #[test]
 fn sixteen_servers_meet(rt: HostRuntime) -> Result<(), Fail> {
-    let ended = meet(&rt, rt.alloc(), &SERVERS, &MeetGate::new(&rt, 16))?;
+    let ended = meet(&rt, rt.alloc(), &SERVERS, &MeetGate::new(&rt, 1, 16))?;
     have_polled(&rt, &ended, &[ROUND; 16]);
     Ok(())
+}
+
+// Eight links, which receive a request each.
+const EIGHT_LINKS: Case<'static> = Case {
+    station: &[LINK; 8],
+    links: &[ASKED; 8],
+    ..TWO_LINKS
+};
+
+// Each link has received before any answers.
+fn eight_links_meet<R: Abort + Threads + Wait + Sync>(
+    rt: &R,
+    alloc: Global,
+    budget: Budget,
+    gate: &MeetGate<'_>,
+) -> Result<(), Fail> {
+    let ended = meet(
+        rt,
+        alloc,
+        &Case {
+            budget,
+            ..EIGHT_LINKS
+        },
+        gate,
+    )?;
+    holds(rt, "eight links", ended.work.links.len() == 8);
+    have_answered(rt, &ended);
+    Ok(())
+}
+
+#[test]
+fn eight_links_are_served_at_once_in_either_phase(rt: HostRuntime) -> Result<(), Fail> {
+    let alloc = rt.alloc();
+    eight_links_meet(&rt, alloc, FIRST_PHASE, &MeetGate::new(&rt, 2, 8))?;
+    eight_links_meet(&rt, alloc, SECOND_PHASE, &MeetGate::new(&rt, 2, 8))
 }

@@ -7,9 +7,10 @@ use feed_link::{
 };
 use std::io::{self, ErrorKind};
 use std::net::{IpAddr, Ipv4Addr, SocketAddr, UdpSocket};
+use std::process::Abort;
 use std::test::Fail;
 use std::thread;
-use std::time::Duration;
+use std::time::{Clock, Duration};
 use tick_units::Local;
 
 fn moment(microseconds: u32) -> Local {
@@ -111,8 +112,10 @@ fn a_call_is_made_again_that_was_interrupted_or_told_of_another_datagram(rt: Hos
         ErrorKind::NetworkUnreachable,
     ];
     for kind in table {
-        same(&rt, heard(&rt, failing(kind, 3, 123)), Ok(123));
-        same(&rt, sent(&rt, failing(kind, 3, 123)), Ok(()));
+        for calls in [3, 200] {
+            same(&rt, heard(&rt, failing(kind, calls, 123)), Ok(123));
+            same(&rt, sent(&rt, failing(kind, calls, 123)), Ok(()));
+        }
     }
 }
 
@@ -133,6 +136,35 @@ fn a_datagram_without_a_way_is_lost_and_no_fault(rt: HostRuntime) {
 fn a_sender_without_a_port_is_not_heard(rt: HostRuntime) {
     same(&rt, heard(&rt, failing(ErrorKind::Other, 0, 0)), Ok(7));
     same(&rt, heard(&rt, failing(ErrorKind::Other, 0, 9)), Ok(9));
+}
+
+// A socket on which as many datagrams come from port 0 as are left, and then one from port 7.
+#[derive(Drop)]
+struct Flooded {
+    left: u32,
+}
+
+impl DatagramSocket for Flooded {
+    fn receive(&mut self, piece: &mut [u8]) -> io::Result<(usize, SocketAddr)> {
+        let port = if self.left == 0 { 7 } else { 0 };
+        self.left = self.left.saturating_sub(1);
+        Ok((piece.len().min(3), loopback(port)))
+    }
+
+    fn transmit(&mut self, _: SocketAddr, bytes: &[u8]) -> io::Result<usize> {
+        Ok(bytes.len())
+    }
+}
+
+#[test]
+fn a_flood_from_port_0_ends_no_hearing(rt: HostRuntime) -> Result<(), Fail> {
+    let mut link = UdpLink::new(Flooded { left: 50_000 }, Counter::new(&rt), moment(5));
+    let mut piece = [0u8; 1024];
+    match link.hear(&mut piece)? {
+        Hearing::Datagram(arrival) => same(&rt, arrival.from.port, 7),
+        _ => assert!(rt; false),
+    }
+    Ok(())
 }
 
 #[test]
@@ -172,6 +204,37 @@ fn a_datagram_has_the_moment_at_which_it_came(rt: HostRuntime) -> Result<(), Fai
         _ => assert!(rt; false),
     }
     Ok(())
+}
+
+// A host whose clock of day goes back by a second in each second.
+#[derive(Drop)]
+struct SetBack<'a> {
+    rt: &'a HostRuntime,
+}
+
+impl Clock for SetBack<'_> {
+    fn monotonic(&self) -> io::Result<Duration> {
+        self.rt.monotonic()
+    }
+
+    fn since_1970(&self) -> io::Result<Duration> {
+        let since_start = self.rt.monotonic()?;
+        Ok(Duration::from_secs(2_000_000_000).saturating_sub(since_start))
+    }
+}
+
+#[test]
+fn moments_go_on_where_the_clock_of_day_is_set_back(rt: HostRuntime) {
+    let host = SetBack { rt: &rt };
+    let mut link = UdpLink::new(
+        failing(ErrorKind::Other, 0, 123),
+        Counter::new(&host),
+        moment(5),
+    );
+    let before = link.moment().get();
+    thread::sleep(&rt, Duration::from_millis(20));
+    let waited = link.moment().get().saturating_sub(before);
+    assert!(rt; waited >= 20_000);
 }
 
 #[test]
@@ -248,6 +311,15 @@ fn a_link_of_the_host_hears_and_answers(rt: HostRuntime) -> Result<(), Fail> {
     Ok(())
 }
 
+// For how many microseconds a link waits to which nothing comes.
+fn silence(rt: &impl Abort, link: &mut impl Link) -> Result<u64, Fail> {
+    let mut piece = [0u8; 1024];
+    let before = link.moment().get();
+    let heard = link.hear(&mut piece)?;
+    assert!(*rt; matches!(&heard, Hearing::Quiet));
+    Ok(link.moment().get().saturating_sub(before))
+}
+
 #[test]
 fn two_seconds_of_silence_are_quiet_also_behind_a_dead_server(rt: HostRuntime) -> Result<(), Fail> {
     let mut outside = HostOutside::new(&rt);
@@ -259,12 +331,14 @@ fn two_seconds_of_silence_are_quiet_also_behind_a_dead_server(rt: HostRuntime) -
         port: 9,
     };
     same(&rt, link.send(to, b"abc"), Ok(()));
-    let mut piece = [0u8; 1024];
-    let before = link.moment().get();
-    let heard = link.hear(&mut piece)?;
-    assert!(rt; matches!(&heard, Hearing::Quiet));
-    let waited = link.moment().get().saturating_sub(before);
-    assert!(rt; waited >= 1_900_000 && waited < 20_000_000);
+    let mut least = u64::MAX;
+    for _ in 0..3 {
+        if least >= 2_900_000 {
+            least = least.min(silence(&rt, &mut link)?);
+        }
+    }
+    // A busy host may wake a link late, but hardly by 0.9 s three times.
+    assert!(rt; least >= 1_900_000 && least < 2_900_000);
     outside.give_back_link(link);
 
     // The moments of a later link count from its own start on, by the same counter.
@@ -272,7 +346,7 @@ fn two_seconds_of_silence_are_quiet_also_behind_a_dead_server(rt: HostRuntime) -
         return Err("the second link was not opened")?;
     };
     let first = later.moment().get();
-    assert!(rt; first >= 8_900_000 && first < 27_000_000);
+    assert!(rt; first >= 8_900_000 && first < 67_000_000);
     outside.give_back_link(later);
     Ok(())
 }

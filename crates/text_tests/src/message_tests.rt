@@ -52,6 +52,8 @@ serve --station|status 1 usage|--station has no value
 serve --station=a --station=b|status 1 usage|--station is given twice
 -h|status 1 usage|SEED      0 to 4294967295
 |status 1 usage|SEED      0 to 4294967295
+serve -- --station a|status 1 usage|two commands, serve and --station
+-- --station|status 1 usage|unknown command --station
 --version|status 1 usage|radio_ntpd 0.3.0";
 
 // Looks at each row.
@@ -77,13 +79,25 @@ serve|status 3 station range bound|bound wants whole milliseconds, 1 to 16000
 serve|status 3 station many link 9|link counts 9, and there may be 8
 replay --script c|status 4 read script|cannot read the script (c): it is a folder
 decode --log a.log|status 5 line 0 2|line 2 of feed 0 (a.log) is bad: a line is START WIDTH
-migrate|status 5 journal 7|line 7 of the journal is bad: docs/FORMATS.md
+migrate|status 5 journal 7|line 7 of the journal is bad: docs/FORMATS.md has the lines of a journal;
+replay --script c|status 5 script 7|line 7 of the script (c) is bad: docs/FORMATS.md has the lines of a script,
 serve|status 6 full 2|more entries than a journal may have: 2
 serve|status 7 link 1|the host failed link 1: a hearing or a sending of it
 serve|0 1 refused 2|standard output took no more
 serve||standard output took no more
 serve|status 9 memory|no memory was found, and nothing was done
 serve --station b.toml|status 10 long station|the station file (b.toml) has more than 65536 bytes";
+
+// The limits of docs/FORMATS.md.
+const LIMITS: &str =
+    "replay --script c|status 10 long script|the script (c) has more than 2^26 bytes
+migrate --journal d|status 10 long journal|the journal (d) has more than 2^30 bytes
+decode --log a.log|status 10 long feed 0|feed 0 (a.log) has more than 2^30 bytes";
+
+#[test]
+fn a_file_that_is_too_long_has_its_limit(rt: HostRuntime) -> Result<(), Fail> {
+    look_at_all(&rt, rt.alloc(), LIMITS)
+}
 
 #[test]
 fn each_status_has_its_sentence(rt: HostRuntime) -> Result<(), Fail> {
@@ -289,5 +303,58 @@ fn the_last_whole_line_is_kept(rt: HostRuntime) -> Result<(), Fail> {
     same(&rt, watched.last_line(), "");
     same(&rt, watched.write(b"c\n")?, 2);
     same(&rt, watched.last_line(), "abc");
+    Ok(())
+}
+
+// A writer that takes all of a piece.
+#[derive(Drop)]
+struct Wide;
+
+impl Write for Wide {
+    fn write(&mut self, piece: &[u8]) -> std::io::Result<usize> {
+        Ok(piece.len())
+    }
+
+    fn flush(&mut self) -> std::io::Result<()> {
+        Ok(())
+    }
+}
+
+// Lines of an output, and whether one of them is a minute.
+const OUTPUTS: [(&str, bool); 6] = [
+    ("0 67000606 lone 4004773200\n", true),
+    ("0 127001445 verdict 4004773260 0\n", true),
+    ("0 187000000 refused 2\n", false),
+    (
+        "0 247000000 differs 4004773320 4004773380 60000000\n",
+        false,
+    ),
+    ("status 0\n", false),
+    ("", false),
+];
+
+#[test]
+fn a_minute_that_was_written_is_remembered(rt: HostRuntime) -> Result<(), Fail> {
+    for (line, is_minute) in OUTPUTS {
+        let mut watched = Watched::new(Wide);
+        watched.write(b"0 7000000 refused 0\n")?;
+        watched.write(line.as_bytes())?;
+        watched.write(b"status 0\n")?;
+        assert!(rt; watched.has_minute() == is_minute, "{line}");
+        same(&rt, watched.last_line(), "status 0");
+    }
+    Ok(())
+}
+
+#[test]
+fn of_a_long_line_512_bytes_are_kept(rt: HostRuntime) -> Result<(), Fail> {
+    for length in [511, 512, 513, 600] {
+        let mut watched = Watched::new(Wide);
+        for _ in 0..length {
+            watched.write(b"k")?;
+        }
+        watched.write(b"\n")?;
+        same(&rt, watched.last_line().len(), length.min(512));
+    }
     Ok(())
 }
