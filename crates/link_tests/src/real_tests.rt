@@ -64,6 +64,52 @@ fn a_write_of_nothing_is_a_fault(rt: HostRuntime) {
     same(&rt, sink.write(b"a"), Err(Failed));
 }
 
+// A stream that is interrupted at a number of calls, one after another. Then it is at its end, and takes all that is written.
+#[derive(Drop)]
+struct Interrupted {
+    calls: u16,
+}
+
+impl Interrupted {
+    fn is_interrupted(&mut self) -> bool {
+        if self.calls == 0 {
+            return false;
+        }
+        self.calls -= 1;
+        true
+    }
+}
+
+impl Read for Interrupted {
+    fn read(&mut self, _: &mut [u8]) -> io::Result<usize> {
+        if self.is_interrupted() {
+            return Err(io::Error::from(ErrorKind::Interrupted));
+        }
+        Ok(0)
+    }
+}
+
+impl Write for Interrupted {
+    fn write(&mut self, piece: &[u8]) -> io::Result<usize> {
+        if self.is_interrupted() {
+            return Err(io::Error::from(ErrorKind::Interrupted));
+        }
+        Ok(piece.len())
+    }
+
+    fn flush(&mut self) -> io::Result<()> {
+        Ok(())
+    }
+}
+
+#[test]
+fn a_call_that_is_interrupted_again_and_again_is_made_again(rt: HostRuntime) {
+    let mut source = FileSource::new(Interrupted { calls: 5000 });
+    same(&rt, read_three(&mut source).0, Ok(0));
+    let mut sink = StreamSink::new(Interrupted { calls: 5000 });
+    same(&rt, sink.write(b"ab"), Ok(2));
+}
+
 // A file of the bytes 1, 2, 3 .. up to a last one, of which each call gives one.
 #[derive(Drop)]
 struct OneByOne {
