@@ -8,7 +8,8 @@ trap 'rm -f "$work"' EXIT
 trap 'exit 1' INT TERM
 unset RADIO_NTPD
 if ! python3 -B -m unittest discover -s keeper/tests -t . > "$work" 2>&1; then
-    grep -E -A 20 '^(FAIL|ERROR)' "$work" >&2
+    # Where no test failed, the run itself ended before its time.
+    grep -E -A 20 '^(FAIL|ERROR)' "$work" >&2 || tail -20 "$work" >&2
     exit 1
 fi
 echo "keeper_tests: $(sed -n 's/^Ran \([0-9]*\) tests.*/\1/p' "$work") tests"
