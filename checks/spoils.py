@@ -87,7 +87,7 @@ SPOILS += [in_bytes(change) for change in (cut, changed, flipped, put_in, taken_
 
 
 def spoil(draw: Draw, lines: Lines) -> bytes:
-    """Returns the bytes of these lines, spoilt in up to six ways; one file in seven is left whole."""
+    """Returns the bytes of these lines, damaged in up to six ways; one file in seven is left whole."""
     for _ in range(draw.choice((0, 1, 1, 1, 2, 3, 6))):
         if lines:
             lines = draw.choice(SPOILS)(draw, lines)

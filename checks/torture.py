@@ -28,7 +28,7 @@ from spoils import spoil
 SEED = 2026
 
 
-def spoilt(kind: Kind, name: str, number: int, seed: int) -> tuple[bytes, random.Random]:
+def damaged(kind: Kind, name: str, number: int, seed: int) -> tuple[bytes, random.Random]:
     """Returns the file of this number: its bytes, and the draw that goes on after it."""
     draw = random.Random(f"{seed}/{name}/{number}")
     lines = kind.lines(draw)
@@ -41,14 +41,14 @@ def work(
     """Does the share of one of several workers: every so manieth number, all kinds of it. What is wrong, and then how many numbers were
     done, goes into a queue."""
     place, workers = ours
-    path = f"{folder}/spoilt.{place}"
+    path = f"{folder}/damaged.{place}"
     done = 0
     run = Runner(folder, place)
     for number in range(place, count, workers):
         if time.monotonic() > until:
             break
         for name, kind in all_.items():
-            data, draw = spoilt(kind, name, number, seed)
+            data, draw = damaged(kind, name, number, seed)
             with open(path, "wb") as file:
                 file.write(data)
             try:
@@ -108,7 +108,7 @@ def main() -> None:
             all_ = kinds(pathlib.Path(folder))
             if asked.one not in all_:
                 words.error(f"a kind is one of {', '.join(all_)}")
-            sys.stdout.buffer.write(spoilt(all_[asked.one], asked.one, int(asked.numbers[0]), seed)[0])
+            sys.stdout.buffer.write(damaged(all_[asked.one], asked.one, int(asked.numbers[0]), seed)[0])
         return
     sys.exit(judge_all(int(asked.numbers[0]), asked.numbers[1], seed) > 0)
 

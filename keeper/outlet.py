@@ -50,7 +50,7 @@ class Outlet:
         self.pending = self.pending[done:]
 
     def close(self, wait: float = 0.2) -> None:
-        """Closes the pipe after a whole line. A reader that is behind has `wait` seconds for what waits; lines that are left are lost."""
+        """Closes the pipe after a whole line. A slow reader has `wait` seconds for what waits; lines that are left are lost."""
         if self.descriptor < 0:
             return
         end = time.monotonic() + wait

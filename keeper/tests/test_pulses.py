@@ -193,7 +193,7 @@ class Outlets(unittest.TestCase):
         self.outlet.close(0.01)
 
     def fill(self, waits: int) -> bytes:
-        """Gives pulses until more than so many bytes wait for the pipe; gives all of their lines."""
+        """Gives pulses until more than `waits` bytes wait for the pipe; gives all of their lines."""
         given: list[Pulse] = []
         while len(self.outlet.pending) <= waits:
             given += (pulses := [Pulse(NOW + len(given) + place, 100_000) for place in range(100)])

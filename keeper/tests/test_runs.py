@@ -30,7 +30,7 @@ class Feed:
 
 class Beginnings(unittest.TestCase):
     def test_each_pulse_is_moved_by_the_counters_lag_from_the_first_one_on(self):
-        """A counter that began 4.5 ms late is 4.5 ms behind, so the marks are 4.5 ms earlier on it."""
+        """A counter that began 4.5 ms late shows 4.5 ms less, so the marks are 4.5 ms earlier on it."""
         loop = Loop()
         self.addCleanup(loop.close)
         taken, given = pipe()
