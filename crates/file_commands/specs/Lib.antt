@@ -1,7 +1,7 @@
--- What a reader has to believe, in this order. First come Endings (statuses and status lines), Writing (what is written, and what
--- a failed write leaves), Effects (what a command does) and Unopened (a command that opens nothing). Then come Reading (why a reading ended), Opening, Text,
--- Decoding and StationFile. Last come LineFiles (what it is to run through a file of lines), Script, Replaying and Migrating. The
--- other files are scaffolding of private functions.
+-- What a reader has to believe, in this order. First come Endings (statuses and status lines), Writing (what is written, and
+-- what a failed write leaves), Effects (what a command does) and Unopened (a command that opens nothing). Then come Reading
+-- (why a reading ended), Opening, Text, Decoding and StationFile. Last come LineFiles (what it is to run through a file of
+-- lines), Script, Replaying and Migrating. The other files are scaffolding of private functions.
 pub mod Endings
 pub mod Writing
 pub mod Effects

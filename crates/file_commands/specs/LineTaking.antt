@@ -45,8 +45,8 @@ pub record IsTakenBy {T : Type 0} (way : LineWay T) (lines : LineTaker T) (bytes
 abbrev pub file_says : LineFile → List ℕ → List ℕ → Type 0
 file_says f bytes text = (items : List f.Item) × HasItemsOf f bytes items None × (text ≡ f.text items)
 
--- a text was taken as the line after so many, with the lines counted, and a text was given for it; or it says nothing that may
--- stand here
+-- a text was taken as the next line, with the lines counted, and a text was given for it; or it says nothing that may stand
+-- here
 abbrev pub TakesLine : {T : Type 0} → (way : LineWay T) → ℕ → LineTaker T → List way.file.Item → LineTexts → Gives → Type 0
 TakesLine way count now items line Nothing = ⊥
 TakesLine way count now items line (Text size) = (now.count ≡ count + 1)

@@ -1,5 +1,5 @@
 //! A station in the middle of a script.
-ghost use Rattle.std.specs.Prelude.{◌≡◌, ◌<◌, ◌≤◌, ◌+◌, ◌^◌, [], ℕ, List, Ok, IfOk, vec_len, length};
+ghost use Rattle.std.specs.Prelude.{◌≡◌, ◌<◌, ◌≤◌, ◌+◌, ◌^◌, [], List, Ok, IfOk, vec_len, length};
 ghost use Rattle.std.specs.Option.{ForSome};
 ghost use Rattle.tick_units.specs.Years.{end_of_told};
 ghost use Rattle.script_line.specs.Texts.{IsLine};

@@ -167,7 +167,7 @@ fn run_feeds<
     );
 }
 
-//// The first phase: the feeds' workers beside the responders, for this many hearings of each link.
+/// The first phase: the feeds' workers beside the responders, for this many hearings of each link.
 pub fn run_first<
     N: HubName + Send + Sync,
     R: Threads + Wait + Sync,
