@@ -3,7 +3,8 @@ use Rattle.std.proofs.Common.{◌≡◌, ℕ, suc, ◌+◌, ◌*◌, ◌%◌, �
 use Rattle.std.specs.Prelude.{nat_le}
 use Rattle.std.specs.List.{onto_first}
 use Rattle.std.proofs.lemmas.Bool.{and_parts, lt-leb}
-use Rattle.minute_pair.specs.Segments.{cut, is_boundary_behind}
+use Rattle.code_plans.specs.Codes.{code_of}
+use Rattle.minute_pair.specs.Segments.{cut}
 use Rattle.tick_units.specs.Marks.{is_between, is_long}
 use Rattle.tick_units.specs.declared.marks.Mark.{Mark}
 use Rattle.tick_units.specs.declared.marks.Plan.{Plan}
@@ -12,6 +13,10 @@ use Rattle.tick_units.specs.declared.marks.Symbol.{Symbol}
 use Rattle.pulse_maker.specs.Made.{number_from}
 use Rattle.pulse_maker.specs.Minutes.{seconds_from}
 use Rattle.drill_day.proofs.MarkLaws.{mark_at, marks_from, read_as}
+
+-- a mark begins a minute, by the mark just before it
+abbrev pub begins_after : Plan → Mark → Mark → Bool
+begins_after plan before mark = (code_of plan).begins_minute (Some before) mark
 
 -- a second of this symbol begins a minute, directly after one of that symbol; in DCF77 none does, since a second is left out there
 abbrev pub is_step : Plan → Symbol → Symbol → Bool
@@ -40,7 +45,7 @@ soon at a b =
     let late : nat_le (5000000 + at * 1000000 + a % 2001 + 1900000) (5000000 + (at + 1) * 1000000 + b % 2001) ≡ false = lt-leb (5000000 + at * 1000000 + a % 2001 + 1900000) (5000000 + (at + 1) * 1000000 + b % 2001) (omega arith) in
     rw late refl
 
-step_is : (plan : Plan) (start j index : ℕ) (a b : Symbol) → is_boundary_behind plan (mark_at plan start j index a) (mark_at plan start (suc j) (index + 1) b) ≡ is_step plan a b
+step_is : (plan : Plan) (start j index : ℕ) (a b : Symbol) → begins_after plan (mark_at plan start j index a) (mark_at plan start (suc j) (index + 1) b) ≡ is_step plan a b
 step_is Dcf start j index a b = soon index (number_from start j) (number_from start (suc j))
 step_is Msf start j index a b = refl
 step_is Wwvb start j index a b = refl
@@ -51,21 +56,21 @@ not_true false e = refl
 
 -- calm seconds stay in the piece of the mark before them
 pub quiet : (plan : Plan) (start j index : ℕ) (a : Symbol) (more : List Symbol) (rest : List Mark) → is_calm plan a more ≡ true →
-    cut plan (Some (mark_at plan start j index a)) (marks_from plan start (suc j) (seconds_from (index + 1) more) ++ rest)
-    ≡ onto_front (marks_from plan start (suc j) (seconds_from (index + 1) more)) (cut plan (Some (mark_at plan start (j + length more) (index + length more) (last_symbol a more))) rest)
+    cut (code_of plan) (Some (mark_at plan start j index a)) (marks_from plan start (suc j) (seconds_from (index + 1) more) ++ rest)
+    ≡ onto_front (marks_from plan start (suc j) (seconds_from (index + 1) more)) (cut (code_of plan) (Some (mark_at plan start (j + length more) (index + length more) (last_symbol a more))) rest)
 quiet plan start j index a [] rest calm =
     let j_same : j + 0 ≡ j = omega arith in
     let i_same : index + 0 ≡ index = omega arith in
-    ap (λ n. cut plan (Some (mark_at plan start n index a)) rest) (sym j_same) ∙ ap (λ n. cut plan (Some (mark_at plan start (j + 0) n a)) rest) (sym i_same)
+    ap (λ n. cut (code_of plan) (Some (mark_at plan start n index a)) rest) (sym j_same) ∙ ap (λ n. cut (code_of plan) (Some (mark_at plan start (j + 0) n a)) rest) (sym i_same)
 quiet plan start j index a (b ∷ more) rest calm =
     let parts = and_parts (not (is_step plan a b)) (is_calm plan b more) calm in
-    let off : is_boundary_behind plan (mark_at plan start j index a) (mark_at plan start (suc j) (index + 1) b) ≡ false = step_is plan start j index a b ∙ not_true (is_step plan a b) parts.0 in
+    let off : begins_after plan (mark_at plan start j index a) (mark_at plan start (suc j) (index + 1) b) ≡ false = step_is plan start j index a b ∙ not_true (is_step plan a b) parts.0 in
     let j_next : suc j + length more ≡ j + suc (length more) = omega arith in
     let i_next : index + 1 + length more ≡ index + suc (length more) = omega arith in
     rw off (ap (onto_first (mark_at plan start (suc j) (index + 1) b)) (
     quiet plan start (suc j) (index + 1) b more rest parts.1
-    ∙ ap (λ n. onto_front (marks_from plan start (suc (suc j)) (seconds_from (index + 1 + 1) more)) (cut plan (Some (mark_at plan start n (index + 1 + length more) (last_symbol b more))) rest)) j_next
-    ∙ ap (λ n. onto_front (marks_from plan start (suc (suc j)) (seconds_from (index + 1 + 1) more)) (cut plan (Some (mark_at plan start (j + suc (length more)) n (last_symbol b more))) rest)) i_next
+    ∙ ap (λ n. onto_front (marks_from plan start (suc (suc j)) (seconds_from (index + 1 + 1) more)) (cut (code_of plan) (Some (mark_at plan start n (index + 1 + length more) (last_symbol b more))) rest)) j_next
+    ∙ ap (λ n. onto_front (marks_from plan start (suc (suc j)) (seconds_from (index + 1 + 1) more)) (cut (code_of plan) (Some (mark_at plan start (j + suc (length more)) n (last_symbol b more))) rest)) i_next
     ))
 
 pub onto_none : {X : Type 0} (xs : List X) (parts : List (List X)) → onto_front xs ([] ∷ parts) ≡ xs ∷ parts

@@ -9,6 +9,7 @@ use Rattle.journal_entry.specs.declared.entry.Entry.{Entry}
 use Rattle.frame_rules.specs.Fields.{is_one, symbols_of as symbols_in}
 use Rattle.log_decoder.specs.Due.{entry_of}
 use Rattle.minute_pair.specs.Answers.{agreed_leap, answers, answers_after, are_timely, judged, judged_by, kind_after, kind_alone, kind_behind, kind_of_both, kind_of_valid}
+use Rattle.code_plans.specs.Codes.{code_of}
 use Rattle.minute_pair.specs.Segments.{Segment, closed, cut, segments_of}
 use Rattle.plan_dcf.specs.Fields as dcf
 use Rattle.plan_dcf.specs.Rules as dcf_rules
@@ -18,7 +19,7 @@ use Rattle.plan_wwvb.specs.Fields as wwvb
 use Rattle.plan_wwvb.specs.Rules as wwvb_rules
 use Rattle.radio_receiver.specs.Histories.{answers_of, sent}
 use Rattle.tick_units.specs.Log.{pulses}
-use Rattle.tick_units.specs.Marks.{marks_of}
+use Rattle.second_marks.specs.Marks.{marks_of}
 use Rattle.tick_units.specs.declared.marks.Mark.{Mark}
 use Rattle.tick_units.specs.declared.marks.Plan.{Plan}
 use Rattle.tick_units.specs.declared.marks.Plan.TheVariants.{Dcf, Msf, Wwvb}
@@ -92,12 +93,12 @@ record HasMinutes (plan : Plan) (first minutes seed : ℕ) (marks : List Mark) :
   closing : List Mark
   start : ℕ
   from : ℕ
-  is : cut plan None marks ≡ front ∷ (minutes_marks plan first seed start from 0 minutes ++ closing ∷ [])
+  is : cut (code_of plan) None marks ≡ front ∷ (minutes_marks plan first seed start from 0 minutes ++ closing ∷ [])
 
 between : (plan : Plan) (first seed minutes : ℕ) → List Second
 between plan first seed minutes = flat_map (minute_seconds plan first seed) (range_with_len 0 minutes)
 
-same_first : (mark : Mark) (marks : List Mark) → cut Msf None marks ≡ cut Msf (Some mark) marks
+same_first : (mark : Mark) (marks : List Mark) → cut (code_of Msf) None marks ≡ cut (code_of Msf) (Some mark) marks
 same_first mark [] = refl
 same_first mark (next ∷ marks) = refl
 
@@ -111,13 +112,13 @@ dcf_has first minutes seed =
     let alone : are_alone (middle ++ end) ≡ true = alone_append middle end (alone_minutes Dcf first seed 0 minutes) refl in
     let marks : marks_of Dcf (made Dcf first minutes seed) ≡ opening ∷ marks_from Dcf start 2 (middle ++ end) = dcf_marks start 1 (record { index = 0; symbol = Zero } ∷ (middle ++ end)) alone in
     let leads : Leads Dcf (index_of 0) opening = (number_from start 1 % 2001, omega arith, omega arith) in
-    let pieces = subst (λ n. cut Dcf (Some opening) (marks_from Dcf start 2 (middle ++ record { index = index_of n; symbol = Zero } ∷ [])) ≡ [] ∷ (minutes_marks Dcf first seed start 2 0 minutes ++ (mark_at Dcf start (2 + marked Dcf * minutes) (index_of n) Zero ∷ []) ∷ [])) none (minutes_cut Dcf first seed start 2 0 minutes Zero opening refl leads) in
+    let pieces = subst (λ n. cut (code_of Dcf) (Some opening) (marks_from Dcf start 2 (middle ++ record { index = index_of n; symbol = Zero } ∷ [])) ≡ [] ∷ (minutes_marks Dcf first seed start 2 0 minutes ++ (mark_at Dcf start (2 + marked Dcf * minutes) (index_of n) Zero ∷ []) ∷ [])) none (minutes_cut Dcf first seed start 2 0 minutes Zero opening refl leads) in
     record {
       front = opening ∷ [];
       closing = _;
       start = start;
       from = 2;
-      is = ap (cut Dcf None) marks ∙ ap (onto_first opening) pieces;
+      is = ap (cut (code_of Dcf) None) marks ∙ ap (onto_first opening) pieces;
     }
 
 wwvb_has : (first minutes seed : ℕ) → HasMinutes Wwvb first minutes seed (marks_of Wwvb (made Wwvb first minutes seed))
@@ -129,13 +130,13 @@ wwvb_has first minutes seed =
     let opening = mark_at Wwvb start 1 1 Long in
     let alone : are_alone (middle ++ end) ≡ true = alone_append middle end (alone_minutes Wwvb first seed 0 minutes) refl in
     let marks : marks_of Wwvb (made Wwvb first minutes seed) ≡ opening ∷ marks_from Wwvb start 2 (middle ++ end) = wwvb_marks start 1 (record { index = 1; symbol = Long } ∷ (middle ++ end)) alone in
-    let pieces = subst (λ n. cut Wwvb (Some opening) (marks_from Wwvb start 2 (middle ++ record { index = index_of n; symbol = Long } ∷ [])) ≡ [] ∷ (minutes_marks Wwvb first seed start 2 0 minutes ++ (mark_at Wwvb start (2 + marked Wwvb * minutes) (index_of n) Long ∷ []) ∷ [])) none (minutes_cut Wwvb first seed start 2 0 minutes Long opening refl refl) in
+    let pieces = subst (λ n. cut (code_of Wwvb) (Some opening) (marks_from Wwvb start 2 (middle ++ record { index = index_of n; symbol = Long } ∷ [])) ≡ [] ∷ (minutes_marks Wwvb first seed start 2 0 minutes ++ (mark_at Wwvb start (2 + marked Wwvb * minutes) (index_of n) Long ∷ []) ∷ [])) none (minutes_cut Wwvb first seed start 2 0 minutes Long opening refl refl) in
     record {
       front = opening ∷ [];
       closing = _;
       start = start;
       from = 2;
-      is = ap (cut Wwvb None) marks ∙ ap (onto_first opening) pieces;
+      is = ap (cut (code_of Wwvb) None) marks ∙ ap (onto_first opening) pieces;
     }
 
 msf_has : (first minutes seed : ℕ) → HasMinutes Msf first minutes seed (marks_of Msf (made Msf first minutes seed))
@@ -151,13 +152,13 @@ msf_has first minutes seed =
     subst (λ l. InTurn 0 l) (sym (append_assoc middle end (last ∷ []))) (turn_minutes first seed 0 minutes 0 (end ++ last ∷ []) (omega arith) (omega arith, (omega arith, tt))) in
     let split : middle ++ (end ++ last ∷ []) ≡ (middle ++ end) ++ last ∷ [] = sym (append_assoc middle end (last ∷ [])) in
     let marks : marks_of Msf (made Msf first minutes seed) ≡ marks_from Msf start 1 (middle ++ end) = ap (λ l. marks_of Msf (reductions_from Msf start 1 l)) split ∙ msf_marks_are start 1 (middle ++ end) last 0 alone turn in
-    let pieces = subst (λ n. cut Msf (Some any) (marks_from Msf start 1 (middle ++ record { index = index_of n; symbol = Long } ∷ [])) ≡ [] ∷ (minutes_marks Msf first seed start 1 0 minutes ++ (mark_at Msf start (1 + marked Msf * minutes) (index_of n) Long ∷ []) ∷ [])) none (minutes_cut Msf first seed start 1 0 minutes Long any refl tt) in
+    let pieces = subst (λ n. cut (code_of Msf) (Some any) (marks_from Msf start 1 (middle ++ record { index = index_of n; symbol = Long } ∷ [])) ≡ [] ∷ (minutes_marks Msf first seed start 1 0 minutes ++ (mark_at Msf start (1 + marked Msf * minutes) (index_of n) Long ∷ []) ∷ [])) none (minutes_cut Msf first seed start 1 0 minutes Long any refl tt) in
     record {
       front = [];
       closing = _;
       start = start;
       from = 1;
-      is = ap (cut Msf None) marks ∙ same_first any (marks_from Msf start 1 (middle ++ end)) ∙ pieces;
+      is = ap (cut (code_of Msf) None) marks ∙ same_first any (marks_from Msf start 1 (middle ++ end)) ∙ pieces;
     }
 
 has_minutes : (plan : Plan) (first minutes seed : ℕ) → HasMinutes plan first minutes seed (marks_of plan (made plan first minutes seed))
@@ -207,7 +208,7 @@ wwvb_none : (marks : List Mark) → wwvb.announces_leap marks ≡ false → (wwv
 unfolding wwvb.coded
 wwvb_none marks e = rw e refl
 
-judged_none : (plan : Plan) (segment : Segment) → says_none plan segment.marks → leap_of (judged plan segment) ≡ 0
+judged_none : (plan : Plan) (segment : Segment) → says_none plan segment.marks → leap_of (judged (code_of plan) segment) ≡ 0
 judged_none Dcf segment h = leap_judged (dcf_rules.first segment.marks) (dcf.coded segment.marks) (dcf_none segment.marks h)
 judged_none Msf segment h = leap_judged (msf_rules.first segment.marks segment.close) (msf.coded segment.marks) (msf_none segment.marks)
 judged_none Wwvb segment h = leap_judged (wwvb_rules.first segment.marks segment.close) (wwvb.coded segment.marks) (wwvb_none segment.marks h)
@@ -219,28 +220,28 @@ agreed_none was is e = either (was == is)
     either true = e
     either false = refl
 
-both_none : (plan : Plan) (before now : Segment) (was is : Coded) → is.leap_at ≡ 0 → leap_in (kind_of_both plan before now was is) ≡ 0
-both_none plan before now was is e = either (is.minute == was.minute + 60 && are_timely plan before now)
+both_none : (plan : Plan) (before now : Segment) (was is : Coded) → is.leap_at ≡ 0 → leap_in (kind_of_both (code_of plan) before now was is) ≡ 0
+both_none plan before now was is e = either (is.minute == was.minute + 60 && are_timely (code_of plan) before now)
   where
     either : (b : Bool) → leap_in (if b then Verdict is.minute (agreed_leap was.leap_at is.leap_at) else Differs was.minute is.minute (now.close - before.close)) ≡ 0
     either true = agreed_none was.leap_at is.leap_at e
     either false = refl
 
-valid_none : (plan : Plan) (before : Segment) (r : Result Coded Broken) (now : Segment) (is : Coded) → is.leap_at ≡ 0 → leap_in (kind_of_valid plan before r now is) ≡ 0
+valid_none : (plan : Plan) (before : Segment) (r : Result Coded Broken) (now : Segment) (is : Coded) → is.leap_at ≡ 0 → leap_in (kind_of_valid (code_of plan) before r now is) ≡ 0
 valid_none plan before (Ok was) now is e = both_none plan before now was is e
 valid_none plan before (Err broken) now is e = refl
 
-behind_none : (plan : Plan) (before now : Segment) (r : Result Coded Broken) → leap_of r ≡ 0 → leap_in (kind_behind plan before now r) ≡ 0
-behind_none plan before now (Ok is) e = valid_none plan before (judged plan before) now is e
+behind_none : (plan : Plan) (before now : Segment) (r : Result Coded Broken) → leap_of r ≡ 0 → leap_in (kind_behind (code_of plan) before now r) ≡ 0
+behind_none plan before now (Ok is) e = valid_none plan before (judged (code_of plan) before) now is e
 behind_none plan before now (Err broken) e = refl
 
 alone_none : (r : Result Coded Broken) → leap_in (kind_alone r) ≡ 0
 alone_none (Ok is) = refl
 alone_none (Err broken) = refl
 
-kind_none : (plan : Plan) (before : Option Segment) (now : Segment) → says_none plan now.marks → leap_in (kind_after plan before now) ≡ 0
-kind_none plan None now h = alone_none (judged plan now)
-kind_none plan (Some before) now h = behind_none plan before now (judged plan now) (judged_none plan now h)
+kind_none : (plan : Plan) (before : Option Segment) (now : Segment) → says_none plan now.marks → leap_in (kind_after (code_of plan) before now) ≡ 0
+kind_none plan None now h = alone_none (judged (code_of plan) now)
+kind_none plan (Some before) now h = behind_none plan before now (judged (code_of plan) now) (judged_none plan now h)
 
 -- ---- of all minutes
 
@@ -262,11 +263,11 @@ closed_all P [] last h = tt
 closed_all P (piece ∷ []) last h = (h.0, tt)
 closed_all P (piece ∷ next ∷ pieces) last h = (h.0, closed_all P (next ∷ pieces) last h.1)
 
-answers_none : (plan : Plan) (before : Option Segment) (segments : List Segment) → AllByRecursion (λ (s : Segment). says_none plan s.marks) segments → AllByRecursion (λ (a : Heard). leap_in a.kind ≡ 0) (answers_after plan before segments)
+answers_none : (plan : Plan) (before : Option Segment) (segments : List Segment) → AllByRecursion (λ (s : Segment). says_none plan s.marks) segments → AllByRecursion (λ (a : Heard). leap_in a.kind ≡ 0) (answers_after (code_of plan) before segments)
 answers_none plan before [] h = tt
 answers_none plan before (now ∷ more) h = (kind_none plan before now h.0, answers_none plan (Some now) more h.1)
 
-answers_count : (plan : Plan) (before : Option Segment) (segments : List Segment) → length (answers_after plan before segments) ≡ length segments
+answers_count : (plan : Plan) (before : Option Segment) (segments : List Segment) → length (answers_after (code_of plan) before segments) ≡ length segments
 answers_count plan before [] = refl
 answers_count plan before (now ∷ more) = ap suc (answers_count plan (Some now) more)
 

@@ -3,7 +3,10 @@ use Rattle.std.proofs.Common.{◌≡◌, ℕ, suc, ◌+◌, ◌<◌, ◌≤◌, 
 use Rattle.std.specs.Prelude.{nat_le}
 use Rattle.std.specs.List.{list_all}
 use Rattle.std.proofs.lemmas.Bool.{and_parts, lt-leb}
-use Rattle.tick_units.specs.Marks.{are_parts, is_short, mark_of, marks_of, msf_marks, symbol_of}
+use Rattle.code_plans.specs.Codes.{code_of}
+use Rattle.plan_msf.specs.Code.{msf_code}
+use Rattle.plan_msf.specs.Marks.{are_parts, is_short}
+use Rattle.second_marks.specs.Marks.{joined_marks, mark_by, marks_of}
 use Rattle.tick_units.specs.declared.marks.Mark.{Mark}
 use Rattle.tick_units.specs.declared.marks.Plan.{Plan}
 use Rattle.tick_units.specs.declared.marks.Plan.TheVariants.{Dcf, Msf, Wwvb}
@@ -24,7 +27,7 @@ is_alone Odd = true
 
 -- as what a plan reads the width by which it spells a symbol
 abbrev pub read_as : Plan → Symbol → Symbol
-read_as plan symbol = symbol_of plan (width_of plan symbol)
+read_as plan symbol = (code_of plan).symbol (width_of plan symbol)
 
 -- the mark of a second, which is the j-th of its log
 abbrev pub mark_at : Plan → ℕ → ℕ → ℕ → Symbol → Mark
@@ -78,7 +81,7 @@ ones_count plan start j seconds e = ap (λ (l : List Reduction). length l) (one_
     as_many plan start j [] = refl
     as_many plan start j (second ∷ more) = ap suc (as_many plan start (suc j) more)
 
-each_mark : (plan : Plan) (start j : ℕ) (seconds : List Second) → map (mark_of plan) (ones_from plan start j seconds) ≡ marks_from plan start j seconds
+each_mark : (plan : Plan) (start j : ℕ) (seconds : List Second) → map (mark_by (code_of plan)) (ones_from plan start j seconds) ≡ marks_from plan start j seconds
 each_mark plan start j [] = refl
 each_mark plan start j (second ∷ more) = ap (λ l. mark_at plan start j second.index second.symbol ∷ l) (each_mark plan start (suc j) more)
 
@@ -99,7 +102,7 @@ far_apart : (start j : ℕ) (a b : Second) → a.index + 1 ≤ b.index → are_p
 far_apart start j a b le = apart (one_at Msf start j a) (one_at Msf start (suc j) b) (omega (arith, le))
 
 msf_each : (start j : ℕ) (seconds : List Second) (last : Second) (least : ℕ) → InTurn least (seconds ++ last ∷ []) →
-    msf_marks (ones_from Msf start j (seconds ++ last ∷ [])) ≡ marks_from Msf start j seconds
+    joined_marks msf_code (ones_from Msf start j (seconds ++ last ∷ [])) ≡ marks_from Msf start j seconds
 msf_each start j [] last least h = refl
 msf_each start j (a ∷ []) last least h = rw (far_apart start j a last h.1.0) refl
 msf_each start j (a ∷ b ∷ []) last least h =
@@ -110,11 +113,11 @@ msf_each start j (a ∷ b ∷ c ∷ more) last least h =
 -- ---- the marks of seconds, each with one reduction
 
 pub dcf_marks : (start j : ℕ) (seconds : List Second) → are_alone seconds ≡ true → marks_of Dcf (reductions_from Dcf start j seconds) ≡ marks_from Dcf start j seconds
-dcf_marks start j seconds e = ap (map (mark_of Dcf)) (one_each Dcf start j seconds e) ∙ each_mark Dcf start j seconds
+dcf_marks start j seconds e = ap (map (mark_by (code_of Dcf))) (one_each Dcf start j seconds e) ∙ each_mark Dcf start j seconds
 
 pub wwvb_marks : (start j : ℕ) (seconds : List Second) → are_alone seconds ≡ true → marks_of Wwvb (reductions_from Wwvb start j seconds) ≡ marks_from Wwvb start j seconds
-wwvb_marks start j seconds e = ap (map (mark_of Wwvb)) (one_each Wwvb start j seconds e) ∙ each_mark Wwvb start j seconds
+wwvb_marks start j seconds e = ap (map (mark_by (code_of Wwvb))) (one_each Wwvb start j seconds e) ∙ each_mark Wwvb start j seconds
 
 pub msf_marks_are : (start j : ℕ) (seconds : List Second) (last : Second) (least : ℕ) → are_alone (seconds ++ last ∷ []) ≡ true → InTurn least (seconds ++ last ∷ []) →
     marks_of Msf (reductions_from Msf start j (seconds ++ last ∷ [])) ≡ marks_from Msf start j seconds
-msf_marks_are start j seconds last least e h = ap msf_marks (one_each Msf start j (seconds ++ last ∷ []) e) ∙ msf_each start j seconds last least h
+msf_marks_are start j seconds last least e h = ap (joined_marks msf_code) (one_each Msf start j (seconds ++ last ∷ []) e) ∙ msf_each start j seconds last least h

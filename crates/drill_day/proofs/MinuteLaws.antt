@@ -3,7 +3,8 @@ use Rattle.std.proofs.Common.{◌≡◌, ℕ, zero, suc, ◌+◌, ◌*◌, ◌%�
 use Rattle.std.specs.Prelude.{nat_le}
 use Rattle.std.specs.List.{flat_map, onto_first, range_with_len}
 use Rattle.std.proofs.lemmas.Bool.{le-leb}
-use Rattle.minute_pair.specs.Segments.{cut, is_boundary_behind}
+use Rattle.code_plans.specs.Codes.{code_of}
+use Rattle.minute_pair.specs.Segments.{cut}
 use Rattle.tick_units.specs.Marks.{is_between, is_long}
 use Rattle.tick_units.specs.declared.marks.Mark.{Mark}
 use Rattle.tick_units.specs.declared.marks.Plan.{Plan}
@@ -13,7 +14,7 @@ use Rattle.pulse_maker.specs.Made.{number_from, start_of}
 use Rattle.pulse_maker.specs.Minutes.{index_of, seconds_from, symbols_of}
 use Rattle.pulse_maker.specs.declared.seconds.Second.{Second}
 use Rattle.pulse_maker.proofs.MakingLaws.{minute_seconds}
-use Rattle.drill_day.proofs.CutLaws.{last_symbol, onto_front, onto_none, quiet}
+use Rattle.drill_day.proofs.CutLaws.{begins_after, last_symbol, onto_front, onto_none, quiet}
 use Rattle.drill_day.proofs.MarkLaws.{mark_at, marks_append, marks_from}
 use Rattle.drill_day.proofs.SymbolLaws.{IsMinute, begins, ends, marked, minute_is}
 
@@ -30,7 +31,7 @@ in_time at index late number small e =
     rw (early, soon) refl
 
 -- a minute begins after such a mark
-opens : (plan : Plan) (start j index : ℕ) (before : Mark) (head : Symbol) → Leads plan index before → begins plan head ≡ true → is_boundary_behind plan before (mark_at plan start j index head) ≡ true
+opens : (plan : Plan) (start j index : ℕ) (before : Mark) (head : Symbol) → Leads plan index before → begins plan head ≡ true → begins_after plan before (mark_at plan start j index head) ≡ true
 opens Dcf start j index before head leads e = in_time before.at index leads.0 (number_from start j) leads.1 leads.2
 opens Msf start j index before head leads e = e
 opens Wwvb start j index before head leads e = rw (leads, e) refl
@@ -56,28 +57,28 @@ seconds_count index (symbol ∷ more) = ap suc (seconds_count (index + 1) more)
 
 -- one minute, after a mark that leads to it and before marks that begin another
 pub one_minute : (plan : Plan) (start j m : ℕ) (symbols : List Symbol) (before : Mark) (rest : List Mark) (pieces : List (List Mark)) → IsMinute plan symbols → Leads plan (index_of m) before →
-    ((last : Mark) → Leads plan (index_of (m + 1)) last → cut plan (Some last) rest ≡ [] ∷ pieces) →
-    cut plan (Some before) (marks_from plan start j (seconds_from (index_of m) symbols) ++ rest) ≡ [] ∷ marks_from plan start j (seconds_from (index_of m) symbols) ∷ pieces
+    ((last : Mark) → Leads plan (index_of (m + 1)) last → cut (code_of plan) (Some last) rest ≡ [] ∷ pieces) →
+    cut (code_of plan) (Some before) (marks_from plan start j (seconds_from (index_of m) symbols) ++ rest) ≡ [] ∷ marks_from plan start j (seconds_from (index_of m) symbols) ∷ pieces
 one_minute plan start j m symbols before rest pieces is leads behind =
     let index = index_of m in
     let head = mark_at plan start j index is.head in
     let tail = marks_from plan start (suc j) (seconds_from (index + 1) is.tail) in
-    let on : is_boundary_behind plan before head ≡ true = opens plan start j index before is.head leads is.begins_it in
+    let on : begins_after plan before head ≡ true = opens plan start j index before is.head leads is.begins_it in
     let size : suc (length is.tail) ≡ marked plan = ap (λ (l : List Symbol). length l) (sym is.is) ∙ is.count in
     let last = mark_at plan start (j + length is.tail) (index + length is.tail) (last_symbol is.head is.tail) in
-    let next : cut plan (Some last) rest ≡ [] ∷ pieces = behind last (leads_on plan start j m (last_symbol is.head is.tail) (length is.tail) size is.ends_it) in
-    let inner : cut plan (Some head) (tail ++ rest) ≡ tail ∷ pieces = quiet plan start j index is.head is.tail rest is.calm ∙ ap (onto_front tail) next ∙ onto_none tail pieces in
-    let whole : cut plan (Some before) ((head ∷ tail) ++ rest) ≡ [] ∷ (head ∷ tail) ∷ pieces = rw on (ap (λ l. [] ∷ onto_first head l) inner) in
-    subst (λ s. cut plan (Some before) (marks_from plan start j (seconds_from index s) ++ rest) ≡ [] ∷ marks_from plan start j (seconds_from index s) ∷ pieces) (sym is.is) whole
+    let next : cut (code_of plan) (Some last) rest ≡ [] ∷ pieces = behind last (leads_on plan start j m (last_symbol is.head is.tail) (length is.tail) size is.ends_it) in
+    let inner : cut (code_of plan) (Some head) (tail ++ rest) ≡ tail ∷ pieces = quiet plan start j index is.head is.tail rest is.calm ∙ ap (onto_front tail) next ∙ onto_none tail pieces in
+    let whole : cut (code_of plan) (Some before) ((head ∷ tail) ++ rest) ≡ [] ∷ (head ∷ tail) ∷ pieces = rw on (ap (λ l. [] ∷ onto_first head l) inner) in
+    subst (λ s. cut (code_of plan) (Some before) (marks_from plan start j (seconds_from index s) ++ rest) ≡ [] ∷ marks_from plan start j (seconds_from index s) ∷ pieces) (sym is.is) whole
 
 -- this many minutes, and a mark that begins another
 pub minutes_cut : (plan : Plan) (first seed start j m count : ℕ) (closing : Symbol) (before : Mark) → begins plan closing ≡ true → Leads plan (index_of m) before →
-    cut plan (Some before) (marks_from plan start j (flat_map (minute_seconds plan first seed) (range_with_len m count) ++ record { index = index_of (m + count); symbol = closing } ∷ []))
+    cut (code_of plan) (Some before) (marks_from plan start j (flat_map (minute_seconds plan first seed) (range_with_len m count) ++ record { index = index_of (m + count); symbol = closing } ∷ []))
     ≡ [] ∷ (minutes_marks plan first seed start j m count ++ (mark_at plan start (j + marked plan * count) (index_of (m + count)) closing ∷ []) ∷ [])
 minutes_cut plan first seed start j m zero closing before e leads =
     let none : m + 0 ≡ m = omega arith in
     let same : j + marked plan * 0 ≡ j = omega arith in
-    let on : is_boundary_behind plan before (mark_at plan start j (index_of (m + 0)) closing) ≡ true = opens plan start j (index_of (m + 0)) before closing (subst (λ n. Leads plan (index_of n) before) (sym none) leads) e in
+    let on : begins_after plan before (mark_at plan start j (index_of (m + 0)) closing) ≡ true = opens plan start j (index_of (m + 0)) before closing (subst (λ n. Leads plan (index_of n) before) (sym none) leads) e in
     rw on (ap (λ n. [] ∷ (mark_at plan start n (index_of (m + 0)) closing ∷ []) ∷ []) (sym same))
 minutes_cut plan first seed start j m (suc count) closing before e leads =
     let symbols = symbols_of plan first seed m in
@@ -92,8 +93,8 @@ minutes_cut plan first seed start j m (suc count) closing before e leads =
     let split : marks_from plan start j ((one ++ more) ++ end) ≡ marks_from plan start j one ++ rest =
     ap (marks_from plan start j) (append_assoc one more end) ∙ marks_append plan start j one (more ++ end) ∙ ap (λ n. marks_from plan start j one ++ marks_from plan start (j + n) (more ++ end)) size in
     let pieces = minutes_marks plan first seed start (j + marked plan) (m + 1) count ++ (mark_at plan start (j + marked plan * suc count) (index_of (m + suc count)) closing ∷ []) ∷ [] in
-    ap (cut plan (Some before)) split
+    ap (cut (code_of plan) (Some before)) split
     ∙ one_minute plan start j m symbols before rest pieces is leads (λ last on.
-    subst (λ n. cut plan (Some last) (marks_from plan start (j + marked plan) (more ++ record { index = index_of n; symbol = closing } ∷ [])) ≡ [] ∷ (minutes_marks plan first seed start (j + marked plan) (m + 1) count ++ (mark_at plan start (j + marked plan * suc count) (index_of n) closing ∷ []) ∷ [])) (sym far)
-    (subst (λ n. cut plan (Some last) (marks_from plan start (j + marked plan) (more ++ record { index = index_of (m + 1 + count); symbol = closing } ∷ [])) ≡ [] ∷ (minutes_marks plan first seed start (j + marked plan) (m + 1) count ++ (mark_at plan start n (index_of (m + 1 + count)) closing ∷ []) ∷ [])) count_on
+    subst (λ n. cut (code_of plan) (Some last) (marks_from plan start (j + marked plan) (more ++ record { index = index_of n; symbol = closing } ∷ [])) ≡ [] ∷ (minutes_marks plan first seed start (j + marked plan) (m + 1) count ++ (mark_at plan start (j + marked plan * suc count) (index_of n) closing ∷ []) ∷ [])) (sym far)
+    (subst (λ n. cut (code_of plan) (Some last) (marks_from plan start (j + marked plan) (more ++ record { index = index_of (m + 1 + count); symbol = closing } ∷ [])) ≡ [] ∷ (minutes_marks plan first seed start (j + marked plan) (m + 1) count ++ (mark_at plan start n (index_of (m + 1 + count)) closing ∷ []) ∷ [])) count_on
     (minutes_cut plan first seed start (j + marked plan) (m + 1) count closing last e on)))

@@ -1,6 +1,8 @@
 -- What one more mark does to the numbers of a segment.
-use Rattle.std.proofs.Common.{◌≡◌, ℕ, ◌+◌, ◌<◌, ◌≤◌, Bool, true, false, not, ◌&&◌, ◌||◌, Option, Some, None, List, [], ◌∷◌, ◌++◌, length, take, drop, refl, ap, sym, ◌∙◌, arith}
+use Rattle.std.specs.Prelude.{◌==◌, min, if◌then◌else◌}
+use Rattle.std.proofs.Common.{◌≡◌, ℕ, suc, ◌+◌, ◌<◌, ◌≤◌, Bool, true, false, not, ◌&&◌, ◌||◌, Option, Some, None, List, [], ◌∷◌, ◌++◌, length, take, drop, refl, ap, sym, ◌∙◌, arith}
 use Rattle.std.specs.List.{last_or}
+use Rattle.std.proofs.lemmas.Bool.Decides.{nat_tests}
 use Rattle.std.proofs.lemmas.List.{length-append, take_all, take-append-le, drop-append-le, drop_all}
 use Rattle.std.proofs.lemmas.List.Folds.{list_any-append}
 use Rattle.frame_rules.specs.Fields.{has_a, has_b}
@@ -9,9 +11,8 @@ use Rattle.frame_rules.specs.Rules.{starts_of, are_spaced, is_odd, has_odd_symbo
 use Rattle.tick_units.specs.declared.marks.Mark.{Mark}
 use Rattle.tick_units.specs.declared.marks.Symbol.{Symbol}
 use Rattle.frame_rules.specs.MarkRules.{breaks_spacing, breaks_spacing_to, breaks_width}
-use Rattle.frame_rules.specs.Words.{is_near, has_long, word_of, HasBits, HasAdded}
-use Rattle.frame_rules.specs.declared.mark_words.MarkWords.{MarkWords}
-use Rattle.frame_rules.specs.declared.place_bits.PlaceBits.{PlaceBits}
+use Rattle.frame_rules.specs.Words.{is_near, has_long, last_of, word_of, HasMarks}
+use Rattle.frame_rules.specs.declared.frame.Frame.{Frame}
 
 or_false : (b : Bool) → (b || false) ≡ b
 or_false true = refl
@@ -60,59 +61,71 @@ width_push marks mark = list_any-append (λ (m : Mark). is_odd m.symbol) marks (
 long_push : (marks : List Mark) (mark : Mark) → has_long (marks ++ mark ∷ []) ≡ (has_long marks || is_long mark.symbol)
 long_push marks mark = list_any-append (λ (m : Mark). is_long m.symbol) marks (mark ∷ []) ∙ ap (λ b. has_long marks || b) (or_false (is_long mark.symbol))
 
-pub spacing_added : (words : MarkWords) (marks : List Mark) (mark : Mark) → HasAdded words marks → (words.spacing_broken || not (is_near words.last mark.at)) ≡ breaks_spacing (marks ++ mark ∷ [])
-spacing_added words marks mark h = rw (h.spacing, h.last) (sym (spacing_push marks mark))
+-- what a function does that puts one more bit to a word that has this many
+abbrev pub Puts : ℕ → ℕ → ℕ → Bool → Type 0
+Puts count word now bit = (test : Symbol → Bool) (marks : List Mark) (mark : Mark) → word ≡ word_of test marks → length marks ≡ count → bit ≡ test mark.symbol → now ≡ word_of test (marks ++ mark ∷ [])
 
-pub width_added : (words : MarkWords) (marks : List Mark) (mark : Mark) → HasAdded words marks → (words.width_broken || is_odd mark.symbol) ≡ breaks_width (marks ++ mark ∷ [])
-width_added words marks mark h = rw h.width (sym (width_push marks mark))
-
-pub spacing_closed : (words : MarkWords) (marks : List Mark) (close : ℕ) → HasAdded words marks → (words.spacing_broken || not (is_near words.last close)) ≡ breaks_spacing_to marks close
-spacing_closed words marks close h = rw (h.spacing, h.last) (sym (spacing_to marks close))
-
--- a place that has room for its bits
-module _ (places : PlaceBits) (marks : List Mark) (mark : Mark) (h : HasBits places marks) (lt : places.count < 61) where
-  length_is : length marks ≡ places.count
+-- a frame that has room for the bits of one more mark
+module _ {C : Type 0} (frame : Frame C) (marks : List Mark) (mark : Mark) (h : HasMarks frame marks) (lt : frame.count < 61) where
+  length_is : length marks ≡ frame.count
   length_is = omega (arith, h.count)
 
-  length_now : length (marks ++ mark ∷ []) ≡ places.count + 1
+  length_now : length (marks ++ mark ∷ []) ≡ frame.count + 1
   length_now = omega (arith, length_is, length-append marks (mark ∷ []))
 
-  word_before : (test : Symbol → Bool) (word : ℕ) → word ≡ word_of test (take 61 marks) → word ≡ word_of test marks
-  word_before test word e = e ∙ ap (word_of test) (take_all 61 marks (omega (arith, length_is)))
+  pub count_kept : frame.count + 1 ≡ min (length (marks ++ mark ∷ [])) 61
+  count_kept = omega (arith, length_now)
 
-  word_now : (test : Symbol → Bool) (word : ℕ) → word ≡ word_of test (marks ++ mark ∷ []) → word ≡ word_of test (take 61 (marks ++ mark ∷ []))
-  word_now test word e = e ∙ ap (word_of test) (sym (take_all 61 (marks ++ mark ∷ []) (omega (arith, length_now))))
+  pub word_kept : (test : Symbol → Bool) (word now : ℕ) (bit : Bool) → word ≡ word_of test (take 61 marks) → Puts frame.count word now bit → bit ≡ test mark.symbol → now ≡ word_of test (take 61 (marks ++ mark ∷ []))
+  word_kept test word now bit before puts is =
+      puts test marks mark (before ∙ ap (word_of test) (take_all 61 marks (omega (arith, length_is)))) length_is is
+      ∙ ap (word_of test) (sym (take_all 61 (marks ++ mark ∷ []) (omega (arith, length_now))))
 
-  behind_now : places.long_behind ≡ has_long (drop 61 (marks ++ mark ∷ []))
-  behind_now =
+  pub behind_kept : frame.long_behind ≡ has_long (drop 61 (marks ++ mark ∷ []))
+  behind_kept =
       let before : drop 61 marks ≡ [] = drop_all 61 marks (omega (arith, length_is)) in
       let now : drop 61 (marks ++ mark ∷ []) ≡ [] = drop_all 61 (marks ++ mark ∷ []) (omega (arith, length_now)) in
       h.long_behind ∙ ap has_long before ∙ ap has_long (sym now)
 
-  -- what a function does that puts one more bit to a word
-  abbrev pub Puts : ℕ → ℕ → Bool → Type 0
-  Puts word now bit = (test : Symbol → Bool) (marks : List Mark) (mark : Mark) → word ≡ word_of test marks → length marks ≡ places.count → bit ≡ test mark.symbol → now ≡ word_of test (marks ++ mark ∷ [])
+-- a frame that has the bits of 61 marks
+module _ {C : Type 0} (frame : Frame C) (marks : List Mark) (mark : Mark) (h : HasMarks frame marks) (le : 61 ≤ frame.count) where
+  full : 61 ≤ length marks
+  full = omega (arith, h.count)
 
-  pub bits_kept : (a b l : ℕ) (bit_a bit_b long : Bool) → Puts places.bits_a a bit_a → Puts places.bits_b b bit_b → Puts places.longs l long → bit_a ≡ has_a mark.symbol → bit_b ≡ has_b mark.symbol → long ≡ is_long mark.symbol →
-      HasBits (record { count = places.count + 1; bits_a = a; bits_b = b; longs = l; long_behind = places.long_behind }) (marks ++ mark ∷ [])
-  bits_kept a b l bit_a bit_b long put_a put_b put_l is_a is_b is_l = record {
-    count = omega (arith, length_now);
-    bits_a = word_now has_a a (put_a has_a marks mark (word_before has_a places.bits_a h.bits_a) length_is is_a);
-    bits_b = word_now has_b b (put_b has_b marks mark (word_before has_b places.bits_b h.bits_b) length_is is_b);
-    longs = word_now is_long l (put_l is_long marks mark (word_before is_long places.longs h.longs) length_is is_l);
-    long_behind = behind_now;
-  }
+  pub count_full : frame.count ≡ min (length (marks ++ mark ∷ [])) 61
+  count_full = omega (arith, h.count, length-append marks (mark ∷ []))
 
--- a place after the 61 whose bits are kept
-pub bits_full : (places : PlaceBits) (marks : List Mark) (mark : Mark) (behind : Bool) → HasBits places marks → 61 ≤ places.count → behind ≡ (places.long_behind || is_long mark.symbol) →
-    HasBits (record { count = places.count; bits_a = places.bits_a; bits_b = places.bits_b; longs = places.longs; long_behind = behind }) (marks ++ mark ∷ [])
-bits_full places marks mark behind h le e =
-    let full : 61 ≤ length marks = omega (arith, h.count) in
-    let front : take 61 (marks ++ mark ∷ []) ≡ take 61 marks = take-append-le 61 marks (mark ∷ []) full in
-    record {
-      count = omega (arith, h.count, length-append marks (mark ∷ []));
-      bits_a = h.bits_a ∙ ap (word_of has_a) (sym front);
-      bits_b = h.bits_b ∙ ap (word_of has_b) (sym front);
-      longs = h.longs ∙ ap (word_of is_long) (sym front);
-      long_behind = e ∙ ap (λ b. b || is_long mark.symbol) h.long_behind ∙ sym (ap has_long (drop-append-le 61 marks (mark ∷ []) full) ∙ long_push (drop 61 marks) mark);
-    }
+  pub word_full : (test : Symbol → Bool) (word : ℕ) → word ≡ word_of test (take 61 marks) → word ≡ word_of test (take 61 (marks ++ mark ∷ []))
+  word_full test word before = before ∙ ap (word_of test) (sym (take-append-le 61 marks (mark ∷ []) full))
+
+  pub behind_full : (behind : Bool) → behind ≡ (frame.long_behind || is_long mark.symbol) → behind ≡ has_long (drop 61 (marks ++ mark ∷ []))
+  behind_full behind e = e ∙ ap (λ b. b || is_long mark.symbol) h.long_behind ∙ sym (ap has_long (drop-append-le 61 marks (mark ∷ []) full) ∙ long_push (drop 61 marks) mark)
+
+-- whatever the count
+module _ {C : Type 0} (frame : Frame C) (marks : List Mark) (mark : Mark) (h : HasMarks frame marks) where
+  pub spacing_added : (last : Option Mark) (far now : Bool) → last ≡ last_or None marks → far ≡ not (is_near last mark.at) → now ≡ (frame.spacing_broken || far) → now ≡ breaks_spacing (marks ++ mark ∷ [])
+  spacing_added last far now is e f = f ∙ ap (λ b. frame.spacing_broken || b) (e ∙ ap (λ o. not (is_near o mark.at)) is) ∙ rw h.spacing (sym (spacing_push marks mark))
+
+  pub width_added : (odd now : Bool) → odd ≡ is_odd mark.symbol → now ≡ (frame.width_broken || odd) → now ≡ breaks_width (marks ++ mark ∷ [])
+  width_added odd now e f = f ∙ ap (λ b. frame.width_broken || b) e ∙ rw h.width (sym (width_push marks mark))
+
+-- a count is not 0 after a mark
+some_count : (count n : ℕ) → count ≡ min (suc n) 61 → (count == 0) ≡ false
+some_count count n e = grind (arith, nat_tests)
+
+pub last_added : (count : ℕ) (marks : List Mark) (mark : Mark) → count ≡ min (length (marks ++ mark ∷ [])) 61 → (if count == 0 then None else Some mark) ≡ last_or None (marks ++ mark ∷ [])
+last_added count marks mark e =
+    let longer : length (marks ++ mark ∷ []) ≡ suc (length marks) = omega (arith, length-append marks (mark ∷ [])) in
+    let some = some_count count (length marks) (e ∙ ap (λ n. min n 61) longer) in
+    rw some (sym (last_push None marks mark))
+
+-- a count is 0 where there is no mark
+pub last_is : {C : Type 0} (frame : Frame C) (marks : List Mark) → HasMarks frame marks → (frame.count == 0) ≡ true → None ≡ last_or None marks
+last_is frame marks h e = rw e at h.last
+
+pub last_is_some : {C : Type 0} (frame : Frame C) (marks : List Mark) → HasMarks frame marks → (frame.count == 0) ≡ false → Some (record { at = frame.last_at; symbol = frame.last_symbol }) ≡ last_or None marks
+last_is_some frame marks h e = rw e at h.last
+
+-- whether the last mark and the closing one are a second apart
+pub spacing_closed : {C : Type 0} (frame : Frame C) (marks : List Mark) (last : Option Mark) (close : ℕ) → HasMarks frame marks → last ≡ last_or None marks → (frame.spacing_broken || not (is_near last close)) ≡ breaks_spacing_to marks close
+spacing_closed frame marks last close h is = rw (h.spacing, is) (sym (spacing_to marks close))

@@ -1,5 +1,6 @@
--- Read Fields (bits, weights, counts of a segment's places), Rules and MarkRules (what breaks a rule) and First (which rule is
--- named). Numbers, Digits and Bits are small terms that they use. Frames and Words are scaffolding.
+-- Read Codes (what a code plan is), Fields (bits, weights, counts of a segment's places), Rules and MarkRules (what breaks a rule)
+-- and First (which rule is named). Numbers, Digits and Bits are small terms that they use. Words is scaffolding.
+pub mod Codes
 pub mod Fields
 pub mod Rules
 pub mod MarkRules
@@ -7,5 +8,4 @@ pub mod First
 pub mod Numbers
 pub mod Digits
 pub mod Bits
-pub mod Frames
 pub mod Words

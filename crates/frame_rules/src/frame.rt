@@ -1,50 +1,47 @@
 //! A segment that is read mark by mark by the rules of a code plan.
-ghost use Rattle.std.specs.Prelude.{◌≡◌, None, Some, IfOk, IfErr, min, List, [], ◌∷◌, ◌++◌, length};
+ghost use Rattle.std.specs.Prelude.{◌≡◌, None, Some, Option, IfOk, IfErr, min, List, [], ◌∷◌, ◌++◌, length};
 ghost use Rattle.std.specs.List.{last_or};
+ghost use Rattle.tick_units.specs.Years.{SaysYears};
 ghost use Rattle.tick_units.specs.declared.marks.Mark.{Mark};
 ghost use Rattle.frame_rules.specs.First.{IsLeastBroken};
-ghost use Rattle.frame_rules.specs.Frames.{HasMarks};
+ghost use Rattle.frame_rules.specs.Words.{is_near, HasMarks};
 
-use crate::mark_words::MarkWords;
-use crate::places::Places;
+use crate::bits::{Bit, is_long, is_odd};
+use crate::code_plan::CodePlan;
+use crate::places::{KEPT_PLACES, Places};
+use crate::rules::is_a_second_on;
+use crate::words::{has, raise, with_bit};
 use std::marker::PhantomData;
-use tick_units::{Broken, Coded, Local, Mark};
-
-/// A code plan: its rules, and what a segment that breaks none of them says.
-pub trait CodePlan {
-    ghost use Rattle.std.specs.Prelude.{ℕ, List, Option};
-    ghost use Rattle.tick_units.specs.declared.marks.Mark.{Mark};
-    ghost use Rattle.tick_units.specs.declared.verdicts.Coded.{Coded};
-    ghost use Rattle.frame_rules.specs.declared.rules.Rule.{Rule};
-
-    /// Its rules by number, at marks and the moment of the mark that closes them.
-    ghost rules: { List Mark → ℕ → List Rule };
-
-    /// The number of the least rule that they break.
-    ghost first: { List Mark → ℕ → Option ℕ };
-
-    /// What marks say, where they break no rule.
-    ghost coded: { List Mark → Coded };
-
-    /// What holds of every minute that is said.
-    ghost holds: { Coded → Type 0 };
-
-    /// What a segment says, however its marks are kept, or the least number of a rule that it breaks.
-    fn judge<P: Places>(segment: &P, close: Local) -> Result<Coded, Broken>
-        ensures ok { (marks : List Mark) → P.stands_for segment.now marks →
-            IfOk result (λ c. (first marks close ≡ None) × (c ≡ coded marks)) }
-        ensures err { (marks : List Mark) → P.stands_for segment.now marks →
-            IfErr result (λ broken. first marks close ≡ Some broken.rule) }
-        ensures least { (marks : List Mark) → P.stands_for segment.now marks →
-            IfErr result (λ broken. IsLeastBroken (rules marks close) broken.rule) }
-        ensures holds { IfOk result holds };
-}
+use tick_units::{Broken, Coded, Local, Mark, Symbol};
 
 /// A segment that is read mark by mark. It keeps a few numbers, however many marks it reads.
 #[derive(Clone, Copy, Debug)]
 pub struct Frame<C> {
-    words: MarkWords,
+    // How many marks there are, up to 61.
+    count: usize,
+    // The bits of the first 61 marks, a word for each kind of bit.
+    bits_a: u64,
+    bits_b: u64,
+    longs: u64,
+    // Of all marks: whether one from the 62nd on is Long, whether two neighbours do not start about a second apart, whether a width is
+    // in no class, and the last mark, where there is one.
+    long_behind: bool,
+    spacing_broken: bool,
+    width_broken: bool,
+    last_symbol: Symbol,
+    last_at: Local,
     plan: PhantomData<C>,
+}
+
+// Whether a moment comes a second after a mark, where there is one.
+#[inline]
+fn is_near(last: &Option<Mark>, moment: Local) -> bool
+    ensures { result ≡ is_near last.now moment }
+{
+    match last {
+        Some(mark) => is_a_second_on(mark.at, moment),
+        None => true,
+    }
 }
 
 impl<C: CodePlan> Frame<C> {
@@ -54,7 +51,15 @@ impl<C: CodePlan> Frame<C> {
         ensures { HasMarks result [] }
     {
         Frame {
-            words: MarkWords::new(),
+            count: 0,
+            bits_a: 0,
+            bits_b: 0,
+            longs: 0,
+            long_behind: false,
+            spacing_broken: false,
+            width_broken: false,
+            last_symbol: Symbol::Zero,
+            last_at: Local::new(0).unwrap(),
             plan: PhantomData,
         }
     }
@@ -64,7 +69,20 @@ impl<C: CodePlan> Frame<C> {
     pub fn add(&mut self, mark: Mark)
         ensures { (marks : List Mark) → HasMarks self.old marks → HasMarks self.new (marks ++ mark ∷ []) }
     {
-        self.words.add(mark);
+        let far = !is_near(&self.last(), mark.at);
+        raise(&mut self.spacing_broken, far);
+        raise(&mut self.width_broken, is_odd(mark.symbol));
+        self.last_symbol = mark.symbol;
+        self.last_at = mark.at;
+        let long = is_long(mark.symbol);
+        if self.count < KEPT_PLACES {
+            self.bits_a = with_bit(self.bits_a, Bit::A.is_in(mark.symbol), self.count);
+            self.bits_b = with_bit(self.bits_b, Bit::B.is_in(mark.symbol), self.count);
+            self.longs = with_bit(self.longs, long, self.count);
+            self.count += 1;
+        } else {
+            raise(&mut self.long_behind, long);
+        }
     }
 
     /// The last mark.
@@ -72,27 +90,71 @@ impl<C: CodePlan> Frame<C> {
     pub fn last(&self) -> Option<Mark>
         ensures { (marks : List Mark) → HasMarks self.now marks → result ≡ last_or None marks }
     {
-        self.words.last()
-    }
-
-    /// How many marks there are, where 61 stands for any number from 61 on.
-    #[inline]
-    pub fn count(&self) -> usize
-        ensures { (marks : List Mark) → HasMarks self.now marks → result ≡ min (length marks) 61 }
-    {
-        self.words.count()
+        if self.count == 0 {
+            return None;
+        }
+        Some(Mark {
+            at: self.last_at,
+            symbol: self.last_symbol,
+        })
     }
 
     /// What the marks say, closed by a mark that starts at this moment; or the least number of a rule that they break.
     pub fn close(&self, at: Local) -> Result<Coded, Broken>
         ensures ok { (marks : List Mark) → HasMarks self.now marks →
-            IfOk result (λ c. (C.first marks at ≡ None) × (c ≡ C.coded marks)) }
+            IfOk result (λ c. (C.code.first marks at ≡ None) × (c ≡ C.code.coded marks)) }
         ensures err { (marks : List Mark) → HasMarks self.now marks →
-            IfErr result (λ broken. C.first marks at ≡ Some broken.rule) }
+            IfErr result (λ broken. C.code.first marks at ≡ Some broken.rule) }
         ensures least { (marks : List Mark) → HasMarks self.now marks →
-            IfErr result (λ broken. IsLeastBroken (C.rules marks at) broken.rule) }
+            IfErr result (λ broken. IsLeastBroken (C.code.rules marks at) broken.rule) }
         ensures holds { IfOk result C.holds }
+        ensures years { IfOk result SaysYears }
     {
-        C::judge(&self.words, at)
+        C::judge(self, at)
+    }
+}
+
+impl<C: CodePlan> Places for Frame<C> {
+    ghost use Rattle.frame_rules.specs.Words.{HasMarks};
+
+    ghost stands_for = { HasMarks };
+
+    #[inline]
+    fn count(&self) -> usize {
+        self.count
+    }
+
+    #[inline]
+    fn is_set(&self, bit: Bit, place: usize) -> bool {
+        match bit {
+            Bit::Only => has(self.bits_a, place) && !has(self.bits_b, place),
+            Bit::A => has(self.bits_a, place),
+            Bit::B => has(self.bits_b, place),
+        }
+    }
+
+    #[inline]
+    fn is_long(&self, place: usize) -> bool {
+        has(self.longs, place)
+    }
+
+    #[inline]
+    fn has_long_behind(&self) -> bool {
+        self.long_behind
+    }
+
+    #[inline]
+    fn breaks_spacing(&self) -> bool {
+        self.spacing_broken
+    }
+
+    #[inline]
+    fn breaks_spacing_to(&self, close: Local) -> bool {
+        self.spacing_broken || !is_near(&self.last(), close)
+    }
+
+    #[inline]
+    fn breaks_width(&self) -> bool {
+        self.width_broken
     }
 }

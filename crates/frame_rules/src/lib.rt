@@ -3,18 +3,18 @@
 #![tactic(auto)]
 
 mod bits;
+mod code_plan;
 mod frame;
-mod mark_words;
 mod numbers;
-mod place_bits;
 mod places;
 mod rules;
 mod segment;
 mod spelling;
+mod words;
 
 pub use bits::{Bit, has_pattern, is_odd_over, value};
-pub use frame::{CodePlan, Frame};
-pub use mark_words::MarkWords;
+pub use code_plan::CodePlan;
+pub use frame::Frame;
 pub use numbers::{Number, is_out_of};
 pub use places::{KEPT_PLACES, Places};
 pub use rules::{Rule, breaks_length, first_broken};

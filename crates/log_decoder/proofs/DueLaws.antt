@@ -4,7 +4,8 @@ use Rattle.std.specs.List.{last_or}
 use Rattle.std.proofs.lemmas.List.{map-append}
 use Rattle.std.proofs.lemmas.List.Concat.{flat_map-append}
 use Rattle.tick_units.specs.Log.{pulses}
-use Rattle.tick_units.specs.Marks.{marks_of}
+use Rattle.code_plans.specs.Codes.{code_of}
+use Rattle.second_marks.specs.Marks.{marks_of}
 use Rattle.minute_pair.specs.Segments.{Segment, segments_of}
 use Rattle.tick_units.specs.declared.marks.Mark.{Mark}
 use Rattle.tick_units.specs.declared.marks.Plan.{Plan}
@@ -28,15 +29,15 @@ entries_append feed delay xs ys = ap (map (entry_of feed)) (map-append (sent del
 pub due_grows : (feed : ℕ) (plan : Plan) (delay : ℕ) (bytes more : List ℕ) → (later : List Entry) × (due_log feed plan delay (bytes ++ more) ≡ due_log feed plan delay bytes ++ later)
 due_grows feed plan delay bytes more =
     let reductions = pulses_grow bytes more in
-    let marks = marks_grow plan (pulses bytes) reductions.0 in
+    let marks = marks_grow (code_of plan) (pulses bytes) reductions.0 in
     let old = segments_of plan (marks_of plan (pulses bytes)) in
-    let segments = segments_grow plan (marks_of plan (pulses bytes)) marks.0 in
-    let later = answers_after plan (last_or None old) segments.0 in (
+    let segments = segments_grow (code_of plan) (marks_of plan (pulses bytes)) marks.0 in
+    let later = answers_after (code_of plan) (last_or None old) segments.0 in (
       entries_of feed delay later,
       ap (λ (rs : List Reduction). entries_of feed delay (answers plan (segments_of plan (marks_of plan rs)))) reductions.1
           ∙ ap (λ (ms : List Mark). entries_of feed delay (answers plan (segments_of plan ms))) marks.1
           ∙ ap (λ (ss : List Segment). entries_of feed delay (answers plan ss)) segments.1
-          ∙ ap (entries_of feed delay) (answers_grow plan None old segments.0)
+          ∙ ap (entries_of feed delay) (answers_grow (code_of plan) None old segments.0)
           ∙ entries_append feed delay (answers plan old) later,
     )
 

@@ -3,7 +3,8 @@ use Rattle.std.specs.Prelude.{ℕ}
 use Rattle.tick_units.specs.declared.verdicts.Kind.{Kind}
 use Rattle.tick_units.specs.declared.verdicts.Kind.TheVariants.{Verdict, Lone, Differs, Refused}
 use Rattle.journal_entry.specs.Lawful.{IsTold, IsLawfulKind}
-use Rattle.minute_pair.specs.Years.{BelievesYears, IsInYears}
+use Rattle.minute_pair.specs.Years.{BelievesYears}
+use Rattle.tick_units.specs.Years.{IsInYears}
 
 told_of : (second : ℕ) → IsInYears second → IsTold second
 told_of second years = record { least = years.0; below = years.1 }

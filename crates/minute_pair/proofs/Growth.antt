@@ -3,61 +3,61 @@ use Rattle.std.proofs.Common.{◌≡◌, true, None, List, [], ◌∷◌, ◌++�
 use Rattle.std.specs.List.{last_or}
 use Rattle.std.proofs.lemmas.Bool.{cases_Bool}
 use Rattle.std.proofs.lemmas.List.{append-nil}
-use Rattle.minute_pair.specs.Segments.{Segment, is_boundary, cut, segments_of}
+use Rattle.minute_pair.specs.Segments.{Segment, cut, segments_by}
 use Rattle.tick_units.specs.declared.marks.Mark.{Mark}
-use Rattle.tick_units.specs.declared.marks.Plan.{Plan}
+use Rattle.frame_rules.specs.Codes.{Code}
 use Rattle.minute_pair.proofs.Pieces.{cut_boundary, cut_goes_on, segments_close, segments_open, segments_same}
 use Rattle.frame_rules.proofs.AddingLaws.{last_push}
 
 -- the pieces of marks, of which there is a last one
-record Ends (plan : Plan) (marks : List Mark) : Type 0 where
+record Ends (code : Code) (marks : List Mark) : Type 0 where
   pub done : List (List Mark)
   pub current : List Mark
-  pub pieces : cut plan None marks ≡ done ++ current ∷ []
+  pub pieces : cut code None marks ≡ done ++ current ∷ []
   pub ends : last_or None current ≡ last_or None marks
 
-ends_on : (plan : Plan) (marks : List Mark) (mark : Mark) → Ends plan marks → Ends plan (marks ++ mark ∷ [])
-ends_on plan marks mark h = elim (cases_Bool (is_boundary plan (last_or None marks) mark)) [
+ends_on : (code : Code) (marks : List Mark) (mark : Mark) → Ends code marks → Ends code (marks ++ mark ∷ [])
+ends_on code marks mark h = elim (cases_Bool (code.begins_minute (last_or None marks) mark)) [
   | inl boundary ↦ record {
     done = h.done ++ h.current ∷ [];
     current = mark ∷ [];
-    pieces = cut_boundary plan None marks mark boundary ∙ ap (λ ps. ps ++ (mark ∷ []) ∷ []) h.pieces;
+    pieces = cut_boundary code None marks mark boundary ∙ ap (λ ps. ps ++ (mark ∷ []) ∷ []) h.pieces;
     ends = sym (last_push None marks mark);
   }
   | inr goes_on ↦ record {
     done = h.done;
     current = h.current ++ mark ∷ [];
-    pieces = cut_goes_on plan marks mark h.done h.current goes_on h.pieces;
+    pieces = cut_goes_on code marks mark h.done h.current goes_on h.pieces;
     ends = last_push None h.current mark ∙ sym (last_push None marks mark);
   }
 ]
 
-closes : (plan : Plan) (marks : List Mark) (mark : Mark) (done : List (List Mark)) (current : List Mark) → is_boundary plan (last_or None marks) mark ≡ true → cut plan None marks ≡ done ++ current ∷ [] →
-    (more : List Segment) × (segments_of plan (marks ++ mark ∷ []) ≡ segments_of plan marks ++ more)
-closes plan marks mark [] current boundary pieces = ([], segments_open plan marks mark current boundary pieces ∙ sym (append-nil (segments_of plan marks)))
-closes plan marks mark (piece ∷ done) current boundary pieces = (record { marks = current; close = mark.at } ∷ [], segments_close plan marks mark piece done current boundary pieces)
+closes : (code : Code) (marks : List Mark) (mark : Mark) (done : List (List Mark)) (current : List Mark) → code.begins_minute (last_or None marks) mark ≡ true → cut code None marks ≡ done ++ current ∷ [] →
+    (more : List Segment) × (segments_by code (marks ++ mark ∷ []) ≡ segments_by code marks ++ more)
+closes code marks mark [] current boundary pieces = ([], segments_open code marks mark current boundary pieces ∙ sym (append-nil (segments_by code marks)))
+closes code marks mark (piece ∷ done) current boundary pieces = (record { marks = current; close = mark.at } ∷ [], segments_close code marks mark piece done current boundary pieces)
 
-grow_one : (plan : Plan) (marks : List Mark) (mark : Mark) → Ends plan marks → (more : List Segment) × (segments_of plan (marks ++ mark ∷ []) ≡ segments_of plan marks ++ more)
-grow_one plan marks mark h = elim (cases_Bool (is_boundary plan (last_or None marks) mark)) [
-  | inl boundary ↦ closes plan marks mark h.done h.current boundary h.pieces
-  | inr goes_on ↦ ([], segments_same plan marks mark h.done h.current goes_on h.pieces h.ends ∙ sym (append-nil (segments_of plan marks)))
+grow_one : (code : Code) (marks : List Mark) (mark : Mark) → Ends code marks → (more : List Segment) × (segments_by code (marks ++ mark ∷ []) ≡ segments_by code marks ++ more)
+grow_one code marks mark h = elim (cases_Bool (code.begins_minute (last_or None marks) mark)) [
+  | inl boundary ↦ closes code marks mark h.done h.current boundary h.pieces
+  | inr goes_on ↦ ([], segments_same code marks mark h.done h.current goes_on h.pieces h.ends ∙ sym (append-nil (segments_by code marks)))
 ]
 
-grow_from : (plan : Plan) (marks more : List Mark) → Ends plan marks → (segments : List Segment) × (segments_of plan (marks ++ more) ≡ segments_of plan marks ++ segments)
-grow_from plan marks [] h = ([], ap (segments_of plan) (append-nil marks) ∙ sym (append-nil (segments_of plan marks)))
-grow_from plan marks (mark ∷ more) h =
-    let one = grow_one plan marks mark h in
-    let rest = grow_from plan (marks ++ mark ∷ []) more (ends_on plan marks mark h) in (
+grow_from : (code : Code) (marks more : List Mark) → Ends code marks → (segments : List Segment) × (segments_by code (marks ++ more) ≡ segments_by code marks ++ segments)
+grow_from code marks [] h = ([], ap (segments_by code) (append-nil marks) ∙ sym (append-nil (segments_by code marks)))
+grow_from code marks (mark ∷ more) h =
+    let one = grow_one code marks mark h in
+    let rest = grow_from code (marks ++ mark ∷ []) more (ends_on code marks mark h) in (
       one.0 ++ rest.0,
-      ap (segments_of plan) (sym (append_assoc marks (mark ∷ []) more)) ∙ rest.1 ∙ ap (λ (ss : List Segment). ss ++ rest.0) one.1 ∙ append_assoc (segments_of plan marks) one.0 rest.0,
+      ap (segments_by code) (sym (append_assoc marks (mark ∷ []) more)) ∙ rest.1 ∙ ap (λ (ss : List Segment). ss ++ rest.0) one.1 ∙ append_assoc (segments_by code marks) one.0 rest.0,
     )
 
-ends_of : (plan : Plan) (front marks : List Mark) → Ends plan front → Ends plan (front ++ marks)
-ends_of plan front [] h = record { done = h.done; current = h.current; pieces = ap (cut plan None) (append-nil front) ∙ h.pieces; ends = h.ends ∙ ap (last_or None) (sym (append-nil front)) }
-ends_of plan front (mark ∷ marks) h =
-    let rest = ends_of plan (front ++ mark ∷ []) marks (ends_on plan front mark h) in
+ends_of : (code : Code) (front marks : List Mark) → Ends code front → Ends code (front ++ marks)
+ends_of code front [] h = record { done = h.done; current = h.current; pieces = ap (cut code None) (append-nil front) ∙ h.pieces; ends = h.ends ∙ ap (last_or None) (sym (append-nil front)) }
+ends_of code front (mark ∷ marks) h =
+    let rest = ends_of code (front ++ mark ∷ []) marks (ends_on code front mark h) in
     let regroup = append_assoc front (mark ∷ []) marks in
-    record { done = rest.done; current = rest.current; pieces = ap (cut plan None) (sym regroup) ∙ rest.pieces; ends = rest.ends ∙ ap (last_or None) regroup }
+    record { done = rest.done; current = rest.current; pieces = ap (cut code None) (sym regroup) ∙ rest.pieces; ends = rest.ends ∙ ap (last_or None) regroup }
 
-pub segments_grow : (plan : Plan) (marks more : List Mark) → (segments : List Segment) × (segments_of plan (marks ++ more) ≡ segments_of plan marks ++ segments)
-segments_grow plan marks more = grow_from plan marks more (ends_of plan [] marks (record { done = []; current = []; pieces = refl; ends = refl }))
+pub segments_grow : (code : Code) (marks more : List Mark) → (segments : List Segment) × (segments_by code (marks ++ more) ≡ segments_by code marks ++ segments)
+segments_grow code marks more = grow_from code marks more (ends_of code [] marks (record { done = []; current = []; pieces = refl; ends = refl }))

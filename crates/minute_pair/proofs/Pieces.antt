@@ -1,9 +1,9 @@
 -- The pieces and segments of marks, with one more mark.
 use Rattle.std.proofs.Common.{◌≡◌, ℕ, true, false, cond, Option, Some, None, List, [], ◌∷◌, ◌++◌, drop, refl, ap, sym, ◌∙◌, append_assoc}
 use Rattle.std.specs.List.{onto_first, last_or}
-use Rattle.minute_pair.specs.Segments.{is_boundary, cut, closed, start_of, segments_of}
+use Rattle.minute_pair.specs.Segments.{cut, closed, start_of, segments_by}
 use Rattle.tick_units.specs.declared.marks.Mark.{Mark}
-use Rattle.tick_units.specs.declared.marks.Plan.{Plan}
+use Rattle.frame_rules.specs.Codes.{Code}
 
 -- the pieces with a mark at the end of the last
 add_last : Mark → List (List Mark) → List (List Mark)
@@ -12,12 +12,12 @@ add_last mark (piece ∷ []) = (piece ++ mark ∷ []) ∷ []
 add_last mark (piece ∷ next ∷ pieces) = piece ∷ add_last mark (next ∷ pieces)
 
 -- there is always a piece
-some_piece : (plan : Plan) (before : Option Mark) (marks : List Mark) → (piece : List Mark) × (pieces : List (List Mark)) × (cut plan before marks ≡ piece ∷ pieces)
-some_piece plan before [] = ([], [], refl)
-some_piece plan before (mark ∷ marks) =
-    let rest = some_piece plan (Some mark) marks in
-    let more = cut plan (Some mark) marks in
-    elim (is_boundary plan before mark) as (λ b. (piece : List Mark) × (pieces : List (List Mark)) × (cond b ([] ∷ onto_first mark more) (onto_first mark more) ≡ piece ∷ pieces)) [
+some_piece : (code : Code) (before : Option Mark) (marks : List Mark) → (piece : List Mark) × (pieces : List (List Mark)) × (cut code before marks ≡ piece ∷ pieces)
+some_piece code before [] = ([], [], refl)
+some_piece code before (mark ∷ marks) =
+    let rest = some_piece code (Some mark) marks in
+    let more = cut code (Some mark) marks in
+    elim (code.begins_minute before mark) as (λ b. (piece : List Mark) × (pieces : List (List Mark)) × (cond b ([] ∷ onto_first mark more) (onto_first mark more) ≡ piece ∷ pieces)) [
       | true ↦ ([], onto_first mark more, refl)
       | false ↦ (mark ∷ rest.0, rest.1, ap (onto_first mark) rest.2)
     ]
@@ -35,29 +35,29 @@ unfolding add_last
 cons_add mark first pieces piece rest e = rw e refl
 
 -- a boundary begins a piece
-pub cut_boundary : (plan : Plan) (before : Option Mark) (marks : List Mark) (mark : Mark) → is_boundary plan (last_or before marks) mark ≡ true → cut plan before (marks ++ mark ∷ []) ≡ cut plan before marks ++ (mark ∷ []) ∷ []
-cut_boundary plan before [] mark b = rw b refl
-cut_boundary plan before (x ∷ xs) mark b =
-    let more = cut_boundary plan (Some x) xs mark b in
-    let some = some_piece plan (Some x) xs in
-    let old = cut plan (Some x) xs in
+pub cut_boundary : (code : Code) (before : Option Mark) (marks : List Mark) (mark : Mark) → code.begins_minute (last_or before marks) mark ≡ true → cut code before (marks ++ mark ∷ []) ≡ cut code before marks ++ (mark ∷ []) ∷ []
+cut_boundary code before [] mark b = rw b refl
+cut_boundary code before (x ∷ xs) mark b =
+    let more = cut_boundary code (Some x) xs mark b in
+    let some = some_piece code (Some x) xs in
+    let old = cut code (Some x) xs in
     let onto = ap (onto_first x) more ∙ onto_some x old ((mark ∷ []) ∷ []) some.0 some.1 some.2 in
-    elim (is_boundary plan before x) as (λ t. cond t ([] ∷ onto_first x (cut plan (Some x) (xs ++ mark ∷ []))) (onto_first x (cut plan (Some x) (xs ++ mark ∷ [])))
+    elim (code.begins_minute before x) as (λ t. cond t ([] ∷ onto_first x (cut code (Some x) (xs ++ mark ∷ []))) (onto_first x (cut code (Some x) (xs ++ mark ∷ [])))
     ≡ cond t ([] ∷ onto_first x old) (onto_first x old) ++ (mark ∷ []) ∷ []) [
       | true ↦ ap (λ pieces. [] ∷ pieces) onto
       | false ↦ onto
     ]
 
 -- any other mark goes on with the last piece
-cut_more : (plan : Plan) (before : Option Mark) (marks : List Mark) (mark : Mark) → is_boundary plan (last_or before marks) mark ≡ false → cut plan before (marks ++ mark ∷ []) ≡ add_last mark (cut plan before marks)
+cut_more : (code : Code) (before : Option Mark) (marks : List Mark) (mark : Mark) → code.begins_minute (last_or before marks) mark ≡ false → cut code before (marks ++ mark ∷ []) ≡ add_last mark (cut code before marks)
 unfolding add_last
-cut_more plan before [] mark b = rw b refl
-cut_more plan before (x ∷ xs) mark b =
-    let more = cut_more plan (Some x) xs mark b in
-    let some = some_piece plan (Some x) xs in
-    let old = cut plan (Some x) xs in
+cut_more code before [] mark b = rw b refl
+cut_more code before (x ∷ xs) mark b =
+    let more = cut_more code (Some x) xs mark b in
+    let some = some_piece code (Some x) xs in
+    let old = cut code (Some x) xs in
     let onto = ap (onto_first x) more ∙ rw some.2 (onto_add x mark some.0 some.1) in
-    elim (is_boundary plan before x) as (λ t. cond t ([] ∷ onto_first x (cut plan (Some x) (xs ++ mark ∷ []))) (onto_first x (cut plan (Some x) (xs ++ mark ∷ [])))
+    elim (code.begins_minute before x) as (λ t. cond t ([] ∷ onto_first x (cut code (Some x) (xs ++ mark ∷ []))) (onto_first x (cut code (Some x) (xs ++ mark ∷ [])))
     ≡ add_last mark (cond t ([] ∷ onto_first x old) (onto_first x old))) [
       | true ↦ ap (λ pieces. [] ∷ pieces) onto ∙ sym (cons_add mark [] (onto_first x old) (x ∷ some.0) some.1 (ap (onto_first x) some.2))
       | false ↦ onto
@@ -69,9 +69,9 @@ add_last_is [] current mark = refl
 add_last_is (piece ∷ []) current mark = refl
 add_last_is (piece ∷ next ∷ done) current mark = ap (λ pieces. piece ∷ pieces) (add_last_is (next ∷ done) current mark)
 
-pub cut_goes_on : (plan : Plan) (marks : List Mark) (mark : Mark) (done : List (List Mark)) (current : List Mark) → is_boundary plan (last_or None marks) mark ≡ false → cut plan None marks ≡ done ++ current ∷ [] →
-    cut plan None (marks ++ mark ∷ []) ≡ done ++ (current ++ mark ∷ []) ∷ []
-cut_goes_on plan marks mark done current b pieces = cut_more plan None marks mark b ∙ ap (add_last mark) pieces ∙ add_last_is done current mark
+pub cut_goes_on : (code : Code) (marks : List Mark) (mark : Mark) (done : List (List Mark)) (current : List Mark) → code.begins_minute (last_or None marks) mark ≡ false → cut code None marks ≡ done ++ current ∷ [] →
+    cut code None (marks ++ mark ∷ []) ≡ done ++ (current ++ mark ∷ []) ∷ []
+cut_goes_on code marks mark done current b pieces = cut_more code None marks mark b ∙ ap (add_last mark) pieces ∙ add_last_is done current mark
 
 closed_push : (done : List (List Mark)) (current : List Mark) (mark : Mark) → closed (done ++ current ∷ (mark ∷ []) ∷ []) ≡ closed (done ++ current ∷ []) ++ record { marks = current; close = mark.at } ∷ []
 closed_push [] current mark = refl
@@ -79,15 +79,15 @@ closed_push (piece ∷ []) current mark = refl
 closed_push (piece ∷ next ∷ done) current mark = ap (λ segments. record { marks = piece; close = start_of next } ∷ segments) (closed_push (next ∷ done) current mark)
 
 -- a boundary closes the last piece, where that is not the first
-pub segments_close : (plan : Plan) (marks : List Mark) (mark : Mark) (piece : List Mark) (done : List (List Mark)) (current : List Mark) → is_boundary plan (last_or None marks) mark ≡ true → cut plan None marks ≡ (piece ∷ done) ++ current ∷ [] →
-    segments_of plan (marks ++ mark ∷ []) ≡ segments_of plan marks ++ record { marks = current; close = mark.at } ∷ []
-segments_close plan marks mark piece done current b pieces =
-    ap (λ ps. closed (drop 1 ps)) (cut_boundary plan None marks mark b)
+pub segments_close : (code : Code) (marks : List Mark) (mark : Mark) (piece : List Mark) (done : List (List Mark)) (current : List Mark) → code.begins_minute (last_or None marks) mark ≡ true → cut code None marks ≡ (piece ∷ done) ++ current ∷ [] →
+    segments_by code (marks ++ mark ∷ []) ≡ segments_by code marks ++ record { marks = current; close = mark.at } ∷ []
+segments_close code marks mark piece done current b pieces =
+    ap (λ ps. closed (drop 1 ps)) (cut_boundary code None marks mark b)
     ∙ rw pieces (ap closed (append_assoc done (current ∷ []) ((mark ∷ []) ∷ [])) ∙ closed_push done current mark)
 
-pub segments_open : (plan : Plan) (marks : List Mark) (mark : Mark) (current : List Mark) → is_boundary plan (last_or None marks) mark ≡ true → cut plan None marks ≡ current ∷ [] →
-    segments_of plan (marks ++ mark ∷ []) ≡ segments_of plan marks
-segments_open plan marks mark current b pieces = ap (λ ps. closed (drop 1 ps)) (cut_boundary plan None marks mark b) ∙ rw pieces refl
+pub segments_open : (code : Code) (marks : List Mark) (mark : Mark) (current : List Mark) → code.begins_minute (last_or None marks) mark ≡ true → cut code None marks ≡ current ∷ [] →
+    segments_by code (marks ++ mark ∷ []) ≡ segments_by code marks
+segments_open code marks mark current b pieces = ap (λ ps. closed (drop 1 ps)) (cut_boundary code None marks mark b) ∙ rw pieces refl
 
 closed_same : (done : List (List Mark)) (a b : List Mark) → start_of a ≡ start_of b → closed (done ++ a ∷ []) ≡ closed (done ++ b ∷ [])
 closed_same [] a b e = refl
@@ -99,17 +99,17 @@ start_same [] mark last e = cc
 start_same (x ∷ xs) mark last e = refl
 
 -- a mark that goes on leaves the segments; the last piece has a mark where it is not the first one
-pub segments_same : (plan : Plan) (marks : List Mark) (mark : Mark) (done : List (List Mark)) (current : List Mark) → is_boundary plan (last_or None marks) mark ≡ false → cut plan None marks ≡ done ++ current ∷ [] → last_or None current ≡ last_or None marks →
-    segments_of plan (marks ++ mark ∷ []) ≡ segments_of plan marks
-segments_same plan marks mark [] current b pieces ends = rw (cut_goes_on plan marks mark [] current b pieces, pieces) refl
-segments_same plan [] mark (piece ∷ done) current b pieces ends = absurd (one_piece piece done current pieces)
+pub segments_same : (code : Code) (marks : List Mark) (mark : Mark) (done : List (List Mark)) (current : List Mark) → code.begins_minute (last_or None marks) mark ≡ false → cut code None marks ≡ done ++ current ∷ [] → last_or None current ≡ last_or None marks →
+    segments_by code (marks ++ mark ∷ []) ≡ segments_by code marks
+segments_same code marks mark [] current b pieces ends = rw (cut_goes_on code marks mark [] current b pieces, pieces) refl
+segments_same code [] mark (piece ∷ done) current b pieces ends = absurd (one_piece piece done current pieces)
   where
     one_piece : (piece : List Mark) (done : List (List Mark)) (current : List Mark) → ◌≡◌ {A = List (List Mark)} ([] ∷ []) ((piece ∷ done) ++ current ∷ []) → ⊥
     one_piece piece [] current e = cc
     one_piece piece (next ∷ done) current e = cc
-segments_same plan (x ∷ xs) mark (piece ∷ done) current b pieces ends =
+segments_same code (x ∷ xs) mark (piece ∷ done) current b pieces ends =
     let last = some_last x xs in
-    rw (cut_goes_on plan (x ∷ xs) mark (piece ∷ done) current b pieces, pieces) (closed_same done (current ++ mark ∷ []) current (start_same current mark last.0 (ends ∙ last.1)))
+    rw (cut_goes_on code (x ∷ xs) mark (piece ∷ done) current b pieces, pieces) (closed_same done (current ++ mark ∷ []) current (start_same current mark last.0 (ends ∙ last.1)))
   where
     some_last : (x : Mark) (xs : List Mark) → (last : Mark) × (last_or (Some x) xs ≡ Some last)
     some_last x [] = (x, refl)

@@ -1,8 +1,6 @@
--- Read Segments (the minutes of a list of marks), Answers (what each comes to) and Years. PlanFrames, Keeping and Pairing are
--- scaffolding.
+-- Read Segments (the minutes of a list of marks), Answers (what each comes to) and Years. Keeping and Pairing are scaffolding.
 pub mod Segments
 pub mod Answers
 pub mod Years
-pub mod PlanFrames
 pub mod Keeping
 pub mod Pairing

@@ -1,40 +1,22 @@
--- The segments of a list of marks: the minutes that its boundaries cut out.
-use Rattle.std.specs.Prelude.{ℕ, ◌+◌, Bool, false, ◌&&◌, Option, None, Some, List, [], ◌∷◌, drop, if◌then◌else◌}
+-- The segments of a list of marks: the minutes that are cut out, by a code plan, at the marks that begin one.
+use Rattle.std.specs.Prelude.{ℕ, Option, None, Some, List, [], ◌∷◌, drop, if◌then◌else◌}
 use Rattle.std.specs.List.{onto_first}
-use Rattle.tick_units.specs.Marks.{is_between, is_long}
 use Rattle.tick_units.specs.declared.marks.Mark.{Mark}
 use Rattle.tick_units.specs.declared.marks.Plan.{Plan}
-use Rattle.tick_units.specs.declared.marks.Plan.TheVariants.{Dcf, Msf, Wwvb}
+use Rattle.frame_rules.specs.Codes.{Code}
+use Rattle.code_plans.specs.Codes.{code_of}
 
--- the marks from one boundary up to the next, and the start of the mark there
+-- the marks from one that begins a minute up to the next that does, and the start of that one
 pub record Segment : Type 0 where
   pub marks : List Mark
   pub close : ℕ
 
--- a mark begins a minute, by the mark just before it. DCF77 leaves out the last second of a minute (PTB), so there it starts
--- 1900000 to 2100000 microseconds after that one. The first second of an MSF minute is long (NPL). A WWVB minute begins with a
--- marker directly after the marker that ends the one before (NIST).
-abbrev pub is_boundary_behind : Plan → Mark → Mark → Bool
-is_boundary_behind Dcf before mark = is_between (before.at + 1900000) (before.at + 2100000) mark.at
-is_boundary_behind Msf before mark = is_long mark.symbol
-is_boundary_behind Wwvb before mark = is_long before.symbol && is_long mark.symbol
-
--- the first of all marks
-abbrev pub is_first_boundary : Plan → Mark → Bool
-is_first_boundary Dcf mark = false
-is_first_boundary Msf mark = is_long mark.symbol
-is_first_boundary Wwvb mark = false
-
-abbrev pub is_boundary : Plan → Option Mark → Mark → Bool
-is_boundary plan None mark = is_first_boundary plan mark
-is_boundary plan (Some before) mark = is_boundary_behind plan before mark
-
--- the marks after this one, cut before each boundary; the first piece goes on from there, and may be empty
-abbrev pub cut : Plan → Option Mark → List Mark → List (List Mark)
-cut plan before [] = [] ∷ []
-cut plan before (mark ∷ marks) = if is_boundary plan before mark
-    then [] ∷ onto_first mark (cut plan (Some mark) marks)
-    else onto_first mark (cut plan (Some mark) marks)
+-- the marks after this one, cut before each mark that begins a minute; the first piece goes on from there, and may be empty
+abbrev pub cut : Code → Option Mark → List Mark → List (List Mark)
+cut code before [] = [] ∷ []
+cut code before (mark ∷ marks) = if code.begins_minute before mark
+    then [] ∷ onto_first mark (cut code (Some mark) marks)
+    else onto_first mark (cut code (Some mark) marks)
 
 abbrev pub start_of : List Mark → ℕ
 start_of [] = 0
@@ -46,6 +28,9 @@ closed [] = []
 closed (piece ∷ []) = []
 closed (piece ∷ next ∷ pieces) = record { marks = piece; close = start_of next } ∷ closed (next ∷ pieces)
 
--- a segment runs from a boundary to the next, so the marks before the first boundary are in none
+-- the marks before the first that begins a minute are in no segment
+abbrev pub segments_by : Code → List Mark → List Segment
+segments_by code marks = closed (drop 1 (cut code None marks))
+
 abbrev pub segments_of : Plan → List Mark → List Segment
-segments_of plan marks = closed (drop 1 (cut plan None marks))
+segments_of plan marks = segments_by (code_of plan) marks

@@ -2,10 +2,19 @@
 ghost use Rattle.std.specs.Prelude.{◌≡◌, ◌+◌, ◌-◌, ◌*◌, ◌<◌, ◌^◌, IfOk};
 ghost use Rattle.minute_pair.specs.Answers.{is_apart, agreed_leap};
 ghost use Rattle.minute_pair.specs.Pairing.{answer_by, both_by, before_of_closed};
-ghost use Rattle.minute_pair.specs.Years.{SaysYears, BelievesYears};
+ghost use Rattle.minute_pair.specs.Years.{BelievesYears};
+ghost use Rattle.tick_units.specs.Years.{SaysYears};
 
-use crate::keeper::Closed;
 use tick_units::{Broken, Coded, Kind, Local};
+
+// A segment that a mark closed: that mark's start, what the segment says or the least rule that it breaks. Also whether it has
+// the mark of a leap second more than other minutes.
+#[derive(Clone, Copy, Debug)]
+pub struct Closed {
+    pub close: Local,
+    pub judged: Result<Coded, Broken>,
+    pub has_leap: bool,
+}
 
 // The segment just before, as far as the answer to the next one needs it: an invalid one counts as none.
 #[derive(Clone, Copy, Debug)]

@@ -3,10 +3,10 @@
 #![tactic(auto)]
 
 mod answers;
-mod keeper;
+mod minutes;
 mod pairing;
-mod plans;
 
+pub use minutes::PairingOf;
 pub use pairing::Pairing;
 
 #[cfg(test)]

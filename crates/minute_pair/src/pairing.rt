@@ -1,4 +1,4 @@
-//! Marks in, answers out: each closed segment and the one before it.
+//! A pairing that is given its plan's name.
 ghost use Rattle.std.specs.Prelude.{◌≡◌, ◌++◌, ◌∷◌, [], List, IfSome};
 ghost use Rattle.std.specs.Option.{option_to_list};
 ghost use Rattle.minute_pair.specs.Segments.{segments_of};
@@ -7,15 +7,19 @@ ghost use Rattle.tick_units.specs.declared.marks.Plan.{Plan};
 ghost use Rattle.minute_pair.specs.Answers.{answers};
 ghost use Rattle.minute_pair.specs.Years.{BelievesYears};
 
-use crate::answers::{Before, answer, before_by};
-use crate::keeper::SegmentKeeper;
+use crate::minutes::PairingOf;
+use code_plans::{Dcf, Msf, Wwvb};
 use tick_units::{Heard, Mark, Plan};
 
-/// Pairs the segments of a plan's marks: the answer to each depends on it and on the one just before it.
+/// Pairs the segments of the marks of any plan.
 #[derive(Drop)]
-pub struct Pairing {
-    keeper: SegmentKeeper,
-    before: Before,
+pub enum Pairing {
+    /// Of DCF77.
+    OfDcf(PairingOf<Dcf>),
+    /// Of MSF.
+    OfMsf(PairingOf<Msf>),
+    /// Of WWVB.
+    OfWwvb(PairingOf<Wwvb>),
 }
 
 impl Pairing {
@@ -25,22 +29,14 @@ impl Pairing {
     pub fn new(plan: Plan) -> Pairing
         ensures { HasPaired result plan [] }
     {
-        Pairing {
-            keeper: SegmentKeeper::new(plan),
-            before: Before::Nothing,
+        match plan {
+            Plan::Dcf => Pairing::OfDcf(PairingOf::new()),
+            Plan::Msf => Pairing::OfMsf(PairingOf::new()),
+            Plan::Wwvb => Pairing::OfWwvb(PairingOf::new()),
         }
     }
 
-    /// Its plan.
-    #[inline]
-    pub fn plan(&self) -> Plan
-        ensures { (plan : Plan) (marks : List Mark) → HasPaired self.now plan marks → result ≡ plan }
-    {
-        self.keeper.plan()
-    }
-
     /// Takes the next mark, and returns the answer to the segment that it closes, if it closes one, at this mark's start.
-    #[inline(always)]
     pub fn hear(&mut self, mark: Mark) -> Option<Heard>
         ensures heard { (plan : Plan) (marks : List Mark) → HasPaired self.old plan marks →
             HasPaired self.new plan (marks ++ mark ∷ []) }
@@ -51,14 +47,10 @@ impl Pairing {
         // A believed second, and its leap second, lie in the supported years, 2000 to 2099 and a day or two around them.
         ensures years { IfSome result (λ heard. BelievesYears heard.kind) }
     {
-        let Some(closed) = self.keeper.hear(mark) else {
-            return None;
-        };
-        let kind = answer(&self.before, &closed);
-        self.before = before_by(&closed);
-        Some(Heard {
-            at: closed.close,
-            kind,
-        })
+        match self {
+            Pairing::OfDcf(pairing) => pairing.hear(mark),
+            Pairing::OfMsf(pairing) => pairing.hear(mark),
+            Pairing::OfWwvb(pairing) => pairing.hear(mark),
+        }
     }
 }

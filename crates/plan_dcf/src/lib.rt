@@ -23,6 +23,7 @@
 
 mod dates;
 mod fields;
+mod marks;
 mod reading;
 mod rules;
 mod spelling;

@@ -7,9 +7,10 @@ ghost use Rattle.plan_dcf.specs.Rules.{first, rules};
 
 use crate::dates::coded;
 use crate::fields::said;
+use crate::marks::{begins_minute, has_leap_second, symbol_of};
 use crate::rules::first_broken_rule;
 use frame_rules::{CodePlan, Places, Segment};
-use tick_units::{Broken, Coded, Local, Mark};
+use tick_units::{Broken, Coded, Local, Mark, Plan, Reduction, Symbol};
 
 /// The code plan of DCF77.
 #[derive(Clone, Copy, Debug)]
@@ -20,17 +21,44 @@ pub type Frame = frame_rules::Frame<Dcf>;
 
 impl CodePlan for Dcf {
     ghost use Rattle.civil_frame.specs.Seconds.{IsDated};
-    ghost use Rattle.plan_dcf.specs.Fields.{coded};
-    ghost use Rattle.plan_dcf.specs.Rules.{first, rules};
+    ghost use Rattle.plan_dcf.specs.Code.{dcf_code};
+    ghost use Rattle.tick_units.specs.declared.marks.Plan.TheVariants.{Dcf};
 
-    ghost rules = { λ marks close. rules marks };
+    ghost which = { Dcf };
 
-    ghost first = { λ marks close. first marks };
-
-    ghost coded = { coded };
+    ghost code = { dcf_code };
 
     // In German time it is a minute of the years 2000 to 2099.
     ghost holds = { IsDated 3155666400 6311433600 };
+
+    #[inline]
+    fn plan() -> Plan {
+        Plan::Dcf
+    }
+
+    #[inline]
+    fn symbol(width: u32) -> Symbol {
+        symbol_of(width)
+    }
+
+    #[inline]
+    fn has_parts() -> bool {
+        false
+    }
+
+    #[inline]
+    fn are_parts(_first: &Reduction, _second: &Reduction) -> bool {
+        false
+    }
+
+    #[inline]
+    fn begins_minute(before: &Option<Mark>, mark: &Mark) -> bool {
+        begins_minute(before, mark)
+    }
+
+    fn has_leap_second<P: Places>(segment: &P) -> bool {
+        has_leap_second(segment)
+    }
 
     fn judge<P: Places>(segment: &P, _close: Local) -> Result<Coded, Broken> {
         let civil = said(segment);

@@ -20,6 +20,7 @@
 
 mod dates;
 mod fields;
+mod marks;
 mod reading;
 mod rules;
 mod spelling;

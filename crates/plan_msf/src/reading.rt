@@ -7,9 +7,10 @@ ghost use Rattle.plan_msf.specs.Rules.{first, rules};
 
 use crate::dates::coded;
 use crate::fields::said;
+use crate::marks::{are_parts, begins_minute, symbol_of};
 use crate::rules::first_broken_rule;
 use frame_rules::{CodePlan, Places, Segment};
-use tick_units::{Broken, Coded, Local, Mark};
+use tick_units::{Broken, Coded, Local, Mark, Plan, Reduction, Symbol};
 
 /// The code plan of MSF.
 #[derive(Clone, Copy, Debug)]
@@ -20,18 +21,45 @@ pub type Frame = frame_rules::Frame<Msf>;
 
 impl CodePlan for Msf {
     ghost use Rattle.civil_frame.specs.Seconds.{IsDated};
-    ghost use Rattle.plan_msf.specs.Fields.{coded};
-    ghost use Rattle.plan_msf.specs.Rules.{first, rules};
+    ghost use Rattle.plan_msf.specs.Code.{msf_code};
+    ghost use Rattle.tick_units.specs.declared.marks.Plan.TheVariants.{Msf};
     ghost use Rattle.std.specs.Prelude.{◌≡◌};
 
-    ghost rules = { λ marks close. rules marks close };
+    ghost which = { Msf };
 
-    ghost first = { λ marks close. first marks close };
-
-    ghost coded = { coded };
+    ghost code = { msf_code };
 
     // In UK time it is a minute of the years 2000 to 2099.
     ghost holds = { λ c. IsDated 3155670000 6311433600 c × (c.leap_at ≡ 0) };
+
+    #[inline]
+    fn plan() -> Plan {
+        Plan::Msf
+    }
+
+    #[inline]
+    fn symbol(width: u32) -> Symbol {
+        symbol_of(width)
+    }
+
+    #[inline]
+    fn has_parts() -> bool {
+        true
+    }
+
+    #[inline]
+    fn are_parts(first: &Reduction, second: &Reduction) -> bool {
+        are_parts(first, second)
+    }
+
+    #[inline]
+    fn begins_minute(_before: &Option<Mark>, mark: &Mark) -> bool {
+        begins_minute(mark)
+    }
+
+    fn has_leap_second<P: Places>(_segment: &P) -> bool {
+        false
+    }
 
     fn judge<P: Places>(segment: &P, close: Local) -> Result<Coded, Broken> {
         let civil = said(segment);

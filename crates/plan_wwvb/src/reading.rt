@@ -7,9 +7,10 @@ ghost use Rattle.plan_wwvb.specs.Rules.{first, rules};
 
 use crate::dates::coded;
 use crate::fields::said;
+use crate::marks::{begins_minute, symbol_of};
 use crate::rules::first_broken_rule;
 use frame_rules::{CodePlan, Places, Segment};
-use tick_units::{Broken, Coded, Local, Mark};
+use tick_units::{Broken, Coded, Local, Mark, Plan, Reduction, Symbol};
 
 /// The code plan of WWVB.
 #[derive(Clone, Copy, Debug)]
@@ -20,17 +21,44 @@ pub type Frame = frame_rules::Frame<Wwvb>;
 
 impl CodePlan for Wwvb {
     ghost use Rattle.civil_frame.specs.Seconds.{IsDated};
-    ghost use Rattle.plan_wwvb.specs.Fields.{coded};
-    ghost use Rattle.plan_wwvb.specs.Rules.{first, rules};
+    ghost use Rattle.plan_wwvb.specs.Code.{wwvb_code};
+    ghost use Rattle.tick_units.specs.declared.marks.Plan.TheVariants.{Wwvb};
 
-    ghost rules = { λ marks close. rules marks close };
+    ghost which = { Wwvb };
 
-    ghost first = { λ marks close. first marks close };
-
-    ghost coded = { coded };
+    ghost code = { wwvb_code };
 
     // The minute before it is one of the years 2000 to 2099.
     ghost holds = { IsDated 3155673660 6311433660 };
+
+    #[inline]
+    fn plan() -> Plan {
+        Plan::Wwvb
+    }
+
+    #[inline]
+    fn symbol(width: u32) -> Symbol {
+        symbol_of(width)
+    }
+
+    #[inline]
+    fn has_parts() -> bool {
+        false
+    }
+
+    #[inline]
+    fn are_parts(_first: &Reduction, _second: &Reduction) -> bool {
+        false
+    }
+
+    #[inline]
+    fn begins_minute(before: &Option<Mark>, mark: &Mark) -> bool {
+        begins_minute(before, mark)
+    }
+
+    fn has_leap_second<P: Places>(_segment: &P) -> bool {
+        false
+    }
 
     fn judge<P: Places>(segment: &P, close: Local) -> Result<Coded, Broken> {
         let ordinal = said(segment);

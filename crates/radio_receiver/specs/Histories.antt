@@ -2,7 +2,7 @@
 -- (MSF) and NIST (WWVB). The path delay, which is subtracted from each moment, is this project's own.
 use Rattle.std.specs.Prelude.{ℕ, ◌+◌, ◌-◌, Bool, true, false, Option, None, Some, List, [], ◌∷◌, ◌++◌, map}
 use Rattle.std.specs.List.{last_or}
-use Rattle.tick_units.specs.Marks.{marks_of}
+use Rattle.second_marks.specs.Marks.{marks_of}
 use Rattle.minute_pair.specs.Segments.{segments_of}
 use Rattle.tick_units.specs.declared.marks.Plan.{Plan}
 use Rattle.tick_units.specs.declared.marks.Reduction.{Reduction}

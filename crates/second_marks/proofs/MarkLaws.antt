@@ -1,85 +1,115 @@
 -- The marks of reductions, with one more reduction.
-use Rattle.std.proofs.Common.{◌≡◌, Bool, true, false, cond, Option, Some, None, List, [], ◌∷◌, ◌++◌, refl, ap, sym, ◌∙◌, append_assoc}
+use Rattle.std.proofs.Common.{◌≡◌, Bool, true, false, cond, map, Option, Some, None, List, [], ◌∷◌, ◌++◌, refl, ap, sym, ◌∙◌, subst, append_assoc}
 use Rattle.std.specs.Option.{option_to_list}
+use Rattle.std.proofs.lemmas.Bool.{true≢false}
 use Rattle.std.proofs.lemmas.List.{map_push, append-nil}
-use Rattle.tick_units.specs.Marks.{are_parts, mark_of, joined_mark, msf_marks, marks_of}
 use Rattle.tick_units.specs.declared.marks.Mark.{Mark}
-use Rattle.tick_units.specs.declared.marks.Plan.{Plan}
-use Rattle.tick_units.specs.declared.marks.Plan.TheVariants.{Dcf, Msf, Wwvb}
 use Rattle.tick_units.specs.declared.marks.Reduction.{Reduction}
+use Rattle.tick_units.specs.declared.marks.Plan.{Plan}
+use Rattle.frame_rules.specs.Codes.{Code}
+use Rattle.code_plans.specs.Codes.{code_of}
 use Rattle.second_marks.specs.Held.{held_of, held_after, mark_before}
 use Rattle.second_marks.specs.Marker.{HoldsBack}
+use Rattle.second_marks.specs.Marks.{mark_by, joined_mark, joined_marks, marks_by, marks_of}
 use Rattle.second_marks.specs.declared.held.Held.{Held}
 use Rattle.second_marks.specs.declared.held.Held.TheVariants.{Alone, Joined}
 
 -- two reductions, by whether they are parts
-one_more : (parts : Bool) (x r : Reduction) → cond parts [] (mark_of Msf x ∷ []) ≡ [] ++ option_to_list (cond parts None (Some (mark_of Msf x)))
-one_more true x r = refl
-one_more false x r = refl
+one_more : (parts : Bool) (mark : Mark) → cond parts [] (mark ∷ []) ≡ [] ++ option_to_list (cond parts None (Some mark))
+one_more true mark = refl
+one_more false mark = refl
 
-pub msf_push : (reductions : List Reduction) (r : Reduction) → msf_marks (reductions ++ r ∷ []) ≡ msf_marks reductions ++ option_to_list (mark_before (held_of reductions) r)
-msf_push [] r = refl
-msf_push (x ∷ []) r = one_more (are_parts x r) x r
-msf_push (x ∷ y ∷ []) r =
-    let more = msf_push (y ∷ []) r in
-    elim (are_parts x y) as (λ b. cond b (joined_mark x ∷ msf_marks (r ∷ [])) (mark_of Msf x ∷ msf_marks (y ∷ r ∷ []))
-    ≡ cond b [] (mark_of Msf x ∷ []) ++ option_to_list (mark_before (cond b (Joined x.at) (Alone y)) r)) [
+pub joined_push : (code : Code) (reductions : List Reduction) (r : Reduction) →
+    joined_marks code (reductions ++ r ∷ []) ≡ joined_marks code reductions ++ option_to_list (mark_before code (held_of code reductions) r)
+joined_push code [] r = refl
+joined_push code (x ∷ []) r = one_more (code.are_parts x r) (mark_by code x)
+joined_push code (x ∷ y ∷ []) r =
+    let more = joined_push code (y ∷ []) r in
+    elim (code.are_parts x y) as (λ b. cond b (joined_mark x ∷ joined_marks code (r ∷ [])) (mark_by code x ∷ joined_marks code (y ∷ r ∷ []))
+    ≡ cond b [] (mark_by code x ∷ []) ++ option_to_list (mark_before code (cond b (Joined x.at) (Alone y)) r)) [
       | true ↦ refl
-      | false ↦ ap (λ marks. mark_of Msf x ∷ marks) more
+      | false ↦ ap (λ marks. mark_by code x ∷ marks) more
     ]
-msf_push (x ∷ y ∷ z ∷ more) r =
-    let joined = msf_push (z ∷ more) r in
-    let alone = msf_push (y ∷ z ∷ more) r in
-    elim (are_parts x y) as (λ b. cond b (joined_mark x ∷ msf_marks (z ∷ (more ++ r ∷ []))) (mark_of Msf x ∷ msf_marks (y ∷ z ∷ (more ++ r ∷ [])))
-    ≡ cond b (joined_mark x ∷ msf_marks (z ∷ more)) (mark_of Msf x ∷ msf_marks (y ∷ z ∷ more)) ++ option_to_list (mark_before (cond b (held_of (z ∷ more)) (held_of (y ∷ z ∷ more))) r)) [
+joined_push code (x ∷ y ∷ z ∷ more) r =
+    let joined = joined_push code (z ∷ more) r in
+    let alone = joined_push code (y ∷ z ∷ more) r in
+    elim (code.are_parts x y) as (λ b. cond b (joined_mark x ∷ joined_marks code (z ∷ (more ++ r ∷ []))) (mark_by code x ∷ joined_marks code (y ∷ z ∷ (more ++ r ∷ [])))
+    ≡ cond b (joined_mark x ∷ joined_marks code (z ∷ more)) (mark_by code x ∷ joined_marks code (y ∷ z ∷ more)) ++ option_to_list (mark_before code (cond b (held_of code (z ∷ more)) (held_of code (y ∷ z ∷ more))) r)) [
       | true ↦ ap (λ marks. joined_mark x ∷ marks) joined
-      | false ↦ ap (λ marks. mark_of Msf x ∷ marks) alone
+      | false ↦ ap (λ marks. mark_by code x ∷ marks) alone
     ]
 
-pub held_push : (reductions : List Reduction) (r : Reduction) → held_of (reductions ++ r ∷ []) ≡ held_after (held_of reductions) r
-held_push [] r = refl
-held_push (x ∷ []) r = refl
-held_push (x ∷ y ∷ []) r =
-    elim (are_parts x y) as (λ b. cond b (held_of (r ∷ [])) (held_of (y ∷ r ∷ [])) ≡ held_after (cond b (Joined x.at) (Alone y)) r) [ true ↦ refl | false ↦ refl ]
-held_push (x ∷ y ∷ z ∷ more) r =
-    let joined = held_push (z ∷ more) r in
-    let alone = held_push (y ∷ z ∷ more) r in
-    elim (are_parts x y) as (λ b. cond b (held_of (z ∷ (more ++ r ∷ []))) (held_of (y ∷ z ∷ (more ++ r ∷ []))) ≡ held_after (cond b (held_of (z ∷ more)) (held_of (y ∷ z ∷ more))) r) [
+pub held_push : (code : Code) (reductions : List Reduction) (r : Reduction) → held_of code (reductions ++ r ∷ []) ≡ held_after code (held_of code reductions) r
+held_push code [] r = refl
+held_push code (x ∷ []) r = refl
+held_push code (x ∷ y ∷ []) r =
+    elim (code.are_parts x y) as (λ b. cond b (held_of code (r ∷ [])) (held_of code (y ∷ r ∷ [])) ≡ held_after code (cond b (Joined x.at) (Alone y)) r) [ true ↦ refl | false ↦ refl ]
+held_push code (x ∷ y ∷ z ∷ more) r =
+    let joined = held_push code (z ∷ more) r in
+    let alone = held_push code (y ∷ z ∷ more) r in
+    elim (code.are_parts x y) as (λ b. cond b (held_of code (z ∷ (more ++ r ∷ []))) (held_of code (y ∷ z ∷ (more ++ r ∷ []))) ≡ held_after code (cond b (held_of code (z ∷ more)) (held_of code (y ∷ z ∷ more))) r) [
       | true ↦ joined
       | false ↦ alone
     ]
 
--- a marker of MSF, with one more reduction
-pub held_on : (plan : Plan) (old new : Held) (reductions : List Reduction) (r : Reduction) → plan ≡ Msf → new ≡ held_after old r → HoldsBack plan old reductions → HoldsBack plan new (reductions ++ r ∷ [])
-held_on Dcf old new reductions r msf e held = cc
-held_on Wwvb old new reductions r msf e held = cc
-held_on Msf old new reductions r msf e held = e ∙ ap (λ (h : Held). held_after h r) held ∙ sym (held_push reductions r)
+-- what is held back, with one more reduction
+pub held_on : (code : Code) (old new : Held) (reductions : List Reduction) (r : Reduction) → new ≡ held_after code old r → HoldsBack code old reductions → HoldsBack code new (reductions ++ r ∷ [])
+held_on code old new reductions r e held parts = e ∙ ap (λ (h : Held). held_after code h r) (held parts) ∙ sym (held_push code reductions r)
 
-pub marks_on : (plan : Plan) (old : Held) (mark : Option Mark) (reductions : List Reduction) (r : Reduction) → plan ≡ Msf → mark ≡ mark_before old r → HoldsBack plan old reductions →
-    marks_of plan (reductions ++ r ∷ []) ≡ marks_of plan reductions ++ option_to_list mark
-marks_on Dcf old mark reductions r msf e held = cc
-marks_on Wwvb old mark reductions r msf e held = cc
-marks_on Msf old mark reductions r msf e held =
-    msf_push reductions r ∙ ap (λ (o : Option Mark). msf_marks reductions ++ option_to_list o) (sym (e ∙ ap (λ (h : Held). mark_before h r) held))
+-- where a second has one reduction
+pub none_held : (code : Code) (new : Held) (reductions : List Reduction) → code.has_parts ≡ false → HoldsBack code new reductions
+none_held code new reductions alone parts = absurd (true≢false (sym parts ∙ alone))
 
 -- what one more reduction adds
-pub mark_added : Plan → List Reduction → Reduction → Option Mark
-mark_added Dcf reductions r = Some (mark_of Dcf r)
-mark_added Msf reductions r = mark_before (held_of reductions) r
-mark_added Wwvb reductions r = Some (mark_of Wwvb r)
+pub mark_added : Code → List Reduction → Reduction → Option Mark
+mark_added code reductions r = cond code.has_parts (mark_before code (held_of code reductions) r) (Some (mark_by code r))
 
-pub marks_push : (plan : Plan) (reductions : List Reduction) (r : Reduction) → marks_of plan (reductions ++ r ∷ []) ≡ marks_of plan reductions ++ option_to_list (mark_added plan reductions r)
+marks_push_by : (code : Code) (parts : Bool) (reductions : List Reduction) (r : Reduction) →
+    cond parts (joined_marks code (reductions ++ r ∷ [])) (map (mark_by code) (reductions ++ r ∷ []))
+    ≡ cond parts (joined_marks code reductions) (map (mark_by code) reductions) ++ option_to_list (cond parts (mark_before code (held_of code reductions) r) (Some (mark_by code r)))
+marks_push_by code true reductions r = joined_push code reductions r
+marks_push_by code false reductions r = map_push (mark_by code) reductions r
+
+pub marks_push : (code : Code) (reductions : List Reduction) (r : Reduction) → marks_by code (reductions ++ r ∷ []) ≡ marks_by code reductions ++ option_to_list (mark_added code reductions r)
 unfolding mark_added
-marks_push Dcf reductions r = map_push (mark_of Dcf) reductions r
-marks_push Msf reductions r = msf_push reductions r
-marks_push Wwvb reductions r = map_push (mark_of Wwvb) reductions r
+marks_push code reductions r = marks_push_by code code.has_parts reductions r
+
+-- the mark that comes where each second has one reduction, and where one may have two
+pub mark_alone : (code : Code) (mark : Mark) (reductions : List Reduction) (r : Reduction) → code.has_parts ≡ false → mark ≡ mark_by code r →
+    marks_by code (reductions ++ r ∷ []) ≡ marks_by code reductions ++ mark ∷ []
+unfolding mark_added
+mark_alone code mark reductions r alone e =
+    marks_push code reductions r
+    ∙ ap (λ (b : Bool). marks_by code reductions ++ option_to_list (cond b (mark_before code (held_of code reductions) r) (Some (mark_by code r)))) alone
+    ∙ ap (λ (m : Mark). marks_by code reductions ++ m ∷ []) (sym e)
+
+pub mark_joined : (code : Code) (old : Held) (mark : Option Mark) (reductions : List Reduction) (r : Reduction) → code.has_parts ≡ true → mark ≡ mark_before code old r → HoldsBack code old reductions →
+    marks_by code (reductions ++ r ∷ []) ≡ marks_by code reductions ++ option_to_list mark
+unfolding mark_added
+mark_joined code old mark reductions r parts e held =
+    marks_push code reductions r
+    ∙ ap (λ (b : Bool). marks_by code reductions ++ option_to_list (cond b (mark_before code (held_of code reductions) r) (Some (mark_by code r)))) parts
+    ∙ ap (λ (o : Option Mark). marks_by code reductions ++ option_to_list o) (sym (e ∙ ap (λ (h : Held). mark_before code h r) (held parts)))
 
 -- the marks of reductions are the first marks of any longer list of reductions
-pub marks_grow : (plan : Plan) (reductions more : List Reduction) → (marks : List Mark) × (marks_of plan (reductions ++ more) ≡ marks_of plan reductions ++ marks)
-marks_grow plan reductions [] = ([], ap (marks_of plan) (append-nil reductions) ∙ sym (append-nil (marks_of plan reductions)))
-marks_grow plan reductions (r ∷ more) =
-    let one = option_to_list (mark_added plan reductions r) in
-    let rest = marks_grow plan (reductions ++ r ∷ []) more in (
+pub marks_grow : (code : Code) (reductions more : List Reduction) → (marks : List Mark) × (marks_by code (reductions ++ more) ≡ marks_by code reductions ++ marks)
+marks_grow code reductions [] = ([], ap (marks_by code) (append-nil reductions) ∙ sym (append-nil (marks_by code reductions)))
+marks_grow code reductions (r ∷ more) =
+    let one = option_to_list (mark_added code reductions r) in
+    let rest = marks_grow code (reductions ++ r ∷ []) more in (
       one ++ rest.0,
-      ap (marks_of plan) (sym (append_assoc reductions (r ∷ []) more)) ∙ rest.1 ∙ ap (λ (marks : List Mark). marks ++ rest.0) (marks_push plan reductions r) ∙ append_assoc (marks_of plan reductions) one rest.0,
+      ap (marks_by code) (sym (append_assoc reductions (r ∷ []) more)) ∙ rest.1 ∙ ap (λ (marks : List Mark). marks ++ rest.0) (marks_push code reductions r) ∙ append_assoc (marks_by code reductions) one rest.0,
     )
+
+-- a plan that is listed, for a marker of its name
+module _ (code : Code) (which plan : Plan) (listed : code ≡ code_of which) (is : which ≡ plan) where
+  code_is : code ≡ code_of plan
+  code_is = listed ∙ ap code_of is
+
+  pub held_as : (old new : Held) (reductions : List Reduction) (r : Reduction) → (HoldsBack code old reductions → HoldsBack code new (reductions ++ r ∷ [])) →
+      HoldsBack (code_of plan) old reductions → HoldsBack (code_of plan) new (reductions ++ r ∷ [])
+  held_as old new reductions r on held = subst (λ c. HoldsBack c new (reductions ++ r ∷ [])) code_is (on (subst (λ c. HoldsBack c old reductions) (sym code_is) held))
+
+  pub marks_as : (old : Held) (mark : Option Mark) (reductions : List Reduction) (r : Reduction) → (HoldsBack code old reductions → marks_by code (reductions ++ r ∷ []) ≡ marks_by code reductions ++ option_to_list mark) →
+      HoldsBack (code_of plan) old reductions → marks_of plan (reductions ++ r ∷ []) ≡ marks_of plan reductions ++ option_to_list mark
+  marks_as old mark reductions r on held = subst (λ c. marks_by c (reductions ++ r ∷ []) ≡ marks_by c reductions ++ option_to_list mark) code_is (on (subst (λ c. HoldsBack c old reductions) (sym code_is) held))

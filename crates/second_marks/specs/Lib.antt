@@ -1,3 +1,4 @@
--- What a mark is stands in `tick_units`, in Marks. Marker and Held are scaffolding.
+-- Read Marks. Marker and Held are scaffolding.
+pub mod Marks
 pub mod Marker
 pub mod Held

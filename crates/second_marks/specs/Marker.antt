@@ -1,18 +1,17 @@
--- Scaffolding, which contracts use: what a marker stands for, its plan and the reductions that it has received.
-use Rattle.std.specs.Prelude.{◌≡◌, List}
+-- Scaffolding, which contracts use: what a marker stands for, the reductions that it has received.
+use Rattle.std.specs.Prelude.{◌≡◌, true, List}
 use Rattle.tick_units.specs.declared.marks.Plan.{Plan}
-use Rattle.tick_units.specs.declared.marks.Plan.TheVariants.{Dcf, Msf, Wwvb}
 use Rattle.tick_units.specs.declared.marks.Reduction.{Reduction}
+use Rattle.frame_rules.specs.Codes.{Code}
+use Rattle.code_plans.specs.Codes.{code_of}
 use Rattle.second_marks.specs.Held.{held_of}
 use Rattle.second_marks.specs.declared.held.Held.{Held}
 use Rattle.second_marks.specs.declared.marker.Marker.{Marker}
 
--- in DCF77 and WWVB nothing needs to be held back
-abbrev pub HoldsBack : Plan → Held → List Reduction → Type 0
-HoldsBack Dcf held reductions = Unit {0}
-HoldsBack Msf held reductions = held ≡ held_of reductions
-HoldsBack Wwvb held reductions = Unit {0}
+-- where each second has one reduction, nothing needs to be held back
+abbrev pub HoldsBack : Code → Held → List Reduction → Type 0
+HoldsBack code held reductions = code.has_parts ≡ true → held ≡ held_of code reductions
 
 pub record HasHeard (marker : Marker) (plan : Plan) (reductions : List Reduction) : Type 0 where
   pub plan_is : marker.plan ≡ plan
-  pub held : HoldsBack plan marker.held reductions
+  pub held : HoldsBack (code_of plan) marker.held reductions

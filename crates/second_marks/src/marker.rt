@@ -1,12 +1,13 @@
 //! A marker: reductions in, marks out.
 ghost use Rattle.std.specs.Prelude.{◌≡◌, ◌++◌, ◌∷◌, [], List};
 ghost use Rattle.std.specs.Option.{option_to_list};
-ghost use Rattle.tick_units.specs.Marks.{marks_of};
+ghost use Rattle.second_marks.specs.Marker.{HasHeard};
+ghost use Rattle.second_marks.specs.Marks.{marks_of};
 ghost use Rattle.tick_units.specs.declared.marks.Plan.{Plan};
 ghost use Rattle.tick_units.specs.declared.marks.Reduction.{Reduction};
 
-use crate::classes::mark_of;
-use crate::held::{Held, held_after, mark_before};
+use crate::held::{Held, mark_next};
+use code_plans::{Listed, of_plan};
 use tick_units::{Mark, Plan, Reduction};
 
 /// Turns the reductions of a log into marks. In MSF a second may have two reductions, so a mark comes with the reduction after
@@ -17,9 +18,18 @@ pub struct Marker {
     held: Held,
 }
 
-impl Marker {
-    ghost use Rattle.second_marks.specs.Marker.{HasHeard};
+// Takes the next reduction, as a marker of this plan.
+fn hear_as<C: Listed>(marker: &mut Marker, reduction: Reduction) -> Option<Mark>
+    ensures heard { (plan : Plan) (reductions : List Reduction) → C.which ≡ plan → HasHeard marker.old plan reductions →
+        HasHeard marker.new plan (reductions ++ reduction ∷ []) }
+    ensures marks { (plan : Plan) (reductions : List Reduction) → C.which ≡ plan → HasHeard marker.old plan reductions →
+        marks_of plan (reductions ++ reduction ∷ []) ≡ marks_of plan reductions ++ option_to_list result }
+    ensures plan { marker.new.plan ≡ marker.old.plan }
+{
+    mark_next::<C>(&mut marker.held, reduction)
+}
 
+impl Marker {
     /// A marker of a plan that has received nothing.
     pub fn new(plan: Plan) -> Marker
         ensures { HasHeard result plan [] }
@@ -30,29 +40,13 @@ impl Marker {
         }
     }
 
-    /// Its plan.
-    #[inline]
-    pub fn plan(&self) -> Plan
-        ensures { (plan : Plan) (reductions : List Reduction) → HasHeard self.now plan reductions → result ≡ plan }
-    {
-        self.plan
-    }
-
     /// Takes the next reduction, and returns the mark that it completes, if it completes one.
-    #[inline(always)]
     pub fn hear(&mut self, reduction: Reduction) -> Option<Mark>
         ensures heard { (plan : Plan) (reductions : List Reduction) → HasHeard self.old plan reductions →
             HasHeard self.new plan (reductions ++ reduction ∷ []) }
         ensures marks { (plan : Plan) (reductions : List Reduction) → HasHeard self.old plan reductions →
             marks_of plan (reductions ++ reduction ∷ []) ≡ marks_of plan reductions ++ option_to_list result }
     {
-        match self.plan {
-            Plan::Msf => {
-                let mark = mark_before(&self.held, &reduction);
-                self.held = held_after(&self.held, &reduction);
-                mark
-            }
-            plan => Some(mark_of(plan, &reduction)),
-        }
+        of_plan!(self.plan, hear_as(self, reduction))
     }
 }

@@ -1,0 +1,2 @@
+-- What each plan is stands in its own crate.
+pub mod Codes
