@@ -1,8 +1,10 @@
 -- The bytes of a log, line by line and piece by piece.
-use Rattle.std.proofs.Common.{◌≡◌, ℕ, Option, None, Some, Result, Ok, Err, Bool, false, inr, List, [], ◌∷◌, ◌++◌, map, take, drop, refl, ap, sym, ◌∙◌, subst, append_assoc}
+use Rattle.std.proofs.Common.{◌≡◌, ℕ, Option, None, Some, Result, Ok, Err, Bool, true, false, ◌==◌, inr, length, List, [], ◌∷◌, ◌++◌, map, take, drop, refl, ap, sym, ◌∙◌, subst, append_assoc, arith}
+use Rattle.std.proofs.lemmas.Bool.Decides.{nat_tests}
 use Rattle.std.proofs.lemmas.List.{append-nil, take-append-drop}
 use Rattle.journal_entry.specs.declared.entry.Entry.{Entry}
 use Rattle.log_decoder.specs.Decoding.{HasDecoded, DecodesFront}
+use Rattle.log_decoder.proofs.DueLaws.{due_none}
 use Rattle.log_decoder.specs.Due.{due_log, entry_of}
 use Rattle.log_decoder.specs.declared.decoder.LogDecoder.{LogDecoder}
 use Rattle.page_cell.specs.declared.view.Claim.{Claim}
@@ -11,7 +13,6 @@ use Rattle.pulse_log.specs.declared.reader.BadLine.{BadLine as Bad}
 use Rattle.radio_receiver.specs.Histories.{History, answers_of}
 use Rattle.tick_units.specs.Log.{bad_at_end, bad_line, pulses}
 use Rattle.tick_units.specs.declared.marks.Plan.{Plan}
-use Rattle.tick_units.specs.declared.marks.Plan.TheVariants.{Dcf, Msf, Wwvb}
 use Rattle.tick_units.specs.declared.marks.Reduction.{Reduction}
 use Rattle.feed_link.specs.Told.{SourceState}
 use Rattle.file_reader.specs.Ends.{EndsReading}
@@ -23,10 +24,10 @@ use Rattle.feed_workers.specs.declared.work.LogEnd.TheVariants.{Whole, BadLine, 
 use Rattle.feed_workers.specs.Hearing.{HasHeard, HasHeardUpTo, HasMissed, HearsPiece, Tuning}
 use Rattle.feed_workers.proofs.KeepLaws.{keeps_none}
 
-due_none : (feed : ℕ) (plan : Plan) (delay : ℕ) → due_log feed plan delay [] ≡ []
-due_none feed Dcf delay = refl
-due_none feed Msf delay = refl
-due_none feed Wwvb delay = refl
+-- nothing is left
+pub none_left : (rest : List ℕ) → true ≡ (length rest == 0) → rest ≡ []
+none_left [] e = refl
+none_left (byte ∷ more) e = let none : length (byte ∷ more) ≡ 0 = grind (arith, nat_tests) in absurd (omega arith)
 
 -- bytes after a bad line change neither that line nor what is due
 due_same : (feed : ℕ) (plan : Plan) (delay : ℕ) (bytes more : List ℕ) → pulses more ≡ pulses bytes → due_log feed plan delay more ≡ due_log feed plan delay bytes

@@ -8,13 +8,12 @@ use Rattle.journal_entry.specs.declared.entry.Entry.{Entry}
 use Rattle.log_decoder.specs.Decoding.{HasDecoded, DecodesFront}
 use Rattle.log_decoder.specs.Due.{due_log, entry_line, entry_of, lines_of_entries}
 use Rattle.log_decoder.specs.declared.decoder.LogDecoder.{LogDecoder}
-use Rattle.log_decoder.proofs.DueLaws.{lines_grow}
+use Rattle.log_decoder.proofs.DueLaws.{due_none, lines_grow}
 use Rattle.pulse_log.proofs.LogLaws.{bad_stays}
 use Rattle.pulse_log.specs.declared.reader.BadLine.{BadLine}
 use Rattle.radio_receiver.specs.Histories.{History, answers_of}
 use Rattle.tick_units.specs.Log.{bad_line, bad_at_end, lines_of, or_unfinished, pulses}
 use Rattle.tick_units.specs.declared.marks.Plan.{Plan}
-use Rattle.tick_units.specs.declared.marks.Plan.TheVariants.{Dcf, Msf, Wwvb}
 use Rattle.tick_units.specs.declared.marks.Reduction.{Reduction}
 use Rattle.file_commands.specs.Decoding.{Decodes, most_of_a_log}
 use Rattle.file_commands.specs.Endings.{status_of, status_line, ending_at}
@@ -33,9 +32,7 @@ use Rattle.file_commands.specs.declared.reading.Reach.{Reach}
 use Rattle.sink_text.proofs.WritingLaws.{front_of_more}
 
 text_none : (plan : Plan) → ◌≡◌ {A = List ℕ} [] (log_text plan [])
-text_none Dcf = refl
-text_none Msf = refl
-text_none Wwvb = refl
+text_none plan = ap lines_of_entries (sym (due_none 0 plan 0))
 
 module _ {B : Type 0} (stands : B → History → Type 0) where
   -- nothing is taken yet

@@ -1,5 +1,5 @@
 -- The entries of a log are the first entries of any longer one.
-use Rattle.std.proofs.Common.{◌≡◌, ℕ, None, List, ◌++◌, map, ap, ◌∙◌}
+use Rattle.std.proofs.Common.{◌≡◌, ℕ, None, List, [], ◌++◌, map, ap, ◌∙◌}
 use Rattle.std.specs.List.{last_or}
 use Rattle.std.proofs.lemmas.List.{map-append}
 use Rattle.std.proofs.lemmas.List.Concat.{flat_map-append}
@@ -13,7 +13,7 @@ use Rattle.tick_units.specs.declared.marks.Reduction.{Reduction}
 use Rattle.tick_units.specs.declared.verdicts.Heard.{Heard}
 use Rattle.journal_entry.specs.declared.entry.Entry.{Entry}
 use Rattle.pulse_log.proofs.LogLaws.{pulses_grow}
-use Rattle.second_marks.proofs.MarkLaws.{marks_grow}
+use Rattle.second_marks.proofs.MarkLaws.{marks_grow, marks_none}
 use Rattle.minute_pair.specs.Answers.{answers, answers_after}
 use Rattle.minute_pair.proofs.Growth.{segments_grow}
 use Rattle.minute_pair.proofs.PairingLaws.{answers_grow}
@@ -25,6 +25,10 @@ entries_of feed delay heard = map (entry_of feed) (map (sent delay) heard)
 
 entries_append : (feed delay : ℕ) (xs ys : List Heard) → entries_of feed delay (xs ++ ys) ≡ entries_of feed delay xs ++ entries_of feed delay ys
 entries_append feed delay xs ys = ap (map (entry_of feed)) (map-append (sent delay) xs ys) ∙ map-append (entry_of feed) (map (sent delay) xs) (map (sent delay) ys)
+
+-- nothing is due to an empty log
+pub due_none : (feed : ℕ) (plan : Plan) (delay : ℕ) → due_log feed plan delay [] ≡ []
+due_none feed plan delay = ap (λ (ms : List Mark). entries_of feed delay (answers plan (segments_of plan ms))) (marks_none (code_of plan))
 
 pub due_grows : (feed : ℕ) (plan : Plan) (delay : ℕ) (bytes more : List ℕ) → (later : List Entry) × (due_log feed plan delay (bytes ++ more) ≡ due_log feed plan delay bytes ++ later)
 due_grows feed plan delay bytes more =

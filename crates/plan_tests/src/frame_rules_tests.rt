@@ -1,9 +1,10 @@
 //! Tests of bits, values, parities, numbers and the rules on marks.
 use crate::shared::{moment, same};
 use frame_rules::{
-    Bit, MarkWords, Number, Places, Rule, Segment, breaks_length, first_broken, has_pattern,
-    is_odd_over, is_out_of, value,
+    Bit, Number, Places, Rule, Segment, breaks_length, first_broken, has_pattern, is_odd_over,
+    is_out_of, value,
 };
+use plan_dcf::Frame;
 use std::test::Fail;
 use tick_units::{Local, Mark, Symbol};
 
@@ -78,21 +79,21 @@ fn each_plan_has_its_bits(rt: HostRuntime) -> Result<(), Fail> {
 // Marks that lie in a slice, and the same marks added one by one.
 fn spacing_of(marks: &[Mark], close: Local) -> [bool; 4] {
     let segment = Segment { marks };
-    let words = added(marks);
+    let frame = added(marks);
     [
         segment.breaks_spacing(),
-        words.breaks_spacing(),
+        frame.breaks_spacing(),
         segment.breaks_spacing_to(close),
-        words.breaks_spacing_to(close),
+        frame.breaks_spacing_to(close),
     ]
 }
 
-fn added(marks: &[Mark]) -> MarkWords {
-    let mut words = MarkWords::new();
+fn added(marks: &[Mark]) -> Frame {
+    let mut frame = Frame::new();
     for mark in marks {
-        words.add(*mark);
+        frame.add(*mark);
     }
-    words
+    frame
 }
 
 #[test]
@@ -202,21 +203,21 @@ fn seventy() -> Result<[Mark; 70], Fail> {
 }
 
 // Whether both forms answer alike on each kept place.
-fn have_the_same_places(segment: &Segment<'_>, words: &MarkWords) -> bool {
+fn have_the_same_places(segment: &Segment<'_>, frame: &Frame) -> bool {
     for place in 0..61 {
-        let alike = segment.is_set(Bit::Only, place) == words.is_set(Bit::Only, place)
-            && segment.is_set(Bit::A, place) == words.is_set(Bit::A, place)
-            && segment.is_set(Bit::B, place) == words.is_set(Bit::B, place)
-            && segment.is_long(place) == words.is_long(place);
+        let alike = segment.is_set(Bit::Only, place) == frame.is_set(Bit::Only, place)
+            && segment.is_set(Bit::A, place) == frame.is_set(Bit::A, place)
+            && segment.is_set(Bit::B, place) == frame.is_set(Bit::B, place)
+            && segment.is_long(place) == frame.is_long(place);
         if !alike {
             return false;
         }
     }
-    segment.count() == words.count() && segment.has_long_behind() == words.has_long_behind()
+    segment.count() == frame.count() && segment.has_long_behind() == frame.has_long_behind()
 }
 
 #[test]
-fn words_keep_the_places_of_a_slice(rt: HostRuntime) -> Result<(), Fail> {
+fn a_frame_keeps_the_places_of_a_slice(rt: HostRuntime) -> Result<(), Fail> {
     let marks = seventy()?;
     for count in 0..71 {
         let segment = Segment {

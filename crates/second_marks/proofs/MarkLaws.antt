@@ -60,6 +60,10 @@ held_on code old new reductions r e held parts = e ∙ ap (λ (h : Held). held_a
 pub none_held : (code : Code) (new : Held) (reductions : List Reduction) → code.has_parts ≡ false → HoldsBack code new reductions
 none_held code new reductions alone parts = absurd (true≢false (sym parts ∙ alone))
 
+-- no reductions have no marks
+pub marks_none : (code : Code) → marks_by code [] ≡ []
+marks_none code = elim code.has_parts as (λ b. cond b (joined_marks code []) (map (mark_by code) []) ≡ []) [ true ↦ refl | false ↦ refl ]
+
 -- what one more reduction adds
 pub mark_added : Code → List Reduction → Reduction → Option Mark
 mark_added code reductions r = cond code.has_parts (mark_before code (held_of code reductions) r) (Some (mark_by code r))

@@ -1,6 +1,6 @@
 -- What the search leaves open of `radio::hear_piece`.
 use Rattle.std.proofs.Common.{rules}
-use Rattle.feed_workers.proofs.LogLaws.{heard_on, missed}
+use Rattle.feed_workers.proofs.LogLaws.{heard_all, heard_on, missed, none_left}
 use Rattle.feed_workers.proofs.radio.hear_piece.Goals as goal
 
 pub returns-in-Some-clause-heard : goal.returns-in-Some-clause-heard
@@ -8,6 +8,10 @@ returns-in-Some-clause-heard g c = λ tuning begun bytes h.
     let so_far = c.rest.invariant.so_far tuning begun bytes h in
     let t = c.take_line-took in
     missed _ c.rest.decoder t.new.decoder tuning _ _ _ c.rest.rest.now t.result.count c.in-Some.line so_far t.result.bad (t.ensures.heard tuning begun so_far.front so_far.heard) c.in-Some.is
+
+pub returns-clause-heard : goal.returns-clause-heard
+returns-clause-heard g c = λ tuning begun bytes h.
+    heard_all _ c.rest.decoder tuning _ _ c.rest.rest.now (c.rest.invariant.so_far tuning begun bytes h) (none_left c.rest.rest.now c.rest-test.ensures)
 
 pub rest-preserved : goal.rest-preserved
 rest-preserved g c =
