@@ -1,5 +1,5 @@
--- The ending that a status line reports is determined: two that the same causes allow are one. No function rests on it. It is for the reader, who
--- sees by it that `IsTold` leaves no choice: of causes of one number the first is meant.
+-- The ending that a status line reports is determined: two that the same causes allow are one. No function rests on it. It is for the
+-- reader, who sees by it that `IsTold` leaves no choice: of causes of one number the first is meant.
 use Rattle.std.proofs.Common.{◌≡◌, ℕ, ◌<◌, ◌≤◌, List, [], ◌∷◌, ◌++◌, refl, sym, ap, ◌∙◌, subst, inl, inr, arith}
 use Rattle.std.specs.Prelude.{All}
 use Rattle.std.proofs.lemmas.List.Elements.{All-head, All-tail}
@@ -12,12 +12,6 @@ IsAbove number other = number < number_at other
 abbrev IsNoLess : ℕ → Ending → Type 0
 IsNoLess number other = number ≤ number_at other
 
-first_of : (x y : Ending) (xs ys : List Ending) → x ∷ xs ≡ y ∷ ys → x ≡ y
-first_of x y xs ys same = cc
-
-rest_of : (x y : Ending) (xs ys : List Ending) → x ∷ xs ≡ y ∷ ys → xs ≡ ys
-rest_of x y xs ys same = cc
-
 -- one that stands among others has what all of them have
 no_less : (number : ℕ) (due : Ending) (before behind : List Ending) → All (IsNoLess number) (before ++ due ∷ behind) → number ≤ number_at due
 no_less number due [] behind all = All-head (IsNoLess number) due behind all
@@ -27,19 +21,21 @@ no_less number due (other ∷ before) behind all = no_less number due before beh
 not_later : (one other next : Ending) (before behind rest : List Ending) → one ∷ rest ≡ next ∷ (before ++ other ∷ behind) → All (IsNoLess (number_at one)) rest →
     All (IsAbove (number_at other)) (next ∷ before) → one ≡ other
 not_later one other next before behind rest same after above =
-    let first = ap number_at (first_of one next rest (before ++ other ∷ behind) same) in
+    let first : number_at one ≡ number_at next = cc in
+    let others : rest ≡ before ++ other ∷ behind = cc in
     let less = All-head (IsAbove (number_at other)) next before above in
-    let no_more = no_less (number_at one) other before behind (subst (All (IsNoLess (number_at one))) (rest_of one next rest (before ++ other ∷ behind) same) after) in
+    let no_more = no_less (number_at one) other before behind (subst (All (IsNoLess (number_at one))) others after) in
     absurd (omega (arith, first, less, no_more))
 
 -- two that stand so in one list stand at one place
 one_place : (a b : Ending) (front_a front_b back_a back_b : List Ending) → front_a ++ a ∷ back_a ≡ front_b ++ b ∷ back_b →
     All (IsAbove (number_at a)) front_a → All (IsNoLess (number_at a)) back_a → All (IsAbove (number_at b)) front_b → All (IsNoLess (number_at b)) back_b → a ≡ b
-one_place a b [] [] back_a back_b same above_a after_a above_b after_b = first_of a b back_a back_b same
+one_place a b [] [] back_a back_b same above_a after_a above_b after_b = cc
 one_place a b [] (next ∷ front_b) back_a back_b same above_a after_a above_b after_b = not_later a b next front_b back_b back_a same after_a above_b
 one_place a b (next ∷ front_a) [] back_a back_b same above_a after_a above_b after_b = sym (not_later b a next front_a back_a back_b (sym same) after_b above_a)
 one_place a b (x ∷ front_a) (y ∷ front_b) back_a back_b same above_a after_a above_b after_b =
-    one_place a b front_a front_b back_a back_b (rest_of x y (front_a ++ a ∷ back_a) (front_b ++ b ∷ back_b) same)
+    let rest : front_a ++ a ∷ back_a ≡ front_b ++ b ∷ back_b = cc in
+    one_place a b front_a front_b back_a back_b rest
     (All-tail (IsAbove (number_at a)) x front_a above_a) after_a (All-tail (IsAbove (number_at b)) y front_b above_b) after_b
 
 -- a list with one of these is not empty
