@@ -1,7 +1,7 @@
 -- What a poller's rounds are for its server. After its request a whole round has hearings alone, so it is one request; and a worker that
 -- made all its polls sent as many requests. No function rests on these laws. They are for the reader, who sees by them what `hearing` of
 -- `IsWhole` is for.
-use Rattle.std.proofs.Common.{◌≡◌, ℕ, ◌+◌, List, [], ◌∷◌, ◌++◌, length, true, false, refl, sym, ap, ◌∙◌, arith}
+use Rattle.std.proofs.Common.{◌≡◌, ℕ, List, [], ◌∷◌, ◌++◌, length, true, refl, sym, ap, ◌∙◌, arith}
 use Rattle.std.specs.Prelude.{All}
 use Rattle.std.specs.List.{sum_by}
 use Rattle.std.proofs.lemmas.Bool.{true≢false}

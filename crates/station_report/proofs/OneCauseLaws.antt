@@ -1,6 +1,6 @@
 -- The ending that a status line reports is determined: two that the same causes allow are one. No function rests on it. It is for the
 -- reader, who sees by it that `IsTold` leaves no choice: of causes of one number the first is meant.
-use Rattle.std.proofs.Common.{◌≡◌, ℕ, ◌<◌, ◌≤◌, List, [], ◌∷◌, ◌++◌, refl, sym, ap, ◌∙◌, subst, inl, inr, arith}
+use Rattle.std.proofs.Common.{◌≡◌, ℕ, ◌<◌, ◌≤◌, List, [], ◌∷◌, ◌++◌, sym, ◌∙◌, subst, inl, inr, arith}
 use Rattle.std.specs.Prelude.{All}
 use Rattle.std.proofs.lemmas.List.Elements.{All-head, All-tail}
 use Rattle.station_report.specs.Headline.{IsFirstOfLeast, IsTold, number_at}
