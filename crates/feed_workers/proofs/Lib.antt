@@ -3,4 +3,5 @@ pub mod KeepLaws
 pub mod LeapLaws
 pub mod LogLaws
 pub mod PollLaws
+pub mod RequestLaws
 pub mod RoundLaws

@@ -6,5 +6,6 @@ pub mod DrillLaws
 pub mod EachLaws
 pub mod GoodStationLaws
 pub mod JournalTextLaws
+pub mod OneCauseLaws
 pub mod RunOfLaws
 pub mod ServingLaws

@@ -73,7 +73,7 @@ pub record PollRun : Type 0 where
   pub events : List NetEvent
   pub end : PollEnd
 
--- of a serving link: the same with the turns of both phases. The second phase begins when all feeds have ended
+-- of a serving link: the same with the turns of both phases. Tests alone show that the second begins when all feeds have ended
 pub record LinkRun : Type 0 where
   pub opened : LinkState
   pub back : LinkState
