@@ -5,4 +5,5 @@ pub mod Firsts
 pub mod KeyRows
 pub mod KeyWalks
 pub mod Orders
+pub mod PlanLaws
 pub mod Walks
