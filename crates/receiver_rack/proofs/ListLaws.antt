@@ -1,5 +1,5 @@
 -- Counts, turned lists and beginnings of lists with one item more.
-use Rattle.std.proofs.Common.{◌≡◌, ◌∙◌, ◌⊎◌, inl, inr, ℕ, zero, suc, ◌+◌, ◌<◌, ◌≤◌, Bool, true, Option, Some, None, IsSome, List, [], ◌∷◌, ◌++◌, length, get_or, reverse, take, refl, ap, arith, cond, rules}
+use Rattle.std.proofs.Common.{◌≡◌, ◌∙◌, ◌⊎◌, inl, inr, ℕ, zero, suc, ◌+◌, ◌<◌, ◌≤◌, ◌&&◌, Bool, true, false, Option, Some, None, IsSome, List, [], ◌∷◌, ◌++◌, length, get_or, reverse, take, refl, ap, arith, cond, rules, if◌then◌else◌}
 use Rattle.std.proofs.lemmas.List.{reverse-append, take_more}
 use Rattle.std.proofs.lemmas.List.Sums.{sum_by-append, sum_by-cons}
 use Rattle.std.proofs.lemmas.Option.{slice_get_cases, slice_get_within, get_or_from_slice_get}
@@ -12,6 +12,15 @@ reverse-push xs x = reverse-append xs (x ∷ [])
 -- 1 for what passes a test
 abbrev pub weight : Bool → ℕ
 weight b = cond b 1 0
+
+pub and_true : (b : Bool) → weight (b && true) ≡ weight b
+and_true true = refl
+and_true false = refl
+
+-- one more where a test passes, and as many as before where it does not
+pub one-more : (b : Bool) (n : ℕ) → n + weight b ≡ (if b then n + 1 else n)
+one-more true n = refl
+one-more false n = omega arith
 
 pub count_by-cons : {X : Type 0} (p : X → Bool) (x : X) (xs : List X) → count_by p (x ∷ xs) ≡ weight (p x) + count_by p xs
 count_by-cons p x xs = sum_by-cons (λ y. cond (p y) 1 0) x xs

@@ -1,6 +1,5 @@
 //! Makes a rack, one receiver after the other.
-ghost use Rattle.std.specs.Prelude.{◌≡◌, ℕ, [], OnOk};
-ghost use Rattle.tick_units.specs.declared.marks.Plan.TheVariants.{Dcf, Msf, Wwvb};
+ghost use Rattle.std.specs.Prelude.{ℕ, OnOk};
 ghost use Rattle.radio_receiver.specs.Histories.{blank_of};
 ghost use Rattle.receiver_rack.specs.Made.{HasOfEach, with_one};
 
@@ -19,9 +18,8 @@ pub fn put_in_rack(
     plan: Plan,
 ) -> Result<(), AllocError>
     requires { stands_for receiver (blank_of plan) }
-    ensures { (d m w : ℕ) → HasOfEach stands_for d m w rack.old.items →
-        OnOk result (HasOfEach stands_for (with_one plan Dcf d) (with_one plan Msf m)
-        (with_one plan Wwvb w) rack.new.items) }
+    ensures { (count : Plan → ℕ) → HasOfEach stands_for count rack.old.items →
+        OnOk result (HasOfEach stands_for (with_one plan count) rack.new.items) }
 {
     rack.push(receiver)?;
     Ok(())

@@ -13,7 +13,7 @@ use Rattle.script_player.specs.declared.radio.Radio.{Radio}
 use Rattle.script_player.specs.declared.radios.Radios.{Radios}
 use Rattle.script_player.specs.declared.server.Server.{Server}
 use Rattle.receiver_rack.proofs.ListLaws.{count_by-push, count_by-take, take-slice_get}
-use Rattle.receiver_rack.proofs.RackLaws.{same-plan}
+use Rattle.station_config.proofs.PlanLaws.{same-plan}
 
 -- what stands at a place of a list with one item more
 slice_get-push-cases : {X : Type 0} (xs : List X) (x y : X) (j : ℕ) → slice_get (xs ++ x ∷ []) j ≡ Some y → (slice_get xs j ≡ Some y) ⊎ ((j ≡ length xs) × (y ≡ x))

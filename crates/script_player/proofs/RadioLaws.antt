@@ -20,7 +20,7 @@ use Rattle.script_player.specs.KeptPlayer.{HasFitted, HasHeardPulse, HasRadio, H
 use Rattle.receiver_rack.specs.declared.rack.Spare.{Spare}
 use Rattle.script_player.specs.declared.radio.Radio.{Radio}
 use Rattle.script_player.specs.declared.radios.Radios.{Radios}
-use Rattle.receiver_rack.proofs.RackLaws.{same-plan}
+use Rattle.station_config.proofs.PlanLaws.{same-plan}
 use Rattle.script_player.proofs.LineLaws.{reductions-more, reductions-other, reductions-swap}
 use Rattle.receiver_rack.proofs.ListLaws.{count_by-push}
 use Rattle.script_player.proofs.ListLaws.{filter_map-none, filter_map-some, slice_get-behind, slice_set-cases}

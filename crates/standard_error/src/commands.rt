@@ -1,5 +1,8 @@
 //! The commands and their options.
 
+use crate::texts::PLAN_WORDS;
+use tick_units::Plan;
+
 /// The options of all commands.
 pub const OPTIONS: [&str; 9] = [
     "plan", "log", "station", "script", "journal", "during", "after", "seed", "limit",
@@ -87,7 +90,7 @@ fn is_number(text: &str, least: u64, most: u64) -> bool {
 /// What an option requires, where this value does not satisfy it.
 pub fn wanted(option: &str, value: &str) -> Option<&'static str> {
     let (is_good, wants) = match option {
-        "plan" => (is_in(&["dcf", "msf", "wwvb"], value), "dcf, msf or wwvb"),
+        "plan" => (Plan::of_word(value).is_some(), PLAN_WORDS),
         "during" | "after" => (
             is_number(value, 0, 1_000_000),
             "a whole number from 0 to 1000000",

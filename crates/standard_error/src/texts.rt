@@ -28,6 +28,9 @@ The exit status, which the last line of the output says too: 0 done, 1 usage,
 See man radio_ntpd and docs/OPERATING.md.
 ";
 
+/// The names of the code plans.
+pub const PLAN_WORDS: &str = "dcf, msf or wwvb";
+
 /// The command lines.
 pub const COMMAND_LINES: &str =
     "radio_ntpd serve --station FILE [--during HEARINGS] [--after HEARINGS]

@@ -1,5 +1,4 @@
 //! A writer that keeps the last line of what it took.
-ghost use Rattle.std.specs.Prelude.{◌≡◌};
 
 use std::io::{self, Write};
 

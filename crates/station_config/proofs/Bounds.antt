@@ -1,17 +1,19 @@
 -- The bounds of a station's values, and of a station that has not too many rows.
-use Rattle.std.proofs.Common.{◌≡◌, ◌^◌, ◌<◌, ◌≤◌, ℕ, zero, suc, pos, negsuc, Bool, true, false, List, [], ◌∷◌, Option, Some, None, All, cond, map, find, get_or, length, nat_le, nat_lt, refl, sym, ap, arith, unwrap_or, if◌then◌else◌}
-use Rattle.std.specs.Prelude.{◌&&◌, is_some}
-use Rattle.std.proofs.lemmas.Bool.{true≢false, and_parts}
+use Rattle.std.proofs.Common.{◌≡◌, ◌∙◌, ◌^◌, ◌<◌, ◌≤◌, ℕ, zero, suc, pos, negsuc, Bool, true, false, List, [], ◌∷◌, Option, Some, None, All, cond, map, find, get_or, length, nat_le, nat_lt, refl, sym, ap, arith, unwrap_or, if◌then◌else◌}
+use Rattle.std.specs.Prelude.{◌&&◌, ◌++◌, is_some, not}
+use Rattle.std.specs.List.{list_all}
+use Rattle.std.proofs.lemmas.Bool.{and_parts, not-true, true≢false}
 use Rattle.std.proofs.lemmas.Bool.Decides.{nat_tests}
 use Rattle.toml.specs.Data.{Data, Members, array, boolean, datetime, float, integer, string, table}
+use Rattle.tick_units.specs.Plans.{plans}
 use Rattle.tick_units.specs.declared.marks.Plan.{Plan}
-use Rattle.tick_units.specs.declared.marks.Plan.TheVariants.{Dcf, Msf, Wwvb}
 use Rattle.packet_auth.specs.Keys.{AreApart}
-use Rattle.station_config.specs.Faults.{counts_of}
+use Rattle.station_config.specs.Faults.{counts_of, counts_of_others, plan_radios}
 use Rattle.station_config.specs.Rows.{bound_row, clients_row, gap_row, radio_row, start_row, delay_row, whole_in}
 use Rattle.station_config.specs.Station.{IsStation, RadioFields, StationFields, feed_count, plan_count}
 use Rattle.station_config.specs.Values.{radio_of, read_or, station_of, tables_at}
 use Rattle.toml.specs.Data.{get_member}
+use Rattle.station_config.proofs.PlanLaws.{each}
 
 pub record IsFrom (least most n : ℕ) : Type 0 where
   pub low : least ≤ n
@@ -51,11 +53,18 @@ none_found : {X : Type 0} (b : Bool) (x : X) (rest : Option X) → None ≡ cond
 none_found true x rest e = absurd (true≢false (sym (ap is_some e)))
 none_found false x rest e = (refl, e)
 
+-- the same of items that are counted one by one
+none_of : {X Y : Type 0} (test : X → Bool) (counted : Y → X) (ys : List Y) (rest : List X) → None ≡ find test (map counted ys ++ rest)
+    → (list_all (λ y. not (test (counted y))) ys ≡ true) × (None ≡ find test rest)
+none_of test counted [] rest e = (refl, e)
+none_of test counted (y ∷ ys) rest e =
+    let (here, later) = none_found (test (counted y)) (counted y) (find test (map counted ys ++ rest)) e in
+    let (others, after) = none_of test counted ys rest later in
+    (ap (λ b. not b && list_all (λ z. not (test (counted z))) ys) here ∙ others, after)
+
 pub record IsWithin (s : StationFields) : Type 0 where
   pub sources : feed_count s ≤ 16
-  pub dcf : plan_count Dcf s.radios ≤ 4
-  pub msf : plan_count Msf s.radios ≤ 4
-  pub wwvb : plan_count Wwvb s.radios ≤ 4
+  pub each_plan : (plan : Plan) → plan_count plan s.radios ≤ 4
   pub ports : length s.links ≤ 8
   pub keys : length s.keys ≤ 8
   pub nets : length s.deny ≤ 16
@@ -66,18 +75,17 @@ at_most most n e = grind (arith, nat_tests)
 pub within : (s : StationFields) → None ≡ find (λ c. nat_lt c.most c.count) (counts_of s) → IsWithin s
 within s e =
     let (a, e1) = none_found _ _ _ e in
-    let (b, e2) = none_found _ _ _ e1 in
-    let (c, e3) = none_found _ _ _ e2 in
-    let (d, e4) = none_found _ _ _ e3 in
-    let (l, e5) = none_found _ _ _ e4 in
-    let (k, e6) = none_found _ _ _ e5 in
-    let (n, e7) = none_found _ _ _ e6 in
-    record { sources = at_most _ _ a; dcf = at_most _ _ b; msf = at_most _ _ c; wwvb = at_most _ _ d; ports = at_most _ _ l; keys = at_most _ _ k; nets = at_most _ _ n }
-
-each_plan : (s : StationFields) → IsWithin s → (plan : Plan) → plan_count plan s.radios ≤ 4
-each_plan s w Dcf = w.dcf
-each_plan s w Msf = w.msf
-each_plan s w Wwvb = w.wwvb
+    let (ps, e2) = none_of (λ c. nat_lt c.most c.count) (plan_radios s.radios) plans (counts_of_others s) e1 in
+    let (l, e3) = none_found _ _ _ e2 in
+    let (k, e4) = none_found _ _ _ e3 in
+    let (n, e5) = none_found _ _ _ e4 in
+    record {
+      sources = at_most _ _ a;
+      each_plan = λ plan. at_most 4 (plan_count plan s.radios) (not-true (nat_lt 4 (plan_count plan s.radios)) (each (λ p. not (nat_lt 4 (plan_count p s.radios))) ps plan));
+      ports = at_most _ _ l;
+      keys = at_most _ _ k;
+      nets = at_most _ _ n;
+    }
 
 pub station_bounds : (m : Members) → IsWithin (station_of m) → AreApart (station_of m).keys → IsStation (station_of m)
 station_bounds m w apart =
@@ -87,7 +95,7 @@ station_bounds m w apart =
     let clients = read_is 1 65536 1024 (get_member clients_row.key m) (record { low = omega arith; high = omega arith }) in
     record {
       sources = w.sources;
-      plans = each_plan (station_of m) w;
+      plans = w.each_plan;
       ports = w.ports;
       keys = w.keys;
       apart = apart;

@@ -1,5 +1,5 @@
 -- What stands first in a list, and the table that a value is.
-use Rattle.std.proofs.Common.{◌≡◌, ◌∙◌, ◌||◌, ℕ, true, false, Bool, List, [], ◌∷◌, ◌++◌, Option, Some, None, refl, sym, ap, cond, map, find, option_map, slice_get}
+use Rattle.std.proofs.Common.{◌≡◌, ◌∙◌, ◌||◌, ◌+◌, ◌<◌, ℕ, zero, suc, true, false, Bool, List, [], ◌∷◌, ◌++◌, Option, Some, None, refl, sym, ap, arith, cond, drop, map, find, get_or, length, option_map, slice_get}
 use Rattle.std.proofs.lemmas.Bool.{true≢false}
 use Rattle.std.proofs.lemmas.Option.{same_Some}
 use Rattle.std.specs.List.{list_any}
@@ -64,6 +64,19 @@ found_in f false x rest = refl
 pub find-map : {X Y : Type 0} (f : X → Y) (p : Y → Bool) (xs : List X) → option_map f (find (λ x. p (f x)) xs) ≡ find p (map f xs)
 find-map f p [] = refl
 find-map f p (x ∷ xs) = found_in f (p (f x)) x (find (λ y. p (f y)) xs) ∙ ap (cond (p (f x)) (Some (f x))) (find-map f p xs)
+
+-- the first that passes from a place on: the item there, or one after it
+pub find-here : {X Y : Type 0} (f : X → Y) (p : Y → Bool) (xs : List X) (i : ℕ) (d : X) → i < length xs → p (f (get_or xs i d)) ≡ true → find p (map f (drop i xs)) ≡ Some (f (get_or xs i d))
+find-here f p [] i d h e = absurd (omega arith)
+find-here f p (x ∷ xs) zero d h e = ap (λ b. cond b (Some (f x)) (find p (map f xs))) e
+find-here f p (x ∷ xs) (suc i) d h e = find-here f p xs i d (omega arith) e
+
+pub find-later : {X Y : Type 0} (f : X → Y) (p : Y → Bool) (xs : List X) (i : ℕ) (d : X) → i < length xs → p (f (get_or xs i d)) ≡ false → find p (map f (drop i xs)) ≡ find p (map f (drop (i + 1) xs))
+find-later f p [] i d h e = absurd (omega arith)
+find-later f p (x ∷ xs) zero d h e = ap (λ b. cond b (Some (f x)) (find p (map f xs))) e
+find-later f p (x ∷ xs) (suc i) d h e =
+    let next : suc (i + 1) ≡ suc i + 1 = omega arith in
+    find-later f p xs i d (omega arith) e ∙ ap (λ n. find p (map f (drop n (x ∷ xs)))) next
 
 -- ---- the table that a value is, and the tables of an array
 

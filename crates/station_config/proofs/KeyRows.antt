@@ -5,11 +5,10 @@ use Rattle.std.specs.List.{list_any}
 use Rattle.std.proofs.Math.Bool.{or-true}
 use Rattle.std.proofs.lemmas.Bool.{true≢false}
 use Rattle.toml.specs.Data.{Members}
-use Rattle.station_config.specs.Faults.{bad_in, bad_in_key, bad_in_keys, is_bad, is_taken, key_in}
+use Rattle.station_config.specs.Faults.{bad_in, bad_in_key, is_bad, is_taken}
 use Rattle.station_config.specs.Finding.{ids_of}
 use Rattle.station_config.specs.KeptStation.{key_kept}
 use Rattle.station_config.specs.Rows.{Row, id_row, secret_row}
-use Rattle.station_config.specs.declared.keys.Part.TheVariants as part
 use Rattle.station_config.specs.declared.shared_key.SharedKey.{SharedKey}
 use Rattle.packet_auth.specs.Keys.{has_id}
 
@@ -32,10 +31,6 @@ secret-bad m h = rw h refl
 
 pub secret-good : (m : Members) → is_bad m secret_row ≡ false → bad_in (secret_row ∷ []) m ≡ []
 secret-good m h = rw h refl
-
--- the values at fault in one table
-pub one-table : (taken : List ℕ) (place : ℕ) (m : Members) → bad_in_keys taken ((place, m) ∷ []) ≡ map (key_in part.Key place) (bad_in_key taken m)
-one-table taken place m = append-nil (map (key_in part.Key place) (bad_in_key taken m))
 
 first-bad : (m : Members) (rest : List Row) (row : Row) → is_bad m row ≡ true → slice_get (bad_in (row ∷ rest) m) 0 ≡ Some row.key
 first-bad m rest row h = rw h refl

@@ -3,6 +3,7 @@ pub mod Bounds
 pub mod Feeds
 pub mod Firsts
 pub mod KeyRows
-pub mod KeyWalks
+pub mod KeysApart
 pub mod Orders
+pub mod PlanLaws
 pub mod Walks

@@ -2,11 +2,12 @@
 use Rattle.std.specs.Prelude.{◌≡◌, ⊤, ℕ, ◌==◌, ◌||◌, Bool, true, false, not, List, [], ◌∷◌, ◌++◌, map, filter, flat_map, length, nat_lt, Option, Some, None, is_none, slice_get, codes, decimal, IsUtf8, if◌then◌else◌}
 use Rattle.std.specs.List.{list_any}
 use Rattle.std.specs.Str.{bytes_eq}
-use Rattle.tick_units.specs.declared.marks.Plan.TheVariants.{Dcf, Msf, Wwvb}
+use Rattle.tick_units.specs.Plans.{plans}
+use Rattle.tick_units.specs.declared.marks.Plan.{Plan}
 use Rattle.toml.specs.Data.{Data, Members, get_member, member, no_members}
 use Rattle.toml.specs.Parse.{parse_document}
 use Rattle.station_config.specs.Rows.{Text, Form, Need, required, preset, optional, Row, has_form, top_rows, radio_rows, server_rows, link_rows, key_rows, deny_rows, link_row, radio_row, server_row, key_row, deny_row, id_row, secret_row}
-use Rattle.station_config.specs.Station.{StationFields, feed_count, plan_count}
+use Rattle.station_config.specs.Station.{RadioFields, StationFields, feed_count, plan_count}
 use Rattle.station_config.specs.Values.{number_at, station_of, tables_at}
 use Rattle.station_config.specs.declared.fault.StationFault.{StationFault}
 use Rattle.station_config.specs.declared.fault.StationFault.TheVariants as fault
@@ -132,16 +133,22 @@ pub record Count : Type 0 where
   pub count : ℕ
   pub most : ℕ
 
--- all feeds together, the radios of each plan, the links, the keys, and the denied nets
+-- the radios of a plan
+abbrev pub plan_radios : List RadioFields → Plan → Count
+plan_radios radios plan = record { key = codes "radio"; count = plan_count plan radios; most = 4 }
+
+-- the links, the keys, and the denied nets
+abbrev pub counts_of_others : StationFields → List Count
+counts_of_others station =
+    record { key = codes "link"; count = length station.links; most = 8 }
+    ∷ record { key = codes "key"; count = length station.keys; most = 8 }
+    ∷ record { key = codes "deny"; count = length station.deny; most = 16 } ∷ []
+
+-- all feeds together, the radios of each plan, and the others
 abbrev pub counts_of : StationFields → List Count
 counts_of station =
     record { key = codes "radio"; count = feed_count station; most = 16 }
-    ∷ record { key = codes "radio"; count = plan_count Dcf station.radios; most = 4 }
-    ∷ record { key = codes "radio"; count = plan_count Msf station.radios; most = 4 }
-    ∷ record { key = codes "radio"; count = plan_count Wwvb station.radios; most = 4 }
-    ∷ record { key = codes "link"; count = length station.links; most = 8 }
-    ∷ record { key = codes "key"; count = length station.keys; most = 8 }
-    ∷ record { key = codes "deny"; count = length station.deny; most = 16 } ∷ []
+    ∷ (map (plan_radios station.radios) plans ++ counts_of_others station)
 
 abbrev pub excess_of : StationFields → List Fault
 excess_of station = map (λ c. too_many c.key c.count) (filter (λ c. nat_lt c.most c.count) (counts_of station))

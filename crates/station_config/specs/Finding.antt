@@ -5,19 +5,18 @@ use Rattle.toml.specs.Data.{Data, Members}
 use Rattle.toml.specs.View.{items_view}
 use Rattle.toml.specs.declared.value.Value.{Value}
 use Rattle.packet_auth.specs.Keys.{AreApart, KeyFields}
-use Rattle.station_config.specs.Faults.{Count as Limit, Fault, bad_in, bad_in_keys, bad_range, bad_values, is_wrong, key_in, keys_at, missing_in, missing_key, sheets, too_many, unknown_in, unknown_key}
+use Rattle.station_config.specs.Faults.{Count as Limit, Fault, bad_range, bad_values, is_wrong, key_in, missing_in, missing_key, too_many, unknown_in, unknown_key}
 use Rattle.station_config.specs.Rows.{Form, Row, Text, tables_from}
 use Rattle.station_config.specs.Station.{StationFields}
-use Rattle.station_config.specs.Values.{key_of, read_or, station_of}
+use Rattle.station_config.specs.Values.{read_or, station_of}
 use Rattle.station_config.specs.declared.keys.Check.{Check}
 use Rattle.station_config.specs.declared.keys.Check.TheVariants.{Unknown, Missing}
-use Rattle.station_config.specs.declared.keys.Part.{Part}
 use Rattle.station_config.specs.declared.keys.Spot.{Spot}
 use Rattle.station_config.specs.declared.counts.Count.{Count}
 use Rattle.station_config.specs.declared.items.KeyFault.{KeyFault}
 use Rattle.station_config.specs.declared.items.KeyFault.TheVariants as key_fault
-use Rattle.station_config.specs.declared.rows.Misread.{Misread}
-use Rattle.station_config.specs.declared.rows.Misread.TheVariants as misread
+use Rattle.station_config.specs.declared.items.Misread.{Misread}
+use Rattle.station_config.specs.declared.items.Misread.TheVariants as misread
 
 abbrev pub spot_text : Spot → Text
 spot_text s = key_in s.part s.place s.key.now
@@ -56,16 +55,11 @@ IsMisreadAt bad key_fault.Memory = ⊤
 IsMisreadAt bad (key_fault.Range spot) = slice_get bad 0 ≡ Some (spot_text spot)
 IsMisreadAt bad _ = ⊥
 
--- the rows of these tables follow others, and none of their values is a fault
-pub record Adds {F : Type 0} (part : Part) (row_of : Members → F) (tables : List (ℕ × Members)) (before after : List F) : Type 0 where
+-- the rows of these tables follow others, and none of their values is a fault; what holds of the others holds of all
+pub record Adds {F : Type 0} (row_of : Members → F) (bad : List F → List (ℕ × Members) → List Text) (hold : List F → Type 0) (tables : List (ℕ × Members)) (before after : List F) : Type 0 where
   pub rows : after ≡ before ++ map (λ t. row_of t.1) tables
-  pub good : keys_at bad_in (sheets part tables) ≡ []
-
--- the keys of these tables follow others, none of their values is a fault, and no identifier stands twice
-pub record AddsKeys (tables : List (ℕ × Members)) (before after : List KeyFields) : Type 0 where
-  pub rows : after ≡ before ++ map (λ t. key_of t.1) tables
-  pub good : bad_in_keys (ids_of before) tables ≡ []
-  pub apart : AreApart before → AreApart after
+  pub good : bad before tables ≡ []
+  pub held : hold before → hold after
 
 -- what a document says, where none of its values is a fault; no identifier of a key stands twice
 pub record IsReadOf (members : Members) (fields : StationFields) : Type 0 where

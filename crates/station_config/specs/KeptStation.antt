@@ -36,7 +36,7 @@ parts_fields p = record {
   radios = map radio_kept p.radios.items;
   servers = map server_fields p.servers.items;
   leap_file = option_map string_bytes p.leap_file;
-  links = p.links.items;
+  links = map (λ l. l.port) p.links.items;
   keys = map key_kept p.keys.items;
   deny = map net_kept p.deny.items;
 }

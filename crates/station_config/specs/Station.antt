@@ -1,6 +1,7 @@
 -- What a station is: its radios, its servers, its leap second file, its links, the keys that it shares with its clients, and the
 -- nets that it denies. All of it is this project's own.
-use Rattle.std.specs.Prelude.{ℕ, [], ◌∷◌, ◌≤◌, ◌+◌, ◌^◌, Bool, Option, None, Some, List, All, ◌++◌, length, map, count_by, true, false}
+use Rattle.std.specs.Prelude.{ℕ, [], ◌∷◌, ◌≤◌, ◌+◌, ◌^◌, Bool, Option, None, Some, List, All, ◌++◌, length, map, count_by}
+use Rattle.std.specs.Str.{bytes_eq}
 use Rattle.feed_link.specs.declared.outside.Address.{Address}
 use Rattle.packet_auth.specs.Keys.{AreApart, KeyFields}
 use Rattle.kiss_gate.specs.Gates.{Gate}
@@ -37,11 +38,9 @@ pub record StationFields : Type 0 where
   pub keys : List KeyFields
   pub deny : List Net
 
+-- two plans are the same where they have one name
 abbrev pub is_same_plan : Plan → Plan → Bool
-is_same_plan Dcf Dcf = true
-is_same_plan Msf Msf = true
-is_same_plan Wwvb Wwvb = true
-is_same_plan _ _ = false
+is_same_plan a b = bytes_eq (word_of a) (word_of b)
 
 -- how many of the radios have a plan
 abbrev pub plan_count : Plan → List RadioFields → ℕ

@@ -1,12 +1,16 @@
 //! How many rows a station has, and how many it may have.
 ghost use Rattle.std.specs.Prelude.{◌≡◌, find, map, nat_lt, option_map};
+ghost use Rattle.tick_units.specs.Plans.{plans};
 ghost use Rattle.station_config.specs.Station.{feed_count, is_same_plan, plan_count};
-ghost use Rattle.station_config.specs.Faults.{counts_of};
+ghost use Rattle.station_config.specs.Faults.{counts_of, plan_radios};
 ghost use Rattle.station_config.specs.Finding.{count_seen};
 ghost use Rattle.station_config.specs.KeptStation.{parts_fields, radio_kept};
 
 use crate::station::{Parts, Radio};
 use tick_units::Plan;
+
+// The radios that a plan may have.
+const OF_A_PLAN: u64 = 4;
 
 // A number of rows, and how many there may be.
 #[derive(Clone, Copy)]
@@ -16,10 +20,17 @@ pub struct Count {
     pub most: u64,
 }
 
+// All code plans, in the order of their faults.
+fn all_plans() -> &'static [Plan]
+    ensures { result.now ≡ plans }
+{
+    &[Plan::Dcf, Plan::Msf, Plan::Wwvb]
+}
+
 fn has_plan(radio: &Radio, plan: Plan) -> bool
     ensures { result ≡ is_same_plan plan radio.now.plan }
 {
-    radio.plan == plan
+    plan == radio.plan
 }
 
 fn plan_count(radios: &[Radio], plan: Plan) -> u64
@@ -46,32 +57,41 @@ fn feed_count(parts: &Parts) -> usize
     parts.radios.len() + parts.servers.len() + usize::from(parts.leap_file.is_some())
 }
 
+// The radios of the first of these plans that has too many.
+fn plan_excess(radios: &[Radio], some: &[Plan]) -> Option<Count>
+    ensures { option_map count_seen result ≡
+        find (λ c. nat_lt c.most c.count) (map (plan_radios (map radio_kept radios.now)) some.now) }
+{
+    for plan in some {
+        let count = plan_count(radios, *plan);
+        if OF_A_PLAN < count {
+            return Some(Count {
+                key: "radio",
+                count,
+                most: OF_A_PLAN,
+            });
+        }
+    }
+    None
+}
+
 // The first number of rows that is above its limit.
 pub fn excess(parts: &Parts) -> Option<Count>
     ensures { option_map count_seen result ≡ find (λ c. nat_lt c.most c.count) (counts_of (parts_fields parts.now)) }
 {
-    let radios = parts.radios.as_slice();
+    let feeds = first_over(&[Count {
+        key: "radio",
+        count: feed_count(parts) as u64,
+        most: 16,
+    }]);
+    if feeds.is_some() {
+        return feeds;
+    }
+    let of_a_plan = plan_excess(parts.radios.as_slice(), all_plans());
+    if of_a_plan.is_some() {
+        return of_a_plan;
+    }
     first_over(&[
-        Count {
-            key: "radio",
-            count: feed_count(parts) as u64,
-            most: 16,
-        },
-        Count {
-            key: "radio",
-            count: plan_count(radios, Plan::Dcf),
-            most: 4,
-        },
-        Count {
-            key: "radio",
-            count: plan_count(radios, Plan::Msf),
-            most: 4,
-        },
-        Count {
-            key: "radio",
-            count: plan_count(radios, Plan::Wwvb),
-            most: 4,
-        },
         Count {
             key: "link",
             count: parts.links.len() as u64,

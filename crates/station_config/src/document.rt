@@ -1,5 +1,5 @@
 //! The station of a document, or its first fault.
-ghost use Rattle.std.specs.Prelude.{◌≡◌, ◌≤◌, ◌^◌, [], Some, IfOk, IfErr, option_map, slice_get, string_bytes};
+ghost use Rattle.std.specs.Prelude.{◌≡◌, ◌^◌, [], Some, IfOk, IfErr, option_map, slice_get, string_bytes};
 ghost use Rattle.toml.specs.Data.{get_member};
 ghost use Rattle.toml.specs.View.{items_view, table_view};
 ghost use Rattle.station_config.specs.Rows.{tables_from, top_rows, deny_row, key_row, link_row, radio_row, server_row, start_row, whole_in};
@@ -9,10 +9,10 @@ ghost use Rattle.station_config.specs.Finding.{IsFirstKeyFault, IsMisreadAt, IsR
 ghost use Rattle.station_config.specs.KeptStation.{parts_fields};
 
 use crate::counts::excess;
-use crate::items::{KeyFault, read_keys, read_links, read_nets, read_radios, read_servers};
+use crate::items::{KeyFault, read_items};
 use crate::keys::{Check, Part, Spot, first_at, tables};
-use crate::rows::{number, some_text};
 use crate::station::{Parts, Station, TopNumbers};
+use crate::values::{number, some_text};
 use std::alloc::{AllocError, Global};
 use tick_units::Local;
 use toml::{Table, Value};
@@ -126,14 +126,14 @@ fn read_parts(alloc: Global, table: &Table) -> Result<Parts, KeyFault<'static>>
             }));
         }
     };
-    let radios = read_radios(alloc, top.radios)?;
-    let servers = read_servers(alloc, top.servers)?;
+    let radios = read_items(alloc, top.radios)?;
+    let servers = read_items(alloc, top.servers)?;
     let Ok(leap_file) = kept_name(alloc, top.leap_file) else {
         return Err(KeyFault::Memory);
     };
-    let links = read_links(alloc, top.links)?;
-    let keys = read_keys(alloc, top.keys)?;
-    let deny = read_nets(alloc, top.deny)?;
+    let links = read_items(alloc, top.links)?;
+    let keys = read_items(alloc, top.keys)?;
+    let deny = read_items(alloc, top.deny)?;
     Ok(Parts {
         top: top.numbers,
         radios,

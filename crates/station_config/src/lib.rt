@@ -14,6 +14,7 @@ mod reading;
 mod rows;
 mod shared_key;
 mod station;
+mod values;
 
 pub use fault::{KeyText, StationFault};
 pub use reading::read_station;

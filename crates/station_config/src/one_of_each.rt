@@ -1,5 +1,5 @@
 //! A station that no file names: a radio of each plan.
-ghost use Rattle.std.specs.Prelude.{◌≡◌, ◌++◌, [], ◌∷◌, IfOk, map};
+ghost use Rattle.std.specs.Prelude.{◌≡◌, IfOk};
 ghost use Rattle.station_config.specs.KeptStation.{radio_kept};
 ghost use Rattle.station_config.specs.Station.{one_of_each, plain_radio};
 

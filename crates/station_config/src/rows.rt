@@ -1,124 +1,152 @@
-//! The values at the keys of a table.
-ghost use Rattle.std.specs.Prelude.{◌≡◌, ◌≤◌, ◌<◌, ◌==◌, ◌^◌, ◌-◌, length, map, Some, None, false, IfOk, IfErr, IfSome, IsSome, [], option_map, codes};
-ghost use Rattle.std.specs.List.{list_all, list_any};
-ghost use Rattle.tick_units.specs.declared.marks.Plan.TheVariants.{Dcf};
-ghost use Rattle.toml.specs.Data.{get_member, string};
-ghost use Rattle.toml.specs.View.{view, table_view};
-ghost use Rattle.station_config.specs.Rows.{whole_in, text_in, some_text_in, secret_in, is_secret, is_visible, plan_in, address_in, net_in, whole, text, secret, plan, address, net, radio_rows, server_rows, link_rows, key_rows, deny_rows, port_row};
-ghost use Rattle.station_config.specs.Values.{all_addresses, key_of, net_of, number_at, radio_of, server_of};
-ghost use Rattle.station_config.specs.Faults.{bad_in, bad_in_key, missing_in};
-ghost use Rattle.station_config.specs.Finding.{IsRead, IsMisread, ids_of};
-ghost use Rattle.station_config.specs.KeptStation.{key_kept, net_kept, radio_kept, server_fields};
+//! The rows of each array of tables.
+ghost use Rattle.std.specs.Prelude.{◌≡◌, ◌==◌};
+ghost use Rattle.std.specs.List.{list_any};
 
-use crate::address::address;
 use crate::denied_net::DeniedNet;
-use crate::keys::value_at;
-use crate::nets::denied_net;
+use crate::items::{Item, Misread};
+use crate::keys::Part;
 use crate::shared_key::SharedKey;
-use crate::station::{Radio, ServerRow};
+use crate::station::{LinkRow, Radio, ServerRow};
+use crate::values::{cidr, id, ip, number, plan, port, secret, text};
 use feed_link::Address;
 use std::alloc::Global;
-use tick_units::Plan;
-use toml::{Table, Value};
+use toml::Table;
 
-// A secret has at most this number of bytes.
-const LONGEST: usize = 32;
+impl Item for Radio {
+    ghost use Rattle.std.specs.Prelude.{refl};
+    ghost use Rattle.station_config.specs.Faults.{bad_in, keys_at, sheets};
+    ghost use Rattle.station_config.specs.KeptStation.{radio_kept};
+    ghost use Rattle.station_config.specs.Station.{RadioFields};
+    ghost use Rattle.station_config.specs.Rows.{radio_rows};
+    ghost use Rattle.station_config.specs.Values.{radio_of};
+    ghost use Rattle.station_config.specs.declared.keys.Part.TheVariants as part;
 
-// Why the values of a table could not be read: the value at this key is not of its type and range, or memory ran out.
-#[derive(Clone, Copy)]
-pub enum Misread {
-    Range(&'static str),
-    Memory,
-}
+    ghost part = { part.Radio };
 
-// A whole number in a range.
-fn whole(value: &Value, least: u64, most: u64) -> Option<u64>
-    ensures value { result ≡ whole_in least most (view value.now) }
-    ensures most { IfSome result (λ n. n ≤ most) }
-{
-    let number = u64::try_from(value.as_integer()?).ok()?;
-    if least <= number && number <= most {
-        Some(number)
-    } else {
-        None
+    ghost Fields = { RadioFields };
+
+    ghost fields = { radio_kept };
+
+    ghost row_of = { radio_of };
+
+    ghost bad_of = { λ before m. bad_in radio_rows m };
+
+    ghost bad = { λ before tables. keys_at bad_in (sheets part.Radio tables) };
+
+    ghost hold = { λ rows. Unit {0} };
+
+    ghost bad_none = { λ before. refl };
+
+    ghost bad_more = { λ before place m more. refl };
+
+    fn part() -> Part {
+        Part::Radio
+    }
+
+    fn read(alloc: Global, table: &Table, _before: &[Radio]) -> Result<Radio, Misread> {
+        let Some(delay) = number(table, "delay", 0, 100_000, 0) else {
+            return Err(Misread::Range("delay"));
+        };
+        let Some(log) = text(table, "log") else {
+            return Err(Misread::Range("log"));
+        };
+        let Some(plan) = plan(table) else {
+            return Err(Misread::Range("plan"));
+        };
+        let Ok(log) = String::from_str(alloc, log) else {
+            return Err(Misread::Memory);
+        };
+        Ok(Radio {
+            plan,
+            log,
+            delay: delay as u32,
+        })
     }
 }
 
-// The whole number in a range at a key, or else the default.
-pub fn number(table: &Table, key: &str, least: u64, most: u64, default: u64) -> Option<u64>
-    requires { default ≤ most }
-    ensures read { IsRead (whole least most) default (whole_in least most)
-        (get_member key.now (table_view table.now)) result }
-    ensures most { IfSome result (λ n. n ≤ most) }
-{
-    match value_at(table, key) {
-        Some(value) => whole(value, least, most),
-        None => Some(default),
+impl Item for ServerRow {
+    ghost use Rattle.std.specs.Prelude.{refl};
+    ghost use Rattle.station_config.specs.Faults.{bad_in, keys_at, sheets};
+    ghost use Rattle.station_config.specs.KeptStation.{server_fields};
+    ghost use Rattle.station_config.specs.Station.{ServerFields};
+    ghost use Rattle.station_config.specs.Rows.{server_rows};
+    ghost use Rattle.station_config.specs.Values.{server_of};
+    ghost use Rattle.station_config.specs.declared.keys.Part.TheVariants as part;
+
+    ghost part = { part.Server };
+
+    ghost Fields = { ServerFields };
+
+    ghost fields = { server_fields };
+
+    ghost row_of = { server_of };
+
+    ghost bad_of = { λ before m. bad_in server_rows m };
+
+    ghost bad = { λ before tables. keys_at bad_in (sheets part.Server tables) };
+
+    ghost hold = { λ rows. Unit {0} };
+
+    ghost bad_none = { λ before. refl };
+
+    ghost bad_more = { λ before place m more. refl };
+
+    fn part() -> Part {
+        Part::Server
+    }
+
+    fn read(_alloc: Global, table: &Table, _before: &[ServerRow]) -> Result<ServerRow, Misread> {
+        let Some(ip) = ip(table) else {
+            return Err(Misread::Range("address"));
+        };
+        let Some(polls) = number(table, "polls", 0, 100_000, 8) else {
+            return Err(Misread::Range("polls"));
+        };
+        let Some(port) = port(table) else {
+            return Err(Misread::Range("port"));
+        };
+        Ok(ServerRow {
+            address: Address { ip, port },
+            polls: polls as u32,
+        })
     }
 }
 
-// A text that is not empty.
-fn filled_text(value: &Value) -> Option<&str>
-    ensures { option_map (λ t. t.now) result ≡ text_in (view value.now) }
-{
-    let text = value.as_str()?;
-    if text.is_empty() { None } else { Some(text) }
-}
+impl Item for LinkRow {
+    ghost use Rattle.std.specs.Prelude.{ℕ, refl};
+    ghost use Rattle.station_config.specs.Faults.{bad_in, keys_at, sheets};
+    ghost use Rattle.station_config.specs.Rows.{link_rows, port_row};
+    ghost use Rattle.station_config.specs.Values.{number_at};
+    ghost use Rattle.station_config.specs.declared.keys.Part.TheVariants as part;
 
-// The text at a key where there is a value, which is not empty.
-pub fn some_text<'a>(table: &'a Table, key: &str) -> Option<Option<&'a str>>
-    ensures { IsRead text None some_text_in (get_member key.now (table_view table.now))
-        (option_map (option_map (λ t. t.now)) result) }
-{
-    match value_at(table, key) {
-        Some(value) => Some(Some(filled_text(value)?)),
-        None => Some(None),
+    ghost part = { part.Link };
+
+    ghost Fields = { ℕ };
+
+    ghost fields = { λ link. link.port };
+
+    ghost row_of = { number_at port_row };
+
+    ghost bad_of = { λ before m. bad_in link_rows m };
+
+    ghost bad = { λ before tables. keys_at bad_in (sheets part.Link tables) };
+
+    ghost hold = { λ rows. Unit {0} };
+
+    ghost bad_none = { λ before. refl };
+
+    ghost bad_more = { λ before place m more. refl };
+
+    fn part() -> Part {
+        Part::Link
     }
-}
 
-// The text at a key, which is not empty.
-fn text<'a>(table: &'a Table, key: &str) -> Option<&'a str>
-    requires { IsSome (get_member key.now (table_view table.now)) }
-    ensures { IsRead text [] text_in (get_member key.now (table_view table.now)) (option_map (λ t. t.now) result) }
-{
-    filled_text(value_at(table, key)?)
-}
-
-// Only visible characters of ASCII.
-fn is_visible(text: &[u8]) -> bool
-    ensures { result ≡ list_all is_visible text.now }
-{
-    text.iter().all(|byte| 33 <= *byte && *byte <= 126)
-}
-
-// One to 32 visible characters of ASCII.
-fn is_secret(text: &str) -> bool
-    ensures { result ≡ is_secret text.now }
-{
-    1 <= text.len() && text.len() <= LONGEST && is_visible(text.as_bytes())
-}
-
-// The secret of a key.
-fn secret(table: &Table) -> Option<&str>
-    requires { IsSome (get_member (codes "secret") (table_view table.now)) }
-    ensures read { IsRead secret [] secret_in (get_member (codes "secret") (table_view table.now)) (option_map
-        (λ t. t.now) result) }
-    ensures least { IfSome result (λ t. 1 ≤ length t.now) }
-    ensures most { IfSome result (λ t. length t.now ≤ 32) }
-{
-    let text = value_at(table, "secret")?.as_str()?;
-    if is_secret(text) { Some(text) } else { None }
-}
-
-// The identifier of a key.
-fn id(table: &Table) -> Option<u32>
-    requires { IsSome (get_member (codes "id") (table_view table.now)) }
-    ensures read { IsRead (whole 1 (2 ^ 32 - 1)) 0 (whole_in 1 (2 ^ 32 - 1))
-        (get_member (codes "id") (table_view table.now)) result }
-    ensures some { IfSome result (λ n. 0 < n) }
-{
-    let id = whole(value_at(table, "id")?, 1, u64::from(u32::MAX))?;
-    Some(id as u32)
+    fn read(_alloc: Global, table: &Table, _before: &[LinkRow]) -> Result<LinkRow, Misread> {
+        match port(table) {
+            Some(port) => Ok(LinkRow { port }),
+            None => Err(Misread::Range("port")),
+        }
+    }
 }
 
 // Whether one of these keys has an identifier.
@@ -128,129 +156,91 @@ fn is_taken(keys: &[SharedKey], id: u32) -> bool
     keys.iter().any(|key| key.id == id)
 }
 
-fn plan(table: &Table) -> Option<Plan>
-    requires { IsSome (get_member (codes "plan") (table_view table.now)) }
-    ensures { IsRead plan Dcf plan_in (get_member (codes "plan") (table_view table.now)) result }
-{
-    Plan::of_word(value_at(table, "plan")?.as_str()?)
-}
+// An identifier that an earlier key has is bad too, so that none stands twice.
+impl Item for SharedKey {
+    ghost use Rattle.std.specs.Prelude.{refl};
+    ghost use Rattle.packet_auth.specs.Keys.{AreApart, KeyFields};
+    ghost use Rattle.station_config.specs.Faults.{bad_in_key, bad_in_keys};
+    ghost use Rattle.station_config.specs.Finding.{ids_of};
+    ghost use Rattle.station_config.specs.KeptStation.{key_kept};
+    ghost use Rattle.station_config.specs.KeyTables.{bad-more};
+    ghost use Rattle.station_config.specs.Values.{key_of};
+    ghost use Rattle.station_config.specs.declared.keys.Part.TheVariants as part;
 
-fn ip(table: &Table) -> Option<u32>
-    requires { IsSome (get_member (codes "address") (table_view table.now)) }
-    ensures { IsRead address 0 address_in (get_member (codes "address") (table_view table.now)) result }
-{
-    address(value_at(table, "address")?.as_str()?)
-}
+    ghost part = { part.Key };
 
-fn port(table: &Table) -> Option<u16>
-    requires { IsSome (get_member (codes "port") (table_view table.now)) }
-    ensures { IsRead (whole 1 65535) 0 (whole_in 1 65535) (get_member (codes "port") (table_view table.now)) result }
-{
-    let port = whole(value_at(table, "port")?, 1, 65_535)?;
-    Some(port as u16)
-}
+    ghost Fields = { KeyFields };
 
-fn cidr(table: &Table) -> Option<DeniedNet>
-    requires { IsSome (get_member (codes "net") (table_view table.now)) }
-    ensures { IsRead net all_addresses net_in (get_member (codes "net") (table_view table.now))
-        (option_map net_kept result) }
-{
-    denied_net(value_at(table, "net")?.as_str()?)
-}
+    ghost fields = { key_kept };
 
-// The radio of a table that has all its keys.
-pub fn radio(alloc: Global, table: &Table) -> Result<Radio, Misread>
-    requires { missing_in radio_rows (table_view table.now) ≡ [] }
-    ensures said { IfOk result (λ r. radio_kept r ≡ radio_of (table_view table.now)) }
-    ensures good { IfOk result (λ _. bad_in radio_rows (table_view table.now) ≡ []) }
-    ensures bad { IfErr result (IsMisread (bad_in radio_rows (table_view table.now))) }
-{
-    let Some(delay) = number(table, "delay", 0, 100_000, 0) else {
-        return Err(Misread::Range("delay"));
-    };
-    let Some(log) = text(table, "log") else {
-        return Err(Misread::Range("log"));
-    };
-    let Some(plan) = plan(table) else {
-        return Err(Misread::Range("plan"));
-    };
-    let Ok(log) = String::from_str(alloc, log) else {
-        return Err(Misread::Memory);
-    };
-    Ok(Radio {
-        plan,
-        log,
-        delay: delay as u32,
-    })
-}
+    ghost row_of = { key_of };
 
-// The server of a table that has all its keys.
-pub fn server(table: &Table) -> Result<ServerRow, Misread>
-    requires { missing_in server_rows (table_view table.now) ≡ [] }
-    ensures said { IfOk result (λ s. server_fields s ≡ server_of (table_view table.now)) }
-    ensures good { IfOk result (λ _. bad_in server_rows (table_view table.now) ≡ []) }
-    ensures bad { IfErr result (IsMisread (bad_in server_rows (table_view table.now))) }
-{
-    let Some(ip) = ip(table) else {
-        return Err(Misread::Range("address"));
-    };
-    let Some(polls) = number(table, "polls", 0, 100_000, 8) else {
-        return Err(Misread::Range("polls"));
-    };
-    let Some(port) = port(table) else {
-        return Err(Misread::Range("port"));
-    };
-    Ok(ServerRow {
-        address: Address { ip, port },
-        polls: polls as u32,
-    })
-}
+    ghost bad_of = { λ before m. bad_in_key (ids_of before) m };
 
-// The port of the link of a table that has all its keys.
-pub fn link(table: &Table) -> Result<u16, Misread>
-    requires { missing_in link_rows (table_view table.now) ≡ [] }
-    ensures said { IfOk result (λ p. p ≡ number_at port_row (table_view table.now)) }
-    ensures good { IfOk result (λ _. bad_in link_rows (table_view table.now) ≡ []) }
-    ensures bad { IfErr result (IsMisread (bad_in link_rows (table_view table.now))) }
-{
-    match port(table) {
-        Some(port) => Ok(port),
-        None => Err(Misread::Range("port")),
+    ghost bad = { λ before tables. bad_in_keys (ids_of before) tables };
+
+    ghost hold = { AreApart };
+
+    ghost bad_none = { λ before. refl };
+
+    ghost bad_more = { bad-more };
+
+    fn part() -> Part {
+        Part::Key
+    }
+
+    fn read(alloc: Global, table: &Table, before: &[SharedKey]) -> Result<SharedKey, Misread> {
+        let Some(id) = id(table) else {
+            return Err(Misread::Range("id"));
+        };
+        if is_taken(before, id) {
+            return Err(Misread::Range("id"));
+        }
+        let Some(secret) = secret(table) else {
+            return Err(Misread::Range("secret"));
+        };
+        match String::from_str(alloc, secret) {
+            Ok(secret) => Ok(SharedKey { id, secret }),
+            Err(_) => Err(Misread::Memory),
+        }
     }
 }
 
-// The key of a table that has all its keys, after those of the tables before it.
-pub fn key(alloc: Global, table: &Table, before: &[SharedKey]) -> Result<SharedKey, Misread>
-    requires { missing_in key_rows (table_view table.now) ≡ [] }
-    ensures said { IfOk result (λ k. key_kept k ≡ key_of (table_view table.now)) }
-    ensures good { IfOk result (λ _. bad_in_key (ids_of (map key_kept before.now)) (table_view table.now) ≡ []) }
-    ensures apart { IfOk result (λ k. list_any (λ key. key.id == k.id) before.now ≡ false) }
-    ensures bad { IfErr result (IsMisread (bad_in_key (ids_of (map key_kept before.now)) (table_view table.now))) }
-{
-    let Some(id) = id(table) else {
-        return Err(Misread::Range("id"));
-    };
-    if is_taken(before, id) {
-        return Err(Misread::Range("id"));
-    }
-    let Some(secret) = secret(table) else {
-        return Err(Misread::Range("secret"));
-    };
-    match String::from_str(alloc, secret) {
-        Ok(secret) => Ok(SharedKey { id, secret }),
-        Err(_) => Err(Misread::Memory),
-    }
-}
+impl Item for DeniedNet {
+    ghost use Rattle.std.specs.Prelude.{refl};
+    ghost use Rattle.kiss_gate.specs.declared.nets.Net.{Net};
+    ghost use Rattle.station_config.specs.Faults.{bad_in, keys_at, sheets};
+    ghost use Rattle.station_config.specs.KeptStation.{net_kept};
+    ghost use Rattle.station_config.specs.Rows.{deny_rows};
+    ghost use Rattle.station_config.specs.Values.{net_of};
+    ghost use Rattle.station_config.specs.declared.keys.Part.TheVariants as part;
 
-// The denied net of a table that has all its keys.
-pub fn net(table: &Table) -> Result<DeniedNet, Misread>
-    requires { missing_in deny_rows (table_view table.now) ≡ [] }
-    ensures said { IfOk result (λ n. net_kept n ≡ net_of (table_view table.now)) }
-    ensures good { IfOk result (λ _. bad_in deny_rows (table_view table.now) ≡ []) }
-    ensures bad { IfErr result (IsMisread (bad_in deny_rows (table_view table.now))) }
-{
-    match cidr(table) {
-        Some(net) => Ok(net),
-        None => Err(Misread::Range("net")),
+    ghost part = { part.Deny };
+
+    ghost Fields = { Net };
+
+    ghost fields = { net_kept };
+
+    ghost row_of = { net_of };
+
+    ghost bad_of = { λ before m. bad_in deny_rows m };
+
+    ghost bad = { λ before tables. keys_at bad_in (sheets part.Deny tables) };
+
+    ghost hold = { λ rows. Unit {0} };
+
+    ghost bad_none = { λ before. refl };
+
+    ghost bad_more = { λ before place m more. refl };
+
+    fn part() -> Part {
+        Part::Deny
+    }
+
+    fn read(_alloc: Global, table: &Table, _before: &[DeniedNet]) -> Result<DeniedNet, Misread> {
+        match cidr(table) {
+            Some(net) => Ok(net),
+            None => Err(Misread::Range("net")),
+        }
     }
 }

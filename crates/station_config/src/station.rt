@@ -73,7 +73,7 @@ pub struct Parts {
     pub radios: Vec<Radio>,
     pub servers: Vec<ServerRow>,
     pub leap_file: Option<String>,
-    pub links: Vec<u16>,
+    pub links: Vec<LinkRow>,
     pub keys: Vec<SharedKey>,
     pub deny: Vec<DeniedNet>,
 }
@@ -277,9 +277,6 @@ impl Station {
     pub fn link(&self, i: usize) -> Option<LinkRow>
         ensures { option_map (λ l. l.port) result ≡ slice_get self.now.links i }
     {
-        match self.parts.links.get(i) {
-            Some(port) => Some(LinkRow { port: *port }),
-            None => None,
-        }
+        self.parts.links.get(i).copied()
     }
 }

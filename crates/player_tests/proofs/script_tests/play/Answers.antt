@@ -1,10 +1,10 @@
 -- Each receiver that is put in the rack is a blank one, since its `new` says so of what is boxed; and four of each plan are a rack.
-use Rattle.std.proofs.Common.{◌≡◌, ◌+◌, refl, sym, subst, inl, inr, arith, rules}
+use Rattle.std.proofs.Common.{◌≡◌, refl, sym, subst, inl, inr, arith, rules}
 use denote.Param.Object.{read_made}
 use Rattle.tick_units.specs.declared.marks.Plan.TheVariants.{Dcf, Msf, Wwvb}
 use Rattle.radio_receiver.specs.Histories.{History, blank_of}
 use Rattle.receiver_rack.specs.Made.{HasOfEach}
-use Rattle.receiver_rack.proofs.MadeLaws.{none_yet, rack_of}
+use Rattle.receiver_rack.proofs.MadeLaws.{none_yet, rack_of, round}
 use Rattle.player_tests.proofs.script_tests.play.OwnLists.{own-1}
 use Rattle.player_tests.proofs.script_tests.play.Goals as goal
 
@@ -27,13 +27,11 @@ pub loop-init : goal.loop-init
 loop-init c = none_yet _ _ (search rules)
 
 pub loop-preserved : goal.loop-preserved
-loop-preserved c =
-    let n = c.loop.counter in
-    c.in_ok-put_in_rack-3.ensures (n + 1) (n + 1) n (c.in_ok-put_in_rack-2.ensures (n + 1) n n (c.in_ok-put_in_rack.ensures n n n c.loop.invariant))
+loop-preserved c = round _ c.loop.counter _ (c.in_ok-put_in_rack-3.ensures _ (c.in_ok-put_in_rack-2.ensures _ (c.in_ok-put_in_rack.ensures _ c.loop.invariant)))
 
 pub play_with-requires-clause-rack : goal.play_with-requires-clause-rack
 play_with-requires-clause-rack c =
     let whole : c.loop.counter ≡ 4 = omega arith in
-    let has = subst (λ n. HasOfEach (λ b h. (own-1.entry b.vtable).1.stands_for b.value h) n n n c.loop.rack.items) whole c.loop.invariant in
+    let has = subst (λ n. HasOfEach (λ b h. (own-1.entry b.vtable).1.stands_for b.value h) (λ _. n) c.loop.rack.items) whole c.loop.invariant in
     let rack = rack_of (λ b h. (own-1.entry b.vtable).1.stands_for b.value h) _ has in
     search rules

@@ -4,4 +4,4 @@ use Rattle.player_tests.proofs.script_tests.play.OwnLists.{own-1}
 use Rattle.player_tests.proofs.script_tests.play.Given as goal
 
 abbrev pub invariant-loop : goal.invariant-loop
-invariant-loop l = HasOfEach (λ b h. (own-1.entry b.vtable).1.stands_for b.value h) l.counter l.counter l.counter l.rack.items
+invariant-loop l = HasOfEach (λ b h. (own-1.entry b.vtable).1.stands_for b.value h) (λ _. l.counter) l.rack.items

@@ -7,20 +7,20 @@ use Rattle.station_config.specs.Finding.{IsMisreadAt}
 use Rattle.station_config.specs.Rows.{port_row}
 use Rattle.station_config.specs.Values.{key_of, net_of, number_at, radio_of, server_of}
 use Rattle.station_config.specs.declared.keys.Part.TheVariants as part
-use Rattle.station_config.proofs.KeyWalks.{apart_none}
+use Rattle.station_config.proofs.KeysApart.{apart_none}
 use Rattle.station_config.proofs.Orders.{bad_key, bad_link, bad_net, bad_radio, bad_server, no_bad, none_in}
 use Rattle.station_config.proofs.document.read_parts.Goals as goal
 
-pub read_radios-requires : goal.read_radios-requires
-read_radios-requires c =
+pub read_items-requires : goal.read_items-requires
+read_items-requires c =
     ap (λ ts. keys_at missing_in (sheets part.Radio ts)) c.in-Ok.ensures.radios ∙ (none_in missing_in (table_view c.args.table.now) c.requires).radios
 
-pub read_servers-requires : goal.read_servers-requires
-read_servers-requires c =
+pub read_items-requires-2 : goal.read_items-requires-2
+read_items-requires-2 c =
     ap (λ ts. keys_at missing_in (sheets part.Server ts)) c.in-Ok.ensures.servers ∙ (none_in missing_in (table_view c.args.table.now) c.requires).servers
 
-pub read_links-requires : goal.read_links-requires
-read_links-requires c =
+pub read_items-requires-3 : goal.read_items-requires-3
+read_items-requires-3 c =
     ap (λ ts. keys_at missing_in (sheets part.Link ts)) c.in-Ok.ensures.links ∙ (none_in missing_in (table_view c.args.table.now) c.requires).links
 
 pub returns-in_err-radios-clause-read : goal.returns-in_err-radios-clause-read
@@ -56,8 +56,8 @@ returns-in_err-links-clause-bad c =
     let h = subst (λ ts. IsMisreadAt (keys_at bad_in (sheets part.Link ts)) o) c.in-Ok.ensures.links c.in_err-links.ensures.bad in
     rw (p.1, p.2) (bad_link (table_view c.args.table.now) o c.in-Ok.ensures.good radios servers h)
 
-pub read_keys-requires : goal.read_keys-requires
-read_keys-requires c =
+pub read_items-requires-4 : goal.read_items-requires-4
+read_items-requires-4 c =
     ap (λ ts. keys_at missing_in (sheets part.Key ts)) c.in-Ok.ensures.keys ∙ (none_in missing_in (table_view c.args.table.now) c.requires).keys
 
 pub returns-in_err-keys-clause-read : goal.returns-in_err-keys-clause-read
@@ -73,8 +73,8 @@ returns-in_err-keys-clause-bad c =
     let h = subst (λ ts. IsMisreadAt (bad_in_keys [] ts) o) c.in-Ok.ensures.keys c.in_err-keys.ensures.bad in
     rw (p.1, p.2) (bad_key (table_view c.args.table.now) o c.in-Ok.ensures.good radios servers links h)
 
-pub read_nets-requires : goal.read_nets-requires
-read_nets-requires c =
+pub read_items-requires-5 : goal.read_items-requires-5
+read_items-requires-5 c =
     ap (λ ts. keys_at missing_in (sheets part.Deny ts)) c.in-Ok.ensures.deny ∙ (none_in missing_in (table_view c.args.table.now) c.requires).nets
 
 pub returns-in_err-deny-clause-read : goal.returns-in_err-deny-clause-read
@@ -107,5 +107,5 @@ returns-clause-read c =
     record {
       said = λ i. record { top = c.in-Ok.ensures.numbers i; radios = radios i; servers = servers i; leap_file = leap i; links = links i; keys = keys i; deny = deny i };
       good = no_bad (table_view c.args.table.now) c.in-Ok.ensures.good bad_radios bad_servers bad_links bad_keys bad_nets;
-      apart = c.in_ok-keys.ensures.read.apart apart_none;
+      apart = c.in_ok-keys.ensures.read.held apart_none;
     }

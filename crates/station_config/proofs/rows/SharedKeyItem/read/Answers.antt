@@ -1,4 +1,4 @@
--- What the search leaves open of `rows::key`.
+-- What the search leaves open of `rows::SharedKeyItem::read`.
 use Rattle.std.proofs.Common.{◌≡◌, ◌∙◌, ◌==◌, ℕ, Bool, List, true, false, sym, ap, map, slice_get}
 use Rattle.std.specs.List.{list_any}
 use Rattle.toml.specs.Data.{Members}
@@ -9,8 +9,9 @@ use Rattle.station_config.specs.KeptStation.{key_kept}
 use Rattle.station_config.specs.Rows.{id_row}
 use Rattle.station_config.specs.Values.{number_at}
 use Rattle.station_config.specs.declared.shared_key.SharedKey.{SharedKey}
-use Rattle.station_config.proofs.KeyRows.{id-good, id-taken, secret-bad, secret-good, taken-kept}
-use Rattle.station_config.proofs.rows.key.Goals as goal
+use Rattle.station_config.proofs.KeyRows.{has-kept, id-good, id-taken, secret-bad, secret-good, taken-kept}
+use Rattle.station_config.proofs.KeysApart.{apart_more}
+use Rattle.station_config.proofs.rows.SharedKeyItem.read.Goals as goal
 
 -- the identifier that was read, and whether it is taken
 asked : (keys : List SharedKey) (m : Members) (id : ℕ) (b : Bool) → id ≡ number_at id_row m → b ≡ list_any (λ key. key.id == id) keys → is_taken (ids_of (map key_kept keys)) m ≡ b
@@ -31,3 +32,6 @@ returns-in-Ok-clause-good c =
     let m = table_view c.args.table.now in
     let free = asked c.args.before.now m c.in-Some.id false c.in-Some.ensures.read.said c.if-is_taken.ensures in
     id-good (ids_of (map key_kept c.args.before.now)) m free (sym c.in-Some.ensures.read.wrong) ∙ secret-good m (sym c.in-Some-secret.ensures.read.wrong)
+
+pub returns-in-Ok-clause-hold : goal.returns-in-Ok-clause-hold
+returns-in-Ok-clause-hold c apart = apart_more (map key_kept c.args.before.now) _ apart (has-kept c.args.before.now c.in-Some.id ∙ sym c.if-is_taken.ensures)
