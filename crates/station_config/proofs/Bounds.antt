@@ -13,7 +13,7 @@ use Rattle.station_config.specs.Rows.{bound_row, clients_row, gap_row, radio_row
 use Rattle.station_config.specs.Station.{IsStation, RadioFields, StationFields, feed_count, plan_count}
 use Rattle.station_config.specs.Values.{radio_of, read_or, station_of, tables_at}
 use Rattle.toml.specs.Data.{get_member}
-use Rattle.station_config.proofs.PlanLaws.{each}
+use Rattle.tick_units.proofs.PlanLaws.{each}
 
 pub record IsFrom (least most n : ℕ) : Type 0 where
   pub low : least ≤ n

@@ -1,6 +1,5 @@
 //! How many rows a station has, and how many it may have.
 ghost use Rattle.std.specs.Prelude.{◌≡◌, find, map, nat_lt, option_map};
-ghost use Rattle.tick_units.specs.Plans.{plans};
 ghost use Rattle.station_config.specs.Station.{feed_count, is_same_plan, plan_count};
 ghost use Rattle.station_config.specs.Faults.{counts_of, plan_radios};
 ghost use Rattle.station_config.specs.Finding.{count_seen};
@@ -18,13 +17,6 @@ pub struct Count {
     pub key: &'static str,
     pub count: u64,
     pub most: u64,
-}
-
-// All code plans, in the order of their faults.
-fn all_plans() -> &'static [Plan]
-    ensures { result.now ≡ plans }
-{
-    &[Plan::Dcf, Plan::Msf, Plan::Wwvb]
 }
 
 fn has_plan(radio: &Radio, plan: Plan) -> bool
@@ -87,7 +79,7 @@ pub fn excess(parts: &Parts) -> Option<Count>
     if feeds.is_some() {
         return feeds;
     }
-    let of_a_plan = plan_excess(parts.radios.as_slice(), all_plans());
+    let of_a_plan = plan_excess(parts.radios.as_slice(), Plan::all());
     if of_a_plan.is_some() {
         return of_a_plan;
     }

@@ -1,10 +1,17 @@
 //! What stands for a code plan: its name, and its reference ID.
 ghost use Rattle.std.specs.Prelude.{◌≡◌, IfSome};
-ghost use Rattle.tick_units.specs.Plans.{word_of, plan_of, reference_id_of};
+ghost use Rattle.tick_units.specs.Plans.{plans, word_of, plan_of, reference_id_of};
 
 use crate::Plan;
 
 impl Plan {
+    /// All plans, in the order in which texts and faults name them.
+    pub fn all() -> &'static [Plan]
+        ensures { result.now ≡ plans }
+    {
+        &[Plan::Dcf, Plan::Msf, Plan::Wwvb]
+    }
+
     /// Its name in commands, station files and scripts: `dcf`, `msf` or `wwvb`.
     pub fn word(self) -> &'static str
         ensures { result.now ≡ word_of self }
