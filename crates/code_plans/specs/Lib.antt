@@ -1,2 +1,3 @@
--- What each plan is stands in its own crate.
+-- What each plan is, and how it is sent, stands in its own crate.
 pub mod Codes
+pub mod Sendings

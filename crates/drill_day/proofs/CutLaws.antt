@@ -1,61 +1,40 @@
 -- Where the marks of minutes are cut: before the first mark of each, and nowhere else.
-use Rattle.std.proofs.Common.{◌≡◌, ℕ, suc, ◌+◌, ◌*◌, ◌%◌, ◌&&◌, Bool, true, false, not, Some, List, [], ◌∷◌, ◌++◌, length, refl, sym, ap, ◌∙◌, arith}
-use Rattle.std.specs.Prelude.{nat_le}
+use Rattle.std.proofs.Common.{◌≡◌, ℕ, suc, ◌+◌, Bool, true, false, not, Some, List, [], ◌∷◌, ◌++◌, length, refl, sym, ap, ◌∙◌, arith}
 use Rattle.std.specs.List.{onto_first}
-use Rattle.std.proofs.lemmas.Bool.{and_parts, lt-leb}
+use Rattle.std.proofs.lemmas.Bool.{and_parts}
 use Rattle.code_plans.specs.Codes.{code_of}
+use Rattle.code_plans.proofs.Sent.{reads}
+use Rattle.frame_rules.proofs.SentLaws.{Shape, is_calm, last_symbol}
 use Rattle.minute_pair.specs.Segments.{cut}
-use Rattle.tick_units.specs.Marks.{is_between, is_long}
 use Rattle.tick_units.specs.declared.marks.Mark.{Mark}
 use Rattle.tick_units.specs.declared.marks.Plan.{Plan}
-use Rattle.tick_units.specs.declared.marks.Plan.TheVariants.{Dcf, Msf, Wwvb}
 use Rattle.tick_units.specs.declared.marks.Symbol.{Symbol}
-use Rattle.pulse_maker.specs.Made.{number_from}
+use Rattle.pulse_maker.specs.Made.{number_from, start_of}
 use Rattle.pulse_maker.specs.Minutes.{seconds_from}
-use Rattle.drill_day.proofs.MarkLaws.{mark_at, marks_from, read_as}
+use Rattle.drill_day.proofs.MarkLaws.{mark_at, marks_from}
 
 -- a mark begins a minute, by the mark just before it
 abbrev pub begins_after : Plan → Mark → Mark → Bool
 begins_after plan before mark = (code_of plan).begins_minute (Some before) mark
 
--- a second of this symbol begins a minute, directly after one of that symbol; in DCF77 none does, since a second is left out there
-abbrev pub is_step : Plan → Symbol → Symbol → Bool
-is_step Dcf before symbol = false
-is_step Msf before symbol = is_long (read_as Msf symbol)
-is_step Wwvb before symbol = is_long (read_as Wwvb before) && is_long (read_as Wwvb symbol)
-
--- none of these does, of which the first stands after that symbol
-abbrev pub is_calm : Plan → Symbol → List Symbol → Bool
-is_calm plan before [] = true
-is_calm plan before (symbol ∷ more) = not (is_step plan before symbol) && is_calm plan symbol more
-
--- the mark of the last of these seconds
-abbrev pub last_symbol : Symbol → List Symbol → Symbol
-last_symbol symbol [] = symbol
-last_symbol symbol (next ∷ more) = last_symbol next more
+-- how its minutes follow one another
+abbrev pub shape_of : Plan → Shape
+shape_of plan = (reads plan).shape
 
 -- lists put before the first of others
 abbrev pub onto_front : {X : Type 0} → List X → List (List X) → List (List X)
 onto_front [] parts = parts
 onto_front (x ∷ xs) parts = onto_first x (onto_front xs parts)
 
--- a second later is too soon for a DCF77 minute
-soon : (at a b : ℕ) → is_between (5000000 + at * 1000000 + a % 2001 + 1900000) (5000000 + at * 1000000 + a % 2001 + 2100000) (5000000 + (at + 1) * 1000000 + b % 2001) ≡ false
-soon at a b =
-    let late : nat_le (5000000 + at * 1000000 + a % 2001 + 1900000) (5000000 + (at + 1) * 1000000 + b % 2001) ≡ false = lt-leb (5000000 + at * 1000000 + a % 2001 + 1900000) (5000000 + (at + 1) * 1000000 + b % 2001) (omega arith) in
-    rw late refl
-
-step_is : (plan : Plan) (start j index : ℕ) (a b : Symbol) → begins_after plan (mark_at plan start j index a) (mark_at plan start (suc j) (index + 1) b) ≡ is_step plan a b
-step_is Dcf start j index a b = soon index (number_from start j) (number_from start (suc j))
-step_is Msf start j index a b = refl
-step_is Wwvb start j index a b = refl
+step_is : (plan : Plan) (start j index : ℕ) (a b : Symbol) → begins_after plan (mark_at plan start j index a) (mark_at plan start (suc j) (index + 1) b) ≡ (shape_of plan).steps a b
+step_is plan start j index a b = (reads plan).steps (start_of index (number_from start j)) (start_of (index + 1) (number_from start (suc j))) a b (omega arith)
 
 not_true : (b : Bool) → not b ≡ true → b ≡ false
 not_true true e = sym e
 not_true false e = refl
 
 -- calm seconds stay in the piece of the mark before them
-pub quiet : (plan : Plan) (start j index : ℕ) (a : Symbol) (more : List Symbol) (rest : List Mark) → is_calm plan a more ≡ true →
+pub quiet : (plan : Plan) (start j index : ℕ) (a : Symbol) (more : List Symbol) (rest : List Mark) → is_calm (shape_of plan) a more ≡ true →
     cut (code_of plan) (Some (mark_at plan start j index a)) (marks_from plan start (suc j) (seconds_from (index + 1) more) ++ rest)
     ≡ onto_front (marks_from plan start (suc j) (seconds_from (index + 1) more)) (cut (code_of plan) (Some (mark_at plan start (j + length more) (index + length more) (last_symbol a more))) rest)
 quiet plan start j index a [] rest calm =
@@ -63,8 +42,8 @@ quiet plan start j index a [] rest calm =
     let i_same : index + 0 ≡ index = omega arith in
     ap (λ n. cut (code_of plan) (Some (mark_at plan start n index a)) rest) (sym j_same) ∙ ap (λ n. cut (code_of plan) (Some (mark_at plan start (j + 0) n a)) rest) (sym i_same)
 quiet plan start j index a (b ∷ more) rest calm =
-    let parts = and_parts (not (is_step plan a b)) (is_calm plan b more) calm in
-    let off : begins_after plan (mark_at plan start j index a) (mark_at plan start (suc j) (index + 1) b) ≡ false = step_is plan start j index a b ∙ not_true (is_step plan a b) parts.0 in
+    let parts = and_parts (not ((shape_of plan).steps a b)) (is_calm (shape_of plan) b more) calm in
+    let off : begins_after plan (mark_at plan start j index a) (mark_at plan start (suc j) (index + 1) b) ≡ false = step_is plan start j index a b ∙ not_true ((shape_of plan).steps a b) parts.0 in
     let j_next : suc j + length more ≡ j + suc (length more) = omega arith in
     let i_next : index + 1 + length more ≡ index + suc (length more) = omega arith in
     rw off (ap (onto_first (mark_at plan start (suc j) (index + 1) b)) (

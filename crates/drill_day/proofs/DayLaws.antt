@@ -1,48 +1,44 @@
 -- What is heard of a made log: one answer for each of its minutes, none of which names a leap second.
-use Rattle.std.proofs.Common.{◌≡◌, ℕ, zero, suc, ◌+◌, ◌-◌, ◌*◌, ◌%◌, ◌^◌, inl, inr, ◌<◌, ◌≤◌, ◌==◌, ◌&&◌, Bool, true, false, Option, None, Some, List, [], ◌∷◌, ◌++◌, length, map, refl, sym, ap, ◌∙◌, subst, arith, append_assoc}
-use Rattle.std.specs.Prelude.{Result, Ok, Err, drop, slice_index_or, if◌then◌else◌}
+use Rattle.std.proofs.Common.{◌≡◌, ℕ, zero, suc, ◌+◌, ◌-◌, ◌*◌, ◌^◌, inl, inr, ◌<◌, ◌≤◌, ◌==◌, ◌&&◌, Bool, true, false, Option, None, Some, List, [], ◌∷◌, ◌++◌, length, map, refl, sym, ap, ◌∙◌, subst, arith, append_assoc}
+use Rattle.std.specs.Prelude.{◌⊎◌, Result, Ok, Err, drop, if◌then◌else◌}
 use Rattle.std.specs.List.{AllByRecursion, flat_map, list_all, onto_first, range_with_len}
 use Rattle.std.proofs.lemmas.Bool.{cases_lt}
 use Rattle.std.proofs.lemmas.List.Elements.{All-cons, All-nil}
 use Rattle.std.proofs.lemmas.List.{length-append, length-map}
 use Rattle.journal_entry.specs.declared.entry.Entry.{Entry}
-use Rattle.frame_rules.specs.Fields.{is_one, symbols_of as symbols_in}
+use Rattle.frame_rules.specs.Codes.{Code}
+use Rattle.frame_rules.specs.Fields.{symbols_of as symbols_in}
+use Rattle.frame_rules.proofs.SentLaws.{OpensAfter, OpensAlone, is_alone}
 use Rattle.log_decoder.specs.Due.{entry_of}
 use Rattle.minute_pair.specs.Answers.{agreed_leap, answers, answers_after, are_timely, judged, judged_by, kind_after, kind_alone, kind_behind, kind_of_both, kind_of_valid}
 use Rattle.code_plans.specs.Codes.{code_of}
+use Rattle.code_plans.specs.Sendings.{sending_of}
+use Rattle.code_plans.proofs.Sent.{fits, reads}
 use Rattle.minute_pair.specs.Segments.{Segment, closed, cut, segments_of}
-use Rattle.plan_dcf.specs.Fields as dcf
-use Rattle.plan_dcf.specs.Rules as dcf_rules
-use Rattle.plan_msf.specs.Fields as msf
-use Rattle.plan_msf.specs.Rules as msf_rules
-use Rattle.plan_wwvb.specs.Fields as wwvb
-use Rattle.plan_wwvb.specs.Rules as wwvb_rules
 use Rattle.radio_receiver.specs.Histories.{answers_of, sent}
 use Rattle.tick_units.specs.Log.{pulses}
 use Rattle.second_marks.specs.Marks.{marks_of}
 use Rattle.tick_units.specs.declared.marks.Mark.{Mark}
 use Rattle.tick_units.specs.declared.marks.Plan.{Plan}
-use Rattle.tick_units.specs.declared.marks.Plan.TheVariants.{Dcf, Msf, Wwvb}
 use Rattle.tick_units.specs.declared.marks.Reduction.{Reduction}
 use Rattle.tick_units.specs.declared.marks.Symbol.{Symbol}
-use Rattle.tick_units.specs.declared.marks.Symbol.TheVariants.{Zero, Long}
 use Rattle.tick_units.specs.declared.verdicts.Broken.{Broken}
 use Rattle.tick_units.specs.declared.verdicts.Coded.{Coded}
 use Rattle.tick_units.specs.declared.verdicts.Heard.{Heard}
 use Rattle.tick_units.specs.declared.verdicts.Kind.TheVariants.{Verdict, Differs}
-use Rattle.pulse_maker.specs.Made.{made, number_from, reductions_from, seeded, text_of}
-use Rattle.pulse_maker.specs.Minutes.{closing_symbols, index_of, opening_index, opening_symbols, seconds_from, seconds_of, symbols_of}
+use Rattle.pulse_maker.specs.Made.{made, number_from, reductions_from, seeded, start_of, text_of}
+use Rattle.pulse_maker.specs.Minutes.{closing_symbols, coded_of, is_spoilt, index_of, opening_index, opening_symbols, seconds_from, seconds_of, symbols_of}
 use Rattle.pulse_maker.specs.declared.seconds.Second.{Second}
 use Rattle.pulse_maker.proofs.MakingLaws.{minute_seconds}
 use Rattle.journal_orders.specs.Orders.{NamesNoLeap, leap_in, leap_named}
 use Rattle.pulse_log.specs.Writing.{line_of}
 use Rattle.pulse_log.proofs.LineLaws.{long_line, says}
-use Rattle.pulse_maker.proofs.OrderLaws.{made_is_read, made_rises}
+use Rattle.pulse_maker.proofs.OrderLaws.{InOrder, made_in_order, made_is_read, made_rises}
 use Rattle.pulse_maker.proofs.ReadLaws.{Rises}
 use Rattle.drill_day.specs.Day.{IsDay, day_due, day_log, first_minute, minutes_of_a_day}
-use Rattle.drill_day.proofs.MarkLaws.{InTurn, are_alone, dcf_marks, is_alone, mark_at, marks_from, msf_marks_are, ones_count, read_as, wwvb_marks}
-use Rattle.drill_day.proofs.MinuteLaws.{Leads, minute_marks, minutes_cut, minutes_marks, seconds_count}
-use Rattle.drill_day.proofs.SymbolLaws.{dcf_announces_none, marked, minute_is, wwvb_announces_none}
+use Rattle.drill_day.proofs.CutLaws.{shape_of}
+use Rattle.drill_day.proofs.MarkLaws.{are_alone, end_if, mark_at, marks_from, marks_shown, ones_count, read_as}
+use Rattle.drill_day.proofs.MinuteLaws.{Leads, leads_on, marked, minute_is, minute_marks, minutes_cut, minutes_marks, seconds_count}
 
 -- ---- the seconds of a log, each with one reduction
 
@@ -66,24 +62,26 @@ alone_minutes plan first seed m (suc count) =
     alone_append (minute_seconds plan first seed m) (flat_map (minute_seconds plan first seed) (range_with_len (m + 1) count))
     (alone_from (index_of m) (symbols_of plan first seed m) ∙ (minute_is plan first seed m).alone) (alone_minutes plan first seed (m + 1) count)
 
-turn_lower : (least lower : ℕ) (seconds : List Second) → lower ≤ least → InTurn least seconds → InTurn lower seconds
-turn_lower least lower [] le h = tt
-turn_lower least lower (second ∷ more) le h = (omega (arith, le, h.0), h.1)
+opening_alone : (plan : Plan) → OpensAlone (code_of plan) (sending_of plan) (shape_of plan) ⊎ OpensAfter (code_of plan) (sending_of plan) (shape_of plan) → list_all is_alone (opening_symbols plan) ≡ true
+opening_alone plan (inl o) = ap (λ l. list_all is_alone l) o.none
+opening_alone plan (inr o) = ap (λ l. list_all is_alone l) o.one ∙ rw o.alone refl
 
-turn_from : (index least next : ℕ) (symbols : List Symbol) (more : List Second) → least ≤ index → index + length symbols ≤ next → InTurn next more → InTurn least (seconds_from index symbols ++ more)
-turn_from index least next [] more le on h = turn_lower next least more (omega (arith, le, on)) h
-turn_from index least next (symbol ∷ rest) more le on h = (le, turn_from (index + 1) (index + 1) next rest more (omega arith) (omega (arith, on)) h)
+both_alone : (parts : Bool) (head last : Symbol) → is_alone head ≡ true → is_alone last ≡ true → list_all is_alone (head ∷ (if parts then last ∷ [] else [])) ≡ true
+both_alone true head last e f = rw (e, f) refl
+both_alone false head last e f = rw e refl
 
-turn_minutes : (first seed m count least : ℕ) (more : List Second) → least ≤ index_of m → InTurn (index_of (m + count)) more → InTurn least (flat_map (minute_seconds Msf first seed) (range_with_len m count) ++ more)
-turn_minutes first seed m zero least more le h = (let none : m + 0 ≡ m = omega arith in turn_lower (index_of (m + 0)) least more (omega (arith, le)) h)
-turn_minutes first seed m (suc count) least more le h =
-    let one = minute_seconds Msf first seed in
-    let rest = flat_map one (range_with_len (m + 1) count) in
-    let far : m + suc count ≡ m + 1 + count = omega arith in
-    let size = (minute_is Msf first seed m).count in
-    subst (λ l. InTurn least l) (sym (append_assoc (one m) rest more))
-    (turn_from (index_of m) least (index_of (m + 1)) (symbols_of Msf first seed m) (rest ++ more) le (omega (arith, size))
-    (turn_minutes first seed (m + 1) count (index_of (m + 1)) more (omega arith) (subst (λ n. InTurn (index_of n) more) far h)))
+closing_alone : (plan : Plan) → list_all is_alone (closing_symbols plan) ≡ true
+closing_alone plan =
+    let closing = (reads plan).closing in
+    ap (λ l. list_all is_alone l) closing.is ∙ both_alone (code_of plan).has_parts closing.head closing.after closing.head_alone closing.after_alone
+
+log_alone : (plan : Plan) (first minutes seed : ℕ) → are_alone (seconds_of plan first minutes seed) ≡ true
+log_alone plan first minutes seed =
+    let opening = seconds_from (opening_index plan) (opening_symbols plan) in
+    let middle = flat_map (minute_seconds plan first seed) (range_with_len 0 minutes) in
+    alone_append (opening ++ middle) (seconds_from (index_of minutes) (closing_symbols plan))
+    (alone_append opening middle (alone_from (opening_index plan) (opening_symbols plan) ∙ opening_alone plan (reads plan).opening) (alone_minutes plan first seed 0 minutes))
+    (alone_from (index_of minutes) (closing_symbols plan) ∙ closing_alone plan)
 
 -- ---- the pieces between boundaries
 
@@ -95,76 +93,90 @@ record HasMinutes (plan : Plan) (first minutes seed : ℕ) (marks : List Mark) :
   from : ℕ
   is : cut (code_of plan) None marks ≡ front ∷ (minutes_marks plan first seed start from 0 minutes ++ closing ∷ [])
 
-between : (plan : Plan) (first seed minutes : ℕ) → List Second
+-- the seconds before the first minute, those of the minutes, and the first after them, which closes them
+abbrev opened : Plan → List Second
+opened plan = seconds_from (opening_index plan) (opening_symbols plan)
+
+abbrev between : Plan → ℕ → ℕ → ℕ → List Second
 between plan first seed minutes = flat_map (minute_seconds plan first seed) (range_with_len 0 minutes)
 
-same_first : (mark : Mark) (marks : List Mark) → cut (code_of Msf) None marks ≡ cut (code_of Msf) (Some mark) marks
-same_first mark [] = refl
-same_first mark (next ∷ marks) = refl
+abbrev closer : Plan → ℕ → Second
+closer plan minutes = record { index = index_of minutes; symbol = (reads plan).closing.head }
 
-dcf_has : (first minutes seed : ℕ) → HasMinutes Dcf first minutes seed (marks_of Dcf (made Dcf first minutes seed))
-dcf_has first minutes seed =
-    let start = seeded Dcf seed in
-    let middle = flat_map (minute_seconds Dcf first seed) (range_with_len 0 minutes) in
-    let end : List Second = record { index = index_of minutes; symbol = Zero } ∷ [] in
-    let none : 0 + minutes ≡ minutes = omega arith in
-    let opening = mark_at Dcf start 1 0 Zero in
-    let alone : are_alone (middle ++ end) ≡ true = alone_append middle end (alone_minutes Dcf first seed 0 minutes) refl in
-    let marks : marks_of Dcf (made Dcf first minutes seed) ≡ opening ∷ marks_from Dcf start 2 (middle ++ end) = dcf_marks start 1 (record { index = 0; symbol = Zero } ∷ (middle ++ end)) alone in
-    let leads : Leads Dcf (index_of 0) opening = (number_from start 1 % 2001, omega arith, omega arith) in
-    let pieces = subst (λ n. cut (code_of Dcf) (Some opening) (marks_from Dcf start 2 (middle ++ record { index = index_of n; symbol = Zero } ∷ [])) ≡ [] ∷ (minutes_marks Dcf first seed start 2 0 minutes ++ (mark_at Dcf start (2 + marked Dcf * minutes) (index_of n) Zero ∷ []) ∷ [])) none (minutes_cut Dcf first seed start 2 0 minutes Zero opening refl leads) in
-    record {
-      front = opening ∷ [];
-      closing = _;
-      start = start;
-      from = 2;
-      is = ap (cut (code_of Dcf) None) marks ∙ ap (onto_first opening) pieces;
-    }
+-- the second that may follow it
+abbrev after : Plan → ℕ → Second
+after plan minutes = record { index = index_of minutes + 1; symbol = (reads plan).closing.after }
 
-wwvb_has : (first minutes seed : ℕ) → HasMinutes Wwvb first minutes seed (marks_of Wwvb (made Wwvb first minutes seed))
-wwvb_has first minutes seed =
-    let start = seeded Wwvb seed in
-    let middle = flat_map (minute_seconds Wwvb first seed) (range_with_len 0 minutes) in
-    let end : List Second = record { index = index_of minutes; symbol = Long } ∷ [] in
-    let none : 0 + minutes ≡ minutes = omega arith in
-    let opening = mark_at Wwvb start 1 1 Long in
-    let alone : are_alone (middle ++ end) ≡ true = alone_append middle end (alone_minutes Wwvb first seed 0 minutes) refl in
-    let marks : marks_of Wwvb (made Wwvb first minutes seed) ≡ opening ∷ marks_from Wwvb start 2 (middle ++ end) = wwvb_marks start 1 (record { index = 1; symbol = Long } ∷ (middle ++ end)) alone in
-    let pieces = subst (λ n. cut (code_of Wwvb) (Some opening) (marks_from Wwvb start 2 (middle ++ record { index = index_of n; symbol = Long } ∷ [])) ≡ [] ∷ (minutes_marks Wwvb first seed start 2 0 minutes ++ (mark_at Wwvb start (2 + marked Wwvb * minutes) (index_of n) Long ∷ []) ∷ [])) none (minutes_cut Wwvb first seed start 2 0 minutes Long opening refl refl) in
-    record {
-      front = opening ∷ [];
-      closing = _;
-      start = start;
-      from = 2;
-      is = ap (cut (code_of Wwvb) None) marks ∙ ap (onto_first opening) pieces;
-    }
+abbrev shown : Plan → ℕ → ℕ → ℕ → List Second
+shown plan first minutes seed = (opened plan ++ between plan first seed minutes) ++ closer plan minutes ∷ []
 
-msf_has : (first minutes seed : ℕ) → HasMinutes Msf first minutes seed (marks_of Msf (made Msf first minutes seed))
-msf_has first minutes seed =
-    let start = seeded Msf seed in
-    let middle = flat_map (minute_seconds Msf first seed) (range_with_len 0 minutes) in
-    let end : List Second = record { index = index_of minutes; symbol = Long } ∷ [] in
-    let last : Second = record { index = index_of minutes + 1; symbol = Zero } in
-    let none : 0 + minutes ≡ minutes = omega arith in
-    let any = mark_at Msf start 0 0 Zero in
-    let alone : are_alone ((middle ++ end) ++ last ∷ []) ≡ true = alone_append (middle ++ end) (last ∷ []) (alone_append middle end (alone_minutes Msf first seed 0 minutes) refl) refl in
-    let turn : InTurn 0 ((middle ++ end) ++ last ∷ []) =
-    subst (λ l. InTurn 0 l) (sym (append_assoc middle end (last ∷ []))) (turn_minutes first seed 0 minutes 0 (end ++ last ∷ []) (omega arith) (omega arith, (omega arith, tt))) in
-    let split : middle ++ (end ++ last ∷ []) ≡ (middle ++ end) ++ last ∷ [] = sym (append_assoc middle end (last ∷ [])) in
-    let marks : marks_of Msf (made Msf first minutes seed) ≡ marks_from Msf start 1 (middle ++ end) = ap (λ l. marks_of Msf (reductions_from Msf start 1 l)) split ∙ msf_marks_are start 1 (middle ++ end) last 0 alone turn in
-    let pieces = subst (λ n. cut (code_of Msf) (Some any) (marks_from Msf start 1 (middle ++ record { index = index_of n; symbol = Long } ∷ [])) ≡ [] ∷ (minutes_marks Msf first seed start 1 0 minutes ++ (mark_at Msf start (1 + marked Msf * minutes) (index_of n) Long ∷ []) ∷ [])) none (minutes_cut Msf first seed start 1 0 minutes Long any refl tt) in
+ends_so : (parts : Bool) (index : ℕ) (head last : Symbol) → seconds_from index (head ∷ (if parts then last ∷ [] else [])) ≡ record { index = index; symbol = head } ∷ end_if parts (record { index = index + 1; symbol = last })
+ends_so true index head last = refl
+ends_so false index head last = refl
+
+log_is : (plan : Plan) (first minutes seed : ℕ) → seconds_of plan first minutes seed ≡ shown plan first minutes seed ++ end_if (code_of plan).has_parts (after plan minutes)
+log_is plan first minutes seed =
+    let begun = opened plan ++ between plan first seed minutes in
+    let closing = (reads plan).closing in
+    ap (λ l. begun ++ seconds_from (index_of minutes) l) closing.is
+    ∙ ap (λ l. begun ++ l) (ends_so (code_of plan).has_parts (index_of minutes) closing.head closing.after)
+    ∙ sym (append_assoc begun (closer plan minutes ∷ []) (end_if (code_of plan).has_parts (after plan minutes)))
+
+marks_are : (plan : Plan) (first minutes seed : ℕ) → minutes ≤ 1440 → marks_of plan (made plan first minutes seed) ≡ marks_from plan (seeded plan seed) 1 (shown plan first minutes seed)
+marks_are plan first minutes seed few =
+    let start = seeded plan seed in
+    let is = log_is plan first minutes seed in
+    ap (λ l. marks_of plan (reductions_from plan start 1 l)) is
+    ∙ marks_shown (code_of plan).has_parts plan start 1 (shown plan first minutes seed) (after plan minutes) 0
+    (subst (λ l. are_alone l ≡ true) is (log_alone plan first minutes seed)) (subst (InOrder 0) is (made_in_order plan first minutes seed few))
+
+-- the marks of the minutes and the one after them, after a mark that leads to them
+pieces_are : (plan : Plan) (first seed start j minutes : ℕ) (before : Option Mark) → Leads plan (index_of 0) before →
+    (closing : List Mark) × (cut (code_of plan) before (marks_from plan start j (between plan first seed minutes ++ closer plan minutes ∷ [])) ≡ [] ∷ (minutes_marks plan first seed start j 0 minutes ++ closing ∷ []))
+pieces_are plan first seed start j minutes before leads =
+    let closing = (reads plan).closing in
+    let none : 0 + minutes ≡ minutes = omega arith in (
+      mark_at plan start (j + marked plan * minutes) (index_of minutes) closing.head ∷ [],
+      subst (λ n. cut (code_of plan) before (marks_from plan start j (between plan first seed minutes ++ record { index = index_of n; symbol = closing.head } ∷ [])) ≡ [] ∷ (minutes_marks plan first seed start j 0 minutes ++ (mark_at plan start (j + marked plan * minutes) (index_of n) closing.head ∷ []) ∷ [])) none
+          (minutes_cut plan first seed start j 0 minutes closing.head before closing.begins_it leads),
+    )
+
+cut_after : (code : Code) (mark : Mark) (rest : List Mark) → code.begins_minute None mark ≡ false → cut code None (mark ∷ rest) ≡ onto_first mark (cut code (Some mark) rest)
+cut_after code mark rest e = rw e refl
+
+minutes_by : (plan : Plan) (first minutes seed : ℕ) → minutes ≤ 1440 → OpensAlone (code_of plan) (sending_of plan) (shape_of plan) ⊎ OpensAfter (code_of plan) (sending_of plan) (shape_of plan) →
+    HasMinutes plan first minutes seed (marks_of plan (made plan first minutes seed))
+minutes_by plan first minutes seed few (inl o) =
+    let start = seeded plan seed in
+    let rest = between plan first seed minutes ++ closer plan minutes ∷ [] in
+    let seconds : shown plan first minutes seed ≡ rest = ap (λ l. (seconds_from (opening_index plan) l ++ between plan first seed minutes) ++ closer plan minutes ∷ []) o.none in
+    let pieces = pieces_are plan first seed start 1 minutes None (λ late head e. o.begins (start_of (index_of 0) late) head e) in
     record {
       front = [];
-      closing = _;
+      closing = pieces.0;
       start = start;
       from = 1;
-      is = ap (cut (code_of Msf) None) marks ∙ same_first any (marks_from Msf start 1 (middle ++ end)) ∙ pieces;
+      is = ap (cut (code_of plan) None) (marks_are plan first minutes seed few ∙ ap (marks_from plan start 1) seconds) ∙ pieces.1;
+    }
+minutes_by plan first minutes seed few (inr o) =
+    let start = seeded plan seed in
+    let rest = between plan first seed minutes ++ closer plan minutes ∷ [] in
+    let one : Second = record { index = opening_index plan; symbol = o.last } in
+    let opening = mark_at plan start 1 (opening_index plan) o.last in
+    let seconds : shown plan first minutes seed ≡ one ∷ rest = ap (λ l. (seconds_from (opening_index plan) l ++ between plan first seed minutes) ++ closer plan minutes ∷ []) o.one in
+    let pieces = pieces_are plan first seed start 2 minutes (Some opening) (leads_on plan start 1 (opening_index plan) (index_of 0) o.last (omega (arith, o.far)) o.ends_it) in
+    record {
+      front = opening ∷ [];
+      closing = pieces.0;
+      start = start;
+      from = 2;
+      is = ap (cut (code_of plan) None) (marks_are plan first minutes seed few ∙ ap (marks_from plan start 1) seconds)
+          ∙ cut_after (code_of plan) opening (marks_from plan start 2 rest) (o.calm (start_of (opening_index plan) (number_from start 1)))
+          ∙ ap (onto_first opening) pieces.1;
     }
 
-has_minutes : (plan : Plan) (first minutes seed : ℕ) → HasMinutes plan first minutes seed (marks_of plan (made plan first minutes seed))
-has_minutes Dcf first minutes seed = dcf_has first minutes seed
-has_minutes Msf first minutes seed = msf_has first minutes seed
-has_minutes Wwvb first minutes seed = wwvb_has first minutes seed
+has_minutes : (plan : Plan) (first minutes seed : ℕ) → minutes ≤ 1440 → HasMinutes plan first minutes seed (marks_of plan (made plan first minutes seed))
+has_minutes plan first minutes seed few = minutes_by plan first minutes seed few (reads plan).opening
 
 -- ---- their segments
 
@@ -192,26 +204,10 @@ leap_judged None coded e = e
 leap_judged (Some rule) coded e = refl
 
 abbrev says_none : Plan → List Mark → Type 0
-says_none Dcf marks = dcf.announces_leap marks ≡ false
-says_none Msf marks = Unit {0}
-says_none Wwvb marks = wwvb.announces_leap marks ≡ false
-
-dcf_none : (marks : List Mark) → dcf.announces_leap marks ≡ false → (dcf.coded marks).leap_at ≡ 0
-unfolding dcf.coded
-dcf_none marks e = rw e refl
-
-msf_none : (marks : List Mark) → (msf.coded marks).leap_at ≡ 0
-unfolding msf.coded
-msf_none marks = refl
-
-wwvb_none : (marks : List Mark) → wwvb.announces_leap marks ≡ false → (wwvb.coded marks).leap_at ≡ 0
-unfolding wwvb.coded
-wwvb_none marks e = rw e refl
+says_none plan marks = ((code_of plan).coded marks).leap_at ≡ 0
 
 judged_none : (plan : Plan) (segment : Segment) → says_none plan segment.marks → leap_of (judged (code_of plan) segment) ≡ 0
-judged_none Dcf segment h = leap_judged (dcf_rules.first segment.marks) (dcf.coded segment.marks) (dcf_none segment.marks h)
-judged_none Msf segment h = leap_judged (msf_rules.first segment.marks segment.close) (msf.coded segment.marks) (msf_none segment.marks)
-judged_none Wwvb segment h = leap_judged (wwvb_rules.first segment.marks segment.close) (wwvb.coded segment.marks) (wwvb_none segment.marks h)
+judged_none plan segment h = leap_judged ((code_of plan).first segment.marks segment.close) ((code_of plan).coded segment.marks) h
 
 agreed_none : (was is : ℕ) → is ≡ 0 → agreed_leap was is ≡ 0
 agreed_none was is e = either (was == is)
@@ -250,9 +246,8 @@ read_symbols plan start j index [] = refl
 read_symbols plan start j index (symbol ∷ more) = ap (λ l. read_as plan symbol ∷ l) (read_symbols plan start (suc j) (index + 1) more)
 
 minute_none : (plan : Plan) (first seed start j m : ℕ) → says_none plan (minute_marks plan first seed start j m)
-minute_none Dcf first seed start j m = ap (λ l. is_one (slice_index_or l 19 Zero)) (read_symbols Dcf start j (index_of m) (symbols_of Dcf first seed m)) ∙ dcf_announces_none first seed m
-minute_none Msf first seed start j m = tt
-minute_none Wwvb first seed start j m = ap (λ l. is_one (slice_index_or l 56 Zero)) (read_symbols Wwvb start j (index_of m) (symbols_of Wwvb first seed m)) ∙ wwvb_announces_none first seed m
+minute_none plan first seed start j m =
+    (reads plan).no_leap (is_spoilt seed m) (coded_of first m) (minute_marks plan first seed start j m) refl (read_symbols plan start j (index_of m) (symbols_of plan first seed m))
 
 minutes_none : (plan : Plan) (first seed start j m count : ℕ) → AllByRecursion (says_none plan) (minutes_marks plan first seed start j m count)
 minutes_none plan first seed start j m zero = tt
@@ -281,33 +276,7 @@ minutes_seconds plan first seed m (suc count) =
     let both = length-append (minute_seconds plan first seed m) (flat_map (minute_seconds plan first seed) (range_with_len (m + 1) count)) in
     omega (arith, one, more, both)
 
-opening_alone : (plan : Plan) → are_alone (seconds_from (opening_index plan) (opening_symbols plan)) ≡ true
-opening_alone Dcf = refl
-opening_alone Msf = refl
-opening_alone Wwvb = refl
-
-closing_alone : (plan : Plan) (index : ℕ) → are_alone (seconds_from index (closing_symbols plan)) ≡ true
-closing_alone Dcf index = refl
-closing_alone Msf index = refl
-closing_alone Wwvb index = refl
-
-ends_short : (plan : Plan) → length (opening_symbols plan) + length (closing_symbols plan) ≤ 3
-ends_short Dcf = omega arith
-ends_short Msf = omega arith
-ends_short Wwvb = omega arith
-
-at_most_60 : (plan : Plan) → marked plan ≤ 60
-at_most_60 Dcf = omega arith
-at_most_60 Msf = omega arith
-at_most_60 Wwvb = omega arith
-
-log_alone : (plan : Plan) (first minutes seed : ℕ) → are_alone (seconds_of plan first minutes seed) ≡ true
-log_alone plan first minutes seed =
-    let opening = seconds_from (opening_index plan) (opening_symbols plan) in
-    let middle = flat_map (minute_seconds plan first seed) (range_with_len 0 minutes) in
-    alone_append (opening ++ middle) (seconds_from (index_of minutes) (closing_symbols plan)) (alone_append opening middle (opening_alone plan) (alone_minutes plan first seed 0 minutes)) (closing_alone plan (index_of minutes))
-
-log_seconds : (plan : Plan) (first seed : ℕ) → length (seconds_of plan first minutes_of_a_day seed) ≤ 86403
+log_seconds : (plan : Plan) (first seed : ℕ) → length (seconds_of plan first minutes_of_a_day seed) ≤ 86404
 log_seconds plan first seed =
     let opening = seconds_from (opening_index plan) (opening_symbols plan) in
     let middle = flat_map (minute_seconds plan first seed) (range_with_len 0 minutes_of_a_day) in
@@ -319,8 +288,9 @@ log_seconds plan first seed =
       minutes_seconds plan first seed 0 minutes_of_a_day,
       seconds_count (opening_index plan) (opening_symbols plan),
       seconds_count (index_of minutes_of_a_day) (closing_symbols plan),
-      ends_short plan,
-      at_most_60 plan,
+      (fits plan).opening,
+      (fits plan).closing,
+      (reads plan).most,
     )
 
 line_short : (r : Reduction) → r.at < 2 ^ 50 → 1 ≤ r.width → r.width ≤ 2000000 → length (line_of r ++ 10 ∷ []) ≤ 32
@@ -351,7 +321,7 @@ unfolding day_log
 day_is feed plan seed =
     let text = day_log plan seed in
     let reductions = made plan first_minute minutes_of_a_day seed in
-    let minutes = has_minutes plan first_minute minutes_of_a_day seed in
+    let minutes = has_minutes plan first_minute minutes_of_a_day seed (omega arith) in
     let pieces = minutes_marks plan first_minute seed minutes.start minutes.from 0 minutes_of_a_day in
     let segments = closed (pieces ++ minutes.closing ∷ []) in
     let read : pulses text ≡ reductions = (made_is_read plan first_minute minutes_of_a_day seed (omega arith)).found in

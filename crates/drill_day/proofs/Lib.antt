@@ -1,6 +1,5 @@
 -- What is heard of a made day.
 pub mod MarkLaws
 pub mod CutLaws
-pub mod SymbolLaws
 pub mod MinuteLaws
 pub mod DayLaws

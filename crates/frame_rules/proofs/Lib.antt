@@ -8,3 +8,4 @@ pub mod Template
 pub mod BitSymbols
 pub mod WordLaws
 pub mod AddingLaws
+pub mod SentLaws

@@ -1,6 +1,8 @@
--- Read Codes (what a code plan is), Fields (bits, weights, counts of a segment's places), Rules and MarkRules (what breaks a rule)
--- and First (which rule is named). Numbers, Digits and Bits are small terms that they use. Words is scaffolding.
+-- Read Codes (what a code plan is), Sendings (how one is sent), Fields (bits, weights, counts of a segment's places), Rules and
+-- MarkRules (what breaks a rule) and First (which rule is named). Numbers, Digits and Bits are small terms that they use. Words is
+-- scaffolding.
 pub mod Codes
+pub mod Sendings
 pub mod Fields
 pub mod Rules
 pub mod MarkRules

@@ -9,6 +9,7 @@ mod numbers;
 mod places;
 mod rules;
 mod segment;
+mod send_plan;
 mod spelling;
 mod words;
 
@@ -19,4 +20,5 @@ pub use numbers::{Number, is_out_of};
 pub use places::{KEPT_PLACES, Places};
 pub use rules::{Rule, breaks_length, first_broken};
 pub use segment::Segment;
+pub use send_plan::{ODD_WIDTH, SendPlan};
 pub use spelling::{Spelling, bit_symbol};

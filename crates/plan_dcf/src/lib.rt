@@ -26,6 +26,7 @@ mod fields;
 mod marks;
 mod reading;
 mod rules;
+mod sending;
 mod spelling;
 
 pub use reading::{Dcf, Frame, read};

@@ -3,3 +3,4 @@ pub mod LeastRule
 pub mod ReadBack
 pub mod RoundTrip
 pub mod Validity
+pub mod Sent

@@ -23,6 +23,7 @@ mod fields;
 mod marks;
 mod reading;
 mod rules;
+mod sending;
 mod spelling;
 
 pub use reading::{Frame, Msf, read};

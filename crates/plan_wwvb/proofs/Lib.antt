@@ -5,3 +5,4 @@ pub mod ReadBack
 pub mod RoundTrip
 pub mod Seconds
 pub mod Validity
+pub mod Sent

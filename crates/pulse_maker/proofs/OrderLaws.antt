@@ -1,27 +1,15 @@
 -- The starts of a made log rise.
-use Rattle.std.proofs.Common.{◌≡◌, ℕ, zero, suc, ◌+◌, ◌*◌, ◌^◌, ◌<◌, ◌≤◌, ◌%◌, Bool, true, false, not, List, [], ◌∷◌, ◌++◌, length, refl, sym, subst, arith, append_assoc}
+use Rattle.std.proofs.Common.{◌≡◌, ℕ, zero, suc, ◌+◌, ◌*◌, ◌^◌, ◌<◌, ◌≤◌, Bool, true, false, List, [], ◌∷◌, ◌++◌, length, refl, sym, subst, arith, append_assoc}
 use Rattle.std.specs.List.{flat_map, range_with_len}
-use Rattle.std.specs.Prelude.{◌==◌, if◌then◌else◌}
 use Rattle.std.proofs.lemmas.List.{length-set, append-nil}
 use Rattle.tick_units.specs.declared.marks.Plan.{Plan}
-use Rattle.tick_units.specs.declared.marks.Plan.TheVariants.{Dcf, Msf, Wwvb}
 use Rattle.tick_units.specs.declared.marks.Reduction.{Reduction}
 use Rattle.tick_units.specs.declared.marks.Symbol.{Symbol}
 use Rattle.tick_units.specs.declared.marks.Symbol.TheVariants.{Zero, One, OnlyB, Both, Long, Odd}
-use Rattle.tick_units.specs.declared.verdicts.Coded.{Coded}
-use Rattle.civil_minute.specs.Dates.{weekday_of}
-use Rattle.civil_minute.specs.Seconds.{civil_of, day_of_year_of}
-use Rattle.civil_frame.specs.Seconds.{local_second}
-use Rattle.plan_dcf.specs.Fields.{hours_ahead as dcf_ahead}
-use Rattle.plan_msf.specs.Fields.{hours_ahead as msf_ahead}
-use Rattle.plan_dcf.specs.Spelling.{spelt as dcf_spelt}
-use Rattle.plan_msf.specs.Spelling.{spelt as msf_spelt}
-use Rattle.plan_wwvb.specs.Spelling.{spelt as wwvb_spelt, sent_second}
-use Rattle.plan_dcf.proofs.ReadBack.{length-frame_of as dcf_length}
-use Rattle.plan_msf.proofs.ReadBack.{length-frame_of as msf_length}
-use Rattle.plan_wwvb.proofs.ReadBack.{length-frame_of as wwvb_length}
+use Rattle.frame_rules.specs.Sendings.{spoilt_if}
+use Rattle.code_plans.proofs.Sent.{fits}
 use Rattle.pulse_maker.specs.Made.{width_of, start_of, parts_of, number_from, reductions_from, made, seeded, text_of, IsReadAs}
-use Rattle.pulse_maker.specs.Minutes.{spelt_by, spoilt_if, symbols_of, is_spoilt, coded_of, seconds_from, opening_index, opening_symbols, closing_symbols, index_of, seconds_of}
+use Rattle.pulse_maker.specs.Minutes.{spelt_by, symbols_of, is_spoilt, coded_of, seconds_from, opening_index, opening_symbols, closing_symbols, index_of, seconds_of}
 use Rattle.pulse_maker.specs.declared.seconds.Second.{Second}
 use Rattle.pulse_maker.proofs.MakingLaws.{minute_seconds}
 use Rattle.pulse_maker.proofs.ReadLaws.{Rises, is_read}
@@ -35,24 +23,7 @@ record Fits (width : ℕ) : Type 0 where
   most : width ≤ 2000000
 
 width_fits : (plan : Plan) (symbol : Symbol) → Fits (width_of plan symbol)
-width_fits Dcf Zero = record { some = omega arith; most = omega arith }
-width_fits Dcf One = record { some = omega arith; most = omega arith }
-width_fits Dcf OnlyB = record { some = omega arith; most = omega arith }
-width_fits Dcf Both = record { some = omega arith; most = omega arith }
-width_fits Dcf Long = record { some = omega arith; most = omega arith }
-width_fits Dcf Odd = record { some = omega arith; most = omega arith }
-width_fits Msf Zero = record { some = omega arith; most = omega arith }
-width_fits Msf One = record { some = omega arith; most = omega arith }
-width_fits Msf OnlyB = record { some = omega arith; most = omega arith }
-width_fits Msf Both = record { some = omega arith; most = omega arith }
-width_fits Msf Long = record { some = omega arith; most = omega arith }
-width_fits Msf Odd = record { some = omega arith; most = omega arith }
-width_fits Wwvb Zero = record { some = omega arith; most = omega arith }
-width_fits Wwvb One = record { some = omega arith; most = omega arith }
-width_fits Wwvb OnlyB = record { some = omega arith; most = omega arith }
-width_fits Wwvb Both = record { some = omega arith; most = omega arith }
-width_fits Wwvb Long = record { some = omega arith; most = omega arith }
-width_fits Wwvb Odd = record { some = omega arith; most = omega arith }
+width_fits plan symbol = record { some = (fits plan).some symbol; most = (fits plan).most symbol }
 
 -- one reduction before others
 one_rises : (least at width next : ℕ) (more : List Reduction) → least ≤ at → at < 2 ^ 50 → at + 1 ≤ next → Fits width → Rises next more → Rises least (record { at = at; width = width } ∷ more)
@@ -69,7 +40,7 @@ parts_rise plan at Long least next more le below on h = one_rises least at (widt
 parts_rise plan at Odd least next more le below on h = one_rises least at (width_of plan Odd) next more le (omega (arith, below)) (omega (arith, on)) (width_fits plan Odd) h
 
 -- indices rise from this one on, and are small
-abbrev InOrder : ℕ → List Second → Type 0
+abbrev pub InOrder : ℕ → List Second → Type 0
 InOrder least [] = Unit {0}
 InOrder least (second ∷ more) = (least ≤ second.index) × (second.index < 2 ^ 20) × InOrder (second.index + 1) more
 
@@ -91,16 +62,6 @@ seconds_in_order index [] least next more le on small h = order_lower next least
 seconds_in_order index (symbol ∷ rest) least next more le on small h =
     (le, omega (arith, on, small), seconds_in_order (index + 1) rest (index + 1) next more (omega arith) (omega (arith, on)) small h)
 
-one_or_none : (b : Bool) → (if b then 1 else 0) ≤ 1
-one_or_none true = omega arith
-one_or_none false = omega arith
-
-spelt_short : (plan : Plan) (c : Coded) → length (spelt_by plan c) ≤ 60
-unfolding dcf_spelt msf_spelt wwvb_spelt
-spelt_short Dcf c = omega (arith, dcf_length c (civil_of (local_second dcf_ahead c)) (weekday_of (local_second dcf_ahead c)), one_or_none (c.leap_at == c.minute))
-spelt_short Msf c = omega (arith, msf_length c.summer (civil_of (local_second msf_ahead c)) (weekday_of (local_second msf_ahead c) % 7))
-spelt_short Wwvb c = omega (arith, wwvb_length (not (c.leap_at == 0)) (civil_of (sent_second c)) (day_of_year_of (sent_second c)))
-
 spoilt_length : (b : Bool) (symbols : List Symbol) → length (spoilt_if b symbols) ≡ length symbols
 spoilt_length true symbols = length-set symbols 30 Odd
 spoilt_length false symbols = refl
@@ -112,20 +73,10 @@ minutes_in_order plan first seed m (suc k) n least more e few le h =
     let one = minute_seconds plan first seed in
     let rest = flat_map one (range_with_len (m + 1) k) in
     let symbols = symbols_of plan first seed m in
-    let short : length symbols ≤ 60 = omega (arith, spoilt_length (is_spoilt seed m) (spelt_by plan (coded_of first m)), spelt_short plan (coded_of first m)) in
+    let short : length symbols ≤ 60 = omega (arith, spoilt_length (is_spoilt seed m) (spelt_by plan (coded_of first m)), (fits plan).minute (coded_of first m)) in
     subst (λ (l : List Second). InOrder least l) (sym (append_assoc (one m) rest more))
     (seconds_in_order (index_of m) symbols least (index_of (m + 1)) (rest ++ more) le (omega (arith, short)) (omega (arith, e, few))
     (minutes_in_order plan first seed (m + 1) k n (index_of (m + 1)) more (omega (arith, e)) few (omega arith) h))
-
-opening_short : (plan : Plan) → opening_index plan + length (opening_symbols plan) ≤ 2
-opening_short Dcf = omega arith
-opening_short Msf = omega arith
-opening_short Wwvb = omega arith
-
-closing_short : (plan : Plan) → length (closing_symbols plan) ≤ 2
-closing_short Dcf = omega arith
-closing_short Msf = omega arith
-closing_short Wwvb = omega arith
 
 pub made_in_order : (plan : Plan) (first minutes seed : ℕ) → minutes ≤ 1440 → InOrder 0 (seconds_of plan first minutes seed)
 made_in_order plan first minutes seed few =
@@ -133,9 +84,9 @@ made_in_order plan first minutes seed few =
     let between = flat_map (minute_seconds plan first seed) (range_with_len 0 minutes) in
     let closing = seconds_from (index_of minutes) (closing_symbols plan) in
     let last : InOrder (index_of minutes) closing = subst (λ (l : List Second). InOrder (index_of minutes) l) (append-nil closing)
-    (seconds_in_order (index_of minutes) (closing_symbols plan) (index_of minutes) (index_of minutes + 2) [] (omega arith) (omega (arith, closing_short plan)) (omega (arith, few)) tt) in
+    (seconds_in_order (index_of minutes) (closing_symbols plan) (index_of minutes) (index_of minutes + 2) [] (omega arith) (omega (arith, (fits plan).closing)) (omega (arith, few)) tt) in
     subst (λ (l : List Second). InOrder 0 l) (sym (append_assoc opening between closing))
-    (seconds_in_order (opening_index plan) (opening_symbols plan) 0 2 (between ++ closing) (omega arith) (opening_short plan) (omega arith)
+    (seconds_in_order (opening_index plan) (opening_symbols plan) 0 2 (between ++ closing) (omega arith) (fits plan).opening (omega arith)
     (minutes_in_order plan first seed 0 minutes minutes 2 closing (omega arith) few (omega arith) last))
 
 pub made_rises : (plan : Plan) (first minutes seed : ℕ) → minutes ≤ 1440 → Rises (5000000 + 0 * 1000000) (made plan first minutes seed)

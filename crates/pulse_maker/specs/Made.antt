@@ -1,26 +1,21 @@
 -- A made log: the reductions of its seconds, each late by a number of a generator, and its text. The generator is the one in an
--- example of the C standard (ISO/IEC 9899, `rand`), modulo 2^31. The widths lie inside the classes of the three plans; the choice
--- among these is this project's own. Moments and widths are in microseconds.
+-- example of the C standard (ISO/IEC 9899, `rand`), modulo 2^31. The code plan says each width. Moments and widths are in
+-- microseconds.
 use Rattle.std.specs.Prelude.{◌≡◌, ℕ, zero, suc, None, ◌+◌, ◌*◌, ◌%◌, ◌^◌, List, [], ◌∷◌, ◌++◌}
 use Rattle.std.specs.List.{flat_map}
 use Rattle.tick_units.specs.Log.{pulses, bad_at_end}
 use Rattle.tick_units.specs.declared.marks.Plan.{Plan}
-use Rattle.tick_units.specs.declared.marks.Plan.TheVariants.{Dcf, Msf, Wwvb}
 use Rattle.tick_units.specs.declared.marks.Reduction.{Reduction}
 use Rattle.tick_units.specs.declared.marks.Symbol.{Symbol}
 use Rattle.tick_units.specs.declared.marks.Symbol.TheVariants.{Zero, One, OnlyB, Both, Long, Odd}
+use Rattle.code_plans.specs.Sendings.{sending_of}
 use Rattle.pulse_log.specs.Writing.{line_of}
 use Rattle.pulse_maker.specs.Minutes.{seconds_of}
 use Rattle.pulse_maker.specs.declared.seconds.Second.{Second}
 
-abbrev pub number_of_plan : Plan → ℕ
-number_of_plan Dcf = 0
-number_of_plan Msf = 1
-number_of_plan Wwvb = 2
-
 -- number 0 of the generator
 abbrev pub seeded : Plan → ℕ → ℕ
-seeded plan seed = (seed + number_of_plan plan) % 2 ^ 31
+seeded plan seed = (seed + (sending_of plan).number) % 2 ^ 31
 
 abbrev pub number_after : ℕ → ℕ
 number_after n = (1103515245 * n + 12345) % 2 ^ 31
@@ -30,40 +25,9 @@ abbrev pub number_from : ℕ → ℕ → ℕ
 number_from start zero = start
 number_from start (suc j) = number_after (number_from start j)
 
--- a width that is in no class of any plan
-abbrev pub odd_width : ℕ
-odd_width = 30000
-
-abbrev pub dcf_width : Symbol → ℕ
-dcf_width Zero = 100000
-dcf_width One = 200000
-dcf_width OnlyB = odd_width
-dcf_width Both = odd_width
-dcf_width Long = odd_width
-dcf_width Odd = odd_width
-
--- for OnlyB this is the width of each of its two parts
-abbrev pub msf_width : Symbol → ℕ
-msf_width Zero = 100000
-msf_width One = 200000
-msf_width OnlyB = 100000
-msf_width Both = 300000
-msf_width Long = 500000
-msf_width Odd = odd_width
-
-abbrev pub wwvb_width : Symbol → ℕ
-wwvb_width Zero = 200000
-wwvb_width One = 500000
-wwvb_width OnlyB = odd_width
-wwvb_width Both = odd_width
-wwvb_width Long = 800000
-wwvb_width Odd = odd_width
-
 -- the width that says a symbol; one in no class stands for a symbol that the plan does not have
 abbrev pub width_of : Plan → Symbol → ℕ
-width_of Dcf symbol = dcf_width symbol
-width_of Msf symbol = msf_width symbol
-width_of Wwvb symbol = wwvb_width symbol
+width_of plan symbol = (sending_of plan).width symbol
 
 -- second index 0 is at 5 s, and each mark is up to 2 ms late
 abbrev pub start_of : ℕ → ℕ → ℕ

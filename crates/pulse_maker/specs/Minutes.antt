@@ -1,15 +1,12 @@
 -- What a made log says at each of its seconds, before the first minute and after the last. Minutes are as PTB (DCF77), NPL (MSF)
 -- and NIST (SP 432, WWVB) spell them, one after another. The choice of damaged minutes is this project's own.
-use Rattle.std.specs.Prelude.{ℕ, ◌+◌, ◌*◌, ◌%◌, Bool, false, not, ◌&&◌, ◌==◌, List, [], ◌∷◌, ◌++◌, set, if◌then◌else◌}
+use Rattle.std.specs.Prelude.{ℕ, ◌+◌, ◌*◌, ◌%◌, Bool, false, not, ◌&&◌, ◌==◌, List, [], ◌∷◌, ◌++◌}
 use Rattle.std.specs.List.{flat_map, range_with_len}
 use Rattle.tick_units.specs.declared.marks.Plan.{Plan}
-use Rattle.tick_units.specs.declared.marks.Plan.TheVariants.{Dcf, Msf, Wwvb}
 use Rattle.tick_units.specs.declared.marks.Symbol.{Symbol}
-use Rattle.tick_units.specs.declared.marks.Symbol.TheVariants.{Zero, Long, Odd}
 use Rattle.tick_units.specs.declared.verdicts.Coded.{Coded}
-use Rattle.plan_dcf.specs.Spelling.{spelt as dcf_spelt}
-use Rattle.plan_msf.specs.Spelling.{spelt as msf_spelt}
-use Rattle.plan_wwvb.specs.Spelling.{spelt as wwvb_spelt}
+use Rattle.frame_rules.specs.Sendings.{spoilt_if}
+use Rattle.code_plans.specs.Sendings.{sending_of}
 use Rattle.pulse_maker.specs.declared.seconds.Second.{Second}
 
 -- a minute of the log, counted from 0, is damaged: every 50th, but never the first of all
@@ -21,13 +18,7 @@ abbrev pub coded_of : ℕ → ℕ → Coded
 coded_of first minute = record { minute = first + 60 * (minute + 1); leap_at = 0; summer = false }
 
 abbrev pub spelt_by : Plan → Coded → List Symbol
-spelt_by Dcf c = dcf_spelt c
-spelt_by Msf c = msf_spelt c
-spelt_by Wwvb c = wwvb_spelt c
-
--- in a damaged minute the width of place 30 is in no class
-abbrev pub spoilt_if : Bool → List Symbol → List Symbol
-spoilt_if spoilt symbols = if spoilt then set symbols 30 Odd else symbols
+spelt_by plan c = (sending_of plan).spelt c
 
 abbrev pub symbols_of : Plan → ℕ → ℕ → ℕ → List Symbol
 symbols_of plan first seed minute = spoilt_if (is_spoilt seed minute) (spelt_by plan (coded_of first minute))
@@ -37,24 +28,16 @@ abbrev pub seconds_from : ℕ → List Symbol → List Second
 seconds_from index [] = []
 seconds_from index (symbol ∷ more) = record { index = index; symbol = symbol } ∷ seconds_from (index + 1) more
 
--- what stands before the first minute, so that its beginning can be found: in DCF77 the last mark of the minute before, after
--- which one second has none; in WWVB the last marker
+-- what stands before the first minute, so that its beginning can be found
 abbrev pub opening_symbols : Plan → List Symbol
-opening_symbols Dcf = Zero ∷ []
-opening_symbols Msf = []
-opening_symbols Wwvb = Long ∷ []
+opening_symbols plan = (sending_of plan).opening
 
 abbrev pub opening_index : Plan → ℕ
-opening_index Dcf = 0
-opening_index Msf = 0
-opening_index Wwvb = 1
+opening_index plan = (sending_of plan).opening_index
 
--- what stands after the last minute: the first mark of the next, which closes it; in MSF also one more, since only the reduction
--- after a mark shows that it has no second part
+-- what stands after the last minute: the first mark of the next, which closes it, and whatever shows that this mark is whole
 abbrev pub closing_symbols : Plan → List Symbol
-closing_symbols Dcf = Zero ∷ []
-closing_symbols Msf = Long ∷ Zero ∷ []
-closing_symbols Wwvb = Long ∷ []
+closing_symbols plan = (sending_of plan).closing
 
 -- minute 0 begins at second index 2
 abbrev pub index_of : ℕ → ℕ

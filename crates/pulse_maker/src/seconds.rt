@@ -1,11 +1,10 @@
 //! The seconds of a log: what each of them says, and by which reductions.
 ghost use Rattle.std.specs.Prelude.{◌≡◌, ◌<◌, ◌≤◌, ◌^◌};
-ghost use Rattle.pulse_maker.specs.Made.{dcf_width, msf_width, wwvb_width, width_of, start_of};
+ghost use Rattle.tick_units.specs.declared.marks.Plan.{Plan};
+ghost use Rattle.pulse_maker.specs.Made.{width_of, start_of};
 
+use code_plans::{ListedSending, of_plan};
 use tick_units::{Local, Plan, Reduction, Symbol};
-
-// A width that is in no class of any plan.
-const ODD_WIDTH: u32 = 30_000;
 
 /// A second that has a mark.
 #[derive(Clone, Copy, Debug)]
@@ -15,43 +14,13 @@ pub struct Second {
     pub symbol: Symbol,
 }
 
-fn dcf_width(symbol: Symbol) -> u32
-    ensures value { result ≡ dcf_width symbol }
+// The width that says a symbol in a plan.
+fn width_by<C: ListedSending>(symbol: Symbol) -> u32
+    ensures value { (plan : Plan) → C.which ≡ plan → result ≡ width_of plan symbol }
     ensures some { 1 ≤ result }
     ensures most { result ≤ 800000 }
 {
-    match symbol {
-        Symbol::Zero => 100_000,
-        Symbol::One => 200_000,
-        _ => ODD_WIDTH,
-    }
-}
-
-fn msf_width(symbol: Symbol) -> u32
-    ensures value { result ≡ msf_width symbol }
-    ensures some { 1 ≤ result }
-    ensures most { result ≤ 800000 }
-{
-    match symbol {
-        Symbol::Zero | Symbol::OnlyB => 100_000,
-        Symbol::One => 200_000,
-        Symbol::Both => 300_000,
-        Symbol::Long => 500_000,
-        Symbol::Odd => ODD_WIDTH,
-    }
-}
-
-fn wwvb_width(symbol: Symbol) -> u32
-    ensures value { result ≡ wwvb_width symbol }
-    ensures some { 1 ≤ result }
-    ensures most { result ≤ 800000 }
-{
-    match symbol {
-        Symbol::Zero => 200_000,
-        Symbol::One => 500_000,
-        Symbol::Long => 800_000,
-        _ => ODD_WIDTH,
-    }
+    C::width(symbol)
 }
 
 // The width that says a symbol.
@@ -60,11 +29,7 @@ pub fn width_of(plan: Plan, symbol: Symbol) -> u32
     ensures some { 1 ≤ result }
     ensures most { result ≤ 800000 }
 {
-    match plan {
-        Plan::Dcf => dcf_width(symbol),
-        Plan::Msf => msf_width(symbol),
-        Plan::Wwvb => wwvb_width(symbol),
-    }
+    of_plan!(plan, width_by(symbol))
 }
 
 // The start of a second's mark, in microseconds, late by this number modulo 2001.

@@ -4,7 +4,8 @@ use Rattle.std.specs.Prelude.{set}
 use Rattle.std.proofs.lemmas.List.{take_at}
 use Rattle.tick_units.specs.declared.marks.Symbol.{Symbol}
 use Rattle.tick_units.specs.declared.marks.Symbol.TheVariants.{Odd}
-use Rattle.pulse_maker.specs.Minutes.{coded_of, spelt_by, spoilt_if}
+use Rattle.frame_rules.specs.Sendings.{spoilt_if}
+use Rattle.pulse_maker.specs.Minutes.{coded_of, spelt_by}
 use Rattle.pulse_maker.proofs.MinuteLaws.{front_set}
 use Rattle.pulse_maker.proofs.minutes.write_symbols.Goals as goal
 

@@ -1,0 +1,2 @@
+-- What holds of each plan is proved in its own crate.
+pub mod Sent

@@ -1,0 +1,153 @@
+-- A made log of DCF77 can be written and is read back: a minute begins after a second without a mark.
+use Rattle.std.proofs.Common.{◌≡◌, ℕ, ◌+◌, ◌*◌, ◌≤◌, ◌==◌, Bool, true, false, not, List, [], ◌∷◌, length, map, inr, refl, ap, ◌∙◌, arith}
+use Rattle.std.specs.Prelude.{nat_le, slice_index_or, if◌then◌else◌}
+use Rattle.std.specs.List.{list_all}
+use Rattle.std.proofs.lemmas.Bool.{le-leb, lt-leb}
+use Rattle.std.proofs.lemmas.List.{length-set}
+use Rattle.civil_minute.specs.Dates.{weekday_of}
+use Rattle.civil_minute.specs.Seconds.{civil_of}
+use Rattle.civil_minute.specs.declared.seconds.CivilMinute.{CivilMinute}
+use Rattle.civil_frame.specs.Seconds.{local_second}
+use Rattle.frame_rules.specs.Digits.{bit_symbol}
+use Rattle.frame_rules.specs.Fields.{is_one, symbols_of}
+use Rattle.frame_rules.specs.Sendings.{spoilt_if}
+use Rattle.frame_rules.proofs.SentLaws.{FitsLog, ReadsBack, Shape, IsMinute, is_alone, is_calm, read_of}
+use Rattle.tick_units.specs.Marks.{is_between}
+use Rattle.tick_units.specs.declared.marks.Mark.{Mark}
+use Rattle.tick_units.specs.declared.marks.Symbol.{Symbol}
+use Rattle.tick_units.specs.declared.marks.Symbol.TheVariants.{Zero, One, OnlyB, Both, Long, Odd}
+use Rattle.tick_units.specs.declared.verdicts.Coded.{Coded}
+use Rattle.plan_dcf.specs.Code.{dcf_code}
+use Rattle.plan_dcf.specs.Fields.{announces_leap, coded, hours_ahead}
+use Rattle.plan_dcf.specs.Sending.{dcf_sending, width_of}
+use Rattle.plan_dcf.specs.Spelling.{frame_of, spelt}
+use Rattle.plan_dcf.proofs.ReadBack.{length-frame_of}
+
+-- ---- what is written
+
+width_some : (symbol : Symbol) → 1 ≤ width_of symbol
+width_some Zero = omega arith
+width_some One = omega arith
+width_some OnlyB = omega arith
+width_some Both = omega arith
+width_some Long = omega arith
+width_some Odd = omega arith
+
+width_most : (symbol : Symbol) → width_of symbol ≤ 2000000
+width_most Zero = omega arith
+width_most One = omega arith
+width_most OnlyB = omega arith
+width_most Both = omega arith
+width_most Long = omega arith
+width_most Odd = omega arith
+
+one_or_none : (b : Bool) → (if b then 1 else 0) ≤ 1
+one_or_none true = omega arith
+one_or_none false = omega arith
+
+spelt_short : (c : Coded) → length (spelt c) ≤ 60
+unfolding spelt
+spelt_short c = omega (arith, length-frame_of c (civil_of (local_second hours_ahead c)) (weekday_of (local_second hours_ahead c)), one_or_none (c.leap_at == c.minute))
+
+pub fits : FitsLog dcf_sending
+fits = record { some = width_some; most = width_most; minute = spelt_short; opening = omega arith; closing = omega arith }
+
+-- ---- what is read of it
+
+-- where a second is left out a minute begins, whatever the marks say
+abbrev shape : Shape
+shape = record { marked = 59; gap = 2; begins = λ symbol. true; ends = λ symbol. true; steps = λ before symbol. false }
+
+-- a second later is too soon
+soon : (at next : ℕ) → next ≤ at + 1002000 → is_between (at + 1900000) (at + 2100000) next ≡ false
+soon at next near =
+    let late : nat_le (at + 1900000) next ≡ false = lt-leb (at + 1900000) next (omega (arith, near)) in
+    rw late refl
+
+in_time : (at next : ℕ) → at + 2 * 1000000 ≤ next + 2000 → next ≤ at + 2 * 1000000 + 2000 → is_between (at + 1900000) (at + 2100000) next ≡ true
+in_time at next from until =
+    let early : nat_le (at + 1900000) next ≡ true = le-leb (at + 1900000) next (omega (arith, from)) in
+    let late : nat_le next (at + 2100000) ≡ true = le-leb next (at + 2100000) (omega (arith, until)) in
+    rw (early, late) refl
+
+alone_bit : (bit : Bool) → is_alone (bit_symbol bit) ≡ true
+alone_bit true = refl
+alone_bit false = refl
+
+alone_last : (b : Bool) → list_all is_alone (if b then Zero ∷ [] else []) ≡ true
+alone_last true = refl
+alone_last false = refl
+
+frame_alone : (spoilt : Bool) (c : Coded) (civil : CivilMinute) (weekday : ℕ) → list_all is_alone (spoilt_if spoilt (frame_of c civil weekday)) ≡ true
+unfolding frame_of
+frame_alone true c civil weekday = simp (alone_bit, alone_last)
+frame_alone false c civil weekday = simp (alone_bit, alone_last)
+
+frame_begins : (spoilt : Bool) (c : Coded) (civil : CivilMinute) (weekday : ℕ) → (tail : List Symbol) × (spoilt_if spoilt (frame_of c civil weekday) ≡ Zero ∷ tail)
+unfolding frame_of
+frame_begins true c civil weekday = (_, refl)
+frame_begins false c civil weekday = (_, refl)
+
+frame_calm : (before : Symbol) (more : List Symbol) → is_calm shape before more ≡ true
+frame_calm before [] = refl
+frame_calm before (symbol ∷ more) = frame_calm symbol more
+
+spoilt_count : (spoilt : Bool) (symbols : List Symbol) → length (spoilt_if spoilt symbols) ≡ length symbols
+spoilt_count true symbols = length-set symbols 30 Odd
+spoilt_count false symbols = refl
+
+frame_minute : (spoilt : Bool) (c : Coded) (civil : CivilMinute) (weekday : ℕ) → (c.leap_at == c.minute) ≡ false → IsMinute shape (spoilt_if spoilt (frame_of c civil weekday))
+frame_minute spoilt c civil weekday e =
+    let begins = frame_begins spoilt c civil weekday in
+    let one : length (frame_of c civil weekday) ≡ 59 = length-frame_of c civil weekday ∙ rw e refl in
+    record {
+      head = Zero;
+      tail = begins.0;
+      is = begins.1;
+      begins_it = refl;
+      calm = frame_calm Zero begins.0;
+      ends_it = refl;
+      alone = frame_alone spoilt c civil weekday;
+      count = spoilt_count spoilt (frame_of c civil weekday) ∙ one;
+    }
+
+minute : (spoilt : Bool) (c : Coded) → c.leap_at ≡ 0 → (c.leap_at == c.minute) ≡ false → IsMinute shape (spoilt_if spoilt (spelt c))
+unfolding spelt
+minute spoilt c none e = frame_minute spoilt c (civil_of (local_second hours_ahead c)) (weekday_of (local_second hours_ahead c)) e
+
+-- ---- no leap second
+
+abbrev read_at : List Symbol → ℕ → Symbol
+read_at symbols place = slice_index_or (map (read_of dcf_code dcf_sending) symbols) place Zero
+
+one_bit : (bit : Bool) → bit ≡ false → is_one (read_of dcf_code dcf_sending (bit_symbol bit)) ≡ false
+one_bit bit e = rw e refl
+
+frame_leap : (spoilt : Bool) (c : Coded) (civil : CivilMinute) (weekday : ℕ) → c.leap_at ≡ 0 → is_one (read_at (spoilt_if spoilt (frame_of c civil weekday)) 19) ≡ false
+unfolding frame_of
+frame_leap true c civil weekday e = one_bit (not (c.leap_at == 0)) (rw e refl)
+frame_leap false c civil weekday e = one_bit (not (c.leap_at == 0)) (rw e refl)
+
+coded_none : (marks : List Mark) → announces_leap marks ≡ false → (coded marks).leap_at ≡ 0
+unfolding coded
+coded_none marks e = rw e refl
+
+no_leap : (spoilt : Bool) (c : Coded) (marks : List Mark) → c.leap_at ≡ 0 → symbols_of marks ≡ map (read_of dcf_code dcf_sending) (spoilt_if spoilt (spelt c)) → (coded marks).leap_at ≡ 0
+unfolding spelt
+no_leap spoilt c marks none same =
+    coded_none marks (ap (λ (l : List Symbol). is_one (slice_index_or l 19 Zero)) same
+    ∙ frame_leap spoilt c (civil_of (local_second hours_ahead c)) (weekday_of (local_second hours_ahead c)) none)
+
+pub reads : ReadsBack dcf_code dcf_sending
+reads = record {
+  shape = shape;
+  most = omega arith;
+  whole = refl;
+  apart = λ r next far. refl;
+  steps = λ at next a b near. soon at next near;
+  leads = λ at next last head from until e f. in_time at next from until;
+  opening = inr (record { last = Zero; one = refl; far = refl; alone = refl; ends_it = refl; calm = λ at. refl });
+  closing = record { head = Zero; after = Zero; is = refl; begins_it = refl; head_alone = refl; after_alone = refl };
+  minute = minute;
+  no_leap = no_leap;
+}
