@@ -1,19 +1,22 @@
 -- Lines that give no entry, and one more after them.
-use Rattle.std.proofs.Common.{◌≤◌, ◌≡◌, ◌<◌, ◌+◌, ℕ, Option, None, Result, Ok, Err, List, [], ◌++◌, length, take, drop, ap, sym, ◌∙◌, subst, arith, append_assoc}
+use Rattle.std.proofs.Common.{◌≤◌, ◌≡◌, ◌<◌, ◌+◌, ℕ, Option, Some, None, Result, Ok, Err, List, [], ◌++◌, length, map, take, drop, ap, sym, ◌∙◌, subst, arith, append_assoc}
 use Rattle.std.specs.Option.{option_to_list}
 use Rattle.std.proofs.Math.Seq.{take-add}
 use Rattle.std.proofs.lemmas.List.{append-nil}
 use Rattle.tick_units.specs.Log.{bad_line, pulses}
 use Rattle.tick_units.specs.declared.marks.Plan.{Plan}
+use Rattle.tick_units.specs.declared.marks.Reduction.{Reduction}
+use Rattle.tick_units.specs.declared.verdicts.Heard.{Heard}
 use Rattle.journal_entry.specs.declared.entry.Entry.{Entry}
 use Rattle.pulse_log.specs.declared.reader.BadLine.{BadLine}
-use Rattle.pulse_log.specs.Reading.{HasRead}
+use Rattle.pulse_log.specs.Reading.{HasRead, TakesFront}
 use Rattle.pulse_log.specs.declared.reader.LineReader.{LineReader}
-use Rattle.radio_receiver.specs.Histories.{History, least_after}
-use Rattle.log_decoder.specs.Decoding.{DecodesFront, FindsEntry, HasDecoded, IsReady}
+use Rattle.radio_receiver.specs.Histories.{History, answers_of, least_after, with_reduction}
+use Rattle.log_decoder.specs.Decoding.{DecodesFront, FindsEntry, HasDecoded, IsReady, history_of}
 use Rattle.log_decoder.specs.Steps.{HearsLine}
-use Rattle.log_decoder.specs.Due.{due_log}
+use Rattle.log_decoder.specs.Due.{due_log, entry_of}
 use Rattle.log_decoder.specs.declared.decoder.LogDecoder.{LogDecoder}
+use Rattle.log_decoder.proofs.StepLaws.{hears_reduction}
 
 -- a beginning was taken that gave no entry
 pub record GoesOn {B : Type 0} (stands : B → History → Type 0) (decoder : LogDecoder B) (feed : ℕ) (plan : Plan) (delay : ℕ) (bytes front : List ℕ) : Type 0 where
@@ -33,6 +36,15 @@ decodes_line stands old now reader feed plan delay before front found of_feed sa
   decoded = record { of_feed = kept ∙ of_feed; read = subst (λ (r : LineReader). HasRead r (before ++ front)) (sym same) read; heard = heard.heard };
   finds = subst (λ (n : ℕ). FindsEntry n plan delay before (before ++ front) found) of_feed heard.finds;
 }
+
+-- the same of a line that was taken at once, and of what its reduction completes
+pub decodes_whole : {B : Type 0} (stands : B → History → Type 0) (old now : LogDecoder B) (reader : LineReader) (feed : ℕ) (plan : Plan) (delay : ℕ) (before front : List ℕ) (r : Reduction) (heard : Option Heard) (entry : Option Entry) →
+    old.feed ≡ feed → now.reader ≡ reader → now.feed ≡ old.feed → TakesFront reader before front (Ok (Some r)) → stands now.receiver (with_reduction (history_of plan delay before) r) →
+    answers_of (with_reduction (history_of plan delay before) r) ≡ answers_of (history_of plan delay before) ++ option_to_list heard →
+    map (entry_of old.feed) (option_to_list heard) ≡ option_to_list entry → DecodesFront stands now feed plan delay before front (Ok entry)
+decodes_whole stands old now reader feed plan delay before front r heard entry of_feed same kept takes stood answered is =
+    decodes_line stands old now reader feed plan delay before front (Ok entry) of_feed same kept takes.read
+    (hears_reduction stands now.receiver old.feed plan delay before (before ++ front) r heard entry takes.found.0 takes.found.1 stood answered is)
 
 module _ {B : Type 0} (stands : B → History → Type 0) (feed : ℕ) (plan : Plan) (delay : ℕ) (bytes : List ℕ) where
   pub none_yet : (decoder : LogDecoder B) → HasDecoded stands decoder feed plan delay bytes → GoesOn stands decoder feed plan delay bytes []

@@ -82,17 +82,51 @@ impl<R: Receiver> LogDecoder<R> {
     {
         let mut count = 0;
         'lines: while count < bytes.len() {
-            let front = self.reader.take_line(bytes.split_at(count).1);
-            count += front.count;
-            let found = self.hear_found(front.found);
-            match found {
-                Ok(None) => {}
-                _ => return Step { count, found },
+            let rest = bytes.split_at(count).1;
+            let Some(line) = self.reader.take_whole_line(rest) else {
+                let step = self.take_by_bytes(rest);
+                count += step.count;
+                match step.found {
+                    Ok(None) => continue,
+                    found => return Step { count, found },
+                }
+            };
+            count += line.count;
+            match self.receiver.hear(line.found) {
+                None => {}
+                Some(heard) => {
+                    return Step {
+                        count,
+                        found: Ok(Some(entry_of(self.feed, heard))),
+                    };
+                }
             }
         }
         Step {
             count,
             found: Ok(None),
+        }
+    }
+
+    // The same for a line that cannot be taken at once. It is not inlined, so what it returns takes no time where it is not called.
+    #[inline(never)]
+    fn take_by_bytes(&mut self, bytes: &[u8]) -> Step
+        requires some { 0 < length bytes.now }
+        requires ready { IsReady R.least_start self.old }
+        ensures some { 0 < result.count }
+        ensures within { result.count ≤ length bytes.now }
+        ensures ready { IsReady R.least_start self.new }
+        ensures feed { feed_of self.new ≡ feed_of self.old }
+        ensures lawful { IfOk result.found (λ found. IfSome found (IsEntryOf (feed_of self.old))) }
+        ensures taken { (feed : ℕ) (plan : Plan) (delay : ℕ) (before : List ℕ) →
+            HasDecoded R.stands_for self.old feed plan delay before →
+            DecodesFront R.stands_for self.new feed plan delay before (take result.count bytes.now) result.found }
+    {
+        let front = self.reader.take_by_bytes(bytes);
+        let found = self.hear_found(front.found);
+        Step {
+            count: front.count,
+            found,
         }
     }
 
