@@ -1,18 +1,15 @@
 // A reader of lines, and the receiver that takes its reductions.
-ghost use Rattle.std.specs.Prelude.{◌≡◌, ◌+◌, ◌++◌, ◌<◌, ◌≤◌, ℕ, List, [], length, map, take, None, Some, IfOk, IfSome, MatchResult};
-ghost use Rattle.std.specs.Option.{option_to_list};
-ghost use Rattle.tick_units.specs.Log.{bad_at_end, pulses};
+ghost use Rattle.std.specs.Prelude.{◌≡◌, ◌<◌, ◌≤◌, ℕ, List, [], length, take, None, Some, IfOk, IfSome, MatchResult};
+ghost use Rattle.tick_units.specs.Log.{bad_at_end};
 ghost use Rattle.tick_units.specs.declared.marks.Plan.{Plan};
 ghost use Rattle.minute_pair.specs.Years.{BelievesYears};
-ghost use Rattle.radio_receiver.specs.Histories.{least_after};
 ghost use Rattle.log_decoder.specs.Due.{entry_of};
-ghost use Rattle.log_decoder.specs.Decoding.{HasDecoded, IsReady, IsEntryOf, DecodesFront, feed_of, history_of};
-ghost use Rattle.log_decoder.specs.Steps.{IsFound, MayHear, HearsLine};
+ghost use Rattle.log_decoder.specs.Decoding.{HasDecoded, IsReady, IsEntryOf, DecodesFront, feed_of};
 
 use journal_entry::{Entry, What};
 use pulse_log::{BadLine, LineReader};
 use radio_receiver::Receiver;
-use tick_units::{Heard, Reduction};
+use tick_units::Heard;
 
 /// What a decoder took of some bytes, and what it found in them.
 #[derive(Clone, Copy, Debug, PartialEq, Eq)]
@@ -83,16 +80,27 @@ impl<R: Receiver> LogDecoder<R> {
         let mut count = 0;
         'lines: while count < bytes.len() {
             let rest = bytes.split_at(count).1;
-            let Some(line) = self.reader.take_whole_line(rest) else {
-                let step = self.take_by_bytes(rest);
-                count += step.count;
-                match step.found {
-                    Ok(None) => continue,
-                    found => return Step { count, found },
+            let reduction = match self.reader.take_whole_line(rest) {
+                Some(line) => {
+                    count += line.count;
+                    line.found
+                }
+                None => {
+                    let front = self.reader.take_by_bytes(rest);
+                    count += front.count;
+                    match front.found {
+                        Ok(Some(reduction)) => reduction,
+                        Ok(None) => continue,
+                        Err(bad) => {
+                            return Step {
+                                count,
+                                found: Err(bad),
+                            };
+                        }
+                    }
                 }
             };
-            count += line.count;
-            match self.receiver.hear(line.found) {
+            match self.receiver.hear(reduction) {
                 None => {}
                 Some(heard) => {
                     return Step {
@@ -108,28 +116,6 @@ impl<R: Receiver> LogDecoder<R> {
         }
     }
 
-    // The same for a line that cannot be taken at once. It is not inlined, so what it returns takes no time where it is not called.
-    #[inline(never)]
-    fn take_by_bytes(&mut self, bytes: &[u8]) -> Step
-        requires some { 0 < length bytes.now }
-        requires ready { IsReady R.least_start self.old }
-        ensures some { 0 < result.count }
-        ensures within { result.count ≤ length bytes.now }
-        ensures ready { IsReady R.least_start self.new }
-        ensures feed { feed_of self.new ≡ feed_of self.old }
-        ensures lawful { IfOk result.found (λ found. IfSome found (IsEntryOf (feed_of self.old))) }
-        ensures taken { (feed : ℕ) (plan : Plan) (delay : ℕ) (before : List ℕ) →
-            HasDecoded R.stands_for self.old feed plan delay before →
-            DecodesFront R.stands_for self.new feed plan delay before (take result.count bytes.now) result.found }
-    {
-        let front = self.reader.take_by_bytes(bytes);
-        let found = self.hear_found(front.found);
-        Step {
-            count: front.count,
-            found,
-        }
-    }
-
     /// The log has ended.
     ///
     /// # Errors
@@ -142,33 +128,5 @@ impl<R: Receiver> LogDecoder<R> {
             (λ bad. bad_at_end bytes ≡ Some bad.line) }
     {
         self.reader.finish()
-    }
-
-    // Passes on what the reader found in a line. It is one function that handles each None at once, so it makes a value of many
-    // words only where there is an entry.
-    #[inline(always)]
-    fn hear_found(
-        &mut self,
-        found: Result<Option<Reduction>, BadLine>,
-    ) -> Result<Option<Entry>, BadLine>
-        requires { MayHear (R.least_start self.old.receiver) found }
-        ensures reader { self.new.reader ≡ self.old.reader }
-        ensures feed { self.new.feed ≡ self.old.feed }
-        ensures lawful { IfOk result (λ found. IfSome found (IsEntryOf (feed_of self.old))) }
-        ensures heard { (plan : Plan) (delay : ℕ) (before longer : List ℕ) → IsFound before longer found →
-            R.stands_for self.old.receiver (history_of plan delay before) →
-            HearsLine R.stands_for self.new.receiver self.old.feed plan delay before longer result }
-        ensures least { (before longer : List ℕ) → IsFound before longer found →
-            R.least_start self.old.receiver ≤ least_after (pulses before) →
-            R.least_start self.new.receiver ≤ least_after (pulses longer) }
-    {
-        match found {
-            Ok(None) => Ok(None),
-            Ok(Some(reduction)) => match self.receiver.hear(reduction) {
-                None => Ok(None),
-                Some(heard) => Ok(Some(entry_of(self.feed, heard))),
-            },
-            Err(bad) => Err(bad),
-        }
     }
 }

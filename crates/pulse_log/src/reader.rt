@@ -1,5 +1,5 @@
 //! The reader of a log: bytes in, reductions out, or the first bad line.
-ghost use Rattle.std.specs.Prelude.{◌≡◌, true, ℕ, ◌+◌, ◌<◌, ◌≤◌, ◌^◌, length, take, IfSome};
+ghost use Rattle.std.specs.Prelude.{◌≡◌, true, ℕ, ◌+◌, ◌<◌, ◌≤◌, ◌^◌, nat_lt, length, take, IfSome};
 
 use crate::line::Line;
 use crate::whole::{WholeLine, line_in_front};
@@ -109,7 +109,10 @@ impl LineReader {
         if !self.is_between_lines() {
             return None;
         }
-        let line = line_in_front(bytes, self.least)?;
+        let line = line_in_front(bytes)?;
+        if self.is_early(&line.found) {
+            return None;
+        }
         self.end_whole(line.found);
         Some(line)
     }
@@ -120,6 +123,14 @@ impl LineReader {
         ensures { result ≡ true → (self.now.bad ≡ None) × (self.now.line.length ≡ 0) }
     {
         self.bad.is_none() && self.line.len() == 0
+    }
+
+    // Whether a reduction starts before it may.
+    #[inline]
+    fn is_early(&self, found: &Reduction) -> bool
+        ensures { result ≡ nat_lt found.now.at self.now.least }
+    {
+        found.at.get() < self.least
     }
 
     // Takes the text of this reduction at once, with its line feed.
