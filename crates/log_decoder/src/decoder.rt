@@ -77,6 +77,8 @@ impl<R: Receiver> LogDecoder<R> {
             HasDecoded R.stands_for self.old feed plan delay before →
             DecodesFront R.stands_for self.new feed plan delay before (take result.count bytes.now) result.found }
     {
+        // Each call that is not inlined stands in this function itself. What it writes is then set to zero once a call of `take`.
+        // In a function that is inlined into the loop that happens at each line.
         let mut count = 0;
         'lines: while count < bytes.len() {
             let rest = bytes.split_at(count).1;

@@ -95,9 +95,9 @@ impl LineReader {
         self.take_by_bytes(bytes)
     }
 
-    /// Takes the line at the beginning of these bytes at once, with its line feed, where none has begun before them and it is
-    /// valid. Returns None and takes nothing where it cannot do so: a bad line, one that is not whole, and few others. Those
-    /// are for `take_by_bytes`. It calls nothing that is not inlined, so in a loop its results need no memory.
+    /// Takes the line at the beginning of these bytes at once, with its line feed, where no line has begun before them and it is
+    /// valid. Returns None and takes nothing where it cannot: the line is bad or not whole, or its numbers are too long to be read
+    /// at once. Such a line is for `take_by_bytes`. All that it calls is inlined, so its result needs no memory in a loop.
     #[inline(always)]
     pub fn take_whole_line(&mut self, bytes: &[u8]) -> Option<WholeLine>
         ensures none { result ≡ None → self.new ≡ self.old }
