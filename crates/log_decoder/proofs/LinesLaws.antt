@@ -1,19 +1,21 @@
 -- Lines that give no entry, and one more after them.
-use Rattle.std.proofs.Common.{◌≤◌, ◌≡◌, ◌<◌, ◌+◌, ℕ, Option, None, Result, Ok, Err, List, [], ◌++◌, length, take, drop, ap, sym, ◌∙◌, subst, arith, append_assoc}
+use Rattle.std.proofs.Common.{◌≤◌, ◌≡◌, ◌<◌, ◌+◌, ℕ, Option, Some, None, Result, Ok, Err, List, [], ◌++◌, length, map, take, drop, ap, sym, ◌∙◌, subst, arith, append_assoc}
 use Rattle.std.specs.Option.{option_to_list}
 use Rattle.std.proofs.Math.Seq.{take-add}
 use Rattle.std.proofs.lemmas.List.{append-nil}
 use Rattle.tick_units.specs.Log.{bad_line, pulses}
 use Rattle.tick_units.specs.declared.marks.Plan.{Plan}
+use Rattle.tick_units.specs.declared.marks.Reduction.{Reduction}
+use Rattle.tick_units.specs.declared.verdicts.Heard.{Heard}
 use Rattle.journal_entry.specs.declared.entry.Entry.{Entry}
 use Rattle.pulse_log.specs.declared.reader.BadLine.{BadLine}
-use Rattle.pulse_log.specs.Reading.{HasRead}
+use Rattle.pulse_log.specs.Reading.{HasRead, TakesFront}
 use Rattle.pulse_log.specs.declared.reader.LineReader.{LineReader}
-use Rattle.radio_receiver.specs.Histories.{History, least_after}
-use Rattle.log_decoder.specs.Decoding.{DecodesFront, FindsEntry, HasDecoded, IsReady}
-use Rattle.log_decoder.specs.Steps.{HearsLine}
-use Rattle.log_decoder.specs.Due.{due_log}
+use Rattle.radio_receiver.specs.Histories.{History, answers_of, least_after, with_reduction}
+use Rattle.log_decoder.specs.Decoding.{DecodesFront, FindsEntry, HasDecoded, IsReady, history_of}
+use Rattle.log_decoder.specs.Due.{due_log, entry_of}
 use Rattle.log_decoder.specs.declared.decoder.LogDecoder.{LogDecoder}
+use Rattle.log_decoder.proofs.StepLaws.{due_more, due_same, least_on, may_hear}
 
 -- a beginning was taken that gave no entry
 pub record GoesOn {B : Type 0} (stands : B → History → Type 0) (decoder : LogDecoder B) (feed : ℕ) (plan : Plan) (delay : ℕ) (bytes front : List ℕ) : Type 0 where
@@ -21,18 +23,90 @@ pub record GoesOn {B : Type 0} (stands : B → History → Type 0) (decoder : Lo
   pub good : 0 < length front → bad_line (bytes ++ front) ≡ None
   pub due : due_log feed plan delay (bytes ++ front) ≡ due_log feed plan delay bytes
 
--- a decoder whose reader has taken a line, and whose receiver has heard it, can take more
-pub ready_on : {B : Type 0} (least : B → ℕ) (now : LogDecoder B) (reader : LineReader) (longer : List ℕ) → now.reader ≡ reader → HasRead reader longer → least now.receiver ≤ least_after (pulses longer) → IsReady least now
-ready_on least now reader longer same read rises = record { bytes = longer; read = subst (λ (r : LineReader). HasRead r longer) (sym same) read; rises = rises }
+-- of the bytes that are left, the reader of a decoder has taken up to the end of a line, which says this reduction
+pub record TakesLine {B : Type 0} (old now : LogDecoder B) (left : List ℕ) (before after : ℕ) (r : Reduction) : Type 0 where
+  pub more : ℕ
+  pub within : more ≤ length left
+  pub count : after ≡ before + more
+  pub receiver : now.receiver ≡ old.receiver
+  pub feed : now.feed ≡ old.feed
+  pub taken : (bytes : List ℕ) → HasRead old.reader bytes → TakesFront now.reader bytes (take more left) (Ok (Some r))
 
--- and has decoded it
-pub decodes_line : {B : Type 0} (stands : B → History → Type 0) (old now : LogDecoder B) (reader : LineReader) (feed : ℕ) (plan : Plan) (delay : ℕ) (before front : List ℕ) (found : Result (Option Entry) BadLine) →
-    old.feed ≡ feed → now.reader ≡ reader → now.feed ≡ old.feed → HasRead reader (before ++ front) → HearsLine stands now.receiver old.feed plan delay before (before ++ front) found →
+-- its receiver may receive that
+pub line_may : {B : Type 0} (least : B → ℕ) (old now : LogDecoder B) (left : List ℕ) (before after : ℕ) (r : Reduction) → IsReady least old → TakesLine old now left before after r → least now.receiver ≤ r.at
+line_may least old now left before after r ready line =
+    subst (λ b. least b ≤ r.at) (sym line.receiver) (may_hear _ _ _ _ r ready.rises (line.taken ready.bytes ready.read))
+
+-- and once it has, it can take more
+pub line_ready : {B : Type 0} (least : B → ℕ) (old now new : LogDecoder B) (left : List ℕ) (before after : ℕ) (r : Reduction) → IsReady least old → TakesLine old now left before after r →
+    new.reader ≡ now.reader → least new.receiver ≡ r.at + 1 → IsReady least new
+line_ready least old now new left before after r ready line same is =
+    let taken = line.taken ready.bytes ready.read in
+    let longer = ready.bytes ++ take line.more left in
+    record {
+      bytes = longer;
+      read = subst (λ (reader : LineReader). HasRead reader longer) (sym same) taken.read;
+      rises = least_on (least new.receiver) ready.bytes longer r is taken.found.1;
+    }
+
+-- and has decoded the line
+pub line_decoded : {B : Type 0} (stands : B → History → Type 0) (old now new : LogDecoder B) (feed : ℕ) (plan : Plan) (delay : ℕ) (bytes left : List ℕ) (before after : ℕ) (r : Reduction)
+    (heard : Option Heard) (entry : Option Entry) (line : TakesLine old now left before after r) → HasDecoded stands old feed plan delay bytes → new.reader ≡ now.reader → new.feed ≡ now.feed →
+    (stands now.receiver (history_of plan delay bytes) → stands new.receiver (with_reduction (history_of plan delay bytes) r)) →
+    (stands now.receiver (history_of plan delay bytes) → answers_of (with_reduction (history_of plan delay bytes) r) ≡ answers_of (history_of plan delay bytes) ++ option_to_list heard) →
+    map (entry_of now.feed) (option_to_list heard) ≡ option_to_list entry → DecodesFront stands new feed plan delay bytes (take line.more left) (Ok entry)
+line_decoded stands old now new feed plan delay bytes left before after r heard entry line decoded same kept stood answered is =
+    let takes = line.taken bytes decoded.read in
+    let longer = bytes ++ take line.more left in
+    let of_feed = line.feed ∙ decoded.of_feed in
+    let stood_for = subst (λ b. stands b (history_of plan delay bytes)) (sym line.receiver) decoded.heard in
+    record {
+      decoded = record {
+        of_feed = kept ∙ of_feed;
+        read = subst (λ (reader : LineReader). HasRead reader longer) (sym same) takes.read;
+        heard = subst (λ (rs : List Reduction). stands new.receiver (record { plan = plan; delay = delay; reductions = rs })) (sym takes.found.1) (stood stood_for);
+      };
+      finds = subst (λ (n : ℕ). FindsEntry n plan delay bytes longer (Ok entry)) of_feed
+          (takes.found.0, due_more now.feed plan delay bytes longer r heard entry takes.found.1 (answered stood_for) is);
+    }
+
+-- bytes that add no reduction
+adds_none : {B : Type 0} (stands : B → History → Type 0) (old now : LogDecoder B) (feed : ℕ) (plan : Plan) (delay : ℕ) (before front : List ℕ) (found : Result (Option Entry) BadLine) → HasDecoded stands old feed plan delay before →
+    now.receiver ≡ old.receiver → now.feed ≡ old.feed → HasRead now.reader (before ++ front) → pulses (before ++ front) ≡ pulses before → FindsEntry feed plan delay before (before ++ front) found →
     DecodesFront stands now feed plan delay before front found
-decodes_line stands old now reader feed plan delay before front found of_feed same kept read heard = record {
-  decoded = record { of_feed = kept ∙ of_feed; read = subst (λ (r : LineReader). HasRead r (before ++ front)) (sym same) read; heard = heard.heard };
-  finds = subst (λ (n : ℕ). FindsEntry n plan delay before (before ++ front) found) of_feed heard.finds;
+adds_none stands old now feed plan delay before front found decoded same kept read more finds = record {
+  decoded = record {
+    of_feed = kept ∙ decoded.of_feed;
+    read = read;
+    heard = subst (λ b. stands b (history_of plan delay (before ++ front))) (sym same) (subst (λ (rs : List Reduction). stands old.receiver (record { plan = plan; delay = delay; reductions = rs })) (sym more) decoded.heard);
+  };
+  finds = finds;
 }
+
+-- bytes in which no line ends
+pub rests : {B : Type 0} (stands : B → History → Type 0) (old now : LogDecoder B) (feed : ℕ) (plan : Plan) (delay : ℕ) (before front : List ℕ) → HasDecoded stands old feed plan delay before →
+    now.receiver ≡ old.receiver → now.feed ≡ old.feed → TakesFront now.reader before front (Ok None) → DecodesFront stands now feed plan delay before front (Ok None)
+rests stands old now feed plan delay before front decoded same kept takes =
+    let more : pulses (before ++ front) ≡ pulses before = takes.found.1 ∙ append-nil (pulses before) in
+    adds_none stands old now feed plan delay before front (Ok None) decoded same kept takes.read more
+    (takes.found.0, due_same feed plan delay before (before ++ front) more ∙ sym (append-nil (due_log feed plan delay before)))
+
+pub rests_ready : {B : Type 0} (least : B → ℕ) (old now : LogDecoder B) (before front : List ℕ) → least old.receiver ≤ least_after (pulses before) → now.receiver ≡ old.receiver →
+    TakesFront now.reader before front (Ok None) → IsReady least now
+rests_ready least old now before front rises same takes =
+    let more : pulses (before ++ front) ≡ pulses before = takes.found.1 ∙ append-nil (pulses before) in
+    record {
+      bytes = before ++ front;
+      read = takes.read;
+      rises = subst (λ (rs : List Reduction). least now.receiver ≤ least_after rs) (sym more) (subst (λ b. least b ≤ least_after (pulses before)) (sym same) rises);
+    }
+
+-- bytes with the first bad line
+pub fails : {B : Type 0} (stands : B → History → Type 0) (old now : LogDecoder B) (feed : ℕ) (plan : Plan) (delay : ℕ) (before front : List ℕ) (bad : BadLine) → HasDecoded stands old feed plan delay before →
+    now.receiver ≡ old.receiver → now.feed ≡ old.feed → TakesFront now.reader before front (Err bad) → DecodesFront stands now feed plan delay before front (Err bad)
+fails stands old now feed plan delay before front bad decoded same kept takes =
+    adds_none stands old now feed plan delay before front (Err bad) decoded same kept takes.read takes.found.1
+    (takes.found.0, due_same feed plan delay before (before ++ front) takes.found.1)
 
 module _ {B : Type 0} (stands : B → History → Type 0) (feed : ℕ) (plan : Plan) (delay : ℕ) (bytes : List ℕ) where
   pub none_yet : (decoder : LogDecoder B) → HasDecoded stands decoder feed plan delay bytes → GoesOn stands decoder feed plan delay bytes []

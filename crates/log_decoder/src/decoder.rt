@@ -1,18 +1,15 @@
 // A reader of lines, and the receiver that takes its reductions.
-ghost use Rattle.std.specs.Prelude.{◌≡◌, ◌+◌, ◌++◌, ◌<◌, ◌≤◌, ℕ, List, [], length, map, take, None, Some, IfOk, IfSome, MatchResult};
-ghost use Rattle.std.specs.Option.{option_to_list};
-ghost use Rattle.tick_units.specs.Log.{bad_at_end, pulses};
+ghost use Rattle.std.specs.Prelude.{◌≡◌, ◌<◌, ◌≤◌, ℕ, List, [], length, take, None, Some, IfOk, IfSome, MatchResult};
+ghost use Rattle.tick_units.specs.Log.{bad_at_end};
 ghost use Rattle.tick_units.specs.declared.marks.Plan.{Plan};
 ghost use Rattle.minute_pair.specs.Years.{BelievesYears};
-ghost use Rattle.radio_receiver.specs.Histories.{least_after};
 ghost use Rattle.log_decoder.specs.Due.{entry_of};
-ghost use Rattle.log_decoder.specs.Decoding.{HasDecoded, IsReady, IsEntryOf, DecodesFront, feed_of, history_of};
-ghost use Rattle.log_decoder.specs.Steps.{IsFound, MayHear, HearsLine};
+ghost use Rattle.log_decoder.specs.Decoding.{HasDecoded, IsReady, IsEntryOf, DecodesFront, feed_of};
 
 use journal_entry::{Entry, What};
 use pulse_log::{BadLine, LineReader};
 use radio_receiver::Receiver;
-use tick_units::{Heard, Reduction};
+use tick_units::Heard;
 
 /// What a decoder took of some bytes, and what it found in them.
 #[derive(Clone, Copy, Debug, PartialEq, Eq)]
@@ -80,14 +77,39 @@ impl<R: Receiver> LogDecoder<R> {
             HasDecoded R.stands_for self.old feed plan delay before →
             DecodesFront R.stands_for self.new feed plan delay before (take result.count bytes.now) result.found }
     {
+        // Each call that is not inlined stands in this function itself. What it writes is then set to zero once a call of `take`.
+        // In a function that is inlined into the loop that happens at each line.
         let mut count = 0;
         'lines: while count < bytes.len() {
-            let front = self.reader.take_line(bytes.split_at(count).1);
-            count += front.count;
-            let found = self.hear_found(front.found);
-            match found {
-                Ok(None) => {}
-                _ => return Step { count, found },
+            let rest = bytes.split_at(count).1;
+            let reduction = match self.reader.take_whole_line(rest) {
+                Some(line) => {
+                    count += line.count;
+                    line.found
+                }
+                None => {
+                    let front = self.reader.take_by_bytes(rest);
+                    count += front.count;
+                    match front.found {
+                        Ok(Some(reduction)) => reduction,
+                        Ok(None) => continue,
+                        Err(bad) => {
+                            return Step {
+                                count,
+                                found: Err(bad),
+                            };
+                        }
+                    }
+                }
+            };
+            match self.receiver.hear(reduction) {
+                None => {}
+                Some(heard) => {
+                    return Step {
+                        count,
+                        found: Ok(Some(entry_of(self.feed, heard))),
+                    };
+                }
             }
         }
         Step {
@@ -108,33 +130,5 @@ impl<R: Receiver> LogDecoder<R> {
             (λ bad. bad_at_end bytes ≡ Some bad.line) }
     {
         self.reader.finish()
-    }
-
-    // Passes on what the reader found in a line. It is one function that handles each None at once, so it makes a value of many
-    // words only where there is an entry.
-    #[inline(always)]
-    fn hear_found(
-        &mut self,
-        found: Result<Option<Reduction>, BadLine>,
-    ) -> Result<Option<Entry>, BadLine>
-        requires { MayHear (R.least_start self.old.receiver) found }
-        ensures reader { self.new.reader ≡ self.old.reader }
-        ensures feed { self.new.feed ≡ self.old.feed }
-        ensures lawful { IfOk result (λ found. IfSome found (IsEntryOf (feed_of self.old))) }
-        ensures heard { (plan : Plan) (delay : ℕ) (before longer : List ℕ) → IsFound before longer found →
-            R.stands_for self.old.receiver (history_of plan delay before) →
-            HearsLine R.stands_for self.new.receiver self.old.feed plan delay before longer result }
-        ensures least { (before longer : List ℕ) → IsFound before longer found →
-            R.least_start self.old.receiver ≤ least_after (pulses before) →
-            R.least_start self.new.receiver ≤ least_after (pulses longer) }
-    {
-        match found {
-            Ok(None) => Ok(None),
-            Ok(Some(reduction)) => match self.receiver.hear(reduction) {
-                None => Ok(None),
-                Some(heard) => Ok(Some(entry_of(self.feed, heard))),
-            },
-            Err(bad) => Err(bad),
-        }
     }
 }

@@ -1,5 +1,6 @@
 -- The lemmas of this crate.
 pub mod LineLaws
+pub mod FlagLaws
 pub mod FrontLaws
 pub mod LawfulLaws
 pub mod LogLaws

@@ -1,18 +1,24 @@
 -- Eight bytes as one word, the first of them the lowest, and the digits at their beginning.
-use Rattle.std.specs.Prelude.{◌≡◌, ℕ, ◌<◌, ◌≤◌, List, length, take, nat_le}
+use Rattle.std.specs.Prelude.{◌≡◌, ℕ, ◌/◌, ◌<◌, ◌≤◌, List, length, take}
 use Rattle.std.specs.Str.Parse.{digits_value, AllDigits}
 use Rattle.core.specs.Dec2flt.Digits.{IsEightBytes, IsEightDigits}
 use Rattle.core.specs.Int.Digits.{number_from_digits}
-use Rattle.core.specs.Slice.Scan.{digits_from, flag_word}
+use Rattle.core.specs.Int.{w64, trailing_zeros}
+use Rattle.core.specs.Slice.Scan.{digits_from}
 use lib.Lanes.{number_l}
 
 -- the word of these eight bytes
 abbrev pub IsWordOf : List ℕ → ℕ → Type 0
 IsWordOf bytes word = IsEightBytes bytes × (word ≡ number_l 256 bytes)
 
--- flags have the eighth bit of each byte of the word that is at least ten
+-- no byte is ten or more before that of the lowest flag, and none at all where there is no flag
+pub record AreBelowTen (byte : ℕ → ℕ) (flags : ℕ) : Type 0 where
+  pub none : flags ≡ 0 → (k : ℕ) → k < 8 → byte k < 10
+  pub before : 0 < flags → (trailing_zeros w64 flags / 8 < 8) × ((k : ℕ) → k < trailing_zeros w64 flags / 8 → byte k < 10)
+
+-- flags are of the bytes of a word that are ten or more, as far as the lowest of them
 abbrev pub FlagsFromTen : ℕ → ℕ → Type 0
-FlagsFromTen word flags = (byte : ℕ → ℕ) → ((k : ℕ) → byte k < 256) → word ≡ digits_from byte 0 8 → flags ≡ flag_word (λ k. nat_le 10 (byte k))
+FlagsFromTen word flags = (byte : ℕ → ℕ) → ((k : ℕ) → byte k < 256) → word ≡ digits_from byte 0 8 → AreBelowTen byte flags
 
 -- where the bytes of a word are the values of digits, this is the number that they write
 abbrev pub WritesNumber : ℕ → ℕ → Type 0

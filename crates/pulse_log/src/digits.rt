@@ -5,9 +5,7 @@ ghost use Rattle.pulse_log.specs.Words.{IsWordOf, FlagsFromTen, WritesNumber, Sp
 // Eight bytes that are the digit 0.
 const ZEROS: u64 = 0x3030_3030_3030_3030;
 
-// The lower seven bits of each byte, its eighth one, and what brings those of at least ten to the eighth.
-const LOWER: u64 = 0x7f7f_7f7f_7f7f_7f7f;
-
+// The eighth bit of each byte, and what brings those of at least ten to it.
 const EIGHTH: u64 = 0x8080_8080_8080_8080;
 
 const FROM_TEN: u64 = 0x7676_7676_7676_7676;
@@ -22,12 +20,13 @@ pub struct Digits {
     pub value: u64,
 }
 
-// The eighth bit of each byte that is at least ten.
+// Eighth bits of bytes, the lowest in the first byte that is at least ten. A sum that carries into the byte after it has its own
+// byte's bit, so only bits after the lowest can be wrong.
 #[inline]
 fn flags_from_ten(word: u64) -> u64
     ensures { FlagsFromTen word result }
 {
-    (((word & LOWER) + FROM_TEN) | word) & EIGHTH
+    (word.wrapping_add(FROM_TEN) | word) & EIGHTH
 }
 
 // The number whose eight digits these bytes are, the first one the lowest: digits are joined to pairs, and pairs by two products.

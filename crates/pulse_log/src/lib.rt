@@ -8,4 +8,5 @@ mod whole;
 mod writer;
 
 pub use reader::{BadLine, Front, LineReader};
+pub use whole::WholeLine;
 pub use writer::write_line;

@@ -1,5 +1,5 @@
 //! The reader of a log: bytes in, reductions out, or the first bad line.
-ghost use Rattle.std.specs.Prelude.{◌≡◌, true, ℕ, ◌+◌, ◌<◌, ◌≤◌, ◌^◌, length, take, IfSome};
+ghost use Rattle.std.specs.Prelude.{◌≡◌, true, ℕ, ◌+◌, ◌<◌, ◌≤◌, ◌^◌, nat_lt, length, take, IfSome};
 
 use crate::line::Line;
 use crate::whole::{WholeLine, line_in_front};
@@ -37,7 +37,7 @@ pub struct LineReader {
 }
 
 impl LineReader {
-    ghost use Rattle.std.specs.Prelude.{◌∷◌, ◌++◌, [], List, MatchResult, None, Some};
+    ghost use Rattle.std.specs.Prelude.{◌∷◌, ◌++◌, [], List, MatchResult, None, Some, Ok};
     ghost use Rattle.tick_units.specs.Log.{bad_at_end};
     ghost use Rattle.pulse_log.specs.Reading.{HasRead, GoesOn, TakesByte, TakesFront};
     ghost use Rattle.pulse_log.specs.Writing.{line_of};
@@ -86,12 +86,35 @@ impl LineReader {
         ensures taken { (before : List ℕ) → HasRead self.old before →
             TakesFront self.new before (take result.count bytes.now) result.found }
     {
-        if self.is_between_lines() {
-            if let Some(line) = line_in_front(bytes, self.least) {
-                return self.take_whole(line);
-            }
+        if let Some(line) = self.take_whole_line(bytes) {
+            return Front {
+                count: line.count,
+                found: Ok(Some(line.found)),
+            };
         }
         self.take_by_bytes(bytes)
+    }
+
+    /// Takes the line at the beginning of these bytes at once, with its line feed, where no line has begun before them and it is
+    /// valid. Returns None and takes nothing where it cannot: the line is bad or not whole, or its numbers are too long to be read
+    /// at once. Such a line is for `take_by_bytes`. All that it calls is inlined, so its result needs no memory in a loop.
+    #[inline(always)]
+    pub fn take_whole_line(&mut self, bytes: &[u8]) -> Option<WholeLine>
+        ensures none { result ≡ None → self.new ≡ self.old }
+        ensures some { IfSome result (λ line. 0 < line.count) }
+        ensures within { IfSome result (λ line. line.count ≤ length bytes.now) }
+        ensures taken { (before : List ℕ) → HasRead self.old before → IfSome result (λ line.
+            TakesFront self.new before (take line.count bytes.now) (Ok (Some line.found))) }
+    {
+        if !self.is_between_lines() {
+            return None;
+        }
+        let line = line_in_front(bytes)?;
+        if self.is_early(&line.found) {
+            return None;
+        }
+        self.end_whole(line.found);
+        Some(line)
     }
 
     // No line was bad, and none has begun.
@@ -102,28 +125,32 @@ impl LineReader {
         self.bad.is_none() && self.line.len() == 0
     }
 
-    // Takes a line at once, with its line feed.
+    // Whether a reduction starts before it may.
     #[inline]
-    fn take_whole(&mut self, line: WholeLine) -> Front
-        requires none { self.old.bad ≡ None }
-        requires empty { self.old.line.length ≡ 0 }
-        requires least { self.old.least ≤ line.found.at }
-        ensures count { result.count ≡ line.count }
-        ensures taken { (before : List ℕ) → HasRead self.old before →
-            TakesFront self.new before (line_of line.found ++ 10 ∷ []) result.found }
+    fn is_early(&self, found: &Reduction) -> bool
+        ensures { result ≡ nat_lt found.now.at self.now.least }
     {
-        let WholeLine { found, count } = line;
-        self.lines += 1;
-        self.least = found.at.get() + 1;
-        Front {
-            count,
-            found: Ok(Some(found)),
-        }
+        found.at.get() < self.least
     }
 
-    // Takes the bytes of a line that cannot be taken at once.
+    // Takes the text of this reduction at once, with its line feed.
+    #[inline]
+    fn end_whole(&mut self, found: Reduction)
+        requires none { self.old.bad ≡ None }
+        requires empty { self.old.line.length ≡ 0 }
+        requires least { self.old.least ≤ found.at }
+        requires narrowest { 1 ≤ found.width }
+        requires widest { found.width ≤ 2000000 }
+        ensures { (before : List ℕ) → HasRead self.old before →
+            TakesFront self.new before (line_of found ++ 10 ∷ []) (Ok (Some found)) }
+    {
+        self.lines += 1;
+        self.least = found.at.get() + 1;
+    }
+
+    /// The same as `take_line`, byte by byte. It is not inlined, since most lines are taken by `take_whole_line`.
     #[inline(never)]
-    fn take_by_bytes(&mut self, bytes: &[u8]) -> Front
+    pub fn take_by_bytes(&mut self, bytes: &[u8]) -> Front
         requires { 0 < length bytes.now }
         ensures some { 0 < result.count }
         ensures within { result.count ≤ length bytes.now }

@@ -18,15 +18,13 @@ pub struct WholeLine {
     ghost most: { found.width ≤ 2000000 },
 }
 
-/// The line at the beginning of these bytes, where it is valid and starts at `least` or later. None also where it goes on after
-/// them or stands at their very end. None too where its start is 0 or has 16 digits, or its width has 7. Such a line is left to
-/// the byte-by-byte reader.
+/// The line at the beginning of these bytes, where it is valid. None also where it goes on after them or stands at their very end.
+/// None too where its start is 0 or has 16 digits, or its width has 7. Such a line is left to the byte-by-byte reader.
 #[inline(always)]
-pub fn line_in_front(bytes: &[u8], least: u64) -> Option<WholeLine>
+pub fn line_in_front(bytes: &[u8]) -> Option<WholeLine>
     ensures within { IfSome result (λ line. line.count ≤ length bytes.now) }
     ensures some { IfSome result (λ line. 0 < line.count) }
     ensures text { IfSome result (λ line. take line.count bytes.now ≡ line_of line.found ++ 10 ∷ []) }
-    ensures least { IfSome result (λ line. least ≤ line.found.at) }
 {
     let start = number_in_front(bytes)?;
     let Some(b' ') = bytes.get(start.count) else {
@@ -40,9 +38,6 @@ pub fn line_in_front(bytes: &[u8], least: u64) -> Option<WholeLine>
     let Some(b'\n') = rest.get(width.count) else {
         return None;
     };
-    if start.value < least {
-        return None;
-    }
     let at = Local::new(start.value)?;
     Some(WholeLine {
         found: Reduction {

@@ -1,63 +1,136 @@
 -- What the search leaves open of `decoder::LogDecoder::take`.
-use Rattle.std.proofs.Common.{rules, ◌≡◌, ◌∙◌, ◌++◌, ℕ, List, take, Ok, None, ap, arith, length}
+use Rattle.std.proofs.Common.{rules, ◌≡◌, ◌∙◌, [], ◌∷◌, ◌++◌, ℕ, List, take, Ok, Err, None, Some, ap, arith, length, refl, subst, sym}
 use Rattle.std.proofs.lemmas.List.{length-take, length-drop}
-use Rattle.log_decoder.proofs.LinesLaws.{decodes_line, ends, goes_on, gives_none, ready_on}
-use Rattle.log_decoder.proofs.StepLaws.{may_hear}
+use Rattle.journal_entry.specs.declared.entry.Entry.{Entry}
+use Rattle.pulse_log.specs.declared.reader.LineReader.{LineReader}
+use Rattle.pulse_log.specs.Reading.{HasRead, TakesFront}
+use Rattle.log_decoder.specs.Decoding.{DecodesFront, history_of}
+use Rattle.log_decoder.proofs.LinesLaws.{GoesOn, TakesLine, ends, fails, goes_on, gives_none, line_decoded, line_may, line_ready, rests, rests_ready}
+use Rattle.log_decoder.proofs.decoder.LogDecoder.take.Given.{Over}
+use Rattle.log_decoder.proofs.decoder.LogDecoder.take.Goals.{Joined-take_whole_line, in-Some, in-None+in-Ok-Some}
 use Rattle.log_decoder.proofs.decoder.LogDecoder.take.Goals as goal
 
-pub hear_found-found-requires : goal.hear_found-found-requires
-hear_found-found-requires g c =
-    let ready = c.lines.invariant.ready in
-    may_hear _ _ _ _ _ ready.rises (c.take_line-front.ensures.taken ready.bytes ready.read)
+-- the line that was taken at once, or byte by byte
+line_of : (g : Over) (c : Joined-take_whole_line g) →
+    TakesLine c.lines.self c.match-take_whole_line.self c.split_at.result.1.now c.lines.count c.match-take_whole_line.count c.match-take_whole_line.reduction
+line_of g c = elim c.match-take_whole_line.branch [
+  | in-Some w ↦ record {
+    more = w.in-Some.line.count;
+    within = w.in-Some.ensures.within;
+    count = w.count-is;
+    receiver = ap (λ s. s.receiver) w.self-is;
+    feed = ap (λ s. s.feed) w.self-is;
+    taken = λ bytes h.
+        let piece = take w.in-Some.line.count c.split_at.result.1.now in
+        let takes = w.in-Some.ensures.taken bytes h in
+        subst (λ s. TakesFront s.reader bytes piece (Ok (Some c.match-take_whole_line.reduction))) (sym w.self-is)
+        (subst (λ r. TakesFront c.take_whole_line.new.self bytes piece (Ok (Some r))) (sym w.reduction-is) takes);
+  }
+  | in-None+in-Ok-Some w ↦ record {
+    more = w.take_by_bytes-front.result.count;
+    within = w.take_by_bytes-front.ensures.within;
+    count = w.count-is;
+    receiver = ap (λ s. s.receiver) w.self-is;
+    feed = ap (λ s. s.feed) w.self-is;
+    taken = λ bytes h.
+        let front = w.take_by_bytes-front in
+        let piece = take front.result.count c.split_at.result.1.now in
+        let takes = front.ensures.taken bytes (subst (λ (r : LineReader). HasRead r bytes) (sym (w.in-None.ensures.none refl)) h) in
+        let found : front.result.found ≡ Ok (Some c.match-take_whole_line.reduction) = search rules in
+        subst (λ s. TakesFront s.reader bytes piece (Ok (Some c.match-take_whole_line.reduction))) (sym w.self-is)
+        (subst (TakesFront front.new.self bytes piece) found takes);
+  }
+]
+
+pub hear-requires : goal.hear-requires
+hear-requires g c =
+    let line = line_of g (goal.at.hear-requires g c).Joined-take_whole_line in
+    line_may g.R.Receiver.least_start c.lines.self c.match-take_whole_line.self _ _ _ _ c.lines.invariant.ready line
 
 pub lines-preserved : goal.lines-preserved
 lines-preserved g c =
-    let front = c.take_line-front in
-    let heard = c.hear_found-found in
+    let line = line_of g (goal.at.lines-preserved g c).Joined-take_whole_line in
+    let joined = c.match-take_whole_line in
+    let now = record joined.self { receiver = c.hear.new.self } in
+    let left = c.split_at.result.1.now in
+    record {
+      within = (let within = line.within in let count = line.count in let most = c.lines.invariant.within in
+          let len = ap (λ (b : List ℕ). length b) c.split_at.ensures.back in
+          omega (arith, length-drop c.lines.count c.args.bytes.now));
+      feed = line.feed ∙ c.lines.invariant.feed;
+      ready = line_ready g.R.Receiver.least_start c.lines.self joined.self now _ _ _ _ c.lines.invariant.ready line refl c.hear.ensures.least;
+      so_far = λ feed plan delay before h.
+          let so_far = c.lines.invariant.so_far feed plan delay before h in
+          let longer = before ++ take c.lines.count c.args.bytes.now in
+          let history = history_of plan delay longer in
+          let decodes = line_decoded g.R.Receiver.stands_for c.lines.self joined.self now feed plan delay longer left c.lines.count joined.count joined.reduction None None line
+          so_far.decoded refl refl (c.hear.ensures.heard history) (c.in-None-hear.ensures.answered history) refl in
+          subst (λ n. GoesOn g.R.Receiver.stands_for now feed plan delay before (take n c.args.bytes.now)) (sym line.count)
+          (goes_on g.R.Receiver.stands_for feed plan delay before c.lines.self now c.args.bytes.now c.lines.count line.more (Ok None) refl so_far
+          (subst (λ (l : List ℕ). DecodesFront g.R.Receiver.stands_for now feed plan delay longer (take line.more l) (Ok None)) c.split_at.ensures.back decodes));
+    }
+
+pub returns-in-Some-hear-clause-ready : goal.returns-in-Some-hear-clause-ready
+returns-in-Some-hear-clause-ready g c =
+    let line = line_of g (goal.at.returns-in-Some-hear-clause-ready g c).Joined-take_whole_line in
+    let joined = c.match-take_whole_line in
+    let now = record joined.self { receiver = c.hear.new.self } in
+    line_ready g.R.Receiver.least_start c.lines.self joined.self now _ _ _ _ c.lines.invariant.ready line refl c.hear.ensures.least
+
+pub returns-in-Some-hear-clause-taken : goal.returns-in-Some-hear-clause-taken
+returns-in-Some-hear-clause-taken g c = λ feed plan delay before h.
+    let line = line_of g (goal.at.returns-in-Some-hear-clause-taken g c).Joined-take_whole_line in
+    let joined = c.match-take_whole_line in
+    let now = record joined.self { receiver = c.hear.new.self } in
+    let left = c.split_at.result.1.now in
+    let so_far = c.lines.invariant.so_far feed plan delay before h in
+    let longer = before ++ take c.lines.count c.args.bytes.now in
+    let history = history_of plan delay longer in
+    let found = Ok (Some c.entry_of.result) in
+    let decodes = line_decoded g.R.Receiver.stands_for c.lines.self joined.self now feed plan delay longer left c.lines.count joined.count joined.reduction
+    (Some c.in-Some-hear.heard) (Some c.entry_of.result) line so_far.decoded refl refl (c.hear.ensures.heard history) (c.in-Some-hear.ensures.answered history)
+    (ap (λ (e : Entry). e ∷ []) (sym c.entry_of.ensures.value)) in
+    subst (λ n. DecodesFront g.R.Receiver.stands_for now feed plan delay before (take n c.args.bytes.now) found) (sym line.count)
+    (ends g.R.Receiver.stands_for feed plan delay before c.lines.self now c.args.bytes.now c.lines.count line.more found so_far
+    (subst (λ (l : List ℕ). DecodesFront g.R.Receiver.stands_for now feed plan delay longer (take line.more l) found) c.split_at.ensures.back decodes))
+
+pub lines-preserved-in-Ok-None : goal.lines-preserved-in-Ok-None
+lines-preserved-in-Ok-None g c =
+    let front = c.take_by_bytes-front in
+    let same = sym (c.in-None.ensures.none refl) in
+    let now = record c.lines.self { reader = front.new.self } in
     let piece = take front.result.count c.split_at.result.1.now in
+    let found : front.result.found ≡ Ok None = search rules in
     record {
       within = (let within = front.ensures.within in let most = c.lines.invariant.within in
           let len = ap (λ (b : List ℕ). length b) c.split_at.ensures.back in
           omega (arith, length-drop c.lines.count c.args.bytes.now));
-      feed = heard.ensures.feed ∙ c.lines.invariant.feed;
+      feed = c.lines.invariant.feed;
       ready =
           let ready = c.lines.invariant.ready in
-          let taken = front.ensures.taken ready.bytes ready.read in
-          ready_on g.R.Receiver.least_start heard.new.self front.new.self (ready.bytes ++ piece) heard.ensures.reader taken.read (heard.ensures.least ready.bytes (ready.bytes ++ piece) taken.found ready.rises);
+          let takes = front.ensures.taken ready.bytes (subst (λ (r : LineReader). HasRead r ready.bytes) same ready.read) in
+          rests_ready g.R.Receiver.least_start c.lines.self now ready.bytes piece ready.rises refl (subst (TakesFront front.new.self ready.bytes piece) found takes);
       so_far = λ feed plan delay before h.
           let so_far = c.lines.invariant.so_far feed plan delay before h in
           let longer = before ++ take c.lines.count c.args.bytes.now in
-          let taken = front.ensures.taken longer so_far.decoded.read in
-          let hears = heard.ensures.heard plan delay longer (longer ++ piece) taken.found so_far.decoded.heard in
-          let line = decodes_line g.R.Receiver.stands_for c.lines.self heard.new.self front.new.self feed plan delay longer piece heard.result
-          so_far.decoded.of_feed heard.ensures.reader heard.ensures.feed taken.read hears in
-          let none : heard.result ≡ Ok None = search rules in
-          goes_on g.R.Receiver.stands_for feed plan delay before c.lines.self heard.new.self c.args.bytes.now c.lines.count front.result.count heard.result none so_far
-          (rw c.split_at.ensures.back at line);
+          let takes = front.ensures.taken longer (subst (λ (r : LineReader). HasRead r longer) same so_far.decoded.read) in
+          let decodes = rests g.R.Receiver.stands_for c.lines.self now feed plan delay longer piece so_far.decoded refl refl (subst (TakesFront front.new.self longer piece) found takes) in
+          goes_on g.R.Receiver.stands_for feed plan delay before c.lines.self now c.args.bytes.now c.lines.count front.result.count (Ok None) refl so_far
+          (rw c.split_at.ensures.back at decodes);
     }
 
-pub returns-in_default-clause-ready : goal.returns-in_default-clause-ready
-returns-in_default-clause-ready g c =
-    let ready = c.lines.invariant.ready in
-    let front = c.take_line-front in
-    let heard = c.hear_found-found in
-    let longer = ready.bytes ++ take front.result.count c.split_at.result.1.now in
-    let taken = front.ensures.taken ready.bytes ready.read in
-    ready_on g.R.Receiver.least_start heard.new.self front.new.self longer heard.ensures.reader taken.read (heard.ensures.least ready.bytes longer taken.found ready.rises)
-
-pub returns-in_default-clause-taken : goal.returns-in_default-clause-taken
-returns-in_default-clause-taken g c = λ feed plan delay before h.
-    let front = c.take_line-front in
-    let heard = c.hear_found-found in
+pub returns-in-Err-clause-taken : goal.returns-in-Err-clause-taken
+returns-in-Err-clause-taken g c = λ feed plan delay before h.
+    let front = c.take_by_bytes-front in
+    let same = sym (c.in-None.ensures.none refl) in
+    let now = record c.lines.self { reader = front.new.self } in
     let piece = take front.result.count c.split_at.result.1.now in
     let so_far = c.lines.invariant.so_far feed plan delay before h in
     let longer = before ++ take c.lines.count c.args.bytes.now in
-    let taken = front.ensures.taken longer so_far.decoded.read in
-    let hears = heard.ensures.heard plan delay longer (longer ++ piece) taken.found so_far.decoded.heard in
-    let line = decodes_line g.R.Receiver.stands_for c.lines.self heard.new.self front.new.self feed plan delay longer piece heard.result
-    so_far.decoded.of_feed heard.ensures.reader heard.ensures.feed taken.read hears in
-    ends g.R.Receiver.stands_for feed plan delay before c.lines.self heard.new.self c.args.bytes.now c.lines.count front.result.count heard.result so_far
-    (rw c.split_at.ensures.back at line)
+    let takes = front.ensures.taken longer (subst (λ (r : LineReader). HasRead r longer) same so_far.decoded.read) in
+    let decodes = fails g.R.Receiver.stands_for c.lines.self now feed plan delay longer piece c.in-Err.bad so_far.decoded refl refl (subst (TakesFront front.new.self longer piece) c.in-Err.is takes) in
+    ends g.R.Receiver.stands_for feed plan delay before c.lines.self now c.args.bytes.now c.lines.count front.result.count (Err c.in-Err.bad) so_far
+    (rw c.split_at.ensures.back at decodes)
 
 pub returns-clause-taken : goal.returns-clause-taken
 returns-clause-taken g c = λ feed plan delay before h.
