@@ -1,6 +1,5 @@
 -- A made log of each plan can be written, and is read back.
-use Rattle.code_plans.specs.Codes.{code_of}
-use Rattle.code_plans.specs.Sendings.{sending_of}
+use Rattle.code_plans.specs.Codes.{code_of, sending_of}
 use Rattle.frame_rules.proofs.SentLaws.{FitsLog, ReadsBack}
 use Rattle.plan_dcf.proofs.Sent.{fits as dcf_fits, reads as dcf_reads}
 use Rattle.plan_msf.proofs.Sent.{fits as msf_fits, reads as msf_reads}

@@ -1,3 +1,2 @@
--- What each plan is, and how it is sent, stands in its own crate.
+-- The list of plans.
 pub mod Codes
-pub mod Sendings

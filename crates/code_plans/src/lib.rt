@@ -37,7 +37,7 @@ impl Listed for Wwvb {
 /// A code plan whose sending definitions have under its name.
 pub trait ListedSending: SendPlan {
     ghost use Rattle.std.specs.Prelude.{◌≡◌};
-    ghost use Rattle.code_plans.specs.Sendings.{sending_of};
+    ghost use Rattle.code_plans.specs.Codes.{sending_of};
 
     /// It is sent as the plan of its name.
     ghost listed_sending: { Self.sending ≡ sending_of Self.which };

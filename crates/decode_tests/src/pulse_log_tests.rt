@@ -29,9 +29,15 @@ fn take_lines(
         if rest.is_empty() {
             return Ok(());
         }
-        let front = reader.take_line(rest);
-        rest = rest.split_at(front.count).1;
-        if let Ok(Some(r)) = front.found {
+        let (count, said) = match reader.take_whole_line(rest) {
+            Some(line) => (line.count, Some(line.found)),
+            None => {
+                let front = reader.take_by_bytes(rest);
+                (front.count, front.found.ok().flatten())
+            }
+        };
+        rest = rest.split_at(count).1;
+        if let Some(r) = said {
             found.push((r.at.get(), r.width))?;
         }
     }

@@ -11,8 +11,7 @@ use Rattle.frame_rules.specs.Fields.{symbols_of as symbols_in}
 use Rattle.frame_rules.proofs.SentLaws.{OpensAfter, OpensAlone, is_alone}
 use Rattle.log_decoder.specs.Due.{entry_of}
 use Rattle.minute_pair.specs.Answers.{agreed_leap, answers, answers_after, are_timely, judged, judged_by, kind_after, kind_alone, kind_behind, kind_of_both, kind_of_valid}
-use Rattle.code_plans.specs.Codes.{code_of}
-use Rattle.code_plans.specs.Sendings.{sending_of}
+use Rattle.code_plans.specs.Codes.{code_of, sending_of}
 use Rattle.code_plans.proofs.Sent.{fits, reads}
 use Rattle.minute_pair.specs.Segments.{Segment, closed, cut, segments_of}
 use Rattle.radio_receiver.specs.Histories.{answers_of, sent}

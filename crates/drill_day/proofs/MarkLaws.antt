@@ -4,8 +4,7 @@ use Rattle.std.specs.Prelude.{if◌then◌else◌}
 use Rattle.std.specs.List.{list_all}
 use Rattle.std.proofs.lemmas.Bool.{and_parts}
 use Rattle.std.proofs.lemmas.List.{append-nil}
-use Rattle.code_plans.specs.Codes.{code_of}
-use Rattle.code_plans.specs.Sendings.{sending_of}
+use Rattle.code_plans.specs.Codes.{code_of, sending_of}
 use Rattle.code_plans.proofs.Sent.{reads}
 use Rattle.frame_rules.specs.Codes.{Code}
 use Rattle.frame_rules.proofs.SentLaws.{is_alone, read_of, sent_mark}

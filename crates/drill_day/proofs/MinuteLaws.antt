@@ -2,8 +2,7 @@
 use Rattle.std.proofs.Common.{◌≡◌, ℕ, zero, suc, ◌+◌, ◌*◌, ◌==◌, true, false, Option, Some, List, [], ◌∷◌, ◌++◌, length, refl, sym, ap, ◌∙◌, subst, arith, append_assoc}
 use Rattle.std.proofs.lemmas.Bool.Decides.{nat_tests}
 use Rattle.std.specs.List.{flat_map, onto_first, range_with_len}
-use Rattle.code_plans.specs.Codes.{code_of}
-use Rattle.code_plans.specs.Sendings.{sending_of}
+use Rattle.code_plans.specs.Codes.{code_of, sending_of}
 use Rattle.code_plans.proofs.Sent.{reads}
 use Rattle.frame_rules.proofs.SentLaws.{IsMinute, last_symbol, sent_mark}
 use Rattle.minute_pair.specs.Segments.{cut}

@@ -76,25 +76,6 @@ impl LineReader {
         Ok(None)
     }
 
-    /// Takes bytes up to the end of the first line that ends among them, or up to the byte that makes it bad. Takes all of them
-    /// where there is neither.
-    #[inline(always)]
-    pub fn take_line(&mut self, bytes: &[u8]) -> Front
-        requires { 0 < length bytes.now }
-        ensures some { 0 < result.count }
-        ensures within { result.count ≤ length bytes.now }
-        ensures taken { (before : List ℕ) → HasRead self.old before →
-            TakesFront self.new before (take result.count bytes.now) result.found }
-    {
-        if let Some(line) = self.take_whole_line(bytes) {
-            return Front {
-                count: line.count,
-                found: Ok(Some(line.found)),
-            };
-        }
-        self.take_by_bytes(bytes)
-    }
-
     /// Takes the line at the beginning of these bytes at once, with its line feed, where no line has begun before them and it is
     /// valid. Returns None and takes nothing where it cannot: the line is bad or not whole, or its numbers are too long to be read
     /// at once. Such a line is for `take_by_bytes`. All that it calls is inlined, so its result needs no memory in a loop.
@@ -148,7 +129,8 @@ impl LineReader {
         self.least = found.at.get() + 1;
     }
 
-    /// The same as `take_line`, byte by byte. It is not inlined, since most lines are taken by `take_whole_line`.
+    /// Takes bytes up to the end of the first line that ends among them, or up to the byte that makes it bad. Takes all of them
+    /// where there is neither. It is not inlined, since most lines are taken by `take_whole_line`.
     #[inline(never)]
     pub fn take_by_bytes(&mut self, bytes: &[u8]) -> Front
         requires { 0 < length bytes.now }

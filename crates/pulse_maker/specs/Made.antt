@@ -8,7 +8,7 @@ use Rattle.tick_units.specs.declared.marks.Plan.{Plan}
 use Rattle.tick_units.specs.declared.marks.Reduction.{Reduction}
 use Rattle.tick_units.specs.declared.marks.Symbol.{Symbol}
 use Rattle.tick_units.specs.declared.marks.Symbol.TheVariants.{Zero, One, OnlyB, Both, Long, Odd}
-use Rattle.code_plans.specs.Sendings.{sending_of}
+use Rattle.code_plans.specs.Codes.{sending_of}
 use Rattle.pulse_log.specs.Writing.{line_of}
 use Rattle.pulse_maker.specs.Minutes.{seconds_of}
 use Rattle.pulse_maker.specs.declared.seconds.Second.{Second}

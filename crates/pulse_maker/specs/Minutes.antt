@@ -6,7 +6,7 @@ use Rattle.tick_units.specs.declared.marks.Plan.{Plan}
 use Rattle.tick_units.specs.declared.marks.Symbol.{Symbol}
 use Rattle.tick_units.specs.declared.verdicts.Coded.{Coded}
 use Rattle.frame_rules.specs.Sendings.{spoilt_if}
-use Rattle.code_plans.specs.Sendings.{sending_of}
+use Rattle.code_plans.specs.Codes.{sending_of}
 use Rattle.pulse_maker.specs.declared.seconds.Second.{Second}
 
 -- a minute of the log, counted from 0, is damaged: every 50th, but never the first of all

@@ -1,6 +1,6 @@
 //! The numbers that say how late the starts of marks are.
 ghost use Rattle.std.specs.Prelude.{◌≡◌, ◌^◌, ◌<◌};
-ghost use Rattle.code_plans.specs.Sendings.{sending_of};
+ghost use Rattle.code_plans.specs.Codes.{sending_of};
 ghost use Rattle.tick_units.specs.declared.marks.Plan.{Plan};
 ghost use Rattle.pulse_maker.specs.Made.{seeded, number_after};
 

@@ -10,7 +10,7 @@ ghost use Rattle.minute_pair.specs.Years.{BelievesYears};
 ghost use Rattle.radio_receiver.specs.Histories.{blank_of, sent};
 
 use crate::receiver::Receiver;
-use code_plans::{Dcf, Listed, Msf, Wwvb};
+use code_plans::Listed;
 use minute_pair::PairingOf;
 use second_marks::{Held, mark_next};
 use tick_units::{Heard, Local, Mark, Plan, Reduction};
@@ -26,15 +26,6 @@ pub struct PlanReceiver<C> {
     // The answer to the last mark that began a minute. It stays here, so that nothing is written where there is none.
     answer: Option<Heard>,
 }
-
-/// A receiver of DCF77.
-pub type DcfReceiver = PlanReceiver<Dcf>;
-
-/// A receiver of MSF.
-pub type MsfReceiver = PlanReceiver<Msf>;
-
-/// A receiver of WWVB.
-pub type WwvbReceiver = PlanReceiver<Wwvb>;
 
 // A moment less a delay, and not below 0.
 fn less_delay(at: Local, delay_us: u32) -> Local
