@@ -1,11 +1,11 @@
 -- What the search leaves open of `radio::read_log`.
-use Rattle.std.proofs.Common.{ℕ, ◌++◌, ◌∙◌, inl, length, subst}
+use Rattle.std.proofs.Common.{ℕ, ◌++◌, ◌∙◌, inl, rules, subst}
 use Rattle.file_reader.specs.Ends.{EndsReading, HasReadFront}
 use Rattle.file_reader.specs.Reader.{piece_of}
-use Rattle.file_reader.specs.declared.reader.FileEnd.TheVariants.{Fault, TooLong, Whole}
+use Rattle.file_reader.specs.declared.reader.FileEnd.TheVariants.{Whole}
 use Rattle.page_cell.specs.Passes.{claim_of}
 use Rattle.feed_workers.specs.Hearing.{Tuning}
-use Rattle.feed_workers.specs.Keeping.{IsOfFeed, share_of}
+use Rattle.feed_workers.specs.Keeping.{share_of}
 use Rattle.feed_workers.proofs.LogLaws.{all_of_piece, bad_in_piece, ends_at}
 use Rattle.feed_workers.proofs.radio.read_log.Goals as goal
 
@@ -15,7 +15,7 @@ pieces-preserved g c = record {
   limit = c.pull.ensures.limit ∙ c.pieces.invariant.limit;
   ready = c.hear_piece.ensures.ready;
   feed = c.hear_piece.ensures.feed ∙ c.pieces.invariant.feed;
-  pass = subst (λ n. IsOfFeed g.N.HubName.table (length g.N.HubName.settings.sources) n c.hear_piece.new.pass) c.pieces.invariant.feed c.hear_piece.ensures.pass;
+  pass = search rules;
   so_far = λ plan delay h.
       let p = c.pieces.invariant.so_far plan delay h in
       let tuning : Tuning = record { plan = plan; delay = delay } in
@@ -51,65 +51,3 @@ returns-in-Ended-Whole-clause-runs g c = λ plan delay h.
       kept = p.2.kept;
       ends = ends_at c.args.limit _ _ p.0 c.at_end.result (c.at_end.ensures (claim_of c.args.pass.now.view).number plan delay p.0 p.2.decoded) read p.2.bad_is;
     }
-
-pub returns-in-Some-clause-log : goal.returns-in-Some-clause-log
-returns-in-Some-clause-log g c = c.pull.ensures.number ∙ c.pieces.invariant.log
-
-pub returns-in-Some-clause-ready : goal.returns-in-Some-clause-ready
-returns-in-Some-clause-ready g c = c.hear_piece.ensures.ready
-
-pub returns-in-Some-clause-feed : goal.returns-in-Some-clause-feed
-returns-in-Some-clause-feed g c = c.hear_piece.ensures.feed ∙ c.pieces.invariant.feed
-
-pub returns-in-Some-clause-pass : goal.returns-in-Some-clause-pass
-returns-in-Some-clause-pass g c = subst (λ n. IsOfFeed g.N.HubName.table (length g.N.HubName.settings.sources) n c.hear_piece.new.pass) c.pieces.invariant.feed c.hear_piece.ensures.pass
-
-pub returns-in-Ended-Whole-clause-log : goal.returns-in-Ended-Whole-clause-log
-returns-in-Ended-Whole-clause-log g c = c.pull.ensures.number ∙ c.pieces.invariant.log
-
-pub returns-in-Ended-Whole-clause-ready : goal.returns-in-Ended-Whole-clause-ready
-returns-in-Ended-Whole-clause-ready g c = c.pieces.invariant.ready
-
-pub returns-in-Ended-Whole-clause-feed : goal.returns-in-Ended-Whole-clause-feed
-returns-in-Ended-Whole-clause-feed g c = c.pieces.invariant.feed
-
-pub returns-in-Ended-Whole-clause-pass : goal.returns-in-Ended-Whole-clause-pass
-returns-in-Ended-Whole-clause-pass g c = c.pieces.invariant.pass
-
-pub returns-in-Ended-Fault-clause-log : goal.returns-in-Ended-Fault-clause-log
-returns-in-Ended-Fault-clause-log g c = c.pull.ensures.number ∙ c.pieces.invariant.log
-
-pub returns-in-Ended-Fault-clause-ready : goal.returns-in-Ended-Fault-clause-ready
-returns-in-Ended-Fault-clause-ready g c = c.pieces.invariant.ready
-
-pub returns-in-Ended-Fault-clause-feed : goal.returns-in-Ended-Fault-clause-feed
-returns-in-Ended-Fault-clause-feed g c = c.pieces.invariant.feed
-
-pub returns-in-Ended-Fault-clause-pass : goal.returns-in-Ended-Fault-clause-pass
-returns-in-Ended-Fault-clause-pass g c = c.pieces.invariant.pass
-
-pub returns-in-Ended-Fault-clause-runs : goal.returns-in-Ended-Fault-clause-runs
-returns-in-Ended-Fault-clause-runs g c = λ plan delay h.
-    let p = c.pieces.invariant.so_far plan delay h in
-    let read = subst (λ (n : ℕ). EndsReading Fault n (g.L.Source.state c.args.log.now) (g.L.Source.state c.pull.new.file) p.0) (c.pull.ensures.limit ∙ c.pieces.invariant.limit)
-    (rw c.in-Ended-Fault.field-0-is at (c.in-Ended-Fault.ensures.gives _ p.0 p.1)) in
-    record { bytes = p.0; kept = p.2.kept; ends = (read, p.2.bad_is) }
-
-pub returns-in-Ended-TooLong-clause-log : goal.returns-in-Ended-TooLong-clause-log
-returns-in-Ended-TooLong-clause-log g c = c.pull.ensures.number ∙ c.pieces.invariant.log
-
-pub returns-in-Ended-TooLong-clause-ready : goal.returns-in-Ended-TooLong-clause-ready
-returns-in-Ended-TooLong-clause-ready g c = c.pieces.invariant.ready
-
-pub returns-in-Ended-TooLong-clause-feed : goal.returns-in-Ended-TooLong-clause-feed
-returns-in-Ended-TooLong-clause-feed g c = c.pieces.invariant.feed
-
-pub returns-in-Ended-TooLong-clause-pass : goal.returns-in-Ended-TooLong-clause-pass
-returns-in-Ended-TooLong-clause-pass g c = c.pieces.invariant.pass
-
-pub returns-in-Ended-TooLong-clause-runs : goal.returns-in-Ended-TooLong-clause-runs
-returns-in-Ended-TooLong-clause-runs g c = λ plan delay h.
-    let p = c.pieces.invariant.so_far plan delay h in
-    let read = subst (λ (n : ℕ). EndsReading TooLong n (g.L.Source.state c.args.log.now) (g.L.Source.state c.pull.new.file) p.0) (c.pull.ensures.limit ∙ c.pieces.invariant.limit)
-    (rw c.in-Ended-TooLong.field-0-is at (c.in-Ended-TooLong.ensures.gives _ p.0 p.1)) in
-    record { bytes = p.0; kept = p.2.kept; ends = (read, p.2.bad_is) }
