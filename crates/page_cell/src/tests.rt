@@ -75,8 +75,7 @@ fn half_a_publishing_is_not_seen(rt: HostRuntime) -> Result<(), Fail> {
     Ok(())
 }
 
-// Of how many tries are torn, the length of the page that is read, how much the reader has seen then, and the length of the next
-// page.
+// A row: how many tries are torn, the length of the page, how much the reader has seen then, and the next page's length.
 const TORN: [(u32, Result<u64, Again>, u64, u64); 4] = [
     (0, Ok(0), 0, 0),
     (1, Ok(1), 1, 1),

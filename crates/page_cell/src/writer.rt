@@ -107,7 +107,7 @@ impl Writer {
     }
 }
 
-// The feed of a leap second file more, up to 16 feeds.
+// One more feed, of a leap second file, up to 16 feeds in all.
 fn add_leap(settings: &mut Settings)
     requires { AreLawful settings.old }
     ensures { AreLawful settings.new }
@@ -212,8 +212,8 @@ impl Shared {
         (read, reader.seen())
     }
 
-    /// The length of a page in the reading of which this many tries are torn, how much the reader has seen then, and the length of
-    /// the page that it reads next.
+    /// A reading of which this many tries are torn. It gives the length of its page, how much the reader has seen then, and the
+    /// length of the next page.
     pub fn read_torn(self, tries: u32) -> (Result<u64, Again>, u64, Result<u64, Again>) {
         let Shared {
             cell,
