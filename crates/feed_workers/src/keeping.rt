@@ -1,5 +1,5 @@
 //! Keeps an entry that is due.
-ghost use Rattle.std.specs.Prelude.{◌≡◌, ◌++◌, ◌∷◌, [], List, length};
+ghost use Rattle.std.specs.Prelude.{◌++◌, ◌∷◌, [], List, length};
 ghost use Rattle.journal_entry.specs.Lawful.{IsLawfulWhat};
 ghost use Rattle.journal_entry.specs.declared.entry.Entry.{Entry};
 ghost use Rattle.feed_workers.specs.Keeping.{IsOfFeed, Keeps, share_of};

@@ -1,5 +1,5 @@
 //! The worker of a leap second file, which reads the list of leap seconds in it.
-ghost use Rattle.std.specs.Prelude.{◌≡◌, ◌≤◌, ◌<◌, ◌++◌, ◌∷◌, [], ℕ, IfSome, List, Option, length};
+ghost use Rattle.std.specs.Prelude.{◌≡◌, ◌<◌, ◌++◌, ◌∷◌, [], ℕ, IfSome, List, Option, length};
 ghost use Rattle.std.specs.Option.{option_to_list};
 ghost use Rattle.feed_workers.specs.Keeping.{IsOfFeed, Keeps, share_of};
 ghost use Rattle.feed_workers.specs.Leaps.{RunsLeap, leap_intake, most_of_a_list, notices_of};

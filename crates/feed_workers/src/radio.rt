@@ -1,5 +1,5 @@
 //! The worker of a radio, which reads its log.
-ghost use Rattle.std.specs.Prelude.{◌≡◌, ◌≤◌, ◌<◌, ◌^◌, ◌++◌, [], ℕ, List, Option, Some, None, length, take};
+ghost use Rattle.std.specs.Prelude.{◌≡◌, ◌≤◌, ◌<◌, ◌++◌, [], ℕ, List, Option, Some, None, length, take};
 ghost use Rattle.log_decoder.specs.Decoding.{HasDecoded, IsReady, feed_of};
 ghost use Rattle.feed_workers.specs.Hearing.{HasHeard, HearsPiece, Tuning};
 ghost use Rattle.feed_workers.specs.Keeping.{IsOfFeed, share_of};

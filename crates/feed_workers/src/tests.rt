@@ -1,7 +1,8 @@
 //! A radio's worker that may read fewer bytes than a log may have: no public call has another limit than 2^30 bytes. The log is of
 //! DCF77 by PTB's table of 1 January 2026, 13:00 and 13:01.
-ghost use Rattle.std.specs.Prelude.{◌≡◌, ◌<◌, ◌≤◌, [], All};
-ghost use Rattle.page_cell.specs.Passes.{key_of};
+ghost use Rattle.std.specs.Prelude.{◌≡◌, ◌<◌, ◌≤◌, [], All, length};
+ghost use Rattle.feed_workers.specs.Keeping.{IsOfFeed};
+ghost use Rattle.page_cell.specs.Passes.{claim_of, key_of};
 ghost use Rattle.system_fold.specs.Settings.{AreLawful};
 
 use crate::keeping::Post;
@@ -9,7 +10,7 @@ use crate::radio::read_log;
 use crate::{LogEnd, LogWork, RadioWorker};
 use feed_link::{OpenGate, SureSource};
 use journal_entry::{ENTRY_ROOM, write_entry};
-use page_cell::{CellParts, PageCell};
+use page_cell::{CellParts, FeedPass, PageCell};
 use radio_receiver::{BoxedReceiver, DcfReceiver, Receiver};
 use std::alloc::Global;
 use std::fmt::Debug;
@@ -69,6 +70,37 @@ fn text_of(alloc: Global, journal: &Journal) -> Result<String, Fail> {
     Ok(text)
 }
 
+// A worker reads at most this many bytes of a log: what was done, and the pass of its feed.
+fn read_with<N: HubName, R: Wait>(
+    rt: &R,
+    hub: &Hub<N>,
+    receiver: BoxedReceiver,
+    log: SureSource,
+    pass: FeedPass,
+    most: usize,
+) -> (LogWork, FeedPass)
+    requires pass { IsOfFeed N.table (length N.settings.sources) (claim_of pass.view).number pass }
+    requires blank { least_start receiver ≡ 0 }
+    ensures { result.1.table ≡ N.table }
+{
+    let mut worker = RadioWorker::new(receiver, log, pass);
+    let gate = OpenGate::new();
+    let post = Post {
+        rt,
+        hub,
+        gate: &gate,
+    };
+    let work = read_log(
+        &post,
+        &mut worker.decoder,
+        &mut worker.log,
+        &mut worker.pass,
+        most,
+    );
+    let (_, pass) = worker.give_back();
+    (work, pass)
+}
+
 // Reads a log of at most this many bytes, in a hub with room for all: what was done, and the journal.
 fn run_log<N: HubName, R: Wait>(
     rt: &R,
@@ -102,21 +134,7 @@ fn run_log<N: HubName, R: Wait>(
     if pass.number() >= settings.count() {
         return None;
     }
-    let mut worker = RadioWorker::new(receiver, log, pass);
-    let gate = OpenGate::new();
-    let post = Post {
-        rt,
-        hub: &hub,
-        gate: &gate,
-    };
-    let work = read_log(
-        &post,
-        &mut worker.decoder,
-        &mut worker.log,
-        &mut worker.pass,
-        most,
-    );
-    let (_, pass) = worker.give_back();
+    let (work, pass) = read_with(rt, &hub, receiver, log, pass, most);
     let mut passes = Vec::new(alloc);
     passes.push(pass).ok()?;
     Some((work, hub.close(passes, Vec::new(alloc))))

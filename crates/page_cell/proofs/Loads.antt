@@ -1,31 +1,23 @@
 -- The kinds of load keep the rule.
-use Rattle.std.proofs.Common.{◌≡◌, ◌≢◌, ℕ, zero, suc, ◌+◌, ◌<◌, ◌≤◌, ◌||◌, Bool, true, false, List, [], ◌∷◌, ◌++◌, map, length, set, max, if◌then◌else◌, refl, sym, ap, ◌∙◌, subst, arith, le_refl, length-append, true≢false, eqb, eq-eqb, ne_eqb}
-use Rattle.std.specs.Prelude.{All, slice_index, slice_index_or, MatchBool, ◌==◌, ◌*◌}
+use Rattle.std.proofs.Common.{◌≡◌, ◌≢◌, ℕ, suc, ◌+◌, ◌<◌, ◌≤◌, Bool, true, false, List, [], ◌∷◌, ◌++◌, length, set, refl, sym, ap, ◌∙◌, subst, arith, true≢false, eq-eqb}
+use Rattle.std.specs.Prelude.{All, slice_index, MatchBool, ◌==◌, ◌*◌}
 use Rattle.std.proofs.lemmas.Bool.Decides.{nat_tests}
-use Rattle.std.proofs.lemmas.List.{get_or-set_same, get_or-set_other}
-use Rattle.std.proofs.lemmas.List.Elements.{All-weaker, All-push, All-map, All-nil, All-cons, All-head, All-same, All-append, All-tail}
-use mathlib.Core.List.{IsPrefix}
-use mathlib.Core.Logic.{dite}
-use mathlib.Core.Option.{none, some, some-ne-none, some-injective}
-use native.Mathlib.Decide.{ℕ_discrete}
+use Rattle.std.proofs.lemmas.List.Elements.{All-weaker, All-push}
+use mathlib.Core.Option.{none, some}
 use lib.ListN.{get_elem?}
-use lib.Seq.{set-get_or}
-use Rattle.atomic_table.proofs.Lists.{at_longer, at_last, set_here, set_else}
-use Rattle.atomic_table.specs.Table.{State, Me, Step, step, keeps, Allows, Splits, Joins}
+use Rattle.atomic_table.specs.Table.{step, Allows}
 use Rattle.clock_page.specs.Page.{AreWords, PageFields}
 use Rattle.journal_entry.specs.declared.entry.Entry.{Entry}
-use Rattle.page_cell.specs.Claims.{IsReading, IsTally, IsTrueOf, of_feed, page_at}
-use Rattle.page_cell.specs.Rule.{bank_word, Fits, HasBank, HoldsBaton, IsWatch, Kept, Opened, Stands}
-use Rattle.page_cell.specs.Steps.{Begins, Ends, Holds, Loads, Looks, Publishes, Stores}
-use Rattle.page_cell.specs.Views.{added, baton_of, begins, both, emptied, extended, fails_at, loads_word, new_claim, new_feed, nobody, one_given, opened_by, receipt_of, seen_by, shown, still, stores, succeeds, without_baton}
+use Rattle.page_cell.specs.Claims.{IsReading, IsTrueOf, page_at}
+use Rattle.page_cell.specs.Rule.{bank_word, Fits, HasBank, IsWatch, Kept, Opened, Stands}
+use Rattle.page_cell.specs.Steps.{Begins, Ends, Holds, Loads, Looks}
+use Rattle.page_cell.specs.Views.{begins, fails_at, loads_word, succeeds}
 use Rattle.page_cell.specs.declared.view.Claim.{Claim}
 use Rattle.page_cell.specs.declared.view.View.{View}
-use Rattle.page_cell.specs.declared.view.Watch.{Watch}
-use Rattle.page_cell.proofs.Banks.{bank_counted, bank_kept, bank_loaded, bank_stored, bank_whole, count_apart, fails_less, fails_more}
-use Rattle.page_cell.proofs.Places.{at_snoc_at, in_range, length_of_set, of_other, of_same, on_fork, on_turn, prefix_more, prefix_self, reading-longer, reading-whole, redirect, redirect_hit, redirect_miss, words-ten}
-use Rattle.system_fold.specs.Page.{page_of}
+use Rattle.page_cell.proofs.Banks.{bank_loaded, bank_whole, fails_less, fails_more}
+use Rattle.page_cell.proofs.Places.{words-ten}
 use Rattle.system_fold.specs.Settings.{SettingsFields}
-use Rattle.page_cell.proofs.Turns.{load_step, off, quiet, turned}
+use Rattle.page_cell.proofs.Turns.{load_step, off, turned}
 
 -- the first load of a try
 pub begins_ok : (k : SettingsFields) (slots by : ℕ) (v : View) (cs : List (ℕ × ℕ)) → Allows (Kept k) slots by (v, cs) 0 (λ n. n) (Begins (step slots 0 0 0 none) (v, cs))

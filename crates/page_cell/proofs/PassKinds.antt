@@ -1,16 +1,15 @@
 -- What each step makes of the kinds of passes, and what a pass with the baton then knows.
-use Rattle.std.proofs.Common.{◌≡◌, ℕ, ◌≤◌, ◌||◌, Bool, true, false, List, [], ◌∷◌, ◌++◌, map, length, max, Option, Some, None, if◌then◌else◌, refl, sym, ap, ◌∙◌, subst, arith}
+use Rattle.std.proofs.Common.{◌≡◌, ℕ, ◌≤◌, ◌||◌, Bool, true, false, List, [], ◌∷◌, ◌++◌, map, length, if◌then◌else◌, refl, sym, ap, ◌∙◌, subst, arith}
 use Rattle.std.specs.Prelude.{All}
 use Rattle.std.proofs.lemmas.List.Elements.{All-nil, All-cons, All-head, All-tail}
 use mathlib.Core.List.{IsPrefix}
 use Rattle.journal_entry.specs.declared.entry.Entry.{Entry}
 use Rattle.system_fold.specs.Settings.{SettingsFields}
 use Rattle.page_cell.specs.declared.view.View.{View}
-use Rattle.page_cell.specs.declared.view.Claim.{Claim}
 use Rattle.page_cell.specs.Views.{added, both, extended, with_stored}
 use Rattle.page_cell.specs.Claims.{IsReading, IsTally, IsTrueOf}
 use Rattle.page_cell.specs.Steps.{Holds}
-use Rattle.page_cell.specs.Passes.{key_of, first_claim, claim_of, IsResting, IsBaton, IsFeed, IsPublisher, IsReader}
+use Rattle.page_cell.specs.Passes.{key_of, first_claim, claim_of, IsBaton, IsFeed, IsPublisher, IsReader}
 
 pub or_right : (a : Bool) → (a || true) ≡ true
 or_right true = refl

@@ -1,10 +1,9 @@
 -- The tries of one reading.
-use Rattle.std.proofs.Common.{◌≡◌, ℕ, zero, suc, ◌+◌, ◌*◌, ◌<◌, ◌≤◌, ◌==◌, Bool, true, false, List, [], ◌∷◌, ◌++◌, length, if◌then◌else◌, refl, sym, ap, ◌∙◌, subst, arith, length-append}
+use Rattle.std.proofs.Common.{◌≡◌, ℕ, zero, suc, ◌+◌, ◌<◌, ◌≤◌, ◌==◌, Bool, true, false, List, [], ◌∷◌, ◌++◌, length, if◌then◌else◌, refl, sym, ap, ◌∙◌, subst, arith, length-append}
 use Rattle.std.specs.Prelude.{All, MatchBool}
 use Rattle.std.proofs.lemmas.List.Elements.{All-nil, All-push}
 use Rattle.clock_page.specs.Page.{AreWords, IsPage, PageFields, words}
 use Rattle.page_cell.specs.declared.view.View.{View}
-use Rattle.page_cell.specs.declared.view.Watch.{Watch}
 use Rattle.page_cell.specs.Passes.{IsResting}
 use Rattle.page_cell.specs.Readings.{IsRising, ReadsAgain, ReadsPage}
 use Rattle.page_cell.specs.Tries.{ReadsOnce, TellsTry, Tried}

@@ -1,5 +1,5 @@
 -- What passes claim of the list of all published entries, and when such a claim is true. All of it is this project's own.
-use Rattle.std.specs.Prelude.{◌≡◌, ℕ, ◌+◌, ◌*◌, ◌≤◌, ◌==◌, List, length, filter, take}
+use Rattle.std.specs.Prelude.{◌≡◌, ℕ, ◌*◌, ◌≤◌, ◌==◌, List, length, filter, take}
 use mathlib.Core.List.{IsPrefix}
 use Rattle.clock_page.specs.Page.{AreWords, PageFields}
 use Rattle.journal_entry.specs.declared.entry.Entry.{Entry}

@@ -1,5 +1,5 @@
 -- The kinds of passes, and what each stands for. All of it is this project's own.
-use Rattle.std.specs.Prelude.{◌≡◌, ℕ, ◌<◌, true, false, List, [], ◌∷◌, length}
+use Rattle.std.specs.Prelude.{◌≡◌, ℕ, true, false, List, [], ◌∷◌, length}
 use Rattle.atomic_table.specs.Seated.{TableId}
 use Rattle.page_cell.specs.Views.{new_claim}
 use Rattle.page_cell.specs.declared.view.Claim.{Claim}

@@ -1,5 +1,5 @@
 -- Scaffolding: what each step makes of a pass's knowledge.
-use Rattle.std.specs.Prelude.{◌≡◌, ℕ, ◌+◌, ◌==◌, ◌||◌, Bool, true, false, List, [], ◌∷◌, ◌++◌, map, length, max, if◌then◌else◌}
+use Rattle.std.specs.Prelude.{ℕ, ◌+◌, ◌==◌, ◌||◌, true, false, List, [], ◌∷◌, ◌++◌, map, length, max, if◌then◌else◌}
 use Rattle.journal_entry.specs.declared.entry.Entry.{Entry}
 use Rattle.journal_entry.specs.declared.entry.What.TheVariants.{Notice}
 use Rattle.page_cell.specs.declared.view.Claim.{Claim}

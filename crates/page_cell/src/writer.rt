@@ -1,14 +1,15 @@
 //! The writer that publishes in tests.
-ghost use Rattle.std.specs.Prelude.{◌≡◌, ◌≤◌, ◌<◌, [], length, All, IfOk};
+ghost use Rattle.std.specs.Prelude.{◌≡◌, ◌≤◌, ◌<◌, [], length};
 ghost use Rattle.page_cell.specs.Passes.{key_of};
 ghost use Rattle.system_fold.specs.Settings.{AreLawful};
 
-use crate::loading::Meanwhile;
+use crate::loading::{Again, Meanwhile};
 use crate::storing::begin;
-use crate::{BatonPass, CellParts, FeedPass, PageCell, ReadPass};
+use crate::{BatonPass, CellParts, FeedPass, PageCell, ReadPass, Receipt};
+use clock_page::Page;
 use journal_entry::{Entry, What};
+use std::alloc::Global;
 use std::marker::Model;
-use std::test::Fail;
 use system_fold::{FoldState, Settings, SourceKind};
 use tick_units::{Local, Plan};
 
@@ -106,39 +107,137 @@ impl Writer {
     }
 }
 
+// One more feed, of a leap second file, up to 16 feeds in all.
+fn add_leap(settings: &mut Settings)
+    requires { AreLawful settings.old }
+    ensures { AreLawful settings.new }
+{
+    if settings.count() >= 16 {
+        return;
+    }
+    settings.add(SourceKind::Leap);
+}
+
 /// Settings with this many feeds, 1 to 16, the first of which is a radio.
 pub fn of_one_radio(feeds: u32) -> Settings
     ensures { AreLawful result }
 {
     let mut settings = Settings::new(1000);
     settings.add(SourceKind::Radio(Plan::Dcf));
-    for number in 1..feeds {
-        if settings.count() == number && number < 16 {
-            settings.add(SourceKind::Leap);
-        }
+    for _ in 1..feeds {
+        add_leap(&mut settings);
     }
     settings
 }
 
-/// A cell over one radio, its writer, and this many readers.
-pub fn opened(rt: &HostRuntime, readers: u32) -> Result<(PageCell, Writer, Vec<ReadPass>), Fail>
-    requires { readers ≤ 8 }
-    ensures { IfOk result (λ r. (r.1.table ≡ r.0.table) × All (λ x. x.table ≡ r.0.table) r.2.items) }
-{
-    let settings = of_one_radio(1);
-    let Ok(parts) = PageCell::open(rt.alloc(), &settings, readers) else {
-        return Err("memory")?;
-    };
-    let CellParts {
-        cell,
-        baton,
-        mut feeds,
-        readers,
-    } = parts;
-    let Some(feed) = feeds.pop() else {
-        return Err("no feed")?;
-    };
-    Ok((cell, Writer::new(baton, feed, &settings), readers))
+/// A cell over one radio, with its writer and a reader.
+#[derive(Drop)]
+pub struct Shared {
+    pub cell: PageCell,
+    pub writer: Writer,
+    pub reader: ReadPass,
+    ghost own: { (writer.table ≡ cell.table) × (reader.table ≡ cell.table) },
+}
+
+impl Shared {
+    /// With the last of this many readers, 1 to 8; nothing where there is not enough memory.
+    pub fn open(alloc: Global, readers: u32) -> Option<Shared>
+        requires { readers ≤ 8 }
+    {
+        let settings = of_one_radio(1);
+        let Ok(parts) = PageCell::open(alloc, &settings, readers) else {
+            return None;
+        };
+        let CellParts {
+            cell,
+            baton,
+            mut feeds,
+            mut readers,
+        } = parts;
+        let Some(feed) = feeds.pop() else {
+            return None;
+        };
+        let Some(reader) = readers.pop() else {
+            return None;
+        };
+        let writer = Writer::new(baton, feed, &settings);
+        Some(Shared {
+            cell,
+            writer,
+            reader,
+        })
+    }
+
+    /// An entry more.
+    pub fn publish(&mut self)
+        ensures { self.new.cell ≡ self.old.cell }
+    {
+        self.writer.publish(&self.cell);
+    }
+
+    /// The length of the page that the reader reads next, and whether the page gives the time.
+    pub fn read(&mut self) -> Option<(u64, bool)>
+        ensures { self.new.cell ≡ self.old.cell }
+    {
+        match self.cell.try_read(&mut self.reader) {
+            Ok(page) => Some((page.length, page.sync)),
+            Err(_) => None,
+        }
+    }
+
+    /// A receipt of all that the feed's pass has seen.
+    pub fn receipt(&mut self) -> Receipt
+        ensures cell { self.new.cell ≡ self.old.cell }
+        ensures own { result.table ≡ self.new.cell.table }
+    {
+        self.cell.receipt(&mut self.writer.feed)
+    }
+
+    /// The reader learns what a receipt says.
+    pub fn learn(&mut self, receipt: Receipt)
+        requires own { receipt.table ≡ self.old.cell.table }
+    {
+        self.cell.learn(&mut self.reader, receipt);
+    }
+
+    /// A reading while half of a page is stored that is never published, and how much the reader has seen then.
+    pub fn read_half_way(self) -> (Result<Page, Again>, u64) {
+        let Shared {
+            cell,
+            writer,
+            mut reader,
+        } = self;
+        writer.stop_half_way(&cell, &[7u64; 10], 5);
+        let read = cell.try_read(&mut reader);
+        (read, reader.seen())
+    }
+
+    /// A reading of which this many tries are torn. It gives the length of its page, how much the reader has seen then, and the
+    /// length of the next page.
+    pub fn read_torn(self, tries: u32) -> (Result<u64, Again>, u64, Result<u64, Again>) {
+        let Shared {
+            cell,
+            writer,
+            mut reader,
+        } = self;
+        let mut meanwhile = Interrupting {
+            cell: &cell,
+            writer,
+            tries,
+        };
+        let answer = cell.read_during(&mut reader, &mut meanwhile);
+        let seen = reader.seen();
+        let after = cell.try_read(&mut reader);
+        (length_of(answer), seen, length_of(after))
+    }
+}
+
+// How many entries a page has.
+fn length_of(read: Result<Page, Again>) -> Result<u64, Again> {
+    match read {
+        Ok(page) => Ok(page.length),
+        Err(again) => Err(again),
+    }
 }
 
 /// A writer that publishes in the middle of this many tries.

@@ -1,10 +1,9 @@
 // Workers, each with a pass of the cell.
-ghost use Rattle.std.specs.Prelude.{◌≡◌, ◌≤◌, ◌<◌, ◌+◌, ◌++◌, [], All, IfSome, None, drop, length, map, option_map};
+ghost use Rattle.std.specs.Prelude.{◌≡◌, ◌≤◌, ◌<◌, ◌+◌, ◌++◌, [], All, IfSome, None, length, map, option_map};
 ghost use Rattle.std.specs.Prelude.{slice_get, vec_capacity, vec_len};
 ghost use Rattle.std.specs.List.{range_with_len};
 ghost use Rattle.std.specs.Option.{option_to_list};
 ghost use Rattle.packet_auth.specs.Keys.{keys_of};
-ghost use Rattle.page_cell.specs.Passes.{claim_of};
 ghost use Rattle.station_config.specs.Station.{IsStation, gate_of};
 ghost use Rattle.station_config.specs.KeptStation.{server_fields};
 ghost use Rattle.station_crew.specs.Crews.{CrewManned, HasRoomFor};

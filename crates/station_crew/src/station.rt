@@ -121,14 +121,22 @@ fn make_room<L: Drop, T: Drop>(
     ensures room { IfOk result (HasRoom (gate_of station.now) counts.radios counts.servers counts.links) }
     ensures parts { IfOk result (λ room. room.parts ≡ parts) }
 {
-    Ok(Room {
-        alloc,
-        parts,
-        crew: make_crew(alloc, counts)?,
-        told: Vec::with_capacity(alloc, counts.links)?,
-        left: make_left(alloc, counts)?,
-        gates: open_gates(alloc, station, counts.links)?,
-    })
+    match (
+        make_crew(alloc, counts),
+        Vec::with_capacity(alloc, counts.links),
+        make_left(alloc, counts),
+        open_gates(alloc, station, counts.links),
+    ) {
+        (Ok(crew), Ok(told), Ok(left), Ok(gates)) => Ok(Room {
+            alloc,
+            parts,
+            crew,
+            told,
+            left,
+            gates,
+        }),
+        _ => Err(AllocError),
+    }
 }
 
 /// Serves a station, in two phases. In the first phase the workers read its radios' logs and its leap second file and poll its

@@ -1,5 +1,5 @@
 //! Opens the logs and links of a station.
-ghost use Rattle.std.specs.Prelude.{◌≡◌, ◌≤◌, ◌<◌, [], length, map, vec_len, vec_capacity, MatchResult, IfOk, is_some};
+ghost use Rattle.std.specs.Prelude.{◌≡◌, ◌≤◌, ◌<◌, [], length, map, vec_capacity, MatchResult, IfOk, is_some};
 ghost use Rattle.std.specs.Option.{option_to_list};
 ghost use Rattle.station_gear.specs.Gears.{IsEmptyFor, logs_needed, leap_needed, servers_needed, links_needed, wanted_by, log_states, link_states, states_of, numbers_of};
 ghost use Rattle.station_gear.specs.Opens.{OpensAll, StopsIn, StopsAt, IsWhole, IsUpTo};

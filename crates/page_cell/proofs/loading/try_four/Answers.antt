@@ -1,4 +1,4 @@
-use Rattle.std.proofs.Common.{◌≡◌, ◌<◌, List, ℕ, rules, arith, ◌∙◌, subst}
+use Rattle.std.proofs.Common.{◌<◌, List, ℕ, rules, ◌∙◌, subst}
 use Rattle.page_cell.specs.Tries.{ReadsOnce}
 use Rattle.page_cell.proofs.Tries.{reads-page, try-other, try-same}
 use Rattle.page_cell.proofs.loading.try_four.Goals as goal

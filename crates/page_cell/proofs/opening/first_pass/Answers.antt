@@ -1,6 +1,5 @@
-use Rattle.std.proofs.Common.{◌≡◌, [], ℕ, List, sym, ap, ◌∙◌, subst}
-use Rattle.clock_page.specs.Page.{AreWords, PageFields}
-use Rattle.page_cell.specs.Rule.{HasBank}
+use Rattle.std.proofs.Common.{[], subst}
+use Rattle.clock_page.specs.Page.{AreWords}
 use Rattle.page_cell.proofs.Places.{reading-whole}
 use Rattle.page_cell.proofs.Turns.{starts}
 use Rattle.page_cell.proofs.opening.first_pass.Goals as goal

@@ -1,6 +1,6 @@
 -- What the search leaves open of `named::serve_named`.
-use Rattle.std.proofs.Common.{rules, ◌≡◌, ◌≤◌, ◌+◌, ◌++◌, length, map, sym, ap, ◌∙◌, subst, arith, length-append}
-use Rattle.std.specs.Prelude.{All, option_map, vec_len}
+use Rattle.std.proofs.Common.{◌≡◌, ℕ, ◌≤◌, ◌+◌, ◌++◌, length, map, sym, ap, ◌∙◌, subst, arith, length-append}
+use Rattle.std.specs.Prelude.{All, option_map, vec_capacity, vec_len}
 use Rattle.std.proofs.lemmas.List.{length-map}
 use Rattle.std.proofs.lemmas.List.FromFn.{length-map-range_with_len}
 use Rattle.std.proofs.lemmas.List.Elements.{All-map}
@@ -21,33 +21,30 @@ use Rattle.system_fold.specs.Settings.{IsJournal, IsKept, SettingsFields}
 use Rattle.verdict_journal.specs.Journals.{HasRead}
 use Rattle.station_crew.proofs.named.serve_named.Goals as goal
 
+-- there is room where nothing was yet
+fits_left : (had jobs crew cap : ℕ) → had ≡ 0 → jobs ≡ crew → crew ≤ cap → had + jobs ≤ cap
+fits_left had jobs crew cap none count le = omega arith
+
+few_of : (n m : ℕ) → n ≡ m → m ≤ 8 → n ≤ 8
+few_of n m same le = omega arith
+
+adds_up : (f s both l r p a b d : ℕ) → f ≡ s → s ≡ both + l → both ≡ r + p → r ≡ a → p ≡ b → l ≡ d → f ≡ a + b + d
+adds_up f s both l r p a b d count whole most radios servers leap = omega arith
+
 pub man_crew-crew-requires-clause-feeds : goal.man_crew-crew-requires-clause-feeds
 man_crew-crew-requires-clause-feeds g c κs within =
     let feeds = c.in-Ok.parts.feeds in
     let of = c.args.station.now in
-    let one : vec_len feeds ≡ length feeds.items = search rules in
+    let given = c.args.room.parts.feeds.items in
     let same = ap length c.in-Ok.ensures.passes.0 in
     let n = ap length c.requires.claims in
     let s = ap (λ (z : SettingsFields). length z.sources) c.requires.settings.1 in
-    let a = c.requires.gear.logs in
-    let b = c.requires.gear.servers in
-    omega (
-      arith,
-      one,
-      same,
-      n,
-      s,
-      a,
-      b,
-      length-map c.args.room.parts.feeds.items (λ (f : Known). claim_of f.view),
-      length-map-range_with_len new_claim 0 (length g.N.HubName.settings.sources),
-      length-append (map kind_of_radio of.radios ++ map kind_of_server of.servers) (leap_feeds of.leap_file),
-      length-append (map kind_of_radio of.radios) (map kind_of_server of.servers),
-      length-is-some c.args.kit.gear.leap of.leap_file c.requires.gear.leap,
-      leap_feeds-length of.leap_file,
-      length-map of.radios kind_of_radio,
-      length-map of.servers kind_of_server,
-    )
+    let count = feeds.ok.0 ∙ same ∙ sym (length-map given (λ (f : Known). claim_of f.view)) ∙ n ∙ length-map-range_with_len new_claim 0 (length g.N.HubName.settings.sources) ∙ sym s in
+    adds_up _ _ _ _ _ _ _ _ _ count
+    (length-append (map kind_of_radio of.radios ++ map kind_of_server of.servers) (leap_feeds of.leap_file))
+    (length-append (map kind_of_radio of.radios) (map kind_of_server of.servers))
+    (length-map of.radios kind_of_radio ∙ sym c.requires.gear.logs) (length-map of.servers kind_of_server ∙ sym c.requires.gear.servers)
+    (leap_feeds-length of.leap_file ∙ sym (length-is-some c.args.kit.gear.leap of.leap_file c.requires.gear.leap))
 
 pub run_first-requires-clause-radios : goal.run_first-requires-clause-radios
 run_first-requires-clause-radios g c κs within =
@@ -88,24 +85,9 @@ leave_feeds-responders-requires-after_bounds g c κs within =
     let m = c.man_crew-crew.ensures.manned in
     let crew = c.man_crew-crew.result in
     let gear = c.args.kit.gear in
-    let radios : vec_len gear.logs ≡ vec_len now.radios =
-    (let a = ap length m.logs in
-    let k = c.run_first.ensures.counts.0 in
-    let one : vec_len gear.logs ≡ length gear.logs.items = search rules in
-    let two : vec_len crew.radios ≡ length crew.radios.items = search rules in
-    omega (arith, a, k, one, two, length-map crew.radios.items log_of)) in
-    let pollers : vec_len gear.servers ≡ vec_len now.pollers =
-    (let a = ap length m.servers in
-    let k = c.run_first.ensures.counts.1 in
-    let one : vec_len gear.servers ≡ length gear.servers.items = search rules in
-    let two : vec_len crew.pollers ≡ length crew.pollers.items = search rules in
-    omega (arith, a, k, one, two, length-map crew.pollers.items server_link)) in
-    let responders : vec_len gear.links ≡ vec_len now.responders =
-    (let a = ap length m.links in
-    let k = c.run_first.ensures.counts.2 in
-    let one : vec_len gear.links ≡ length gear.links.items = search rules in
-    let two : vec_len crew.responders ≡ length crew.responders.items = search rules in
-    omega (arith, a, k, one, two, length-map crew.responders.items link_of)) in
+    let radios : vec_len gear.logs ≡ vec_len now.radios = gear.logs.ok.0 ∙ sym (ap length m.logs) ∙ length-map crew.radios.items log_of ∙ sym crew.radios.ok.0 ∙ sym c.run_first.ensures.counts.0 in
+    let pollers : vec_len gear.servers ≡ vec_len now.pollers = gear.servers.ok.0 ∙ sym (ap length m.servers) ∙ length-map crew.pollers.items server_link ∙ sym crew.pollers.ok.0 ∙ sym c.run_first.ensures.counts.1 in
+    let responders : vec_len gear.links ≡ vec_len now.responders = gear.links.ok.0 ∙ sym (ap length m.links) ∙ length-map crew.responders.items link_of ∙ sym crew.responders.ok.0 ∙ sym c.run_first.ensures.counts.2 in
     subst (λ n. HasRoomToLeave n (vec_len now.pollers) (vec_len now.responders) c.args.room.left) radios
     (subst (λ n. HasRoomToLeave (vec_len gear.logs) n (vec_len now.responders) c.args.room.left) pollers
     (subst (λ n. HasRoomToLeave (vec_len gear.logs) (vec_len gear.servers) n c.args.room.left) responders c.requires.room.left))
@@ -121,7 +103,7 @@ tell_responders-requires-clause-feeds g c κs within =
     let tables = subst (All (λ (f : Known). f.table ≡ N.table)) (sym is) c.requires.feeds in
     subst (λ t. All (λ (f : Known). f.table ≡ t) c.leave_feeds-responders.result.1.passes.feeds.items) (sym c.cell.ensures)
     (subst (All (λ (f : Known). f.table ≡ N.table)) (sym c.leave_feeds-responders.ensures.feeds.feeds)
-    (feeds_keep N.table (length N.settings.sources) crew.radios.items crew.pollers.items crew.leap claims tables _ g.L.Source.state g.L.Source.opening g.T.Link.state g.T.Link.opening N.limit now.radios.items now.pollers.items now.leap e.radios (search rules) e.pollers (search rules) e.leap))
+    (feeds_keep N.table (length N.settings.sources) crew.radios.items crew.pollers.items crew.leap claims tables _ g.L.Source.state g.L.Source.opening g.T.Link.state g.T.Link.opening N.limit now.radios.items now.pollers.items now.leap e.radios (sym now.radios.ok.0 ∙ e.counts.0 ∙ crew.radios.ok.0) e.pollers (sym now.pollers.ok.0 ∙ e.counts.1 ∙ crew.pollers.ok.0) e.leap))
 
 pub tell_responders-requires-clause-readers : goal.tell_responders-requires-clause-readers
 tell_responders-requires-clause-readers g c κs within =
@@ -129,7 +111,7 @@ tell_responders-requires-clause-readers g c κs within =
     let xs = c.man_crew-crew.result.responders.items in
     let ys = c.run_first.new.crew.responders.items in
     let readers = c.man_crew-crew.ensures.readers ∙ c.in-Ok.ensures.passes.1 in
-    let same : length ys ≡ length xs = search rules in
+    let same : length ys ≡ length xs = sym c.run_first.new.crew.responders.ok.0 ∙ c.run_first.ensures.counts.2 ∙ c.man_crew-crew.result.responders.ok.0 in
     let first = each_keeps (λ x. x.responder.pass.table ≡ table) (HasServed g.T.Link.state g.T.Link.opening c.args.orders.budget.during) (λ a b r h. r.same.table ∙ h) xs ys c.run_first.ensures.responders same
     (readers_are table xs (subst (All (IsNewReader table)) (sym readers) c.requires.readers)) in
     subst (λ t. All (λ x. x.responder.pass.table ≡ t) c.leave_feeds-responders.result.0.items) (sym c.cell.ensures)
@@ -137,26 +119,19 @@ tell_responders-requires-clause-readers g c κs within =
 
 pub tell_responders-requires-clause-few : goal.tell_responders-requires-clause-few
 tell_responders-requires-clause-few g c κs within =
-    let xs = c.man_crew-crew.result.responders in
-    let one : vec_len xs ≡ length xs.items = search rules in
-    let two : vec_len c.args.kit.gear.links ≡ length c.args.kit.gear.links.items = search rules in
-    let q = ap length c.man_crew-crew.ensures.manned.links in
-    let a = c.requires.gear.links in
-    let b = c.requires.station.ports in
-    let k = c.run_first.ensures.counts.2 in
-    let r = ap vec_len c.leave_feeds-responders.ensures.responders in
-    omega (arith, one, two, q, a, b, k, r, length-map xs.items link_of)
+    let crew = c.man_crew-crew.result in
+    let gear = c.args.kit.gear in
+    let count : vec_len c.leave_feeds-responders.result.0 ≡ vec_len gear.links =
+    ap vec_len c.leave_feeds-responders.ensures.responders ∙ c.run_first.ensures.counts.2 ∙ crew.responders.ok.0 ∙ sym (length-map crew.responders.items link_of) ∙ ap length c.man_crew-crew.ensures.manned.links ∙ sym gear.links.ok.0 in
+    subst (λ n. n ≤ 8) (sym count) (few_of (vec_len c.args.kit.gear.links) (length c.args.station.now.links) c.requires.gear.links c.requires.station.ports)
 
 pub tell_responders-requires-clause-room : goal.tell_responders-requires-clause-room
 tell_responders-requires-clause-room g c κs within =
-    let xs = c.man_crew-crew.result.responders in
-    let one : vec_len xs ≡ length xs.items = search rules in
-    let two : vec_len c.args.kit.gear.links ≡ length c.args.kit.gear.links.items = search rules in
-    let q = ap length c.man_crew-crew.ensures.manned.links in
-    let a = c.requires.room.told in
-    let k = c.run_first.ensures.counts.2 in
-    let r = ap vec_len c.leave_feeds-responders.ensures.responders in
-    omega (arith, one, two, q, a, k, r, length-map xs.items link_of)
+    let crew = c.man_crew-crew.result in
+    let gear = c.args.kit.gear in
+    let count : vec_len c.leave_feeds-responders.result.0 ≡ vec_len gear.links =
+    ap vec_len c.leave_feeds-responders.ensures.responders ∙ c.run_first.ensures.counts.2 ∙ crew.responders.ok.0 ∙ sym (length-map crew.responders.items link_of) ∙ ap length c.man_crew-crew.ensures.manned.links ∙ sym gear.links.ok.0 in
+    subst (λ n. n ≤ vec_capacity c.args.room.told) (sym count) c.requires.room.told
 
 pub run_second-requires-after_bounds : goal.run_second-requires-after_bounds
 run_second-requires-after_bounds g c κs within =
@@ -164,44 +139,44 @@ run_second-requires-after_bounds g c κs within =
     let xs = c.man_crew-crew.result.responders.items in
     let ys = c.run_first.new.crew.responders.items in
     let readers = c.man_crew-crew.ensures.readers ∙ c.in-Ok.ensures.passes.1 in
-    let same : length ys ≡ length xs = search rules in
+    let same : length ys ≡ length xs = sym c.run_first.new.crew.responders.ok.0 ∙ c.run_first.ensures.counts.2 ∙ c.man_crew-crew.result.responders.ok.0 in
     let first = each_keeps (λ x. x.responder.pass.table ≡ table) (HasServed g.T.Link.state g.T.Link.opening c.args.orders.budget.during) (λ a b r h. r.same.table ∙ h) xs ys c.run_first.ensures.responders same
     (readers_are table xs (subst (All (IsNewReader table)) (sym readers) c.requires.readers)) in
     pairs_keep (λ x. x.responder.pass.table ≡ table) (λ x. x.responder.pass.table ≡ table) (WasTold c.leave_feeds-responders.result.1.passes.feeds.items) (λ x y t h. t.learnt.table ∙ h) c.leave_feeds-responders.result.0.items c.tell_responders.new.told.items c.tell_responders.ensures.told
     (subst (λ v. All (λ x. x.responder.pass.table ≡ table) v.items) (sym c.leave_feeds-responders.ensures.responders) first)
 
 pub leave_responders-requires-clause-links : goal.leave_responders-requires-clause-links
-leave_responders-requires-clause-links g c =
+leave_responders-requires-clause-links g c κs within =
     let room = c.leave_feeds-responders.ensures.room in
-    let told = c.leave_feeds-responders.result.0 in
-    let r = ap vec_len c.leave_feeds-responders.ensures.responders in
-    let none = ap length room.no_links in
-    let n = pairs_length (WasTold c.leave_feeds-responders.result.1.passes.feeds.items) told.items c.tell_responders.new.told.items c.tell_responders.ensures.told in
-    let k = c.run_second.ensures.count in
-    let cap = room.links in
-    search (arith, rules, r, none, n, k, cap)
+    let had = c.leave_feeds-responders.result.1.gear.links in
+    let given = c.leave_feeds-responders.result.0 in
+    let told = c.tell_responders.new.told in
+    let now = c.run_first.new.crew in
+    let n = pairs_length (WasTold c.leave_feeds-responders.result.1.passes.feeds.items) given.items told.items c.tell_responders.ensures.told in
+    let count = c.run_second.ensures.count ∙ told.ok.0 ∙ n ∙ sym given.ok.0 ∙ ap vec_len c.leave_feeds-responders.ensures.responders in
+    fits_left (vec_len had) (vec_len c.run_second.new.jobs) (vec_len now.responders) (vec_capacity had) (had.ok.0 ∙ ap length room.no_links) count room.links
 
 pub leave_responders-requires-clause-works : goal.leave_responders-requires-clause-works
-leave_responders-requires-clause-works g c =
+leave_responders-requires-clause-works g c κs within =
     let room = c.leave_feeds-responders.ensures.room in
-    let told = c.leave_feeds-responders.result.0 in
-    let r = ap vec_len c.leave_feeds-responders.ensures.responders in
-    let none = ap length room.no_works in
-    let n = pairs_length (WasTold c.leave_feeds-responders.result.1.passes.feeds.items) told.items c.tell_responders.new.told.items c.tell_responders.ensures.told in
-    let k = c.run_second.ensures.count in
-    let cap = room.works in
-    search (arith, rules, r, none, n, k, cap)
+    let had = c.leave_feeds-responders.result.1.work.links in
+    let given = c.leave_feeds-responders.result.0 in
+    let told = c.tell_responders.new.told in
+    let now = c.run_first.new.crew in
+    let n = pairs_length (WasTold c.leave_feeds-responders.result.1.passes.feeds.items) given.items told.items c.tell_responders.ensures.told in
+    let count = c.run_second.ensures.count ∙ told.ok.0 ∙ n ∙ sym given.ok.0 ∙ ap vec_len c.leave_feeds-responders.ensures.responders in
+    fits_left (vec_len had) (vec_len c.run_second.new.jobs) (vec_len now.responders) (vec_capacity had) (had.ok.0 ∙ ap length room.no_works) count room.works
 
 pub leave_responders-requires-clause-readers : goal.leave_responders-requires-clause-readers
-leave_responders-requires-clause-readers g c =
+leave_responders-requires-clause-readers g c κs within =
     let room = c.leave_feeds-responders.ensures.room in
-    let told = c.leave_feeds-responders.result.0 in
-    let r = ap vec_len c.leave_feeds-responders.ensures.responders in
-    let none = ap length room.no_readers in
-    let n = pairs_length (WasTold c.leave_feeds-responders.result.1.passes.feeds.items) told.items c.tell_responders.new.told.items c.tell_responders.ensures.told in
-    let k = c.run_second.ensures.count in
-    let cap = room.readers in
-    search (arith, rules, r, none, n, k, cap)
+    let had = c.leave_feeds-responders.result.1.passes.readers in
+    let given = c.leave_feeds-responders.result.0 in
+    let told = c.tell_responders.new.told in
+    let now = c.run_first.new.crew in
+    let n = pairs_length (WasTold c.leave_feeds-responders.result.1.passes.feeds.items) given.items told.items c.tell_responders.ensures.told in
+    let count = c.run_second.ensures.count ∙ told.ok.0 ∙ n ∙ sym given.ok.0 ∙ ap vec_len c.leave_feeds-responders.ensures.responders in
+    fits_left (vec_len had) (vec_len c.run_second.new.jobs) (vec_len now.responders) (vec_capacity had) (had.ok.0 ∙ ap length room.no_readers) count room.readers
 
 pub close-requires-clause-feeds : goal.close-requires-clause-feeds
 close-requires-clause-feeds g c =
@@ -214,7 +189,7 @@ close-requires-clause-feeds g c =
     let tables = subst (All (λ (f : Known). f.table ≡ N.table)) (sym is) c.requires.feeds in
     let feeds = c.tell_responders.ensures.same ∙ c.leave_feeds-responders.ensures.feeds.feeds in
     subst (All (λ (f : Known). f.table ≡ N.table)) (sym feeds)
-    (feeds_keep N.table (length N.settings.sources) crew.radios.items crew.pollers.items crew.leap claims tables _ g.L.Source.state g.L.Source.opening g.T.Link.state g.T.Link.opening N.limit now.radios.items now.pollers.items now.leap e.radios (search rules) e.pollers (search rules) e.leap)
+    (feeds_keep N.table (length N.settings.sources) crew.radios.items crew.pollers.items crew.leap claims tables _ g.L.Source.state g.L.Source.opening g.T.Link.state g.T.Link.opening N.limit now.radios.items now.pollers.items now.leap e.radios (sym now.radios.ok.0 ∙ e.counts.0 ∙ crew.radios.ok.0) e.pollers (sym now.pollers.ok.0 ∙ e.counts.1 ∙ crew.pollers.ok.0) e.leap)
 
 pub close-requires-clause-readers : goal.close-requires-clause-readers
 close-requires-clause-readers g c =
@@ -225,8 +200,8 @@ close-requires-clause-readers g c =
     let zs = c.tell_responders.new.told.items in
     let ws = c.run_second.new.jobs.items in
     let readers = c.man_crew-crew.ensures.readers ∙ c.in-Ok.ensures.passes.1 in
-    let same : length ys ≡ length xs = search rules in
-    let again : length ws ≡ length zs = search rules in
+    let same : length ys ≡ length xs = sym c.run_first.new.crew.responders.ok.0 ∙ c.run_first.ensures.counts.2 ∙ c.man_crew-crew.result.responders.ok.0 in
+    let again : length ws ≡ length zs = sym c.run_second.new.jobs.ok.0 ∙ c.run_second.ensures.count ∙ c.tell_responders.new.told.ok.0 in
     let first = each_keeps (λ x. x.responder.pass.table ≡ table) (HasServed g.T.Link.state g.T.Link.opening c.args.orders.budget.during) (λ a b r h. r.same.table ∙ h) xs ys c.run_first.ensures.responders same
     (readers_are table xs (subst (All (IsNewReader table)) (sym readers) c.requires.readers)) in
     let told = pairs_keep (λ x. x.responder.pass.table ≡ table) (λ x. x.responder.pass.table ≡ table) (WasTold c.leave_feeds-responders.result.1.passes.feeds.items) (λ x y t h. t.learnt.table ∙ h) c.leave_feeds-responders.result.0.items zs c.tell_responders.ensures.told
@@ -257,7 +232,7 @@ returns-clause-radios g c =
     let claims = ap (λ l. map (λ (f : Known). claim_of f.view) l) is ∙ c.requires.claims in
     let feeds = c.tell_responders.ensures.same ∙ f.feeds in
     let all = subst (All (λ (f : Known). IsTrueOf j (claim_of f.view))) feeds c.close.ensures.feeds in
-    let told = radios_served g.L.Source.state g.L.Source.opening g.T.Link.state g.T.Link.opening N.limit (length N.settings.sources) j crew.radios.items now.radios.items crew.pollers.items now.pollers.items crew.leap now.leap claims e.radios (search rules) e.pollers (search rules) e.leap all _ of.radios c.args.kit.receivers.items c.requires.blank m.receivers_are c.close.ensures.within in
+    let told = radios_served g.L.Source.state g.L.Source.opening g.T.Link.state g.T.Link.opening N.limit (length N.settings.sources) j crew.radios.items now.radios.items crew.pollers.items now.pollers.items crew.leap now.leap claims e.radios (sym now.radios.ok.0 ∙ e.counts.0 ∙ crew.radios.ok.0) e.pollers (sym now.pollers.ok.0 ∙ e.counts.1 ∙ crew.pollers.ok.0) e.leap all _ of.radios c.args.kit.receivers.items c.requires.blank m.receivers_are c.close.ensures.within in
     subst (λ n. RadiosServed (seen g.L.Source.state g.L.Source.opening) of.radios (column_of 0 n j) c.args.kit.gear.logs.items left.gear.logs.items left.work.radios.items) (sym c.requires.limit.0)
     (subst (λ l. RadiosServed (seen g.L.Source.state g.L.Source.opening) of.radios (column_of 0 N.limit j) l left.gear.logs.items left.work.radios.items) m.logs
     (subst (λ l. RadiosServed (seen g.L.Source.state g.L.Source.opening) of.radios (column_of 0 N.limit j) (map log_of crew.radios.items) l left.work.radios.items) (sym f.logs)
@@ -278,9 +253,9 @@ returns-clause-servers g c =
     let claims = ap (λ l. map (λ (f : Known). claim_of f.view) l) is ∙ c.requires.claims in
     let feeds = c.tell_responders.ensures.same ∙ f.feeds in
     let all = subst (All (λ (f : Known). IsTrueOf j (claim_of f.view))) feeds c.close.ensures.feeds in
-    let one : vec_len c.args.kit.gear.logs ≡ length c.args.kit.gear.logs.items = search rules in
+    let one : vec_len c.args.kit.gear.logs ≡ length c.args.kit.gear.logs.items = c.args.kit.gear.logs.ok.0 in
     let first : length crew.radios.items ≡ length of.radios = sym (length-map crew.radios.items log_of) ∙ ap length m.logs ∙ sym one ∙ c.requires.gear.logs in
-    let told = servers_served g.L.Source.state g.L.Source.opening g.T.Link.state g.T.Link.opening N.limit (length N.settings.sources) j crew.radios.items now.radios.items crew.pollers.items now.pollers.items crew.leap now.leap claims e.radios (search rules) e.pollers (search rules) e.leap all of.servers m.asked c.close.ensures.within in
+    let told = servers_served g.L.Source.state g.L.Source.opening g.T.Link.state g.T.Link.opening N.limit (length N.settings.sources) j crew.radios.items now.radios.items crew.pollers.items now.pollers.items crew.leap now.leap claims e.radios (sym now.radios.ok.0 ∙ e.counts.0 ∙ crew.radios.ok.0) e.pollers (sym now.pollers.ok.0 ∙ e.counts.1 ∙ crew.pollers.ok.0) e.leap all of.servers m.asked c.close.ensures.within in
     subst (λ n. ServersServed (seen g.T.Link.state g.T.Link.opening) of.servers (column_of (length of.radios) n j) c.args.kit.gear.servers.items left.gear.servers.items left.work.servers.items) (sym c.requires.limit.0)
     (subst (λ n. ServersServed (seen g.T.Link.state g.T.Link.opening) of.servers (column_of n N.limit j) c.args.kit.gear.servers.items left.gear.servers.items left.work.servers.items) first
     (subst (λ l. ServersServed (seen g.T.Link.state g.T.Link.opening) of.servers (column_of (length crew.radios.items) N.limit j) l left.gear.servers.items left.work.servers.items) m.servers
@@ -303,11 +278,11 @@ returns-clause-leap g c =
     let feeds = c.tell_responders.ensures.same ∙ f.feeds in
     let all = subst (All (λ (f : Known). IsTrueOf j (claim_of f.view))) feeds c.close.ensures.feeds in
     let start = of.top.start in
-    let one : vec_len c.args.kit.gear.logs ≡ length c.args.kit.gear.logs.items = search rules in
-    let two : vec_len c.args.kit.gear.servers ≡ length c.args.kit.gear.servers.items = search rules in
+    let one : vec_len c.args.kit.gear.logs ≡ length c.args.kit.gear.logs.items = c.args.kit.gear.logs.ok.0 in
+    let two : vec_len c.args.kit.gear.servers ≡ length c.args.kit.gear.servers.items = c.args.kit.gear.servers.ok.0 in
     let radios : length crew.radios.items ≡ length of.radios = sym (length-map crew.radios.items log_of) ∙ ap length m.logs ∙ sym one ∙ c.requires.gear.logs in
     let servers : length crew.pollers.items ≡ length of.servers = sym (length-map crew.pollers.items server_link) ∙ ap length m.servers ∙ sym two ∙ c.requires.gear.servers in
-    let told = leap_served g.L.Source.state g.L.Source.opening g.T.Link.state g.T.Link.opening N.limit (length N.settings.sources) j crew.radios.items now.radios.items crew.pollers.items now.pollers.items crew.leap now.leap claims e.radios (search rules) e.pollers (search rules) e.leap all start m.begins c.close.ensures.within in
+    let told = leap_served g.L.Source.state g.L.Source.opening g.T.Link.state g.T.Link.opening N.limit (length N.settings.sources) j crew.radios.items now.radios.items crew.pollers.items now.pollers.items crew.leap now.leap claims e.radios (sym now.radios.ok.0 ∙ e.counts.0 ∙ crew.radios.ok.0) e.pollers (sym now.pollers.ok.0 ∙ e.counts.1 ∙ crew.pollers.ok.0) e.leap all start m.begins c.close.ensures.within in
     let first : length crew.radios.items + length crew.pollers.items ≡ length of.radios + length of.servers = ap (λ n. n + length crew.pollers.items) radios ∙ ap (λ n. length of.radios + n) servers in
     subst (λ n. LeapServed (seen g.L.Source.state g.L.Source.opening) start (column_of (length of.radios + length of.servers) n j) c.args.kit.gear.leap left.gear.leap left.work.leap) (sym c.requires.limit.0)
     (subst (λ n. LeapServed (seen g.L.Source.state g.L.Source.opening) start (column_of n N.limit j) c.args.kit.gear.leap left.gear.leap left.work.leap) first
@@ -335,8 +310,8 @@ returns-clause-links g c =
     let ys = now.responders.items in
     let zs = c.tell_responders.new.told.items in
     let ws = c.run_second.new.jobs.items in
-    let same : length ys ≡ length xs = search rules in
-    let again : length ws ≡ length zs = search rules in
+    let same : length ys ≡ length xs = sym c.run_first.new.crew.responders.ok.0 ∙ c.run_first.ensures.counts.2 ∙ c.man_crew-crew.result.responders.ok.0 in
+    let again : length ws ≡ length zs = sym c.run_second.new.jobs.ok.0 ∙ c.run_second.ensures.count ∙ c.tell_responders.new.told.ok.0 in
     let seen_by = passes_of now.radios.items now.pollers.items now.leap in
     let told_to = subst (λ l. Pairs (WasTold l) ys zs) f.feeds (subst (λ v. Pairs (WasTold left.passes.feeds.items) v.items zs) c.leave_feeds-responders.ensures.responders c.tell_responders.ensures.told) in
     let served = served_twice g.T.Link.state g.T.Link.opening c.args.orders.budget seen_by xs ys zs ws e.responders same told_to c.run_second.ensures.served in
@@ -344,7 +319,7 @@ returns-clause-links g c =
     let readers = c.leave_responders.ensures.readers ∙ ap (λ l. l ++ map serve_pass ws) c.leave_feeds-responders.ensures.room.no_readers in
     let read = subst (All (λ (r : KnownReader). HasRead N.settings j r.view)) readers (subst (λ (s : SettingsFields). All (λ (r : KnownReader). HasRead s j r.view) c.leave_responders.new.readers.items) c.close.ensures.settings c.close.ensures.readers) in
     let new = subst (All (IsNewReader N.table)) (sym (c.man_crew-crew.ensures.readers ∙ c.in-Ok.ensures.passes.1)) c.requires.readers in
-    let bound : (x : KnownReader) → HasSeenAll seen_by x → length j ≤ x.view.seen = λ x seen. seen_all g.L.Source.state g.L.Source.opening g.T.Link.state g.T.Link.opening N.limit (length N.settings.sources) j crew.radios.items now.radios.items crew.pollers.items now.pollers.items crew.leap now.leap claims e.radios (search rules) e.pollers (search rules) e.leap all lawful x.view.seen seen in
+    let bound : (x : KnownReader) → HasSeenAll seen_by x → length j ≤ x.view.seen = λ x seen. seen_all g.L.Source.state g.L.Source.opening g.T.Link.state g.T.Link.opening N.limit (length N.settings.sources) j crew.radios.items now.radios.items crew.pollers.items now.pollers.items crew.leap now.leap claims e.radios (sym now.radios.ok.0 ∙ e.counts.0 ∙ crew.radios.ok.0) e.pollers (sym now.pollers.ok.0 ∙ e.counts.1 ∙ crew.pollers.ok.0) e.leap all lawful x.view.seen seen in
     let told = links_served g.T.Link.state g.T.Link.opening of.keys (gate_of of) N.settings j c.args.orders.budget N.table seen_by xs ws served count new m.unserved m.keyed m.gated read bound in
     let links = c.leave_responders.ensures.links ∙ ap (λ l. l ++ map link_of ws) c.leave_feeds-responders.ensures.room.no_links in
     let works = c.leave_responders.ensures.works ∙ ap (λ l. l ++ map (λ j. j.work) ws) c.leave_feeds-responders.ensures.room.no_works in

@@ -1,13 +1,15 @@
 -- What the search leaves open of `station::make_room`.
-use Rattle.std.proofs.Common.{rules}
+use Rattle.std.proofs.Common.{◌≤◌, sym, subst, le_refl}
 use Rattle.station_crew.proofs.station.make_room.Goals as goal
 
-pub returns-clause-room : goal.returns-clause-room
-returns-clause-room g c = record {
-  crew = c.in_ok-make_crew.ensures;
-  none_told = c.in_ok-with_capacity.ensures.items;
-  told = search rules;
-  left = c.in_ok-make_left.ensures;
-  gates = c.in_ok-open_gates.ensures.count;
-  alike = c.in_ok-open_gates.ensures.alike;
-}
+pub returns-in-Ok-Ok-Ok-Ok-clause-room : goal.returns-in-Ok-Ok-Ok-Ok-clause-room
+returns-in-Ok-Ok-Ok-Ok-clause-room g c =
+    let made = c.in-Ok-Ok-Ok-Ok in
+    record {
+      crew = made.ensures;
+      none_told = made.ensures'.items;
+      told = subst (λ n. c.args.counts.links ≤ n) (sym made.ensures'.exact) (le_refl c.args.counts.links);
+      left = made.ensures'';
+      gates = made.ensures'''.count;
+      alike = made.ensures'''.alike;
+    }

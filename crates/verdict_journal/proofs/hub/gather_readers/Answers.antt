@@ -1,6 +1,6 @@
-use Rattle.std.proofs.Common.{◌≡◌, length, List, [], ◌∷◌, rules, refl, sym, ap, ◌∙◌, subst}
+use Rattle.std.proofs.Common.{◌≡◌, List, sym, ◌∙◌, subst}
 use Rattle.std.specs.Prelude.{All}
-use Rattle.std.proofs.lemmas.List.Elements.{All-push, All-nil}
+use Rattle.std.proofs.lemmas.List.Elements.{All-push}
 use Rattle.verdict_journal.proofs.Downs.{all_front}
 use Rattle.journal_entry.specs.declared.entry.Entry.{Entry}
 use Rattle.system_fold.specs.Settings.{SettingsFields}

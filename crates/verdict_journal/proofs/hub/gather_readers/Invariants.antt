@@ -1,4 +1,4 @@
-use Rattle.std.proofs.Common.{◌≡◌, length}
+use Rattle.std.proofs.Common.{◌≡◌}
 use Rattle.std.specs.Prelude.{All}
 use Rattle.page_cell.specs.Passes.{KnownReader, key_of}
 use Rattle.verdict_journal.specs.Journals.{HasRead}

@@ -1,4 +1,4 @@
-use Rattle.std.proofs.Common.{◌≡◌, ◌<◌, ℕ, length, rules, sym, ap, ◌∙◌, subst, arith}
+use Rattle.std.proofs.Common.{◌<◌, length, rules, ap, ◌∙◌, arith}
 use Rattle.system_fold.proofs.StandingLaws.{feeds-length}
 use Rattle.system_fold.specs.declared.feed.Feed.{Feed}
 use Rattle.std.specs.Prelude.{List}

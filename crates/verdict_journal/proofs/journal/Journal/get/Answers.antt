@@ -1,5 +1,5 @@
 -- What the search leaves open of `Journal::get`.
-use Rattle.std.proofs.Common.{◌≡◌, sym, ap, ◌∙◌}
+use Rattle.std.proofs.Common.{sym, ap, ◌∙◌}
 use Rattle.std.specs.Prelude.{Option}
 use Rattle.std.specs.Option.{option_map}
 use Rattle.journal_entry.specs.declared.numbered.Numbered.{Numbered}

@@ -1,9 +1,7 @@
 -- What the search leaves open of `JournalState::push`.
-use Rattle.std.proofs.Common.{◌≡◌, ℕ, ◌+◌, ◌<◌, ◌≤◌, List, [], ◌∷◌, ◌++◌, length, rules, refl, sym, ap, ◌∙◌, subst, arith, length-append}
+use Rattle.std.proofs.Common.{◌≡◌, ℕ, ◌+◌, ◌<◌, List, [], ◌∷◌, ◌++◌, length, rules, sym, ap, ◌∙◌, subst, arith, length-append}
 use Rattle.std.specs.Prelude.{vec_capacity}
 use Rattle.journal_entry.specs.Lawful.{IsLawful}
-use Rattle.journal_entry.specs.declared.entry.Entry.{Entry}
-use Rattle.journal_entry.specs.declared.numbered.Numbered.{Numbered}
 use Rattle.page_cell.specs.Passes.{key_of}
 use Rattle.system_fold.proofs.StandingLaws.{feeds-length}
 use Rattle.system_fold.specs.KeptFold.{StandsForJournal}
