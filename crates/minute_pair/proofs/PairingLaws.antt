@@ -1,5 +1,6 @@
 -- The answers to segments, with one more segment, and by what a pairing keeps.
 use Rattle.std.proofs.Common.{◌≡◌, ℕ, ◌+◌, ◌-◌, Bool, ◌&&◌, ◌||◌, eqb, leb, cond, Option, Some, None, Ok, Err, Result, List, [], ◌∷◌, ◌++◌, refl, ap, sym, ◌∙◌, arith}
+use Rattle.std.specs.Prelude.{IfOk, IfErr}
 use Rattle.std.specs.List.{last_or}
 use Rattle.std.proofs.lemmas.Bool.Decides.{nat_tests}
 use Rattle.std.proofs.lemmas.List.{append-nil}
@@ -10,7 +11,7 @@ use Rattle.tick_units.specs.declared.verdicts.Coded.{Coded}
 use Rattle.tick_units.specs.declared.verdicts.Heard.{Heard}
 use Rattle.tick_units.specs.declared.verdicts.Kind.{Kind}
 use Rattle.tick_units.specs.declared.verdicts.Kind.TheVariants.{Verdict, Differs}
-use Rattle.minute_pair.specs.Answers.{judged, is_apart, apart_of, agreed_leap, kind_of_both, kind_of_valid, kind_behind, kind_alone, kind_after, answer_after, answers_after, answers_by}
+use Rattle.minute_pair.specs.Answers.{judged, judged_by, is_apart, apart_of, agreed_leap, kind_of_both, kind_of_valid, kind_behind, kind_alone, kind_after, answer_after, answers_after, answers_by}
 use Rattle.minute_pair.specs.Pairing.{before_by_judged, before_of, before_of_closed, both_by, valid_by, judged_kind, answer_by}
 use Rattle.frame_rules.proofs.AddingLaws.{last_push}
 use Rattle.minute_pair.specs.declared.answers.Before.TheVariants.{Nothing}
@@ -75,6 +76,12 @@ answers_closed code segments longer now closed kind grows close says leap e =
 
 pub answers_same : (code : Code) (segments longer : List Segment) → longer ≡ segments → answers_by code longer ≡ answers_by code segments ++ []
 answers_same code segments longer e = ap (answers_by code) e ∙ sym (append-nil (answers_by code segments))
+
+-- what a plan's judge says is what the segment comes to
+pub judged_is : (code : Code) (segment : Segment) (result : Result Coded Broken) →
+    IfOk result (λ c. (code.first segment.marks segment.close ≡ None) × (c ≡ code.coded segment.marks)) → IfErr result (λ broken. code.first segment.marks segment.close ≡ Some broken.rule) → result ≡ judged code segment
+judged_is code segment (Ok coded) ok err = ap Ok ok.1 ∙ sym (ap (λ o. judged_by o (code.coded segment.marks)) ok.0)
+judged_is code segment (Err broken) ok err = sym (ap (λ o. judged_by o (code.coded segment.marks)) err)
 
 -- what is kept of a segment that closed
 pub before_closed : (code : Code) (segments longer : List Segment) (now : Segment) (closed : Closed) → longer ≡ segments ++ now ∷ [] → closed.close ≡ now.close → closed.judged ≡ judged code now →

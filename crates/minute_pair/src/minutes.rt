@@ -1,11 +1,10 @@
 //! A plan's marks in, answers out: each closed segment and the one before it.
-ghost use Rattle.std.specs.Prelude.{◌≡◌, true, false, None, ◌++◌, ◌∷◌, [], List, IfOk, IfSome};
+ghost use Rattle.std.specs.Prelude.{◌≡◌, true, false, None, ◌++◌, ◌∷◌, [], List, IfSome};
 ghost use Rattle.std.specs.List.{last_or};
 ghost use Rattle.std.specs.Option.{option_to_list};
 ghost use Rattle.frame_rules.specs.Words.{HasMarks};
-ghost use Rattle.tick_units.specs.Years.{SaysYears};
 ghost use Rattle.tick_units.specs.declared.marks.Mark.{Mark};
-ghost use Rattle.minute_pair.specs.Answers.{answers_by, judged};
+ghost use Rattle.minute_pair.specs.Answers.{answers_by};
 ghost use Rattle.minute_pair.specs.Segments.{segments_by};
 ghost use Rattle.minute_pair.specs.Years.{BelievesYears};
 
@@ -55,22 +54,6 @@ impl<C: CodePlan> PairingOf<C> {
         true
     }
 
-    // The segment that the frame has read, which a mark at this moment closes.
-    fn closed(&self, at: Local) -> Closed
-        ensures close { result.close ≡ at }
-        ensures judged { (marks : List Mark) → HasMarks self.now.frame marks →
-            result.judged ≡ judged C.code (record { marks = marks; close = at }) }
-        ensures has_leap { (marks : List Mark) → HasMarks self.now.frame marks →
-            result.has_leap ≡ C.code.has_leap_second marks }
-        ensures years { IfOk result.judged SaysYears }
-    {
-        Closed {
-            close: at,
-            judged: self.frame.close(at),
-            has_leap: C::has_leap_second(&self.frame),
-        }
-    }
-
     // Begins a segment.
     fn begin(&mut self, mark: &Mark)
         ensures frame { HasMarks self.new.frame (mark.now ∷ []) }
@@ -98,7 +81,11 @@ impl<C: CodePlan> PairingOf<C> {
             self.begin(mark);
             return None;
         }
-        let closed = self.closed(mark.at);
+        let closed = Closed {
+            close: mark.at,
+            judged: C::judge(&self.frame, mark.at),
+            has_leap: C::has_leap_second(&self.frame),
+        };
         let kind = answer(&self.before, &closed);
         let before = before_by(&closed);
         self.begin(mark);
