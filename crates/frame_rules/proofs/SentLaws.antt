@@ -1,10 +1,14 @@
 -- What makes a log of a code plan readable: facts of how it is read and how it is sent. The crate of each plan proves them, once.
-use Rattle.std.proofs.Common.{◌≡◌, ℕ, ◌+◌, ◌*◌, ◌<◌, ◌≤◌, ◌==◌, ◌&&◌, Bool, true, false, not, None, Some, List, [], ◌∷◌, length, map}
+use Rattle.std.proofs.Common.{◌≡◌, ℕ, ◌+◌, ◌*◌, ◌<◌, ◌≤◌, ◌==◌, ◌&&◌, Bool, true, false, not, None, Some, List, [], ◌∷◌, length, map, refl}
 use Rattle.std.specs.Prelude.{◌⊎◌, if◌then◌else◌}
 use Rattle.std.specs.List.{list_all}
+use Rattle.std.proofs.lemmas.Bool.{and_parts}
+use Rattle.std.proofs.lemmas.List.{length-set}
 use Rattle.frame_rules.specs.Codes.{Code}
+use Rattle.frame_rules.specs.Digits.{bit_symbol}
 use Rattle.frame_rules.specs.Fields.{symbols_of}
 use Rattle.frame_rules.specs.Sendings.{Sending, spoilt_if}
+use Rattle.tick_units.specs.Marks.{is_between}
 use Rattle.tick_units.specs.declared.marks.Mark.{Mark}
 use Rattle.tick_units.specs.declared.marks.Reduction.{Reduction}
 use Rattle.tick_units.specs.declared.marks.Symbol.{Symbol}
@@ -13,10 +17,46 @@ use Rattle.tick_units.specs.declared.verdicts.Coded.{Coded}
 
 -- ---- what is written
 
+-- a test of every symbol
+abbrev pub every : (Symbol → Bool) → Bool
+every test = list_all test (Zero ∷ One ∷ OnlyB ∷ Both ∷ Long ∷ Odd ∷ [])
+
+pub every_one : (test : Symbol → Bool) → every test ≡ true → (symbol : Symbol) → test symbol ≡ true
+every_one test e = of_each
+  where
+    rest : (x : Symbol) (xs : List Symbol) → list_all test (x ∷ xs) ≡ true → (test x ≡ true) × (list_all test xs ≡ true)
+    rest x xs h = and_parts (test x) (list_all test xs) h
+
+    zero_on : (test Zero ≡ true) × (list_all test (One ∷ OnlyB ∷ Both ∷ Long ∷ Odd ∷ []) ≡ true)
+    zero_on = rest Zero (One ∷ OnlyB ∷ Both ∷ Long ∷ Odd ∷ []) e
+
+    one_on : (test One ≡ true) × (list_all test (OnlyB ∷ Both ∷ Long ∷ Odd ∷ []) ≡ true)
+    one_on = rest One (OnlyB ∷ Both ∷ Long ∷ Odd ∷ []) zero_on.1
+
+    b_on : (test OnlyB ≡ true) × (list_all test (Both ∷ Long ∷ Odd ∷ []) ≡ true)
+    b_on = rest OnlyB (Both ∷ Long ∷ Odd ∷ []) one_on.1
+
+    both_on : (test Both ≡ true) × (list_all test (Long ∷ Odd ∷ []) ≡ true)
+    both_on = rest Both (Long ∷ Odd ∷ []) b_on.1
+
+    long_on : (test Long ≡ true) × (list_all test (Odd ∷ []) ≡ true)
+    long_on = rest Long (Odd ∷ []) both_on.1
+
+    of_each : (symbol : Symbol) → test symbol ≡ true
+    of_each Zero = zero_on.0
+    of_each One = one_on.0
+    of_each OnlyB = b_on.0
+    of_each Both = both_on.0
+    of_each Long = long_on.0
+    of_each Odd = (rest Odd [] long_on.1).0
+
+-- a line of a log can have this width
+abbrev pub can_stand : ℕ → Bool
+can_stand width = is_between 1 2000000 width
+
 -- its widths can stand in a log, and its seconds have room in it
 pub record FitsLog (sending : Sending) : Type 0 where
-  pub some : (symbol : Symbol) → 1 ≤ sending.width symbol
-  pub most : (symbol : Symbol) → sending.width symbol ≤ 2000000
+  pub widths : every (λ symbol. can_stand (sending.width symbol)) ≡ true
   pub minute : (c : Coded) → length (sending.spelt c) ≤ 60
   pub opening : sending.opening_index + length sending.opening ≤ 2
   pub closing : length sending.closing ≤ 2
@@ -38,6 +78,14 @@ is_alone One = true
 is_alone Both = true
 is_alone Long = true
 is_alone Odd = true
+
+pub alone_bit : (bit : Bool) → is_alone (bit_symbol bit) ≡ true
+alone_bit true = refl
+alone_bit false = refl
+
+pub spoilt_count : (spoilt : Bool) (symbols : List Symbol) → length (spoilt_if spoilt symbols) ≡ length symbols
+spoilt_count true symbols = length-set symbols 30 Odd
+spoilt_count false symbols = refl
 
 -- how minutes follow one another
 pub record Shape : Type 0 where

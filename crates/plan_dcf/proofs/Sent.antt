@@ -3,7 +3,6 @@ use Rattle.std.proofs.Common.{◌≡◌, ℕ, ◌+◌, ◌*◌, ◌≤◌, ◌==
 use Rattle.std.specs.Prelude.{nat_le, slice_index_or, if◌then◌else◌}
 use Rattle.std.specs.List.{list_all}
 use Rattle.std.proofs.lemmas.Bool.{le-leb, lt-leb}
-use Rattle.std.proofs.lemmas.List.{length-set}
 use Rattle.civil_minute.specs.Dates.{weekday_of}
 use Rattle.civil_minute.specs.Seconds.{civil_of}
 use Rattle.civil_minute.specs.declared.seconds.CivilMinute.{CivilMinute}
@@ -11,35 +10,19 @@ use Rattle.civil_frame.specs.Seconds.{local_second}
 use Rattle.frame_rules.specs.Digits.{bit_symbol}
 use Rattle.frame_rules.specs.Fields.{is_one, symbols_of}
 use Rattle.frame_rules.specs.Sendings.{spoilt_if}
-use Rattle.frame_rules.proofs.SentLaws.{FitsLog, ReadsBack, Shape, IsMinute, is_alone, is_calm, read_of}
+use Rattle.frame_rules.proofs.SentLaws.{FitsLog, ReadsBack, Shape, IsMinute, alone_bit, is_alone, is_calm, read_of, spoilt_count}
 use Rattle.tick_units.specs.Marks.{is_between}
 use Rattle.tick_units.specs.declared.marks.Mark.{Mark}
 use Rattle.tick_units.specs.declared.marks.Symbol.{Symbol}
-use Rattle.tick_units.specs.declared.marks.Symbol.TheVariants.{Zero, One, OnlyB, Both, Long, Odd}
+use Rattle.tick_units.specs.declared.marks.Symbol.TheVariants.{Zero}
 use Rattle.tick_units.specs.declared.verdicts.Coded.{Coded}
 use Rattle.plan_dcf.specs.Code.{dcf_code}
 use Rattle.plan_dcf.specs.Fields.{announces_leap, coded, hours_ahead}
-use Rattle.plan_dcf.specs.Sending.{dcf_sending, width_of}
+use Rattle.plan_dcf.specs.Sending.{dcf_sending}
 use Rattle.plan_dcf.specs.Spelling.{frame_of, spelt}
 use Rattle.plan_dcf.proofs.ReadBack.{length-frame_of}
 
 -- ---- what is written
-
-width_some : (symbol : Symbol) → 1 ≤ width_of symbol
-width_some Zero = omega arith
-width_some One = omega arith
-width_some OnlyB = omega arith
-width_some Both = omega arith
-width_some Long = omega arith
-width_some Odd = omega arith
-
-width_most : (symbol : Symbol) → width_of symbol ≤ 2000000
-width_most Zero = omega arith
-width_most One = omega arith
-width_most OnlyB = omega arith
-width_most Both = omega arith
-width_most Long = omega arith
-width_most Odd = omega arith
 
 one_or_none : (b : Bool) → (if b then 1 else 0) ≤ 1
 one_or_none true = omega arith
@@ -50,7 +33,7 @@ unfolding spelt
 spelt_short c = omega (arith, length-frame_of c (civil_of (local_second hours_ahead c)) (weekday_of (local_second hours_ahead c)), one_or_none (c.leap_at == c.minute))
 
 pub fits : FitsLog dcf_sending
-fits = record { some = width_some; most = width_most; minute = spelt_short; opening = omega arith; closing = omega arith }
+fits = record { widths = refl; minute = spelt_short; opening = omega arith; closing = omega arith }
 
 -- ---- what is read of it
 
@@ -70,10 +53,6 @@ in_time at next from until =
     let late : nat_le next (at + 2100000) ≡ true = le-leb next (at + 2100000) (omega (arith, until)) in
     rw (early, late) refl
 
-alone_bit : (bit : Bool) → is_alone (bit_symbol bit) ≡ true
-alone_bit true = refl
-alone_bit false = refl
-
 alone_last : (b : Bool) → list_all is_alone (if b then Zero ∷ [] else []) ≡ true
 alone_last true = refl
 alone_last false = refl
@@ -91,10 +70,6 @@ frame_begins false c civil weekday = (_, refl)
 frame_calm : (before : Symbol) (more : List Symbol) → is_calm shape before more ≡ true
 frame_calm before [] = refl
 frame_calm before (symbol ∷ more) = frame_calm symbol more
-
-spoilt_count : (spoilt : Bool) (symbols : List Symbol) → length (spoilt_if spoilt symbols) ≡ length symbols
-spoilt_count true symbols = length-set symbols 30 Odd
-spoilt_count false symbols = refl
 
 frame_minute : (spoilt : Bool) (c : Coded) (civil : CivilMinute) (weekday : ℕ) → (c.leap_at == c.minute) ≡ false → IsMinute shape (spoilt_if spoilt (frame_of c civil weekday))
 frame_minute spoilt c civil weekday e =

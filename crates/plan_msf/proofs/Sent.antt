@@ -8,44 +8,28 @@ use Rattle.civil_minute.specs.declared.seconds.CivilMinute.{CivilMinute}
 use Rattle.civil_frame.specs.Seconds.{local_second}
 use Rattle.frame_rules.specs.Digits.{bit_symbol}
 use Rattle.frame_rules.specs.Sendings.{spoilt_if}
-use Rattle.frame_rules.proofs.SentLaws.{FitsLog, ReadsBack, Shape, IsMinute, is_alone, read_of}
+use Rattle.frame_rules.proofs.SentLaws.{FitsLog, ReadsBack, Shape, IsMinute, alone_bit, is_alone, read_of}
 use Rattle.tick_units.specs.Marks.{is_long}
 use Rattle.tick_units.specs.declared.marks.Mark.{Mark}
 use Rattle.tick_units.specs.declared.marks.Reduction.{Reduction}
 use Rattle.tick_units.specs.declared.marks.Symbol.{Symbol}
-use Rattle.tick_units.specs.declared.marks.Symbol.TheVariants.{Zero, One, OnlyB, Both, Long, Odd}
+use Rattle.tick_units.specs.declared.marks.Symbol.TheVariants.{Zero, Long}
 use Rattle.tick_units.specs.declared.verdicts.Coded.{Coded}
 use Rattle.plan_msf.specs.Code.{msf_code}
 use Rattle.plan_msf.specs.Fields.{coded, hours_ahead}
 use Rattle.plan_msf.specs.Marks.{are_parts, is_short}
-use Rattle.plan_msf.specs.Sending.{msf_sending, width_of}
+use Rattle.plan_msf.specs.Sending.{msf_sending}
 use Rattle.plan_msf.specs.Spelling.{frame_of, spelt, with_b}
 use Rattle.plan_msf.proofs.ReadBack.{length-frame_of}
 
 -- ---- what is written
-
-width_some : (symbol : Symbol) → 1 ≤ width_of symbol
-width_some Zero = omega arith
-width_some One = omega arith
-width_some OnlyB = omega arith
-width_some Both = omega arith
-width_some Long = omega arith
-width_some Odd = omega arith
-
-width_most : (symbol : Symbol) → width_of symbol ≤ 2000000
-width_most Zero = omega arith
-width_most One = omega arith
-width_most OnlyB = omega arith
-width_most Both = omega arith
-width_most Long = omega arith
-width_most Odd = omega arith
 
 spelt_short : (c : Coded) → length (spelt c) ≤ 60
 unfolding spelt
 spelt_short c = omega (arith, length-frame_of c.summer (civil_of (local_second hours_ahead c)) (weekday_of (local_second hours_ahead c) % 7))
 
 pub fits : FitsLog msf_sending
-fits = record { some = width_some; most = width_most; minute = spelt_short; opening = omega arith; closing = omega arith }
+fits = record { widths = refl; minute = spelt_short; opening = omega arith; closing = omega arith }
 
 -- ---- what is read of it
 
@@ -73,10 +57,6 @@ read_bit false = refl
 read_with_b : (bit : Bool) → begins (with_b bit) ≡ false
 read_with_b true = refl
 read_with_b false = refl
-
-alone_bit : (bit : Bool) → is_alone (bit_symbol bit) ≡ true
-alone_bit true = refl
-alone_bit false = refl
 
 alone_with_b : (bit : Bool) → is_alone (with_b bit) ≡ true
 alone_with_b true = refl

@@ -6,42 +6,26 @@ use Rattle.civil_minute.specs.declared.seconds.CivilMinute.{CivilMinute}
 use Rattle.frame_rules.specs.Digits.{bit_symbol}
 use Rattle.frame_rules.specs.Fields.{is_one, symbols_of}
 use Rattle.frame_rules.specs.Sendings.{spoilt_if}
-use Rattle.frame_rules.proofs.SentLaws.{FitsLog, ReadsBack, Shape, IsMinute, is_alone, read_of}
+use Rattle.frame_rules.proofs.SentLaws.{FitsLog, ReadsBack, Shape, IsMinute, alone_bit, read_of}
 use Rattle.tick_units.specs.Marks.{is_long}
 use Rattle.tick_units.specs.declared.marks.Mark.{Mark}
 use Rattle.tick_units.specs.declared.marks.Symbol.{Symbol}
-use Rattle.tick_units.specs.declared.marks.Symbol.TheVariants.{Zero, One, OnlyB, Both, Long, Odd}
+use Rattle.tick_units.specs.declared.marks.Symbol.TheVariants.{Zero, Long}
 use Rattle.tick_units.specs.declared.verdicts.Coded.{Coded}
 use Rattle.plan_wwvb.specs.Code.{wwvb_code}
 use Rattle.plan_wwvb.specs.Fields.{announces_leap, coded}
-use Rattle.plan_wwvb.specs.Sending.{wwvb_sending, width_of}
+use Rattle.plan_wwvb.specs.Sending.{wwvb_sending}
 use Rattle.plan_wwvb.specs.Spelling.{frame_of, sent_second, spelt}
 use Rattle.plan_wwvb.proofs.ReadBack.{length-frame_of}
 
 -- ---- what is written
-
-width_some : (symbol : Symbol) → 1 ≤ width_of symbol
-width_some Zero = omega arith
-width_some One = omega arith
-width_some OnlyB = omega arith
-width_some Both = omega arith
-width_some Long = omega arith
-width_some Odd = omega arith
-
-width_most : (symbol : Symbol) → width_of symbol ≤ 2000000
-width_most Zero = omega arith
-width_most One = omega arith
-width_most OnlyB = omega arith
-width_most Both = omega arith
-width_most Long = omega arith
-width_most Odd = omega arith
 
 spelt_short : (c : Coded) → length (spelt c) ≤ 60
 unfolding spelt
 spelt_short c = omega (arith, length-frame_of (not (c.leap_at == 0)) (civil_of (sent_second c)) (day_of_year_of (sent_second c)))
 
 pub fits : FitsLog wwvb_sending
-fits = record { some = width_some; most = width_most; minute = spelt_short; opening = omega arith; closing = omega arith }
+fits = record { widths = refl; minute = spelt_short; opening = omega arith; closing = omega arith }
 
 -- ---- what is read of it
 
@@ -57,10 +41,6 @@ both a b e f = rw (e, f) refl
 read_bit : (bit : Bool) → is_marker (bit_symbol bit) ≡ false
 read_bit true = refl
 read_bit false = refl
-
-alone_bit : (bit : Bool) → is_alone (bit_symbol bit) ≡ true
-alone_bit true = refl
-alone_bit false = refl
 
 frame_minute : (spoilt leap : Bool) (civil : CivilMinute) (day : ℕ) → IsMinute shape (spoilt_if spoilt (frame_of leap civil day))
 unfolding frame_of

@@ -1,12 +1,14 @@
 -- The starts of a made log rise.
-use Rattle.std.proofs.Common.{◌≡◌, ℕ, zero, suc, ◌+◌, ◌*◌, ◌^◌, ◌<◌, ◌≤◌, Bool, true, false, List, [], ◌∷◌, ◌++◌, length, refl, sym, subst, arith, append_assoc}
+use Rattle.std.proofs.Common.{◌≡◌, ℕ, zero, suc, ◌+◌, ◌*◌, ◌^◌, ◌<◌, ◌≤◌, List, [], ◌∷◌, ◌++◌, length, sym, subst, arith, append_assoc}
 use Rattle.std.specs.List.{flat_map, range_with_len}
-use Rattle.std.proofs.lemmas.List.{length-set, append-nil}
+use Rattle.std.specs.Prelude.{nat_le}
+use Rattle.std.proofs.lemmas.Bool.{and_parts, leb-true}
+use Rattle.std.proofs.lemmas.List.{append-nil}
 use Rattle.tick_units.specs.declared.marks.Plan.{Plan}
 use Rattle.tick_units.specs.declared.marks.Reduction.{Reduction}
 use Rattle.tick_units.specs.declared.marks.Symbol.{Symbol}
 use Rattle.tick_units.specs.declared.marks.Symbol.TheVariants.{Zero, One, OnlyB, Both, Long, Odd}
-use Rattle.frame_rules.specs.Sendings.{spoilt_if}
+use Rattle.frame_rules.proofs.SentLaws.{can_stand, every_one, spoilt_count}
 use Rattle.code_plans.proofs.Sent.{fits}
 use Rattle.pulse_maker.specs.Made.{width_of, start_of, parts_of, number_from, reductions_from, made, seeded, text_of, IsReadAs}
 use Rattle.pulse_maker.specs.Minutes.{spelt_by, symbols_of, is_spoilt, coded_of, seconds_from, opening_index, opening_symbols, closing_symbols, index_of, seconds_of}
@@ -23,7 +25,9 @@ record Fits (width : ℕ) : Type 0 where
   most : width ≤ 2000000
 
 width_fits : (plan : Plan) (symbol : Symbol) → Fits (width_of plan symbol)
-width_fits plan symbol = record { some = (fits plan).some symbol; most = (fits plan).most symbol }
+width_fits plan symbol =
+    let parts = and_parts (nat_le 1 (width_of plan symbol)) (nat_le (width_of plan symbol) 2000000) (every_one (λ s. can_stand (width_of plan s)) (fits plan).widths symbol) in
+    record { some = leb-true 1 (width_of plan symbol) parts.0; most = leb-true (width_of plan symbol) 2000000 parts.1 }
 
 -- one reduction before others
 one_rises : (least at width next : ℕ) (more : List Reduction) → least ≤ at → at < 2 ^ 50 → at + 1 ≤ next → Fits width → Rises next more → Rises least (record { at = at; width = width } ∷ more)
@@ -62,10 +66,6 @@ seconds_in_order index [] least next more le on small h = order_lower next least
 seconds_in_order index (symbol ∷ rest) least next more le on small h =
     (le, omega (arith, on, small), seconds_in_order (index + 1) rest (index + 1) next more (omega arith) (omega (arith, on)) small h)
 
-spoilt_length : (b : Bool) (symbols : List Symbol) → length (spoilt_if b symbols) ≡ length symbols
-spoilt_length true symbols = length-set symbols 30 Odd
-spoilt_length false symbols = refl
-
 minutes_in_order : (plan : Plan) (first seed m k n least : ℕ) (more : List Second) → n ≡ m + k → n ≤ 1440 → least ≤ index_of m → InOrder (index_of n) more
     → InOrder least (flat_map (minute_seconds plan first seed) (range_with_len m k) ++ more)
 minutes_in_order plan first seed m zero n least more e few le h = order_lower (index_of n) least more (omega (arith, e, le)) h
@@ -73,7 +73,7 @@ minutes_in_order plan first seed m (suc k) n least more e few le h =
     let one = minute_seconds plan first seed in
     let rest = flat_map one (range_with_len (m + 1) k) in
     let symbols = symbols_of plan first seed m in
-    let short : length symbols ≤ 60 = omega (arith, spoilt_length (is_spoilt seed m) (spelt_by plan (coded_of first m)), (fits plan).minute (coded_of first m)) in
+    let short : length symbols ≤ 60 = omega (arith, spoilt_count (is_spoilt seed m) (spelt_by plan (coded_of first m)), (fits plan).minute (coded_of first m)) in
     subst (λ (l : List Second). InOrder least l) (sym (append_assoc (one m) rest more))
     (seconds_in_order (index_of m) symbols least (index_of (m + 1)) (rest ++ more) le (omega (arith, short)) (omega (arith, e, few))
     (minutes_in_order plan first seed (m + 1) k n (index_of (m + 1)) more (omega (arith, e)) few (omega arith) h))
