@@ -10,11 +10,12 @@ minutes=${1:-3000}
 runs=${2:-9}
 commit=${3:-b43d563}
 . "$(dirname "$0")/small_program.sh"
-crates="tick_units feed_link file_reader sink_text pulse_log second_marks civil_minute frame_rules civil_frame plan_dcf plan_msf
-    plan_wwvb minute_pair journal_entry radio_receiver log_decoder"
+# The list of code plans is a crate of its own since code plans are types.
+below="tick_units feed_link file_reader sink_text pulse_log civil_minute frame_rules civil_frame plan_dcf plan_msf plan_wwvb"
+above="second_marks minute_pair journal_entry radio_receiver log_decoder"
 . "$top/bench/decode_program.sh"
 for tree in before after; do
-    if [ "$tree" = before ]; then bring_of "$commit" "$work/before" $crates; else bring "$work/after" $crates; fi
+    if [ "$tree" = before ]; then bring_of "$commit" "$work/before" $below $above; else bring "$work/after" $below code_plans $above; fi
     echo "decode_loop: tick_units feed_link file_reader sink_text pulse_log journal_entry radio_receiver log_decoder" >> "$work/$tree/crates.txt"
     cp -r "$work/loop" "$work/$tree/crates/decode_loop"
     if [ "$tree" = before ]; then
