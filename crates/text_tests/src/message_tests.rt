@@ -69,51 +69,6 @@ fn arguments_that_ask_for_nothing_are_told(rt: HostRuntime) -> Result<(), Fail> 
     look_at_all(&rt, rt.alloc(), ARGUMENTS)
 }
 
-// A value is empty, or begins with a dash, also where `=` stands before it.
-const AFTER_EQUALS: &str = "decode --plan dcf --log=|status 1 usage|--log has no value
-drill --seed=-1|status 1 usage|--seed has no value";
-
-#[test]
-fn a_value_after_an_equals_sign_may_be_none(rt: HostRuntime) -> Result<(), Fail> {
-    look_at_all(&rt, rt.alloc(), AFTER_EQUALS)
-}
-
-// The bounds of docs/STANDARD_ERROR.md: each number past them, and each at them, after which another fault is named.
-const BOUNDS: &str =
-    "drill --seed 4294967296|status 1 usage|--seed wants a whole number from 0 to 4294967295
-drill --seed 7 --limit 4194305|status 1 usage|--limit wants a whole number from 1 to 4194304
-serve --station a --after 1000001|status 1 usage|--after wants a whole number from 0 to 1000000
-serve --during 1000000 --after 0 --limit 1|status 1 usage|serve needs --station
-drill --limit 4194304|status 1 usage|drill needs --seed
-drill --seed 4294967295 --limit 0|status 1 usage|--limit wants";
-
-#[test]
-fn a_number_of_an_option_has_its_bounds(rt: HostRuntime) -> Result<(), Fail> {
-    look_at_all(&rt, rt.alloc(), BOUNDS)
-}
-
-// The options of each command, by docs/radio_ntpd.8.
-const OWN_OPTIONS: &str = "replay --limit 5|status 1 usage|replay needs --station
-replay --station a --limit 5|status 1 usage|replay needs --script
-serve --during 1 --after 1 --limit 5|status 1 usage|serve needs --station
-drill --limit 5|status 1 usage|drill needs --seed
-migrate --station a --journal b --limit 5|status 1 usage|migrate has no option --limit
-decode --plan dcf --log a --limit 5|status 1 usage|decode has no option --limit
-replay --station a --script b --during 5|status 1 usage|replay has no option --during";
-
-#[test]
-fn each_command_has_its_own_options(rt: HostRuntime) -> Result<(), Fail> {
-    look_at_all(&rt, rt.alloc(), OWN_OPTIONS)
-}
-
-const ONE_DASH: &str = "serve -station a|status 1 usage|unknown option -station
-decode -p dcf|status 1 usage|unknown option -p";
-
-#[test]
-fn a_word_after_one_dash_is_an_unknown_option(rt: HostRuntime) -> Result<(), Fail> {
-    look_at_all(&rt, rt.alloc(), ONE_DASH)
-}
-
 const STATUSES: &str =
     "decode --log a.log|status 2 open feed 0|cannot open feed 0 (a.log): there is no such file
 serve --station b.toml|status 3 station toml|the station file (b.toml): it is not TOML, or not UTF-8
@@ -305,42 +260,6 @@ fn a_log_without_minute_has_a_hint(rt: HostRuntime) -> Result<(), Fail> {
         let hint = no_minute_text(rt.alloc(), plan, log.as_str().as_bytes());
         assert!(rt; hint.contains(text), "{row}: {hint}");
     }
-    Ok(())
-}
-
-// The hint of a log asked to be one of DCF77: so many marks of a width in milliseconds, then of the next.
-fn hint_of(alloc: Global, parts: &[(usize, u64)]) -> Result<&'static str, Fail> {
-    let mut log = String::new(alloc);
-    for (count, width) in parts {
-        for _ in 0..*count {
-            log.push_str(format!(in alloc; "0 {width}000\n")?.as_str())?;
-        }
-    }
-    Ok(no_minute_text(alloc, "dcf", log.as_str().as_bytes()))
-}
-
-// The rows of docs/STANDARD_ERROR.md.
-#[test]
-fn a_width_may_be_50_ms_off(rt: HostRuntime) -> Result<(), Fail> {
-    assert!(rt; hint_of(rt.alloc(), &[(120, 250)])?.contains("look like those of this plan"));
-    assert!(rt; hint_of(rt.alloc(), &[(120, 251)])?.contains("those of no plan"));
-    Ok(())
-}
-
-#[test]
-fn one_of_a_hundred_has_the_longest_width(rt: HostRuntime) -> Result<(), Fail> {
-    assert!(rt;
-        hint_of(rt.alloc(), &[(99, 100), (1, 500)])?.contains("look like those of --plan msf")
-    );
-    assert!(rt; hint_of(rt.alloc(), &[(149, 100), (1, 500)])?.contains("those of no plan"));
-    Ok(())
-}
-
-// Of 255 too few have the longest width, and of 257 fewer than nine of ten are marks of MSF.
-#[test]
-fn a_hint_is_of_256_reductions(rt: HostRuntime) -> Result<(), Fail> {
-    let parts = [(228, 100), (25, 900), (3, 500), (100, 900)];
-    assert!(rt; hint_of(rt.alloc(), &parts)?.contains("look like those of --plan msf"));
     Ok(())
 }
 
