@@ -90,6 +90,17 @@ usage 'radio_ntpd: --seed wants a whole number from 0 to 4294967295' drill --see
 usage 'radio_ntpd: --limit wants a whole number from 1 to 4194304' drill --seed 7 --limit 0
 usage 'radio_ntpd: --during wants a whole number from 0 to 1000000' serve --station a --during 1000001
 usage 'radio_ntpd: --after wants a whole number from 0 to 1000000' serve --station a --after +1
+# A value after `=` is one like any other; each number has its bounds and each command its options (docs/STANDARD_ERROR.md, docs/radio_ntpd.8).
+usage 'radio_ntpd: --log has no value' decode --plan dcf --log=
+usage 'radio_ntpd: --seed has no value' drill --seed=-1
+usage 'radio_ntpd: --seed wants a whole number from 0 to 4294967295' drill --seed 4294967296
+usage 'radio_ntpd: --limit wants a whole number from 1 to 4194304' drill --seed 4294967295 --limit 4194305
+usage 'radio_ntpd: --after wants a whole number from 0 to 1000000' serve --station a --after 1000001
+usage 'radio_ntpd: serve needs --station' serve --during 1000000 --after 0 --limit 1
+usage 'radio_ntpd: drill needs --seed' drill --limit 4194304
+usage 'radio_ntpd: replay needs --script' replay --station a --limit 5
+usage 'radio_ntpd: migrate has no option --limit' migrate --station a --journal b --limit 5
+usage 'radio_ntpd: unknown option -station' serve -station a
 usage 'radio_ntpd: an argument is not UTF-8' decode --plan dcf --log "$(printf 'no\377utf8')"
 
 # Openings.
@@ -274,6 +285,20 @@ says 0 'status 0' 'radio_ntpd: the log gave no minute: its marks look like those
 hint dcf 'its widths are those of no plan; it is noise, or high where it should be low' 120 900000 900000 800000
 says 0 'status 0' 'radio_ntpd: the log gave no minute: it has no marks of this plan, or its widths are not in microseconds' \
     decode --plan dcf --log /dev/null
+
+# The borders of docs/STANDARD_ERROR.md: 50 ms, one of a hundred, and nine of ten of the first 256 reductions. Each COUNTxWIDTH is so many
+# marks of a width in milliseconds. Of 255 in the last row too few are of 500 ms, and of 257 too few are marks of MSF.
+borders() {
+    text=$1
+    shift
+    echo "$*" | tr ' x' '\n ' | awk '{ for (i = 0; i < $1; i++) print ++mark * 1000000, $2 * 1000 }' > "$work/log"
+    says 0 'status 0' "radio_ntpd: the log gave no minute: $text" decode --plan dcf --log "$work/log"
+}
+borders 'its marks look like those of this plan' 120x250
+borders 'its widths are those of no plan' 120x251
+borders 'its marks look like those of --plan msf' 99x100 1x500
+borders 'its widths are those of no plan' 149x100 1x500
+borders 'its marks look like those of --plan msf' 228x100 25x900 3x500 100x900
 
 # A closed standard error changes nothing, nor does one that takes nothing.
 for to in '&-' /dev/full; do

@@ -84,6 +84,14 @@ sed 's/^j2 [0-9]* -\{0,1\}[0-9]* //' "$work/journal" | python3 -B bench/page_mod
 wrote "$(cat "$work/model")"
 checked=$((checked + 2))
 
+# Four radios of one plan, the most that a station may have.
+for feed in 0 1 2 3; do radio dcf examples/radios/dcf77.log; done > "$work/station"
+ends 0 'status 0' --station "$work/station"
+for feed in 0 1 2 3; do
+    checked=$((checked + 1))
+    [ "$(entries $feed | grep -c ' verdict ')" = 9 ] || wrong "radio $feed of four of a plan hasn't nine verdicts"
+done
+
 # A journal that is full.
 ends 6 'status 6 full 3' --station "$work/station" --during 0 --limit 3
 wrote 'page 3 0 0 494e4954 .*'

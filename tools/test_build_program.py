@@ -142,6 +142,14 @@ class Builds(unittest.TestCase):
         with mock.patch("os.access", return_value=False):
             self.assertFalse(build_lanes.shares_libraries(rt))
 
+    def test_as_many_lanes_as_the_memory_holds(self):
+        """proc(5): /proc/meminfo has units of 1024 bytes. Here 12 GiB are free, which two lanes of 5 GB fit into."""
+        said = "MemTotal:       16777216 kB\nMemFree:          262144 kB\nMemAvailable:   12582912 kB\n"
+        with mock.patch("pathlib.Path.read_text", return_value=said):
+            self.assertEqual(build_lanes.free_bytes(), 12 * 2**30)
+        with mock.patch("build_lanes.free_bytes", return_value=12 * 2**30):
+            self.assertEqual(len(build_lanes.make_lanes(self.room / "top", self.room / "lanes", 4, True)), 2)
+
     def test_a_user_without_a_folder_for_lanes_is_told_what_to_set(self):
         (self.room / "taken").write_text("")
         done = self.run_build(XDG_CACHE_HOME=str(self.room / "taken"))

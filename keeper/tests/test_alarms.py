@@ -134,6 +134,15 @@ class Commands(Quiet):
         self.turn_until(alarms, lambda: self.lines())
         self.assertEqual(self.lines(), [f"radio-unheard/a; b & $(c)/100/0/4/0/DCF/{self.folder}/state.json"])
 
+    def test_what_it_gets_of_the_first_link(self):
+        alarms = self.alarms(f'echo "$RADIO_LEAP/$RADIO_STRATUM/$RADIO_REFERENCE/$RADIO_ROOT_DISPERSION/$RADIO_STATION" >> {self.out}')
+        state = station(station="/etc/radio_ntpd/station.toml")
+        link = state.links[0]
+        link.leap, link.stratum, link.reference_id, link.root_dispersion = 1, 2, "127.45.66.1", 0.0054
+        alarms.raise_alarm(state, "time-gained", "a", 1.0)
+        self.turn_until(alarms, lambda: self.lines())
+        self.assertEqual(self.lines(), ["1/2/127.45.66.1/0.005400//etc/radio_ntpd/station.toml"])
+
     def test_one_at_a_time_in_order(self):
         alarms = self.alarms(f'echo "begin $RADIO_TEXT" >> {self.out}; sleep 0.1; echo "end $RADIO_TEXT" >> {self.out}')
         for text in "abc":

@@ -1,5 +1,6 @@
 """Asking: packets, the reading of a counter, the watch of links, and how a run's hearings are used up."""
 
+import contextlib
 import dataclasses
 import os
 import socket
@@ -12,7 +13,7 @@ import unittest
 
 from keeper import ntp, sockets
 from keeper.counter import Counter, Exchange, reading_of, will_do
-from keeper.drain import Drain
+from keeper.drain import Drain, PollDrain
 from keeper.hearings import LEAST, MOST, Hearings
 from keeper.loop import Loop
 from keeper.watch import Watch
@@ -156,6 +157,18 @@ class Drains(unittest.TestCase):
             self.assertEqual(link.heard, link.hearings)
             self.assertGreaterEqual(sent, link.hearings)
             self.assertLess(sent, link.hearings + 2500)
+
+    def test_pollers_get_datagrams_and_links_none(self):
+        with contextlib.ExitStack() as open_ones:
+            link, poller = (open_ones.enter_context(socket.socket(socket.AF_INET, socket.SOCK_DGRAM)) for _ in range(2))
+            for one in (link, poller):
+                one.bind(("127.0.0.1", 0))
+            polls = PollDrain(os.getpid(), [link.getsockname()[1]])
+            self.addCleanup(polls.close)
+            self.assertFalse(polls.step(time.monotonic()))
+            waiting = {one.port: one.waiting for one in sockets.of_process(os.getpid())}
+            self.assertEqual(waiting[link.getsockname()[1]], 0)
+            self.assertGreater(waiting[poller.getsockname()[1]], 0)
 
     def test_clients_are_answered_meanwhile(self):
         link = Link(self, 20_000)

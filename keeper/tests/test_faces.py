@@ -116,6 +116,13 @@ class Metrics(unittest.TestCase):
         ):
             self.assertIn(due + "\n", said)
 
+    def test_an_offset_and_a_delay_are_two(self):
+        state = a_good_station()
+        state.servers[0].offset, state.servers[0].delay = -0.002, 0.03
+        said = metrics.render(state, NOW).splitlines()
+        for due in ('offset_seconds{server="192.0.2.17:123"} -0.002', 'delay_seconds{server="192.0.2.17:123"} 0.03'):
+            self.assertIn("radio_ntpd_server_" + due, said)
+
     def test_labels_are_escaped(self):
         state = a_good_station()
         state.radios[0].plan = 'a"b\\c\nd'

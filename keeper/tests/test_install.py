@@ -3,9 +3,11 @@
 import contextlib
 import io
 import os
+import shutil
 import subprocess
 import tempfile
 import unittest
+from unittest import mock
 
 from keeper import install
 from keeper.words import Fault
@@ -83,6 +85,33 @@ class Install(unittest.TestCase):
         self.install("--do")
         self.put(self.program, "#!/bin/sh\n", 0o755)
         self.assertEqual(len(self.install("--do")[:-1]), 1)
+
+    def test_the_unit_lets_its_user_have_port_123(self):
+        """systemd.exec(5): a user's process has the capabilities that are ambient, out of those of its bounding set."""
+        self.install("--do")
+        with open(os.path.join(self.root, "etc/systemd/system/radio_ntpd.service"), encoding="utf-8") as file:
+            lines = file.read().splitlines()
+        for due in ("User=radio_ntpd", "AmbientCapabilities=CAP_NET_BIND_SERVICE", "CapabilityBoundingSet=CAP_NET_BIND_SERVICE"):
+            self.assertIn(due, lines)
+
+    def test_the_user_gets_into_the_groups_of_gpio_lines_and_serial_ports(self):
+        """Those of Debian and Raspberry Pi OS."""
+        there = [mock.Mock(gr_name=name, gr_mem=[]) for name in ("root", "dialout", "gpio", "audio")]
+        with mock.patch("keeper.steps.grp.getgrall", lambda: there):
+            said = [step.text for step in install.host_steps(install.Places(self.root, "/usr"))]
+        self.assertEqual({line.split()[5].rstrip(",") for line in said if "into the group" in line}, {"dialout", "gpio"})
+
+    @unittest.skipUnless(shutil.which("dpkg-deb"), "no dpkg-deb")
+    def test_settings_of_a_package_are_kept_by_an_upgrade(self):
+        """Debian's policy, 10.7: each file below /etc is a conffile."""
+        folder = os.path.dirname(self.root)
+        about = {**os.environ, "RADIO_NTPD": self.program}
+        name = subprocess.run([install.TOP / "packaging/build_deb.sh", folder], capture_output=True, check=True, text=True, env=about).stdout.strip()
+        packed = subprocess.run(["dpkg-deb", "--contents", name], capture_output=True, check=True, text=True).stdout.splitlines()
+        settings = {line.split()[5][1:] for line in packed if "./etc/" in line and line.startswith("-")}
+        conffiles = subprocess.run(["dpkg-deb", "--info", name, "conffiles"], capture_output=True, check=True, text=True).stdout
+        self.assertEqual(len(settings), 2)
+        self.assertEqual(set(conffiles.split()), settings)
 
     def test_a_program_that_is_not_built(self):
         os.unlink(self.program)

@@ -3,6 +3,7 @@
 import os
 import socket
 import tempfile
+import time
 import unittest
 
 from keeper.notify import Notify
@@ -35,6 +36,13 @@ class Told(unittest.TestCase):
         ready, status, reloading, stopping = self.heard()
         self.assertEqual((ready, status, stopping), ("READY=1", "STATUS=time from DCF READY=0", "STOPPING=1"))
         self.assertRegex(reloading, r"\ARELOADING=1\nMONOTONIC_USEC=\d+\Z")
+
+    def test_a_reload_has_its_moment(self):
+        """sd_notify(3): CLOCK_MONOTONIC, in microseconds."""
+        before = time.clock_gettime(time.CLOCK_MONOTONIC)
+        Notify({"NOTIFY_SOCKET": self.name}).reloading()
+        after = time.clock_gettime(time.CLOCK_MONOTONIC)
+        self.assertTrue(before * 1e6 - 1 <= int(self.heard()[0].rpartition("=")[2]) <= after * 1e6 + 1)
 
     def test_the_watchdog_is_told_twice_in_its_time(self):
         notify = Notify({"NOTIFY_SOCKET": self.name, "WATCHDOG_USEC": "4000000", "WATCHDOG_PID": str(os.getpid())})
