@@ -77,6 +77,12 @@ def armed() -> Iterator[Case]:
     """The leap second that comes next."""
     both = [verdict(feed, 60 * i, 0, HOUR) for i in range(1, 6) for feed in (1, 0)]
     yield of("two words of one moment", STATION, both, "page: two leap seconds at one moment")
+    # The other feed is a second late, so its leap second that ends a second sooner has the same moment.
+    late = Entry(1, 311 * 10**6, "verdict", (BEGAN + 310, HOUR - 1))
+    for feeds in ((0, 1), (1, 0)):
+        differ = [verdict(feeds[0], 60 * i, 0, HOUR) for i in range(1, 6)] + [late._replace(feed=feeds[1])]
+        name = f"two leap seconds of one moment, the later one feed {feeds[0]}'s"
+        yield of(name, STATION, differ, "page: two leap seconds at one moment")
     two = [verdict(0, 60 * i, 0, HOUR) for i in range(1, 6)] + [verdict(1, 60, 0, HOUR - 40000)]
     yield of("two words, the other feed's sooner", STATION, two, "page: until by a leap second")
     foreign = [*GOOD, verdict(1, 305, 7, 0), Entry(3, 5, "notice", (HOUR,))]
