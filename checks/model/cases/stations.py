@@ -167,6 +167,8 @@ def faults() -> Iterator[Case]:
                 f"faults of {kind} in the tables from {place} on", "".join(texts[place:]), f"station: {kind}"
             )
     yield of_text("two keys with one identifier", KEY.format(5) + KEY.format(6) + KEY.format(5), "station: range")
+    taken = KEY.format(5) + '[[key]]\nid = 5\nsecret = ""\n'
+    yield of_text("a taken identifier before a bad secret of the same key", taken, "station: range")
     yield of_text("keys in order of their bytes", "clients = 0\nbound = 0\n", "station: range")
     yield of_text("the second radio's fault", RADIO * 2 + "delay = -1\n" + RADIO + "delay = -1\n", "station: range")
     for text in (
