@@ -286,7 +286,7 @@ hint dcf 'its widths are those of no plan; it is noise, or high where it should 
 says 0 'status 0' 'radio_ntpd: the log gave no minute: it has no marks of this plan, or its widths are not in microseconds' \
     decode --plan dcf --log /dev/null
 
-# The borders of docs/STANDARD_ERROR.md: 50 ms, one of a hundred, and nine of ten of the first 256 reductions. Each COUNTxWIDTH is so many
+# The borders of docs/STANDARD_ERROR.md: 50 ms, one of a hundred, and nine of ten of the first 256 reductions. Each COUNTxWIDTH is COUNT
 # marks of a width in milliseconds. Of 255 in the last row too few are of 500 ms, and of 257 too few are marks of MSF.
 borders() {
     text=$1
