@@ -5,7 +5,8 @@ ghost use Rattle.tick_units.specs.Units as units;
 ghost use Rattle.clock_filter.specs.Figures as figures;
 
 use crate::Taken;
-use tick_units::{Local, Short, Span, phi};
+use crate::drift::drift_in;
+use tick_units::{Local, Short, Span};
 
 // How many stages the filter has (NSTAGE).
 const STAGES: usize = 8;
@@ -74,7 +75,7 @@ fn grown(dispersion: Span, microseconds: u64) -> Span
     // Read for its bound: every span is below 2^70.
     let _size = dispersion.unsigned_abs();
     if dispersion < most {
-        most.min(dispersion + phi(microseconds))
+        most.min(dispersion + drift_in(microseconds))
     } else {
         most
     }
@@ -124,6 +125,7 @@ fn jitter2_of(best: &Taken, others: &[Taken]) -> u128
 }
 
 /// The figures of samples in order, and of their rate.
+#[inline(always)]
 pub fn figures_by(rate: i32, held: &[Taken]) -> Option<Figures>
     requires { length held.now ≤ 8 }
     ensures value { result ≡ figures.figures_by rate held.now }

@@ -1,5 +1,5 @@
 //! The clock filter of a source: its last eight samples.
-ghost use Rattle.std.specs.Prelude.{◌≡◌, ◌≤◌, ◌^◌, List, [], ◌∷◌, ◌++◌, length, filter, nat_le, IfSome};
+ghost use Rattle.std.specs.Prelude.{◌≡◌, ◌≤◌, ◌^◌, List, [], ◌∷◌, ◌++◌, length, filter, nat_le, option_map, Some, IfSome};
 ghost use Rattle.tick_units.specs.Orders.{in_order};
 ghost use Rattle.clock_filter.specs.Bounds.{AreLawful, IsMeasured, IsTimely};
 ghost use Rattle.clock_filter.specs.Figures as figures;
@@ -42,6 +42,7 @@ impl Model for Filter {
 }
 
 // The figures of the last samples of a source from a cut on, where those from it on are in order.
+#[inline(always)]
 fn figures_in_order(cut: u64, last: &[Taken], held: &[Taken]) -> Option<Ready>
     requires few { length held.now ≤ 8 }
     requires held { held.now ≡ in_order may_precede (filter (λ x. nat_le cut x.at) last.now) }
@@ -51,7 +52,18 @@ fn figures_in_order(cut: u64, last: &[Taken], held: &[Taken]) -> Option<Ready>
     Some(Ready::of(figures))
 }
 
+// Computes them where they stay: a result of this size is copied otherwise.
+#[inline(never)]
+fn know(known: &mut Option<Ready>, cut: u64, last: &[Taken], held: &[Taken])
+    requires few { length held.now ≤ 8 }
+    requires held { held.now ≡ in_order may_precede (filter (λ x. nat_le cut x.at) last.now) }
+    ensures { IsKnown cut last.now known.new }
+{
+    *known = figures_in_order(cut, last, held);
+}
+
 // The figures of the last samples of a source from a cut on.
+#[inline(never)]
 fn figures_from(cut: u64, last: &[Taken]) -> Option<Ready>
     requires { length last.now ≤ 8 }
     ensures { IsKnown cut last.now result }
@@ -80,7 +92,12 @@ impl Filter {
         let taken = Taken { at, sample: s };
         make_room(&mut self.last, &mut self.held, self.cut);
         add_last(&mut self.last, &mut self.held, &taken, self.cut);
-        self.known = figures_in_order(self.cut, self.last.as_slice(), self.held.as_slice());
+        know(
+            &mut self.known,
+            self.cut,
+            self.last.as_slice(),
+            self.held.as_slice(),
+        );
     }
 
     /// Computes the figures from this cut on, in microseconds of the host's counter, so that `figures` has them ready.
@@ -89,7 +106,12 @@ impl Filter {
     {
         if cut != self.cut {
             self.held = held_of(self.last.as_slice(), cut);
-            self.known = figures_in_order(cut, self.last.as_slice(), self.held.as_slice());
+            know(
+                &mut self.known,
+                cut,
+                self.last.as_slice(),
+                self.held.as_slice(),
+            );
             self.cut = cut;
         }
     }
@@ -106,6 +128,23 @@ impl Filter {
     {
         let ready = self.ready(cut)?;
         Some(*ready.get())
+    }
+
+    /// The same figures by reference, with the part of their distance that does not age. `None` also where the last `look_from`
+    /// was from another cut.
+    pub fn known(&self, cut: u64) -> Option<&Ready>
+        ensures value { (samples : List Taken) → StandsFor self.now samples →
+            IfSome (option_map (λ r. r.now) result) (λ f. Some f ≡ figures.figures_of (held cut samples)) }
+        ensures timely { IfSome (option_map (λ r. r.now) result) (IsTimely cut) }
+        ensures jitter { IfSome (option_map (λ r. r.now) result) (λ f. f.jitter2 ≤ 2 ^ 80) }
+        ensures measured { (samples : List Taken) → StandsFor self.now samples → AreLawful samples →
+            IfSome (option_map (λ r. r.now) result) IsMeasured }
+    {
+        if cut == self.cut {
+            self.known.as_ref()
+        } else {
+            None
+        }
     }
 
     /// The same figures, with the part of their distance that does not age.

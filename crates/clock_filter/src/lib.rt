@@ -3,11 +3,13 @@
 #![tactic(auto)]
 
 mod distances;
+mod drift;
 mod figures;
 mod filter;
 mod held;
 mod rate;
 mod ready;
+mod roots;
 mod taken;
 
 pub use distances::{distance, is_fit, root_delay, root_dispersion};

@@ -1,5 +1,5 @@
 //! The figures of a source, with the part of its distance that does not age.
-ghost use Rattle.std.specs.Prelude.{◌≡◌, true, ◌≤◌, ◌-◌, ◌*◌, ◌^◌, pos, ◌+ℤ◌, ◌≤ℤ◌, unsigned_abs};
+ghost use Rattle.std.specs.Prelude.{◌≡◌, ℕ, true, ◌≤◌, ◌-◌, ◌*◌, ◌^◌, pos, ◌+ℤ◌, ◌≤ℤ◌, unsigned_abs};
 ghost use Rattle.tick_units.specs.Units as units;
 ghost use Rattle.tick_units.specs.Units.{root};
 ghost use Rattle.clock_filter.specs.Distance.{root_dispersion_of, distance_of, is_fit_at};
@@ -7,8 +7,10 @@ ghost use Rattle.clock_filter.specs.Ready as ready;
 
 use crate::Figures;
 use crate::distances::{TOO_FAR, half_of_delay};
+use crate::drift::drift_in;
+use crate::roots::root_of;
 use std::marker::Model;
-use tick_units::{Local, Span, isqrt, phi};
+use tick_units::{Local, Span, isqrt};
 
 /// The figures of a source, with all of its distance that does not age, computed once. Contracts see it as the figures.
 #[derive(Clone, Copy, Debug)]
@@ -41,8 +43,8 @@ impl Model for Ready {
 // A bound above each delay and dispersion of valid samples.
 const LONGEST: u128 = 1 << 68;
 
-// The square root, rounded down. One sample alone has no jitter. A jitter below 1 s is a number of 64 bits, whose root takes half
-// of the steps.
+// The square root, rounded down. One sample alone has no jitter. A jitter below 1 s is a number of 64 bits, whose root takes a
+// few steps.
 #[tactic(auto, using(tick_units::proofs::RootLaws::root_from))]
 fn jitter_of(jitter2: u128) -> u64
     ensures { result ≡ root jitter2 }
@@ -50,7 +52,7 @@ fn jitter_of(jitter2: u128) -> u64
     if jitter2 == 0 {
         0
     } else if jitter2 < 1 << 64 {
-        (jitter2 as u64).isqrt()
+        root_of(jitter2 as u64)
     } else {
         isqrt(jitter2)
     }
@@ -110,12 +112,21 @@ impl Ready {
         &self.figures
     }
 
+    /// Writes a copy there. Field by field this takes fewer steps than a copy of all of it at once.
+    pub fn copy_to(&self, there: &mut Ready)
+        ensures { there.new ≡ self.now }
+    {
+        there.figures = self.figures;
+        there.dispersion = self.dispersion;
+        there.distance = self.distance;
+    }
+
     // How far the host's counter may have drifted since the best sample.
     fn drift(&self, now: Local) -> Span
         requires { self.now.taken_at ≤ now }
         ensures { result ≡ pos (units.phi (now - self.now.taken_at)) }
     {
-        phi(now.get() - self.figures.taken_at.get())
+        drift_in(now.get() - self.figures.taken_at.get())
     }
 
     /// The root dispersion at a moment, as `root_dispersion` gives it of the figures.
@@ -150,6 +161,13 @@ impl Ready {
         requires dispersion { unsigned_abs self.now.dispersion ≤ 2 ^ 68 }
         ensures { result ≡ is_fit_at now self.now }
     {
-        self.distance(now) <= Span::from_seconds(1) && self.figures.stratum < TOO_FAR
+        self.is_fit_with(self.distance(now))
+    }
+
+    /// The same, where this is its root distance at that moment.
+    pub fn is_fit_with(&self, distance: Span) -> bool
+        ensures { (now : ℕ) → distance ≡ distance_of now self.now → result ≡ is_fit_at now self.now }
+    {
+        distance <= Span::from_seconds(1) && self.figures.stratum < TOO_FAR
     }
 }

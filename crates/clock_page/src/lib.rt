@@ -3,6 +3,6 @@
 
 mod page;
 mod times;
-mod words;
+mod page_words;
 
 pub use page::{INIT, Page, UNKNOWN_DISPERSION};

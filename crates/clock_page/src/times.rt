@@ -29,14 +29,32 @@ fn millionths(product: i64) -> i64
     product.div_euclid(1_000_000)
 }
 
-// How much the offset grows in this many microseconds.
-fn grown(rate: i32, passed: u64) -> i64
+// How much the offset grows in this many microseconds, by whole seconds and the rest.
+#[cold]
+#[inline(never)]
+fn grown_long(rate: i32, passed: u64) -> i64
     requires { passed < 2 ^ 50 }
     ensures value { result ≡ floor_div (rate *ℤ pos passed) (10 ^ 6) }
     ensures small { unsigned_abs result < 2 ^ 63 }
 {
     let seconds = times(rate, (passed / 1_000_000) as u32);
     seconds + millionths(times(rate, (passed % 1_000_000) as u32))
+}
+
+// A product of a rate and less than this fits 64 bits: about 36 minutes, in microseconds.
+const SHORT: u64 = 1 << 31;
+
+// How much the offset grows in this many microseconds.
+fn grown(rate: i32, passed: u64) -> i64
+    requires { passed < 2 ^ 50 }
+    ensures value { result ≡ floor_div (rate *ℤ pos passed) (10 ^ 6) }
+    ensures small { unsigned_abs result < 2 ^ 63 }
+{
+    if passed < SHORT {
+        millionths(times(rate, passed as u32))
+    } else {
+        grown_long(rate, passed)
+    }
 }
 
 // The sum of two spans and what the offset has grown.

@@ -1,8 +1,9 @@
 //! Discards survivors until those that are left agree.
 ghost use Rattle.std.specs.Prelude.{◌≡◌, ◌/◌, ◌<◌, ◌≤◌, true, false, All, Contains, List, length, nat_lt, IfSome, IfNone};
 ghost use Rattle.std.specs.List.{list_all};
+ghost use Rattle.tick_units.specs.Orders.{in_order};
 ghost use Rattle.cluster_core.specs.Bounds.{IsWeighable, AreNear};
-ghost use Rattle.cluster_core.specs.Clusters.{Clusters, IsWorst, Settles, greatest_jitter, is_at_rest, selection_jitter, survivors_left};
+ghost use Rattle.cluster_core.specs.Clusters.{Clusters, IsWorst, Settles, greatest_jitter, is_at_rest, may_precede, selection_jitter, survivors_left};
 ghost use Rattle.cluster_core.specs.Sums.{AreSums};
 ghost use Rattle.cluster_core.specs.declared.survivor.Survivor.{Survivor};
 
@@ -98,6 +99,13 @@ fn settle(left: &mut ArrayVec<Survivor, 16>)
     }
 }
 
+// Puts survivors in order where they lie.
+fn arrange(all: &mut ArrayVec<Survivor, 16>)
+    ensures { all.new.items ≡ in_order may_precede all.old.items }
+{
+    put_all(all.as_mut_slice());
+}
+
 /// Puts survivors in order: the lowest stratum first, of these the nearest, and then the first feed. Then discards those that
 /// agree least with the others, until three are left or the others agree as well as each does with itself.
 pub fn cluster(s: &mut Survivors)
@@ -109,8 +117,6 @@ pub fn cluster(s: &mut Survivors)
     ensures measured { All IsWeighable s.old → All IsWeighable s.new }
     ensures near { AreNear s.old → AreNear s.new }
 {
-    let mut left = ArrayVec::new();
-    put_all(&mut left, s.as_slice());
-    settle(&mut left);
-    *s = Survivors::of(left);
+    arrange(&mut s.members);
+    settle(&mut s.members);
 }

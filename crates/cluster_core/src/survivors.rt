@@ -8,7 +8,7 @@ use std::marker::Model;
 /// At most 16 survivors, in a list. Contracts see it as that list.
 #[derive(Drop)]
 pub struct Survivors {
-    members: ArrayVec<Survivor, 16>,
+    pub(crate) members: ArrayVec<Survivor, 16>,
 }
 
 impl Model for Survivors {
@@ -28,13 +28,6 @@ impl Survivors {
         Survivors {
             members: ArrayVec::new(),
         }
-    }
-
-    /// The list of these.
-    pub(crate) fn of(members: ArrayVec<Survivor, 16>) -> Survivors
-        ensures { result ≡ members.items }
-    {
-        Survivors { members }
     }
 
     /// Adds a survivor after the others.

@@ -3,7 +3,8 @@ use Rattle.std.specs.Prelude.{◌≡◌, ◌≢◌, ℕ, ◌+◌, ◌*◌, ◌<�
 use Rattle.std.specs.List.{flat_map, sum_by}
 use Rattle.feed_link.specs.Told.{SourceState, LinkState, NetEvent, Adds}
 use Rattle.feed_workers.specs.Leaps.{EndsLeap, due_leap, most_of_a_list}
-use Rattle.feed_workers.specs.Logs.{EndsLog, most_of_a_log}
+use Rattle.feed_workers.specs.Logs.{EndsLog}
+use Rattle.log_decoder.specs.Decoding.{most_of_a_log}
 use Rattle.feed_workers.specs.Polling.{EndsPolls}
 use Rattle.feed_workers.specs.Polls.{due_link}
 use Rattle.feed_workers.specs.declared.work.LogWork.{LogWork}

@@ -5,8 +5,8 @@ ghost use Rattle.log_decoder.specs.Decoding.{IsReady};
 
 use crate::shared::{NOON, NOON_1};
 use journal_entry::{ENTRY_ROOM, Entry, write_entry};
-use log_decoder::{LogDecoder, Step};
-use pulse_log::BadLine;
+use log_decoder::LogDecoder;
+use pulse_log::{BadLine, Taken};
 use radio_receiver::{BoxedReceiver, DcfReceiver, Receiver};
 use std::alloc::Global;
 use std::test::Fail;
@@ -53,7 +53,7 @@ fn decoded<R: Receiver>(
     let mut decoder = decoder;
     let mut rest = bytes;
     'rest: while !rest.is_empty() {
-        let Step { count, found } = decoder.take(rest);
+        let Taken { count, found } = decoder.take(rest);
         match found {
             Ok(Some(entry)) => add_line(text, &entry)?,
             Ok(None) => {}

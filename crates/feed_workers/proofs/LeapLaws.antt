@@ -26,10 +26,10 @@ use Rattle.page_cell.specs.Passes.{Known, claim_of}
 use Rattle.page_cell.specs.declared.view.Claim.{Claim}
 use Rattle.feed_workers.specs.Keeping.{IsOfFeed, Keeps, Share}
 use Rattle.feed_workers.specs.Leaps.{EndsLeap, due_leap, notices_of}
-use Rattle.feed_workers.specs.Logs.{EndsAt}
+use Rattle.file_reader.specs.Ends.{EndsAt}
 use Rattle.feed_workers.specs.Noticing.{EndsList, HasNoticed, HasPassed}
-use Rattle.feed_workers.specs.declared.work.LogEnd.{LogEnd}
-use Rattle.feed_workers.specs.declared.work.LogEnd.TheVariants.{Whole, BadLine, Fault, Long}
+use Rattle.file_reader.specs.declared.log_end.LogEnd.{LogEnd}
+use Rattle.file_reader.specs.declared.log_end.LogEnd.TheVariants.{Whole, BadLine, Fault, Long}
 use Rattle.feed_workers.proofs.KeepLaws.{keeps_none}
 
 -- a pass is of its own feed, and stays of it

@@ -3,7 +3,7 @@ use Rattle.std.proofs.Common.{◌≡◌, ℕ, Option, None, Some, Result, Ok, Er
 use Rattle.std.proofs.lemmas.Bool.Decides.{nat_tests}
 use Rattle.std.proofs.lemmas.List.{append-nil, take-append-drop}
 use Rattle.journal_entry.specs.declared.entry.Entry.{Entry}
-use Rattle.log_decoder.specs.Decoding.{HasDecoded, DecodesFront}
+use Rattle.log_decoder.specs.Decoding.{HasDecoded, DecodesFront, radio_log}
 use Rattle.log_decoder.proofs.DueLaws.{due_none}
 use Rattle.log_decoder.specs.Due.{due_log, entry_of}
 use Rattle.log_decoder.specs.declared.decoder.LogDecoder.{LogDecoder}
@@ -18,9 +18,10 @@ use Rattle.feed_link.specs.Told.{SourceState}
 use Rattle.file_reader.specs.Ends.{EndsReading}
 use Rattle.file_reader.specs.declared.reader.FileEnd.TheVariants as file
 use Rattle.feed_workers.specs.Keeping.{Keeps, Share}
-use Rattle.feed_workers.specs.Logs.{EndsAt, EndsLog}
-use Rattle.feed_workers.specs.declared.work.LogEnd.{LogEnd}
-use Rattle.feed_workers.specs.declared.work.LogEnd.TheVariants.{Whole, BadLine, Fault, Long}
+use Rattle.feed_workers.specs.Logs.{EndsLog}
+use Rattle.file_reader.specs.Ends.{EndsAt}
+use Rattle.file_reader.specs.declared.log_end.LogEnd.{LogEnd}
+use Rattle.file_reader.specs.declared.log_end.LogEnd.TheVariants.{Whole, BadLine, Fault, Long}
 use Rattle.feed_workers.specs.Hearing.{HasHeard, HasHeardUpTo, HasMissed, HearsPiece, Tuning}
 use Rattle.feed_workers.proofs.KeepLaws.{keeps_none}
 
@@ -45,27 +46,27 @@ module _ {B : Type 0} (stands : B → History → Type 0) where
 
   module _ (d now : LogDecoder B) (tuning : Tuning) (share : Share) (before front : List ℕ) (h : HasHeard stands d tuning share before None) where
     -- a beginning of what comes completes no entry
-    pub heard_nothing : (found : Result (Option Entry) Bad) → DecodesFront stands now share.begun.number tuning.plan tuning.delay before front found → found ≡ Ok None →
+    pub heard_nothing : (found : Result (Option Entry) Bad) → DecodesFront stands now (radio_log share.begun.number tuning.plan tuning.delay) before front found → found ≡ Ok None →
         HasHeard stands now tuning share (before ++ front) None
-    heard_nothing found any same = let took = subst (λ f. DecodesFront stands now share.begun.number tuning.plan tuning.delay before front f) same any in record {
+    heard_nothing found any same = let took = subst (λ f. DecodesFront stands now (radio_log share.begun.number tuning.plan tuning.delay) before front f) same any in record {
       decoded = took.decoded;
       kept = subst (λ (due : List Entry). Keeps share due) (sym (took.finds.1 ∙ append-nil (due_log share.begun.number tuning.plan tuning.delay before))) h.kept;
       bad_is = took.finds.0;
     }
 
     -- it completes an entry, which is kept
-    pub heard_entry : (found : Result (Option Entry) Bad) (entry : Entry) (claim : Claim) (full_now : Bool) → DecodesFront stands now share.begun.number tuning.plan tuning.delay before front found → found ≡ Ok (Some entry) →
+    pub heard_entry : (found : Result (Option Entry) Bad) (entry : Entry) (claim : Claim) (full_now : Bool) → DecodesFront stands now (radio_log share.begun.number tuning.plan tuning.delay) before front found → found ≡ Ok (Some entry) →
         ((due : List Entry) → Keeps share due → Keeps (record share { claim = claim; full = full_now }) (due ++ entry ∷ [])) → HasHeard stands now tuning (record share { claim = claim; full = full_now }) (before ++ front) None
-    heard_entry found entry claim full_now any same keeps = let took = subst (λ f. DecodesFront stands now share.begun.number tuning.plan tuning.delay before front f) same any in record {
+    heard_entry found entry claim full_now any same keeps = let took = subst (λ f. DecodesFront stands now (radio_log share.begun.number tuning.plan tuning.delay) before front f) same any in record {
       decoded = took.decoded;
       kept = subst (λ (due : List Entry). Keeps (record share { claim = claim; full = full_now }) due) (sym took.finds.1) (keeps (due_log share.begun.number tuning.plan tuning.delay before) h.kept);
       bad_is = took.finds.0;
     }
 
     -- it has a bad line
-    pub heard_bad : (found : Result (Option Entry) Bad) (bad : Bad) → DecodesFront stands now share.begun.number tuning.plan tuning.delay before front found → found ≡ Err bad →
+    pub heard_bad : (found : Result (Option Entry) Bad) (bad : Bad) → DecodesFront stands now (radio_log share.begun.number tuning.plan tuning.delay) before front found → found ≡ Err bad →
         HasHeard stands now tuning share (before ++ front) (Some bad.line)
-    heard_bad found bad any same = let took = subst (λ f. DecodesFront stands now share.begun.number tuning.plan tuning.delay before front f) same any in record {
+    heard_bad found bad any same = let took = subst (λ f. DecodesFront stands now (radio_log share.begun.number tuning.plan tuning.delay) before front f) same any in record {
       decoded = took.decoded;
       kept = subst (λ (due : List Entry). Keeps share due) (sym took.finds.1) h.kept;
       bad_is = took.finds.0;

@@ -8,8 +8,8 @@ use Rattle.poll_core.specs.declared.poll.Poll.{Poll}
 use Rattle.feed_workers.specs.Keeping.{Keeps}
 use Rattle.feed_workers.specs.Polling.{Session}
 use Rattle.feed_workers.specs.Polls.{Round, events_in, asking, AreWhole, IsOpen, GoOn, due_link, history_of, ends_round, is_hearing, is_ended}
-use Rattle.feed_workers.specs.declared.poller.Heard.{Heard}
-use Rattle.feed_workers.specs.declared.poller.Heard.TheVariants.{On, Over, End, Fault}
+use Rattle.feed_workers.specs.declared.poller.HearingEnd.{HearingEnd}
+use Rattle.feed_workers.specs.declared.poller.HearingEnd.TheVariants.{On, Over, End, Fault}
 
 -- the link's events are these, the poller stands for their exchanges, and the entries that are due for them were kept
 pub record HasDone (poll : Poll) (session : Session) (events : List NetEvent) : Type 0 where
@@ -27,7 +27,7 @@ pub record Polled (poll : Poll) (session : Session) (count : ℕ) : Type 0 where
   pub open_all : All IsOpen made
 
 -- what one hearing after these events was: one after which the round goes on, one that ends it, the link's end, or a fault
-abbrev pub HearsOne : Poll → Session → List NetEvent → Heard → Type 0
+abbrev pub HearsOne : Poll → Session → List NetEvent → HearingEnd → Type 0
 HearsOne poll session before On =
     (event : NetEvent) × (is_hearing event ≡ true) × (ends_round session.server before event ≡ false) × (is_ended event ≡ false) × HasDone poll session (before ++ event ∷ [])
 HearsOne poll session before Over =

@@ -10,8 +10,8 @@ use Rattle.page_cell.specs.Passes.{claim_of}
 use Rattle.feed_workers.specs.Keeping.{Keeps, share_of}
 use Rattle.feed_workers.specs.Logs.{Intake, intake_of}
 use Rattle.feed_workers.specs.declared.leap.LeapWorker.{LeapWorker}
-use Rattle.feed_workers.specs.declared.work.LogEnd.{LogEnd}
-use Rattle.feed_workers.specs.declared.work.LogEnd.TheVariants.{Whole, BadLine, Fault, Long}
+use Rattle.file_reader.specs.declared.log_end.LogEnd.{LogEnd}
+use Rattle.file_reader.specs.declared.log_end.LogEnd.TheVariants.{Whole, BadLine, Fault, Long}
 use Rattle.feed_workers.specs.declared.work.LogWork.{LogWork}
 
 -- a leap second file has at most 2^16 bytes

@@ -1,21 +1,18 @@
 -- What a radio's worker does with the bytes of its log, and why it ends. All of it is this project's own.
-use Rattle.std.specs.Prelude.{◌≡◌, ℕ, ◌⊎◌, ◌^◌, Option, Some, None, List}
+use Rattle.std.specs.Prelude.{◌≡◌, ℕ, ◌⊎◌, Option, Some, None, List}
 use Rattle.feed_link.specs.Told.{SourceState}
 use Rattle.file_reader.specs.Ends.{HasReadFront, EndsReading}
 use Rattle.file_reader.specs.declared.reader.FileEnd.TheVariants as file
+use Rattle.log_decoder.specs.Decoding.{most_of_a_log}
 use Rattle.log_decoder.specs.Due.{due_log}
 use Rattle.page_cell.specs.Passes.{claim_of}
 use Rattle.tick_units.specs.Log.{bad_at_end, bad_line}
 use Rattle.tick_units.specs.declared.marks.Plan.{Plan}
 use Rattle.feed_workers.specs.Keeping.{Keeps, Share, share_of}
 use Rattle.feed_workers.specs.declared.radio.WorkerOf.{WorkerOf}
-use Rattle.feed_workers.specs.declared.work.LogEnd.{LogEnd}
-use Rattle.feed_workers.specs.declared.work.LogEnd.TheVariants.{Whole, BadLine, Fault, Long}
+use Rattle.file_reader.specs.declared.log_end.LogEnd.{LogEnd}
+use Rattle.file_reader.specs.declared.log_end.LogEnd.TheVariants.{Whole, BadLine, Fault, Long}
 use Rattle.feed_workers.specs.declared.work.LogWork.{LogWork}
-
--- a log has at most 2^30 bytes
-abbrev pub most_of_a_log : ℕ
-most_of_a_log = 2 ^ 30
 
 -- These bytes were read of a log of at most this many, and the reading ended so. Whole: at the log's end, with no bad line and no
 -- unfinished one. BadLine: at the first bad line, which stands among the bytes or is the unfinished one at the log's end. Fault: a read
@@ -49,10 +46,3 @@ pub record RunsLog (plan : Plan) (delay : ℕ) (intake : Intake) (end : LogEnd) 
   pub bytes : List ℕ
   pub kept : Keeps intake.share (due_log intake.share.begun.number plan delay bytes)
   pub ends : EndsLog intake.most intake.begun intake.file bytes end
-
--- how a log ends that was read to its end, by the line that is bad then
-abbrev pub EndsAt : LogEnd → Option ℕ → Type 0
-EndsAt Whole bad = bad ≡ None
-EndsAt (BadLine line) bad = bad ≡ Some line
-EndsAt Fault bad = ⊥
-EndsAt Long bad = ⊥

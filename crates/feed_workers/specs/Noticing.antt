@@ -6,8 +6,8 @@ use Rattle.leap_file.specs.declared.reader.BadLeap.{BadLeap}
 use Rattle.leap_file.specs.declared.reader.LeapReader.{LeapReader}
 use Rattle.feed_workers.specs.Keeping.{Keeps, Share}
 use Rattle.feed_workers.specs.Leaps.{due_leap}
-use Rattle.feed_workers.specs.Logs.{EndsAt}
-use Rattle.feed_workers.specs.declared.work.LogEnd.{LogEnd}
+use Rattle.file_reader.specs.Ends.{EndsAt}
+use Rattle.file_reader.specs.declared.log_end.LogEnd.{LogEnd}
 
 -- these bytes were read, they have no bad line, and what is due for them was kept
 pub record HasNoticed (reader : LeapReader) (start : ℕ) (share : Share) (bytes : List ℕ) : Type 0 where

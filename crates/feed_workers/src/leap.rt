@@ -11,9 +11,9 @@ ghost use Rattle.page_cell.specs.Passes.{claim_of};
 ghost use Rattle.tick_units.specs.Years.{end_of_told};
 
 use crate::keeping::Post;
-use crate::work::{LogEnd, LogWork};
+use crate::work::LogWork;
 use feed_link::{Gate, Source};
-use file_reader::{FileEnd, FileReader, Pulled};
+use file_reader::{FileEnd, FileReader, LogEnd, Pulled};
 use journal_entry::{Entry, What};
 use leap_file::{BadLeap, LeapReader};
 use page_cell::FeedPass;

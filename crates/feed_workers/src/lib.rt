@@ -8,10 +8,11 @@ mod poller;
 mod radio;
 mod work;
 
+pub use file_reader::LogEnd;
 pub use leap::LeapWorker;
 pub use poller::PollWorker;
 pub use radio::{RadioWorker, WorkerOf};
-pub use work::{LogEnd, LogWork, PollEnd, PollWork};
+pub use work::{LogWork, PollEnd, PollWork};
 
 #[cfg(test)]
 mod tests;

@@ -37,7 +37,7 @@ pub struct PollWorker<L: Drop> {
 
 // The result of one hearing of a round.
 #[derive(Clone, Copy)]
-enum Heard {
+enum HearingEnd {
     // A datagram that was refused: the round goes on.
     On,
     // Nothing, or an answer that was accepted: the round is over.
@@ -57,13 +57,13 @@ struct Peer {
 
 // What a datagram is in the journal, and whether it is an accepted answer.
 #[derive(Drop)]
-struct Judged {
+struct JudgedAnswer {
     what: What,
     accepted: bool,
 }
 
 // Judges a datagram.
-fn judge_datagram(poll: &mut Poll, arrival: &Arrival, bytes: &[u8]) -> Judged
+fn judge_datagram(poll: &mut Poll, arrival: &Arrival, bytes: &[u8]) -> JudgedAnswer
     requires { ForSome (asked_at poll.old) (λ moment. moment ≤ arrival.now.at) }
     ensures polled { (server : Address) (history : List Event) → HasPolled poll.old server history →
         HasPolled poll.new server (history ++ Answered arrival.now.at arrival.now.from bytes.now ∷ []) }
@@ -75,11 +75,11 @@ fn judge_datagram(poll: &mut Poll, arrival: &Arrival, bytes: &[u8]) -> Judged
     ensures asked { ForSome (asked_at poll.new) (λ moment. moment ≤ arrival.now.at) }
 {
     match poll.answer(arrival.at, arrival.from, bytes) {
-        Ok(sample) => Judged {
+        Ok(sample) => JudgedAnswer {
             what: What::Sample(sample),
             accepted: true,
         },
-        Err(refusal) => Judged {
+        Err(refusal) => JudgedAnswer {
             what: What::Declined(refusal.code()),
             accepted: false,
         },
@@ -94,7 +94,7 @@ fn hear_once<L: Link, N: HubName, R: Wait, G: Gate>(
     link: &mut L,
     pass: &mut FeedPass,
     full: &mut bool,
-) -> Heard
+) -> HearingEnd
     requires pass { IsOfFeed N.table (length N.settings.sources) feed pass.old }
     requires asked { ForSome (asked_at poll.old) (λ moment. moment ≤ (L.state link.old).latest) }
     ensures link { L.opening link.new ≡ L.opening link.old }
@@ -110,14 +110,18 @@ fn hear_once<L: Link, N: HubName, R: Wait, G: Gate>(
     match link.hear(&mut piece) {
         Ok(Hearing::Datagram(arrival)) => {
             let judged = judge_datagram(poll, &arrival, &piece[..arrival.length]);
-            let Judged { what, accepted } = judged;
+            let JudgedAnswer { what, accepted } = judged;
             let at = arrival.at;
             post.keep(pass, Entry { feed, at, what }, full);
-            if accepted { Heard::Over } else { Heard::On }
+            if accepted {
+                HearingEnd::Over
+            } else {
+                HearingEnd::On
+            }
         }
-        Ok(Hearing::Quiet) => Heard::Over,
-        Ok(Hearing::End) => Heard::End,
-        Err(Failed) => Heard::Fault,
+        Ok(Hearing::Quiet) => HearingEnd::Over,
+        Ok(Hearing::End) => HearingEnd::End,
+        Err(Failed) => HearingEnd::Fault,
     }
 }
 
@@ -153,10 +157,10 @@ fn poll_once<L: Link, N: HubName, R: Wait, G: Gate>(
     }
     'hearings: for _ in 0..HEARINGS {
         match hear_once(post, peer.feed, poll, link, pass, full) {
-            Heard::On => {}
-            Heard::Over => return None,
-            Heard::End => return Some(PollEnd::LinkEnd),
-            Heard::Fault => return Some(PollEnd::LinkFault),
+            HearingEnd::On => {}
+            HearingEnd::Over => return None,
+            HearingEnd::End => return Some(PollEnd::LinkEnd),
+            HearingEnd::Fault => return Some(PollEnd::LinkFault),
         }
     }
     None

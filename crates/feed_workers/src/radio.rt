@@ -3,24 +3,23 @@ ghost use Rattle.std.specs.Prelude.{◌≡◌, ◌≤◌, ◌<◌, ◌++◌, [],
 ghost use Rattle.log_decoder.specs.Decoding.{HasDecoded, IsReady, feed_of};
 ghost use Rattle.feed_workers.specs.Hearing.{HasHeard, HearsPiece, Tuning};
 ghost use Rattle.feed_workers.specs.Keeping.{IsOfFeed, share_of};
-ghost use Rattle.feed_workers.specs.Logs.{EndsAt, RunsLog, intake_of, log_intake};
+ghost use Rattle.file_reader.specs.Ends.{EndsAt};
+ghost use Rattle.feed_workers.specs.Logs.{RunsLog, intake_of, log_intake};
 ghost use Rattle.page_cell.specs.declared.view.Claim.{Claim};
 ghost use Rattle.page_cell.specs.Passes.{claim_of};
 ghost use Rattle.tick_units.specs.Log.{bad_at_end};
 ghost use Rattle.tick_units.specs.declared.marks.Plan.{Plan};
 
 use crate::keeping::Post;
-use crate::work::{LogEnd, LogWork};
+use crate::work::LogWork;
 use feed_link::{Gate, Source};
-use file_reader::{FileEnd, FileReader, Pulled};
-use log_decoder::{LogDecoder, Step};
+use file_reader::{FileEnd, FileReader, LogEnd, Pulled};
+use log_decoder::{LOG_LIMIT, LogDecoder};
 use page_cell::FeedPass;
+use pulse_log::Taken;
 use radio_receiver::BoxedReceiver;
 use std::sync::Wait;
 use verdict_journal::{Hub, HubName};
-
-// The most bytes of a log.
-const LIMIT: usize = 1 << 30;
 
 /// The worker of a radio, with a receiver of type `R`.
 #[derive(Drop)]
@@ -33,21 +32,15 @@ pub struct WorkerOf<L: Drop, R: Drop> {
 /// The worker of a radio: it decodes a log, and keeps the entries of its feed.
 pub type RadioWorker<L> = WorkerOf<L, BoxedReceiver>;
 
-// How many bytes were taken, and the first invalid line among them, where there is one.
-#[derive(Clone, Copy)]
-struct Took {
-    count: usize,
-    bad: Option<u64>,
-}
-
-// Takes bytes up to the end of a line, up to a bad line, or all of them, and keeps the entry that they complete.
+// Takes bytes up to the end of a line, up to a bad line, or all of them, and keeps the entry that they complete. What came of
+// them is the number of that bad line, where there is one.
 fn take_line<N: HubName, R: Wait, G: Gate>(
     post: &Post<'_, N, R, G>,
     decoder: &mut LogDecoder<BoxedReceiver>,
     pass: &mut FeedPass,
     bytes: &[u8],
     full: &mut bool,
-) -> Took
+) -> Taken<Option<u64>>
     requires some { 0 < length bytes.now }
     requires ready { IsReady least_start decoder.old }
     requires pass { IsOfFeed N.table (length N.settings.sources) (feed_of decoder.old) pass.old }
@@ -58,19 +51,19 @@ fn take_line<N: HubName, R: Wait, G: Gate>(
     ensures pass { IsOfFeed N.table (length N.settings.sources) (feed_of decoder.old) pass.new }
     ensures heard { (tuning : Tuning) (begun : Claim) (before : List ℕ) →
         HasHeard stands_for decoder.old tuning (share_of begun pass.old N.limit full.old) before None →
-        let taken = take result.count bytes.now in
-        HasHeard stands_for decoder.new tuning (share_of begun pass.new N.limit full.new) (before ++ taken) result.bad }
+        let read = before ++ take result.count bytes.now in
+        HasHeard stands_for decoder.new tuning (share_of begun pass.new N.limit full.new) read result.found }
 {
-    let Step { count, found } = decoder.take(bytes);
+    let Taken { count, found } = decoder.take(bytes);
     match found {
-        Ok(None) => Took { count, bad: None },
+        Ok(None) => Taken { count, found: None },
         Ok(Some(entry)) => {
             post.keep(pass, entry, full);
-            Took { count, bad: None }
+            Taken { count, found: None }
         }
-        Err(bad) => Took {
+        Err(bad) => Taken {
             count,
-            bad: Some(bad.line),
+            found: Some(bad.line),
         },
     }
 }
@@ -96,7 +89,7 @@ fn hear_piece<N: HubName, R: Wait, G: Gate>(
     let mut rest = piece;
     'rest: while !rest.is_empty() {
         let took = take_line(post, decoder, pass, rest, full);
-        match took.bad {
+        match took.found {
             Some(line) => return Some(line),
             None => rest = rest.split_at(took.count).1,
         }
@@ -199,7 +192,7 @@ impl<L: Source + Drop> WorkerOf<L, BoxedReceiver> {
     {
         let post = Post { rt, hub, gate };
         let WorkerOf { decoder, log, pass } = self;
-        read_log(&post, decoder, log, pass, LIMIT)
+        read_log(&post, decoder, log, pass, LOG_LIMIT)
     }
 
     /// Gives back the log and the pass. The receiver is dropped.

@@ -1,21 +1,11 @@
 //! What workers did, and why they ended.
 
-/// Why the worker of a radio, or of a leap second file, ended.
-#[derive(Clone, Copy, Debug, PartialEq, Eq)]
-pub enum LogEnd {
-    /// The file was read to its end.
-    Whole,
-    /// The line of this number, from 1, is not valid.
-    BadLine { line: u64 },
-    /// A read failed.
-    Fault,
-    /// The file has more bytes than it may: 2^30 of a log, 2^16 of a leap second file.
-    Long,
-}
+use file_reader::LogEnd;
 
 /// What the worker of a radio, or of a leap second file, did.
 #[derive(Clone, Copy, Debug, PartialEq, Eq)]
 pub struct LogWork {
+    /// Why it ended. A log may have 2^30 bytes, a leap second file 2^16.
     pub end: LogEnd,
     /// Whether an entry found the journal full.
     pub full: bool,

@@ -5,7 +5,7 @@ use Rattle.std.proofs.lemmas.List.Concat.{flat_map-append}
 use Rattle.feed_link.specs.Told.{SourceState, SinkState}
 use Rattle.file_reader.specs.Ends.{HasReadFront}
 use Rattle.journal_entry.specs.declared.entry.Entry.{Entry}
-use Rattle.log_decoder.specs.Decoding.{HasDecoded, DecodesFront}
+use Rattle.log_decoder.specs.Decoding.{HasDecoded, DecodesFront, most_of_a_log, radio_log}
 use Rattle.log_decoder.specs.Due.{due_log, entry_line, entry_of, lines_of_entries}
 use Rattle.log_decoder.specs.declared.decoder.LogDecoder.{LogDecoder}
 use Rattle.log_decoder.proofs.DueLaws.{due_none, lines_grow}
@@ -15,20 +15,18 @@ use Rattle.radio_receiver.specs.Histories.{History, answers_of}
 use Rattle.tick_units.specs.Log.{bad_line, bad_at_end, lines_of, or_unfinished, pulses}
 use Rattle.tick_units.specs.declared.marks.Plan.{Plan}
 use Rattle.tick_units.specs.declared.marks.Reduction.{Reduction}
-use Rattle.file_commands.specs.Decoding.{Decodes, most_of_a_log}
+use Rattle.file_commands.specs.Decoding.{Decodes}
 use Rattle.file_commands.specs.Endings.{status_of, status_line, ending_at}
 use Rattle.file_commands.specs.LogTaking.{IsDecodedBy, IsFound, log_says}
 use Rattle.file_commands.specs.Reading.{ReadsLines, bad_in_the_end}
-use Rattle.file_commands.specs.Taking.{given, bad_of, flow_of, EndsItself, EndsStopped}
+use Rattle.file_commands.specs.Taking.{Gives, given, bad_of, flow_of, EndsItself, EndsStopped}
 use Rattle.file_commands.specs.Text.{log_text}
 use Rattle.sink_text.specs.Writing.{WritesAll}
 use Rattle.file_commands.specs.Writing.{Answers}
 use Rattle.file_commands.specs.declared.ending.status.Status.{Status}
 use Rattle.file_commands.specs.declared.ending.status.Status.TheVariants.{WriteFault}
 use Rattle.file_commands.specs.declared.ending.subject.Subject.TheVariants.{Feed}
-use Rattle.file_commands.specs.declared.reading.Gives.{Gives}
-use Rattle.file_commands.specs.declared.reading.Gives.TheVariants.{Nothing, Text, Bad}
-use Rattle.file_commands.specs.declared.reading.Reach.{Reach}
+use Rattle.file_reader.specs.declared.log_end.LogEnd.{LogEnd}
 use Rattle.sink_text.proofs.WritingLaws.{front_of_more}
 
 text_none : (plan : Plan) → ◌≡◌ {A = List ℕ} [] (log_text plan [])
@@ -51,13 +49,13 @@ module _ {B : Type 0} (stands : B → History → Type 0) where
         ∙ sym (ap lines_of_entries more)
 
     -- a beginning of what comes was taken, and what was found in it is given
-    pub decoded_on : (found : Result (Option Entry) BadLine) (gives : Gives) → DecodesFront stands now 0 plan 0 before front found → IsFound found gives line →
+    pub decoded_on : (found : Result (Option Entry) BadLine) (gives : Gives) → DecodesFront stands now (radio_log 0 plan 0) before front found → IsFound found gives line →
         IsDecodedBy stands now plan (before ++ front) (text ++ given gives line) (bad_of gives)
     decoded_on (Ok None) gives took is = subst (λ (k : Gives). IsDecodedBy stands now plan (before ++ front) (text ++ given k line) (bad_of k)) (sym is)
         (record { decoded = took.decoded; text_is = same_text (took.finds.1 ∙ append-nil (due_log 0 plan 0 before)); bad_is = sym took.finds.0 })
-    decoded_on (Ok (Some entry)) Nothing took is = absurd is
-    decoded_on (Ok (Some entry)) (Bad number) took is = absurd is
-    decoded_on (Ok (Some entry)) (Text length) took is = record {
+    decoded_on (Ok (Some entry)) (Ok None) took is = absurd is
+    decoded_on (Ok (Some entry)) (Err bad) took is = absurd is
+    decoded_on (Ok (Some entry)) (Ok (Some length)) took is = record {
       decoded = took.decoded;
       text_is = ap (λ (t : List ℕ). text ++ t) is ∙ one_more entry took.finds.1;
       bad_is = sym took.finds.0;
@@ -83,16 +81,16 @@ module _ {B : Type 0} (stands : B → History → Type 0) where
       (h.0, text_same plan front (front ++ behind) h.1)
 
   -- the status line after the lines
-  pub decodes_after : (plan : Plan) (d : LogDecoder B) (file file_now : SourceState) (out out_mid out_now : SinkState) (reach : Reach) (result : Status) →
-      EndsItself (IsDecodedBy stands d plan) most_of_a_log (flow_of file file_now out out_mid) reach →
-      Answers (status_of (ending_at (Feed 0) reach)) result out_mid out_now (status_line (ending_at (Feed 0) reach)) → Decodes plan file file_now out out_now result
-  decodes_after plan d file file_now out out_mid out_now reach result h answers =
+  pub decodes_after : (plan : Plan) (d : LogDecoder B) (file file_now : SourceState) (out out_mid out_now : SinkState) (end : LogEnd) (result : Status) →
+      EndsItself (IsDecodedBy stands d plan) most_of_a_log (flow_of file file_now out out_mid) end →
+      Answers (status_of (ending_at (Feed 0) end)) result out_mid out_now (status_line (ending_at (Feed 0) end)) → Decodes plan file file_now out out_now result
+  decodes_after plan d file file_now out out_mid out_now end result h answers =
       let decoded : IsDecodedBy stands d plan h.front h.text h.bad = h.held in
       let same = stays plan h.front h.behind h.bad decoded.bad_is h.none_behind in
       inl (record {
         bytes = h.front ++ h.behind;
-        due = reach;
-        read = subst (λ (b : Option ℕ). ReadsLines reach most_of_a_log file file_now (h.front ++ h.behind) b) (sym same.0) h.read;
+        due = end;
+        read = subst (λ (b : Option ℕ). ReadsLines end most_of_a_log file file_now (h.front ++ h.behind) b) (sym same.0) h.read;
         between = out_mid;
         lines = subst (λ (t : List ℕ). WritesAll out out_mid t) (decoded.text_is ∙ sym same.1) h.written;
         written = answers;

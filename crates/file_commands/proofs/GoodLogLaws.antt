@@ -8,7 +8,8 @@ use Rattle.feed_link.specs.Told.{SourceState, SinkState, Takes, NoneLeft}
 use Rattle.pulse_log.proofs.LogLaws.{bad_stays}
 use Rattle.tick_units.specs.Log.{bad_line, bad_at_end, or_unfinished, lines_of}
 use Rattle.tick_units.specs.declared.marks.Plan.{Plan}
-use Rattle.file_commands.specs.Decoding.{Decodes, IsGoodLog, HasGoodLog, RunsDecode, most_of_a_log}
+use Rattle.file_commands.specs.Decoding.{Decodes, IsGoodLog, HasGoodLog, RunsDecode}
+use Rattle.log_decoder.specs.Decoding.{most_of_a_log}
 use Rattle.file_commands.specs.Effects.{Effect}
 use Rattle.file_commands.specs.Endings.{status_of, ending_at}
 use Rattle.file_reader.specs.Ends.{HasReadFront, EndsReading}
@@ -18,8 +19,8 @@ use Rattle.file_commands.specs.Reading.{ReadsLines}
 use Rattle.file_commands.specs.declared.ending.status.Status.{Status}
 use Rattle.file_commands.specs.declared.ending.status.Status.TheVariants.{Done}
 use Rattle.file_commands.specs.declared.ending.subject.Subject.TheVariants.{Feed}
-use Rattle.file_commands.specs.declared.reading.Reach.{Reach}
-use Rattle.file_commands.specs.declared.reading.Reach.TheVariants.{AtEnd, AtBadLine}
+use Rattle.file_reader.specs.declared.log_end.LogEnd.{LogEnd}
+use Rattle.file_reader.specs.declared.log_end.LogEnd.TheVariants as log
 use Rattle.file_commands.proofs.OpeningLaws.{one_opened, one_failed}
 
 -- the bytes read of a file that reported its bytes are a beginning of them
@@ -61,17 +62,17 @@ module _ (opened back : SourceState) (good : IsGoodLog opened back) (bytes : Lis
       let front = front_of opened.left back.left good.text bytes good.told good.tells read.taken in
       (front.0, front.1, front.2 ∙ ap (λ (b : List ℕ). b ++ front.0) (sym (append-nil bytes)))
 
-  pub good_reach : (reach : Reach) → ReadsLines reach most_of_a_log opened back bytes (bad_line bytes) → reach ≡ AtEnd Whole
-  good_reach (AtEnd Whole) h = refl
-  good_reach (AtEnd Fault) h = absurd (good.no_fault (rose_by_one opened.faults back.faults h.0.cause.1))
-  good_reach (AtEnd TooLong) h =
+  pub good_reach : (end : LogEnd) → ReadsLines end most_of_a_log opened back bytes (bad_line bytes) → end ≡ log.Whole
+  good_reach log.Whole h = refl
+  good_reach log.Fault h = absurd (good.no_fault (rose_by_one opened.faults back.faults h.0.cause.1))
+  good_reach log.Long h =
       let front = front_by TooLong h.0 in
       let size = h.0.cause.0 in
       let one = h.0.cause.1 in
       let most = good.most in
       let len = ap length front.2 in
       absurd (omega (arith, length-append (bytes ++ h.0.extra) front.0, length-append bytes h.0.extra))
-  good_reach (AtBadLine line) h =
+  good_reach (log.BadLine line) h =
       let front = front_so_far h.0 in
       elim h.1 [
         | inl bad ↦ absurd (no_bad_front bytes [] front.0 good.text line front.2 good.lines bad)
@@ -86,7 +87,7 @@ good_done plan opened back out out_now result d good no_write = elim d [
   | inr stopped ↦ absurd (no_write (rose_by_one out.faults out_now.faults (subst (λ (n : ℕ). RoseByOne n out_now.faults) stopped.lines.1 stopped.failed.3)))
   | inl h ↦ elim h.written [
     | inr failed ↦ absurd (no_write (rose_by_one out.faults out_now.faults (subst (λ (n : ℕ). RoseByOne n out_now.faults) h.lines.1 failed.1.3)))
-    | inl all ↦ all.0 ∙ ap (λ (r : Reach). status_of (ending_at (Feed 0) r)) (good_reach opened back good h.bytes h.due h.read)
+    | inl all ↦ all.0 ∙ ap (λ (r : LogEnd). status_of (ending_at (Feed 0) r)) (good_reach opened back good h.bytes h.due h.read)
   ]
 ]
 

@@ -21,8 +21,8 @@ use Rattle.file_commands.specs.declared.ending.status.Status.{Status}
 use Rattle.file_commands.specs.declared.ending.status.Status.TheVariants.{Done, WriteFault}
 use Rattle.file_commands.specs.declared.ending.subject.Subject.{Subject}
 use Rattle.file_commands.specs.declared.ending.subject.Subject.TheVariants.{Station}
-use Rattle.file_commands.specs.declared.reading.Reach.{Reach}
-use Rattle.file_commands.specs.declared.reading.Reach.TheVariants.{AtEnd, AtBadLine}
+use Rattle.file_reader.specs.declared.log_end.LogEnd.{LogEnd}
+use Rattle.file_reader.specs.declared.log_end.LogEnd.TheVariants as log
 use Rattle.file_commands.specs.declared.station_file.obstacle.Obstacle.{Obstacle}
 use Rattle.file_commands.specs.Effects.{Effect, effect_of}
 use Rattle.file_commands.specs.Endings.{status_of, status_line}
@@ -46,18 +46,18 @@ items_stay f items front behind None h none = subst (λ (b : List ℕ). HasItems
 items_stay f items front behind (Some n) h none = bad_stays f.says f.too_long items n front behind h
 
 module _ {T : Type 0} (way : LineWay T) (lines : LineTaker T) where
-  pub runs_after : (file file_now : SourceState) (out out_mid out_now : SinkState) (reach : Reach) (result : Status) (page : PageFields) (due : Ending) →
-      EndsItself (IsTakenBy way lines) way.file.most (flow_of file file_now out out_mid) reach →
+  pub runs_after : (file file_now : SourceState) (out out_mid out_now : SinkState) (end : LogEnd) (result : Status) (page : PageFields) (due : Ending) →
+      EndsItself (IsTakenBy way lines) way.file.most (flow_of file file_now out out_mid) end →
       ((items : List way.file.Item) (bad : Option ℕ) → way.stands lines.taker items bad → page ≡ way.file.page items) →
-      ((items : List way.file.Item) (bad : Option ℕ) → way.stands lines.taker items bad → due ≡ way.file.ending reach items) → Answers (status_of due) result out_mid out_now (page_text page ++ status_line due) → RunsThrough way.file file file_now out out_now result
-  runs_after file file_now out out_mid out_now reach result page due h page_is due_is answers =
+      ((items : List way.file.Item) (bad : Option ℕ) → way.stands lines.taker items bad → due ≡ way.file.ending end items) → Answers (status_of due) result out_mid out_now (page_text page ++ status_line due) → RunsThrough way.file file file_now out out_now result
+  runs_after file file_now out out_mid out_now end result page due h page_is due_is answers =
       let p : IsTakenBy way lines h.front h.text h.bad = h.held in
       inl (record {
         bytes = h.front ++ h.behind;
         items = p.items;
         bad = h.bad;
         said = items_stay way.file p.items h.front h.behind h.bad p.said h.none_behind;
-        reach = reach;
+        end = end;
         read = h.read;
         due = due;
         due_is = due_is p.items h.bad p.taken;
@@ -148,7 +148,7 @@ no_tail (Some n) bytes e none = cc
 
 -- a text without a bad line has none in any reading, and ends a command in one way
 pub record IsReadable (f : LineFile) : Type 0 where
-  pub ends : (bytes : List ℕ) (items good : List f.Item) (bad : Option ℕ) → HasItemsOf f bytes items bad → HasItemsOf f bytes good None → ((reach : Reach) → f.ending reach items ≡ f.ending reach good) × (bad ≡ None)
+  pub ends : (bytes : List ℕ) (items good : List f.Item) (bad : Option ℕ) → HasItemsOf f bytes items bad → HasItemsOf f bytes good None → ((end : LogEnd) → f.ending end items ≡ f.ending end good) × (bad ≡ None)
 
 -- that is so where a text says one item, and is shorter than one that is too long
 pub one_way : (f : LineFile) → ((before : List f.Item) (text : List ℕ) (x y : f.Item) → f.says before text x → f.says before text y → x ≡ y) →
@@ -156,12 +156,12 @@ pub one_way : (f : LineFile) → ((before : List f.Item) (text : List ℕ) (x y 
 one_way f one short = record {
   ends = λ bytes items good bad h g.
       let same = one_reading f.says f.too_long one short bytes items good bad h g in
-      (λ reach. ap (λ (xs : List f.Item). f.ending reach xs) same.0, same.1);
+      (λ end. ap (λ (xs : List f.Item). f.ending end xs) same.0, same.1);
 }
 
 -- it is read to its end, and ends the command as its own items do
 module _ (f : LineFile) (readable : IsReadable f) (opened back : SourceState) (good : IsGoodFile f opened back) (bytes : List ℕ) (items : List f.Item) (bad : Option ℕ) (said : HasItemsOf f bytes items bad) where
-  same_whole : good.text ≡ bytes → ((reach : Reach) → f.ending reach items ≡ f.ending reach good.items) × (bad ≡ None)
+  same_whole : good.text ≡ bytes → ((end : LogEnd) → f.ending end items ≡ f.ending end good.items) × (bad ≡ None)
   same_whole same = readable.ends bytes items good.items bad said (subst (λ (b : List ℕ). HasItemsOf f b good.items None) same good.said)
 
   -- a beginning of it has no bad line
@@ -181,19 +181,19 @@ module _ (f : LineFile) (readable : IsReadable f) (opened back : SourceState) (g
   front_by : (end : FileEnd) (read : EndsReading end f.most opened back bytes) → (rest : List ℕ) × (back.left ≡ Some rest) × (good.text ≡ (bytes ++ read.extra) ++ rest)
   front_by end read = front_of opened.left back.left good.text (bytes ++ read.extra) good.told good.tells read.taken
 
-  read_whole : (reach : Reach) → ReadsLines reach f.most opened back bytes bad → (reach ≡ AtEnd Whole) × (f.ending (AtEnd Whole) items ≡ f.ending (AtEnd Whole) good.items)
-  read_whole (AtEnd Whole) h =
+  read_whole : (end : LogEnd) → ReadsLines end f.most opened back bytes bad → (end ≡ log.Whole) × (f.ending log.Whole items ≡ f.ending log.Whole good.items)
+  read_whole log.Whole h =
       let front = front_by Whole h.0 in
-      (refl, (same_whole (whole_text bytes h.0.extra front.0 good.text front.2 h.0.cause.0 (none_left back.left front.0 front.1 h.0.cause.1))).0 (AtEnd Whole))
-  read_whole (AtEnd Fault) h = absurd (good.no_fault (rose_by_one opened.faults back.faults h.0.cause.1))
-  read_whole (AtEnd TooLong) h =
+      (refl, (same_whole (whole_text bytes h.0.extra front.0 good.text front.2 h.0.cause.0 (none_left back.left front.0 front.1 h.0.cause.1))).0 log.Whole)
+  read_whole log.Fault h = absurd (good.no_fault (rose_by_one opened.faults back.faults h.0.cause.1))
+  read_whole log.Long h =
       let front = front_by TooLong h.0 in
       let size = h.0.cause.0 in
       let one = h.0.cause.1 in
       let most = good.most in
       let len = ap length front.2 in
       absurd (omega (arith, length-append (bytes ++ h.0.extra) front.0, length-append bytes h.0.extra))
-  read_whole (AtBadLine n) h =
+  read_whole (log.BadLine n) h =
       let front = front_of opened.left back.left good.text bytes good.told good.tells h.0.taken in
       elim h.1 [
         | inl is ↦ absurd (no_bad_front n front.0 front.2 is)
@@ -207,8 +207,8 @@ file_done f readable opened back out out_now result r p no_write = elim r [
   | inr stopped ↦ absurd (no_write (rose_by_one out.faults out_now.faults (subst (λ (n : ℕ). RoseByOne n out_now.faults) stopped.given.1 stopped.failed.3)))
   | inl h ↦ elim h.written [
     | inr failed ↦ absurd (no_write (rose_by_one out.faults out_now.faults (subst (λ (n : ℕ). RoseByOne n out_now.faults) h.given.1 failed.1.3)))
-    | inl all ↦ (let whole = read_whole f readable opened back p h.bytes h.items h.bad h.said h.reach h.read in
-        all.0 ∙ ap status_of (h.due_is ∙ ap (λ (x : Reach). f.ending x h.items) whole.0 ∙ whole.1 ∙ p.room))
+    | inl all ↦ (let whole = read_whole f readable opened back p h.bytes h.items h.bad h.said h.end h.read in
+        all.0 ∙ ap status_of (h.due_is ∙ ap (λ (x : LogEnd). f.ending x h.items) whole.0 ∙ whole.1 ∙ p.room))
   ]
 ]
 

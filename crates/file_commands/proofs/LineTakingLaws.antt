@@ -1,20 +1,18 @@
 -- What a piece does to something that takes the lines of a file.
-use Rattle.std.proofs.Common.{◌≡◌, ℕ, ◌+◌, ◌<◌, ◌≤◌, Bool, true, false, eqb, Option, None, Some, List, [], ◌∷◌, ◌++◌, length, take, refl, ap, sym, ◌∙◌, subst, inr, arith, cond}
+use Rattle.std.proofs.Common.{◌≡◌, ℕ, ◌+◌, ◌<◌, ◌≤◌, Bool, true, false, eqb, Option, None, Some, Ok, Err, List, [], ◌∷◌, ◌++◌, length, take, refl, ap, sym, ◌∙◌, subst, inr, arith, cond}
 use Rattle.std.proofs.lemmas.List.{append-nil, length_push}
 use Rattle.line_cutter.proofs.ItemLaws.{complete_count, same_items, too_long_line, next_item, bad_line, short_unfinished}
 use Rattle.line_cutter.specs.Cutting.{HasTaken, TakesPiece, IsCut, line_in}
 use Rattle.line_cutter.specs.declared.cutter.Cut.{Cut}
 use Rattle.line_cutter.specs.declared.cutter.Cut.TheVariants.{More, Line, TooLong}
 use Rattle.line_cutter.specs.declared.cutter.LineCutter.{LineCutter}
-use Rattle.line_cutter.specs.declared.cutter.Taken.{Taken}
+use Rattle.pulse_log.specs.declared.taken.Taken.{Taken}
 use Rattle.pulse_log.proofs.LogLaws.{lines_more, lines_end}
 use Rattle.tick_units.specs.Log.{Lines, lines_of, has_tail}
 use Rattle.file_commands.specs.LineFiles.{HasItemsOf}
 use Rattle.file_commands.specs.LineTaking.{IsTakenBy, LineWay, TakesLine, line_taker, line_texts}
 use Rattle.file_commands.specs.Reading.{bad_in_the_end}
-use Rattle.file_commands.specs.Taking.{given, bad_of}
-use Rattle.file_commands.specs.declared.reading.Gives.{Gives}
-use Rattle.file_commands.specs.declared.reading.Gives.TheVariants.{Nothing, Text, Bad}
+use Rattle.file_commands.specs.Taking.{Gives, given, bad_of}
 
 tail_by : (b : Bool) (n : ℕ) → b ≡ true → ◌≡◌ {A = Option ℕ} (cond b (Some n) None) (Some n)
 tail_by true n e = refl
@@ -37,12 +35,12 @@ module _ {T : Type 0} (way : LineWay T) (some : (n : ℕ) → 0 < way.file.too_l
       bad_in_the_end None bytes ≡ None
   no_tail bytes text found h tail is = no_tail_by (has_tail bytes) (length (lines_of bytes).complete + 1) (sym (tail bytes (h.cut refl)) ∙ is)
 
-  module _ (bytes : List ℕ) (taken : Taken) (cutter_now : LineCutter) (takes : (b : List ℕ) → HasTaken cutter way.room b → TakesPiece cutter_now way.room b bytes taken) where
+  module _ (bytes : List ℕ) (taken : Taken Cut) (cutter_now : LineCutter) (takes : (b : List ℕ) → HasTaken cutter way.room b → TakesPiece cutter_now way.room b bytes taken) where
     -- this many bytes were cut, in this way
-    cut_by : (before : List ℕ) (cut : Cut) → taken.cut ≡ cut → HasTaken cutter way.room before → IsCut cut cutter_now way.room before bytes (take taken.count bytes)
+    cut_by : (before : List ℕ) (cut : Cut) → taken.found ≡ cut → HasTaken cutter way.room before → IsCut cut cutter_now way.room before bytes (take taken.count bytes)
     cut_by before cut is h = subst (λ (k : Cut). IsCut k cutter_now way.room before bytes (take taken.count bytes)) is (takes before h).cut
 
-    pub took_more : (before text : List ℕ) → IsTakenBy way (line_taker taker cutter lines) before text None → way.room ≤ way.file.too_long lines → taken.cut ≡ More →
+    pub took_more : (before text : List ℕ) → IsTakenBy way (line_taker taker cutter lines) before text None → way.room ≤ way.file.too_long lines → taken.found ≡ More →
         IsTakenBy way (line_taker taker cutter_now lines) (before ++ take taken.count bytes) (text ++ []) None
     took_more before text h within is =
         let cut = cut_by before More is (h.cut refl) in
@@ -57,7 +55,7 @@ module _ {T : Type 0} (way : LineWay T) (some : (n : ℕ) → 0 < way.file.too_l
           count = λ _. h.count refl;
         }
 
-    pub took_long : (before text : List ℕ) → IsTakenBy way (line_taker taker cutter lines) before text None → way.file.too_long lines ≤ way.room → taken.cut ≡ TooLong →
+    pub took_long : (before text : List ℕ) → IsTakenBy way (line_taker taker cutter lines) before text None → way.file.too_long lines ≤ way.room → taken.found ≡ TooLong →
         IsTakenBy way (line_taker taker cutter_now lines) (before ++ take taken.count bytes) (text ++ []) (Some (lines + 1))
     took_long before text h within is =
         let cut = cut_by before TooLong is (h.cut refl) in
@@ -78,8 +76,8 @@ module _ {T : Type 0} (way : LineWay T) (some : (n : ℕ) → 0 < way.file.too_l
         × ((lines_of (before ++ take taken.count bytes)).complete ≡ (lines_of before).complete ++ line_in cutter_now ∷ [])) where
       took_one : (gives : Gives) → TakesLine way lines (line_taker later final lines_now) h.items (line_texts (line_in cutter_now) line) gives →
           IsTakenBy way (line_taker later final lines_now) (before ++ take taken.count bytes) (text ++ given gives line) (bad_of gives)
-      took_one Nothing p = absurd p
-      took_one (Text n) p =
+      took_one (Ok None) p = absurd p
+      took_one (Ok (Some n)) p =
           let item = p.1.0 in
           let none = ap length cut.1 in
           let least = some (length (h.items ++ item ∷ [])) in
@@ -91,18 +89,18 @@ module _ {T : Type 0} (way : LineWay T) (some : (n : ℕ) → 0 < way.file.too_l
             cut = λ _. subst (λ (k : LineCutter). HasTaken k way.room (before ++ take taken.count bytes)) (sym same) cut.0;
             count = λ _. p.0 ∙ ap (λ (k : ℕ). k + 1) (h.count refl) ∙ sym (length_push h.items item);
           }
-      took_one (Bad number) p =
+      took_one (Err bad) p =
           let said : HasItemsOf way.file (before ++ take taken.count bytes) h.items (Some (length h.items + 1)) = bad_line way.file.says way.file.too_long before h.items h.said (before ++ take taken.count bytes) (line_in cutter_now) cut.2 (inr p.1) in
           record {
             items = h.items;
             said = subst (λ (n : ℕ). HasItemsOf way.file (before ++ take taken.count bytes) h.items (Some n)) (sym (p.0 ∙ ap (λ (k : ℕ). k + 1) (h.count refl))) said;
             text_is = append-nil text ∙ h.text_is;
             taken = p.2;
-            cut = λ none. absurd (let e : ◌≡◌ {A = Option ℕ} (Some number) None = none in cc);
-            count = λ none. absurd (let e : ◌≡◌ {A = Option ℕ} (Some number) None = none in cc);
+            cut = λ none. absurd (let e : ◌≡◌ {A = Option ℕ} (Some bad.line) None = none in cc);
+            count = λ none. absurd (let e : ◌≡◌ {A = Option ℕ} (Some bad.line) None = none in cc);
           }
 
-    pub took_line : (before text : List ℕ) (later : T) (lines_now : ℕ) (final : LineCutter) (line : List ℕ) (gives : Gives) → IsTakenBy way (line_taker taker cutter lines) before text None → taken.cut ≡ Line → final ≡ cutter_now →
+    pub took_line : (before text : List ℕ) (later : T) (lines_now : ℕ) (final : LineCutter) (line : List ℕ) (gives : Gives) → IsTakenBy way (line_taker taker cutter lines) before text None → taken.found ≡ Line → final ≡ cutter_now →
         ((items : List way.file.Item) → lines ≡ length items → way.stands taker items None → TakesLine way lines (line_taker later final lines_now) items (line_texts (line_in cutter_now) line) gives) →
         IsTakenBy way (line_taker later final lines_now) (before ++ take taken.count bytes) (text ++ given gives line) (bad_of gives)
     took_line before text later lines_now final line gives h is same takes_line =

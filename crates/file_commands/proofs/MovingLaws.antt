@@ -1,5 +1,5 @@
 -- The lines of a journal: each text says one, and they are short.
-use Rattle.std.proofs.Common.{◌≡◌, ℕ, ◌+◌, ◌<◌, Bool, true, false, cond, nat_eq, Option, None, Some, List, [], ◌∷◌, ◌++◌, length, codes, append_assoc, refl, ap, sym, ◌∙◌, subst, arith}
+use Rattle.std.proofs.Common.{◌≡◌, ℕ, ◌+◌, ◌<◌, Bool, true, false, cond, nat_eq, Option, None, Some, Ok, Err, List, [], ◌∷◌, ◌++◌, length, codes, append_assoc, refl, ap, sym, ◌∙◌, subst, arith}
 use Rattle.std.proofs.lemmas.List.{append-nil, length-map, map-append}
 use Rattle.std.proofs.lemmas.Bool.{eqb-true}
 use Rattle.std.proofs.lemmas.List.FromFn.{length-enumerate_from}
@@ -23,7 +23,6 @@ use Rattle.file_commands.specs.JournalTaking.{journal_way, journal_taker}
 use Rattle.file_commands.specs.LineTaking.{LineTexts, TakesLine}
 use Rattle.file_commands.specs.declared.migrate.mover.JournalMover.{JournalMover}
 use Rattle.file_commands.specs.Moving.{HasMoved, IsFormOf, IsMoving, MoverFields, MovesLine, MovesText}
-use Rattle.file_commands.specs.declared.reading.Gives.TheVariants.{Bad, Text}
 use Rattle.file_commands.specs.Migrating.{HasFormOf, TellsNumber, entries_of, journal_line_limit, journal_text, most_lines, says_line}
 
 abbrev length_limit : Bool → ℕ
@@ -85,12 +84,12 @@ journal_more settings lines line =
 
 -- a text that was moved is the next line
 pub moved_line : (of : StationFields) (count : ℕ) (m : JournalMover) (before : List JournalLine) (line : LineTexts) (size : ℕ) → m.lines ≡ count + 1 →
-    MovesText m.mover (settings_of of) before line m.lines (Some size) → TakesLine (journal_way of) count (journal_taker m) before line (Text size)
+    MovesText m.mover (settings_of of) before line m.lines (Some size) → TakesLine (journal_way of) count (journal_taker m) before line (Ok (Some size))
 moved_line of count m before line size one h =
     (one, (h.0, h.1, h.2, journal_more (settings_of of) before h.0 ∙ ap (λ (t : List ℕ). journal_text (settings_of of) (entries_of before) ++ t) (sym h.3)))
 
 pub refused_line : (of : StationFields) (count : ℕ) (m : JournalMover) (before : List JournalLine) (line : LineTexts) → m.lines ≡ count + 1 →
-    MovesText m.mover (settings_of of) before line m.lines None → TakesLine (journal_way of) count (journal_taker m) before line (Bad m.lines)
+    MovesText m.mover (settings_of of) before line m.lines None → TakesLine (journal_way of) count (journal_taker m) before line (Err (record { line = m.lines }))
 refused_line of count m before line one h = (one, h.0, h.1)
 
 -- ---- one line more of a mover

@@ -1,5 +1,5 @@
 -- What a player of a script's bytes stands for, with more bytes.
-use Rattle.std.proofs.Common.{◌≡◌, ℕ, ◌+◌, List, [], ◌∷◌, ◌++◌, take, ap, sym, ◌∙◌}
+use Rattle.std.proofs.Common.{◌≡◌, ℕ, ◌+◌, Some, Ok, List, [], ◌∷◌, ◌++◌, take, ap, sym, ◌∙◌}
 use Rattle.radio_receiver.specs.Histories.{History}
 use Rattle.script_player.specs.KeptPlayer.{HasPlayed}
 use Rattle.script_player.specs.Replay.{Played, ReplayCase, outcome}
@@ -7,13 +7,12 @@ use Rattle.script_player.specs.Texts.{outcome_text, replay_text}
 use Rattle.file_commands.specs.LineTaking.{LineTexts, TakesLine}
 use Rattle.file_commands.specs.Playing.{script_taker, script_way}
 use Rattle.file_commands.specs.Script.{says_played}
-use Rattle.file_commands.specs.declared.reading.Gives.TheVariants.{Text}
 use Rattle.file_commands.specs.declared.replay.replayer.Replayer.{Replayer}
 use Rattle.script_player.proofs.ReplayLaws.{replay_push}
 
 -- a line that was played adds its own text
 pub played_line : {B : Type 0} (stands : B → History → Type 0) (r : Replayer B) (of : ReplayCase) (count : ℕ) (before : List Played) (line : LineTexts) (size : ℕ) (played : Played) →
     r.lines ≡ count + 1 → says_played of.station before line.text played → HasPlayed stands r.player of (before ++ played ∷ []) → take size line.given ≡ outcome_text (outcome of.station of.limit before played) →
-    TakesLine (script_way stands of) count (script_taker r) before line (Text size)
+    TakesLine (script_way stands of) count (script_taker r) before line (Ok (Some size))
 played_line stands r of count before line size played one says stood is =
     (one, (played, says, stood, replay_push of.station of.limit before played ∙ ap (λ (t : List ℕ). replay_text of.station of.limit before ++ t) (sym is)))

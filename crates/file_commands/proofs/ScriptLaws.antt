@@ -56,5 +56,5 @@ pub script_readable : (limit : ℕ) (of : StationFields) → IsReadable (script_
 script_readable limit of = record {
   ends = λ bytes items good bad h g.
       let one = one_reading (says_line of) script_line_limit (says_one of) (says_short of) bytes (lines_of items) (lines_of good) bad (lines_said of bytes items bad h) (lines_said of bytes good None g) in
-      (λ reach. ap (λ ls. replay_ending reach (is_full of limit ls) limit) one.0, one.1);
+      (λ end. ap (λ ls. replay_ending end (is_full of limit ls) limit) one.0, one.1);
 }

@@ -1,5 +1,5 @@
 -- What it is to decode a log: what is opened, the bytes read, why the reading ended, and what is written.
-use Rattle.std.specs.Prelude.{◌≡◌, ℕ, ◌⊎◌, ◌^◌, ◌≤◌, IsSome, Some, None, List, [], ◌++◌, ◌∷◌, length, map}
+use Rattle.std.specs.Prelude.{◌≡◌, ℕ, ◌⊎◌, ◌≤◌, IsSome, Some, None, List, [], ◌++◌, ◌∷◌, length, map}
 use Rattle.feed_link.specs.Faults.{Rose}
 use Rattle.feed_link.specs.Told.{SourceState, SinkState}
 use Rattle.feed_link.specs.Openings.{Opening, OutsideState, Wanted, MakesOpenings, log_visit, visited}
@@ -17,16 +17,13 @@ use Rattle.file_commands.specs.Writing.{Answers}
 use Rattle.file_commands.specs.declared.ending.status.Status.{Status}
 use Rattle.file_commands.specs.declared.ending.status.Status.TheVariants.{WriteFault}
 use Rattle.file_commands.specs.declared.ending.subject.Subject.TheVariants.{Feed}
-use Rattle.file_commands.specs.declared.reading.Reach.{Reach}
-
--- a log has at most 2^30 bytes
-abbrev pub most_of_a_log : ℕ
-most_of_a_log = 2 ^ 30
+use Rattle.file_reader.specs.declared.log_end.LogEnd.{LogEnd}
+use Rattle.log_decoder.specs.Decoding.{most_of_a_log}
 
 -- the reading ended by itself: the lines of the answers are written, and then the status line; a write of it may fail
 pub record EndsByCause (plan : Plan) (file file_now : SourceState) (out out_now : SinkState) (result : Status) : Type 0 where
   pub bytes : List ℕ
-  pub due : Reach
+  pub due : LogEnd
   pub read : ReadsLines due most_of_a_log file file_now bytes (bad_line bytes)
   pub between : SinkState
   pub lines : WritesAll out between (log_text plan bytes)

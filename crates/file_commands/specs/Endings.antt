@@ -3,8 +3,8 @@ use Rattle.std.specs.Prelude.{ℕ, List, ◌++◌, codes, decimal}
 use Rattle.file_reader.specs.declared.reader.FileEnd.TheVariants as file
 use Rattle.file_commands.specs.declared.ending.Ending.{Ending}
 use Rattle.file_commands.specs.declared.ending.Ending.TheVariants.{Whole, WrongWords, NotOpened, NotRead, WrongLine, Full, NoMemory, LinkFailed, Long}
-use Rattle.file_commands.specs.declared.reading.Reach.{Reach}
-use Rattle.file_commands.specs.declared.reading.Reach.TheVariants.{AtEnd, AtBadLine}
+use Rattle.file_reader.specs.declared.log_end.LogEnd.{LogEnd}
+use Rattle.file_reader.specs.declared.log_end.LogEnd.TheVariants as log
 use Rattle.file_commands.specs.declared.ending.status.Status.{Status}
 use Rattle.file_commands.specs.declared.ending.status.Status.TheVariants.{Done, Usage, OpenFault, Station, ReadFault, BadLine, JournalFull, LinkFault, WriteFault, Memory, TooLong}
 use Rattle.file_commands.specs.declared.ending.subject.Subject.{Subject}
@@ -63,8 +63,8 @@ status_line NoMemory = codes "status 9 memory\n"
 status_line (Long what) = codes "status 10 long " ++ name_of what ++ codes "\n"
 
 -- how a command ends that has read a file so far
-abbrev pub ending_at : Subject → Reach → Ending
-ending_at what (AtEnd file.Whole) = Whole
-ending_at what (AtEnd file.Fault) = NotRead what
-ending_at what (AtEnd file.TooLong) = Long what
-ending_at what (AtBadLine line) = WrongLine what line
+abbrev pub ending_at : Subject → LogEnd → Ending
+ending_at what log.Whole = Whole
+ending_at what log.Fault = NotRead what
+ending_at what log.Long = Long what
+ending_at what (log.BadLine line) = WrongLine what line

@@ -25,8 +25,8 @@ use Rattle.file_commands.specs.declared.ending.status.Status.{Status}
 use Rattle.file_commands.specs.declared.ending.status.Status.TheVariants.{WriteFault}
 use Rattle.file_commands.specs.declared.ending.subject.Subject.{Subject}
 use Rattle.file_commands.specs.declared.ending.subject.Subject.TheVariants.{Station}
-use Rattle.file_commands.specs.declared.reading.Reach.{Reach}
-use Rattle.file_commands.specs.declared.reading.Reach.TheVariants.{AtEnd}
+use Rattle.file_reader.specs.declared.log_end.LogEnd.{LogEnd}
+use Rattle.file_reader.specs.declared.log_end.LogEnd.TheVariants as log
 
 -- a kind of file: what its lines say, the length at which a line is too long, and the most bytes of the file. Then the text that
 -- its lines give, the page after it, and how a command ends whose reading came this far
@@ -37,7 +37,7 @@ pub record LineFile : Type 1 where
   pub most : ℕ
   pub text : List Item → List ℕ
   pub page : List Item → PageFields
-  pub ending : Reach → List Item → Ending
+  pub ending : LogEnd → List Item → Ending
 
 -- these items are said by the lines of these bytes up to the first bad one, which is this
 abbrev pub HasItemsOf : (f : LineFile) → List ℕ → List f.Item → Option ℕ → Type 0
@@ -49,10 +49,10 @@ pub record EndsRunning (f : LineFile) (file file_now : SourceState) (out out_now
   pub items : List f.Item
   pub bad : Option ℕ
   pub said : HasItemsOf f bytes items bad
-  pub reach : Reach
-  pub read : ReadsLines reach f.most file file_now bytes bad
+  pub end : LogEnd
+  pub read : ReadsLines end f.most file file_now bytes bad
   pub due : Ending
-  pub due_is : due ≡ f.ending reach items
+  pub due_is : due ≡ f.ending end items
   pub between : SinkState
   pub given : WritesAll out between (f.text items)
   pub written : Answers (status_of due) result between out_now (page_text (f.page items) ++ status_line due)
@@ -121,7 +121,7 @@ pub record IsGoodFile (f : LineFile) (opened back : SourceState) : Type 0 where
   pub items : List f.Item
   pub said : HasItemsOf f text items None
   pub finished : has_tail text ≡ false
-  pub room : f.ending (AtEnd Whole) items ≡ ending.Whole
+  pub room : f.ending log.Whole items ≡ ending.Whole
   pub most : length text ≤ f.most
 
 -- a station and such a file for it were opened and given back, one after the other

@@ -1,12 +1,11 @@
 -- Scaffolding: something that takes the lines of a file one by one. It stands for the items that they say, though after a bad
 -- line perhaps for fewer of them. With the cutter of its lines and their count it stands for the bytes, and for the text that it
 -- has given for them.
-use Rattle.std.specs.Prelude.{◌≡◌, ℕ, ◌+◌, Option, None, Some, List, [], ◌∷◌, ◌++◌, length, take}
+use Rattle.std.specs.Prelude.{◌≡◌, ℕ, ◌+◌, Option, None, Some, List, [], ◌∷◌, ◌++◌, length, take, Ok, Err}
 use Rattle.line_cutter.specs.Cutting.{HasTaken}
 use Rattle.line_cutter.specs.declared.cutter.LineCutter.{LineCutter}
 use Rattle.file_commands.specs.LineFiles.{LineFile, HasItemsOf}
-use Rattle.file_commands.specs.declared.reading.Gives.{Gives}
-use Rattle.file_commands.specs.declared.reading.Gives.TheVariants.{Nothing, Text, Bad}
+use Rattle.file_commands.specs.Taking.{Gives}
 
 -- a way to take the lines of a kind of file: when something stands for the items that they say, with their first bad line, and how
 -- much room a cutter has for a line
@@ -48,10 +47,10 @@ file_says f bytes text = (items : List f.Item) × HasItemsOf f bytes items None 
 -- a text was taken as the next line, with the lines counted, and a text was given for it; or it says nothing that may stand
 -- here
 abbrev pub TakesLine : {T : Type 0} → (way : LineWay T) → ℕ → LineTaker T → List way.file.Item → LineTexts → Gives → Type 0
-TakesLine way count now items line Nothing = ⊥
-TakesLine way count now items line (Text size) = (now.count ≡ count + 1)
+TakesLine way count now items line (Ok None) = ⊥
+TakesLine way count now items line (Ok (Some size)) = (now.count ≡ count + 1)
     × ((item : way.file.Item) × way.file.says items line.text item × way.stands now.taker (items ++ item ∷ []) None
     × (way.file.text (items ++ item ∷ []) ≡ way.file.text items ++ take size line.given))
-TakesLine way count now items line (Bad number) = (number ≡ count + 1)
+TakesLine way count now items line (Err bad) = (bad.line ≡ count + 1)
     × ((item : way.file.Item) → way.file.says items line.text item → ⊥)
-    × way.stands now.taker items (Some number)
+    × way.stands now.taker items (Some bad.line)

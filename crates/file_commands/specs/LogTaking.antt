@@ -9,9 +9,7 @@ use Rattle.log_decoder.specs.declared.decoder.LogDecoder.{LogDecoder}
 use Rattle.pulse_log.specs.declared.reader.BadLine.{BadLine}
 use Rattle.radio_receiver.specs.Histories.{History}
 use Rattle.file_commands.specs.Text.{log_text}
-use Rattle.file_commands.specs.Taking.{given}
-use Rattle.file_commands.specs.declared.reading.Gives.{Gives}
-use Rattle.file_commands.specs.declared.reading.Gives.TheVariants.{Nothing, Text, Bad}
+use Rattle.file_commands.specs.Taking.{Gives, given}
 
 -- it has taken these bytes as feed 0 without a path delay, and given their text; this is their first bad line
 pub record IsDecodedBy {B : Type 0} (stands : B → History → Type 0) (decoder : LogDecoder B) (plan : Plan) (bytes text : List ℕ) (bad : Option ℕ) : Type 0 where
@@ -25,8 +23,8 @@ log_says plan bytes text = text ≡ log_text plan bytes
 
 -- what was found is given, in a line of this content
 abbrev pub IsFound : Result (Option Entry) BadLine → Gives → List ℕ → Type 0
-IsFound (Ok None) gives line = gives ≡ Nothing
-IsFound (Ok (Some entry)) Nothing line = ⊥
-IsFound (Ok (Some entry)) (Text length) line = given (Text length) line ≡ entry_line entry
-IsFound (Ok (Some entry)) (Bad number) line = ⊥
-IsFound (Err bad) gives line = gives ≡ Bad bad.line
+IsFound (Ok None) gives line = gives ≡ Ok None
+IsFound (Ok (Some entry)) (Ok None) line = ⊥
+IsFound (Ok (Some entry)) (Ok (Some length)) line = given (Ok (Some length)) line ≡ entry_line entry
+IsFound (Ok (Some entry)) (Err bad) line = ⊥
+IsFound (Err bad) gives line = gives ≡ Err bad

@@ -21,8 +21,8 @@ use Rattle.file_commands.specs.LineFiles.{LineFile, RunsAgainst, HasGoodFile}
 use Rattle.file_commands.specs.declared.ending.Ending.{Ending}
 use Rattle.file_commands.specs.declared.ending.Ending.TheVariants.{Full}
 use Rattle.file_commands.specs.declared.ending.subject.Subject.TheVariants.{Journal}
-use Rattle.file_commands.specs.declared.reading.Reach.{Reach}
-use Rattle.file_commands.specs.declared.reading.Reach.TheVariants.{AtEnd, AtBadLine}
+use Rattle.file_reader.specs.declared.log_end.LogEnd.{LogEnd}
+use Rattle.file_reader.specs.declared.log_end.LogEnd.TheVariants as log
 
 -- a journal has at most 2^22 lines
 abbrev pub most_lines : ℕ
@@ -67,9 +67,11 @@ journal_text settings entries = flat_map (λ n. numbered_text n ++ codes "\n") (
 
 -- how a command ends that has converted the lines so far: bytes after the last line that there may be are reported as a full
 -- journal
-abbrev pub migrate_ending : Reach → Ending
-migrate_ending (AtEnd end) = ending_at Journal (AtEnd end)
-migrate_ending (AtBadLine line) = if line == most_lines + 1 then Full most_lines else ending_at Journal (AtBadLine line)
+abbrev pub migrate_ending : LogEnd → Ending
+migrate_ending log.Whole = ending_at Journal log.Whole
+migrate_ending log.Fault = ending_at Journal log.Fault
+migrate_ending log.Long = ending_at Journal log.Long
+migrate_ending (log.BadLine line) = if line == most_lines + 1 then Full most_lines else ending_at Journal (log.BadLine line)
 
 -- a journal of at most 2^30 bytes: what its lines give, and the page of their entries
 abbrev pub journal_of : StationFields → LineFile
@@ -80,7 +82,7 @@ journal_of station = record {
   most = 2 ^ 30;
   text = λ lines. journal_text (settings_of station) (entries_of lines);
   page = λ lines. page_of (settings_of station) (entries_of lines);
-  ending = λ reach lines. migrate_ending reach;
+  ending = λ end lines. migrate_ending end;
 }
 
 -- what becomes of a command to convert a journal, and when all that it opens has no fault

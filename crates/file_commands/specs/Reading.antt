@@ -4,8 +4,8 @@ use Rattle.feed_link.specs.Told.{SourceState, NoneLeft}
 use Rattle.file_reader.specs.Ends.{HasReadFront, EndsReading}
 use Rattle.file_reader.specs.declared.reader.FileEnd.TheVariants.{Whole, Fault, TooLong}
 use Rattle.tick_units.specs.Log.{lines_of, or_unfinished}
-use Rattle.file_commands.specs.declared.reading.Reach.{Reach}
-use Rattle.file_commands.specs.declared.reading.Reach.TheVariants.{AtEnd, AtBadLine}
+use Rattle.file_reader.specs.declared.log_end.LogEnd.{LogEnd}
+use Rattle.file_reader.specs.declared.log_end.LogEnd.TheVariants as log
 
 -- the first bad line of a file that has ended, where this one is the first while more may come: then an unfinished line is bad
 -- too
@@ -15,9 +15,9 @@ bad_in_the_end bad bytes = or_unfinished bad (lines_of bytes)
 -- these bytes were read of a file of at most this many. This is their first bad line while more may come, and the reading ended
 -- so. At the end no line is bad. At a read that failed, or at the limit, no line is bad so far. A bad line stands among the bytes
 -- or is the unfinished one at the end
-abbrev pub ReadsLines : Reach → ℕ → SourceState → SourceState → List ℕ → Option ℕ → Type 0
-ReadsLines (AtEnd Whole) limit file file_now bytes bad = EndsReading Whole limit file file_now bytes × (bad_in_the_end bad bytes ≡ None)
-ReadsLines (AtEnd Fault) limit file file_now bytes bad = EndsReading Fault limit file file_now bytes × (bad ≡ None)
-ReadsLines (AtEnd TooLong) limit file file_now bytes bad = EndsReading TooLong limit file file_now bytes × (bad ≡ None)
-ReadsLines (AtBadLine line) limit file file_now bytes bad = HasReadFront limit file file_now bytes
+abbrev pub ReadsLines : LogEnd → ℕ → SourceState → SourceState → List ℕ → Option ℕ → Type 0
+ReadsLines log.Whole limit file file_now bytes bad = EndsReading Whole limit file file_now bytes × (bad_in_the_end bad bytes ≡ None)
+ReadsLines log.Fault limit file file_now bytes bad = EndsReading Fault limit file file_now bytes × (bad ≡ None)
+ReadsLines log.Long limit file file_now bytes bad = EndsReading TooLong limit file file_now bytes × (bad ≡ None)
+ReadsLines (log.BadLine line) limit file file_now bytes bad = HasReadFront limit file file_now bytes
     × ((bad ≡ Some line) ⊎ (NoneLeft file_now.left × (bad ≡ None) × (bad_in_the_end bad bytes ≡ Some line)))

@@ -12,17 +12,17 @@ use Rattle.file_commands.specs.Script.{says_played, script_line_limit}
 use Rattle.file_commands.specs.declared.ending.Ending.{Ending}
 use Rattle.file_commands.specs.declared.ending.Ending.TheVariants.{Full}
 use Rattle.file_commands.specs.declared.ending.subject.Subject.TheVariants.{Script}
-use Rattle.file_commands.specs.declared.reading.Reach.{Reach}
-use Rattle.file_commands.specs.declared.reading.Reach.TheVariants.{AtEnd, AtBadLine}
+use Rattle.file_reader.specs.declared.log_end.LogEnd.{LogEnd}
+use Rattle.file_reader.specs.declared.log_end.LogEnd.TheVariants as log
 
 -- how a command ends that has played a script so far, where entries were lost or not: of two causes the status line reports the
 -- one with the lesser number
-abbrev pub replay_ending : Reach → Bool → ℕ → Ending
-replay_ending reach false limit = ending_at Script reach
-replay_ending (AtEnd Whole) true limit = Full limit
-replay_ending (AtEnd Fault) true limit = ending_at Script (AtEnd Fault)
-replay_ending (AtEnd TooLong) true limit = Full limit
-replay_ending (AtBadLine line) true limit = ending_at Script (AtBadLine line)
+abbrev pub replay_ending : LogEnd → Bool → ℕ → Ending
+replay_ending end false limit = ending_at Script end
+replay_ending log.Whole true limit = Full limit
+replay_ending log.Fault true limit = ending_at Script log.Fault
+replay_ending log.Long true limit = Full limit
+replay_ending (log.BadLine line) true limit = ending_at Script (log.BadLine line)
 
 -- a script of at most 2^26 bytes, played with at most this many entries: what its lines give, and the page of the entries kept
 abbrev pub script_of : ℕ → StationFields → LineFile
@@ -33,7 +33,7 @@ script_of limit station = record {
   most = 2 ^ 26;
   text = replay_text station limit;
   page = λ played. page_after station limit (lines_of played);
-  ending = λ reach played. replay_ending reach (is_full station limit (lines_of played)) limit;
+  ending = λ end played. replay_ending end (is_full station limit (lines_of played)) limit;
 }
 
 -- what becomes of a command to replay, and when all that it opens has no fault

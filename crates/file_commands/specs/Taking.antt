@@ -1,18 +1,13 @@
 -- Scaffolding: what the loops over the bytes of a file keep. A taker stands for the bytes that it has taken, for the text that it
 -- has given for them, and for their first bad line.
-use Rattle.std.specs.Prelude.{◌≡◌, ℕ, ◌≤◌, Option, None, Some, List, [], ◌++◌, length, take, Result, MatchResult}
+use Rattle.std.specs.Prelude.{◌≡◌, ℕ, ◌≤◌, Option, None, Some, List, [], ◌++◌, length, take, Result, Ok, Err, MatchResult}
 use Rattle.feed_link.specs.Told.{SourceState, SinkState}
-use Rattle.file_reader.specs.declared.reader.FileEnd.TheVariants.{Whole, Fault, TooLong}
 use Rattle.file_reader.specs.Ends.{HasReadFront}
 use Rattle.journal_entry.specs.declared.writer.TheConstants.{LINE_ROOM}
+use Rattle.pulse_log.specs.declared.reader.BadLine.{BadLine}
 use Rattle.file_commands.specs.Reading.{ReadsLines}
 use Rattle.sink_text.specs.Writing.{WritesAll, WritesFront}
-use Rattle.file_commands.specs.declared.reading.Gives.{Gives}
-use Rattle.file_commands.specs.declared.reading.Gives.TheVariants.{Nothing, Text, Bad}
-use Rattle.file_commands.specs.declared.reading.Reach.{Reach}
-use Rattle.file_commands.specs.declared.reading.Reach.TheVariants.{AtEnd, AtBadLine}
-use Rattle.file_commands.specs.declared.reading.Taken.{Taken}
-use Rattle.file_commands.specs.declared.reading.Taken.TheVariants as taken
+use Rattle.file_reader.specs.declared.log_end.LogEnd.{LogEnd}
 
 abbrev pub Holds : Type 1
 Holds = List ℕ → List ℕ → Option ℕ → Type 0
@@ -21,34 +16,29 @@ Holds = List ℕ → List ℕ → Option ℕ → Type 0
 abbrev pub Says : Type 1
 Says = List ℕ → List ℕ → Type 0
 
+-- what the first bytes give: a text of this many bytes at the beginning of the line, no text, or their bad line
+abbrev pub Gives : Type 0
+Gives = Result (Option ℕ) BadLine
+
 -- the text that the first bytes give, in a line of this content, and the bad line that they have
 abbrev pub given : Gives → List ℕ → List ℕ
-given Nothing line = []
-given (Text length) line = take length line
-given (Bad number) line = []
+given (Ok None) line = []
+given (Ok (Some length)) line = take length line
+given (Err bad) line = []
 
 abbrev pub bad_of : Gives → Option ℕ
-bad_of Nothing = None
-bad_of (Text length) = None
-bad_of (Bad number) = Some number
+bad_of (Ok text) = None
+bad_of (Err bad) = Some bad.line
 
 abbrev pub Fits : Gives → Type 0
-Fits Nothing = Unit {0}
-Fits (Text length) = length ≤ LINE_ROOM
-Fits (Bad number) = Unit {0}
+Fits (Ok None) = Unit {0}
+Fits (Ok (Some length)) = length ≤ LINE_ROOM
+Fits (Err bad) = Unit {0}
 
 -- the text that bytes give was written, or a write of it failed; or they have a bad line, and give no text
-abbrev pub IsGiven : Taken → Gives → List ℕ → SinkState → SinkState → Type 0
-IsGiven taken.All gives line out out_now = (bad_of gives ≡ None) × WritesAll out out_now (given gives line)
-IsGiven (taken.Bad number) gives line out out_now = (bad_of gives ≡ Some number) × WritesAll out out_now (given gives line)
-IsGiven taken.Stopped gives line out out_now = (bad_of gives ≡ None) × WritesFront out out_now (given gives line)
-
--- how far a reading came that came to the end of a file with this bad line, if any
-abbrev pub EndsAt : Reach → Option ℕ → Type 0
-EndsAt (AtEnd Whole) bad = bad ≡ None
-EndsAt (AtEnd Fault) bad = ⊥
-EndsAt (AtEnd TooLong) bad = ⊥
-EndsAt (AtBadLine line) bad = bad ≡ Some line
+abbrev pub IsGiven : {E : Type 0} → Result (Option ℕ) E → Gives → List ℕ → SinkState → SinkState → Type 0
+IsGiven (Ok bad) gives line out out_now = (bad_of gives ≡ bad) × WritesAll out out_now (given gives line)
+IsGiven (Err failed) gives line out out_now = (bad_of gives ≡ None) × WritesFront out out_now (given gives line)
 
 -- all of a piece was taken, or its bytes up to a bad line, and the text of them is written since the start; or a write of it
 -- failed
@@ -89,10 +79,10 @@ pub record Output : Type 0 where
 abbrev pub output_of : SinkState → SinkState → Output
 output_of was is = record { start = was; now = is }
 
-abbrev pub TakesPiece : Holds → Says → Taken → Output → List ℕ → ℕ → Type 0
-TakesPiece holds says taken.All output bytes most = TakesAll holds output.start output.now bytes
-TakesPiece holds says (taken.Bad number) output bytes most = MeetsBad holds number output.start output.now bytes
-TakesPiece holds says taken.Stopped output bytes most = Stops says output.start output.now bytes most
+abbrev pub TakesPiece : {E : Type 0} → Holds → Says → Result (Option ℕ) E → Output → List ℕ → ℕ → Type 0
+TakesPiece holds says (Ok None) output bytes most = TakesAll holds output.start output.now bytes
+TakesPiece holds says (Ok (Some number)) output bytes most = MeetsBad holds number output.start output.now bytes
+TakesPiece holds says (Err failed) output bytes most = Stops says output.start output.now bytes most
 
 -- what flows from a file to a sink: what both reported before and now
 pub record Flow : Type 0 where
@@ -106,14 +96,14 @@ flow_of file file_now out out_now = record { file = file; file_now = file_now; o
 
 -- the reading ended by itself, with the text of the bytes taken written; bytes were read after them only where they have
 -- a bad line
-pub record EndsItself (holds : Holds) (limit : ℕ) (flow : Flow) (reach : Reach) : Type 0 where
+pub record EndsItself (holds : Holds) (limit : ℕ) (flow : Flow) (end : LogEnd) : Type 0 where
   pub front : List ℕ
   pub behind : List ℕ
   pub text : List ℕ
   pub bad : Option ℕ
   pub held : holds front text bad
   pub none_behind : bad ≡ None → behind ≡ []
-  pub read : ReadsLines reach limit flow.file flow.file_now (front ++ behind) bad
+  pub read : ReadsLines end limit flow.file flow.file_now (front ++ behind) bad
   pub written : WritesAll flow.out flow.out_now text
 
 -- a write failed in the text of the bytes taken, of which those after the written text came in one piece of 512 bytes
@@ -122,5 +112,5 @@ pub record EndsStopped (says : Says) (limit : ℕ) (flow : Flow) : Type 0 where
   pub read : HasReadFront limit flow.file flow.file_now bytes
   pub stops : Stops says flow.out flow.out_now bytes 512
 
-abbrev pub EndsTaking : {E : Type 0} → Holds → Says → ℕ → Flow → Result Reach E → Type 0
+abbrev pub EndsTaking : {E : Type 0} → Holds → Says → ℕ → Flow → Result LogEnd E → Type 0
 EndsTaking holds says limit flow result = MatchResult result (EndsItself holds limit flow) (λ _. EndsStopped says limit flow)

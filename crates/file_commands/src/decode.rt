@@ -12,27 +12,24 @@ use crate::ending::status::Status;
 use crate::ending::subject::Subject;
 use crate::ending::writing::finish;
 use crate::lines::write_entry_line;
-use crate::reading::{Gives, Line, Reach, Taker, Took, ending_at, read_lines};
+use crate::reading::{Gives, Line, Taker, ending_at, read_lines};
 use feed_link::{Failed, Outside, Sink, Source};
-use file_reader::FileEnd;
+use file_reader::LogEnd;
 use journal_entry::Entry;
-use log_decoder::LogDecoder;
-use pulse_log::BadLine;
+use log_decoder::{LOG_LIMIT, LogDecoder};
+use pulse_log::{BadLine, Taken};
 use radio_receiver::{DcfReceiver, MsfReceiver, Receiver, WwvbReceiver};
 use tick_units::Plan;
 
-// The most bytes of a log.
-const LIMIT: usize = 1 << 30;
-
-// What a decoder found: the line of an entry, which is then the beginning of `line`, nothing, or a bad line.
+// What a decoder found: the length of an entry's line, which is then the beginning of `line`, nothing, or a bad line.
 fn give_found(found: Result<Option<Entry>, BadLine>, line: &mut Line) -> Gives
     ensures fits { Fits result }
     ensures gives { IsFound found result line.new }
 {
     match found {
-        Ok(None) => Gives::Nothing,
-        Ok(Some(entry)) => Gives::Text(write_entry_line(&entry, line)),
-        Err(BadLine { line: number }) => Gives::Bad(number),
+        Ok(None) => Ok(None),
+        Ok(Some(entry)) => Ok(Some(write_entry_line(&entry, line))),
+        Err(bad) => Err(bad),
     }
 }
 
@@ -52,18 +49,18 @@ impl<R: Receiver> Taker for LogDecoder<R> {
 
     ghost room = { λ decoder. 2 ^ 64 };
 
-    fn take(&mut self, bytes: &[u8], line: &mut Line) -> Took {
+    fn take(&mut self, bytes: &[u8], line: &mut Line) -> Taken<Gives> {
         let step = self.take(bytes);
-        Took {
+        Taken {
             count: step.count,
-            gives: give_found(step.found, line),
+            found: give_found(step.found, line),
         }
     }
 
-    fn at_end(&self) -> Reach {
+    fn at_end(&self) -> LogEnd {
         match self.finish() {
-            Ok(()) => Reach::AtEnd(FileEnd::Whole),
-            Err(bad) => Reach::AtBadLine(bad.line),
+            Ok(()) => LogEnd::Whole,
+            Err(bad) => LogEnd::BadLine { line: bad.line },
         }
     }
 
@@ -78,8 +75,8 @@ fn decode_with<S: Source, R: Receiver, K: Sink>(log: &mut S, receiver: R, out: &
         Decodes plan (S.state log.old) (S.state log.new) (K.state out.old) (K.state out.new) result }
 {
     let mut decoder = LogDecoder::new(0, receiver);
-    match read_lines(log, &mut decoder, LIMIT, out) {
-        Ok(reach) => finish(ending_at(Subject::Feed(0), reach), out),
+    match read_lines(log, &mut decoder, LOG_LIMIT, out) {
+        Ok(end) => finish(ending_at(Subject::Feed(0), end), out),
         Err(Failed) => Status::WriteFault,
     }
 }

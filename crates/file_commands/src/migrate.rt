@@ -19,11 +19,11 @@ use crate::ending::page::finish_page;
 use crate::ending::status::Status;
 use crate::ending::subject::Subject;
 use crate::ending::writing::finish;
-use crate::reading::{Reach, ending_at, read_lines};
+use crate::reading::{ending_at, read_lines};
 use crate::station_file::obstacle::{Obstacle, finish_at};
 use crate::station_file::{STATION_LIMIT, judge, open_station};
 use feed_link::{Failed, Outside, Sink, Source};
-use file_reader::FileEnd;
+use file_reader::{FileEnd, LogEnd};
 use lines::Mover;
 use mover::JournalMover;
 use std::alloc::Global;
@@ -37,12 +37,12 @@ const BEHIND: u64 = 4_194_305;
 const MOST: u32 = 4_194_304;
 
 // How a command ends that has converted the lines of a journal so far.
-fn migrate_ending(reach: Reach) -> Ending
-    ensures { result ≡ migrate_ending reach }
+fn migrate_ending(end: LogEnd) -> Ending
+    ensures { result ≡ migrate_ending end }
 {
-    match reach {
-        Reach::AtBadLine(BEHIND) => Ending::Full(MOST),
-        reach => ending_at(Subject::Journal, reach),
+    match end {
+        LogEnd::BadLine { line: BEHIND } => Ending::Full(MOST),
+        end => ending_at(Subject::Journal, end),
     }
 }
 
@@ -55,7 +55,7 @@ fn move_whole<S: Source, K: Sink>(journal: &mut S, mover: &mut JournalMover, out
         (K.state out.new) result }
 {
     match read_lines(journal, mover, LIMIT, out) {
-        Ok(reach) => finish_page(&mover.mover.page(), migrate_ending(reach), out),
+        Ok(end) => finish_page(&mover.mover.page(), migrate_ending(end), out),
         Err(Failed) => Status::WriteFault,
     }
 }

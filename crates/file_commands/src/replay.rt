@@ -21,11 +21,11 @@ use crate::ending::page::finish_page;
 use crate::ending::status::Status;
 use crate::ending::subject::Subject;
 use crate::ending::writing::finish;
-use crate::reading::{Reach, ending_at, read_lines};
+use crate::reading::{ending_at, read_lines};
 use crate::station_file::obstacle::{Obstacle, finish_at};
 use crate::station_file::{STATION_LIMIT, judge, open_station};
 use feed_link::{Failed, Outside, Sink, Source};
-use file_reader::FileEnd;
+use file_reader::{FileEnd, LogEnd};
 use radio_receiver::Receiver;
 use replayer::Replayer;
 use script_player::{BoxedReceiver, Player};
@@ -35,12 +35,12 @@ use std::alloc::{AllocError, Global};
 const LIMIT: usize = 1 << 26;
 
 // How a command ends that has played a script so far, where entries were lost or not.
-fn replay_ending(reach: Reach, lost: bool, limit: u32) -> Ending
-    ensures { result ≡ replay_ending reach lost limit }
+fn replay_ending(end: LogEnd, lost: bool, limit: u32) -> Ending
+    ensures { result ≡ replay_ending end lost limit }
 {
-    match reach {
-        Reach::AtEnd(FileEnd::Whole | FileEnd::TooLong) if lost => Ending::Full(limit),
-        reach => ending_at(Subject::Script, reach),
+    match end {
+        LogEnd::Whole | LogEnd::Long if lost => Ending::Full(limit),
+        end => ending_at(Subject::Script, end),
     }
 }
 
@@ -60,9 +60,9 @@ fn play_whole<S: Source, K: Sink>(
         (K.state out.new) result }
 {
     match read_lines(script, replayer, LIMIT, out) {
-        Ok(reach) => {
+        Ok(end) => {
             let page = replayer.player.page();
-            let ending = replay_ending(reach, replayer.player.is_full(), limit);
+            let ending = replay_ending(end, replayer.player.is_full(), limit);
             finish_page(&page, ending, out)
         }
         Err(Failed) => Status::WriteFault,

@@ -1,7 +1,9 @@
 -- What was read of a file of which at most `limit` bytes are taken, and how its reading ended.
-use Rattle.std.specs.Prelude.{◌≡◌, ◌≤◌, ℕ, List, [], ◌++◌, length}
+use Rattle.std.specs.Prelude.{◌≡◌, ◌≤◌, ℕ, Option, None, Some, List, [], ◌++◌, length}
 use Rattle.feed_link.specs.Faults.{RoseByOne}
 use Rattle.feed_link.specs.Told.{SourceState, Takes, NoneLeft}
+use Rattle.file_reader.specs.declared.log_end.LogEnd.{LogEnd}
+use Rattle.file_reader.specs.declared.log_end.LogEnd.TheVariants as lines
 use Rattle.file_reader.specs.declared.reader.FileEnd.{FileEnd}
 use Rattle.file_reader.specs.declared.reader.FileEnd.TheVariants.{Whole, Fault, TooLong}
 
@@ -23,3 +25,10 @@ pub record EndsReading (end : FileEnd) (limit : ℕ) (file file_now : SourceStat
   pub taken : Takes file.left file_now.left (bytes ++ extra)
   pub most : length bytes ≤ limit
   pub cause : Cause end limit file file_now bytes extra
+
+-- why the reading of a file of lines ended that was read to its end, by the line that is bad then
+abbrev pub EndsAt : LogEnd → Option ℕ → Type 0
+EndsAt lines.Whole bad = bad ≡ None
+EndsAt (lines.BadLine line) bad = bad ≡ Some line
+EndsAt lines.Fault bad = ⊥
+EndsAt lines.Long bad = ⊥

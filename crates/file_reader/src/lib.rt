@@ -1,8 +1,10 @@
 //! Reads a file piece by piece, up to a limit of bytes, and says how its reading ended.
 #![tactic(auto)]
 
+mod log_end;
 mod reader;
 mod whole;
 
+pub use log_end::LogEnd;
 pub use reader::{FileEnd, FileReader, PIECE, Pulled};
 pub use whole::read_whole;

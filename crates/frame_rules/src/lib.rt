@@ -11,7 +11,7 @@ mod rules;
 mod segment;
 mod send_plan;
 mod spelling;
-mod words;
+mod place_words;
 
 pub use bits::{Bit, has_pattern, is_odd_over, value};
 pub use code_plan::CodePlan;

@@ -7,7 +7,7 @@ mod lawful;
 mod line;
 mod numbered;
 mod read;
-mod words;
+mod keywords;
 mod write;
 mod writer;
 

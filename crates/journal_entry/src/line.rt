@@ -3,7 +3,7 @@ ghost use Rattle.std.specs.Prelude.{◌≡◌, IfSome, Some};
 ghost use Rattle.journal_entry.specs.Lines.{IsLineText};
 ghost use Rattle.journal_entry.specs.declared.line.JournalLine as line;
 
-use crate::words::VERSION_2;
+use crate::keywords::VERSION_2;
 use crate::{Entry, Numbered, read_entry, read_numbered};
 
 /// A line of a journal: an entry by itself, as in the first form, or with its number and rate, as in the second.

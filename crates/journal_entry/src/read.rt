@@ -10,7 +10,7 @@ ghost use Rattle.journal_entry.specs.declared.numbered.Numbered as numbered;
 ghost use Rattle.tick_units.specs.declared.sample.Sample as sample;
 
 use crate::fields::Fields;
-use crate::{Entry, LINE_ROOM, MOST_RATE, Numbered, What, words, write_numbered, write_unnumbered};
+use crate::{Entry, LINE_ROOM, MOST_RATE, Numbered, What, keywords, write_numbered, write_unnumbered};
 use tick_units::{Kind, Sample, Short};
 
 /// The entry whose text this is. `None` where no entry has this text.
@@ -92,30 +92,30 @@ fn read_what(fields: &mut Fields<'_>) -> Option<What>
     ensures { (w : what.What) → IsWhat w → HasFields fields.old (what_fields w) → result ≡ Some w }
 {
     let word = fields.next();
-    if word == words::VERDICT {
+    if word == keywords::VERDICT {
         Some(What::Heard(Kind::Verdict {
             second: fields.next_u64(),
             leap_at: fields.next_u64(),
         }))
-    } else if word == words::LONE {
+    } else if word == keywords::LONE {
         Some(What::Heard(Kind::Lone {
             second: fields.next_u64(),
         }))
-    } else if word == words::DIFFERS {
+    } else if word == keywords::DIFFERS {
         Some(What::Heard(Kind::Differs {
             before: fields.next_u64(),
             now: fields.next_u64(),
             apart: fields.next_u64(),
         }))
-    } else if word == words::REFUSED {
+    } else if word == keywords::REFUSED {
         Some(What::Heard(Kind::Refused {
             rule: fields.next_u8(),
         }))
-    } else if word == words::SAMPLE {
+    } else if word == keywords::SAMPLE {
         Some(What::Sample(read_sample(fields)))
-    } else if word == words::DECLINED {
+    } else if word == keywords::DECLINED {
         Some(What::Declined(fields.next_u8()))
-    } else if word == words::NOTICE {
+    } else if word == keywords::NOTICE {
         Some(What::Notice(fields.next_u64()))
     } else {
         None

@@ -6,7 +6,7 @@ ghost use Rattle.journal_entry.specs.Texts.{kind_fields, what_fields, text_of};
 ghost use Rattle.journal_entry.specs.Writing.{AddsFields, HasRoom, written};
 
 use crate::writer::{ENTRY_ROOM, LINE_ROOM, TextWriter};
-use crate::{Entry, Numbered, What, words};
+use crate::{Entry, Numbered, What, keywords};
 use itoa::Buffer;
 use tick_units::{Kind, Sample};
 
@@ -54,7 +54,7 @@ pub fn write_numbered(n: &Numbered, out: &mut [u8; LINE_ROOM]) -> usize
     ensures number { n.now.length < 2 ^ 64 }
 {
     let mut text = TextWriter::new(out);
-    text.add(words::VERSION_2);
+    text.add(keywords::VERSION_2);
     text.number(n.length);
     text.rate(n.rate);
     text.number(n.entry.feed);
@@ -74,11 +74,11 @@ fn write_what(what: &What, text: &mut TextWriter<'_>)
         What::Heard(kind) => write_kind(kind, text),
         What::Sample(sample) => write_sample(sample, text),
         What::Declined(code) => {
-            text.field(words::DECLINED);
+            text.field(keywords::DECLINED);
             text.number(*code);
         }
         What::Notice(leap_at) => {
-            text.field(words::NOTICE);
+            text.field(keywords::NOTICE);
             text.number(*leap_at);
         }
     }
@@ -93,22 +93,22 @@ fn write_kind(kind: &Kind, text: &mut TextWriter<'_>)
 {
     match kind {
         Kind::Verdict { second, leap_at } => {
-            text.field(words::VERDICT);
+            text.field(keywords::VERDICT);
             text.number(*second);
             text.number(*leap_at);
         }
         Kind::Lone { second } => {
-            text.field(words::LONE);
+            text.field(keywords::LONE);
             text.number(*second);
         }
         Kind::Differs { before, now, apart } => {
-            text.field(words::DIFFERS);
+            text.field(keywords::DIFFERS);
             text.number(*before);
             text.number(*now);
             text.number(*apart);
         }
         Kind::Refused { rule } => {
-            text.field(words::REFUSED);
+            text.field(keywords::REFUSED);
             text.number(*rule);
         }
     }
@@ -121,7 +121,7 @@ fn write_sample(sample: &Sample, text: &mut TextWriter<'_>)
     ensures short { written text.new ≤ written text.old + 114 }
     ensures sample { IsSample sample.now }
 {
-    text.field(words::SAMPLE);
+    text.field(keywords::SAMPLE);
     text.span(sample.offset);
     text.span(sample.delay);
     text.span(sample.dispersion);

@@ -71,7 +71,7 @@ none_at piece e = ltb-false (first_feed piece) (length piece) (not_found _ (firs
 
 -- the whole piece goes on with the line
 pub takes_all : (old new : LineCutter) (too_long : ℕ) (bytes piece : List ℕ) → HasTaken old too_long bytes → position is_feed piece ≡ None →
-    new.too_long ≡ old.too_long → line_in new ≡ unfinished_in old ++ piece → new.ended ≡ false → TakesPiece new too_long bytes piece (record { count = length piece; cut = More })
+    new.too_long ≡ old.too_long → line_in new ≡ unfinished_in old ++ piece → new.ended ≡ false → TakesPiece new too_long bytes piece (record { count = length piece; found = More })
 takes_all old new too_long bytes piece h none same line going =
     let all = take-length piece in
     let plain = subst (λ (t : List ℕ). list_any is_feed t ≡ false) all (front_plain piece (length piece) (none_at piece none)) in
@@ -89,7 +89,7 @@ takes_all old new too_long bytes piece h none same line going =
 
 -- the piece ends the line
 pub takes_line : (old new : LineCutter) (too_long : ℕ) (bytes piece : List ℕ) (place : ℕ) → HasTaken old too_long bytes → position is_feed piece ≡ Some place →
-    new.too_long ≡ old.too_long → line_in new ≡ unfinished_in old ++ take place piece → new.ended ≡ true → TakesPiece new too_long bytes piece (record { count = place + 1; cut = Line })
+    new.too_long ≡ old.too_long → line_in new ≡ unfinished_in old ++ take place piece → new.ended ≡ true → TakesPiece new too_long bytes piece (record { count = place + 1; found = Line })
 takes_line old new too_long bytes piece place h some same line ended =
     let here = found_at piece place some in
     let first = here.first in
@@ -112,7 +112,7 @@ takes_line old new too_long bytes piece place h some same line ended =
 
 -- the piece makes the line too long
 too_much : (old : LineCutter) (bytes piece : List ℕ) (held : ℕ) → HasTaken old old.too_long bytes → held ≡ length (unfinished_in old) → held < old.too_long →
-    old.too_long - held ≤ first_feed piece → old.too_long - held ≤ length piece → TakesPiece old old.too_long bytes piece (record { count = old.too_long - held; cut = TooLong })
+    old.too_long - held ≤ first_feed piece → old.too_long - held ≤ length piece → TakesPiece old old.too_long bytes piece (record { count = old.too_long - held; found = TooLong })
 too_much old bytes piece held h is short before within =
     let front = take (old.too_long - held) piece in
     let plain = front_plain piece (old.too_long - held) before in
@@ -123,9 +123,9 @@ too_much old bytes piece held h is short before within =
     record { within = within; cut = (h, omega arith, ap (λ (l : Lines). l.complete) lines) }
 
 pub takes_too_much : (old : LineCutter) (too_long : ℕ) (bytes piece : List ℕ) (held : ℕ) → HasTaken old too_long bytes → held ≡ length (unfinished_in old) → held < old.too_long →
-    old.too_long - held ≤ first_feed piece → old.too_long - held ≤ length piece → TakesPiece old too_long bytes piece (record { count = old.too_long - held; cut = TooLong })
+    old.too_long - held ≤ first_feed piece → old.too_long - held ≤ length piece → TakesPiece old too_long bytes piece (record { count = old.too_long - held; found = TooLong })
 takes_too_much old too_long bytes piece held h is short before within =
-    subst (λ t. TakesPiece old t bytes piece (record { count = old.too_long - held; cut = TooLong })) h.limit
+    subst (λ t. TakesPiece old t bytes piece (record { count = old.too_long - held; found = TooLong })) h.limit
     (too_much old bytes piece held (record { limit = refl; unfinished = h.unfinished }) is short before within)
 
 pub too_much_of_line : (piece : List ℕ) (too_long place held : ℕ) → position is_feed piece ≡ Some place → too_long - held ≤ place → (too_long - held ≤ first_feed piece) × (too_long - held ≤ length piece)

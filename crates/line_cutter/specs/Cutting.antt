@@ -2,9 +2,9 @@
 -- bytes before it.
 use Rattle.std.specs.Prelude.{◌≡◌, ℕ, ◌≤◌, List, [], ◌∷◌, ◌++◌, length, take, if◌then◌else◌}
 use Rattle.tick_units.specs.Log.{lines_of}
+use Rattle.pulse_log.specs.declared.taken.Taken.{Taken}
 use Rattle.line_cutter.specs.declared.cutter.Cut.{Cut}
 use Rattle.line_cutter.specs.declared.cutter.Cut.TheVariants.{More, Line, TooLong}
-use Rattle.line_cutter.specs.declared.cutter.Taken.{Taken}
 use Rattle.line_cutter.specs.declared.cutter.LineCutter.{LineCutter}
 
 -- the line that is kept: the last one that ended, or the one that goes on
@@ -32,6 +32,6 @@ IsCut TooLong new too_long bytes piece taken =
     HasTaken new too_long bytes × (length (lines_of (bytes ++ taken)).unfinished ≡ too_long)
     × ((lines_of (bytes ++ taken)).complete ≡ (lines_of bytes).complete)
 
-pub record TakesPiece (new : LineCutter) (too_long : ℕ) (bytes piece : List ℕ) (taken : Taken) : Type 0 where
+pub record TakesPiece (new : LineCutter) (too_long : ℕ) (bytes piece : List ℕ) (taken : Taken Cut) : Type 0 where
   pub within : taken.count ≤ length piece
-  pub cut : IsCut taken.cut new too_long bytes piece (take taken.count piece)
+  pub cut : IsCut taken.found new too_long bytes piece (take taken.count piece)

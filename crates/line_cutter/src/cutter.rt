@@ -3,6 +3,8 @@ ghost use Rattle.std.specs.Prelude.{◌≡◌, ◌==◌, ◌+◌, ◌<◌, ◌�
 ghost use Rattle.std.specs.List.{position};
 ghost use Rattle.tick_units.specs.Log.{has_tail};
 
+use pulse_log::Taken;
+
 // The room for a line.
 const ROOM: usize = 4096;
 
@@ -15,14 +17,6 @@ pub enum Cut {
     Line,
     /// The line has come to the length at which it is too long, without a line feed.
     TooLong,
-}
-
-/// How much of a piece was taken, and what it did.
-#[derive(Clone, Copy, Debug, PartialEq, Eq)]
-pub struct Taken {
-    /// The number of bytes up to and including the line feed, or the one that made the line too long, or of the whole piece.
-    pub count: usize,
-    pub cut: Cut,
 }
 
 /// Cuts the bytes of a file, which come in pieces, into lines. It keeps one line.
@@ -54,8 +48,8 @@ impl LineCutter {
     }
 
     /// Takes from a piece what stands up to and including its first line feed, or all of it. Where the line would be too long it
-    /// takes nothing, and says at which byte that shows.
-    pub fn take(&mut self, piece: &[u8]) -> Taken
+    /// keeps nothing, and counts up to the byte at which that shows.
+    pub fn take(&mut self, piece: &[u8]) -> Taken<Cut>
         ensures taken { (too_long : ℕ) (bytes : List ℕ) → HasTaken self.old too_long bytes →
             TakesPiece self.new too_long bytes piece.now result }
         ensures within { result.count ≤ length piece.now }
@@ -68,7 +62,7 @@ impl LineCutter {
                 self.ended = true;
                 Taken {
                     count: place + 1,
-                    cut: Cut::Line,
+                    found: Cut::Line,
                 }
             }
             None if piece.len() < self.too_long - held => {
@@ -76,12 +70,12 @@ impl LineCutter {
                 self.ended = false;
                 Taken {
                     count: piece.len(),
-                    cut: Cut::More,
+                    found: Cut::More,
                 }
             }
             _ => Taken {
                 count: self.too_long - held,
-                cut: Cut::TooLong,
+                found: Cut::TooLong,
             },
         }
     }

@@ -3,4 +3,4 @@
 
 mod cutter;
 
-pub use cutter::{Cut, LineCutter, Taken};
+pub use cutter::{Cut, LineCutter};

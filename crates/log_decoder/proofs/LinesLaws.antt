@@ -12,7 +12,7 @@ use Rattle.pulse_log.specs.declared.reader.BadLine.{BadLine}
 use Rattle.pulse_log.specs.Reading.{HasRead, TakesFront}
 use Rattle.pulse_log.specs.declared.reader.LineReader.{LineReader}
 use Rattle.radio_receiver.specs.Histories.{History, answers_of, least_after, with_reduction}
-use Rattle.log_decoder.specs.Decoding.{DecodesFront, FindsEntry, HasDecoded, IsReady, history_of}
+use Rattle.log_decoder.specs.Decoding.{DecodesFront, FindsEntry, HasDecoded, IsReady, history_of, radio_log}
 use Rattle.log_decoder.specs.Due.{due_log, entry_of}
 use Rattle.log_decoder.specs.declared.decoder.LogDecoder.{LogDecoder}
 use Rattle.log_decoder.proofs.StepLaws.{due_more, due_same, least_on, may_hear}
@@ -54,7 +54,7 @@ pub line_decoded : {B : Type 0} (stands : B → History → Type 0) (old now new
     (heard : Option Heard) (entry : Option Entry) (line : TakesLine old now left before after r) → HasDecoded stands old feed plan delay bytes → new.reader ≡ now.reader → new.feed ≡ now.feed →
     (stands now.receiver (history_of plan delay bytes) → stands new.receiver (with_reduction (history_of plan delay bytes) r)) →
     (stands now.receiver (history_of plan delay bytes) → answers_of (with_reduction (history_of plan delay bytes) r) ≡ answers_of (history_of plan delay bytes) ++ option_to_list heard) →
-    map (entry_of now.feed) (option_to_list heard) ≡ option_to_list entry → DecodesFront stands new feed plan delay bytes (take line.more left) (Ok entry)
+    map (entry_of now.feed) (option_to_list heard) ≡ option_to_list entry → DecodesFront stands new (radio_log feed plan delay) bytes (take line.more left) (Ok entry)
 line_decoded stands old now new feed plan delay bytes left before after r heard entry line decoded same kept stood answered is =
     let takes = line.taken bytes decoded.read in
     let longer = bytes ++ take line.more left in
@@ -73,7 +73,7 @@ line_decoded stands old now new feed plan delay bytes left before after r heard 
 -- bytes that add no reduction
 adds_none : {B : Type 0} (stands : B → History → Type 0) (old now : LogDecoder B) (feed : ℕ) (plan : Plan) (delay : ℕ) (before front : List ℕ) (found : Result (Option Entry) BadLine) → HasDecoded stands old feed plan delay before →
     now.receiver ≡ old.receiver → now.feed ≡ old.feed → HasRead now.reader (before ++ front) → pulses (before ++ front) ≡ pulses before → FindsEntry feed plan delay before (before ++ front) found →
-    DecodesFront stands now feed plan delay before front found
+    DecodesFront stands now (radio_log feed plan delay) before front found
 adds_none stands old now feed plan delay before front found decoded same kept read more finds = record {
   decoded = record {
     of_feed = kept ∙ decoded.of_feed;
@@ -85,7 +85,7 @@ adds_none stands old now feed plan delay before front found decoded same kept re
 
 -- bytes in which no line ends
 pub rests : {B : Type 0} (stands : B → History → Type 0) (old now : LogDecoder B) (feed : ℕ) (plan : Plan) (delay : ℕ) (before front : List ℕ) → HasDecoded stands old feed plan delay before →
-    now.receiver ≡ old.receiver → now.feed ≡ old.feed → TakesFront now.reader before front (Ok None) → DecodesFront stands now feed plan delay before front (Ok None)
+    now.receiver ≡ old.receiver → now.feed ≡ old.feed → TakesFront now.reader before front (Ok None) → DecodesFront stands now (radio_log feed plan delay) before front (Ok None)
 rests stands old now feed plan delay before front decoded same kept takes =
     let more : pulses (before ++ front) ≡ pulses before = takes.found.1 ∙ append-nil (pulses before) in
     adds_none stands old now feed plan delay before front (Ok None) decoded same kept takes.read more
@@ -103,7 +103,7 @@ rests_ready least old now before front rises same takes =
 
 -- bytes with the first bad line
 pub fails : {B : Type 0} (stands : B → History → Type 0) (old now : LogDecoder B) (feed : ℕ) (plan : Plan) (delay : ℕ) (before front : List ℕ) (bad : BadLine) → HasDecoded stands old feed plan delay before →
-    now.receiver ≡ old.receiver → now.feed ≡ old.feed → TakesFront now.reader before front (Err bad) → DecodesFront stands now feed plan delay before front (Err bad)
+    now.receiver ≡ old.receiver → now.feed ≡ old.feed → TakesFront now.reader before front (Err bad) → DecodesFront stands now (radio_log feed plan delay) before front (Err bad)
 fails stands old now feed plan delay before front bad decoded same kept takes =
     adds_none stands old now feed plan delay before front (Err bad) decoded same kept takes.read takes.found.1
     (takes.found.0, due_same feed plan delay before (before ++ front) takes.found.1)
@@ -121,7 +121,7 @@ module _ {B : Type 0} (stands : B → History → Type 0) (feed : ℕ) (plan : P
   regroup all count more = append_assoc bytes (take count all) (take more (drop count all)) ∙ ap (λ (t : List ℕ). bytes ++ t) (sym (take-add count more all))
 
   pub ends : (before now : LogDecoder B) (all : List ℕ) (count more : ℕ) (found : Result (Option Entry) BadLine) → GoesOn stands before feed plan delay bytes (take count all) →
-      DecodesFront stands now feed plan delay (bytes ++ take count all) (take more (drop count all)) found → DecodesFront stands now feed plan delay bytes (take (count + more) all) found
+      DecodesFront stands now (radio_log feed plan delay) (bytes ++ take count all) (take more (drop count all)) found → DecodesFront stands now (radio_log feed plan delay) bytes (take (count + more) all) found
   ends before now all count more (Ok entry) goes takes = record {
     decoded = subst (HasDecoded stands now feed plan delay) (regroup all count more) takes.decoded;
     finds = (
@@ -135,10 +135,10 @@ module _ {B : Type 0} (stands : B → History → Type 0) (feed : ℕ) (plan : P
   }
 
   pub goes_on : (before now : LogDecoder B) (all : List ℕ) (count more : ℕ) (found : Result (Option Entry) BadLine) → found ≡ Ok None → GoesOn stands before feed plan delay bytes (take count all) →
-      DecodesFront stands now feed plan delay (bytes ++ take count all) (take more (drop count all)) found → GoesOn stands now feed plan delay bytes (take (count + more) all)
+      DecodesFront stands now (radio_log feed plan delay) (bytes ++ take count all) (take more (drop count all)) found → GoesOn stands now feed plan delay bytes (take (count + more) all)
   goes_on before now all count more found none goes takes =
-      let both = ends before now all count more (Ok None) goes (subst (DecodesFront stands now feed plan delay (bytes ++ take count all) (take more (drop count all))) none takes) in
+      let both = ends before now all count more (Ok None) goes (subst (DecodesFront stands now (radio_log feed plan delay) (bytes ++ take count all) (take more (drop count all))) none takes) in
       record { decoded = both.decoded; good = λ _. both.finds.0; due = both.finds.1 ∙ append-nil (due_log feed plan delay bytes) }
 
-  pub gives_none : (now : LogDecoder B) (front : List ℕ) → 0 < length front → GoesOn stands now feed plan delay bytes front → DecodesFront stands now feed plan delay bytes front (Ok None)
+  pub gives_none : (now : LogDecoder B) (front : List ℕ) → 0 < length front → GoesOn stands now feed plan delay bytes front → DecodesFront stands now (radio_log feed plan delay) bytes front (Ok None)
   gives_none now front some goes = record { decoded = goes.decoded; finds = (goes.good some, goes.due ∙ sym (append-nil (due_log feed plan delay bytes))) }

@@ -1,5 +1,5 @@
 -- What a decoder stands for: the bytes that it has taken, and the entries that they gave.
-use Rattle.std.specs.Prelude.{◌≡◌, ◌≤◌, ℕ, Option, None, Some, List, ◌++◌, Result, MatchResult}
+use Rattle.std.specs.Prelude.{◌≡◌, ◌≤◌, ◌^◌, ℕ, Option, None, Some, List, ◌++◌, Result, MatchResult}
 use Rattle.std.specs.Option.{option_to_list}
 use Rattle.tick_units.specs.Log.{pulses, bad_line}
 use Rattle.tick_units.specs.declared.marks.Plan.{Plan}
@@ -14,6 +14,10 @@ use Rattle.log_decoder.specs.declared.decoder.LogDecoder.{LogDecoder}
 -- a receiver with this plan and this delay has received the reductions of these bytes
 abbrev pub history_of : Plan → ℕ → List ℕ → History
 history_of plan delay bytes = record { plan = plan; delay = delay; reductions = pulses bytes }
+
+-- a log has at most 2^30 bytes
+abbrev pub most_of_a_log : ℕ
+most_of_a_log = 2 ^ 30
 
 -- the feed whose log it decodes
 abbrev pub feed_of : {B : Type 0} → LogDecoder B → ℕ
@@ -42,7 +46,16 @@ FindsEntry feed plan delay bytes longer found = MatchResult found
     (λ entry. (bad_line longer ≡ None) × (due_log feed plan delay longer ≡ due_log feed plan delay bytes ++ option_to_list entry))
     (λ bad. (bad_line longer ≡ Some bad.line) × (due_log feed plan delay longer ≡ due_log feed plan delay bytes))
 
+-- whose log it is: a feed's number, its plan and its delay in microseconds
+pub record RadioLog : Type 0 where
+  pub feed : ℕ
+  pub plan : Plan
+  pub delay : ℕ
+
+abbrev pub radio_log : ℕ → Plan → ℕ → RadioLog
+radio_log feed plan delay = record { feed = feed; plan = plan; delay = delay }
+
 -- a prefix of what comes is taken
-pub record DecodesFront {B : Type 0} (stands : B → History → Type 0) (decoder : LogDecoder B) (feed : ℕ) (plan : Plan) (delay : ℕ) (bytes front : List ℕ) (found : Result (Option Entry) BadLine) : Type 0 where
-  pub decoded : HasDecoded stands decoder feed plan delay (bytes ++ front)
-  pub finds : FindsEntry feed plan delay bytes (bytes ++ front) found
+pub record DecodesFront {B : Type 0} (stands : B → History → Type 0) (decoder : LogDecoder B) (log : RadioLog) (bytes front : List ℕ) (found : Result (Option Entry) BadLine) : Type 0 where
+  pub decoded : HasDecoded stands decoder log.feed log.plan log.delay (bytes ++ front)
+  pub finds : FindsEntry log.feed log.plan log.delay bytes (bytes ++ front) found

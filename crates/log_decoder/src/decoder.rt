@@ -4,21 +4,15 @@ ghost use Rattle.tick_units.specs.Log.{bad_at_end};
 ghost use Rattle.tick_units.specs.declared.marks.Plan.{Plan};
 ghost use Rattle.minute_pair.specs.Years.{BelievesYears};
 ghost use Rattle.log_decoder.specs.Due.{entry_of};
-ghost use Rattle.log_decoder.specs.Decoding.{HasDecoded, IsReady, IsEntryOf, DecodesFront, feed_of};
+ghost use Rattle.log_decoder.specs.Decoding.{HasDecoded, IsReady, IsEntryOf, DecodesFront, feed_of, radio_log};
 
 use journal_entry::{Entry, What};
-use pulse_log::{BadLine, LineReader};
+use pulse_log::{BadLine, LineReader, Taken};
 use radio_receiver::Receiver;
 use tick_units::Heard;
 
-/// What a decoder took of some bytes, and what it found in them.
-#[derive(Clone, Copy, Debug, PartialEq, Eq)]
-pub struct Step {
-    /// How many of them it took, from the first on.
-    pub count: usize,
-    /// The entry that they complete, or None where they complete none; or the bad line.
-    pub found: Result<Option<Entry>, BadLine>,
-}
+/// The most bytes of a log.
+pub const LOG_LIMIT: usize = 1 << 30;
 
 /// Decodes the log of a radio with a receiver. Where the receiver's type is known, its calls can be inlined; those of a boxed one
 /// cost some forty instructions more a line.
@@ -62,10 +56,10 @@ impl<R: Receiver> LogDecoder<R> {
     }
 
     /// Takes bytes up to the end of the first line that completes an entry, or up to the byte that makes a line bad. Takes all of
-    /// them where there is neither. No clause says how many bytes one call takes. The result belongs to the bytes that were
-    /// taken, and the caller goes on with the rest.
+    /// them where there is neither. What came of them is the entry that they complete, None where they complete none, or the bad
+    /// line. No clause says how many bytes one call takes, and the caller goes on with the rest.
     #[inline(always)]
-    pub fn take(&mut self, bytes: &[u8]) -> Step
+    pub fn take(&mut self, bytes: &[u8]) -> Taken<Result<Option<Entry>, BadLine>>
         requires some { 0 < length bytes.now }
         requires ready { IsReady R.least_start self.old }
         ensures some { 0 < result.count }
@@ -75,7 +69,8 @@ impl<R: Receiver> LogDecoder<R> {
         ensures lawful { IfOk result.found (λ found. IfSome found (IsEntryOf (feed_of self.old))) }
         ensures taken { (feed : ℕ) (plan : Plan) (delay : ℕ) (before : List ℕ) →
             HasDecoded R.stands_for self.old feed plan delay before →
-            DecodesFront R.stands_for self.new feed plan delay before (take result.count bytes.now) result.found }
+            let front = take result.count bytes.now in
+            DecodesFront R.stands_for self.new (radio_log feed plan delay) before front result.found }
     {
         // Each call that is not inlined stands in this function itself. What it writes is then set to zero once a call of `take`.
         // In a function that is inlined into the loop that happens at each line.
@@ -94,7 +89,7 @@ impl<R: Receiver> LogDecoder<R> {
                         Ok(Some(reduction)) => reduction,
                         Ok(None) => continue,
                         Err(bad) => {
-                            return Step {
+                            return Taken {
                                 count,
                                 found: Err(bad),
                             };
@@ -105,14 +100,14 @@ impl<R: Receiver> LogDecoder<R> {
             match self.receiver.hear(reduction) {
                 None => {}
                 Some(heard) => {
-                    return Step {
+                    return Taken {
                         count,
                         found: Ok(Some(entry_of(self.feed, heard))),
                     };
                 }
             }
         }
-        Step {
+        Taken {
             count,
             found: Ok(None),
         }

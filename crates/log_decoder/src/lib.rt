@@ -3,4 +3,4 @@
 
 mod decoder;
 
-pub use decoder::{LogDecoder, Step};
+pub use decoder::{LOG_LIMIT, LogDecoder};

@@ -70,7 +70,8 @@ impl<C: CodePlan> PairingOf<C> {
     /// mark's start.
     pub fn turn(&mut self, mark: &Mark) -> Option<Heard>
         ensures heard { (marks : List Mark) → HasPairedBy C.code self.old marks →
-            C.code.begins_minute (last_or None marks) mark.now ≡ true → HasPairedBy C.code self.new (marks ++ mark.now ∷ []) }
+            C.code.begins_minute (last_or None marks) mark.now ≡ true →
+            HasPairedBy C.code self.new (marks ++ mark.now ∷ []) }
         ensures answered { (marks : List Mark) → HasPairedBy C.code self.old marks →
             C.code.begins_minute (last_or None marks) mark.now ≡ true →
             answers_by C.code (segments_by C.code (marks ++ mark.now ∷ [])) ≡

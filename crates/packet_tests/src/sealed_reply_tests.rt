@@ -129,6 +129,31 @@ fn a_kiss_is_sealed_as_its_request_is(rt: HostRuntime) -> Result<(), Fail> {
     Ok(())
 }
 
+// Whether a reply that is written in the place of an earlier one has these bytes.
+fn is_replied_in(reply: &mut Reply, datagram: &[u8], want: &[u8]) -> Result<bool, Fail> {
+    let page = of_a_radio()?;
+    let (arrived, sent) = (moment(303_000_000)?, moment(303_000_500)?);
+    match Request::read(datagram) {
+        Ok(request) => {
+            request.reply_in(&ring_of_two(), Code::Pass, &page, arrived, sent, reply);
+            Ok(reply.bytes() == want)
+        }
+        Err(_) => Ok(false),
+    }
+}
+
+// A reply is sealed, the next one in its place is not, and the one after that is sealed again.
+#[test]
+fn a_reply_is_written_in_the_place_of_another(rt: HostRuntime) -> Result<(), Fail> {
+    let mut reply = Reply::blank();
+    let asked = packet(REQUEST, 1, BY_LONGWAVE);
+    let sealed = packet(ANSWER, 1, ANSWER_BY_LONGWAVE);
+    assert!(rt; is_replied_in(&mut reply, &asked, &sealed)?);
+    assert!(rt; is_replied_in(&mut reply, &REQUEST, &ANSWER)?);
+    assert!(rt; is_replied_in(&mut reply, &asked, &sealed)?);
+    Ok(())
+}
+
 // MD5 of `longwave` and the request with the first byte 2b, of version 5, and 24, of a server.
 #[test]
 fn what_is_no_request_is_dropped_sealed_or_not(rt: HostRuntime) -> Result<(), Fail> {

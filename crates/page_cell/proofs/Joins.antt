@@ -10,7 +10,7 @@ use Rattle.atomic_table.proofs.Lists.{set_here, set_else}
 use Rattle.atomic_table.specs.Table.{Joins}
 use Rattle.journal_entry.specs.declared.entry.Entry.{Entry}
 use Rattle.page_cell.specs.Claims.{IsReading, IsTally}
-use Rattle.page_cell.specs.Rule.{Fits, HasBank, HoldsBaton, Kept, Stands}
+use Rattle.page_cell.specs.Rule.{Fits, HasBank, HoldsBaton, Kept, roll, Stands}
 use Rattle.page_cell.specs.Views.{both, nobody}
 use Rattle.page_cell.specs.declared.view.Claim.{Claim}
 use Rattle.page_cell.specs.declared.view.View.{View}
@@ -52,7 +52,7 @@ joins s by v other w live live_other still' st o at apart there =
     let a = f.seen in
     let b = g.seen in
     let tally : IsTally n (w.watch.torn, w.watch.greatest) = (let t = g.watch.torn in omega arith, g.watch.most) in
-    let fit : Fits s x o.log o.given home' seat' by j = record {
+    let fit : Fits s x (roll o.log o.given home' seat') by j = record {
       keyed = (λ _. either_settings w.baton v.settings w.settings s (f.keyed live) (g.keyed live_other));
       baton = (λ q. both_baton P v.baton w.baton v.list w.list v.given w.given q (λ e. let b = f.baton e in (sits by (λ z. apart (sym z)) b.0, b.1, b.2, none_stored)) (λ e. let b = g.baton e in (sym (redirect_hit other by o.seat (sym b.0)), b.1, b.2, none_stored)));
       seen = omega arith;
@@ -62,7 +62,7 @@ joins s by v other w live live_other still' st o at apart there =
       watch = record { most = f.watch.most; torn = f.watch.torn; trying = (λ q. absurd (off (sym still' ∙ q))) };
       tallies = All-append (IsTally n) v.tallies ((w.watch.torn, w.watch.greatest) ∷ w.tallies) f.tallies (All-cons (IsTally n) (w.watch.torn, w.watch.greatest) w.tallies tally g.tallies);
     } in
-    let none : Fits s x o.log o.given home' seat' other nobody = record { keyed = (λ q. absurd (off (sym q))); baton = (λ q. absurd (off q)); seen = omega arith; feeds = All-nil _; gathered = All-nil _; readings = All-nil _; watch = quiet x n 0; tallies = All-nil _ } in
+    let none : Fits s x (roll o.log o.given home' seat') other nobody = record { keyed = (λ q. absurd (off (sym q))); baton = (λ q. absurd (off q)); seen = omega arith; feeds = All-nil _; gathered = All-nil _; readings = All-nil _; watch = quiet x n 0; tallies = All-nil _ } in
     record {
       log = o.log;
       given = o.given;
@@ -76,8 +76,8 @@ joins s by v other w live live_other still' st o at apart there =
       counted = o.counted;
       numbered = o.numbered;
       holder = holder views o.seat by other v w at apart at_other o.holder;
-      fits = on_turn (λ k u. Fits s x o.log o.given home' seat' k u) (set views by j) other nobody
-          (λ k u ne q. on_turn (λ k u. k ≢ other → Fits s x o.log o.given home' seat' k u) views by j
+      fits = on_turn (λ k u. Fits s x (roll o.log o.given home' seat') k u) (set views by j) other nobody
+          (λ k u ne q. on_turn (λ k u. k ≢ other → Fits s x (roll o.log o.given home' seat') k u) views by j
           (λ k u n e far. shift s x o.log o.given o.given o.home home' o.seat seat' k k u (le_refl o.given) (λ m _ is. stays k far m is) (λ m _ is. past m is) (λ _ here. (sits k far here, refl)) (o.fits k u e))
           (λ _. fit) k u q ne)
           none;

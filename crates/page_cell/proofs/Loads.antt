@@ -9,7 +9,7 @@ use Rattle.atomic_table.specs.Table.{step, Allows}
 use Rattle.clock_page.specs.Page.{AreWords, PageFields}
 use Rattle.journal_entry.specs.declared.entry.Entry.{Entry}
 use Rattle.page_cell.specs.Claims.{IsReading, IsTrueOf, page_at}
-use Rattle.page_cell.specs.Rule.{bank_word, Fits, HasBank, IsWatch, Kept, Opened, Stands}
+use Rattle.page_cell.specs.Rule.{bank_word, Fits, HasBank, IsWatch, Kept, Opened, roll, Stands}
 use Rattle.page_cell.specs.Steps.{Begins, Ends, Holds, Loads, Looks}
 use Rattle.page_cell.specs.Views.{begins, fails_at, loads_word, succeeds}
 use Rattle.page_cell.specs.declared.view.Claim.{Claim}
@@ -30,7 +30,7 @@ begins_ok k slots by v cs = load_step k slots by 0 v cs (Begins (step slots 0 0 
     let m = f.watch.most in
     let seen = f.seen in
     let watch : IsWatch ws n v.seen w.watch = record { most = omega arith; torn = (let t = fails_less v.watch.unfinished v.watch.greatest v.watch.torn v.watch.fails f.watch.torn in omega arith); trying = (λ _. (omega arith, refl, λ e i lt ten. absurd (omega arith))) } in
-    let fit : Fits k ws o.log o.given o.home o.seat by w = record { keyed = f.keyed; baton = f.baton; seen = f.seen; feeds = f.feeds; gathered = f.gathered; readings = f.readings; watch = watch; tallies = f.tallies } in
+    let fit : Fits k ws (roll o.log o.given o.home o.seat) by w = record { keyed = f.keyed; baton = f.baton; seen = f.seen; feeds = f.feeds; gathered = f.gathered; readings = f.readings; watch = watch; tallies = f.tallies } in
     (w, turned k ws views by v w o at refl fit, (refl, refl, omega arith)))
 
 -- the load of the next word of the bank of the first count
@@ -44,7 +44,7 @@ loads_ok k slots by v cs i trying here = load_step k slots by i v cs (Loads (ste
     let more : v.watch.first ≡ n → HasBank ws n (v.watch.loaded ++ x ∷ []) = λ e.
     subst (λ (j : ℕ). HasBank ws n (v.watch.loaded ++ slice_index ws j ∷ [])) (sym (here ∙ ap (λ (m : ℕ). bank_word m (length v.watch.loaded)) e)) (bank_loaded ws n (length v.watch.loaded) v.watch.loaded refl (t.2 e)) in
     let watch : IsWatch ws n v.seen w.watch = record { most = f.watch.most; torn = f.watch.torn; trying = (λ _. (t.0, t.1, more)) } in
-    let fit : Fits k ws o.log o.given o.home o.seat by w = record { keyed = f.keyed; baton = f.baton; seen = f.seen; feeds = f.feeds; gathered = f.gathered; readings = f.readings; watch = watch; tallies = f.tallies } in
+    let fit : Fits k ws (roll o.log o.given o.home o.seat) by w = record { keyed = f.keyed; baton = f.baton; seen = f.seen; feeds = f.feeds; gathered = f.gathered; readings = f.readings; watch = watch; tallies = f.tallies } in
     (w, turned k ws views by v w o at refl fit, (refl, refl)))
 
 -- the second load of the count
@@ -65,7 +65,7 @@ ends_ok k slots by v cs trying ten = load_step k slots by 0 v cs (Ends (step slo
         let torn = f.watch.torn in
         let most = f.watch.most in
         let watch : IsWatch ws n v.watch.first w.watch = record { most = most; torn = omega arith; trying = (λ q. absurd (off q)) } in
-        let fit : Fits k ws o.log o.given o.home o.seat by w = record { keyed = f.keyed; baton = f.baton; seen = omega arith; feeds = f.feeds; gathered = f.gathered; readings = All-push (IsReading k o.log) v.readings (v.watch.first, v.watch.loaded) f.readings now; watch = watch; tallies = f.tallies } in
+        let fit : Fits k ws (roll o.log o.given o.home o.seat) by w = record { keyed = f.keyed; baton = f.baton; seen = omega arith; feeds = f.feeds; gathered = f.gathered; readings = All-push (IsReading k o.log) v.readings (v.watch.first, v.watch.loaded) f.readings now; watch = watch; tallies = f.tallies } in
         (w, turned k ws views by v w o at refl fit, (refl, subst (λ (b : Bool). MatchBool b ((w ≡ succeeds v) × (v.seen ≤ v.watch.first) × ((p : PageFields) × AreWords v.watch.loaded p)) ((w ≡ fails_at (slice_index ws 0) v) × (v.seen ≤ v.watch.first) × (v.watch.first < slice_index ws 0))) (sym is) (refl, t.0, (page_at k o.log v.watch.first, now.page))))
     go ws views o at false is =
         let f = o.fits by v at in
@@ -80,7 +80,7 @@ ends_ok k slots by v cs trying ten = load_step k slots by 0 v cs (Ends (step slo
         let w = fails_at x v in
         let torn : 4 * v.watch.torn + v.watch.fails ≤ v.watch.first = (let h = f.watch.torn in omega arith) in
         let watch : IsWatch ws n v.seen w.watch = record { most = omega arith; torn = fails_more (v.watch.fails == 3) v.watch.torn v.watch.fails v.watch.first x refl torn above; trying = (λ q. absurd (off q)) } in
-        let fit : Fits k ws o.log o.given o.home o.seat by w = record { keyed = f.keyed; baton = f.baton; seen = f.seen; feeds = f.feeds; gathered = f.gathered; readings = f.readings; watch = watch; tallies = f.tallies } in
+        let fit : Fits k ws (roll o.log o.given o.home o.seat) by w = record { keyed = f.keyed; baton = f.baton; seen = f.seen; feeds = f.feeds; gathered = f.gathered; readings = f.readings; watch = watch; tallies = f.tallies } in
         (w, turned k ws views by v w o at refl fit, (refl, subst (λ (b : Bool). MatchBool b ((w ≡ succeeds v) × (v.seen ≤ v.watch.first) × ((p : PageFields) × AreWords v.watch.loaded p)) ((w ≡ fails_at (slice_index ws 0) v) × (v.seen ≤ v.watch.first) × (v.watch.first < slice_index ws 0))) (sym is) (refl, t.0, above)))
 
 truths : (log : List Entry) (given : ℕ) (home : ℕ → ℕ) (place : ℕ) (cs : List Claim) → All (Stands log given home place) cs → All (IsTrueOf log) cs

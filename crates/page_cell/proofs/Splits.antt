@@ -11,7 +11,7 @@ use Rattle.atomic_table.proofs.Lists.{at_longer, at_last, set_else}
 use Rattle.atomic_table.specs.Table.{Splits}
 use Rattle.journal_entry.specs.declared.entry.Entry.{Entry}
 use Rattle.page_cell.specs.Claims.{of_feed}
-use Rattle.page_cell.specs.Rule.{Fits, HoldsBaton, Kept, Opened, Stands}
+use Rattle.page_cell.specs.Rule.{Fits, HoldsBaton, Kept, Opened, roll, Stands}
 use Rattle.page_cell.specs.Views.{baton_of, emptied, new_claim, new_feed, one_given, receipt_of, seen_by, shown, without_baton}
 use Rattle.page_cell.specs.declared.view.Claim.{Claim}
 use Rattle.page_cell.specs.declared.view.View.{View}
@@ -21,8 +21,8 @@ use Rattle.page_cell.proofs.Turns.{held_set, moved_claims, off, quiet, shift}
 
 -- a pass is cut in two; the places of its claims and the baton may move
 pub forked : (s : SettingsFields) (x : List ℕ) (views : List View) (by : ℕ) (left right : View) (o : Opened s x views) (given' : ℕ) (home' : ℕ → ℕ) (seat' : ℕ) → o.given ≤ given' → given' ≤ length s.sources
-    → ((k : ℕ) (u : View) → k ≢ by → k < length views → Fits s x o.log o.given o.home o.seat k u → Fits s x o.log given' home' seat' k u)
-    → Fits s x o.log given' home' seat' by left → Fits s x o.log given' home' seat' (length views) right → HoldsBaton (set views by left ++ right ∷ []) seat'
+    → ((k : ℕ) (u : View) → k ≢ by → k < length views → Fits s x (roll o.log o.given o.home o.seat) k u → Fits s x (roll o.log given' home' seat') k u)
+    → Fits s x (roll o.log given' home' seat') by left → Fits s x (roll o.log given' home' seat') (length views) right → HoldsBaton (set views by left ++ right ∷ []) seat'
     → Opened s x (set views by left ++ right ∷ [])
 forked s x views by left right o given' home' seat' le most others fit_left fit_right holder = record {
   log = o.log;
@@ -37,7 +37,7 @@ forked s x views by left right o given' home' seat' le most others fit_left fit_
   counted = most;
   numbered = All-weaker (λ (e : Entry). e.feed < o.given) (λ (e : Entry). e.feed < given') (λ e h. (omega arith)) o.log o.numbered;
   holder = holder;
-  fits = on_fork (λ k u. Fits s x o.log given' home' seat' k u) views by left right (λ k u n lt e. others k u n lt (o.fits k u e)) fit_left fit_right;
+  fits = on_fork (λ k u. Fits s x (roll o.log given' home' seat') k u) views by left right (λ k u n lt e. others k u n lt (o.fits k u e)) fit_left fit_right;
 }
 
 held_front : (views : List View) (seat by : ℕ) (v left right : View) → get_elem? views by ≡ some v → left.baton ≡ v.baton → HoldsBaton views seat → HoldsBaton (set views by left ++ right ∷ []) seat
@@ -48,7 +48,7 @@ held_back : (views : List View) (by : ℕ) (left right : View) → right.baton �
 held_back views by left right has = (right, at_last (set views by left) right (length views) (length_of_set views by left), has)
 
 -- what the rule says of a pass with the settings alone
-blank : (s : SettingsFields) (x : List ℕ) (log : List Entry) (given : ℕ) (home : ℕ → ℕ) (seat by : ℕ) (v : View) → v.settings ≡ s → Fits s x log given home seat by (emptied v)
+blank : (s : SettingsFields) (x : List ℕ) (log : List Entry) (given : ℕ) (home : ℕ → ℕ) (seat by : ℕ) (v : View) → v.settings ≡ s → Fits s x (roll log given home seat) by (emptied v)
 blank s x log given home seat by v keyed = record { keyed = (λ _. keyed); baton = (λ q. absurd (off q)); seen = omega arith; feeds = All-nil _; gathered = All-nil _; readings = All-nil _; watch = quiet x (length log) 0; tallies = All-nil _ }
 
 pub gives_reader : (s : SettingsFields) (by : ℕ) (v : View) → v.spent ≡ false → Splits (Kept s) by v v (emptied v)

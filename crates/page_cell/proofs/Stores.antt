@@ -10,7 +10,7 @@ use Rattle.atomic_table.specs.Table.{step, Allows}
 use Rattle.clock_page.specs.Page.{AreWords}
 use Rattle.journal_entry.specs.declared.entry.Entry.{Entry}
 use Rattle.page_cell.specs.Claims.{IsReading, IsTally}
-use Rattle.page_cell.specs.Rule.{bank_word, Fits, HasBank, IsWatch, Kept, Opened, Stands}
+use Rattle.page_cell.specs.Rule.{bank_word, Fits, HasBank, IsWatch, Kept, Opened, roll, Stands}
 use Rattle.page_cell.specs.Steps.{Publishes, Stores}
 use Rattle.page_cell.specs.Views.{added, extended, stores}
 use Rattle.page_cell.specs.declared.view.Claim.{Claim}
@@ -39,8 +39,8 @@ stores_ok k slots by x v cs i has room here = store_step k slots by i x v cs (St
         let at_log : i ≡ bank_word (suc n) m = here ∙ ap (λ (l : List Entry). bank_word (suc (length l)) m) b.1 in
         let w = stores x v in
         let ws' = set ws (bank_word (suc n) m) x in
-        let fit : Fits k ws' o.log o.given o.home o.seat by w = record { keyed = f.keyed; baton = (λ _. (b.0, b.1, b.2, bank_stored ws (suc n) m x v.stored o.width refl room b.3)); seen = f.seen; feeds = f.feeds; gathered = f.gathered; readings = f.readings; watch = kept_watch ws n v.seen m x v.watch room f.watch; tallies = f.tallies } in
-        let others : (j : ℕ) (u : View) → j ≢ by → get_elem? views j ≡ some u → Fits k ws' o.log o.given o.home o.seat j u = λ j u apart e.
+        let fit : Fits k ws' (roll o.log o.given o.home o.seat) by w = record { keyed = f.keyed; baton = (λ _. (b.0, b.1, b.2, bank_stored ws (suc n) m x v.stored o.width refl room b.3)); seen = f.seen; feeds = f.feeds; gathered = f.gathered; readings = f.readings; watch = kept_watch ws n v.seen m x v.watch room f.watch; tallies = f.tallies } in
+        let others : (j : ℕ) (u : View) → j ≢ by → get_elem? views j ≡ some u → Fits k ws' (roll o.log o.given o.home o.seat) j u = λ j u apart e.
         let g = o.fits j u e in
         record { keyed = g.keyed; baton = (λ q. absurd (apart ((g.baton q).0 ∙ sym b.0))); seen = g.seen; feeds = g.feeds; gathered = g.gathered; readings = g.readings; watch = kept_watch ws n u.seen m x u.watch room g.watch; tallies = g.tallies } in
         let done : Opened k ws' (set views by w) = record {
@@ -56,7 +56,7 @@ stores_ok k slots by x v cs i has room here = store_step k slots by i x v cs (St
           counted = o.counted;
           numbered = o.numbered;
           holder = held_set views o.seat by v w at refl o.holder;
-          fits = on_turn (λ j u. Fits k ws' o.log o.given o.home o.seat j u) views by w others fit;
+          fits = on_turn (λ j u. Fits k ws' (roll o.log o.given o.home o.seat) j u) views by w others fit;
         } in
         subst (λ (j : ℕ). Opened k (set ws j x) (set views by w)) (sym at_log) done
 
@@ -77,7 +77,7 @@ readings_more s log e rs all = All-weaker (IsReading s log) (IsReading s (log ++
 
 -- another pass after an entry of this one
 grown : (s : SettingsFields) (ws : List ℕ) (x : ℕ) (log : List Entry) (given : ℕ) (home : ℕ → ℕ) (seat by : ℕ) (e : Entry) → home e.feed ≡ suc by → by ≡ seat
-    → (k : ℕ) (u : View) → k ≢ by → Fits s ws log given home seat k u → Fits s (set ws 0 x) (log ++ e ∷ []) given home seat k u
+    → (k : ℕ) (u : View) → k ≢ by → Fits s ws (roll log given home seat) k u → Fits s (set ws 0 x) (roll (log ++ e ∷ []) given home seat) k u
 grown s ws x log given home seat by e mine here k u apart f =
     let len : length (log ++ e ∷ []) ≡ suc (length log) = omega (arith, length-append log (e ∷ [])) in
     record {
@@ -100,7 +100,7 @@ adds_ok k slots by v cs c e x live has only mine count is = store_step k slots b
     go : (ws : List ℕ) (views : List View) → Opened k ws views → get_elem? views by ≡ some v → (w : View) × Opened k (set ws 0 x) (set views by w) × Publishes e (step slots 0 x 0 none) (v, cs) x (w, cs)
     go ws views o at =
         let b = (o.fits by v at).baton has in
-        let old : (j : ℕ) (u : View) → get_elem? views j ≡ some u → Fits k ws v.list o.given o.home o.seat j u = λ j u q. subst (λ l. Fits k ws l o.given o.home o.seat j u) (sym b.1) (o.fits j u q) in
+        let old : (j : ℕ) (u : View) → get_elem? views j ≡ some u → Fits k ws (roll v.list o.given o.home o.seat) j u = λ j u q. subst (λ l. Fits k ws (roll l o.given o.home o.seat) j u) (sym b.1) (o.fits j u q) in
         let f = old by v at in
         let all = v.list ++ e ∷ [] in
         let len : length all ≡ suc (length v.list) = omega (arith, length-append v.list (e ∷ [])) in
@@ -112,7 +112,7 @@ adds_ok k slots by v cs c e x live has only mine count is = store_step k slots b
         let each : All (λ (d : Claim). e.feed ≡ d.number) v.feeds = All-same (λ (d : Claim). e.feed ≡ d.number) v.feeds (c ∷ []) only (All-cons (λ (d : Claim). e.feed ≡ d.number) c [] mine (All-nil _)) in
         let more : (d : Claim) → e.feed ≡ d.number → st d → Stands all o.given o.home (suc by) (extended e all d) = λ d q t. record { numbered = t.numbered; placed = t.placed; holds = record { own = ap (λ l. l ++ e ∷ []) t.holds.own ∙ sym (of_same d.number v.list e q); own_seen = ap (λ l. l ++ e ∷ []) t.holds.own ∙ sym (of_same d.number v.list e q); seen = prefix_self all } } in
         let bank : HasBank ws' (length all) v.stored = bank_counted ws (length all) x v.stored (subst (λ (n : ℕ). HasBank ws n v.stored) (ap (λ (l : List Entry). suc (length l)) (sym b.1) ∙ sym len) b.3) in
-        let fit : Fits k ws' all o.given o.home o.seat by w = record {
+        let fit : Fits k ws' (roll all o.given o.home o.seat) by w = record {
           keyed = f.keyed;
           baton = (λ _. (b.0, refl, b.2, λ i lt q. absurd (omega arith)));
           seen = (let n = f.seen in omega arith);
@@ -137,7 +137,7 @@ adds_ok k slots by v cs c e x live has only mine count is = store_step k slots b
             counted = o.counted;
             numbered = All-push (λ (d : Entry). d.feed < o.given) v.list e (subst (λ l. All (λ (d : Entry). d.feed < o.given) l) (sym b.1) o.numbered) below;
             holder = held_set views o.seat by v w at refl o.holder;
-            fits = on_turn (λ j u. Fits k ws' all o.given o.home o.seat j u) views by w (λ j u n q. grown k ws x v.list o.given o.home o.seat by e placed b.0 j u n (old j u q)) fit;
+            fits = on_turn (λ j u. Fits k ws' (roll all o.given o.home o.seat) j u) views by w (λ j u n q. grown k ws x v.list o.given o.home o.seat by e placed b.0 j u n (old j u q)) fit;
           },
           (refl, refl, All-weaker st (λ (d : Claim). IsPrefix d.seen v.list) (λ d t. t.holds.seen) v.feeds f.feeds),
         )

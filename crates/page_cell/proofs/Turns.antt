@@ -11,7 +11,7 @@ use Rattle.atomic_table.proofs.Lists.{set_here, set_else}
 use Rattle.atomic_table.specs.Table.{Me, keeps, Allows}
 use Rattle.journal_entry.specs.declared.entry.Entry.{Entry}
 use Rattle.page_cell.specs.Claims.{IsReading}
-use Rattle.page_cell.specs.Rule.{Fits, HasBank, HoldsBaton, IsWatch, Kept, Opened, Stands}
+use Rattle.page_cell.specs.Rule.{Fits, HasBank, HoldsBaton, IsWatch, Kept, Opened, roll, Stands}
 use Rattle.page_cell.specs.Views.{opened_by, still}
 use Rattle.page_cell.specs.declared.view.Claim.{Claim}
 use Rattle.page_cell.specs.declared.view.View.{View}
@@ -41,7 +41,7 @@ moved_claims log given given' home home' place place' le to cs all = All-weaker 
 
 -- what the rule says of a pass, where places or the baton move
 pub shift : (s : SettingsFields) (ws : List ℕ) (log : List Entry) (given given' : ℕ) (home home' : ℕ → ℕ) (seat seat' by by' : ℕ) (v : View) → given ≤ given' → ((n : ℕ) → n < given → home n ≡ suc by → home' n ≡ suc by') → ((n : ℕ) → n < given → home n ≡ 0 → home' n ≡ 0) → (v.baton ≡ true → by ≡ seat → (by' ≡ seat') × (given ≡ given'))
-    → Fits s ws log given home seat by v → Fits s ws log given' home' seat' by' v
+    → Fits s ws (roll log given home seat) by v → Fits s ws (roll log given' home' seat') by' v
 shift s ws log given given' home home' seat seat' by by' v le own gone held h = record {
   keyed = h.keyed;
   baton = (λ b. let k = h.baton b in let m = held b k.0 in (m.0, k.1, k.2 ∙ m.1, k.3));
@@ -62,7 +62,7 @@ held_set views seat by v w at same h = dite (ℕ_discrete seat by)
     (λ (ne : seat ≢ by). (h.0, set_else views by seat w ne ∙ h.1, h.2))
 
 -- a step that leaves the words and the list as they are
-pub turned : (s : SettingsFields) (x : List ℕ) (views : List View) (by : ℕ) (v w : View) (o : Opened s x views) → get_elem? views by ≡ some v → w.baton ≡ v.baton → Fits s x o.log o.given o.home o.seat by w → Opened s x (set views by w)
+pub turned : (s : SettingsFields) (x : List ℕ) (views : List View) (by : ℕ) (v w : View) (o : Opened s x views) → get_elem? views by ≡ some v → w.baton ≡ v.baton → Fits s x (roll o.log o.given o.home o.seat) by w → Opened s x (set views by w)
 turned s x views by v w o at same fit = record {
   log = o.log;
   given = o.given;
@@ -76,7 +76,7 @@ turned s x views by v w o at same fit = record {
   counted = o.counted;
   numbered = o.numbered;
   holder = held_set views o.seat by v w at same o.holder;
-  fits = on_turn (λ k u. Fits s x o.log o.given o.home o.seat k u) views by w (λ k u n e. o.fits k u e) fit;
+  fits = on_turn (λ k u. Fits s x (roll o.log o.given o.home o.seat) k u) views by w (λ k u n e. o.fits k u e) fit;
 }
 
 pub quiet : (ws : List ℕ) (n seen : ℕ) → IsWatch ws n seen still
@@ -86,6 +86,6 @@ quiet ws n seen = record { most = omega arith; torn = omega arith; trying = (λ 
 pub starts : (s : SettingsFields) (ws page : List ℕ) → length ws ≡ 21 → slice_index ws 0 ≡ 0 → IsReading s [] (0, page) → HasBank ws 0 page → Opened s ws (opened_by s ∷ [])
 starts s ws page wide zeroth reading bank = record { log = []; given = 0; home = (λ _. 0); seat = 0; page = page; width = wide; count = zeroth; reading = reading; bank = bank; counted = omega arith; numbered = All-nil _; holder = (opened_by s, refl, refl); fits = alone }
   where
-    alone : (k : ℕ) (u : View) → get_elem? (opened_by s ∷ []) k ≡ some u → Fits s ws [] 0 (λ _. 0) 0 k u
-    alone zero u e = subst (Fits s ws [] 0 (λ _. 0) 0 zero) (some-injective _ _ e) (record { keyed = (λ _. refl); baton = (λ _. (refl, refl, refl, λ i lt ten. absurd (omega arith))); seen = omega arith; feeds = All-nil _; gathered = All-nil _; readings = All-nil _; watch = quiet ws 0 0; tallies = All-nil _ })
+    alone : (k : ℕ) (u : View) → get_elem? (opened_by s ∷ []) k ≡ some u → Fits s ws (roll [] 0 (λ _. 0) 0) k u
+    alone zero u e = subst (Fits s ws (roll [] 0 (λ _. 0) 0) zero) (some-injective _ _ e) (record { keyed = (λ _. refl); baton = (λ _. (refl, refl, refl, λ i lt ten. absurd (omega arith))); seen = omega arith; feeds = All-nil _; gathered = All-nil _; readings = All-nil _; watch = quiet ws 0 0; tallies = All-nil _ })
     alone (suc k) u e = absurd (some-ne-none u (sym e))

@@ -34,17 +34,28 @@ pub record IsWatch (words : List ℕ) (n seen : ℕ) (w : Watch) : Type 0 where
   pub torn : 4 * w.torn + w.fails ≤ w.greatest
   pub trying : w.trying ≡ true → (seen ≤ w.first) × (w.greatest ≡ w.first) × (w.first ≡ n → HasBank words n w.loaded)
 
+-- what all passes go by: the entries, how many feeds' passes were given, the place of each number's claim, and the pass that has
+-- the baton
+pub record Roll : Type 0 where
+  pub log : List Entry
+  pub given : ℕ
+  pub home : ℕ → ℕ
+  pub seat : ℕ
+
+abbrev pub roll : List Entry → ℕ → (ℕ → ℕ) → ℕ → Roll
+roll log given home seat = record { log = log; given = given; home = home; seat = seat }
+
 -- what holds of one pass. With the baton it knows the list, and the words that it stored of the next page are the first ones of
 -- the other bank
-pub record Fits (settings : SettingsFields) (words : List ℕ) (log : List Entry) (given : ℕ) (home : ℕ → ℕ) (seat by : ℕ) (v : View) : Type 0 where
+pub record Fits (settings : SettingsFields) (words : List ℕ) (of : Roll) (by : ℕ) (v : View) : Type 0 where
   pub keyed : v.spent ≡ false → v.settings ≡ settings
-  pub baton : v.baton ≡ true → (by ≡ seat) × (v.list ≡ log) × (v.given ≡ given) × HasBank words (suc (length log)) v.stored
-  pub seen : v.seen ≤ length log
-  pub feeds : All (Stands log given home (suc by)) v.feeds
-  pub gathered : All (Stands log given home 0) v.gathered
-  pub readings : All (IsReading settings log) v.readings
-  pub watch : IsWatch words (length log) v.seen v.watch
-  pub tallies : All (IsTally (length log)) v.tallies
+  pub baton : v.baton ≡ true → (by ≡ of.seat) × (v.list ≡ of.log) × (v.given ≡ of.given) × HasBank words (suc (length of.log)) v.stored
+  pub seen : v.seen ≤ length of.log
+  pub feeds : All (Stands of.log of.given of.home (suc by)) v.feeds
+  pub gathered : All (Stands of.log of.given of.home 0) v.gathered
+  pub readings : All (IsReading settings of.log) v.readings
+  pub watch : IsWatch words (length of.log) v.seen v.watch
+  pub tallies : All (IsTally (length of.log)) v.tallies
 
 -- this pass has the baton
 abbrev pub HoldsBaton : List View → ℕ → Type 0
@@ -66,7 +77,7 @@ pub record Opened (settings : SettingsFields) (words : List ℕ) (views : List V
   pub counted : given ≤ length settings.sources
   pub numbered : All (λ e. e.feed < given) log
   pub holder : HoldsBaton views seat
-  pub fits : (by : ℕ) (v : View) → get_elem? views by ≡ some v → Fits settings words log given home seat by v
+  pub fits : (by : ℕ) (v : View) → get_elem? views by ≡ some v → Fits settings words (roll log given home seat) by v
 
 -- the table has no slots
 abbrev pub Kept : SettingsFields → State ℕ View → Type 0

@@ -2,6 +2,8 @@
 ghost use Rattle.std.specs.Prelude.{◌≡◌, ◌+◌, ◌*◌, ◌%◌, ◌-◌, ◌^◌, ◌<◌, ◌≤◌, ℕ, List, IfSome};
 ghost use Rattle.pulse_log.specs.Words.{IsWordOf, FlagsFromTen, WritesNumber, SpellsFront};
 
+use crate::taken::Taken;
+
 // Eight bytes that are the digit 0.
 const ZEROS: u64 = 0x3030_3030_3030_3030;
 
@@ -12,13 +14,6 @@ const FROM_TEN: u64 = 0x7676_7676_7676_7676;
 
 // The lowest byte of each half.
 const LOWEST: u64 = 0x0000_00ff_0000_00ff;
-
-/// How many of eight bytes are digits, up to the first that is none, and the number that they are.
-#[derive(Clone, Copy, Debug)]
-pub struct Digits {
-    pub count: usize,
-    pub value: u64,
-}
 
 // Eighth bits of bytes, the lowest in the first byte that is at least ten. A sum that carries into the byte after it has its own
 // byte's bit, so only bits after the lowest can be wrong.
@@ -49,32 +44,32 @@ fn keep_first(word: u64, count: u32) -> u64
     word << (56 - 8 * count) << 8
 }
 
-// The digits of a word of eight bytes.
+// The digits at the beginning of a word of eight bytes: how many they are, and the number that they write.
 #[inline]
-fn digits_of(word: u64) -> Digits
+fn digits_of(word: u64) -> Taken<u64>
     ensures most { result.count ≤ 8 }
-    ensures read { (bytes : List ℕ) → IsWordOf bytes word → SpellsFront bytes result.count result.value }
+    ensures read { (bytes : List ℕ) → IsWordOf bytes word → SpellsFront bytes result.count result.found }
 {
     let less_zero = word ^ ZEROS;
     let others = flags_from_ten(less_zero);
     if others == 0 {
-        return Digits {
+        return Taken {
             count: 8,
-            value: value_of_eight(less_zero),
+            found: value_of_eight(less_zero),
         };
     }
     let count = others.trailing_zeros() / 8;
-    Digits {
+    Taken {
         count: count as usize,
-        value: value_of_eight(keep_first(less_zero, count)),
+        found: value_of_eight(keep_first(less_zero, count)),
     }
 }
 
 // The digits at the beginning of eight bytes.
 #[inline]
-fn digits_in_eight(bytes: &[u8; 8]) -> Digits
+fn digits_in_eight(bytes: &[u8; 8]) -> Taken<u64>
     ensures most { result.count ≤ 8 }
-    ensures read { SpellsFront bytes.now result.count result.value }
+    ensures read { SpellsFront bytes.now result.count result.found }
 {
     digits_of(u64::from_le_bytes(*bytes))
 }
@@ -99,25 +94,25 @@ fn ten_to(power: usize) -> u64
 
 // Eight digits and fewer than eight after them.
 #[inline]
-fn joined(front: Digits, back: Digits) -> Digits
-    requires eight { front.value < 10 ^ 8 }
+fn joined(front: Taken<u64>, back: Taken<u64>) -> Taken<u64>
+    requires eight { front.found < 10 ^ 8 }
     requires fewer { back.count < 8 }
-    requires back { back.value < 10 ^ back.count }
+    requires back { back.found < 10 ^ back.count }
     ensures count { result.count ≡ 8 + back.count }
-    ensures value { result.value ≡ front.value * 10 ^ back.count + back.value }
+    ensures value { result.found ≡ front.found * 10 ^ back.count + back.found }
 {
-    Digits {
+    Taken {
         count: 8 + back.count,
-        value: front.value * ten_to(back.count) + back.value,
+        found: front.found * ten_to(back.count) + back.found,
     }
 }
 
 /// The digits at the beginning of some bytes. None where there are more than fifteen, or where fewer than eight bytes follow the
 /// last whole group of eight digits.
 #[inline(always)]
-pub fn digits_in_front(bytes: &[u8]) -> Option<Digits>
+pub fn digits_in_front(bytes: &[u8]) -> Option<Taken<u64>>
     ensures most { IfSome result (λ digits. digits.count ≤ 15) }
-    ensures read { IfSome result (λ digits. SpellsFront bytes.now digits.count digits.value) }
+    ensures read { IfSome result (λ digits. SpellsFront bytes.now digits.count digits.found) }
 {
     let Some((eight, rest)) = bytes.split_first_chunk::<8>() else {
         return None;

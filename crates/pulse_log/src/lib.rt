@@ -4,9 +4,10 @@
 mod digits;
 mod line;
 mod reader;
+mod taken;
 mod whole;
 mod writer;
 
-pub use reader::{BadLine, Front, LineReader};
-pub use whole::WholeLine;
+pub use reader::{BadLine, LineReader};
+pub use taken::Taken;
 pub use writer::write_line;

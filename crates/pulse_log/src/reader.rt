@@ -2,7 +2,8 @@
 ghost use Rattle.std.specs.Prelude.{◌≡◌, true, ℕ, ◌+◌, ◌<◌, ◌≤◌, ◌^◌, nat_lt, length, take, IfSome};
 
 use crate::line::Line;
-use crate::whole::{WholeLine, line_in_front};
+use crate::taken::Taken;
+use crate::whole::line_in_front;
 use tick_units::Reduction;
 
 // A line has at most this number of bytes before its line feed.
@@ -12,15 +13,6 @@ const LONGEST: u32 = 31;
 #[derive(Clone, Copy, Debug, PartialEq, Eq)]
 pub struct BadLine {
     pub line: u64,
-}
-
-/// What a reader took of some bytes, and what it found in them.
-#[derive(Clone, Copy, Debug, PartialEq, Eq)]
-pub struct Front {
-    /// How many of them it took, from the first on.
-    pub count: usize,
-    /// The reduction of the line that they end, or None where they end none; or the bad line.
-    pub found: Result<Option<Reduction>, BadLine>,
 }
 
 /// Reads a log byte by byte or line by line. A line is the start and the width of a reduction, each in decimal without leading
@@ -80,7 +72,7 @@ impl LineReader {
     /// valid. Returns None and takes nothing where it cannot: the line is bad or not whole, or its numbers are too long to be read
     /// at once. Such a line is for `take_by_bytes`. All that it calls is inlined, so its result needs no memory in a loop.
     #[inline(always)]
-    pub fn take_whole_line(&mut self, bytes: &[u8]) -> Option<WholeLine>
+    pub fn take_whole_line(&mut self, bytes: &[u8]) -> Option<Taken<Reduction>>
         ensures none { result ≡ None → self.new ≡ self.old }
         ensures some { IfSome result (λ line. 0 < line.count) }
         ensures within { IfSome result (λ line. line.count ≤ length bytes.now) }
@@ -130,9 +122,10 @@ impl LineReader {
     }
 
     /// Takes bytes up to the end of the first line that ends among them, or up to the byte that makes it bad. Takes all of them
-    /// where there is neither. It is not inlined, since most lines are taken by `take_whole_line`.
+    /// where there is neither. What came of them is the reduction of the line that they end, None where they end none, or the bad
+    /// line. It is not inlined, since most lines are taken by `take_whole_line`.
     #[inline(never)]
-    pub fn take_by_bytes(&mut self, bytes: &[u8]) -> Front
+    pub fn take_by_bytes(&mut self, bytes: &[u8]) -> Taken<Result<Option<Reduction>, BadLine>>
         requires { 0 < length bytes.now }
         ensures some { 0 < result.count }
         ensures within { result.count ≤ length bytes.now }
@@ -141,11 +134,11 @@ impl LineReader {
     {
         let count = self.go_on(bytes);
         match bytes.get(count) {
-            Some(byte) => Front {
+            Some(byte) => Taken {
                 count: count + 1,
                 found: self.take(*byte),
             },
-            None => Front {
+            None => Taken {
                 count,
                 found: Ok(None),
             },

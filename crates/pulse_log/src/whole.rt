@@ -2,28 +2,22 @@
 ghost use Rattle.std.specs.Prelude.{◌≡◌, ◌+◌, ◌<◌, ◌≤◌, ◌^◌, ◌∷◌, ◌++◌, [], length, take, decimal, IfSome};
 ghost use Rattle.pulse_log.specs.Writing.{line_of};
 
-use crate::digits::{Digits, digits_in_front};
+use crate::digits::digits_in_front;
+use crate::taken::Taken;
 use tick_units::{Local, Reduction};
 
 // Each number of at most this number of digits is below 2000000.
 const WIDTHS: usize = 6;
 
-/// What the line at the beginning of some bytes says, where it stands there whole.
-#[derive(Clone, Copy, Debug)]
-pub struct WholeLine {
-    pub found: Reduction,
-    /// Its number of bytes, with its line feed.
-    pub count: usize,
-    ghost least: { 1 ≤ found.width },
-    ghost most: { found.width ≤ 2000000 },
-}
-
-/// The line at the beginning of these bytes, where it is valid. None also where it goes on after them or stands at their very end.
-/// None too where its start is 0 or has 16 digits, or its width has 7. Such a line is left to the byte-by-byte reader.
+/// The line at the beginning of these bytes, where it is valid: its number of bytes, with its line feed, and its reduction. None
+/// also where it goes on after them or stands at their very end. None too where its start is 0 or has 16 digits, or its width
+/// has 7. Such a line is left to the byte-by-byte reader.
 #[inline(always)]
-pub fn line_in_front(bytes: &[u8]) -> Option<WholeLine>
+pub fn line_in_front(bytes: &[u8]) -> Option<Taken<Reduction>>
     ensures within { IfSome result (λ line. line.count ≤ length bytes.now) }
     ensures some { IfSome result (λ line. 0 < line.count) }
+    ensures narrowest { IfSome result (λ line. 1 ≤ line.found.width) }
+    ensures widest { IfSome result (λ line. line.found.width ≤ 2000000) }
     ensures text { IfSome result (λ line. take line.count bytes.now ≡ line_of line.found ++ 10 ∷ []) }
 {
     let start = number_in_front(bytes)?;
@@ -38,24 +32,24 @@ pub fn line_in_front(bytes: &[u8]) -> Option<WholeLine>
     let Some(b'\n') = rest.get(width.count) else {
         return None;
     };
-    let at = Local::new(start.value)?;
-    Some(WholeLine {
+    let at = Local::new(start.found)?;
+    Some(Taken {
+        count: start.count + width.count + 2,
         found: Reduction {
             at,
-            width: width.value as u32,
+            width: width.found as u32,
         },
-        count: start.count + width.count + 2,
     })
 }
 
 // The number whose digits are the first of these bytes. None where there is no digit, where the first is 0, and where they cannot
 // be read at once.
 #[inline(always)]
-fn number_in_front(bytes: &[u8]) -> Option<Digits>
+fn number_in_front(bytes: &[u8]) -> Option<Taken<u64>>
     ensures within { IfSome result (λ number. number.count ≤ length bytes.now) }
-    ensures text { IfSome result (λ number. take number.count bytes.now ≡ decimal number.value) }
-    ensures some { IfSome result (λ number. 0 < number.value) }
-    ensures short { IfSome result (λ number. number.count ≤ 6 → number.value < 10 ^ 6) }
+    ensures text { IfSome result (λ number. take number.count bytes.now ≡ decimal number.found) }
+    ensures some { IfSome result (λ number. 0 < number.found) }
+    ensures short { IfSome result (λ number. number.count ≤ 6 → number.found < 10 ^ 6) }
 {
     let number = digits_in_front(bytes)?;
     if number.count == 0 || bytes[0] == b'0' {

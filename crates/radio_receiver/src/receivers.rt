@@ -58,7 +58,8 @@ impl<C: Listed> PlanReceiver<C> {
         ensures answered { (marks : List Mark) → HasPairedBy C.code self.old.pairing marks →
             C.code.begins_minute (last_or None marks) mark.now ≡ true →
             map (sent self.old.delay_us) (answers_by C.code (segments_by C.code (marks ++ mark.now ∷ []))) ≡
-            map (sent self.old.delay_us) (answers_by C.code (segments_by C.code marks)) ++ option_to_list self.new.answer }
+            map (sent self.old.delay_us) (answers_by C.code (segments_by C.code marks)) ++
+            option_to_list self.new.answer }
         ensures years { IfSome self.new.answer (λ heard. BelievesYears heard.kind) }
         ensures held { self.new.held ≡ self.old.held }
         ensures delay { self.new.delay_us ≡ self.old.delay_us }

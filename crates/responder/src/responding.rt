@@ -11,7 +11,7 @@ use feed_link::{Arrival, Failed, Gate, Hearing, Link};
 use kiss_gate::ClientGate;
 use packet_auth::KeyRing;
 use page_cell::{PageCell, ReadPass};
-use sealed_reply::Request;
+use sealed_reply::{Reply, Request};
 use std::sync::Wait;
 
 // The numbers of responders at the gate begin here.
@@ -42,6 +42,7 @@ impl<L: Link + Drop> Responder<L> {
             number,
             keys,
             clients,
+            reply: Reply::blank(),
         }
     }
 
@@ -78,8 +79,15 @@ impl<L: Link + Drop> Responder<L> {
         };
         let judged = self.clients.judge(arrival.from.ip, arrival.at);
         served.count_judged(judged.kept);
-        let reply = request.reply(&self.keys, judged.code, &page, arrival.at, sent);
-        match self.link.send(arrival.from, reply.bytes()) {
+        request.reply_in(
+            &self.keys,
+            judged.code,
+            &page,
+            arrival.at,
+            sent,
+            &mut self.reply,
+        );
+        match self.link.send(arrival.from, self.reply.bytes()) {
             Ok(()) => {
                 served.count_sent(judged.code);
                 gate.pass(rt, AT_GATE + self.number, SENT);

@@ -4,6 +4,7 @@ ghost use Rattle.std.specs.Prelude.{◌<◌};
 use kiss_gate::ClientGate;
 use packet_auth::KeyRing;
 use page_cell::ReadPass;
+use sealed_reply::Reply;
 
 /// Serves the clients of a link from the shared page.
 #[derive(Drop)]
@@ -13,5 +14,7 @@ pub struct Responder<L: Drop> {
     pub(crate) number: u32,
     pub(crate) keys: KeyRing,
     pub(crate) clients: ClientGate,
+    // The latest reply; the next one is written in its place.
+    pub(crate) reply: Reply,
     ghost small: { number < 8 },
 }

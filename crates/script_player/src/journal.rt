@@ -13,14 +13,14 @@ use system_fold::{FoldState, Settings};
 
 // What is kept of the journal: its page so far, and how many entries it has.
 #[derive(Drop)]
-pub struct Journal {
+pub struct ReplayJournal {
     fold: FoldState,
     count: u32,
     limit: u32,
     is_full: bool,
 }
 
-impl Model for Journal {
+impl Model for ReplayJournal {
     ghost use Rattle.script_player.specs.Keeping.{IsKeeping, JournalFields};
 
     ghost Value = { JournalFields };
@@ -30,18 +30,18 @@ impl Model for Journal {
     ghost invariant = { λ j. IsKeeping j.fold j.count j.limit };
 }
 
-impl Journal {
+impl ReplayJournal {
     ghost use Rattle.script_player.specs.Replay.{outcome_of_due};
     ghost use Rattle.script_player.specs.KeptPlayer.{HasKept};
 
     // The empty journal.
-    pub fn new(settings: &Settings, limit: u32) -> Journal
+    pub fn new(settings: &Settings, limit: u32) -> ReplayJournal
         requires lawful { AreLawful settings.now }
         requires most { limit ≤ 2 ^ 22 }
         ensures kept { HasKept result settings.now limit [] }
         ensures feeds { length result.fold.feeds ≡ length settings.now.sources }
     {
-        Journal {
+        ReplayJournal {
             fold: FoldState::new(settings),
             count: 0,
             limit,

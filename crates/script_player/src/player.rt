@@ -8,7 +8,7 @@ ghost use Rattle.script_line.specs.declared.line.ScriptLine.TheVariants as lines
 ghost use Rattle.script_player.specs.Replay as replay;
 ghost use Rattle.script_player.specs.Replay.{Played, ReplayCase, case_of, lines_of, page_after, sender_of};
 
-use crate::journal::Journal;
+use crate::journal::ReplayJournal;
 use crate::leap::LeapFeed;
 use crate::radios::Radios;
 use crate::servers::Servers;
@@ -43,7 +43,7 @@ pub struct Player<B: Drop> {
     radios: Radios<B>,
     servers: Servers,
     leap: LeapFeed,
-    journal: Journal,
+    journal: ReplayJournal,
     keys: KeyRing,
     clients: ClientGate,
     ghost first: { servers.first ≡ vec_len radios.fitted },
@@ -75,7 +75,7 @@ impl Player<BoxedReceiver> {
         let mut servers = Servers::new(alloc, station.radios() as u32);
         servers.add_all(station)?;
         let leap = LeapFeed::new(station);
-        let journal = Journal::new(station.settings(), limit);
+        let journal = ReplayJournal::new(station.settings(), limit);
         let Ok(clients) = ClientGate::open(alloc, station.deny(), station.gap(), station.clients())
         else {
             return Err(AllocError);

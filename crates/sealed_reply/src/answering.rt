@@ -1,5 +1,5 @@
 //! The reply to a request.
-ghost use Rattle.std.specs.Prelude.{◌≡◌, ◌≤◌, ◌<◌, Ok, IfErr, IfOk, Err};
+ghost use Rattle.std.specs.Prelude.{◌≡◌, ◌≤◌, ◌<◌, Ok, length, IfErr, IfOk, Err};
 ghost use Rattle.packet_auth.specs.Digests.{authentic, sealed_like};
 ghost use Rattle.packet_auth.specs.Keys.{keys_of};
 ghost use Rattle.reply_core.specs.Reply.{request_of};
@@ -9,7 +9,7 @@ use crate::Reply;
 use clock_page::Page;
 use ntp_packet::Header;
 use packet_auth::{HEADER_LENGTH, KeyRing, SEALED_LENGTH};
-use reply_core::{Code, Dropped, read_request, write_reply};
+use reply_core::{Code, Dropped, read_request};
 use tick_units::Local;
 
 /// A header sealed as a datagram is: by the key by which the datagram is authentic, or not at all where it is not.
@@ -25,6 +25,18 @@ pub fn sealed_like(keys: &KeyRing, datagram: &[u8], header: [u8; HEADER_LENGTH])
         }
         None => Reply::plain(header),
     }
+}
+
+// Seals a header as a datagram is. It stands apart, so that the way of the many datagrams that carry no digest is short.
+#[cold]
+#[inline(never)]
+fn seal(keys: &KeyRing, datagram: &[u8], out: &mut Reply)
+    requires { length out.old ≡ 48 }
+    ensures bytes { out.new ≡ sealed_like (keys_of keys.now) datagram.now out.old }
+    ensures authentic { authentic (keys_of keys.now) out.new ≡ authentic (keys_of keys.now) datagram.now }
+{
+    let header = out.header();
+    *out = sealed_like(keys, datagram, header);
 }
 
 /// A request of a client, as it stands in a datagram.
@@ -63,8 +75,29 @@ impl<'a> Request<'a> {
         ensures replied { reply_to (keys_of keys.now) code page.now self.now.datagram.now arrived sent ≡ Ok result }
         ensures authentic { authentic (keys_of keys.now) result ≡ authentic (keys_of keys.now) self.now.datagram.now }
     {
-        let mut header = [0; HEADER_LENGTH];
-        write_reply(code, page, &self.header, arrived, sent, &mut header);
-        sealed_like(keys, self.datagram, header)
+        let mut reply = Reply::blank();
+        self.reply_in(keys, code, page, arrived, sent, &mut reply);
+        reply
+    }
+
+    /// Writes what `reply` returns in the place of an earlier reply.
+    #[inline(always)]
+    pub fn reply_in(
+        &self,
+        keys: &KeyRing,
+        code: Code,
+        page: &Page,
+        arrived: Local,
+        sent: Local,
+        out: &mut Reply,
+    )
+        requires { arrived ≤ sent }
+        ensures replied { reply_to (keys_of keys.now) code page.now self.now.datagram.now arrived sent ≡ Ok out.new }
+        ensures authentic { authentic (keys_of keys.now) out.new ≡ authentic (keys_of keys.now) self.now.datagram.now }
+    {
+        out.write(code, page, &self.header, arrived, sent);
+        if self.datagram.len() == SEALED_LENGTH {
+            seal(keys, self.datagram, out);
+        }
     }
 }

@@ -47,6 +47,7 @@ impl Sweep {
     }
 
     /// Lets a candidate stand, in place of the one of its feed.
+    #[inline(always)]
     pub fn put(&mut self, c: Candidate)
         requires room { length (others c.feed self.old) < 16 }
         requires measured { IsTrue (is_measured c) }

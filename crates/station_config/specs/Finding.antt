@@ -11,15 +11,15 @@ use Rattle.station_config.specs.Station.{StationFields}
 use Rattle.station_config.specs.Values.{read_or, station_of}
 use Rattle.station_config.specs.declared.keys.Check.{Check}
 use Rattle.station_config.specs.declared.keys.Check.TheVariants.{Unknown, Missing}
-use Rattle.station_config.specs.declared.keys.Spot.{Spot}
+use Rattle.station_config.specs.declared.keys.KeyPath.{KeyPath}
 use Rattle.station_config.specs.declared.counts.Count.{Count}
 use Rattle.station_config.specs.declared.items.KeyFault.{KeyFault}
 use Rattle.station_config.specs.declared.items.KeyFault.TheVariants as key_fault
 use Rattle.station_config.specs.declared.items.Misread.{Misread}
 use Rattle.station_config.specs.declared.items.Misread.TheVariants as misread
 
-abbrev pub spot_text : Spot → Text
-spot_text s = key_in s.part s.place s.key.now
+abbrev pub path_text : KeyPath → Text
+path_text s = key_in s.part s.place s.key.now
 
 -- a key with what a fault writes before its table's place; without that it is a key of the top table
 abbrev pub key_after : Option Text → ℕ → Text → Text
@@ -52,7 +52,7 @@ ids_of keys = map (λ key. key.id) keys
 -- the same among the keys of all tables
 abbrev pub IsMisreadAt : List Text → KeyFault → Type 0
 IsMisreadAt bad key_fault.Memory = ⊤
-IsMisreadAt bad (key_fault.Range spot) = slice_get bad 0 ≡ Some (spot_text spot)
+IsMisreadAt bad (key_fault.Range spot) = slice_get bad 0 ≡ Some (path_text spot)
 IsMisreadAt bad _ = ⊥
 
 -- the rows of these tables follow others, and none of their values is a fault; what holds of the others holds of all
@@ -70,9 +70,9 @@ pub record IsReadOf (members : Members) (fields : StationFields) : Type 0 where
 -- the `KeyFault` is the first of the faults; lack of memory says nothing
 abbrev pub IsFirstKeyFault : List Fault → KeyFault → Type 0
 IsFirstKeyFault faults key_fault.Memory = ⊤
-IsFirstKeyFault faults (key_fault.Unknown spot) = slice_get faults 0 ≡ Some (unknown_key (spot_text spot))
-IsFirstKeyFault faults (key_fault.Missing spot) = slice_get faults 0 ≡ Some (missing_key (spot_text spot))
-IsFirstKeyFault faults (key_fault.Range spot) = slice_get faults 0 ≡ Some (bad_range (spot_text spot))
+IsFirstKeyFault faults (key_fault.Unknown spot) = slice_get faults 0 ≡ Some (unknown_key (path_text spot))
+IsFirstKeyFault faults (key_fault.Missing spot) = slice_get faults 0 ≡ Some (missing_key (path_text spot))
+IsFirstKeyFault faults (key_fault.Range spot) = slice_get faults 0 ≡ Some (bad_range (path_text spot))
 IsFirstKeyFault faults (key_fault.TooMany key count) = slice_get faults 0 ≡ Some (too_many key.now count)
 
 abbrev pub count_seen : Count → Limit

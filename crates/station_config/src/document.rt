@@ -10,7 +10,7 @@ ghost use Rattle.station_config.specs.KeptStation.{parts_fields};
 
 use crate::counts::excess;
 use crate::items::{KeyFault, read_items};
-use crate::keys::{Check, Part, Spot, first_at, tables};
+use crate::keys::{Check, Part, KeyPath, first_at, tables};
 use crate::station::{Parts, Station, TopNumbers};
 use crate::values::{number, some_text};
 use std::alloc::{AllocError, Global};
@@ -119,7 +119,7 @@ fn read_parts(alloc: Global, table: &Table) -> Result<Parts, KeyFault<'static>>
     let top = match read_top(table) {
         Ok(top) => top,
         Err(key) => {
-            return Err(KeyFault::Range(Spot {
+            return Err(KeyFault::Range(KeyPath {
                 part: Part::Top,
                 place: 0,
                 key,

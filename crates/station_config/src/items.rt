@@ -5,16 +5,16 @@ ghost use Rattle.station_config.specs.Rows.{Text, table_at, tables_from};
 ghost use Rattle.station_config.specs.Faults.{key_in, keys_at, missing_in, sheets};
 ghost use Rattle.station_config.specs.Finding.{Adds, IsMisread, IsMisreadAt};
 
-use crate::keys::{Part, Spot};
+use crate::keys::{Part, KeyPath};
 use std::alloc::Global;
 use toml::{Table, Value};
 
 // Why there is no station: its first fault, or lack of memory.
 #[derive(Clone, Copy)]
 pub enum KeyFault<'a> {
-    Unknown(Spot<'a>),
-    Missing(Spot<'a>),
-    Range(Spot<'a>),
+    Unknown(KeyPath<'a>),
+    Missing(KeyPath<'a>),
+    Range(KeyPath<'a>),
     TooMany(&'static str, u64),
     Memory,
 }
@@ -83,7 +83,7 @@ fn placed(part: Part, place: usize, misread: Misread) -> KeyFault<'static>
         IsMisreadAt (map (key_in part place) bad ++ more) result }
 {
     match misread {
-        Misread::Range(key) => KeyFault::Range(Spot { part, place, key }),
+        Misread::Range(key) => KeyFault::Range(KeyPath { part, place, key }),
         Misread::Memory => KeyFault::Memory,
     }
 }

@@ -8,7 +8,7 @@ ghost use Rattle.toml.specs.Text.{are_tables as spec_are_tables};
 ghost use Rattle.station_config.specs.Rows.{tables, table_at, tables_from, tables_in};
 ghost use Rattle.station_config.specs.Values.{read_or};
 ghost use Rattle.station_config.specs.Faults.{rows_of, client_sheets, is_known, is_wrong, item_sheets, keys_at, missing_in, required_keys, sheets, sheets_of, unknown_in};
-ghost use Rattle.station_config.specs.Finding.{keys_for, spot_text, tables_seen};
+ghost use Rattle.station_config.specs.Finding.{keys_for, path_text, tables_seen};
 
 use toml::value::Array;
 use toml::{Table, Value};
@@ -33,7 +33,7 @@ pub enum Check {
 
 // A key of a table; the place counts the tables of an array from 0.
 #[derive(Clone, Copy)]
-pub struct Spot<'a> {
+pub struct KeyPath<'a> {
     pub part: Part,
     pub place: usize,
     pub key: &'a str,
@@ -141,21 +141,21 @@ fn first_in<'a>(check: Check, part: Part, table: &'a Table) -> Option<&'a str>
     }
 }
 
-fn first_in_item<'a>(check: Check, part: Part, place: usize, item: &'a Value) -> Option<Spot<'a>>
-    ensures { option_map spot_text result ≡
+fn first_in_item<'a>(check: Check, part: Part, place: usize, item: &'a Value) -> Option<KeyPath<'a>>
+    ensures { option_map path_text result ≡
         slice_get (keys_at (keys_for check) (sheets part (table_at place (view item.now)))) 0 }
 {
     match item.as_table() {
         Some(table) => match first_in(check, part, table) {
-            Some(key) => Some(Spot { part, place, key }),
+            Some(key) => Some(KeyPath { part, place, key }),
             None => None,
         },
         None => None,
     }
 }
 
-fn first_in_items<'a>(check: Check, part: Part, items: &'a [Value]) -> Option<Spot<'a>>
-    ensures { option_map spot_text result ≡
+fn first_in_items<'a>(check: Check, part: Part, items: &'a [Value]) -> Option<KeyPath<'a>>
+    ensures { option_map path_text result ≡
         slice_get (keys_at (keys_for check) (sheets part (tables_from 0 (items_view items.now)))) 0 }
 {
     for (place, item) in items.iter().enumerate() {
@@ -205,8 +205,8 @@ pub fn tables<'a>(table: &'a Table, key: &str) -> Option<&'a [Value]>
     }
 }
 
-fn first_in_array<'a>(check: Check, part: Part, table: &'a Table, key: &str) -> Option<Spot<'a>>
-    ensures { option_map spot_text result ≡ slice_get
+fn first_in_array<'a>(check: Check, part: Part, table: &'a Table, key: &str) -> Option<KeyPath<'a>>
+    ensures { option_map path_text result ≡ slice_get
         (keys_at (keys_for check) (sheets part (read_or [] tables_in (get_member key.now (table_view table.now))))) 0 }
 {
     match tables(table, key) {
@@ -216,8 +216,8 @@ fn first_in_array<'a>(check: Check, part: Part, table: &'a Table, key: &str) -> 
 }
 
 // The same of the arrays at these keys: the radios come first, and then the servers and the links.
-fn first_in_arrays<'a>(check: Check, table: &'a Table) -> Option<Spot<'a>>
-    ensures { option_map spot_text result ≡
+fn first_in_arrays<'a>(check: Check, table: &'a Table) -> Option<KeyPath<'a>>
+    ensures { option_map path_text result ≡
         slice_get (keys_at (keys_for check) (item_sheets (table_view table.now))) 0 }
 {
     let radio = first_in_array(check, Part::Radio, table, "radio");
@@ -232,8 +232,8 @@ fn first_in_arrays<'a>(check: Check, table: &'a Table) -> Option<Spot<'a>>
 }
 
 // The same of the arrays about clients: the shared keys come first, and then the denied nets.
-fn first_in_clients<'a>(check: Check, table: &'a Table) -> Option<Spot<'a>>
-    ensures { option_map spot_text result ≡
+fn first_in_clients<'a>(check: Check, table: &'a Table) -> Option<KeyPath<'a>>
+    ensures { option_map path_text result ≡
         slice_get (keys_at (keys_for check) (client_sheets (table_view table.now))) 0 }
 {
     let key = first_in_array(check, Part::Key, table, "key");
@@ -244,8 +244,8 @@ fn first_in_clients<'a>(check: Check, table: &'a Table) -> Option<Spot<'a>>
 }
 
 // The same of all arrays.
-fn first_in_all<'a>(check: Check, table: &'a Table) -> Option<Spot<'a>>
-    ensures { option_map spot_text result ≡ slice_get
+fn first_in_all<'a>(check: Check, table: &'a Table) -> Option<KeyPath<'a>>
+    ensures { option_map path_text result ≡ slice_get
         (keys_at (keys_for check) (item_sheets (table_view table.now) ++ client_sheets (table_view table.now))) 0 }
 {
     let item = first_in_arrays(check, table);
@@ -257,11 +257,11 @@ fn first_in_all<'a>(check: Check, table: &'a Table) -> Option<Spot<'a>>
 
 // The first key that fails a check: the top table comes first, and then the radios, the servers, the links, the shared keys and
 // the denied nets by place.
-pub fn first_at<'a>(check: Check, table: &'a Table) -> Option<Spot<'a>>
-    ensures { option_map spot_text result ≡ slice_get (keys_at (keys_for check) (sheets_of (table_view table.now))) 0 }
+pub fn first_at<'a>(check: Check, table: &'a Table) -> Option<KeyPath<'a>>
+    ensures { option_map path_text result ≡ slice_get (keys_at (keys_for check) (sheets_of (table_view table.now))) 0 }
 {
     match first_in(check, Part::Top, table) {
-        Some(key) => Some(Spot {
+        Some(key) => Some(KeyPath {
             part: Part::Top,
             place: 0,
             key,

@@ -2,12 +2,12 @@
 ghost use Rattle.std.specs.Prelude.{◌≡◌, ℕ, List, IfOk, IfErr, option_map};
 ghost use Rattle.station_config.specs.Rows.{Text};
 ghost use Rattle.station_config.specs.Faults.{Fault, Says, Refuses, IsFirst, key_in};
-ghost use Rattle.station_config.specs.Finding.{IsFirstKeyFault, key_after, spot_text};
+ghost use Rattle.station_config.specs.Finding.{IsFirstKeyFault, key_after, path_text};
 
 use crate::document::read_table;
 use crate::fault::{KeyText, StationFault};
 use crate::items::KeyFault;
-use crate::keys::{Part, Spot};
+use crate::keys::{Part, KeyPath};
 use crate::station::Station;
 use std::alloc::{AllocError, Global};
 
@@ -27,8 +27,8 @@ fn array_name(part: Part) -> Option<&'static str>
 }
 
 // The text of a key as a fault names it.
-fn key_text(alloc: Global, spot: Spot<'_>) -> Result<KeyText, AllocError>
-    ensures { IfOk result (λ k. k ≡ spot_text spot.entry) }
+fn key_text(alloc: Global, spot: KeyPath<'_>) -> Result<KeyText, AllocError>
+    ensures { IfOk result (λ k. k ≡ path_text spot.entry) }
 {
     let place = spot.place;
     let key = spot.key;

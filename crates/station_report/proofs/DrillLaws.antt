@@ -13,7 +13,7 @@ use Rattle.feed_link.specs.Openings.{OutsideState}
 use Rattle.feed_link.specs.Openings.State.{OfLog}
 use Rattle.feed_link.specs.Told.{LinkState, SinkState, SourceState}
 use Rattle.feed_link.specs.declared.sure_source.SureSource.{SureSource}
-use Rattle.feed_workers.specs.declared.work.LogEnd.TheVariants as log
+use Rattle.file_reader.specs.declared.log_end.LogEnd.TheVariants as log
 use Rattle.journal_entry.specs.declared.entry.Entry.{Entry}
 use Rattle.journal_orders.specs.Orders.{KeepsFeeds, NamesNoLeap, leap_named}
 use Rattle.journal_orders.proofs.OrderLaws.{page-kept}

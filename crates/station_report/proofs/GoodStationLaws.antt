@@ -12,12 +12,13 @@ use Rattle.feed_link.specs.Openings.State.{OfLog, OfLink}
 use Rattle.feed_link.specs.Openings.Wanted.{LogOf}
 use Rattle.feed_link.specs.Told.{LinkState, NetEvent, SinkState, SourceState, Adds}
 use Rattle.feed_workers.specs.Leaps.{EndsLeap, due_leap, most_of_a_list}
-use Rattle.feed_workers.specs.Logs.{EndsLog, most_of_a_log}
+use Rattle.feed_workers.specs.Logs.{EndsLog}
+use Rattle.log_decoder.specs.Decoding.{most_of_a_log}
 use Rattle.leap_file.specs.Rows.{bad_line}
 use Rattle.leap_file.proofs.GrowthLaws.{bad_whole_is, stays_bad}
 use Rattle.feed_workers.specs.Polling.{EndsPolls}
-use Rattle.feed_workers.specs.declared.work.LogEnd.{LogEnd}
-use Rattle.feed_workers.specs.declared.work.LogEnd.TheVariants as log
+use Rattle.file_reader.specs.declared.log_end.LogEnd.{LogEnd}
+use Rattle.file_reader.specs.declared.log_end.LogEnd.TheVariants as log
 use Rattle.feed_workers.specs.declared.work.PollEnd.{PollEnd}
 use Rattle.feed_workers.specs.declared.work.PollEnd.TheVariants as poll
 use Rattle.file_reader.specs.Ends.{EndsReading}
@@ -44,12 +45,11 @@ use Rattle.file_commands.specs.declared.ending.Ending.{Ending}
 use Rattle.file_commands.specs.declared.ending.Ending.TheVariants as ending
 use Rattle.file_commands.specs.declared.ending.status.Status.{Status}
 use Rattle.file_commands.specs.declared.ending.status.Status.TheVariants.{Done, Memory}
-use Rattle.file_commands.specs.declared.reading.Reach.TheVariants.{AtEnd, AtBadLine}
 use Rattle.file_commands.specs.declared.station_file.obstacle.Obstacle.{Obstacle}
 use Rattle.file_commands.proofs.GoodLogLaws.{front_by, front_of, good_reach, none_left, rose_by_one, whole_text}
 use Rattle.file_commands.proofs.LineFileLaws.{read_station}
 use Rattle.file_commands.proofs.OpeningLaws.{first_of, not_failed, rest_of, same_more, same_states}
-use Rattle.file_commands.proofs.ReachLaws.{front_of_whole}
+use Rattle.file_commands.proofs.EndLaws.{front_of_whole}
 use Rattle.station_report.proofs.RunOfLaws.{polled-length}
 
 -- where no write failed, the status is the one that is due
@@ -146,11 +146,11 @@ good_log : (opened back : SourceState) (good : IsGoodLog opened back) (bytes : L
 good_log opened back good bytes log.Whole h =
     let front = front_by opened back good bytes file.Whole h.0 in
     (refl, whole_text bytes h.0.extra front.0 good.text front.2 h.0.cause.0 (none_left back.left front.0 front.1 h.0.cause.1))
-good_log opened back good bytes (log.BadLine line) (inl h) = absurd (let wrong = good_reach opened back good bytes (AtBadLine line) (h.0, inl h.1) in cc)
+good_log opened back good bytes (log.BadLine line) (inl h) = absurd (let wrong = good_reach opened back good bytes (log.BadLine line) (h.0, inl h.1) in cc)
 good_log opened back good bytes (log.BadLine line) (inr h) =
-    absurd (let wrong = good_reach opened back good bytes (AtBadLine line) (front_of_whole most_of_a_log opened back bytes h.0, inr (h.0.cause.1, h.1, h.2)) in cc)
-good_log opened back good bytes log.Fault h = absurd (let wrong = good_reach opened back good bytes (AtEnd file.Fault) h in cc)
-good_log opened back good bytes log.Long h = absurd (let wrong = good_reach opened back good bytes (AtEnd file.TooLong) h in cc)
+    absurd (let wrong = good_reach opened back good bytes (log.BadLine line) (front_of_whole most_of_a_log opened back bytes h.0, inr (h.0.cause.1, h.1, h.2)) in cc)
+good_log opened back good bytes log.Fault h = absurd (let wrong = good_reach opened back good bytes log.Fault h in cc)
+good_log opened back good bytes log.Long h = absurd (let wrong = good_reach opened back good bytes log.Long h in cc)
 
 pub good_logs : (feed : ℕ) (radios : List RadioFields) (runs goods : List LogRun) → All (λ r. EndsLog most_of_a_log r.opened r.back r.bytes r.end) runs → All IsGoodLogRun goods →
     map (λ r. OfLog r.opened) runs ≡ map (λ r. OfLog r.opened) goods → map (λ r. OfLog r.back) runs ≡ map (λ r. OfLog r.back) goods →

@@ -11,7 +11,8 @@ use Rattle.feed_link.specs.Told.{SourceState, LinkState, Adds}
 use Rattle.feed_link.specs.Openings.State.{OfLog, OfLink}
 use Rattle.feed_link.proofs.ToldLaws.{Adds-more}
 use Rattle.feed_workers.specs.Leaps.{EndsLeap, most_of_a_list}
-use Rattle.feed_workers.specs.Logs.{EndsLog, most_of_a_log}
+use Rattle.feed_workers.specs.Logs.{EndsLog}
+use Rattle.log_decoder.specs.Decoding.{most_of_a_log}
 use Rattle.feed_workers.specs.declared.work.LogWork.{LogWork}
 use Rattle.feed_workers.specs.declared.work.PollWork.{PollWork}
 use Rattle.journal_entry.specs.declared.entry.Entry.{Entry}

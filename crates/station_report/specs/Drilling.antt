@@ -2,7 +2,7 @@
 -- often each feed was answered in which way is reported, with the page of the journal. All of it is this project's own.
 use Rattle.std.specs.Prelude.{◌≡◌, ℕ, ◌≤◌, nat_lt, Bool, true, false, None, List, [], ◌∷◌, ◌++◌, count_by, map, codes, decimal, if◌then◌else◌}
 use Rattle.std.specs.List.{flat_map}
-use Rattle.feed_workers.specs.declared.work.LogEnd.TheVariants as log
+use Rattle.file_reader.specs.declared.log_end.LogEnd.TheVariants as log
 use Rattle.journal_entry.specs.Texts.{spaced}
 use Rattle.journal_entry.specs.declared.entry.Entry.{Entry}
 use Rattle.journal_entry.specs.declared.entry.What.{What}

@@ -19,11 +19,12 @@ use Rattle.std.specs.Option.{option_to_list}
 use mathlib.Core.List.{IsPrefix}
 use Rattle.feed_link.specs.Told.{SourceState, SinkState, LinkState, NetEvent, Adds}
 use Rattle.feed_workers.specs.Leaps.{EndsLeap, due_leap, most_of_a_list}
-use Rattle.feed_workers.specs.Logs.{EndsLog, most_of_a_log}
+use Rattle.feed_workers.specs.Logs.{EndsLog}
+use Rattle.log_decoder.specs.Decoding.{most_of_a_log}
 use Rattle.feed_workers.specs.Polling.{EndsPolls}
 use Rattle.feed_workers.specs.Polls.{due_link}
-use Rattle.feed_workers.specs.declared.work.LogEnd.{LogEnd}
-use Rattle.feed_workers.specs.declared.work.LogEnd.TheVariants as log
+use Rattle.file_reader.specs.declared.log_end.LogEnd.{LogEnd}
+use Rattle.file_reader.specs.declared.log_end.LogEnd.TheVariants as log
 use Rattle.feed_workers.specs.declared.work.PollEnd.{PollEnd}
 use Rattle.feed_workers.specs.declared.work.PollEnd.TheVariants as poll
 use Rattle.journal_entry.specs.Texts.{spaced}

@@ -8,6 +8,7 @@ pub mod SilenceLaws
 pub mod SoundLaws
 pub mod PageLaws
 pub mod SweepLaws
+pub mod UpwardLaws
 pub mod LengthLaws
 pub mod PlainLaws
 pub mod EndLaws

@@ -1,5 +1,5 @@
 -- Scaffolding: the sources that are fit, by what is kept of the feeds.
-use Rattle.std.specs.Prelude.{◌≡◌, ℕ, ◌-◌, ◌^◌, ◌≤◌, ◌<◌, nat_le, Option, None, Some, List, All, filter, length, pos, ◌≤ℤ◌, if◌then◌else◌}
+use Rattle.std.specs.Prelude.{◌≡◌, ℕ, ◌-◌, ◌^◌, ◌≤◌, ◌<◌, nat_le, Option, None, Some, List, All, filter, length, slice_index_or, pos, ◌≤ℤ◌, if◌then◌else◌}
 use Rattle.std.specs.List.{filter_map, enumerate_from}
 use Rattle.std.specs.Option.{option_map}
 use Rattle.clock_filter.specs.Bounds.{AreLawful, IsMeasured}
@@ -9,6 +9,8 @@ use Rattle.clock_filter.specs.Held.{StandsFor, held}
 use Rattle.select_core.specs.Sweeping.{others, with_candidate}
 use Rattle.select_core.specs.declared.chime.Candidate.{Candidate}
 use Rattle.system_fold.specs.declared.feed.Feed.{Feed}
+use Rattle.clock_filter.specs.declared.figures.Figures.{Figures}
+use Rattle.system_fold.specs.declared.settings.SourceKind.{SourceKind}
 use Rattle.system_fold.specs.declared.source.Source.{Source}
 
 -- what is kept of a feed: its last samples, which are valid and from no later than now
@@ -20,6 +22,10 @@ pub record IsSound (now : ℕ) (feed : Feed) : Type 0 where
 abbrev pub if_fit : ℕ → Option Source → Option Source
 if_fit now None = None
 if_fit now (Some s) = if is_fit_at now s.figures then Some s else None
+
+-- the source of a feed with a number, with figures
+abbrev pub source_with : ℕ → SourceKind → Figures → Source
+source_with number kind figures = record { feed = number; kind = kind; figures = figures }
 
 -- a feed with a number, where its samples from the cut on make it fit
 abbrev pub fit_source : ℕ → ℕ → ℕ × Feed → Option Source
@@ -36,6 +42,10 @@ pub record IsFit (now : ℕ) (s : Source) : Type 0 where
   pub newest : s.figures.newest ≤ now
   pub most : distance_of now s.figures ≤ℤ pos (2 ^ 32)
   pub stratum : s.figures.stratum < 15
+
+-- each source has a greater number than the one before it
+pub record AreUpward (fit : List Source) : Type 0 where
+  pub upward : (i j : ℕ) (d : Source) → i < j → j < length fit → (slice_index_or fit i d).feed < (slice_index_or fit j d).feed
 
 -- these are the fit ones among this many feeds
 pub record AreFit (cut now : ℕ) (seen : List Feed) (fit : List Source) : Type 0 where

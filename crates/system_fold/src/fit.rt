@@ -1,17 +1,20 @@
 //! The sources that are fit to be selected.
-ghost use Rattle.std.specs.Prelude.{◌≡◌, ◌≤◌, ◌<◌, ◌^◌, ◌+◌, ◌++◌, [], List, All, length, map, pos, ◌≤ℤ◌, unsigned_abs, IfSome};
+ghost use Rattle.std.specs.Prelude.{◌≡◌, ◌≤◌, ◌<◌, ◌^◌, ◌+◌, ◌++◌, [], List, All, length, map, pos, ◌≤ℤ◌, unsigned_abs, Some, IfSome};
 ghost use Rattle.std.specs.List.{cons_option};
 ghost use Rattle.std.specs.Option.{option_map};
+ghost use Rattle.clock_filter.specs.Bounds.{IsMeasured};
 ghost use Rattle.select_core.specs.Sweeping.{others};
 ghost use Rattle.system_fold.specs.Fit as fits;
-ghost use Rattle.system_fold.specs.Fit.{AreFew, AreFit, IsFit, IsSound, fit_feeds, with_some};
+ghost use Rattle.system_fold.specs.Fit.{AreFew, AreFit, IsFit, IsSound, fit_feeds, source_with, with_some};
 ghost use Rattle.system_fold.specs.Selecting as selecting;
 
+use crate::SourceKind;
 use crate::feed::Feed;
 use crate::selecting::candidate_of;
 use crate::source::Source;
 use crate::sources::Sources;
-use select_core::Sweep;
+use clock_filter::Ready;
+use select_core::{Candidate, Sweep};
 use tick_units::Local;
 
 // The feed with a number, where its samples from the cut on make it fit.
@@ -59,8 +62,44 @@ pub fn fit_sources(feeds: &[Feed], cut: u64, now: Local) -> Sources
     fit
 }
 
-// Looks at a feed. Where it is fit, this adds its source and its candidate; where it is not, it has no candidate.
-fn look_at(number: u32, feed: &Feed, cut: u64, now: Local, fit: &mut Sources, sweep: &mut Sweep)
+// Adds the source and the candidate of a feed, where its figures make it fit; where they do not, it has no candidate.
+fn add_if_fit(
+    number: u32,
+    kind: SourceKind,
+    figures: &Ready,
+    now: Local,
+    fit: &mut Sources,
+    sweep: &mut Sweep,
+)
+    requires moment { figures.now.newest ≤ now }
+    requires newest { figures.now.taken_at ≤ figures.now.newest }
+    requires measured { IsMeasured figures.now }
+    requires jitter { figures.now.jitter2 ≤ 2 ^ 80 }
+    requires few { length fit.old < 16 }
+    requires room { length (others number sweep.old) < 16 }
+    ensures source { IfSome (fits.if_fit now (Some (source_with number kind figures.now))) (IsFit now) }
+    ensures fit { fit.new ≡
+        fit.old ++ cons_option (fits.if_fit now (Some (source_with number kind figures.now))) [] }
+    ensures sweep { sweep.new ≡ with_some number
+        (option_map (selecting.candidate_of now)
+        (fits.if_fit now (Some (source_with number kind figures.now)))) sweep.old }
+{
+    let distance = figures.distance(now);
+    if figures.is_fit_with(distance) {
+        fit.push_of(number, kind, figures);
+        sweep.put(Candidate {
+            feed: number,
+            offset: figures.get().offset,
+            distance,
+        });
+    } else {
+        sweep.remove(number);
+    }
+}
+
+// The same of a feed whose filter does not have the figures from the cut on ready.
+#[inline(never)]
+fn look_again(number: u32, feed: &Feed, cut: u64, now: Local, fit: &mut Sources, sweep: &mut Sweep)
     requires sound { IsSound now feed.now }
     requires few { length fit.old < 16 }
     requires room { length (others number sweep.old) < 16 }
@@ -75,6 +114,22 @@ fn look_at(number: u32, feed: &Feed, cut: u64, now: Local, fit: &mut Sources, sw
             sweep.put(candidate_of(&source, now));
         }
         None => sweep.remove(number),
+    }
+}
+
+// Looks at a feed. Where it is fit, this adds its source and its candidate; where it is not, it has no candidate.
+fn look_at(number: u32, feed: &Feed, cut: u64, now: Local, fit: &mut Sources, sweep: &mut Sweep)
+    requires sound { IsSound now feed.now }
+    requires few { length fit.old < 16 }
+    requires room { length (others number sweep.old) < 16 }
+    ensures source { IfSome (fits.fit_source cut now (number, feed.now)) (IsFit now) }
+    ensures fit { fit.new ≡ fit.old ++ cons_option (fits.fit_source cut now (number, feed.now)) [] }
+    ensures sweep { sweep.new ≡ with_some number
+        (option_map (selecting.candidate_of now) (fits.fit_source cut now (number, feed.now))) sweep.old }
+{
+    match feed.filter.known(cut) {
+        Some(figures) => add_if_fit(number, feed.kind, figures, now, fit, sweep),
+        None => look_again(number, feed, cut, now, fit, sweep),
     }
 }
 

@@ -4,8 +4,8 @@ ghost use Rattle.system_fold.specs.Leaps.{word_in, verdict_in, leap_of, passed_b
 ghost use Rattle.system_fold.specs.KeptFold.{KeepsLeaps, best_with, or_older, words_with};
 ghost use Rattle.journal_entry.specs.declared.entry.Entry.{Entry};
 
+use crate::leap_words::Words;
 use crate::moments::{beginning, later};
-use crate::words::Words;
 use journal_entry::{Entry, What};
 use tick_units::{Kind, Local};
 

@@ -5,6 +5,7 @@ mod feed;
 mod fit;
 mod fold;
 mod inputs;
+mod leap_words;
 mod leaps;
 mod moments;
 mod page;
@@ -15,7 +16,6 @@ mod source;
 mod sources;
 mod text;
 mod whole;
-mod words;
 
 pub use fold::FoldState;
 pub use plain::page_from_scratch;

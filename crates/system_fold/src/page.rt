@@ -7,7 +7,7 @@ ghost use Rattle.cluster_core.specs.Bounds.{AreNear, IsWeighable};
 ghost use Rattle.cluster_core.specs.Mean.{mean};
 ghost use Rattle.select_core.specs.Selection.{chime_of};
 ghost use Rattle.system_fold.specs.Ends.{is_above};
-ghost use Rattle.system_fold.specs.Fit.{IsFit};
+ghost use Rattle.system_fold.specs.Fit.{AreUpward, IsFit};
 ghost use Rattle.system_fold.specs.Selecting as selecting;
 ghost use Rattle.system_fold.specs.Surviving.{IsLong};
 ghost use Rattle.system_fold.specs.Fields as pages;
@@ -101,6 +101,7 @@ pub fn page_from(inputs: &PageInputs, peer: &Source, fresh: Local, offset: Span)
 fn page_of_survivors(inputs: &PageInputs, fit: &[Source], survivors: &Survivors) -> Page
     requires inputs { AreBounded inputs.now }
     requires fit { All (IsFit inputs.now.moment) fit.now }
+    requires upward { AreUpward fit.now }
     requires measured { All IsWeighable survivors.now }
     requires near { AreNear survivors.now }
     requires long { All IsLong survivors.now }
@@ -119,6 +120,7 @@ pub fn page_within(inputs: &PageInputs, fit: &[Source], chime: &Option<Chime>) -
     requires inputs { AreBounded inputs.now }
     requires few { length fit.now ≤ 16 }
     requires fit { All (IsFit inputs.now.moment) fit.now }
+    requires upward { AreUpward fit.now }
     requires chime { chime.now ≡ chime_of (map (selecting.candidate_of inputs.now.moment) fit.now) }
     requires narrow { IfSome chime.now (λ chime. (chime.high -ℤ chime.low) ≤ℤ pos (2 ^ 33)) }
     ensures { result ≡ page_by inputs.now fit.now }
@@ -139,6 +141,7 @@ pub fn page_by(inputs: &PageInputs, fit: &[Source]) -> Page
     requires inputs { AreBounded inputs.now }
     requires few { length fit.now ≤ 16 }
     requires fit { All (IsFit inputs.now.moment) fit.now }
+    requires upward { AreUpward fit.now }
     ensures { result ≡ page_by inputs.now fit.now }
 {
     page_within(inputs, fit, &agreed(fit, inputs.moment))

@@ -4,7 +4,7 @@ ghost use Rattle.std.specs.List.{cons_option};
 ghost use Rattle.cluster_core.specs.Bounds.{IsWeighable};
 ghost use Rattle.select_core.specs.Selection.{are_measured, chime_of, is_in, is_measured};
 ghost use Rattle.system_fold.specs.Fields.{fresh_of};
-ghost use Rattle.system_fold.specs.Fit.{IsFit};
+ghost use Rattle.system_fold.specs.Fit.{AreUpward, IsFit};
 ghost use Rattle.system_fold.specs.Selecting as selecting;
 ghost use Rattle.system_fold.specs.declared.source.Source.{Source};
 
@@ -114,6 +114,22 @@ fn source_at(fit: &[Source], feed: u32) -> Option<&Source>
     None
 }
 
+// The source of a feed, where the sources are in the order of their feeds. Where each lesser feed has a source, that of a feed is
+// at the feed's number.
+fn source_of(fit: &[Source], feed: u32) -> Option<&Source>
+    requires { AreUpward fit.now }
+    ensures { option_map (λ s. s.now) result ≡ find (λ s. s.feed == feed) fit.now }
+{
+    let place = feed as usize;
+    if place < fit.len() {
+        let source = &fit[place];
+        if source.feed == feed {
+            return Some(source);
+        }
+    }
+    source_at(fit, feed)
+}
+
 // The first of two sources, where there is one.
 fn first_of<'a>(first: Option<&'a Source>, next: Option<&'a Source>) -> Option<&'a Source>
     ensures { (xs : List Source) → option_map (λ s. s.now) first.entry ≡ slice_get xs 0 →
@@ -138,6 +154,7 @@ fn fresher(fresh: Local, source: Option<&Source>) -> Local
 
 /// What a page says of the sources of survivors.
 pub fn left_of<'a>(fit: &'a [Source], survivors: &[Survivor]) -> Left<'a>
+    requires { AreUpward fit.now }
     ensures peer { option_map (λ s. s.now) result.peer ≡ slice_get (selecting.sources_at fit.now survivors.now) 0 }
     ensures fresh { result.fresh ≡ fresh_of (selecting.sources_at fit.now survivors.now) }
 {
@@ -146,7 +163,7 @@ pub fn left_of<'a>(fit: &'a [Source], survivors: &[Survivor]) -> Left<'a>
         fresh: beginning(),
     };
     for survivor in survivors {
-        let source = source_at(fit, survivor.feed);
+        let source = source_of(fit, survivor.feed);
         left = Left {
             peer: first_of(left.peer, source),
             fresh: fresher(left.fresh, source),

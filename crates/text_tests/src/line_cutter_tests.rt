@@ -19,7 +19,7 @@ fn cut(alloc: Global, script: &[u8], length: usize) -> Result<(Vec<u8>, bool), A
         for _ in 0..piece.len() {
             let taken = cutter.take(rest);
             rest = rest.split_at(taken.count).1;
-            if taken.cut == Cut::Line {
+            if taken.found == Cut::Line {
                 lines.extend_from_slice(cutter.line())?;
                 lines.push(b'|')?;
             }
@@ -52,12 +52,12 @@ fn a_line_is_too_long_where_the_limit_says(rt: HostRuntime) {
         let mut cutter = LineCutter::new(limit);
         let whole = cutter.take(&b"123456789"[..limit - 1]);
         same(&rt, whole.count, limit - 1);
-        same(&rt, whole.cut, Cut::More);
-        same(&rt, cutter.take(b"\n").cut, Cut::Line);
+        same(&rt, whole.found, Cut::More);
+        same(&rt, cutter.take(b"\n").found, Cut::Line);
         same(&rt, cutter.line().len(), limit - 1);
         let longer = cutter.take(&b"123456789"[..limit]);
         same(&rt, longer.count, limit);
-        same(&rt, longer.cut, Cut::TooLong);
+        same(&rt, longer.found, Cut::TooLong);
     }
 }
 
@@ -65,14 +65,14 @@ fn a_line_is_too_long_where_the_limit_says(rt: HostRuntime) {
 fn a_line_is_too_long_at_its_4096th_byte(rt: HostRuntime) {
     let mut cutter = LineCutter::new(4096);
     let whole = [b'a'; 4095];
-    same(&rt, cutter.take(&whole).cut, Cut::More);
+    same(&rt, cutter.take(&whole).found, Cut::More);
     let taken = cutter.take(b"\nnext");
-    same(&rt, taken.cut, Cut::Line);
+    same(&rt, taken.found, Cut::Line);
     same(&rt, taken.count, 1);
     same(&rt, cutter.line(), whole.as_slice());
-    same(&rt, cutter.take(&whole[1..]).cut, Cut::More);
+    same(&rt, cutter.take(&whole[1..]).found, Cut::More);
     let taken = cutter.take(b"bc\n");
-    same(&rt, taken.cut, Cut::TooLong);
+    same(&rt, taken.found, Cut::TooLong);
     same(&rt, taken.count, 2);
     let again = cutter.take(b"bc\n");
     same(&rt, again, taken);

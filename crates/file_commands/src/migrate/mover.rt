@@ -12,10 +12,11 @@ ghost use Rattle.system_fold.specs.Settings.{SettingsFields};
 
 use crate::lines::write_numbered_line;
 use crate::migrate::lines::Mover;
-use crate::reading::{Gives, Line, Reach, Taker, Took};
-use file_reader::FileEnd;
+use crate::reading::{Gives, Line, Taker};
+use file_reader::LogEnd;
 use journal_entry::{LINE_ROOM, read_line};
 use line_cutter::{Cut, LineCutter};
+use pulse_log::{BadLine, Taken};
 
 // The most lines of a journal.
 const MOST: u64 = 4_194_304;
@@ -80,8 +81,8 @@ impl JournalMover {
         let number = self.lines + 1;
         self.lines = number;
         match move_text(&mut self.mover, self.cutter.line(), number, line) {
-            Some(length) => Gives::Text(length),
-            None => Gives::Bad(number),
+            Some(length) => Ok(Some(length)),
+            None => Err(BadLine { line: number }),
         }
     }
 }
@@ -102,35 +103,39 @@ impl Taker for JournalMover {
     // After the greatest number of lines it takes no more.
     ghost room = { λ mover. 2 ^ 64 };
 
-    fn take(&mut self, bytes: &[u8], line: &mut Line) -> Took {
+    fn take(&mut self, bytes: &[u8], line: &mut Line) -> Taken<Gives> {
         if self.lines == MOST {
-            return Took {
+            return Taken {
                 count: 1,
-                gives: Gives::Bad(MOST + 1),
+                found: Err(BadLine { line: MOST + 1 }),
             };
         }
         let taken = self.cutter.take(bytes);
-        match taken.cut {
-            Cut::More => Took {
+        match taken.found {
+            Cut::More => Taken {
                 count: taken.count,
-                gives: Gives::Nothing,
+                found: Ok(None),
             },
-            Cut::Line => Took {
+            Cut::Line => Taken {
                 count: taken.count,
-                gives: self.move_line(line),
+                found: self.move_line(line),
             },
-            Cut::TooLong => Took {
+            Cut::TooLong => Taken {
                 count: taken.count,
-                gives: Gives::Bad(self.lines + 1),
+                found: Err(BadLine {
+                    line: self.lines + 1,
+                }),
             },
         }
     }
 
-    fn at_end(&self) -> Reach {
+    fn at_end(&self) -> LogEnd {
         if self.cutter.has_tail() {
-            Reach::AtBadLine(self.lines + 1)
+            LogEnd::BadLine {
+                line: self.lines + 1,
+            }
         } else {
-            Reach::AtEnd(FileEnd::Whole)
+            LogEnd::Whole
         }
     }
 

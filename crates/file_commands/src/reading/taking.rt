@@ -3,14 +3,16 @@ ghost use Rattle.std.specs.Prelude.{◌≡◌, ◌+◌, ◌<◌, ◌≤◌, ◌+
 ghost use Rattle.feed_link.specs.Told.{SinkState};
 ghost use Rattle.journal_entry.specs.declared.writer.TheConstants.{LINE_ROOM};
 ghost use Rattle.file_commands.specs.Reading.{bad_in_the_end};
-ghost use Rattle.file_commands.specs.Taking.{Holds, Says, Fits, given, bad_of, EndsAt, TakesPiece, EndsTaking};
+ghost use Rattle.file_reader.specs.Ends.{EndsAt};
+ghost use Rattle.file_commands.specs.Taking.{Holds, Says, Fits, given, bad_of, TakesPiece, EndsTaking};
 ghost use Rattle.file_commands.specs.Taking.{flow_of, output_of};
 ghost use Rattle.sink_text.specs.Writing.{WritesAll};
 
-use crate::reading::{Line, Reach, Taken, Took, write_given};
+use crate::reading::{Gives, Line, write_given};
 use feed_link::{Failed, Sink, Source};
-use file_reader::{FileEnd, FileReader, Pulled};
+use file_reader::{FileEnd, FileReader, LogEnd, Pulled};
 use journal_entry::LINE_ROOM;
+use pulse_log::Taken;
 
 // Takes the bytes of a kind of file as they come, and gives their text, up to the first bad line.
 pub trait Taker {
@@ -31,7 +33,7 @@ pub trait Taker {
     ghost room: { Self → ℕ };
 
     // Takes bytes up to the next text, which is then the beginning of the line, up to a bad line, or all of them.
-    fn take(&mut self, bytes: &[u8], line: &mut Line) -> Took
+    fn take(&mut self, bytes: &[u8], line: &mut Line) -> Taken<Gives>
         requires some { 0 < length bytes.now }
         requires ready { is_ready self.old }
         requires room { length bytes.now < room self.old }
@@ -39,13 +41,13 @@ pub trait Taker {
         ensures within { result.count ≤ length bytes.now }
         ensures ready { is_ready self.new }
         ensures room { room self.old ≤ room self.new + result.count }
-        ensures fits { Fits result.gives }
+        ensures fits { Fits result.found }
         ensures holds { (of : Case) (before text : List ℕ) → holds self.old of before text None →
-            holds self.new of (before ++ take result.count bytes.now) (text ++ given result.gives line.new)
-            (bad_of result.gives) };
+            holds self.new of (before ++ take result.count bytes.now) (text ++ given result.found line.new)
+            (bad_of result.found) };
 
-    // How far a reading came that came to the end.
-    fn at_end(&self) -> Reach
+    // Why a reading ended that came to the end of the file.
+    fn at_end(&self) -> LogEnd
         requires ready { is_ready self.now }
         requires room { 0 < room self.now }
         ensures { (of : Case) (bytes text : List ℕ) → holds self.now of bytes text None →
@@ -56,8 +58,12 @@ pub trait Taker {
         says of bytes text };
 }
 
-// Takes a piece of a file, up to a bad line or a write that fails.
-fn take_piece<T: Taker, K: Sink>(taker: &mut T, piece: &[u8], out: &mut K) -> Taken
+// Takes a piece of a file, up to a bad line or a write that fails. The answer is the number of that line, where there is one.
+fn take_piece<T: Taker, K: Sink>(
+    taker: &mut T,
+    piece: &[u8],
+    out: &mut K,
+) -> Result<Option<u64>, Failed>
     requires ready { T.is_ready taker.old }
     requires room { length piece.now < T.room taker.old }
     ensures ready { T.is_ready taker.new }
@@ -71,14 +77,14 @@ fn take_piece<T: Taker, K: Sink>(taker: &mut T, piece: &[u8], out: &mut K) -> Ta
     let mut rest = piece;
     'rest: while !rest.is_empty() {
         let took = taker.take(rest, &mut line);
-        match write_given(took.gives, &line, out) {
-            Taken::All => {}
-            Taken::Bad(number) => return Taken::Bad(number),
-            Taken::Stopped => return Taken::Stopped,
+        match write_given(took.found, &line, out) {
+            Ok(None) => {}
+            Ok(Some(number)) => return Ok(Some(number)),
+            Err(Failed) => return Err(Failed),
         }
         rest = rest.split_at(took.count).1;
     }
-    Taken::All
+    Ok(None)
 }
 
 // Reads a file of at most this many bytes to its end, to its first bad line or to its first fault. A taker takes the bytes, as
@@ -88,7 +94,7 @@ pub fn read_lines<S: Source, T: Taker, K: Sink>(
     taker: &mut T,
     limit: usize,
     out: &mut K,
-) -> Result<Reach, Failed>
+) -> Result<LogEnd, Failed>
     requires ready { T.is_ready taker.old }
     requires room { limit < T.room taker.old }
     ensures number { S.opening file.new ≡ S.opening file.old }
@@ -100,13 +106,13 @@ pub fn read_lines<S: Source, T: Taker, K: Sink>(
     'pieces: loop {
         match reader.pull(file) {
             Pulled::Piece => match take_piece(taker, reader.piece(), out) {
-                Taken::All => {}
-                Taken::Bad(number) => return Ok(Reach::AtBadLine(number)),
-                Taken::Stopped => return Err(Failed),
+                Ok(None) => {}
+                Ok(Some(line)) => return Ok(LogEnd::BadLine { line }),
+                Err(Failed) => return Err(Failed),
             },
             Pulled::Ended(FileEnd::Whole) => return Ok(taker.at_end()),
-            Pulled::Ended(FileEnd::Fault) => return Ok(Reach::AtEnd(FileEnd::Fault)),
-            Pulled::Ended(FileEnd::TooLong) => return Ok(Reach::AtEnd(FileEnd::TooLong)),
+            Pulled::Ended(FileEnd::Fault) => return Ok(LogEnd::Fault),
+            Pulled::Ended(FileEnd::TooLong) => return Ok(LogEnd::Long),
         }
     }
 }

@@ -8,10 +8,11 @@ ghost use Rattle.line_cutter.specs.Cutting.{line_in};
 ghost use Rattle.script_player.specs.KeptPlayer.{HasPlayed, IsReady};
 ghost use Rattle.script_player.specs.Replay.{Played, ReplayCase};
 
-use crate::reading::{Gives, Line, Reach, Taker, Took};
-use file_reader::FileEnd;
+use crate::reading::{Gives, Line, Taker};
+use file_reader::LogEnd;
 use journal_entry::LINE_ROOM;
 use line_cutter::{Cut, LineCutter};
+use pulse_log::{BadLine, Taken};
 use radio_receiver::Receiver;
 use script_line::read_line;
 use script_player::{BoxedReceiver, NotLawful, Player, write_outcome};
@@ -79,9 +80,11 @@ impl Replayer<BoxedReceiver> {
         match play_text(&mut self.player, self.cutter.line(), line) {
             Ok(length) => {
                 self.lines += 1;
-                Gives::Text(length)
+                Ok(Some(length))
             }
-            Err(NotLawful) => Gives::Bad(self.lines + 1),
+            Err(NotLawful) => Err(BadLine {
+                line: self.lines + 1,
+            }),
         }
     }
 }
@@ -102,29 +105,33 @@ impl Taker for Replayer<BoxedReceiver> {
 
     ghost room = { λ replayer. 2 ^ 64 - 1 - replayer.lines };
 
-    fn take(&mut self, bytes: &[u8], line: &mut Line) -> Took {
+    fn take(&mut self, bytes: &[u8], line: &mut Line) -> Taken<Gives> {
         let taken = self.cutter.take(bytes);
-        match taken.cut {
-            Cut::More => Took {
+        match taken.found {
+            Cut::More => Taken {
                 count: taken.count,
-                gives: Gives::Nothing,
+                found: Ok(None),
             },
-            Cut::Line => Took {
+            Cut::Line => Taken {
                 count: taken.count,
-                gives: self.play_line(line),
+                found: self.play_line(line),
             },
-            Cut::TooLong => Took {
+            Cut::TooLong => Taken {
                 count: taken.count,
-                gives: Gives::Bad(self.lines + 1),
+                found: Err(BadLine {
+                    line: self.lines + 1,
+                }),
             },
         }
     }
 
-    fn at_end(&self) -> Reach {
+    fn at_end(&self) -> LogEnd {
         if self.cutter.has_tail() {
-            Reach::AtBadLine(self.lines + 1)
+            LogEnd::BadLine {
+                line: self.lines + 1,
+            }
         } else {
-            Reach::AtEnd(FileEnd::Whole)
+            LogEnd::Whole
         }
     }
 

@@ -7,7 +7,7 @@ pub returns-in-Some-clause-heard : goal.returns-in-Some-clause-heard
 returns-in-Some-clause-heard g c = λ tuning begun bytes h.
     let so_far = c.rest.invariant.so_far tuning begun bytes h in
     let t = c.take_line-took in
-    missed _ c.rest.decoder t.new.decoder tuning _ _ _ c.rest.rest.now t.result.count c.in-Some.line so_far t.result.bad (t.ensures.heard tuning begun so_far.front so_far.heard) c.in-Some.is
+    missed _ c.rest.decoder t.new.decoder tuning _ _ _ c.rest.rest.now t.result.count c.in-Some.line so_far t.result.found (t.ensures.heard tuning begun so_far.front so_far.heard) c.in-Some.is
 
 pub returns-clause-heard : goal.returns-clause-heard
 returns-clause-heard g c = λ tuning begun bytes h.
@@ -22,5 +22,5 @@ rest-preserved g c =
       pass = search rules;
       so_far = λ tuning begun bytes h.
           let so_far = c.rest.invariant.so_far tuning begun bytes h in
-          rw c.split_at.ensures.back (heard_on _ c.rest.decoder t.new.decoder tuning _ _ _ c.rest.rest.now t.result.count so_far t.result.bad (t.ensures.heard tuning begun so_far.front so_far.heard) c.in-None.is);
+          rw c.split_at.ensures.back (heard_on _ c.rest.decoder t.new.decoder tuning _ _ _ c.rest.rest.now t.result.count so_far t.result.found (t.ensures.heard tuning begun so_far.front so_far.heard) c.in-None.is);
     }

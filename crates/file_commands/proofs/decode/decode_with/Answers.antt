@@ -7,7 +7,7 @@ use Rattle.file_commands.proofs.DecodingLaws.{decoded_none, decodes_after, decod
 use Rattle.file_commands.proofs.decode.decode_with.Goals as goal
 
 pub returns-in-Ok-clause-decodes : goal.returns-in-Ok-clause-decodes
-returns-in-Ok-clause-decodes g c = λ plan h. decodes_after _ plan c.read_lines.new.taker _ _ _ _ _ c.in-Ok.reach _
+returns-in-Ok-clause-decodes g c = λ plan h. decodes_after _ plan c.read_lines.new.taker _ _ _ _ _ c.in-Ok.end _
     (c.in-Ok.ensures.ends plan (decoded_none _ _ plan (c.new-decoder.ensures.start plan 0 h)))
     (subst (λ (e : Ending). Answers (status_of e) c.finish.result (g.K.Sink.state c.read_lines.new.out) (g.K.Sink.state c.finish.new.out) (status_line e)) c.ending_at.ensures c.finish.ensures)
 

@@ -6,7 +6,7 @@ use Rattle.file_commands.proofs.LineFileLaws.{runs_after, runs_stopped}
 use Rattle.file_commands.proofs.migrate.move_whole.Goals as goal
 
 pub returns-in-Ok-clause-runs : goal.returns-in-Ok-clause-runs
-returns-in-Ok-clause-runs g c = λ of h. runs_after (journal_way of) (journal_taker c.read_lines.new.taker) _ _ _ _ _ c.in-Ok.reach _ c.page.result c.migrate_ending.result
+returns-in-Ok-clause-runs g c = λ of h. runs_after (journal_way of) (journal_taker c.read_lines.new.taker) _ _ _ _ _ c.in-Ok.end _ c.page.result c.migrate_ending.result
     (c.in-Ok.ensures.ends of h) (λ lines bad moved. c.page.ensures ∙ moved.page) (λ lines bad moved. c.migrate_ending.ensures) c.finish_page.ensures
 
 pub returns-in-Err-clause-runs : goal.returns-in-Err-clause-runs

@@ -7,9 +7,9 @@ use Rattle.file_commands.proofs.LineFileLaws.{runs_after, runs_stopped}
 use Rattle.file_commands.proofs.replay.play_whole.Goals as goal
 
 pub returns-in-Ok-clause-replays : goal.returns-in-Ok-clause-replays
-returns-in-Ok-clause-replays g c = λ station h. runs_after (script_way _ (case_of station c.args.limit)) (script_taker c.read_lines.new.taker) _ _ _ _ _ c.in-Ok.reach _ c.page-page.result c.replay_ending-ending.result
+returns-in-Ok-clause-replays g c = λ station h. runs_after (script_way _ (case_of station c.args.limit)) (script_taker c.read_lines.new.taker) _ _ _ _ _ c.in-Ok.end _ c.page-page.result c.replay_ending-ending.result
     (c.in-Ok.ensures.ends (case_of station c.args.limit) h) (λ lines bad played. c.page-page.ensures (case_of station c.args.limit) lines played)
-    (λ lines bad played. c.replay_ending-ending.ensures ∙ ap (λ (b : Bool). replay_ending c.in-Ok.reach b c.args.limit) (c.is_full.ensures (case_of station c.args.limit) lines played))
+    (λ lines bad played. c.replay_ending-ending.ensures ∙ ap (λ (b : Bool). replay_ending c.in-Ok.end b c.args.limit) (c.is_full.ensures (case_of station c.args.limit) lines played))
     c.finish_page.ensures
 
 pub returns-in-Err-clause-replays : goal.returns-in-Err-clause-replays

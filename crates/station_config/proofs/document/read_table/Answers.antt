@@ -3,7 +3,7 @@ use Rattle.std.proofs.Common.{◌∙◌, sym, ap, filter, find, map, nat_lt, Boo
 use Rattle.toml.specs.View.{table_view}
 use Rattle.packet_auth.specs.Keys.{AreApart}
 use Rattle.station_config.specs.Faults.{Count, counts_of, excess_of, too_many}
-use Rattle.station_config.specs.Finding.{count_seen, spot_text}
+use Rattle.station_config.specs.Finding.{count_seen, path_text}
 use Rattle.station_config.specs.Station.{IsStation}
 use Rattle.station_config.specs.Values.{station_of}
 use Rattle.station_config.proofs.Bounds.{station_bounds, within}
@@ -17,7 +17,7 @@ over c = nat_lt c.most c.count
 pub returns-in-Some-first_at-clause-bad : goal.returns-in-Some-first_at-clause-bad
 returns-in-Some-first_at-clause-bad c =
     let m = table_view c.args.table.now in
-    missing_first (unknowns m) (missings m) (bads m) (excess_of (station_of m)) (spot_text c.in-Some-first_at.spot)
+    missing_first (unknowns m) (missings m) (bads m) (excess_of (station_of m)) (path_text c.in-Some-first_at.spot)
     (first_none (unknowns m) (rw c.in_default.is at c.first_at.ensures)) (sym (rw c.in-Some-first_at.is at c.first_at-2.ensures))
 
 pub read_parts-requires : goal.read_parts-requires

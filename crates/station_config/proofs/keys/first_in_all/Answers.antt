@@ -2,7 +2,7 @@
 use Rattle.std.proofs.Common.{◌∙◌, sym, ap, slice_get}
 use Rattle.toml.specs.View.{table_view}
 use Rattle.station_config.specs.Faults.{client_sheets, item_sheets, keys_at}
-use Rattle.station_config.specs.Finding.{keys_for, spot_text}
+use Rattle.station_config.specs.Finding.{keys_for, path_text}
 use Rattle.station_config.proofs.Firsts.{first_or, first_past}
 use Rattle.station_config.proofs.Orders.{keys_of_all}
 use Rattle.station_config.proofs.keys.first_in_all.Goals as goal
@@ -11,7 +11,7 @@ pub returns-then-is_some : goal.returns-then-is_some
 returns-then-is_some c =
     let kind = keys_for c.args.check in
     let m = table_view c.args.table.now in
-    first_or spot_text c.first_in_arrays-item.result (keys_at kind (item_sheets m)) (keys_at kind (client_sheets m))
+    first_or path_text c.first_in_arrays-item.result (keys_at kind (item_sheets m)) (keys_at kind (client_sheets m))
     c.first_in_arrays-item.ensures (sym c.is_some.ensures ∙ c.if-is_some.true)
     ∙ ap (λ t. slice_get t 0) (sym (keys_of_all kind m))
 
@@ -19,6 +19,6 @@ pub returns : goal.returns
 returns c =
     let kind = keys_for c.args.check in
     let m = table_view c.args.table.now in
-    let past = first_past spot_text c.first_in_arrays-item.result (keys_at kind (item_sheets m)) (keys_at kind (client_sheets m))
+    let past = first_past path_text c.first_in_arrays-item.result (keys_at kind (item_sheets m)) (keys_at kind (client_sheets m))
     c.first_in_arrays-item.ensures (sym c.is_some.ensures ∙ c.if-is_some.false) in
     c.first_in_clients.ensures ∙ ap (λ t. slice_get t 0) (sym past ∙ sym (keys_of_all kind m))

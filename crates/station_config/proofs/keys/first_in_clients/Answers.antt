@@ -1,7 +1,7 @@
 -- What the search leaves open of `keys::first_in_clients`.
 use Rattle.std.proofs.Common.{◌∙◌, sym, ap, slice_get}
 use Rattle.toml.specs.View.{table_view}
-use Rattle.station_config.specs.Finding.{keys_for, spot_text}
+use Rattle.station_config.specs.Finding.{keys_for, path_text}
 use Rattle.station_config.proofs.Firsts.{first_or, first_past}
 use Rattle.station_config.proofs.Orders.{keys_of_clients, keys_of_keys, keys_of_nets}
 use Rattle.station_config.proofs.keys.first_in_clients.Goals as goal
@@ -10,7 +10,7 @@ pub returns-then-is_some : goal.returns-then-is_some
 returns-then-is_some c =
     let kind = keys_for c.args.check in
     let m = table_view c.args.table.now in
-    first_or spot_text c.first_in_array-key.result (keys_of_keys kind m) (keys_of_nets kind m)
+    first_or path_text c.first_in_array-key.result (keys_of_keys kind m) (keys_of_nets kind m)
     c.first_in_array-key.ensures (sym c.is_some.ensures ∙ c.if-is_some.true)
     ∙ ap (λ t. slice_get t 0) (sym (keys_of_clients kind m))
 
@@ -18,6 +18,6 @@ pub returns : goal.returns
 returns c =
     let kind = keys_for c.args.check in
     let m = table_view c.args.table.now in
-    let past = first_past spot_text c.first_in_array-key.result (keys_of_keys kind m) (keys_of_nets kind m)
+    let past = first_past path_text c.first_in_array-key.result (keys_of_keys kind m) (keys_of_nets kind m)
     c.first_in_array-key.ensures (sym c.is_some.ensures ∙ c.if-is_some.false) in
     c.first_in_array.ensures ∙ ap (λ t. slice_get t 0) (sym past ∙ sym (keys_of_clients kind m))

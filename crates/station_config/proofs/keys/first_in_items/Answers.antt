@@ -2,7 +2,7 @@
 use Rattle.std.proofs.Common.{◌≡◌, ◌∙◌, ◌+◌, ◌++◌, sym, ap, drop, get_or, slice_get}
 use Rattle.toml.specs.View.{view, items_view}
 use Rattle.station_config.specs.Faults.{keys_at, sheets}
-use Rattle.station_config.specs.Finding.{keys_for, spot_text}
+use Rattle.station_config.specs.Finding.{keys_for, path_text}
 use Rattle.station_config.specs.Rows.{table_at, tables_from}
 use Rattle.station_config.proofs.Firsts.{first_or, first_past}
 use Rattle.station_config.proofs.Walks.{keys_at-append, rest_from}
@@ -17,7 +17,7 @@ returns-then-is_some c =
     let more = tables_from (i + 1) (items_view (drop (i + 1) xs)) in
     let at : get_or xs i item ≡ item = sym c.index-items-place.is in
     let step : tables_from i (items_view (drop i xs)) ≡ table_at i (view item) ++ more = rest_from xs i item c.loop-place-test.true ∙ ap (λ v. table_at i (view v) ++ more) at in
-    first_or spot_text c.first_in_item-spot.result (keys_at kind (sheets c.args.part (table_at i (view item)))) (keys_at kind (sheets c.args.part more))
+    first_or path_text c.first_in_item-spot.result (keys_at kind (sheets c.args.part (table_at i (view item)))) (keys_at kind (sheets c.args.part more))
     c.first_in_item-spot.ensures (sym c.is_some.ensures ∙ c.if-is_some.true)
     ∙ ap (λ t. slice_get t 0) (sym (keys_at-append kind c.args.part (table_at i (view item)) more) ∙ sym (ap (λ ts. keys_at kind (sheets c.args.part ts)) step) ∙ c.loop-place.invariant)
 
@@ -30,6 +30,6 @@ loop-place-preserved c =
     let more = tables_from (i + 1) (items_view (drop (i + 1) xs)) in
     let at : get_or xs i item ≡ item = sym c.index-items-place.is in
     let step : tables_from i (items_view (drop i xs)) ≡ table_at i (view item) ++ more = rest_from xs i item c.loop-place-test.true ∙ ap (λ v. table_at i (view v) ++ more) at in
-    let past = first_past spot_text c.first_in_item-spot.result (keys_at kind (sheets c.args.part (table_at i (view item)))) (keys_at kind (sheets c.args.part more))
+    let past = first_past path_text c.first_in_item-spot.result (keys_at kind (sheets c.args.part (table_at i (view item)))) (keys_at kind (sheets c.args.part more))
     c.first_in_item-spot.ensures (sym c.is_some.ensures ∙ c.if-is_some.false) in
     sym past ∙ sym (keys_at-append kind c.args.part (table_at i (view item)) more) ∙ sym (ap (λ ts. keys_at kind (sheets c.args.part ts)) step) ∙ c.loop-place.invariant

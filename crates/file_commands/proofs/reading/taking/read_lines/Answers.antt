@@ -4,7 +4,7 @@ use Rattle.feed_link.proofs.ToldLaws.{Adds-none}
 use Rattle.file_reader.specs.Ends.{HasReadFront, EndsReading}
 use Rattle.file_reader.specs.Reader.{piece_of}
 use Rattle.file_reader.specs.declared.reader.FileEnd.TheVariants.{Whole, Fault, TooLong}
-use Rattle.file_commands.proofs.ReachLaws.{ends_whole, ends_fault, ends_long, ends_bad, ends_stopped}
+use Rattle.file_commands.proofs.EndLaws.{ends_whole, ends_fault, ends_long, ends_bad, ends_stopped}
 use Rattle.file_commands.proofs.reading.taking.read_lines.Goals as goal
 
 pub pieces-init : goal.pieces-init
@@ -20,30 +20,30 @@ pub pieces-preserved : goal.pieces-preserved
 pieces-preserved g c = record {
   number = c.pull.ensures.number ∙ c.pieces.invariant.number;
   limit = c.pull.ensures.limit ∙ c.pieces.invariant.limit;
-  ready = c.in-All.ensures.ready;
-  room = (let h = c.pieces.invariant.room in let k = c.in-All.ensures.room in let room = c.in-Piece.ensures.room refl in
+  ready = c.in-Ok-None.ensures.ready;
+  room = (let h = c.pieces.invariant.room in let k = c.in-Ok-None.ensures.room in let room = c.in-Piece.ensures.room refl in
       let len = ap (λ (b : List ℕ). length b) c.piece.ensures.value in omega arith);
   so_far = λ of h.
       let p = c.pieces.invariant.so_far of h in
       let pulled = c.in-Piece.ensures.gives _ p.0 p.1 in
-      (p.0 ++ c.piece.result.now, rw c.piece.ensures.value pulled, c.in-All.ensures.takes of p.0 p.2.text _ p.2.held p.2.written);
+      (p.0 ++ c.piece.result.now, rw c.piece.ensures.value pulled, rw c.in-Ok-None.field-0-is at (c.in-Ok-None.ensures.takes of p.0 p.2.text _ p.2.held p.2.written));
 }
 
-pub returns-in-Bad-clause-ends : goal.returns-in-Bad-clause-ends
-returns-in-Bad-clause-ends g c = λ of h.
+pub returns-in-Ok-Some-clause-ends : goal.returns-in-Ok-Some-clause-ends
+returns-in-Ok-Some-clause-ends g c = λ of h.
     let p = c.pieces.invariant.so_far of h in
     let pulled = c.in-Piece.ensures.gives _ p.0 p.1 in
     let same = c.pull.ensures.limit ∙ c.pieces.invariant.limit in
-    ends_bad _ c.args.limit _ _ _ _ (p.0 ++ c.piece.result.now) c.in-Bad.number (c.in-Bad.ensures.takes of p.0 p.2.text _ p.2.held p.2.written)
+    ends_bad _ c.args.limit _ _ _ _ (p.0 ++ c.piece.result.now) c.in-Ok-Some.line (rw c.in-Ok-Some.field-0-is at (c.in-Ok-Some.ensures.takes of p.0 p.2.text _ p.2.held p.2.written))
     (subst (λ (b : List ℕ). HasReadFront c.args.limit (g.S.Source.state c.args.file.now) (g.S.Source.state c.pull.new.file) (p.0 ++ b)) (sym c.piece.ensures.value)
     (subst (λ (n : ℕ). HasReadFront n (g.S.Source.state c.args.file.now) (g.S.Source.state c.pull.new.file) (p.0 ++ piece_of c.pull.new.self)) same pulled.front))
 
-pub returns-in-Stopped-clause-ends : goal.returns-in-Stopped-clause-ends
-returns-in-Stopped-clause-ends g c = λ of h.
+pub returns-in-Err-clause-ends : goal.returns-in-Err-clause-ends
+returns-in-Err-clause-ends g c = λ of h.
     let p = c.pieces.invariant.so_far of h in
     let pulled = c.in-Piece.ensures.gives _ p.0 p.1 in
     let same = c.pull.ensures.limit ∙ c.pieces.invariant.limit in
-    ends_stopped _ c.args.limit _ _ _ _ (p.0 ++ c.piece.result.now) _ (let most = c.pull.ensures.most in let len = ap (λ (b : List ℕ). length b) c.piece.ensures.value in omega arith) (c.in-Stopped.ensures.takes of p.0 p.2.text _ p.2.held p.2.written)
+    ends_stopped _ c.args.limit _ _ _ _ (p.0 ++ c.piece.result.now) _ (let most = c.pull.ensures.most in let len = ap (λ (b : List ℕ). length b) c.piece.ensures.value in omega arith) (c.in-Err.ensures.takes of p.0 p.2.text _ p.2.held p.2.written)
     (subst (λ (b : List ℕ). HasReadFront c.args.limit (g.S.Source.state c.args.file.now) (g.S.Source.state c.pull.new.file) (p.0 ++ b)) (sym c.piece.ensures.value)
     (subst (λ (n : ℕ). HasReadFront n (g.S.Source.state c.args.file.now) (g.S.Source.state c.pull.new.file) (p.0 ++ piece_of c.pull.new.self)) same pulled.front))
 

@@ -4,7 +4,7 @@ use Rattle.std.proofs.lemmas.List.{length-take, length-drop}
 use Rattle.journal_entry.specs.declared.entry.Entry.{Entry}
 use Rattle.pulse_log.specs.declared.reader.LineReader.{LineReader}
 use Rattle.pulse_log.specs.Reading.{HasRead, TakesFront}
-use Rattle.log_decoder.specs.Decoding.{DecodesFront, history_of}
+use Rattle.log_decoder.specs.Decoding.{DecodesFront, history_of, radio_log}
 use Rattle.log_decoder.proofs.LinesLaws.{GoesOn, TakesLine, ends, fails, goes_on, gives_none, line_decoded, line_may, line_ready, rests, rests_ready}
 use Rattle.log_decoder.proofs.decoder.LogDecoder.take.Given.{Over}
 use Rattle.log_decoder.proofs.decoder.LogDecoder.take.Goals.{Joined-take_whole_line, in-Some, in-None+in-Ok-Some}
@@ -67,7 +67,7 @@ lines-preserved g c =
           so_far.decoded refl refl (c.hear.ensures.heard history) (c.in-None-hear.ensures.answered history) refl in
           subst (λ n. GoesOn g.R.Receiver.stands_for now feed plan delay before (take n c.args.bytes.now)) (sym line.count)
           (goes_on g.R.Receiver.stands_for feed plan delay before c.lines.self now c.args.bytes.now c.lines.count line.more (Ok None) refl so_far
-          (subst (λ (l : List ℕ). DecodesFront g.R.Receiver.stands_for now feed plan delay longer (take line.more l) (Ok None)) c.split_at.ensures.back decodes));
+          (subst (λ (l : List ℕ). DecodesFront g.R.Receiver.stands_for now (radio_log feed plan delay) longer (take line.more l) (Ok None)) c.split_at.ensures.back decodes));
     }
 
 pub returns-in-Some-hear-clause-ready : goal.returns-in-Some-hear-clause-ready
@@ -90,9 +90,9 @@ returns-in-Some-hear-clause-taken g c = λ feed plan delay before h.
     let decodes = line_decoded g.R.Receiver.stands_for c.lines.self joined.self now feed plan delay longer left c.lines.count joined.count joined.reduction
     (Some c.in-Some-hear.heard) (Some c.entry_of.result) line so_far.decoded refl refl (c.hear.ensures.heard history) (c.in-Some-hear.ensures.answered history)
     (ap (λ (e : Entry). e ∷ []) (sym c.entry_of.ensures.value)) in
-    subst (λ n. DecodesFront g.R.Receiver.stands_for now feed plan delay before (take n c.args.bytes.now) found) (sym line.count)
+    subst (λ n. DecodesFront g.R.Receiver.stands_for now (radio_log feed plan delay) before (take n c.args.bytes.now) found) (sym line.count)
     (ends g.R.Receiver.stands_for feed plan delay before c.lines.self now c.args.bytes.now c.lines.count line.more found so_far
-    (subst (λ (l : List ℕ). DecodesFront g.R.Receiver.stands_for now feed plan delay longer (take line.more l) found) c.split_at.ensures.back decodes))
+    (subst (λ (l : List ℕ). DecodesFront g.R.Receiver.stands_for now (radio_log feed plan delay) longer (take line.more l) found) c.split_at.ensures.back decodes))
 
 pub lines-preserved-in-Ok-None : goal.lines-preserved-in-Ok-None
 lines-preserved-in-Ok-None g c =

@@ -47,7 +47,7 @@ returns-in-Ok-send-clause-goes g c =
     let t = Answered d r j m c.bytes.result.now in
     let before = desk_of g.L.Link.state c.args.self.now in
     let now = record before { gate = c.judge-judged.new.self; link = g.L.Link.state c.send.new.self; view = c.try_read.new.r.view } in
-    let replied = subst (λ bytes. reply_to before.keys j.code c.in-Ok.page bytes d.at m ≡ Ok c.reply-reply.result) c.in-Ok-read.ensures.read c.reply-reply.ensures.replied in
+    let replied = subst (λ bytes. reply_to before.keys j.code c.in-Ok.page bytes d.at m ≡ Ok c.reply_in.new.out) c.in-Ok-read.ensures.read c.reply_in.ensures.replied in
     record {
       turn = t;
       took = read_one before now t d c.in-Ok.page (Timed m ∷ Went d.from c.bytes.result.now ∷ []) refl refl refl refl
@@ -67,7 +67,7 @@ returns-in-Err-clause-stops g c =
     let t = Unsent d r j m c.bytes.result.now in
     let before = desk_of g.L.Link.state c.args.self.now in
     let now = record before { gate = c.judge-judged.new.self; link = g.L.Link.state c.send.new.self; view = c.try_read.new.r.view } in
-    let replied = subst (λ bytes. reply_to before.keys j.code c.in-Ok.page bytes d.at m ≡ Ok c.reply-reply.result) c.in-Ok-read.ensures.read c.reply-reply.ensures.replied in
+    let replied = subst (λ bytes. reply_to before.keys j.code c.in-Ok.page bytes d.at m ≡ Ok c.reply_in.new.out) c.in-Ok-read.ensures.read c.reply_in.ensures.replied in
     record {
       request = d;
       reading = r;

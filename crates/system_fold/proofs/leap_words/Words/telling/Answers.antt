@@ -1,8 +1,8 @@
--- What the search leaves open of `words::Words::telling`.
+-- What the search leaves open of `leap_words::Words::telling`.
 use Rattle.std.proofs.Common.{◌∙◌, ap, sym}
 use Rattle.system_fold.specs.Leaps.{armed_among, passed_among}
 use Rattle.system_fold.proofs.SilenceLaws.{armed-silent, passed-silent}
-use Rattle.system_fold.proofs.words.Words.telling.Goals as goal
+use Rattle.system_fold.proofs.leap_words.Words.telling.Goals as goal
 
 pub returns-then-self-clause-passed : goal.returns-then-self-clause-passed
 returns-then-self-clause-passed c = λ now last.

@@ -1,8 +1,8 @@
--- What the search leaves open of `words::blank`.
+-- What the search leaves open of `page_words::blank`.
 use Rattle.std.proofs.Common.{slice_index, sym, ap, ◌∙◌}
 use Rattle.clock_page.specs.Page.{unsynchronised}
 use Rattle.clock_page.proofs.PageLaws.{unsynced-page}
-use Rattle.clock_page.proofs.words.blank.Goals as goal
+use Rattle.clock_page.proofs.page_words.blank.Goals as goal
 
 pub returns : goal.returns
 returns c = λ p h.

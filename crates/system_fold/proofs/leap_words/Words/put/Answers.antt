@@ -1,9 +1,9 @@
--- What the search leaves open of `words::Words::put`.
+-- What the search leaves open of `leap_words::Words::put`.
 use Rattle.std.proofs.Common.{◌∙◌}
 use Rattle.std.specs.Prelude.{Some}
 use Rattle.std.proofs.lemmas.List.{length-set}
 use Rattle.system_fold.proofs.SilenceLaws.{silent-set}
-use Rattle.system_fold.proofs.words.Words.put.Goals as goal
+use Rattle.system_fold.proofs.leap_words.Words.put.Goals as goal
 
 pub invariant_of-self : goal.invariant_of-self
 invariant_of-self c = (

@@ -1,10 +1,10 @@
--- What the search leaves open of `times::grown`.
+-- What the search leaves open of `times::grown_long`.
 use Rattle.std.proofs.Common.{◌≡◌, ◌+ℤ◌, ◌*ℤ◌, ◌/◌, ◌%◌, ◌^◌, pos, ◌∙◌, ap, sym, arith, to_z, of_z}
 use Rattle.std.specs.Int.{w32, w64}
 use Rattle.std.proofs.lemmas.Int.{ints}
 use Rattle.tick_units.specs.Units.{floor_div}
 use Rattle.clock_page.proofs.SlewLaws.{grown-parts}
-use Rattle.clock_page.proofs.times.grown.Goals as goal
+use Rattle.clock_page.proofs.times.grown_long.Goals as goal
 
 pub returns-clause-value : goal.returns-clause-value
 returns-clause-value c =

@@ -1,7 +1,7 @@
--- What the proof of `words::with_bit` needs.
+-- What the proof of `place_words::with_bit` needs.
 use Rattle.std.proofs.Common.{ap, ◌∙◌, ◌*◌, ◌%◌, ◌^◌, bit_or}
 use Rattle.frame_rules.proofs.WordLaws.{word_with, byte_is}
-use Rattle.frame_rules.proofs.words.with_bit.Goals as goal
+use Rattle.frame_rules.proofs.place_words.with_bit.Goals as goal
 
 pub returns : goal.returns
 returns c = λ test marks mark e len bit.

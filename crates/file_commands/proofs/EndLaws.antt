@@ -5,9 +5,10 @@ use Rattle.feed_link.specs.Told.{SourceState, SinkState, Takes}
 use Rattle.file_reader.specs.Ends.{HasReadFront, EndsReading}
 use Rattle.file_reader.specs.declared.reader.FileEnd.TheVariants.{Whole, Fault, TooLong}
 use Rattle.file_commands.specs.Reading.{ReadsLines, bad_in_the_end}
-use Rattle.file_commands.specs.Taking.{Holds, Says, TakesAll, MeetsBad, Stops, EndsAt, EndsItself, EndsStopped, flow_of}
-use Rattle.file_commands.specs.declared.reading.Reach.{Reach}
-use Rattle.file_commands.specs.declared.reading.Reach.TheVariants.{AtEnd, AtBadLine}
+use Rattle.file_commands.specs.Taking.{Holds, Says, TakesAll, MeetsBad, Stops, EndsItself, EndsStopped, flow_of}
+use Rattle.file_reader.specs.Ends.{EndsAt}
+use Rattle.file_reader.specs.declared.log_end.LogEnd.{LogEnd}
+use Rattle.file_reader.specs.declared.log_end.LogEnd.TheVariants as log
 
 -- a reading that came to the end took all that it read
 pub front_of_whole : (limit : ℕ) (file file_now : SourceState) (bytes : List ℕ) → EndsReading Whole limit file file_now bytes → HasReadFront limit file file_now bytes
@@ -18,39 +19,39 @@ front_of_whole limit file file_now bytes h = record {
 }
 
 module _ (holds : Holds) (limit : ℕ) (file file_now : SourceState) (out out_now : SinkState) (bytes : List ℕ) where
-  ends_with : (reach : Reach) → TakesAll holds out out_now bytes → ReadsLines reach limit file file_now bytes None → EndsItself holds limit (flow_of file file_now out out_now) reach
-  ends_with reach h read = record {
+  ends_with : (end : LogEnd) → TakesAll holds out out_now bytes → ReadsLines end limit file file_now bytes None → EndsItself holds limit (flow_of file file_now out out_now) end
+  ends_with end h read = record {
     front = bytes;
     behind = [];
     text = h.text;
     bad = None;
     held = h.held;
     none_behind = λ _. refl;
-    read = subst (λ (b : List ℕ). ReadsLines reach limit file file_now b None) (sym (append-nil bytes)) read;
+    read = subst (λ (b : List ℕ). ReadsLines end limit file file_now b None) (sym (append-nil bytes)) read;
     written = h.written;
   }
 
   -- all bytes were read, and the last line is unfinished or not
-  at_end : (reach : Reach) → EndsAt reach (bad_in_the_end None bytes) → EndsReading Whole limit file file_now bytes → ReadsLines reach limit file file_now bytes None
-  at_end (AtEnd Whole) end read = (read, end)
-  at_end (AtEnd Fault) end read = absurd end
-  at_end (AtEnd TooLong) end read = absurd end
-  at_end (AtBadLine line) end read = (front_of_whole limit file file_now bytes read, inr (read.cause.1, refl, end))
+  at_end : (end : LogEnd) → EndsAt end (bad_in_the_end None bytes) → EndsReading Whole limit file file_now bytes → ReadsLines end limit file file_now bytes None
+  at_end log.Whole is read = (read, is)
+  at_end log.Fault is read = absurd is
+  at_end log.Long is read = absurd is
+  at_end (log.BadLine line) is read = (front_of_whole limit file file_now bytes read, inr (read.cause.1, refl, is))
 
-  pub ends_whole : (reach : Reach) → TakesAll holds out out_now bytes → EndsReading Whole limit file file_now bytes → EndsAt reach (bad_in_the_end None bytes) →
-      EndsItself holds limit (flow_of file file_now out out_now) reach
-  ends_whole reach h read end = ends_with reach h (at_end reach end read)
+  pub ends_whole : (end : LogEnd) → TakesAll holds out out_now bytes → EndsReading Whole limit file file_now bytes → EndsAt end (bad_in_the_end None bytes) →
+      EndsItself holds limit (flow_of file file_now out out_now) end
+  ends_whole end h read is = ends_with end h (at_end end is read)
 
   -- a read failed
-  pub ends_fault : TakesAll holds out out_now bytes → EndsReading Fault limit file file_now bytes → EndsItself holds limit (flow_of file file_now out out_now) (AtEnd Fault)
-  ends_fault h read = ends_with (AtEnd Fault) h (read, refl)
+  pub ends_fault : TakesAll holds out out_now bytes → EndsReading Fault limit file file_now bytes → EndsItself holds limit (flow_of file file_now out out_now) log.Fault
+  ends_fault h read = ends_with log.Fault h (read, refl)
 
   -- there are more bytes than the limit
-  pub ends_long : TakesAll holds out out_now bytes → EndsReading TooLong limit file file_now bytes → EndsItself holds limit (flow_of file file_now out out_now) (AtEnd TooLong)
-  ends_long h read = ends_with (AtEnd TooLong) h (read, refl)
+  pub ends_long : TakesAll holds out out_now bytes → EndsReading TooLong limit file file_now bytes → EndsItself holds limit (flow_of file file_now out out_now) log.Long
+  ends_long h read = ends_with log.Long h (read, refl)
 
   -- one of the bytes read ends a bad line
-  pub ends_bad : (line : ℕ) → MeetsBad holds line out out_now bytes → HasReadFront limit file file_now bytes → EndsItself holds limit (flow_of file file_now out out_now) (AtBadLine line)
+  pub ends_bad : (line : ℕ) → MeetsBad holds line out out_now bytes → HasReadFront limit file file_now bytes → EndsItself holds limit (flow_of file file_now out out_now) (log.BadLine line)
   ends_bad line h read = record {
     front = h.front;
     behind = h.behind;

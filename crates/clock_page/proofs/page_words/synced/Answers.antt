@@ -1,10 +1,10 @@
--- What the search leaves open of `words::synced`.
+-- What the search leaves open of `page_words::synced`.
 use Rattle.std.proofs.Common.{◌≡◌, ◌%◌, ◌^◌, ◌<◌, rules, true, Some, sym, subst, ap, ◌∙◌, arith, to_z, of_z}
 use Rattle.std.specs.Int.{w32}
 use Rattle.std.proofs.lemmas.Int.{ints}
 use Rattle.clock_page.specs.Page.{AreWords}
 use Rattle.clock_page.proofs.PageLaws.{high-below, state-below, synced-page, rate-is, rate-within, spelled-are_words}
-use Rattle.clock_page.proofs.words.synced.Goals as goal
+use Rattle.clock_page.proofs.page_words.synced.Goals as goal
 
 pub returns-then-state-ge-STATES-clause-every : goal.returns-then-state-ge-STATES-clause-every
 returns-then-state-ge-STATES-clause-every c = λ p h. absurd (omega (arith, state-below c.args.w.now p h))
