@@ -1,5 +1,9 @@
 //! The clock filter of RFC 5905 (section 10): what the last eight samples of a source say of the time, and how far that may be
 //! from the truth.
+//!
+//! To read it in this order: `filter` (the public type: the last eight samples), `taken` (one of them), `held` (those that
+//! count, by delay), `figures` (what they say), `distances` (how far from the truth), `drift` and `rate` (the host's counter),
+//! `ready` (figures for later moments), `roots`.
 #![tactic(auto)]
 
 mod distances;

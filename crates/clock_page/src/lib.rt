@@ -2,7 +2,7 @@
 #![tactic(auto)]
 
 mod page;
-mod times;
 mod page_words;
+mod times;
 
 pub use page::{INIT, Page, UNKNOWN_DISPERSION};

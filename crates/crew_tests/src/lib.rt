@@ -1,5 +1,7 @@
 //! Tests of the crew of a station: stations over fakes in memory, served in both phases. They stand in a crate of their own, so that the crew
 //! is not proved once more with them.
+//!
+//! `fakes`, `stations` and `checks` have what the others share; each other module is named after what it tests.
 #![tactic(auto)]
 
 #[cfg(test)]

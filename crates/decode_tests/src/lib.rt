@@ -1,5 +1,7 @@
 //! Tests of decoding, from the pulses of a log to its minutes, and of the making of logs. They stand in a crate of their own: a
 //! change in them then re-proves none of the crates that they test.
+//!
+//! `shared` has what the others share; each is named after the crate, or the rule, that it tests.
 #![tactic(auto)]
 
 #[cfg(test)]

@@ -1,5 +1,7 @@
 //! Tests of the engine: whole runs of every command over the fakes, through the one call that the program makes, and lines of links whose
 //! counts no run reaches. They stand in a crate of their own, so that a change of one proves none of the engine anew.
+//!
+//! `runs` and `test_station` have what the others share; each is named after the command, or the circumstance, that it tests.
 #![tactic(auto)]
 
 #[cfg(test)]

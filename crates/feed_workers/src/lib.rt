@@ -1,5 +1,8 @@
 //! The workers of feeds: a radio's reads its log, a server's polls it, and a leap second file's reads it. Each keeps the entries
 //! that are due in the journal.
+//!
+//! To read it in this order: `work` (what a worker leaves), `keeping` (how an entry is kept), `leap` (the shortest worker),
+//! `radio`, `poller`.
 #![tactic(auto)]
 
 mod keeping;

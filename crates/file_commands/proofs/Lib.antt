@@ -6,8 +6,6 @@ pub mod LineFileLaws
 pub mod LineTakingLaws
 pub mod MovingLaws
 pub mod OpeningLaws
-pub mod PlayingLaws
-pub mod ScriptLaws
 pub mod StationFileLaws
 pub mod TakingLaws
 pub mod WritingLaws

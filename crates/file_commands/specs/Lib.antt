@@ -1,7 +1,7 @@
 -- What a reader has to believe, in this order. First come Endings (statuses and status lines), Writing (what is written, and
 -- what a failed write leaves), Effects (what a command does) and Unopened (a command that opens nothing). Then come Reading
 -- (why a reading ended), Opening, Text, Decoding and StationFile. Last come LineFiles (what it is to run through a file of
--- lines), Script, Replaying and Migrating. The other files are scaffolding of private functions.
+-- lines) and Migrating. The other files are scaffolding of private functions.
 pub mod Endings
 pub mod Writing
 pub mod Effects
@@ -12,13 +12,10 @@ pub mod Text
 pub mod Decoding
 pub mod StationFile
 pub mod LineFiles
-pub mod Script
-pub mod Replaying
 pub mod Migrating
 pub mod Keeping
 pub mod Taking
 pub mod LogTaking
 pub mod LineTaking
-pub mod Playing
 pub mod Moving
 pub mod JournalTaking

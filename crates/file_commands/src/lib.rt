@@ -1,5 +1,7 @@
-//! The commands that run through a file line by line, `decode`, `replay` and `migrate`, how each command ends, and what it writes
-//! then.
+//! The commands `decode` and `migrate`, which run through a file line by line, how each command ends, and what it writes then.
+//!
+//! To read it in this order: `decode` (the shortest command), `reading` (the one loop over a file of lines), `lines` (entries),
+//! `migrate`, `station_file` (for each command that has a station), `ending` (statuses and last lines).
 #![tactic(auto)]
 
 mod decode;
@@ -7,7 +9,6 @@ mod ending;
 mod lines;
 mod migrate;
 mod reading;
-mod replay;
 mod station_file;
 
 pub use decode::open_and_decode;
@@ -18,7 +19,6 @@ pub use ending::writing::finish;
 pub use ending::{Ending, status_by};
 pub use lines::write_numbered_line;
 pub use migrate::run_migrate;
-pub use reading::Line;
-pub use replay::run_replay;
+pub use reading::{Gives, Line, Taker, ending_at, read_lines};
 pub use station_file::obstacle::{Obstacle, finish_at};
 pub use station_file::{STATION_LIMIT, judge, open_station};

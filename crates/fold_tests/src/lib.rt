@@ -1,5 +1,7 @@
 //! Tests of the fold and of the crates below it: the clock filter, selection, clustering, pages, and the orders of a journal.
 //! They have a crate of their own, so that none of these crates is proved once more with them.
+//!
+//! `shared` and `journals` have what the others share; each is named after what it tests.
 #![tactic(auto)]
 
 #[cfg(test)]

@@ -1,17 +1,21 @@
 //! What the frames of the three code plans share: a segment, the bits of its places, their values, and the common rules on marks.
 //! The marks of a segment lie in a slice or are kept as numbers.
+//!
+//! To read it in this order: `code_plan` (what a plan is), `bits`, `numbers` (what places hold), `places` (what rules need of a
+//! segment), `rules` (those that all plans share), `segment` and `frame` (marks in a slice, and mark by mark), `place_words` (a
+//! frame's bits), `send_plan` and `spelling` (how it is sent).
 #![tactic(auto)]
 
 mod bits;
 mod code_plan;
 mod frame;
 mod numbers;
+mod place_words;
 mod places;
 mod rules;
 mod segment;
 mod send_plan;
 mod spelling;
-mod place_words;
 
 pub use bits::{Bit, has_pattern, is_odd_over, value};
 pub use code_plan::CodePlan;

@@ -1,13 +1,16 @@
 //! The entries of a journal, by themselves and numbered, and the one text of each; a journal's lines; and the writer of such texts.
+//!
+//! To read it in this order: `entry` and `numbered` (the types), `lawful` (which entries feeds make), `keywords`, `write` and
+//! `writer` (texts), `fields`, `read` and `line` (back from them).
 #![tactic(auto)]
 
 mod entry;
 mod fields;
+mod keywords;
 mod lawful;
 mod line;
 mod numbered;
 mod read;
-mod keywords;
 mod write;
 mod writer;
 

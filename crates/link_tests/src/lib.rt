@@ -1,5 +1,7 @@
 //! Tests of units, and of links and outsides: the fakes in memory, files and sockets. They use only public items. They stand in a
 //! crate of their own: a change in them then re-proves none of the crates that nearly all others need.
+//!
+//! Each module is named after what it tests.
 #![tactic(auto)]
 
 #[cfg(test)]

@@ -1,5 +1,7 @@
 //! Tests of packets: headers and digests, who is answered, replies, exchanges with a server, and the page that replies are made
 //! of. They stand in a crate of their own: a change in them then re-proves none of the crates that they test.
+//!
+//! `shared` has what the others share; each is named after what it tests.
 #![tactic(auto)]
 
 #[cfg(test)]

@@ -1,4 +1,7 @@
 //! The page that threads share: any thread reads it without a lock, and one pass at a time publishes the next.
+//!
+//! To read it in this order: `cell` (the public type), `view` (what a pass knows), `passes`, `steps` (the rule of the table),
+//! `opening`, `loading` and `storing` (reading and publishing). `writer` is of the tests.
 #![tactic(auto)]
 
 mod cell;

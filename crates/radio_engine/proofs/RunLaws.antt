@@ -15,10 +15,10 @@ use Rattle.file_commands.specs.declared.ending.status.Status.TheVariants.{Done, 
 use Rattle.file_commands.proofs.GoodLogLaws.{log_done, rose_by_one}
 use Rattle.station_report.proofs.GoodStationLaws.{station_done}
 use Rattle.file_commands.proofs.LineFileLaws.{IsReadable, against_done, one_way}
-use Rattle.file_commands.proofs.ScriptLaws.{script_readable}
+use Rattle.replay_command.proofs.ScriptLaws.{script_readable}
 use Rattle.file_commands.proofs.MovingLaws.{one_line, short_line}
 use Rattle.file_commands.specs.Migrating.{journal_of}
-use Rattle.file_commands.specs.Replaying.{script_of}
+use Rattle.replay_command.specs.Replaying.{script_of}
 use Rattle.station_config.specs.Station.{settings_of}
 use Rattle.file_commands.specs.declared.ending.subject.Subject.TheVariants.{Journal, Script}
 use Rattle.station_config.specs.Station.{StationFields}

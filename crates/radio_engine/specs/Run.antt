@@ -9,7 +9,7 @@ use Rattle.file_commands.specs.Decoding.{RunsDecode, HasGoodLog}
 use Rattle.file_commands.specs.Effects.{Effect}
 use Rattle.station_report.specs.Drilling.{Drills}
 use Rattle.file_commands.specs.Migrating.{RunsMigrate, HasGoodJournal}
-use Rattle.file_commands.specs.Replaying.{RunsReplay, HasGoodScript}
+use Rattle.replay_command.specs.Replaying.{RunsReplay, HasGoodScript}
 use Rattle.station_report.specs.Serving.{RunsServe, HasGoodStation}
 use Rattle.file_commands.specs.Unopened.{Refuses, Lacks}
 use Rattle.file_commands.specs.declared.ending.status.Status.{Status}

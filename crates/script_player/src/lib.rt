@@ -1,4 +1,7 @@
 //! Plays a recorded script, line by line, on one thread.
+//!
+//! To read it in this order: `player` (the public type), `radio`, `radios`, `server`, `servers`, `leap` (the station's feeds),
+//! `journal` (what is kept of them), `outcome` and `text` (what a line gives).
 #![tactic(auto)]
 
 mod journal;

@@ -1,5 +1,9 @@
 //! What a person reads on standard error after a command has ended: what is wrong, where that can be named, and the help. No
 //! proof speaks of these texts, and nothing else depends on them.
+//!
+//! To read it in this order: `message` (about a run that has ended), `outcome` (its last line), `watched` (how that line is
+//! kept), `fault`, `arguments`, `commands` (a wrong command line), `fault_line` (a file that is not TOML), `widths` (a log
+//! without a minute), `texts` (all of them).
 #![tactic(auto)]
 
 mod arguments;

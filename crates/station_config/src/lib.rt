@@ -1,4 +1,8 @@
 //! The station file: a TOML document, read into a station or refused with its first fault.
+//!
+//! To read it in this order: `station` (the public type), `fault` (the public error), `reading` (the public call), `document`,
+//! `keys`, `values`, `items` and `rows` (a table, an array of tables), `counts`; `address`, `nets`, `denied_net`, `shared_key`
+//! (texts in it); `one_of_each` (a station without a file).
 #![tactic(auto)]
 
 mod address;

@@ -1,4 +1,9 @@
 //! The page of a journal, entry by entry.
+//!
+//! To read it in this order: `settings`; `fold` (the public type: what is kept of a journal) and `feed`, `source` (what is kept
+//! of each feed); `fit` and `sources` (those fit to be selected), `selecting` (those that agree), `inputs` and `page` (what
+//! makes the page); `leaps`, `leap_words` (leap seconds); `moments`; `text` (the page's line). `plain` and `whole` make a page
+//! from the whole list, as a reference.
 #![tactic(auto)]
 
 mod feed;

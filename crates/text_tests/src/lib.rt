@@ -1,6 +1,8 @@
 //! Tests of what reads and writes texts: numbers, lines, the list of leap seconds, scripts, the arguments of a command line. Also
 //! files and sinks, the entries of a journal, and the messages on standard error. They stand in a crate of their own: a change in
 //! them then re-proves none of the crates that they test.
+//!
+//! `shared` has what the others share; each is named after what it tests.
 #![tactic(auto)]
 
 #[cfg(test)]

@@ -1,5 +1,7 @@
 //! Tests of what threads do: the workers of feeds, responders, the journal that they share, and the station as one machine
 //! without threads. They stand in a crate of their own, so that none of these crates is proved once more with them.
+//!
+//! `shared`, `serving` and `minutes` have what the others share; each is named after what it tests.
 #![tactic(auto)]
 
 #[cfg(test)]

@@ -1,6 +1,6 @@
 -- What the search leaves open of `replay::play`.
 use Rattle.script_player.specs.Replay.{case_of}
-use Rattle.file_commands.proofs.replay.play.Goals as goal
+use Rattle.replay_command.proofs.replay.play.Goals as goal
 
 pub returns-clause-replays : goal.returns-clause-replays
 returns-clause-replays g c = λ station h. c.play_whole.ensures.replays station (c.new-replayer.ensures.played (case_of station c.args.limit) h)

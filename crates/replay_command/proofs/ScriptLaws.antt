@@ -10,8 +10,8 @@ use Rattle.script_player.proofs.ReplayLaws.{lines_push, may_be_kept}
 use Rattle.script_player.specs.Replay.{Played, is_full, lines_of, played_so}
 use Rattle.station_config.specs.Station.{StationFields}
 use Rattle.tick_units.specs.Log.{lines_of as lines_of_bytes}
-use Rattle.file_commands.specs.Replaying.{replay_ending, script_of}
-use Rattle.file_commands.specs.Script.{says_line, says_played, script_line_limit}
+use Rattle.replay_command.specs.Replaying.{replay_ending, script_of}
+use Rattle.replay_command.specs.Script.{says_line, says_played, script_line_limit}
 use Rattle.file_commands.proofs.LineFileLaws.{IsReadable}
 
 pub some_line : (a b : ScriptLine) → ◌≡◌ {A = Option ScriptLine} (Some a) (Some b) → a ≡ b

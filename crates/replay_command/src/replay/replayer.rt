@@ -2,13 +2,13 @@
 ghost use Rattle.std.specs.Prelude.{◌≡◌, ◌+◌, ◌-◌, ◌<◌, ◌≤◌, ◌^◌, List, [], None, Some, length, take, MatchResult};
 ghost use Rattle.journal_entry.specs.declared.writer.TheConstants.{LINE_ROOM};
 ghost use Rattle.file_commands.specs.LineTaking.{TakesLine, line_texts};
-ghost use Rattle.file_commands.specs.Playing.{IsPlayedBy, PlaysNext, script_taker, script_way};
+ghost use Rattle.replay_command.specs.Playing.{IsPlayedBy, PlaysNext, script_taker, script_way};
 ghost use Rattle.file_commands.specs.Taking.{Fits};
 ghost use Rattle.line_cutter.specs.Cutting.{line_in};
 ghost use Rattle.script_player.specs.KeptPlayer.{HasPlayed, IsReady};
 ghost use Rattle.script_player.specs.Replay.{Played, ReplayCase};
 
-use crate::reading::{Gives, Line, Taker};
+use file_commands::{Gives, Line, Taker};
 use file_reader::LogEnd;
 use journal_entry::LINE_ROOM;
 use line_cutter::{Cut, LineCutter};
@@ -91,7 +91,7 @@ impl Replayer<BoxedReceiver> {
 
 impl Taker for Replayer<BoxedReceiver> {
     ghost use Rattle.std.specs.Prelude.{◌-◌, ◌^◌};
-    ghost use Rattle.file_commands.specs.Playing.{IsPlayedBy, script_says};
+    ghost use Rattle.replay_command.specs.Playing.{IsPlayedBy, script_says};
     ghost use Rattle.script_player.specs.KeptPlayer.{IsReady};
     ghost use Rattle.script_player.specs.Replay.{ReplayCase};
 

@@ -2,7 +2,7 @@
 use Rattle.std.proofs.Common.{inr}
 use Rattle.feed_link.specs.Openings.{log_visit}
 use Rattle.feed_link.proofs.OpeningLaws.{opened_once, out_after}
-use Rattle.file_commands.proofs.replay.open_and_play.Goals as goal
+use Rattle.replay_command.proofs.replay.open_and_play.Goals as goal
 
 pub give_back_log-requires : goal.give_back_log-requires
 give_back_log-requires g c = out_after _ _ _ _ _ _ c.in-Ok.ensures.opened c.in-Ok.ensures.number c.play-status.ensures.number

@@ -1,9 +1,9 @@
 -- What the search leaves open of `replay::replayer::ReplayerBoxedReceiverTaker::at_end`.
 use Rattle.std.proofs.Common.{◌<◌, ℕ, arith}
-use Rattle.file_commands.specs.Playing.{script_way}
-use Rattle.file_commands.specs.Script.{script_line_limit}
+use Rattle.replay_command.specs.Playing.{script_way}
+use Rattle.replay_command.specs.Script.{script_line_limit}
 use Rattle.file_commands.proofs.LineTakingLaws.{tail_bad, no_tail}
-use Rattle.file_commands.proofs.replay.replayer.ReplayerBoxedReceiverTaker.at_end.Goals as goal
+use Rattle.replay_command.proofs.replay.replayer.ReplayerBoxedReceiverTaker.at_end.Goals as goal
 
 some : (lines : ℕ) → 0 < script_line_limit lines
 some lines = omega arith

@@ -4,8 +4,8 @@ use Rattle.std.proofs.lemmas.List.{length-take}
 use Rattle.script_line.specs.declared.line.ScriptLine.{ScriptLine}
 use Rattle.script_player.specs.Replay.{is_lawful, lines_of, played_so}
 use Rattle.script_player.specs.Texts.{outcome_text}
-use Rattle.file_commands.proofs.ScriptLaws.{some_line}
-use Rattle.file_commands.proofs.replay.replayer.play_text.Goals as goal
+use Rattle.replay_command.proofs.ScriptLaws.{some_line}
+use Rattle.replay_command.proofs.replay.replayer.play_text.Goals as goal
 
 pub returns-in-Err-clause-plays : goal.returns-in-Err-clause-plays
 returns-in-Err-clause-plays g c = λ of before h.

@@ -5,10 +5,10 @@ use Rattle.station_config.specs.Faults.{Says}
 use Rattle.file_commands.specs.Keeping.{OpensStation}
 use Rattle.file_commands.specs.StationFile.{IsObstacle}
 use Rattle.file_commands.proofs.LineFileLaws.{ends_at, file_tried}
-use Rattle.file_commands.specs.Replaying.{script_of}
+use Rattle.replay_command.specs.Replaying.{script_of}
 use Rattle.file_commands.specs.declared.ending.subject.Subject.TheVariants.{Script}
 use Rattle.file_commands.proofs.StationFileLaws.{told_by}
-use Rattle.file_commands.proofs.replay.run_replay.Goals as goal
+use Rattle.replay_command.proofs.replay.run_replay.Goals as goal
 
 pub returns-in-Ok-prepare-clause-runs : goal.returns-in-Ok-prepare-clause-runs
 returns-in-Ok-prepare-clause-runs g c =

@@ -5,9 +5,9 @@ use Rattle.script_player.specs.KeptPlayer.{HasPlayed}
 use Rattle.script_player.specs.Replay.{Played, ReplayCase, outcome}
 use Rattle.script_player.specs.Texts.{outcome_text, replay_text}
 use Rattle.file_commands.specs.LineTaking.{LineTexts, TakesLine}
-use Rattle.file_commands.specs.Playing.{script_taker, script_way}
-use Rattle.file_commands.specs.Script.{says_played}
-use Rattle.file_commands.specs.declared.replay.replayer.Replayer.{Replayer}
+use Rattle.replay_command.specs.Playing.{script_taker, script_way}
+use Rattle.replay_command.specs.Script.{says_played}
+use Rattle.replay_command.specs.declared.replay.replayer.Replayer.{Replayer}
 use Rattle.script_player.proofs.ReplayLaws.{replay_push}
 
 -- a line that was played adds its own text

@@ -2,9 +2,9 @@
 use Rattle.std.proofs.Common.{ℕ, ◌+◌, List, refl, subst}
 use Rattle.line_cutter.specs.Cutting.{line_in}
 use Rattle.file_commands.specs.LineTaking.{line_texts}
-use Rattle.file_commands.specs.Script.{says_played}
-use Rattle.file_commands.proofs.PlayingLaws.{played_line}
-use Rattle.file_commands.proofs.replay.replayer.Replayer+BoxedReceiver.play_line.Goals as goal
+use Rattle.replay_command.specs.Script.{says_played}
+use Rattle.replay_command.proofs.PlayingLaws.{played_line}
+use Rattle.replay_command.proofs.replay.replayer.Replayer+BoxedReceiver.play_line.Goals as goal
 
 pub returns-in-Ok-clause-plays : goal.returns-in-Ok-clause-plays
 returns-in-Ok-clause-plays g c = λ of before h.

@@ -4,8 +4,8 @@ ghost use Rattle.file_reader.specs.declared.reader.FileEnd.TheVariants.{Whole};
 ghost use Rattle.file_commands.specs.Effects.{effect_of};
 ghost use Rattle.file_commands.specs.Keeping.{TriesFile};
 ghost use Rattle.file_commands.specs.LineFiles.{RunsThrough};
-ghost use Rattle.file_commands.specs.Playing.{IsPlayedBy};
-ghost use Rattle.file_commands.specs.Replaying.{RunsReplay, replay_ending, script_of};
+ghost use Rattle.replay_command.specs.Playing.{IsPlayedBy};
+ghost use Rattle.replay_command.specs.Replaying.{RunsReplay, replay_ending, script_of};
 ghost use Rattle.file_commands.specs.Unopened.{Lacks};
 ghost use Rattle.file_commands.specs.StationFile.{IsObstacle};
 ghost use Rattle.receiver_rack.specs.Racks.{IsRack};
@@ -16,15 +16,11 @@ ghost use Rattle.station_config.specs.Station.{StationFields};
 
 mod replayer;
 
-use crate::ending::Ending;
-use crate::ending::page::finish_page;
-use crate::ending::status::Status;
-use crate::ending::subject::Subject;
-use crate::ending::writing::finish;
-use crate::reading::{ending_at, read_lines};
-use crate::station_file::obstacle::{Obstacle, finish_at};
-use crate::station_file::{STATION_LIMIT, judge, open_station};
 use feed_link::{Failed, Outside, Sink, Source};
+use file_commands::{
+    Ending, Obstacle, STATION_LIMIT, Status, Subject, ending_at, finish, finish_at, finish_page,
+    judge, open_station, read_lines,
+};
 use file_reader::{FileEnd, LogEnd};
 use radio_receiver::Receiver;
 use replayer::Replayer;

@@ -1,9 +1,9 @@
 -- What the search leaves open of `replay::replayer::ReplayerBoxedReceiverTaker::take`.
 use Rattle.std.proofs.Common.{◌<◌, ℕ, arith}
-use Rattle.file_commands.specs.Playing.{script_way}
-use Rattle.file_commands.specs.Script.{script_line_limit}
+use Rattle.replay_command.specs.Playing.{script_way}
+use Rattle.replay_command.specs.Script.{script_line_limit}
 use Rattle.file_commands.proofs.LineTakingLaws.{took_more, took_line, took_long}
-use Rattle.file_commands.proofs.replay.replayer.ReplayerBoxedReceiverTaker.take.Goals as goal
+use Rattle.replay_command.proofs.replay.replayer.ReplayerBoxedReceiverTaker.take.Goals as goal
 
 some : (lines : ℕ) → 0 < script_line_limit lines
 some lines = omega arith

@@ -8,7 +8,7 @@ use Rattle.station_config.specs.Station.{StationFields}
 use Rattle.file_commands.specs.Effects.{Effect}
 use Rattle.file_commands.specs.Endings.{ending_at}
 use Rattle.file_commands.specs.LineFiles.{LineFile, RunsAgainst, HasGoodFile}
-use Rattle.file_commands.specs.Script.{says_played, script_line_limit}
+use Rattle.replay_command.specs.Script.{says_played, script_line_limit}
 use Rattle.file_commands.specs.declared.ending.Ending.{Ending}
 use Rattle.file_commands.specs.declared.ending.Ending.TheVariants.{Full}
 use Rattle.file_commands.specs.declared.ending.subject.Subject.TheVariants.{Script}

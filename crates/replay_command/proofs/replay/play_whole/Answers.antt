@@ -1,10 +1,10 @@
 -- What the search leaves open of `replay::play_whole`.
 use Rattle.std.proofs.Common.{Bool, ap, ◌∙◌}
 use Rattle.script_player.specs.Replay.{case_of}
-use Rattle.file_commands.specs.Playing.{script_taker, script_way}
-use Rattle.file_commands.specs.Replaying.{replay_ending, script_of}
+use Rattle.replay_command.specs.Playing.{script_taker, script_way}
+use Rattle.replay_command.specs.Replaying.{replay_ending, script_of}
 use Rattle.file_commands.proofs.LineFileLaws.{runs_after, runs_stopped}
-use Rattle.file_commands.proofs.replay.play_whole.Goals as goal
+use Rattle.replay_command.proofs.replay.play_whole.Goals as goal
 
 pub returns-in-Ok-clause-replays : goal.returns-in-Ok-clause-replays
 returns-in-Ok-clause-replays g c = λ station h. runs_after (script_way _ (case_of station c.args.limit)) (script_taker c.read_lines.new.taker) _ _ _ _ _ c.in-Ok.end _ c.page-page.result c.replay_ending-ending.result

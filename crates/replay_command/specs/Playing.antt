@@ -7,9 +7,9 @@ use Rattle.script_player.specs.Texts.{outcome_text}
 use Rattle.script_player.specs.declared.outcome.NotLawful.{NotLawful}
 use Rattle.script_player.specs.declared.player.Player.{Player}
 use Rattle.file_commands.specs.LineTaking.{IsTakenBy, LineTaker, LineTexts, LineWay, file_says, line_taker}
-use Rattle.file_commands.specs.Replaying.{script_of}
-use Rattle.file_commands.specs.Script.{says_played}
-use Rattle.file_commands.specs.declared.replay.replayer.Replayer.{Replayer}
+use Rattle.replay_command.specs.Replaying.{script_of}
+use Rattle.replay_command.specs.Script.{says_played}
+use Rattle.replay_command.specs.declared.replay.replayer.Replayer.{Replayer}
 
 -- the lines of a script are taken by a player, which stands for those that it has played
 abbrev pub script_way : {B : Type 0} → (B → History → Type 0) → ReplayCase → LineWay (Player B)
