@@ -30,6 +30,8 @@ from build_lanes import cache_of, make_lanes, shares_libraries
 from crate_graph import PROGRAM, chains, count_lines, read_crates
 
 MOST_JOBS = 4
+# What a crate gets at least: a build's jobs stay as they were when it began, and the lanes beside it may soon have nothing to do.
+LEAST_JOBS = 2
 # What the crate that begins the longest chain gets at least, also where that is more than the processors: all others wait for it in the end.
 CHAIN_JOBS = 3
 NO_TOOLCHAIN, FAILED, STOPPED = 69, 70, 130
@@ -72,7 +74,7 @@ class Build:
         )
         beside = min(waiting, self.lanes - len(self.running))
         longest = all(self.chain[it] <= self.chain[name] for it in self.crates if it not in self.done)
-        least = min(CHAIN_JOBS, self.processors) if longest else 1
+        least = min(CHAIN_JOBS if longest else LEAST_JOBS, self.processors)
         return max(least, min(MOST_JOBS, idle // max(1, beside)))
 
     def start(self, name: str, lane: Path) -> subprocess.Popen:

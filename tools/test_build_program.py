@@ -96,6 +96,8 @@ class Builds(unittest.TestCase):
         self.assertEqual(build.jobs("left"), 2)
         build.running["left"] = None, 4
         self.assertEqual(build.jobs("right"), 3)
+        build.running["right"] = build.running.pop("left")
+        self.assertEqual(build.jobs("left"), 2)
         build.processors = 1
         self.assertEqual(build.jobs("right"), 1)
 

@@ -17,7 +17,7 @@ pub use taking::{Taker, read_lines};
 /// A line that is written, in its room.
 pub type Line = [u8; LINE_ROOM];
 
-// How a command ends that has read a file so far.
+/// How a command ends that has read a file so far.
 pub fn ending_at(subject: Subject, end: LogEnd) -> Ending
     ensures { result ≡ ending_at subject end }
 {
@@ -29,7 +29,7 @@ pub fn ending_at(subject: Subject, end: LogEnd) -> Ending
     }
 }
 
-// What the first bytes give: a text of this many bytes at the beginning of the line, no text, or their bad line.
+/// What the first bytes give: a text of this many bytes at the beginning of the line, no text, or their bad line.
 pub type Gives = Result<Option<usize>, BadLine>;
 
 // Writes the text that bytes give. The answer is the number of their bad line, where there is one.

@@ -8,9 +8,9 @@ ghost use Rattle.frame_rules.specs.Words.{is_near, HasMarks};
 
 use crate::bits::{Bit, is_long, is_odd};
 use crate::code_plan::CodePlan;
+use crate::place_words::{has, raise, with_bit};
 use crate::places::{KEPT_PLACES, Places};
 use crate::rules::is_a_second_on;
-use crate::place_words::{has, raise, with_bit};
 use std::marker::PhantomData;
 use tick_units::{Broken, Coded, Local, Mark, Symbol};
 

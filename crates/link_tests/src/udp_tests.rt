@@ -132,6 +132,35 @@ fn a_datagram_without_a_way_is_lost_and_no_fault(rt: HostRuntime) {
     }
 }
 
+// A socket whose host never has a route.
+#[derive(Drop)]
+struct Cut {
+    kind: ErrorKind,
+}
+
+impl DatagramSocket for Cut {
+    fn receive(&mut self, _: &mut [u8]) -> io::Result<(usize, SocketAddr)> {
+        Err(io::Error::from(ErrorKind::TimedOut))
+    }
+
+    fn transmit(&mut self, _: SocketAddr, _: &[u8]) -> io::Result<usize> {
+        Err(io::Error::from(self.kind))
+    }
+}
+
+// The network is not there for as long as it takes: a link that serves must outlast that (docs/OPERATING.md, status 7).
+#[test]
+fn a_network_that_stays_away_is_no_fault(rt: HostRuntime) {
+    let to = Address {
+        ip: 0xc000_0209,
+        port: 123,
+    };
+    for kind in [ErrorKind::HostUnreachable, ErrorKind::NetworkUnreachable] {
+        let mut link = UdpLink::new(Cut { kind }, Counter::new(&rt), moment(5));
+        same(&rt, link.send(to, b"a"), Ok(()));
+    }
+}
+
 #[test]
 fn a_sender_without_a_port_is_not_heard(rt: HostRuntime) {
     same(&rt, heard(&rt, failing(ErrorKind::Other, 0, 0)), Ok(7));

@@ -5,7 +5,7 @@
 -- Six records say it, and `IsServed` at the end has all of them.
 -- Read on in this order; each file names its source. docs/HEADLINE.md has examples, and what is trusted.
 --   what an object reports, and its faults    feed_link Told, Faults
---   how far a file is read                    file_reader Ends; feed_workers Logs, Leaps
+--   how far a file is read                    file_reader Ends; log_decoder Decoding; feed_workers Logs, Leaps
 --   how a server is polled                    poll_core Histories; feed_workers Polls, Polling
 --   which client passes                       packet_auth Keys; kiss_gate Nets, Clients, Gates
 --   a station, its journal and its page       system_fold Settings; station_config Station; page_cell Claims; crew_work Lists; clock_page Page

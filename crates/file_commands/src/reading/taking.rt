@@ -14,7 +14,7 @@ use file_reader::{FileEnd, FileReader, LogEnd, Pulled};
 use journal_entry::LINE_ROOM;
 use pulse_log::Taken;
 
-// Takes the bytes of a kind of file as they come, and gives their text, up to the first bad line.
+/// Takes the bytes of a kind of file as they come, and gives their text, up to the first bad line.
 pub trait Taker {
     // What a file of this kind is taken for: the plan of a log, the station of a journal.
     ghost Case: { Type 0 };
@@ -87,8 +87,11 @@ fn take_piece<T: Taker, K: Sink>(
     Ok(None)
 }
 
-// Reads a file of at most this many bytes to its end, to its first bad line or to its first fault. A taker takes the bytes, as
-// long as no write fails.
+/// Reads a file of at most this many bytes to its end, to its first bad line or to its first fault. A taker takes the bytes, as
+/// long as no write fails.
+///
+/// # Errors
+/// A write of the text has failed.
 pub fn read_lines<S: Source, T: Taker, K: Sink>(
     file: &mut S,
     taker: &mut T,
