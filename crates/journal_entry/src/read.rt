@@ -10,7 +10,9 @@ ghost use Rattle.journal_entry.specs.declared.numbered.Numbered as numbered;
 ghost use Rattle.tick_units.specs.declared.sample.Sample as sample;
 
 use crate::fields::Fields;
-use crate::{Entry, LINE_ROOM, MOST_RATE, Numbered, What, keywords, write_numbered, write_unnumbered};
+use crate::{
+    Entry, LINE_ROOM, MOST_RATE, Numbered, What, keywords, write_numbered, write_unnumbered,
+};
 use tick_units::{Kind, Sample, Short};
 
 /// The entry whose text this is. `None` where no entry has this text.

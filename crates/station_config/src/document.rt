@@ -10,7 +10,7 @@ ghost use Rattle.station_config.specs.KeptStation.{parts_fields};
 
 use crate::counts::excess;
 use crate::items::{KeyFault, read_items};
-use crate::keys::{Check, Part, KeyPath, first_at, tables};
+use crate::keys::{Check, KeyPath, Part, first_at, tables};
 use crate::station::{Parts, Station, TopNumbers};
 use crate::values::{number, some_text};
 use std::alloc::{AllocError, Global};

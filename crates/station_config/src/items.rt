@@ -5,7 +5,7 @@ ghost use Rattle.station_config.specs.Rows.{Text, table_at, tables_from};
 ghost use Rattle.station_config.specs.Faults.{key_in, keys_at, missing_in, sheets};
 ghost use Rattle.station_config.specs.Finding.{Adds, IsMisread, IsMisreadAt};
 
-use crate::keys::{Part, KeyPath};
+use crate::keys::{KeyPath, Part};
 use std::alloc::Global;
 use toml::{Table, Value};
 

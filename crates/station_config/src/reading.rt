@@ -7,7 +7,7 @@ ghost use Rattle.station_config.specs.Finding.{IsFirstKeyFault, key_after, path_
 use crate::document::read_table;
 use crate::fault::{KeyText, StationFault};
 use crate::items::KeyFault;
-use crate::keys::{Part, KeyPath};
+use crate::keys::{KeyPath, Part};
 use crate::station::Station;
 use std::alloc::{AllocError, Global};
 
