@@ -8,12 +8,12 @@ use Rattle.std.proofs.Math.Nat.{div-eq_of_lt}
 use Rattle.std.proofs.lemmas.List.Elements.{All-head, All-tail, All-weaker}
 use Rattle.tick_units.specs.Samples.{IsLawful}
 use Rattle.tick_units.specs.Orders.{in_order}
-use Rattle.tick_units.specs.Units.{ceil_div, floor_div, phi}
+use Rattle.tick_units.specs.Units.{IsRate, ceil_div, floor_div, most_rate, phi}
 use Rattle.tick_units.proofs.OrderLaws.{in_order-all}
 use Rattle.clock_filter.specs.Bounds.{AreLawful, IsMeasured, IsTimely}
 use Rattle.clock_filter.specs.Figures.{aged, figures_by, figures_of, newest_of, staged}
 use Rattle.clock_filter.specs.Held.{may_precede}
-use Rattle.clock_filter.specs.Rate.{IsRate, earliest, latest, held_rate, most_rate, rate_between, rate_of}
+use Rattle.clock_filter.specs.Rate.{earliest, latest, held_rate, rate_between, rate_of}
 use Rattle.clock_filter.specs.declared.taken.Taken.{Taken}
 use Rattle.clock_filter.proofs.StageLaws.{Within, staged-more, within-more, within-none}
 

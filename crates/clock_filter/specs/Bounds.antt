@@ -1,7 +1,7 @@
 -- What holds of the figures of any samples, and of valid ones (no part of them is negative, or as long as 2^34 s).
 use Rattle.std.specs.Prelude.{ℕ, ◌^◌, ◌≤◌, List, All, pos, ◌≤ℤ◌}
 use Rattle.tick_units.specs.Samples.{IsLawful, IsLength}
-use Rattle.clock_filter.specs.Rate.{IsRate}
+use Rattle.tick_units.specs.Units.{IsRate}
 use Rattle.clock_filter.specs.declared.figures.Figures.{Figures}
 use Rattle.clock_filter.specs.declared.taken.Taken.{Taken}
 

@@ -1,18 +1,10 @@
 -- How fast the host's counter gains or loses on a source, by the source's own samples alone. All of it is this project's own; the
 -- bound, 500 parts per million, is that of a clock's frequency in RFC 5905 (MAXFREQ, appendix A.1.1).
-use Rattle.std.specs.Prelude.{ℕ, ◌-◌, ◌^◌, nat_lt, nat_le, Option, None, Some, List, ℤ, pos, neg_ℤ, ◌-ℤ◌, ◌*ℤ◌, ◌≤ℤ◌, if◌then◌else◌}
+use Rattle.std.specs.Prelude.{ℕ, ◌-◌, ◌^◌, nat_lt, nat_le, Option, None, Some, List, ℤ, pos, neg_ℤ, ◌-ℤ◌, ◌*ℤ◌, if◌then◌else◌}
 use Rattle.std.specs.Int.{int_max, int_min}
 use Rattle.tick_units.specs.Orders.{best}
-use Rattle.tick_units.specs.Units.{floor_div}
+use Rattle.tick_units.specs.Units.{floor_div, most_rate}
 use Rattle.clock_filter.specs.declared.taken.Taken.{Taken}
-
--- a rate is the growth of the offset in a second, in units of 2^-32 s, at most 500 parts per million of 2^32
-abbrev pub most_rate : ℕ
-most_rate = 2147483
-
-pub record IsRate (rate : ℤ) : Type 0 where
-  pub least : neg_ℤ (pos most_rate) ≤ℤ rate
-  pub most : rate ≤ℤ pos most_rate
 
 -- the sample of the least moment, of equal ones the first
 abbrev pub earliest : List Taken → Option Taken

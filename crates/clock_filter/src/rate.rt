@@ -2,16 +2,13 @@
 ghost use Rattle.std.specs.Prelude.{◌≡◌, ◌++◌, ◌∷◌, [], ◌<◌, ◌≤◌, ◌^◌, List, filter, option_map, nat_le, nat_lt, unsigned_abs, pos, neg_ℤ, ◌-ℤ◌, ◌*ℤ◌};
 ghost use Rattle.std.specs.Int.{int_max, int_min};
 ghost use Rattle.tick_units.specs.Orders.{better};
-ghost use Rattle.tick_units.specs.Units.{floor_div};
+ghost use Rattle.tick_units.specs.Units.{floor_div, most_rate};
 ghost use Rattle.clock_filter.specs.Rate as rates;
-ghost use Rattle.clock_filter.specs.Rate.{earliest, latest, held_rate, most_rate, rate_between};
+ghost use Rattle.clock_filter.specs.Rate.{earliest, latest, held_rate, rate_between};
 ghost use Rattle.clock_filter.specs.declared.taken.Taken.{Taken};
 
 use crate::Taken;
-use tick_units::Span;
-
-// The greatest rate, either way: 500 parts per million of 2^32.
-const MOST: i128 = 2_147_483;
+use tick_units::{MOST_RATE, Span};
 
 // Samples nearer to each other than this many microseconds, 30 s, give no rate.
 const LEAST_APART: u64 = 30_000_000;
@@ -110,7 +107,8 @@ fn held(rate: i128) -> i32
     requires { unsigned_abs rate < 2 ^ 93 }
     ensures { result ≡ int_max (neg_ℤ (pos most_rate)) (int_min (pos most_rate) rate) }
 {
-    rate.clamp(-MOST, MOST) as i32
+    let most = i128::from(MOST_RATE);
+    rate.clamp(-most, most) as i32
 }
 
 // How many units the offset has grown a second, from one to another in this many microseconds.

@@ -2,8 +2,8 @@
 use Rattle.std.proofs.Common.{◌≡◌, ℕ, ◌+◌, ◌-◌, ◌*◌, ◌/◌, ◌%◌, ◌^◌, ◌<◌, ◌≤◌, Bool, true, false, List, [], ◌∷◌, length, slice_index, ℤ, pos, negsuc, ◌≤ℤ◌, ◌<ℤ◌, refl, sym, ap, ◌∙◌, arith, subst, unsigned_abs}
 use Rattle.std.specs.Int.{from_bool}
 use Rattle.std.proofs.lemmas.Int.{ints}
-use Rattle.tick_units.specs.Units.{floor_div}
-use Rattle.clock_page.specs.Page.{AreWords, IsRate, PageFields, unsynchronised, word_of, words}
+use Rattle.tick_units.specs.Units.{IsRate, floor_div}
+use Rattle.clock_page.specs.Page.{AreWords, PageFields, unsynchronised, word_of, words}
 
 -- the high word of a span that is not negative
 pub high_word : (z : ℤ) → pos 0 ≤ℤ z → unsigned_abs z / 2 ^ 64 ≡ unsigned_abs (floor_div z (2 ^ 64))

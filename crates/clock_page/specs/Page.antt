@@ -2,7 +2,7 @@
 -- from the server's variables (RFC 5905, section 9.2); how they are packed is this project's own.
 use Rattle.std.specs.Prelude.{◌≡◌, ℕ, ◌+◌, ◌*◌, ◌^◌, ◌<◌, Bool, false, List, [], ◌∷◌, ℤ, pos, neg_ℤ, ◌≤ℤ◌, ◌<ℤ◌, unsigned_abs}
 use Rattle.std.specs.Int.{from_bool, int_rem_euclid}
-use Rattle.tick_units.specs.Units.{floor_div}
+use Rattle.tick_units.specs.Units.{IsRate, floor_div}
 use Rattle.tick_units.specs.declared.stamp.Short.{Short}
 use Rattle.tick_units.specs.declared.stamp.Stamp.{Stamp}
 
@@ -45,14 +45,6 @@ unsynchronised length anchor = record {
   leap_at = 0;
   rate = pos 0;
 }
-
--- a rate is at most 500 parts per million, in units of 2^-32 s a second (MAXFREQ of RFC 5905, appendix A.1.1)
-abbrev pub most_rate : ℕ
-most_rate = 2147483
-
-pub record IsRate (rate : ℤ) : Type 0 where
-  pub least : neg_ℤ (pos most_rate) ≤ℤ rate
-  pub most : rate ≤ℤ pos most_rate
 
 -- what holds of every page: its offset is not negative, and its rate is within the bound. Where it is not synchronised, it says
 -- nothing more than that.

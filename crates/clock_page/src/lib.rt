@@ -6,3 +6,4 @@ mod page_words;
 mod times;
 
 pub use page::{INIT, Page, UNKNOWN_DISPERSION};
+pub use page_words::WORDS;

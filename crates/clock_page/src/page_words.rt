@@ -1,11 +1,15 @@
 //! The ten words of a page, and the page of ten words.
 ghost use Rattle.std.specs.Prelude.{◌≡◌, ◌+◌, ◌*◌, ◌-◌, ◌/◌, ◌%◌, ◌^◌, ◌<◌, ◌≤◌, pos, IfSome, IfNone, Some, slice_index};
 ghost use Rattle.std.specs.Int.{from_bool};
+ghost use Rattle.tick_units.specs.Units.{IsRate, most_rate};
 ghost use Rattle.clock_page.specs.Page as pages;
-ghost use Rattle.clock_page.specs.Page.{AreWords, IsPage, IsRate, PageFields, words};
+ghost use Rattle.clock_page.specs.Page.{AreWords, IsPage, PageFields, words};
 
 use crate::Page;
-use tick_units::{Local, Short, Span, Stamp, stamp_of};
+use tick_units::{Local, MOST_RATE, Short, Span, Stamp, stamp_of};
+
+/// How many words a page has.
+pub const WORDS: usize = 10;
 
 // A number in a word of its own.
 fn whole(n: u64) -> u64
@@ -68,13 +72,13 @@ fn word_of(rate: i32) -> u64
     i128::from(rate).rem_euclid(1 << 64) as u64
 }
 
-// The most that a rate is, 500 parts per million of 2^32.
-const MOST: u64 = 2_147_483;
+// The greatest rate, as it stands in a word.
+const MOST: u64 = MOST_RATE as u64;
 
 // The rate in a word, where it is within its bound.
 fn rate_of(word: u64) -> Option<i32>
     ensures some { IfSome result (λ rate. IsRate rate × (word ≡ pages.word_of rate)) }
-    ensures none { IfNone result ((2147483 < word) × (word < 2 ^ 64 - 2147483)) }
+    ensures none { IfNone result ((most_rate < word) × (word < 2 ^ 64 - most_rate)) }
 {
     let below = u64::MAX - word;
     if word <= MOST {
@@ -87,7 +91,7 @@ fn rate_of(word: u64) -> Option<i32>
 }
 
 // The one page that is not synchronised whose words these can be.
-fn blank(w: &[u64; 10], anchor: Local) -> Page
+fn blank(w: &[u64; WORDS], anchor: Local) -> Page
     requires anchor { anchor ≡ slice_index w.now 3 }
     requires state { slice_index w.now 1 / 2 ^ 32 < 256 }
     ensures { (p : PageFields) → AreWords w.now p → result ≡ p }
@@ -96,7 +100,7 @@ fn blank(w: &[u64; 10], anchor: Local) -> Page
 }
 
 // The page whose words these are, where it is not synchronised.
-fn unsynced(w: &[u64; 10], anchor: Local) -> Option<Page>
+fn unsynced(w: &[u64; WORDS], anchor: Local) -> Option<Page>
     requires anchor { anchor ≡ slice_index w.now 3 }
     requires state { slice_index w.now 1 / 2 ^ 32 < 256 }
     ensures page { IfSome result (AreWords w.now) }
@@ -114,7 +118,7 @@ fn unsynced(w: &[u64; 10], anchor: Local) -> Option<Page>
 const STATES: u32 = 512;
 
 // The page whose words these are, where it is synchronised.
-fn synced(w: &[u64; 10], anchor: Local) -> Option<Page>
+fn synced(w: &[u64; WORDS], anchor: Local) -> Option<Page>
     requires anchor { anchor ≡ slice_index w.now 3 }
     requires state { 256 ≤ slice_index w.now 1 / 2 ^ 32 }
     ensures page { IfSome result (AreWords w.now) }
@@ -145,7 +149,7 @@ fn synced(w: &[u64; 10], anchor: Local) -> Option<Page>
 impl Page {
     /// The ten words of the page.
     #[tactic(auto, unfolding(crate::specs::Page::words))]
-    pub fn to_words(&self) -> [u64; 10]
+    pub fn to_words(&self) -> [u64; WORDS]
         ensures words { result ≡ words self.now }
         ensures page { IsPage self.now }
     {
@@ -164,7 +168,7 @@ impl Page {
     }
 
     /// The page whose words these are. `None` where no page has these words.
-    pub fn of_words(w: [u64; 10]) -> Option<Page>
+    pub fn of_words(w: [u64; WORDS]) -> Option<Page>
         ensures page { IfSome result (AreWords w) }
         ensures every { (p : PageFields) → AreWords w p → result ≡ Some p }
     {

@@ -5,7 +5,7 @@ ghost use Rattle.clock_page.specs.Times as times;
 ghost use Rattle.clock_page.specs.Times.{leap_indicator, leap_is_near, second_at};
 
 use crate::Page;
-use tick_units::{Local, Span, Stamp, local_span};
+use tick_units::{Local, Span, Stamp, UNSYNCHRONISED, local_span};
 
 // A leap second is announced for a day before it.
 const DAY: i128 = 86_400;
@@ -116,7 +116,7 @@ impl Page {
         ensures { result ≡ leap_indicator self.now moment }
     {
         if !self.synced_at(moment) {
-            3
+            UNSYNCHRONISED
         } else if self.leap_is_near(moment) {
             1
         } else {

@@ -2,13 +2,14 @@
 -- a rate is bounded as in RFC 5905, appendix A.1.1 (MAXFREQ, 500 parts per million).
 use Rattle.std.specs.Prelude.{◌≡◌, ℕ, ◌<◌, ◌≤◌, ◌^◌, Bool, true, nat_le, List, [], ◌∷◌, ◌++◌, codes, decimal, ℤ, unsigned_abs}
 use Rattle.std.specs.Fmt.{signed_decimal}
+use Rattle.tick_units.specs.Units.{most_rate}
 use Rattle.journal_entry.specs.Entries.{IsEntry}
 use Rattle.journal_entry.specs.Texts.{spaced, text_of}
 use Rattle.journal_entry.specs.declared.numbered.Numbered.{Numbered}
 
 -- at most 500 parts per million either way, in units of 2^-32
 abbrev pub is_rate : ℤ → Bool
-is_rate rate = nat_le (unsigned_abs rate) 2147483
+is_rate rate = nat_le (unsigned_abs rate) most_rate
 
 -- its number, which counts from 1, and its rate
 pub record IsNumbered (n : Numbered) : Type 0 where

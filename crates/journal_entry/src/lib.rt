@@ -17,7 +17,7 @@ mod writer;
 pub use entry::{Entry, What};
 pub use lawful::is_lawful;
 pub use line::{Form, JournalLine, read_line};
-pub use numbered::{MOST_RATE, Numbered};
+pub use numbered::Numbered;
 pub use read::{read_entry, read_numbered};
 pub use write::{write_entry, write_numbered, write_unnumbered};
 pub use writer::{ENTRY_ROOM, LINE_ROOM, TextWriter};

@@ -10,10 +10,8 @@ ghost use Rattle.journal_entry.specs.declared.numbered.Numbered as numbered;
 ghost use Rattle.tick_units.specs.declared.sample.Sample as sample;
 
 use crate::fields::Fields;
-use crate::{
-    Entry, LINE_ROOM, MOST_RATE, Numbered, What, keywords, write_numbered, write_unnumbered,
-};
-use tick_units::{Kind, Sample, Short};
+use crate::{Entry, LINE_ROOM, Numbered, What, keywords, write_numbered, write_unnumbered};
+use tick_units::{Kind, MOST_RATE, Sample, Short};
 
 /// The entry whose text this is. `None` where no entry has this text.
 pub fn read_entry(text: &[u8]) -> Option<Entry>

@@ -7,6 +7,6 @@ mod reading;
 mod writing;
 
 pub use header::Header;
-pub use protocol::{CLIENT, PRECISION, PRECISION_UNITS, SERVER, VERSION};
+pub use protocol::{CLIENT, HEADER_LENGTH, PRECISION, PRECISION_UNITS, SERVER, VERSION};
 pub use reading::read;
 pub use writing::write;

@@ -14,3 +14,6 @@ pub const PRECISION: i8 = -20;
 
 /// That precision in units of 2^-32 s.
 pub const PRECISION_UNITS: u64 = 4096;
+
+/// How many bytes a header has (RFC 5905, section 7.3).
+pub const HEADER_LENGTH: usize = 48;

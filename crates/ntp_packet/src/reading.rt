@@ -3,7 +3,7 @@ ghost use Rattle.std.specs.Prelude.{◌≡◌, ◌≤◌, ◌+◌, ◌↔◌, le
 ghost use Rattle.byteorder.specs.Endian.{big_from};
 ghost use Rattle.ntp_packet.specs.Layout.{IsHeader, fields};
 
-use crate::Header;
+use crate::{HEADER_LENGTH, Header};
 use byteorder::{BigEndian, ByteOrder};
 use tick_units::{Short, Stamp};
 
@@ -29,7 +29,7 @@ pub fn read(bytes: &[u8]) -> Option<Header>
     ensures fields { IfSome result (λ h. h ≡ fields bytes.now) }
     ensures fits { IfSome result IsHeader }
 {
-    if bytes.len() < 48 {
+    if bytes.len() < HEADER_LENGTH {
         return None;
     }
     Some(Header {

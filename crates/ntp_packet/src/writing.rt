@@ -3,11 +3,11 @@ ghost use Rattle.std.specs.Prelude.{◌≡◌, ◌≤◌, ◌<◌, ◌+◌, ◌^
 ghost use Rattle.byteorder.specs.Endian.{big_bytes};
 ghost use Rattle.ntp_packet.specs.Layout.{fields, layout};
 
-use crate::Header;
+use crate::{HEADER_LENGTH, Header};
 use byteorder::{BigEndian, ByteOrder};
 
 // Writes a number of four bytes after those at the beginning.
-fn put_u32(out: &mut [u8; 48], front: usize, n: u32)
+fn put_u32(out: &mut [u8; HEADER_LENGTH], front: usize, n: u32)
     requires { front + 4 ≤ 48 }
     ensures piece { take (front + 4) out.new ≡ take front out.old ++ big_bytes 4 n }
     ensures fits { n < 2 ^ 32 }
@@ -16,7 +16,7 @@ fn put_u32(out: &mut [u8; 48], front: usize, n: u32)
 }
 
 // Writes a number of eight bytes after those at the beginning.
-fn put_u64(out: &mut [u8; 48], front: usize, n: u64)
+fn put_u64(out: &mut [u8; HEADER_LENGTH], front: usize, n: u64)
     requires { front + 8 ≤ 48 }
     ensures piece { take (front + 8) out.new ≡ take front out.old ++ big_bytes 8 n }
     ensures fits { n < 2 ^ 64 }
@@ -25,7 +25,7 @@ fn put_u64(out: &mut [u8; 48], front: usize, n: u64)
 }
 
 /// Writes the 48 bytes of a header.
-pub fn write(header: &Header, out: &mut [u8; 48])
+pub fn write(header: &Header, out: &mut [u8; HEADER_LENGTH])
     requires leap { header.now.leap < 4 }
     requires version { header.now.version < 8 }
     requires mode { header.now.mode < 8 }

@@ -6,4 +6,4 @@ mod key;
 mod lookup;
 mod ring;
 
-pub use ring::{HEADER_LENGTH, KeyRing, SEALED_LENGTH};
+pub use ring::{KeyRing, SEALED_LENGTH};

@@ -6,9 +6,7 @@ ghost use Rattle.byteorder.specs.Endian.{big_bytes};
 use crate::key::Key;
 use crate::lookup::{digest_by, vouches};
 use byteorder::{BigEndian, ByteOrder};
-
-/// How many bytes a header has. The key's identifier stands after it.
-pub const HEADER_LENGTH: usize = 48;
+use ntp_packet::HEADER_LENGTH;
 
 // The digest stands after the identifier.
 const DIGEST_PLACE: usize = 52;

@@ -1,6 +1,6 @@
 //! Pages, their words, and what they say of a moment.
 ghost use Rattle.std.specs.Prelude.{pos, ◌≤ℤ◌};
-ghost use Rattle.clock_page.specs.Page.{IsRate};
+ghost use Rattle.tick_units.specs.Units.{IsRate};
 
 use crate::shared::{moment, same};
 use clock_page::Page;

@@ -10,7 +10,7 @@ use crate::loading::{Again, Meanwhile, Nothing, look, try_four};
 use crate::passes::{BatonPass, FeedPass, ReadPass, Receipt};
 use crate::steps::{Banks, Cuts, GivesReceipt, HandsBack, Takes};
 use crate::storing::{begin, store_count};
-use clock_page::Page;
+use clock_page::{Page, WORDS};
 use journal_entry::Entry;
 use std::marker::{Brand, Model};
 
@@ -57,7 +57,7 @@ impl PageCell {
             &mut f.token,
             b.length,
             &p.to_words(),
-            10,
+            WORDS,
         );
         store_count::<Brand>(&self.banks, &mut f.token, e, total);
         b.token = self.banks.shared.split_seat::<HandsBack>(&mut f.token);

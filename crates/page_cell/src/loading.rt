@@ -8,7 +8,7 @@ ghost use Rattle.page_cell.specs.Tries.{ReadsOnce, TellsTry, Tried};
 ghost use Rattle.page_cell.specs.Views.{with_loaded};
 
 use crate::steps::{Banks, BeginsTry, EndsTry, LoadsWord, LooksOver, Token};
-use clock_page::Page;
+use clock_page::{Page, WORDS};
 
 /// A publishing met each of four tries of a reading: the two counts of the last one.
 #[derive(Clone, Copy, Debug, PartialEq, Eq)]
@@ -30,7 +30,7 @@ impl Meanwhile for Nothing {
 }
 
 // The ten words of the bank of a count.
-fn load_words(banks: &Banks, token: &mut Token, first: u64) -> [u64; 10]
+fn load_words(banks: &Banks, token: &mut Token, first: u64) -> [u64; WORDS]
     requires own { (token.old.table_id ≡ banks.now.shared.table_id) × (banks.now.shared.table_id.words ≡ 21) }
     requires trying { (token.old.me.0.watch.trying ≡ true) × (token.old.me.0.watch.first ≡ first) ×
         (token.old.me.0.watch.loaded ≡ []) }
@@ -38,9 +38,9 @@ fn load_words(banks: &Banks, token: &mut Token, first: u64) -> [u64; 10]
     ensures me { token.new.me ≡ (with_loaded result 10 token.old.me.0, token.old.me.1) }
     ensures ten { length result ≡ 10 }
 {
-    let start = 1 + 10 * (first as usize % 2);
-    let mut ten = [0u64; 10];
-    for i in 0..10 {
+    let start = 1 + WORDS * (first as usize % 2);
+    let mut ten = [0u64; WORDS];
+    for i in 0..WORDS {
         ten[i] = banks.shared.load::<LoadsWord>(token, start + i);
     }
     ten
@@ -51,7 +51,7 @@ fn attempt<M: Meanwhile>(
     banks: &Banks,
     token: &mut Token,
     meanwhile: &mut M,
-) -> (u64, u64, [u64; 10])
+) -> (u64, u64, [u64; WORDS])
     requires own { (token.old.table_id ≡ banks.now.shared.table_id) × (banks.now.shared.table_id.words ≡ 21) }
     ensures own { token.new.table_id ≡ token.old.table_id }
     ensures slots { token.new.me.1 ≡ token.old.me.1 }
@@ -66,7 +66,7 @@ fn attempt<M: Meanwhile>(
 }
 
 // The page whose words these ten are.
-fn page_in(ten: &[u64; 10]) -> Page
+fn page_in(ten: &[u64; WORDS]) -> Page
     requires { (p : PageFields) × AreWords ten.now p }
     ensures { AreWords ten.now result }
 {

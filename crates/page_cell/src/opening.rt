@@ -9,6 +9,7 @@ ghost use Rattle.system_fold.specs.Settings.{AreLawful};
 use crate::cell::PageCell;
 use crate::passes::{BatonPass, FeedPass, ReadPass};
 use crate::steps::{Banks, GivesFeed, GivesReader};
+use clock_page::WORDS;
 use std::alloc::Global;
 use system_fold::{FoldState, Settings};
 
@@ -28,13 +29,16 @@ pub enum CellOpen {
     Memory,
 }
 
+// The words of a table: the count, and a page in each bank.
+const TABLE_WORDS: usize = 1 + 2 * WORDS;
+
 // The words of a table in which the bank of the count 0 has these ten.
-fn first_words(ten: &[u64; 10]) -> [u64; 21]
+fn first_words(ten: &[u64; WORDS]) -> [u64; TABLE_WORDS]
     requires { length ten.now ≡ 10 }
     ensures { (length result ≡ 21) × (slice_index result 0 ≡ 0) × HasBank result 0 ten.now }
 {
-    let mut all = [0u64; 21];
-    for i in 0..10 {
+    let mut all = [0u64; TABLE_WORDS];
+    for i in 0..WORDS {
         all[i + 1] = ten[i];
     }
     all

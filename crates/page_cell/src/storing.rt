@@ -7,10 +7,11 @@ ghost use Rattle.page_cell.specs.Views.{added, both, with_stored};
 ghost use Rattle.system_fold.specs.Page.{page_of};
 
 use crate::steps::{Banks, Cuts, Published, PublishesEntry, StoresWord, Takes, Token};
+use clock_page::WORDS;
 use journal_entry::Entry;
 
 // Stores the first words of the next page into the idle bank.
-fn store_words(banks: &Banks, token: &mut Token, total: u64, ten: &[u64; 10], count: usize)
+fn store_words(banks: &Banks, token: &mut Token, total: u64, ten: &[u64; WORDS], count: usize)
     requires own { (token.old.table_id ≡ banks.now.shared.table_id) × (banks.now.shared.table_id.words ≡ 21) }
     requires baton { (token.old.me.0.baton ≡ true) × (token.old.me.0.stored ≡ []) }
     requires total { (total ≡ length token.old.me.0.list) × (total < 2 ^ 63) }
@@ -18,7 +19,7 @@ fn store_words(banks: &Banks, token: &mut Token, total: u64, ten: &[u64; 10], co
     ensures own { token.new.table_id ≡ token.old.table_id }
     ensures me { token.new.me ≡ (with_stored (take count ten.now) token.old.me.0, token.old.me.1) }
 {
-    let start = 1 + 10 * ((total as usize + 1) % 2);
+    let start = 1 + WORDS * ((total as usize + 1) % 2);
     for i in 0..count {
         banks.shared.store::<StoresWord>(token, start + i, ten[i]);
     }
@@ -30,7 +31,7 @@ pub(crate) fn begin(
     baton: &mut Token,
     feed: &mut Token,
     total: u64,
-    ten: &[u64; 10],
+    ten: &[u64; WORDS],
     count: usize,
 )
     requires own { (baton.old.table_id ≡ banks.now.shared.table_id) × (feed.old.table_id ≡ banks.now.shared.table_id) ×

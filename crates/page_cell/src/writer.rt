@@ -6,7 +6,7 @@ ghost use Rattle.system_fold.specs.Settings.{AreLawful};
 use crate::loading::{Again, Meanwhile};
 use crate::storing::begin;
 use crate::{BatonPass, CellParts, FeedPass, PageCell, ReadPass, Receipt};
-use clock_page::Page;
+use clock_page::{Page, WORDS};
 use journal_entry::{Entry, What};
 use std::alloc::Global;
 use std::marker::Model;
@@ -85,7 +85,7 @@ impl Writer {
 
     /// Stores this many words of a page that is never published. There is nothing to ensure: the writer is gone, and no contract
     /// speaks of the words of a cell between two steps of a publishing.
-    pub fn stop_half_way(self, cell: &PageCell, ten: &[u64; 10], count: usize)
+    pub fn stop_half_way(self, cell: &PageCell, ten: &[u64; WORDS], count: usize)
         requires own { self.table ≡ cell.now.table }
         requires count { count ≤ 10 }
     {

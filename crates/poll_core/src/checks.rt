@@ -4,10 +4,7 @@ ghost use Rattle.poll_core.specs.Refusals.{exchange_rows, server_rows, first_ref
 
 use crate::PollRefusal;
 use ntp_packet::{Header, SERVER, VERSION};
-use tick_units::Stamp;
-
-// The leap indicator of a clock that is not synchronised.
-const NOT_SYNCHRONISED: u8 = 3;
+use tick_units::{Stamp, UNSYNCHRONISED};
 
 // The greatest stratum of a server that can be used.
 const MOST_STRATUM: u8 = 15;
@@ -52,7 +49,7 @@ pub fn check_server(header: &Header) -> Result<(), PollRefusal>
 {
     let leap = header.leap;
     let stratum = header.stratum;
-    if leap == NOT_SYNCHRONISED || stratum == 0 || stratum > MOST_STRATUM {
+    if leap == UNSYNCHRONISED || stratum == 0 || stratum > MOST_STRATUM {
         return Err(PollRefusal::Unsynchronised { leap, stratum });
     }
     if header.receive == Stamp(0) || header.transmit == Stamp(0) {

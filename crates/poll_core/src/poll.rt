@@ -12,7 +12,7 @@ use crate::checks::{check_exchange, check_server};
 use crate::exchange::Exchange;
 use crate::{PollRefusal, request};
 use feed_link::Address;
-use ntp_packet::read;
+use ntp_packet::{HEADER_LENGTH, read};
 use tick_units::{Local, Sample, Stamp};
 
 /// The exchanges of one poller with one server (RFC 5905, section 8).
@@ -44,7 +44,7 @@ impl Poll {
     }
 
     /// Makes the request of this moment: the bytes to send to the server. It takes the place of an outstanding one.
-    pub fn ask(&mut self, moment: Local) -> [u8; 48]
+    pub fn ask(&mut self, moment: Local) -> [u8; HEADER_LENGTH]
         ensures polled { (server : Address) (history : List Event) → HasPolled self.old server history →
             HasPolled self.new server (history ++ Asked moment ∷ []) }
         ensures asked { asked_at self.new ≡ Some moment }

@@ -3,7 +3,7 @@ ghost use Rattle.std.specs.Prelude.{◌≡◌, ◌<◌};
 ghost use Rattle.ntp_packet.specs.Layout.{layout};
 ghost use Rattle.poll_core.specs.Formulas.{request_stamp, request_header};
 
-use ntp_packet::{CLIENT, Header, PRECISION, VERSION, write};
+use ntp_packet::{CLIENT, HEADER_LENGTH, Header, PRECISION, VERSION, write};
 use tick_units::{Local, Short, Stamp, local_span};
 
 // The interval between polls that a request states, in log2 seconds.
@@ -17,7 +17,7 @@ pub fn stamp(moment: Local) -> Stamp
 }
 
 // The 48 bytes of the request made at a moment.
-pub fn bytes(moment: Local) -> [u8; 48]
+pub fn bytes(moment: Local) -> [u8; HEADER_LENGTH]
     ensures { result ≡ layout (request_header moment) }
 {
     let header = Header {
@@ -35,7 +35,7 @@ pub fn bytes(moment: Local) -> [u8; 48]
         receive: Stamp(0),
         transmit: stamp(moment),
     };
-    let mut out = [0; 48];
+    let mut out = [0; HEADER_LENGTH];
     write(&header, &mut out);
     out
 }

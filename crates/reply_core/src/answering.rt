@@ -6,14 +6,8 @@ ghost use Rattle.reply_core.specs.declared.code.Code.TheVariants.{Pass};
 
 use crate::{Code, Dropped};
 use clock_page::{INIT, Page, UNKNOWN_DISPERSION};
-use ntp_packet::{CLIENT, Header, PRECISION, SERVER, VERSION, read, write};
-use tick_units::{Local, Short, Span, Stamp, phi, to_short};
-
-/// How many bytes a reply has.
-pub const REPLY_LENGTH: usize = 48;
-
-// The leap indicator of a server that is not synchronised (RFC 5905, section 7.3).
-const UNSYNCHRONISED: u8 = 3;
+use ntp_packet::{CLIENT, HEADER_LENGTH, Header, PRECISION, SERVER, VERSION, read, write};
+use tick_units::{Local, Short, Span, Stamp, UNSYNCHRONISED, phi, to_short};
 
 // `DENY` as a reference ID (RFC 5905, section 7.4).
 const DENY: u32 = 0x4445_4e59;
@@ -113,7 +107,7 @@ pub fn write_reply(
     request: &Header,
     arrived: Local,
     sent: Local,
-    out: &mut [u8; REPLY_LENGTH],
+    out: &mut [u8; HEADER_LENGTH],
 )
     requires order { arrived ≤ sent }
     requires version { request.now.version < 8 }
@@ -129,7 +123,7 @@ fn write_by_code(
     datagram: &[u8],
     arrived: Local,
     sent: Local,
-    out: &mut [u8; REPLY_LENGTH],
+    out: &mut [u8; HEADER_LENGTH],
 ) -> Result<(), Dropped>
     requires { arrived ≤ sent }
     ensures answered { OnOk result (answer_for code page.now datagram.now arrived sent ≡ Ok out.new) }
@@ -155,7 +149,7 @@ pub fn reply(
     datagram: &[u8],
     arrived: Local,
     sent: Local,
-    out: &mut [u8; REPLY_LENGTH],
+    out: &mut [u8; HEADER_LENGTH],
 ) -> Result<(), Dropped>
     requires { arrived ≤ sent }
     ensures answered { OnOk result (answer page.now datagram.now arrived sent ≡ Ok out.new) }
@@ -177,7 +171,7 @@ pub fn kiss(
     datagram: &[u8],
     arrived: Local,
     sent: Local,
-    out: &mut [u8; REPLY_LENGTH],
+    out: &mut [u8; HEADER_LENGTH],
 ) -> Result<(), Dropped>
     requires order { arrived ≤ sent }
     requires code { code ≢ Pass }

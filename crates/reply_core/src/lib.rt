@@ -6,6 +6,6 @@ mod answering;
 mod code;
 mod dropped;
 
-pub use answering::{REPLY_LENGTH, kiss, read_request, reply, write_reply};
+pub use answering::{kiss, read_request, reply, write_reply};
 pub use code::Code;
 pub use dropped::Dropped;

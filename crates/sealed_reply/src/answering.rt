@@ -7,8 +7,8 @@ ghost use Rattle.sealed_reply.specs.Replies.{reply_to};
 
 use crate::Reply;
 use clock_page::Page;
-use ntp_packet::Header;
-use packet_auth::{HEADER_LENGTH, KeyRing, SEALED_LENGTH};
+use ntp_packet::{HEADER_LENGTH, Header};
+use packet_auth::{KeyRing, SEALED_LENGTH};
 use reply_core::{Code, Dropped, read_request};
 use tick_units::Local;
 

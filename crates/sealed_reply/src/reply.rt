@@ -4,8 +4,8 @@ ghost use Rattle.ntp_packet.specs.Layout.{layout};
 ghost use Rattle.reply_core.specs.Reply.{header_for};
 
 use clock_page::Page;
-use ntp_packet::Header;
-use packet_auth::{HEADER_LENGTH, SEALED_LENGTH};
+use ntp_packet::{HEADER_LENGTH, Header};
+use packet_auth::SEALED_LENGTH;
 use reply_core::{Code, write_reply};
 use std::marker::Model;
 use tick_units::Local;

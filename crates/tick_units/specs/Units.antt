@@ -1,6 +1,6 @@
 -- Units: microseconds of the host's counter, spans of 2^-32 s, stamps and shorts (RFC 5905, sections 6 and 7). Which way each
 -- quotient is rounded is this project's own choice.
-use Rattle.std.specs.Prelude.{◌-◌, ◌-ℤ◌, ℕ, zero, suc, ◌+◌, ◌*◌, ◌/◌, ◌^◌, ◌≤◌, min, nat_le, ℤ, pos, negsuc, neg_ℤ, unsigned_abs, if◌then◌else◌}
+use Rattle.std.specs.Prelude.{◌-◌, ◌-ℤ◌, ℕ, zero, suc, ◌+◌, ◌*◌, ◌/◌, ◌^◌, ◌≤◌, ◌≤ℤ◌, min, nat_le, ℤ, pos, negsuc, neg_ℤ, unsigned_abs, if◌then◌else◌}
 use Rattle.std.specs.Int.{div_ceil, int_div_euclid, int_rem_euclid}
 
 -- the quotient by a number above 0, rounded down, and rounded up
@@ -48,3 +48,12 @@ stamp_of z = unsigned_abs (int_rem_euclid z (pos (2 ^ 64)))
 -- the least dispersion of a source, 5 ms (MINDISP of RFC 5905, section 11), in units of 2^-32 s, rounded up
 abbrev pub least_dispersion : ℕ
 least_dispersion = 21474837
+
+-- a rate is what a clock gains in a second, in units of 2^-32 s: at most 500 parts per million either way (MAXFREQ of RFC 5905,
+-- appendix A.1.1)
+abbrev pub most_rate : ℕ
+most_rate = 2147483
+
+pub record IsRate (rate : ℤ) : Type 0 where
+  pub least : neg_ℤ (pos most_rate) ≤ℤ rate
+  pub most : rate ≤ℤ pos most_rate

@@ -9,6 +9,13 @@ use crate::{Local, Short, Span, Stamp};
 /// 11).
 pub const LEAST_DISPERSION: u64 = 21_474_837;
 
+/// The most that a rate is, either way: 500 parts per million, in units of 2^-32 s a second (MAXFREQ of RFC 5905, appendix
+/// A.1.1).
+pub const MOST_RATE: i32 = 2_147_483;
+
+/// The leap indicator of a server that is not synchronised (RFC 5905, section 7.3).
+pub const UNSYNCHRONISED: u8 = 3;
+
 /// The span of a moment of the host's counter, rounded down.
 pub fn local_span(moment: Local) -> Span
     ensures { result ≡ pos (units.local_span moment) }
