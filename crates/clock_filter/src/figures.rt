@@ -5,8 +5,7 @@ ghost use Rattle.tick_units.specs.Units as units;
 ghost use Rattle.clock_filter.specs.Figures as figures;
 
 use crate::Taken;
-use crate::drift::drift_in;
-use tick_units::{Local, Short, Span};
+use tick_units::{Local, Short, Span, phi};
 
 // How many stages the filter has (NSTAGE).
 const STAGES: usize = 8;
@@ -75,7 +74,7 @@ fn grown(dispersion: Span, microseconds: u64) -> Span
     // Read for its bound: every span is below 2^70.
     let _size = dispersion.unsigned_abs();
     if dispersion < most {
-        most.min(dispersion + drift_in(microseconds))
+        most.min(dispersion + phi(microseconds))
     } else {
         most
     }

@@ -2,12 +2,11 @@
 //! from the truth.
 //!
 //! To read it in this order: `filter` (the public type: the last eight samples), `taken` (one of them), `held` (those that
-//! count, by delay), `figures` (what they say), `distances` (how far from the truth), `drift` and `rate` (the host's counter),
-//! `ready` (figures for later moments), `roots`.
+//! count, by delay), `figures` (what they say), `distances` (how far from the truth), `rate` (of the host's counter), `ready`
+//! (figures for later moments), `roots`.
 #![tactic(auto)]
 
 mod distances;
-mod drift;
 mod figures;
 mod filter;
 mod held;

@@ -7,10 +7,9 @@ ghost use Rattle.clock_filter.specs.Ready as ready;
 
 use crate::Figures;
 use crate::distances::{TOO_FAR, half_of_delay};
-use crate::drift::drift_in;
 use crate::roots::root_of;
 use std::marker::Model;
-use tick_units::{Local, Span, isqrt};
+use tick_units::{Local, Span, isqrt, phi};
 
 /// The figures of a source, with all of its distance that does not age, computed once. Contracts see it as the figures.
 #[derive(Clone, Copy, Debug)]
@@ -126,7 +125,7 @@ impl Ready {
         requires { self.now.taken_at ≤ now }
         ensures { result ≡ pos (units.phi (now - self.now.taken_at)) }
     {
-        drift_in(now.get() - self.figures.taken_at.get())
+        phi(now.get() - self.figures.taken_at.get())
     }
 
     /// The root dispersion at a moment, as `root_dispersion` gives it of the figures.

@@ -36,6 +36,7 @@ fn drift_is_rounded_up(rt: HostRuntime) {
     same(&rt, phi(1).get(), 1);
     same(&rt, phi(1_000_000).get(), 64_425);
     same(&rt, phi(1_000_000_000_000).get(), 15 << 32);
+    same(&rt, phi(2_000_000_000_000).get(), 30 << 32);
 }
 
 #[test]

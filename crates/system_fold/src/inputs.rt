@@ -8,7 +8,7 @@ ghost use Rattle.system_fold.specs.Inputs.{AreBounded, until_of};
 
 use crate::leaps::Leap;
 use clock_page::Page;
-use tick_units::{Local, Short};
+use tick_units::{DRIFT_MICROSECONDS, DRIFT_UNITS, Local, Short};
 
 /// What makes a page besides the sources that are left.
 #[derive(Clone, Copy)]
@@ -30,11 +30,6 @@ fn units_of(short: Short) -> u64
 {
     u64::from(short.0) << 16
 }
-
-// 15 parts per million of a microsecond are 15 * 2^32 / 10^12 units, which is 3 * 2^20 / 5^11.
-const DRIFT_UNITS: u64 = 3 << 20;
-
-const DRIFT_MICROSECONDS: u64 = 48_828_125;
 
 // The least number of microseconds after which the drift of the host's counter takes a dispersion above a bound.
 fn first_above(bound: u64, dispersion: u64) -> u64

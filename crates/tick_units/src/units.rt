@@ -25,19 +25,29 @@ pub fn local_span(moment: Local) -> Span
     Span::from((seconds << 32) + (rest << 32) / 1_000_000)
 }
 
-// 15 parts per million of a microsecond are 15 * 2^32 / 10^12 units, which is 3 * 2^20 / 5^11.
-const DRIFT_UNITS: u64 = 3 << 20;
+/// What the host's counter may drift in `DRIFT_MICROSECONDS`, in units of 2^-32 s: 15 parts per million (PHI of RFC 5905, appendix
+/// A.1.1).
+pub const DRIFT_UNITS: u64 = 3 << 20;
 
-const DRIFT_MICROSECONDS: u64 = 48_828_125;
+/// A microsecond has 15 * 2^32 / 10^12 units of drift, which is 3 * 2^20 / 5^11.
+pub const DRIFT_MICROSECONDS: u64 = 48_828_125;
+
+// Below this many microseconds, 12 days, the product has 64 bits.
+const SOON: u64 = 1 << 40;
 
 /// How far the host's counter may drift in this many microseconds: 15 parts per million, rounded up.
+#[inline]
 pub fn phi(microseconds: u64) -> Span
     requires { microseconds < 2 ^ 52 }
     ensures { result ≡ pos (units.phi microseconds) }
 {
-    let whole = microseconds / DRIFT_MICROSECONDS * DRIFT_UNITS;
-    let rest = (microseconds % DRIFT_MICROSECONDS * DRIFT_UNITS).div_ceil(DRIFT_MICROSECONDS);
-    Span::from(whole + rest)
+    if microseconds < SOON {
+        Span::from((microseconds * DRIFT_UNITS + (DRIFT_MICROSECONDS - 1)) / DRIFT_MICROSECONDS)
+    } else {
+        let whole = microseconds / DRIFT_MICROSECONDS * DRIFT_UNITS;
+        let rest = (microseconds % DRIFT_MICROSECONDS * DRIFT_UNITS).div_ceil(DRIFT_MICROSECONDS);
+        Span::from(whole + rest)
+    }
 }
 
 /// The square root, rounded down.
