@@ -1,6 +1,7 @@
 """The command line as a person uses it: exit statuses, one sentence, no traceback."""
 
 import contextlib
+import functools
 import io
 import os
 import pathlib
@@ -79,7 +80,10 @@ class CommandLine(unittest.TestCase):
 
     def test_watch_draws_until_it_is_interrupted(self):
         save(State(written=time.time(), keeper_pid=1), os.path.join(self.folder, "state.json"))
-        with subprocess.Popen([KEEPER, "watch", "--every", "0.2", "--folder", self.folder], stdout=subprocess.PIPE, stderr=subprocess.PIPE, text=True) as watch:
+        # What a shell runs in the background ignores SIGINT, and so does all that it starts.
+        words = [KEEPER, "watch", "--every", "0.2", "--folder", self.folder]
+        heeds = functools.partial(signal.signal, signal.SIGINT, signal.SIG_DFL)
+        with subprocess.Popen(words, stdout=subprocess.PIPE, stderr=subprocess.PIPE, text=True, preexec_fn=heeds) as watch:
             lines = [watch.stdout.readline() for _ in range(8)]
             watch.send_signal(signal.SIGINT)
             rest, said = watch.communicate(timeout=30)
