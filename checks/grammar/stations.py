@@ -142,7 +142,7 @@ def judge_station(data: bytes, output: bytes, status: int, answers_of: Callable[
         need(re.search(rb"[0-9_]{18,}", data), f"TOML, and it ends with {lines[-1]!r}; the first fault is {fault}")
         return
     if not fault and lines == ["status 9 memory"]:
-        # A table of so many clients is more than a run of these checks may hold.
+        # A table as large as this is more than a run of these checks may hold.
         need(status == 9 and station.get("clients", 0) > 8192, f"no memory for {station.get('clients')} clients")
         return
     want = [f"status 3 station {fault}"] if fault else answers
