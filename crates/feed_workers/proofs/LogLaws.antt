@@ -1,5 +1,5 @@
 -- The bytes of a log, line by line and piece by piece.
-use Rattle.std.proofs.Common.{◌≡◌, ℕ, Option, None, Some, Result, Ok, Err, Bool, true, false, ◌==◌, inr, length, List, [], ◌∷◌, ◌++◌, map, take, drop, refl, ap, sym, ◌∙◌, subst, append_assoc, arith}
+use Rattle.std.proofs.Common.{◌≡◌, ℕ, Option, None, Some, Result, Ok, Err, Bool, true, false, ◌==◌, inl, inr, length, List, [], ◌∷◌, ◌++◌, map, take, drop, refl, ap, sym, ◌∙◌, subst, append_assoc, arith}
 use Rattle.std.proofs.lemmas.Bool.Decides.{nat_tests}
 use Rattle.std.proofs.lemmas.List.{append-nil, take-append-drop}
 use Rattle.journal_entry.specs.declared.entry.Entry.{Entry}
@@ -18,11 +18,11 @@ use Rattle.feed_link.specs.Told.{SourceState}
 use Rattle.file_reader.specs.Ends.{EndsReading}
 use Rattle.file_reader.specs.declared.reader.FileEnd.TheVariants as file
 use Rattle.feed_workers.specs.Keeping.{Keeps, Share}
-use Rattle.feed_workers.specs.Logs.{EndsLog}
+use Rattle.feed_workers.specs.Logs.{EndsLog, Intake, RunsLog}
 use Rattle.file_reader.specs.Ends.{EndsAt}
 use Rattle.file_reader.specs.declared.log_end.LogEnd.{LogEnd}
 use Rattle.file_reader.specs.declared.log_end.LogEnd.TheVariants.{Whole, BadLine, Fault, Long}
-use Rattle.feed_workers.specs.Hearing.{HasHeard, HasHeardUpTo, HasMissed, HearsPiece, Tuning}
+use Rattle.feed_workers.specs.Hearing.{HasHeard, HasHeardUpTo, HasMissed, EndsHearing, Tuning}
 use Rattle.feed_workers.proofs.KeepLaws.{keeps_none}
 
 -- nothing is left
@@ -104,17 +104,6 @@ module _ {B : Type 0} (stands : B → History → Type 0) where
   heard_all d tuning share all rest so_far none =
       subst (λ (b : List ℕ). HasHeard stands d tuning share b None) (sym (append-nil so_far.front) ∙ ap (λ (b : List ℕ). so_far.front ++ b) (sym none) ∙ so_far.is) so_far.heard
 
-  -- a piece that was heard, by what its bytes are and by what came of it
-  pub all_of_piece : (d : LogDecoder B) (tuning : Tuning) (share : Share) (before piece bytes : List ℕ) (bad : Option ℕ) → HearsPiece stands d tuning share (before ++ piece) bad → piece ≡ bytes → bad ≡ None →
-      HasHeard stands d tuning share (before ++ bytes) None
-  all_of_piece d tuning share before piece bytes bad heard is none =
-      subst (λ (b : List ℕ). HasHeard stands d tuning share (before ++ b) None) is (subst (λ (o : Option ℕ). HearsPiece stands d tuning share (before ++ piece) o) none heard)
-
-  pub bad_in_piece : (d : LogDecoder B) (tuning : Tuning) (share : Share) (before piece bytes : List ℕ) (bad : Option ℕ) (line : ℕ) → HearsPiece stands d tuning share (before ++ piece) bad → piece ≡ bytes → bad ≡ Some line →
-      HasMissed tuning share (before ++ bytes) line
-  bad_in_piece d tuning share before piece bytes bad line heard is some =
-      subst (λ (b : List ℕ). HasMissed tuning share (before ++ b) line) is (subst (λ (o : Option ℕ). HearsPiece stands d tuning share (before ++ piece) o) some heard)
-
 -- how the reading of a log that came to the end ends
 pub ends_at : (most : ℕ) (log log_now : SourceState) (bytes : List ℕ) (end : LogEnd) → EndsAt end (bad_at_end bytes) → EndsReading file.Whole most log log_now bytes → bad_line bytes ≡ None →
     EndsLog most log log_now bytes end
@@ -122,3 +111,22 @@ ends_at most log log_now bytes Whole at read good = (read, at)
 ends_at most log log_now bytes (BadLine line) at read good = inr (read, good, at)
 ends_at most log log_now bytes Fault at read good = absurd at
 ends_at most log log_now bytes Long at read good = absurd at
+
+-- why the reading ended, by what came of the pieces
+module _ {B : Type 0} (stands : B → History → Type 0) (d : LogDecoder B) (tuning : Tuning) (intake : Intake) where
+  pub runs_whole : EndsHearing stands d tuning intake (Ok file.Whole) → (end : LogEnd) →
+      ((feed : ℕ) (bytes : List ℕ) → HasDecoded stands d feed tuning.plan tuning.delay bytes → EndsAt end (bad_at_end bytes)) → RunsLog tuning.plan tuning.delay intake end
+  runs_whole p end at = record {
+    bytes = p.0;
+    kept = p.2.kept;
+    ends = ends_at intake.most intake.begun intake.file p.0 end (at _ p.0 p.2.decoded) p.1 p.2.bad_is;
+  }
+
+  pub runs_fault : EndsHearing stands d tuning intake (Ok file.Fault) → RunsLog tuning.plan tuning.delay intake Fault
+  runs_fault p = record { bytes = p.0; kept = p.2.kept; ends = (p.1, p.2.bad_is) }
+
+  pub runs_long : EndsHearing stands d tuning intake (Ok file.TooLong) → RunsLog tuning.plan tuning.delay intake Long
+  runs_long p = record { bytes = p.0; kept = p.2.kept; ends = (p.1, p.2.bad_is) }
+
+  pub runs_bad : (line : ℕ) → EndsHearing stands d tuning intake (Err line) → RunsLog tuning.plan tuning.delay intake (BadLine line)
+  runs_bad line p = record { bytes = p.0; kept = p.2.kept; ends = inl (p.1, p.2.bad_is) }

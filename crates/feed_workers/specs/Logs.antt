@@ -1,5 +1,5 @@
 -- What a radio's worker does with the bytes of its log, and why it ends. All of it is this project's own.
-use Rattle.std.specs.Prelude.{◌≡◌, ℕ, ◌⊎◌, Option, Some, None, List}
+use Rattle.std.specs.Prelude.{◌≡◌, ℕ, ◌⊎◌, Some, None, List}
 use Rattle.feed_link.specs.Told.{SourceState}
 use Rattle.file_reader.specs.Ends.{HasReadFront, EndsReading}
 use Rattle.file_reader.specs.declared.reader.FileEnd.TheVariants as file

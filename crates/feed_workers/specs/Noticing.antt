@@ -1,11 +1,14 @@
 -- The bytes of a leap second file one by one and piece by piece: scaffolding for the proof of its worker, which no public clause needs.
-use Rattle.std.specs.Prelude.{◌≡◌, ℕ, true, false, Option, None, Some, List, option_map, Result, Ok, Err}
+use Rattle.std.specs.Prelude.{◌≡◌, ℕ, true, false, None, Some, List, option_map, Result, Ok, Err}
 use Rattle.leap_file.specs.Reading.{HasRead, counted}
 use Rattle.leap_file.specs.Rows.{bad_line}
 use Rattle.leap_file.specs.declared.reader.BadLeap.{BadLeap}
 use Rattle.leap_file.specs.declared.reader.LeapReader.{LeapReader}
 use Rattle.feed_workers.specs.Keeping.{Keeps, Share}
 use Rattle.feed_workers.specs.Leaps.{due_leap}
+use Rattle.feed_workers.specs.Logs.{Intake}
+use Rattle.file_reader.specs.Pieces.{EndsPieces}
+use Rattle.file_reader.specs.declared.reader.FileEnd.{FileEnd}
 use Rattle.file_reader.specs.Ends.{EndsAt}
 use Rattle.file_reader.specs.declared.log_end.LogEnd.{LogEnd}
 
@@ -25,10 +28,10 @@ abbrev pub NoticesByte : {A : Type 0} → LeapReader → ℕ → Share → List 
 NoticesByte reader start share bytes (Ok unit) = HasNoticed reader start share bytes
 NoticesByte reader start share bytes (Err bad) = HasPassed start share bytes bad.line
 
--- a piece was taken after others: all of it, or up to a bad line
-abbrev pub NoticesPiece : LeapReader → ℕ → Share → List ℕ → Option ℕ → Type 0
-NoticesPiece reader start share bytes None = HasNoticed reader start share bytes
-NoticesPiece reader start share bytes (Some line) = HasPassed start share bytes line
+-- what came of the pieces of a file: they were taken to the end of the reading, or up to a bad line
+abbrev pub EndsNoticing : LeapReader → ℕ → Intake → Result FileEnd ℕ → Type 0
+EndsNoticing reader start intake read =
+    EndsPieces (HasNoticed reader start intake.share) (λ line bytes. HasPassed start intake.share bytes line) intake.most intake.begun intake.file read
 
 -- the file came to its end after these bytes: its last line counts, with its notice or as a bad line
 pub record EndsList (start : ℕ) (share : Share) (bytes : List ℕ) (end : LogEnd) : Type 0 where

@@ -16,7 +16,29 @@ const BEFORE: u8 = 1;
 
 const AFTER: u8 = 4;
 
-/// By what a feed's worker keeps its entries: the runtime, the hub, and the gate that it passes.
+/// Keeps the entries of a feed.
+pub trait Keeper {
+    ghost use Rattle.std.specs.Prelude.{◌++◌, ◌∷◌, [], ℕ, List};
+    ghost use Rattle.atomic_table.specs.Seated.{TableId};
+
+    // The table of the journal's cell, its number of sources, and how many entries it may have.
+    ghost table: { TableId };
+
+    ghost sources: { ℕ };
+
+    ghost limit: { ℕ };
+
+    // Keeps an entry that is due, where there is room.
+    fn keep(&self, pass: &mut FeedPass, entry: Entry, full: &mut bool)
+        requires pass { IsOfFeed table sources entry.feed pass.old }
+        requires lawful { IsLawfulWhat entry.what }
+        ensures pass { IsOfFeed table sources entry.feed pass.new }
+        ensures kept { (begun : Claim) (due : List Entry) →
+            Keeps (share_of begun pass.old limit full.old) due →
+            Keeps (share_of begun pass.new limit full.new) (due ++ entry ∷ []) };
+}
+
+/// By what a feed's worker keeps its entries: the runtime, the hub, and the gate that it passes before each and after it.
 #[derive(Drop)]
 pub struct Post<'a, N: HubName, R, G> {
     pub rt: &'a R,
@@ -24,34 +46,42 @@ pub struct Post<'a, N: HubName, R, G> {
     pub gate: &'a G,
 }
 
-impl<N: HubName, R: Wait, G: Gate> Post<'_, N, R, G> {
-    // Appends an entry, where there is room.
-    fn offer(&self, pass: &mut FeedPass, entry: Entry, full: &mut bool)
-        requires pass { IsOfFeed N.table (length N.settings.sources) entry.feed pass.old }
-        requires lawful { IsLawfulWhat entry.what }
-        ensures pass { IsOfFeed N.table (length N.settings.sources) entry.feed pass.new }
-        ensures kept { (begun : Claim) (due : List Entry) →
-            Keeps (share_of begun pass.old N.limit full.old) due →
-            Keeps (share_of begun pass.new N.limit full.new) (due ++ entry ∷ []) }
-    {
-        match self.hub.append(self.rt, pass, entry) {
-            Ok(_) => {}
-            Err(_) => *full = true,
-        }
+// Appends an entry, where there is room.
+fn offer<N: HubName, R: Wait>(
+    rt: &R,
+    hub: &Hub<N>,
+    pass: &mut FeedPass,
+    entry: Entry,
+    full: &mut bool,
+)
+    requires pass { IsOfFeed N.table (length N.settings.sources) entry.feed pass.old }
+    requires lawful { IsLawfulWhat entry.what }
+    ensures pass { IsOfFeed N.table (length N.settings.sources) entry.feed pass.new }
+    ensures kept { (begun : Claim) (due : List Entry) →
+        Keeps (share_of begun pass.old N.limit full.old) due →
+        Keeps (share_of begun pass.new N.limit full.new) (due ++ entry ∷ []) }
+{
+    match hub.append(rt, pass, entry) {
+        Ok(_) => {}
+        Err(_) => *full = true,
     }
+}
 
-    /// Keeps an entry that is due, where there is room, and passes the gate before it and after it.
-    pub fn keep(&self, pass: &mut FeedPass, entry: Entry, full: &mut bool)
-        requires pass { IsOfFeed N.table (length N.settings.sources) entry.feed pass.old }
-        requires lawful { IsLawfulWhat entry.what }
-        ensures pass { IsOfFeed N.table (length N.settings.sources) entry.feed pass.new }
-        ensures kept { (begun : Claim) (due : List Entry) →
-            Keeps (share_of begun pass.old N.limit full.old) due →
-            Keeps (share_of begun pass.new N.limit full.new) (due ++ entry ∷ []) }
-    {
+// The methods of this block call no function that asks for a `Gate`: a call would ask that the gate is `Sync`, which a trait's
+// method can't show.
+impl<N: HubName, R: Wait, G: Gate> Keeper for Post<'_, N, R, G> {
+    ghost use Rattle.std.specs.Prelude.{length};
+
+    ghost table = { N.table };
+
+    ghost sources = { length N.settings.sources };
+
+    ghost limit = { N.limit };
+
+    fn keep(&self, pass: &mut FeedPass, entry: Entry, full: &mut bool) {
         let feed = entry.feed;
         self.gate.pass(self.rt, feed, BEFORE);
-        self.offer(pass, entry, full);
+        offer(self.rt, self.hub, pass, entry, full);
         self.gate.pass(self.rt, feed, AFTER);
     }
 }

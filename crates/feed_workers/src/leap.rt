@@ -4,16 +4,18 @@ ghost use Rattle.std.specs.Option.{option_to_list};
 ghost use Rattle.feed_workers.specs.Keeping.{IsOfFeed, Keeps, share_of};
 ghost use Rattle.feed_workers.specs.Leaps.{RunsLeap, leap_intake, most_of_a_list, notices_of};
 ghost use Rattle.feed_workers.specs.Logs.{intake_of};
-ghost use Rattle.feed_workers.specs.Noticing.{EndsList, HasNoticed, NoticesByte, NoticesPiece};
+ghost use Rattle.feed_workers.specs.Noticing.{EndsList, EndsNoticing, HasNoticed, HasPassed, NoticesByte};
+ghost use Rattle.feed_link.specs.Told.{SourceState};
+ghost use Rattle.file_reader.specs.Pieces.{TakesOrStops};
 ghost use Rattle.journal_entry.specs.declared.entry.Entry.{Entry};
 ghost use Rattle.page_cell.specs.declared.view.Claim.{Claim};
 ghost use Rattle.page_cell.specs.Passes.{claim_of};
 ghost use Rattle.tick_units.specs.Years.{end_of_told};
 
-use crate::keeping::Post;
+use crate::keeping::{Keeper, Post};
 use crate::work::LogWork;
 use feed_link::{Gate, Source};
-use file_reader::{FileEnd, FileReader, LogEnd, Pulled};
+use file_reader::{FileEnd, LogEnd, PieceTaker, read_pieces};
 use journal_entry::{Entry, What};
 use leap_file::{BadLeap, LeapReader};
 use page_cell::FeedPass;
@@ -25,20 +27,20 @@ use verdict_journal::{Hub, HubName};
 const LIMIT: usize = 1 << 16;
 
 // Keeps the notice of a leap second, where one was found.
-fn notice<N: HubName, R: Wait, G: Gate>(
-    post: &Post<'_, N, R, G>,
+fn notice<K: Keeper>(
+    keeper: &K,
     start: Local,
     pass: &mut FeedPass,
     found: Option<u64>,
     full: &mut bool,
 )
-    requires pass { IsOfFeed N.table (length N.settings.sources) (claim_of pass.old.view).number pass.old }
+    requires pass { IsOfFeed K.table K.sources (claim_of pass.old.view).number pass.old }
     requires told { IfSome found (λ second. second < end_of_told) }
-    ensures pass { IsOfFeed N.table (length N.settings.sources) (claim_of pass.old.view).number pass.new }
+    ensures pass { IsOfFeed K.table K.sources (claim_of pass.old.view).number pass.new }
     ensures kept { (begun : Claim) (due : List Entry) →
-        Keeps (share_of begun pass.old N.limit full.old) due →
+        Keeps (share_of begun pass.old K.limit full.old) due →
         let more = notices_of (claim_of pass.old.view).number start (option_to_list found) in
-        Keeps (share_of begun pass.new N.limit full.new) (due ++ more) }
+        Keeps (share_of begun pass.new K.limit full.new) (due ++ more) }
 {
     if let Some(second) = found {
         let entry = Entry {
@@ -46,129 +48,186 @@ fn notice<N: HubName, R: Wait, G: Gate>(
             at: start,
             what: What::Notice(second),
         };
-        post.keep(pass, entry, full);
+        keeper.keep(pass, entry, full);
     }
 }
 
 // Takes a byte, and keeps the notice of the row that it ends. Fails where the line that it ends is bad.
-fn take_byte<N: HubName, R: Wait, G: Gate>(
-    post: &Post<'_, N, R, G>,
+fn take_byte<K: Keeper>(
+    keeper: &K,
     reader: &mut LeapReader,
     start: Local,
     pass: &mut FeedPass,
     byte: u8,
     full: &mut bool,
 ) -> Result<(), BadLeap>
-    requires pass { IsOfFeed N.table (length N.settings.sources) (claim_of pass.old.view).number pass.old }
-    ensures pass { IsOfFeed N.table (length N.settings.sources) (claim_of pass.old.view).number pass.new }
+    requires pass { IsOfFeed K.table K.sources (claim_of pass.old.view).number pass.old }
+    ensures pass { IsOfFeed K.table K.sources (claim_of pass.old.view).number pass.new }
     ensures noticed { (begun : Claim) (bytes : List ℕ) →
-        HasNoticed reader.old start (share_of begun pass.old N.limit full.old) bytes →
-        NoticesByte reader.new start (share_of begun pass.new N.limit full.new) (bytes ++ byte ∷ []) result }
+        HasNoticed reader.old start (share_of begun pass.old K.limit full.old) bytes →
+        NoticesByte reader.new start (share_of begun pass.new K.limit full.new) (bytes ++ byte ∷ []) result }
 {
     match reader.take(byte) {
         Ok(found) => {
-            notice(post, start, pass, found, full);
+            notice(keeper, start, pass, found, full);
             Ok(())
         }
         Err(bad) => Err(bad),
     }
 }
 
-// Takes a piece of a file, up to a bad line, and answers with that line, where there is one.
-fn take_piece<N: HubName, R: Wait, G: Gate>(
-    post: &Post<'_, N, R, G>,
+// Takes a piece of a file, or stops at a bad line, by its number.
+fn take_piece<K: Keeper>(
+    keeper: &K,
     reader: &mut LeapReader,
     start: Local,
     pass: &mut FeedPass,
     piece: &[u8],
     full: &mut bool,
-) -> Option<u64>
-    requires pass { IsOfFeed N.table (length N.settings.sources) (claim_of pass.old.view).number pass.old }
-    ensures pass { IsOfFeed N.table (length N.settings.sources) (claim_of pass.old.view).number pass.new }
+) -> Result<(), u64>
+    requires pass { IsOfFeed K.table K.sources (claim_of pass.old.view).number pass.old }
+    ensures pass { IsOfFeed K.table K.sources (claim_of pass.old.view).number pass.new }
     ensures noticed { (begun : Claim) (bytes : List ℕ) →
-        HasNoticed reader.old start (share_of begun pass.old N.limit full.old) bytes →
-        NoticesPiece reader.new start (share_of begun pass.new N.limit full.new) (bytes ++ piece.now) result }
+        HasNoticed reader.old start (share_of begun pass.old K.limit full.old) bytes →
+        let now = share_of begun pass.new K.limit full.new in
+        TakesOrStops (HasNoticed reader.new start now) (λ line b. HasPassed start now b line) (bytes ++ piece.now) result }
 {
     for place in 0..piece.len() {
-        match take_byte(post, reader, start, pass, piece[place], full) {
+        match take_byte(keeper, reader, start, pass, piece[place], full) {
             Ok(()) => {}
-            Err(bad) => return Some(bad.line),
+            Err(bad) => return Err(bad.line),
         }
     }
-    None
+    Ok(())
 }
 
 // At the end of the file: keeps the notice of a last line without its line feed, and answers how the file ends.
-fn finish_list<N: HubName, R: Wait, G: Gate>(
-    post: &Post<'_, N, R, G>,
+fn finish_list<K: Keeper>(
+    keeper: &K,
     reader: &mut LeapReader,
     start: Local,
     pass: &mut FeedPass,
     full: &mut bool,
 ) -> LogEnd
-    requires pass { IsOfFeed N.table (length N.settings.sources) (claim_of pass.old.view).number pass.old }
-    ensures pass { IsOfFeed N.table (length N.settings.sources) (claim_of pass.old.view).number pass.new }
+    requires pass { IsOfFeed K.table K.sources (claim_of pass.old.view).number pass.old }
+    ensures pass { IsOfFeed K.table K.sources (claim_of pass.old.view).number pass.new }
     ensures ended { (begun : Claim) (bytes : List ℕ) →
-        HasNoticed reader.old start (share_of begun pass.old N.limit full.old) bytes →
-        EndsList start (share_of begun pass.new N.limit full.new) bytes result }
+        HasNoticed reader.old start (share_of begun pass.old K.limit full.old) bytes →
+        EndsList start (share_of begun pass.new K.limit full.new) bytes result }
 {
     match reader.finish() {
         Ok(found) => {
-            notice(post, start, pass, found, full);
+            notice(keeper, start, pass, found, full);
             LogEnd::Whole
         }
         Err(bad) => LogEnd::BadLine { line: bad.line },
     }
 }
 
+// Why the reading of a list ended, by what came of its pieces. Keeps the notice of a last line without its line feed.
+fn end_of<K: Keeper>(
+    keeper: &K,
+    read: Result<FileEnd, u64>,
+    reader: &mut LeapReader,
+    start: Local,
+    pass: &mut FeedPass,
+    full: &mut bool,
+) -> LogEnd
+    requires pass { IsOfFeed K.table K.sources (claim_of pass.old.view).number pass.old }
+    ensures pass { IsOfFeed K.table K.sources (claim_of pass.old.view).number pass.new }
+    ensures runs { (begun : Claim) (file file_now : SourceState) →
+        let intake = intake_of file file_now most_of_a_list in
+        EndsNoticing reader.old start (intake (share_of begun pass.old K.limit full.old)) read →
+        RunsLeap start (intake (share_of begun pass.new K.limit full.new)) result }
+{
+    match read {
+        Ok(FileEnd::Whole) => finish_list(keeper, reader, start, pass, full),
+        Ok(FileEnd::Fault) => LogEnd::Fault,
+        Ok(FileEnd::TooLong) => LogEnd::Long,
+        Err(line) => LogEnd::BadLine { line },
+    }
+}
+
+// What takes the pieces of a list: its reader, and the pass by which a notice of each leap second is kept, at the station's first
+// moment.
+#[derive(Drop)]
+struct Noticing<'a, K> {
+    keeper: &'a K,
+    reader: LeapReader,
+    start: Local,
+    pass: &'a mut FeedPass,
+    full: bool,
+}
+
+impl<K: Keeper> PieceTaker<u64> for Noticing<'_, K> {
+    ghost use Rattle.std.specs.Borrow.{GName};
+    ghost use Rattle.std.specs.Prelude.{◌^◌, ℕ};
+    ghost use Rattle.feed_workers.specs.Keeping.{IsOfFeed, share_of};
+    ghost use Rattle.feed_workers.specs.Noticing.{HasNoticed, HasPassed};
+    ghost use Rattle.page_cell.specs.Passes.{claim_of};
+    ghost use Rattle.page_cell.specs.declared.view.Claim.{Claim};
+
+    // What the pass claimed when the worker began.
+    ghost Case = { Claim };
+
+    ghost has_taken = { λ noticing begun. HasNoticed noticing.reader noticing.start
+        (share_of begun noticing.pass.now K.limit noticing.full) };
+
+    ghost has_stopped = { λ noticing begun line bytes. HasPassed noticing.start
+        (share_of begun noticing.pass.now K.limit noticing.full) bytes line };
+
+    // The first moment, the feed, and which pass it has.
+    ghost Mark = { ℕ × ℕ × GName };
+
+    ghost mark = { λ noticing. (noticing.start, (claim_of noticing.pass.now.view).number, noticing.pass.ghost_name) };
+
+    ghost is_ready = { λ noticing. let feed = (claim_of noticing.pass.now.view).number in
+        IsOfFeed K.table K.sources feed noticing.pass.now };
+
+    ghost room = { λ noticing. 2 ^ 64 };
+
+    fn take(&mut self, piece: &[u8]) -> Result<(), u64> {
+        take_piece(
+            self.keeper,
+            &mut self.reader,
+            self.start,
+            self.pass,
+            piece,
+            &mut self.full,
+        )
+    }
+}
+
 // Reads a file to its end, a bad line, a fault or 2^16 bytes, whichever comes first, and keeps the entries that are due.
-fn read_list<L: Source, N: HubName, R: Wait, G: Gate>(
-    post: &Post<'_, N, R, G>,
+fn read_list<L: Source, K: Keeper>(
+    keeper: &K,
     log: &mut L,
     start: Local,
     pass: &mut FeedPass,
 ) -> LogWork
-    requires pass { IsOfFeed N.table (length N.settings.sources) (claim_of pass.old.view).number pass.old }
+    requires pass { IsOfFeed K.table K.sources (claim_of pass.old.view).number pass.old }
     ensures log { L.opening log.new ≡ L.opening log.old }
-    ensures pass { IsOfFeed N.table (length N.settings.sources) (claim_of pass.old.view).number pass.new }
-    ensures runs { let share = share_of (claim_of pass.old.view) pass.new N.limit result.full in
+    ensures pass { IsOfFeed K.table K.sources (claim_of pass.old.view).number pass.new }
+    ensures runs { let share = share_of (claim_of pass.old.view) pass.new K.limit result.full in
         RunsLeap start (intake_of (L.state log.old) (L.state log.new) most_of_a_list share) result.end }
 {
-    let mut full = false;
-    let mut list = LeapReader::new();
-    let mut reader = FileReader::new(LIMIT);
-    'pieces: loop {
-        match reader.pull(log) {
-            Pulled::Piece => {
-                let piece = reader.piece();
-                match take_piece(post, &mut list, start, pass, piece, &mut full) {
-                    None => {}
-                    Some(line) => {
-                        return LogWork {
-                            end: LogEnd::BadLine { line },
-                            full,
-                        };
-                    }
-                }
-            }
-            Pulled::Ended(FileEnd::Whole) => {
-                let end = finish_list(post, &mut list, start, pass, &mut full);
-                return LogWork { end, full };
-            }
-            Pulled::Ended(FileEnd::Fault) => {
-                return LogWork {
-                    end: LogEnd::Fault,
-                    full,
-                };
-            }
-            Pulled::Ended(FileEnd::TooLong) => {
-                return LogWork {
-                    end: LogEnd::Long,
-                    full,
-                };
-            }
-        }
-    }
+    let mut noticing = Noticing {
+        keeper,
+        reader: LeapReader::new(),
+        start,
+        pass,
+        full: false,
+    };
+    let read = read_pieces(log, &mut noticing, LIMIT);
+    let Noticing {
+        reader,
+        pass,
+        mut full,
+        ..
+    } = noticing;
+    let mut reader = reader;
+    let end = end_of(keeper, read, &mut reader, start, pass, &mut full);
+    LogWork { end, full }
 }
 
 /// The worker of a leap second file: it reads the published list of leap seconds, and keeps a notice of each at the station's

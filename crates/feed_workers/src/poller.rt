@@ -14,7 +14,7 @@ ghost use Rattle.poll_core.specs.Histories.{Event, judge};
 ghost use Rattle.poll_core.specs.Histories.Event.{Answered};
 ghost use Rattle.poll_core.specs.Polling.{HasPolled, asked_at};
 
-use crate::keeping::Post;
+use crate::keeping::{Keeper, Post};
 use crate::work::{PollEnd, PollWork};
 use feed_link::{Address, Arrival, Failed, Gate, Hearing, Link};
 use journal_entry::{Entry, What};
@@ -87,22 +87,22 @@ fn judge_datagram(poll: &mut Poll, arrival: &Arrival, bytes: &[u8]) -> JudgedAns
 }
 
 // One hearing; keeps the entry of a datagram.
-fn hear_once<L: Link, N: HubName, R: Wait, G: Gate>(
-    post: &Post<'_, N, R, G>,
+fn hear_once<L: Link, K: Keeper>(
+    keeper: &K,
     feed: u32,
     poll: &mut Poll,
     link: &mut L,
     pass: &mut FeedPass,
     full: &mut bool,
 ) -> HearingEnd
-    requires pass { IsOfFeed N.table (length N.settings.sources) feed pass.old }
+    requires pass { IsOfFeed K.table K.sources feed pass.old }
     requires asked { ForSome (asked_at poll.old) (λ moment. moment ≤ (L.state link.old).latest) }
     ensures link { L.opening link.new ≡ L.opening link.old }
-    ensures pass { IsOfFeed N.table (length N.settings.sources) feed pass.new }
+    ensures pass { IsOfFeed K.table K.sources feed pass.new }
     ensures asked { ForSome (asked_at poll.new) (λ moment. moment ≤ (L.state link.new).latest) }
     ensures hears { (server : Address) (before : LinkState) (begun : Claim) (events : List NetEvent) →
-        let had = share_of begun pass.old N.limit full.old in
-        let has = share_of begun pass.new N.limit full.new in
+        let had = share_of begun pass.old K.limit full.old in
+        let has = share_of begun pass.new K.limit full.new in
         HasDone poll.old (session_at server before (L.state link.old) had) events → begun.number ≡ feed →
         HearsOne poll.new (session_at server before (L.state link.new) has) events result }
 {
@@ -112,7 +112,7 @@ fn hear_once<L: Link, N: HubName, R: Wait, G: Gate>(
             let judged = judge_datagram(poll, &arrival, &piece[..arrival.length]);
             let JudgedAnswer { what, accepted } = judged;
             let at = arrival.at;
-            post.keep(pass, Entry { feed, at, what }, full);
+            keeper.keep(pass, Entry { feed, at, what }, full);
             if accepted {
                 HearingEnd::Over
             } else {
@@ -126,26 +126,26 @@ fn hear_once<L: Link, N: HubName, R: Wait, G: Gate>(
 }
 
 // Makes one poll, and answers why the polling ends with it, if it does.
-fn poll_once<L: Link, N: HubName, R: Wait, G: Gate>(
-    post: &Post<'_, N, R, G>,
+fn poll_once<L: Link, K: Keeper>(
+    keeper: &K,
     peer: Peer,
     poll: &mut Poll,
     link: &mut L,
     pass: &mut FeedPass,
     full: &mut bool,
 ) -> Option<PollEnd>
-    requires pass { IsOfFeed N.table (length N.settings.sources) peer.feed pass.old }
+    requires pass { IsOfFeed K.table K.sources peer.feed pass.old }
     ensures link { L.opening link.new ≡ L.opening link.old }
-    ensures pass { IsOfFeed N.table (length N.settings.sources) peer.feed pass.new }
+    ensures pass { IsOfFeed K.table K.sources peer.feed pass.new }
     ensures goes { IfNone result ((before : LinkState) (begun : Claim) (count : ℕ) →
-        let had = share_of begun pass.old N.limit full.old in
-        let has = share_of begun pass.new N.limit full.new in
+        let had = share_of begun pass.old K.limit full.old in
+        let has = share_of begun pass.new K.limit full.new in
         Polled poll.old (session_at peer.server before (L.state link.old) had) count → begun.number ≡ peer.feed →
         Polled poll.new (session_at peer.server before (L.state link.new) has) (count + 1)) }
     ensures stops { IfSome result (λ end. (before : LinkState) (begun : Claim) (count polls : ℕ) →
         count < polls →
-        let had = share_of begun pass.old N.limit full.old in
-        let has = share_of begun pass.new N.limit full.new in
+        let had = share_of begun pass.old K.limit full.old in
+        let has = share_of begun pass.new K.limit full.new in
         Polled poll.old (session_at peer.server before (L.state link.old) had) count → begun.number ≡ peer.feed →
         RunsPolls (session_at peer.server before (L.state link.new) has) polls end) }
 {
@@ -156,7 +156,7 @@ fn poll_once<L: Link, N: HubName, R: Wait, G: Gate>(
         Err(Failed) => return Some(PollEnd::LinkFault),
     }
     'hearings: for _ in 0..HEARINGS {
-        match hear_once(post, peer.feed, poll, link, pass, full) {
+        match hear_once(keeper, peer.feed, poll, link, pass, full) {
             HearingEnd::On => {}
             HearingEnd::Over => return None,
             HearingEnd::End => return Some(PollEnd::LinkEnd),

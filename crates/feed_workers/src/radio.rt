@@ -1,23 +1,22 @@
 //! The worker of a radio, which reads its log.
-ghost use Rattle.std.specs.Prelude.{◌≡◌, ◌≤◌, ◌<◌, ◌++◌, [], ℕ, List, Option, Some, None, length, take};
+ghost use Rattle.std.specs.Prelude.{◌≡◌, ◌≤◌, ◌<◌, ◌++◌, [], ℕ, List, None, length, take};
 ghost use Rattle.log_decoder.specs.Decoding.{HasDecoded, IsReady, feed_of};
-ghost use Rattle.feed_workers.specs.Hearing.{HasHeard, HearsPiece, Tuning};
+ghost use Rattle.feed_workers.specs.Hearing.{EndsHearing, HasHeard, HasMissed, Tuning};
+ghost use Rattle.file_reader.specs.Pieces.{TakesOrStops};
 ghost use Rattle.feed_workers.specs.Keeping.{IsOfFeed, share_of};
-ghost use Rattle.file_reader.specs.Ends.{EndsAt};
-ghost use Rattle.feed_workers.specs.Logs.{RunsLog, intake_of, log_intake};
+ghost use Rattle.feed_workers.specs.Logs.{Intake, RunsLog, intake_of, log_intake};
 ghost use Rattle.page_cell.specs.declared.view.Claim.{Claim};
 ghost use Rattle.page_cell.specs.Passes.{claim_of};
-ghost use Rattle.tick_units.specs.Log.{bad_at_end};
 ghost use Rattle.tick_units.specs.declared.marks.Plan.{Plan};
 
-use crate::keeping::Post;
+use crate::keeping::{Keeper, Post};
 use crate::work::LogWork;
 use feed_link::{Gate, Source};
-use file_reader::{FileEnd, FileReader, LogEnd, Pulled};
+use file_reader::{FileEnd, LogEnd, PieceTaker, read_pieces};
 use log_decoder::{LOG_LIMIT, LogDecoder};
 use page_cell::FeedPass;
 use pulse_log::Taken;
-use radio_receiver::BoxedReceiver;
+use radio_receiver::{BoxedReceiver, Receiver};
 use std::sync::Wait;
 use verdict_journal::{Hub, HubName};
 
@@ -34,31 +33,31 @@ pub type RadioWorker<L> = WorkerOf<L, BoxedReceiver>;
 
 // Takes bytes up to the end of a line, up to a bad line, or all of them, and keeps the entry that they complete. What came of
 // them is the number of that bad line, where there is one.
-fn take_line<N: HubName, R: Wait, G: Gate>(
-    post: &Post<'_, N, R, G>,
-    decoder: &mut LogDecoder<BoxedReceiver>,
+fn take_line<K: Keeper, Q: Receiver>(
+    keeper: &K,
+    decoder: &mut LogDecoder<Q>,
     pass: &mut FeedPass,
     bytes: &[u8],
     full: &mut bool,
 ) -> Taken<Option<u64>>
     requires some { 0 < length bytes.now }
-    requires ready { IsReady least_start decoder.old }
-    requires pass { IsOfFeed N.table (length N.settings.sources) (feed_of decoder.old) pass.old }
+    requires ready { IsReady Q.least_start decoder.old }
+    requires pass { IsOfFeed K.table K.sources (feed_of decoder.old) pass.old }
     ensures some { 0 < result.count }
     ensures within { result.count ≤ length bytes.now }
-    ensures ready { IsReady least_start decoder.new }
+    ensures ready { IsReady Q.least_start decoder.new }
     ensures feed { feed_of decoder.new ≡ feed_of decoder.old }
-    ensures pass { IsOfFeed N.table (length N.settings.sources) (feed_of decoder.old) pass.new }
+    ensures pass { IsOfFeed K.table K.sources (feed_of decoder.old) pass.new }
     ensures heard { (tuning : Tuning) (begun : Claim) (before : List ℕ) →
-        HasHeard stands_for decoder.old tuning (share_of begun pass.old N.limit full.old) before None →
+        HasHeard Q.stands_for decoder.old tuning (share_of begun pass.old K.limit full.old) before None →
         let read = before ++ take result.count bytes.now in
-        HasHeard stands_for decoder.new tuning (share_of begun pass.new N.limit full.new) read result.found }
+        HasHeard Q.stands_for decoder.new tuning (share_of begun pass.new K.limit full.new) read result.found }
 {
     let Taken { count, found } = decoder.take(bytes);
     match found {
         Ok(None) => Taken { count, found: None },
         Ok(Some(entry)) => {
-            post.keep(pass, entry, full);
+            keeper.keep(pass, entry, full);
             Taken { count, found: None }
         }
         Err(bad) => Taken {
@@ -68,99 +67,121 @@ fn take_line<N: HubName, R: Wait, G: Gate>(
     }
 }
 
-// Takes a piece of a log, up to a bad line, and answers with that line, where there is one.
-fn hear_piece<N: HubName, R: Wait, G: Gate>(
-    post: &Post<'_, N, R, G>,
-    decoder: &mut LogDecoder<BoxedReceiver>,
+// Takes a piece of a log, or stops at a bad line, by its number.
+fn hear_piece<K: Keeper, Q: Receiver>(
+    keeper: &K,
+    decoder: &mut LogDecoder<Q>,
     pass: &mut FeedPass,
     piece: &[u8],
     full: &mut bool,
-) -> Option<u64>
-    requires ready { IsReady least_start decoder.old }
-    requires pass { IsOfFeed N.table (length N.settings.sources) (feed_of decoder.old) pass.old }
-    ensures ready { IsReady least_start decoder.new }
+) -> Result<(), u64>
+    requires ready { IsReady Q.least_start decoder.old }
+    requires pass { IsOfFeed K.table K.sources (feed_of decoder.old) pass.old }
+    ensures ready { IsReady Q.least_start decoder.new }
     ensures feed { feed_of decoder.new ≡ feed_of decoder.old }
-    ensures pass { IsOfFeed N.table (length N.settings.sources) (feed_of decoder.old) pass.new }
+    ensures pass { IsOfFeed K.table K.sources (feed_of decoder.old) pass.new }
     ensures heard { (tuning : Tuning) (begun : Claim) (bytes : List ℕ) →
-        HasHeard stands_for decoder.old tuning (share_of begun pass.old N.limit full.old) bytes None →
-        let longer = bytes ++ piece.now in
-        HearsPiece stands_for decoder.new tuning (share_of begun pass.new N.limit full.new) longer result }
+        HasHeard Q.stands_for decoder.old tuning (share_of begun pass.old K.limit full.old) bytes None →
+        let now = share_of begun pass.new K.limit full.new in
+        TakesOrStops (λ b. HasHeard Q.stands_for decoder.new tuning now b None) (λ line b. HasMissed tuning now b line)
+        (bytes ++ piece.now) result }
 {
     let mut rest = piece;
     'rest: while !rest.is_empty() {
-        let took = take_line(post, decoder, pass, rest, full);
+        let took = take_line(keeper, decoder, pass, rest, full);
         match took.found {
-            Some(line) => return Some(line),
+            Some(line) => return Err(line),
             None => rest = rest.split_at(took.count).1,
         }
     }
-    None
+    Ok(())
 }
 
-// How a log ends that was read to its end.
-fn at_end(decoder: &LogDecoder<BoxedReceiver>) -> LogEnd
-    ensures { (feed : ℕ) (plan : Plan) (delay : ℕ) (bytes : List ℕ) →
-        HasDecoded stands_for decoder.now feed plan delay bytes → EndsAt result (bad_at_end bytes) }
+// What takes the pieces of a log: its decoder, and the pass by which the entries are kept that are due.
+#[derive(Drop)]
+struct Listening<'a, K, Q: Drop> {
+    keeper: &'a K,
+    decoder: &'a mut LogDecoder<Q>,
+    pass: &'a mut FeedPass,
+    full: bool,
+}
+
+impl<K: Keeper, Q: Receiver> PieceTaker<u64> for Listening<'_, K, Q> {
+    ghost use Rattle.std.specs.Borrow.{GName};
+    ghost use Rattle.std.specs.Prelude.{◌^◌, ℕ, None};
+    ghost use Rattle.log_decoder.specs.Decoding.{IsReady, feed_of};
+    ghost use Rattle.feed_workers.specs.Hearing.{Since, HasHeard, HasMissed};
+    ghost use Rattle.feed_workers.specs.Keeping.{IsOfFeed, share_of};
+
+    ghost Case = { Since };
+
+    ghost has_taken = { λ listening since bytes. HasHeard Q.stands_for listening.decoder.now since.tuning
+        (share_of since.begun listening.pass.now K.limit listening.full) bytes None };
+
+    ghost has_stopped = { λ listening since line bytes. HasMissed since.tuning
+        (share_of since.begun listening.pass.now K.limit listening.full) bytes line };
+
+    // The feed, and which decoder and pass it has.
+    ghost Mark = { ℕ × GName × GName };
+
+    ghost mark = { λ listening. (feed_of listening.decoder.now, listening.decoder.ghost_name, listening.pass.ghost_name) };
+
+    ghost is_ready = { λ listening. IsReady Q.least_start listening.decoder.now
+        × IsOfFeed K.table K.sources (feed_of listening.decoder.now) listening.pass.now };
+
+    ghost room = { λ listening. 2 ^ 64 };
+
+    fn take(&mut self, piece: &[u8]) -> Result<(), u64> {
+        hear_piece(self.keeper, self.decoder, self.pass, piece, &mut self.full)
+    }
+}
+
+// Why the reading of a log ended, by what came of its pieces.
+fn end_of<Q: Receiver>(read: Result<FileEnd, u64>, decoder: &LogDecoder<Q>) -> LogEnd
+    ensures { (tuning : Tuning) (intake : Intake) →
+        EndsHearing Q.stands_for decoder.now tuning intake read → RunsLog tuning.plan tuning.delay intake result }
 {
-    match decoder.finish() {
-        Ok(()) => LogEnd::Whole,
-        Err(bad) => LogEnd::BadLine { line: bad.line },
+    match read {
+        Ok(FileEnd::Whole) => match decoder.finish() {
+            Ok(()) => LogEnd::Whole,
+            Err(bad) => LogEnd::BadLine { line: bad.line },
+        },
+        Ok(FileEnd::Fault) => LogEnd::Fault,
+        Ok(FileEnd::TooLong) => LogEnd::Long,
+        Err(line) => LogEnd::BadLine { line },
     }
 }
 
 // Reads a log of at most this many bytes, to its end, a bad line or a fault, and keeps the entries that are due.
-pub fn read_log<L: Source, N: HubName, R: Wait, G: Gate>(
-    post: &Post<'_, N, R, G>,
-    decoder: &mut LogDecoder<BoxedReceiver>,
+pub fn read_log<L: Source, K: Keeper, Q: Receiver>(
+    keeper: &K,
+    decoder: &mut LogDecoder<Q>,
     log: &mut L,
     pass: &mut FeedPass,
     limit: usize,
 ) -> LogWork
-    requires ready { IsReady least_start decoder.old }
-    requires pass { IsOfFeed N.table (length N.settings.sources) (feed_of decoder.old) pass.old }
+    requires ready { IsReady Q.least_start decoder.old }
+    requires pass { IsOfFeed K.table K.sources (feed_of decoder.old) pass.old }
     ensures log { L.opening log.new ≡ L.opening log.old }
-    ensures ready { IsReady least_start decoder.new }
+    ensures ready { IsReady Q.least_start decoder.new }
     ensures feed { feed_of decoder.new ≡ feed_of decoder.old }
-    ensures pass { IsOfFeed N.table (length N.settings.sources) (feed_of decoder.old) pass.new }
+    ensures pass { IsOfFeed K.table K.sources (feed_of decoder.old) pass.new }
     ensures runs { (plan : Plan) (delay : ℕ) →
-        HasDecoded stands_for decoder.old (claim_of pass.old.view).number plan delay [] →
-        let share = share_of (claim_of pass.old.view) pass.new N.limit result.full in
+        HasDecoded Q.stands_for decoder.old (claim_of pass.old.view).number plan delay [] →
+        let share = share_of (claim_of pass.old.view) pass.new K.limit result.full in
         RunsLog plan delay (intake_of (L.state log.old) (L.state log.new) limit share) result.end }
 {
-    let mut full = false;
-    let mut reader = FileReader::new(limit);
-    'pieces: loop {
-        match reader.pull(log) {
-            Pulled::Piece => {
-                match hear_piece(post, decoder, pass, reader.piece(), &mut full) {
-                    None => {}
-                    Some(line) => {
-                        return LogWork {
-                            end: LogEnd::BadLine { line },
-                            full,
-                        };
-                    }
-                }
-            }
-            Pulled::Ended(FileEnd::Whole) => {
-                return LogWork {
-                    end: at_end(decoder),
-                    full,
-                };
-            }
-            Pulled::Ended(FileEnd::Fault) => {
-                return LogWork {
-                    end: LogEnd::Fault,
-                    full,
-                };
-            }
-            Pulled::Ended(FileEnd::TooLong) => {
-                return LogWork {
-                    end: LogEnd::Long,
-                    full,
-                };
-            }
-        }
+    let mut listening = Listening {
+        keeper,
+        decoder,
+        pass,
+        full: false,
+    };
+    let read = read_pieces(log, &mut listening, limit);
+    let end = end_of(read, listening.decoder);
+    LogWork {
+        end,
+        full: listening.full,
     }
 }
 

@@ -1,5 +1,5 @@
 -- How the reading of a file ends whose bytes were taken as they came.
-use Rattle.std.proofs.Common.{◌≡◌, ◌≤◌, ℕ, Option, None, Some, List, [], ◌++◌, refl, sym, subst, inl, inr, arith}
+use Rattle.std.proofs.Common.{◌≡◌, ℕ, Option, None, Some, List, [], ◌++◌, refl, sym, subst, inl, inr}
 use Rattle.std.proofs.lemmas.List.{append-nil}
 use Rattle.feed_link.specs.Told.{SourceState, SinkState, Takes}
 use Rattle.file_reader.specs.Ends.{HasReadFront, EndsReading}
@@ -64,23 +64,6 @@ module _ (holds : Holds) (limit : ℕ) (file file_now : SourceState) (out out_no
   }
 
 -- a write failed
-pub ends_stopped : (says : Says) (limit : ℕ) (file file_now : SourceState) (out out_now : SinkState) (bytes : List ℕ) (most : ℕ) → most ≤ 512 → Stops says out out_now bytes most → HasReadFront limit file file_now bytes →
+pub ends_stopped : (says : Says) (limit : ℕ) (file file_now : SourceState) (out out_now : SinkState) (bytes : List ℕ) → Stops says out out_now bytes → HasReadFront limit file file_now bytes →
     EndsStopped says limit (flow_of file file_now out out_now)
-ends_stopped says limit file file_now out out_now bytes most small h read = record {
-  bytes = bytes;
-  read = read;
-  stops = record {
-    earlier = h.earlier;
-    next = h.next;
-    behind = h.behind;
-    all = h.all;
-    near = (let near = h.near in omega arith);
-    text = h.text;
-    said = h.said;
-    between = h.between;
-    whole = h.whole;
-    more = h.more;
-    adds = h.adds;
-    failed = h.failed;
-  };
-}
+ends_stopped says limit file file_now out out_now bytes h read = record { bytes = bytes; read = read; stops = h }

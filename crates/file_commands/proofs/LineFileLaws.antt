@@ -9,7 +9,7 @@ use Rattle.feed_link.specs.Openings.Wanted.{LogOf}
 use Rattle.feed_link.proofs.OpeningLaws.{opens_front, opens_more}
 use Rattle.file_reader.specs.Ends.{EndsReading, HasReadFront}
 use Rattle.file_reader.specs.declared.reader.FileEnd.{FileEnd}
-use Rattle.file_reader.specs.declared.reader.FileEnd.TheVariants.{Whole, Fault, TooLong}
+use Rattle.file_reader.specs.declared.reader.FileEnd.TheVariants.{Whole, TooLong}
 use Rattle.line_cutter.proofs.ItemLaws.{bad_stays, one_reading}
 use Rattle.station_config.specs.Faults.{Says}
 use Rattle.station_config.specs.Station.{StationFields}

@@ -1,10 +1,12 @@
 -- How far the taking of a piece has come, and how it goes on.
-use Rattle.std.proofs.Common.{◌≡◌, ◌==◌, ◌≤◌, ℕ, true, length, arith, Option, None, Some, List, [], ◌∷◌, ◌++◌, take, drop, refl, ap, sym, ◌∙◌, subst, append_assoc}
+use Rattle.std.proofs.Common.{◌≡◌, ◌==◌, ◌≤◌, ℕ, true, length, arith, Option, None, Some, List, [], ◌∷◌, ◌++◌, Err, take, drop, refl, ap, sym, ◌∙◌, subst, append_assoc}
 use Rattle.std.proofs.lemmas.List.{append-nil, take-append-drop}
 use Rattle.std.proofs.lemmas.Bool.{true≢false}
 use Rattle.std.proofs.lemmas.Bool.Decides.{nat_tests}
 use Rattle.feed_link.specs.Told.{SinkState}
-use Rattle.file_commands.specs.Taking.{Holds, Says, TakesAll, MeetsBad, Stops}
+use Rattle.file_commands.specs.declared.reading.Stop.{Stop}
+use Rattle.file_commands.specs.declared.reading.Stop.TheVariants.{BadLine, WriteFault}
+use Rattle.file_commands.specs.Taking.{Holds, Says, TakesAll, MeetsBad, Stops, StopsTaking, Gives, IsGiven, given as text_of, bad_of}
 use Rattle.sink_text.specs.Writing.{WritesAll, WritesFront}
 use Rattle.sink_text.proofs.WritingLaws.{writes_more}
 
@@ -45,9 +47,9 @@ module _ (start out : SinkState) (all rest : List ℕ) (before : Holds) (h : IsT
   rest_again : (count : ℕ) → take count rest ++ drop count rest ≡ rest
   rest_again count = take-append-drop count rest
 
-  pub taken_stopped : (says : Says) → says h.front h.text → (now : SinkState) (most count : ℕ) → length rest ≤ most →
-      (text : List ℕ) → says (h.front ++ take count rest) (h.text ++ text) → WritesFront out now text → Stops says start now all most
-  taken_stopped says said now most count room text adds written = record {
+  pub taken_stopped : (says : Says) → says h.front h.text → (now : SinkState) (count : ℕ) → length rest ≤ 512 →
+      (text : List ℕ) → says (h.front ++ take count rest) (h.text ++ text) → WritesFront out now text → Stops says start now all
+  taken_stopped says said now count room text adds written = record {
     earlier = h.front;
     next = take count rest;
     behind = drop count rest;
@@ -62,6 +64,18 @@ module _ (start out : SinkState) (all rest : List ℕ) (before : Holds) (h : IsT
     failed = written;
   }
 
+-- a given text takes it on, or stops it
+module _ (start out : SinkState) (all rest : List ℕ) (before : Holds) (h : IsTakenSoFar before start out all rest) where
+  pub stopped_at : (holds : Holds) (says : Says) → ((b t : List ℕ) → holds b t None → says b t) → says h.front h.text → (now : SinkState) (count : ℕ) → length rest ≤ 512 →
+      (gives : Gives) (line : List ℕ) → holds (h.front ++ take count rest) (h.text ++ text_of gives line) (bad_of gives) →
+      (stop : Stop) → IsGiven (Err stop) gives line out now → StopsTaking holds says start now stop all
+  stopped_at holds says all_said said now count room gives line held (BadLine number) written =
+      taken_bad start out all rest before h holds now count number (text_of gives line) (bad_of gives) held written.0 written.1
+  stopped_at holds says all_said said now count room gives line held WriteFault written =
+      let longer = h.front ++ take count rest in
+      let texts = h.text ++ text_of gives line in
+      taken_stopped start out all rest before h says said now count room (text_of gives line) (all_said longer texts (subst (λ (b : Option ℕ). holds longer texts b) written.0 held)) written.1
+
 -- nothing is left
 pub taken_whole : (holds : Holds) (start out : SinkState) (all rest : List ℕ) → IsTakenSoFar holds start out all rest → rest ≡ [] → TakesAll holds start out all
 taken_whole holds start out all rest h none =
@@ -71,3 +85,7 @@ taken_whole holds start out all rest h none =
 pub none_of : (rest : List ℕ) → true ≡ (length rest == 0) → rest ≡ []
 none_of [] e = refl
 none_of (x ∷ rest) e = absurd (true≢false (e ∙ grind (arith, nat_tests)))
+
+-- what holds of two values holds of equal ones
+pub of_equals : {A B : Type 0} (P : A → B → Type 0) (a a_now : A) (b b_now : B) → P a b → a ≡ a_now → b ≡ b_now → P a_now b_now
+of_equals P a a_now b b_now h same_a same_b = subst (λ x. P x b_now) same_a (subst (λ y. P a y) same_b h)

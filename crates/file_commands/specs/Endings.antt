@@ -1,6 +1,5 @@
 -- How a command ends: its status with its number, and the status line. The numbers and lines are this project's own.
 use Rattle.std.specs.Prelude.{ℕ, List, ◌++◌, codes, decimal}
-use Rattle.file_reader.specs.declared.reader.FileEnd.TheVariants as file
 use Rattle.file_commands.specs.declared.ending.Ending.{Ending}
 use Rattle.file_commands.specs.declared.ending.Ending.TheVariants.{Whole, WrongWords, NotOpened, NotRead, WrongLine, Full, NoMemory, LinkFailed, Long}
 use Rattle.file_reader.specs.declared.log_end.LogEnd.{LogEnd}

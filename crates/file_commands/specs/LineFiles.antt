@@ -7,7 +7,6 @@ use Rattle.feed_link.specs.Told.{SourceState, SinkState}
 use Rattle.feed_link.specs.Openings.{Opening, OutsideState, Wanted, MakesOpenings, log_visit, visited}
 use Rattle.feed_link.specs.Openings.Wanted.{LogOf}
 use Rattle.file_reader.specs.Ends.{HasReadFront}
-use Rattle.file_reader.specs.declared.reader.FileEnd.TheVariants.{Whole}
 use Rattle.line_cutter.specs.Items.{HasItems, Saying}
 use Rattle.station_config.specs.Station.{StationFields}
 use Rattle.tick_units.specs.Log.{has_tail}

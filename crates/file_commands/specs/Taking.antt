@@ -4,10 +4,12 @@ use Rattle.std.specs.Prelude.{◌≡◌, ℕ, ◌≤◌, Option, None, Some, Lis
 use Rattle.feed_link.specs.Told.{SourceState, SinkState}
 use Rattle.file_reader.specs.Ends.{HasReadFront}
 use Rattle.journal_entry.specs.declared.writer.TheConstants.{LINE_ROOM}
-use Rattle.pulse_log.specs.declared.reader.BadLine.{BadLine}
+use Rattle.pulse_log.specs.declared.reader.BadLine as log
 use Rattle.file_commands.specs.Reading.{ReadsLines}
 use Rattle.sink_text.specs.Writing.{WritesAll, WritesFront}
 use Rattle.file_reader.specs.declared.log_end.LogEnd.{LogEnd}
+use Rattle.file_commands.specs.declared.reading.Stop.{Stop}
+use Rattle.file_commands.specs.declared.reading.Stop.TheVariants.{BadLine, WriteFault}
 
 abbrev pub Holds : Type 1
 Holds = List ℕ → List ℕ → Option ℕ → Type 0
@@ -18,7 +20,7 @@ Says = List ℕ → List ℕ → Type 0
 
 -- what the first bytes give: a text of this many bytes at the beginning of the line, no text, or their bad line
 abbrev pub Gives : Type 0
-Gives = Result (Option ℕ) BadLine
+Gives = Result (Option ℕ) log.BadLine
 
 -- the text that the first bytes give, in a line of this content, and the bad line that they have
 abbrev pub given : Gives → List ℕ → List ℕ
@@ -35,10 +37,11 @@ Fits (Ok None) = Unit {0}
 Fits (Ok (Some length)) = length ≤ LINE_ROOM
 Fits (Err bad) = Unit {0}
 
--- the text that bytes give was written, or a write of it failed; or they have a bad line, and give no text
-abbrev pub IsGiven : {E : Type 0} → Result (Option ℕ) E → Gives → List ℕ → SinkState → SinkState → Type 0
-IsGiven (Ok bad) gives line out out_now = (bad_of gives ≡ bad) × WritesAll out out_now (given gives line)
-IsGiven (Err failed) gives line out out_now = (bad_of gives ≡ None) × WritesFront out out_now (given gives line)
+-- the text that bytes give was written, and no line of theirs is bad; or they have a bad line, and give no text; or a write failed
+abbrev pub IsGiven : Result (Unit {0}) Stop → Gives → List ℕ → SinkState → SinkState → Type 0
+IsGiven (Ok all) gives line out out_now = (bad_of gives ≡ None) × WritesAll out out_now (given gives line)
+IsGiven (Err (BadLine number)) gives line out out_now = (bad_of gives ≡ Some number) × WritesAll out out_now (given gives line)
+IsGiven (Err WriteFault) gives line out out_now = (bad_of gives ≡ None) × WritesFront out out_now (given gives line)
 
 -- all of a piece was taken, or its bytes up to a bad line, and the text of them is written since the start; or a write of it
 -- failed
@@ -55,14 +58,14 @@ pub record MeetsBad (holds : Holds) (number : ℕ) (start out : SinkState) (byte
   pub held : holds front text (Some number)
   pub written : WritesAll start out text
 
--- a write failed in the text that the next bytes add; the text of those before them is written whole, and at most this many bytes
--- come after these
-pub record Stops (says : Says) (start out : SinkState) (bytes : List ℕ) (most : ℕ) : Type 0 where
+-- a write failed in the text that the next bytes add, after the text of those before them was written whole; these and what was read
+-- after them came in one piece of 512 bytes
+pub record Stops (says : Says) (start out : SinkState) (bytes : List ℕ) : Type 0 where
   pub earlier : List ℕ
   pub next : List ℕ
   pub behind : List ℕ
   pub all : earlier ++ (next ++ behind) ≡ bytes
-  pub near : length (next ++ behind) ≤ most
+  pub near : length (next ++ behind) ≤ 512
   pub text : List ℕ
   pub said : says earlier text
   pub between : SinkState
@@ -71,18 +74,10 @@ pub record Stops (says : Says) (start out : SinkState) (bytes : List ℕ) (most 
   pub adds : says (earlier ++ next) (text ++ more)
   pub failed : WritesFront between out more
 
--- what a sink reported at first, and now
-pub record Output : Type 0 where
-  pub start : SinkState
-  pub now : SinkState
-
-abbrev pub output_of : SinkState → SinkState → Output
-output_of was is = record { start = was; now = is }
-
-abbrev pub TakesPiece : {E : Type 0} → Holds → Says → Result (Option ℕ) E → Output → List ℕ → ℕ → Type 0
-TakesPiece holds says (Ok None) output bytes most = TakesAll holds output.start output.now bytes
-TakesPiece holds says (Ok (Some number)) output bytes most = MeetsBad holds number output.start output.now bytes
-TakesPiece holds says (Err failed) output bytes most = Stops says output.start output.now bytes most
+-- why the taking of these bytes stopped in their last piece
+abbrev pub StopsTaking : Holds → Says → SinkState → SinkState → Stop → List ℕ → Type 0
+StopsTaking holds says start out (BadLine number) bytes = MeetsBad holds number start out bytes
+StopsTaking holds says start out WriteFault bytes = Stops says start out bytes
 
 -- what flows from a file to a sink: what both reported before and now
 pub record Flow : Type 0 where
@@ -110,7 +105,7 @@ pub record EndsItself (holds : Holds) (limit : ℕ) (flow : Flow) (end : LogEnd)
 pub record EndsStopped (says : Says) (limit : ℕ) (flow : Flow) : Type 0 where
   pub bytes : List ℕ
   pub read : HasReadFront limit flow.file flow.file_now bytes
-  pub stops : Stops says flow.out flow.out_now bytes 512
+  pub stops : Stops says flow.out flow.out_now bytes
 
 abbrev pub EndsTaking : {E : Type 0} → Holds → Says → ℕ → Flow → Result LogEnd E → Type 0
 EndsTaking holds says limit flow result = MatchResult result (EndsItself holds limit flow) (λ _. EndsStopped says limit flow)

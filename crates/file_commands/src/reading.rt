@@ -32,17 +32,26 @@ pub fn ending_at(subject: Subject, end: LogEnd) -> Ending
 /// What the first bytes give: a text of this many bytes at the beginning of the line, no text, or their bad line.
 pub type Gives = Result<Option<usize>, BadLine>;
 
-// Writes the text that bytes give. The answer is the number of their bad line, where there is one.
-pub fn write_given<K: Sink>(gives: Gives, line: &Line, out: &mut K) -> Result<Option<u64>, Failed>
+/// What stops the taking of a file before its end.
+#[derive(Clone, Copy, Debug, PartialEq, Eq)]
+pub enum Stop {
+    /// A line that is not valid, by its number from 1.
+    BadLine { line: u64 },
+    /// A write that failed.
+    WriteFault,
+}
+
+// Writes the text that bytes give, or stops at their bad line.
+fn write_given<K: Sink>(gives: Gives, line: &Line, out: &mut K) -> Result<(), Stop>
     requires { Fits gives }
     ensures { IsGiven result gives line.now (K.state out.old) (K.state out.new) }
 {
     match gives {
-        Ok(None) => Ok(None),
+        Ok(None) => Ok(()),
         Ok(Some(length)) => match write_all(out, &line[..length]) {
-            Ok(()) => Ok(None),
-            Err(Failed) => Err(Failed),
+            Ok(()) => Ok(()),
+            Err(Failed) => Err(Stop::WriteFault),
         },
-        Err(bad) => Ok(Some(bad.line)),
+        Err(bad) => Err(Stop::BadLine { line: bad.line }),
     }
 }

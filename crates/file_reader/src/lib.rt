@@ -2,9 +2,11 @@
 #![tactic(auto)]
 
 mod log_end;
+mod pieces;
 mod reader;
 mod whole;
 
 pub use log_end::LogEnd;
+pub use pieces::{PieceTaker, read_pieces};
 pub use reader::{FileEnd, FileReader, PIECE, Pulled};
 pub use whole::read_whole;

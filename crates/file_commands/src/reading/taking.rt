@@ -4,13 +4,14 @@ ghost use Rattle.feed_link.specs.Told.{SinkState};
 ghost use Rattle.journal_entry.specs.declared.writer.TheConstants.{LINE_ROOM};
 ghost use Rattle.file_commands.specs.Reading.{bad_in_the_end};
 ghost use Rattle.file_reader.specs.Ends.{EndsAt};
-ghost use Rattle.file_commands.specs.Taking.{Holds, Says, Fits, given, bad_of, TakesPiece, EndsTaking};
-ghost use Rattle.file_commands.specs.Taking.{flow_of, output_of};
+ghost use Rattle.file_commands.specs.Taking.{Holds, Says, Fits, given, bad_of};
+ghost use Rattle.file_commands.specs.Taking.{Flow, TakesAll, StopsTaking, EndsTaking, flow_of};
+ghost use Rattle.file_reader.specs.Pieces.{EndsPieces};
 ghost use Rattle.sink_text.specs.Writing.{WritesAll};
 
-use crate::reading::{Gives, Line, write_given};
+use crate::reading::{Gives, Line, Stop, write_given};
 use feed_link::{Failed, Sink, Source};
-use file_reader::{FileEnd, FileReader, LogEnd, Pulled};
+use file_reader::{FileEnd, LogEnd, PieceTaker, read_pieces};
 use journal_entry::LINE_ROOM;
 use pulse_log::Taken;
 
@@ -58,33 +59,65 @@ pub trait Taker {
         says of bytes text };
 }
 
-// Takes a piece of a file, up to a bad line or a write that fails. The answer is the number of that line, where there is one.
-fn take_piece<T: Taker, K: Sink>(
-    taker: &mut T,
-    piece: &[u8],
-    out: &mut K,
-) -> Result<Option<u64>, Failed>
-    requires ready { T.is_ready taker.old }
-    requires room { length piece.now < T.room taker.old }
-    ensures ready { T.is_ready taker.new }
-    ensures room { T.room taker.old ≤ T.room taker.new + length piece.now }
-    ensures takes { (of : T.Case) (bytes text : List ℕ) (start : SinkState) → T.holds taker.old of bytes text None →
-        WritesAll start (K.state out.old) text →
-        TakesPiece (T.holds taker.new of) (T.says of) result (output_of start (K.state out.new))
-        (bytes ++ piece.now) (length piece.now) }
-{
-    let mut line = [0; LINE_ROOM];
-    let mut rest = piece;
-    'rest: while !rest.is_empty() {
-        let took = taker.take(rest, &mut line);
-        match write_given(took.found, &line, out) {
-            Ok(None) => {}
-            Ok(Some(number)) => return Ok(Some(number)),
-            Err(Failed) => return Err(Failed),
+// Writes what a taker gives for the pieces of a file.
+#[derive(Drop)]
+struct Writing<'a, T, K> {
+    taker: &'a mut T,
+    out: &'a mut K,
+}
+
+impl<T: Taker, K: Sink> PieceTaker<Stop> for Writing<'_, T, K> {
+    ghost use Rattle.std.specs.Borrow.{GName};
+    ghost use Rattle.feed_link.specs.Told.{SinkState};
+    ghost use Rattle.file_commands.specs.Taking.{TakesAll, StopsTaking};
+
+    // The case of the taker, and what the sink had reported at first.
+    ghost Case = { T.Case × SinkState };
+
+    ghost has_taken = { λ writing of. TakesAll (T.holds writing.taker.now of.0) of.1 (K.state writing.out.now) };
+
+    ghost has_stopped = { λ writing of.
+        StopsTaking (T.holds writing.taker.now of.0) (T.says of.0) of.1 (K.state writing.out.now) };
+
+    // Which taker and which sink it has.
+    ghost Mark = { GName × GName };
+
+    ghost mark = { λ writing. (writing.taker.ghost_name, writing.out.ghost_name) };
+
+    ghost is_ready = { λ writing. T.is_ready writing.taker.now };
+
+    ghost room = { λ writing. T.room writing.taker.now };
+
+    // Takes a piece, and writes its text, up to a bad line or a write that fails.
+    fn take(&mut self, piece: &[u8]) -> Result<(), Stop> {
+        let mut line = [0; LINE_ROOM];
+        let mut rest = piece;
+        'rest: while !rest.is_empty() {
+            let took = self.taker.take(rest, &mut line);
+            match write_given(took.found, &line, self.out) {
+                Ok(()) => rest = rest.split_at(took.count).1,
+                Err(stop) => return Err(stop),
+            }
         }
-        rest = rest.split_at(took.count).1;
+        Ok(())
     }
-    Ok(None)
+}
+
+// Why the reading of a file ended, by what came of its pieces.
+fn end_of<T: Taker>(read: Result<FileEnd, Stop>, taker: &T) -> Result<LogEnd, Failed>
+    requires ready { T.is_ready taker.now }
+    requires room { 0 < T.room taker.now }
+    ensures { (of : T.Case) (limit : ℕ) (flow : Flow) → EndsPieces (TakesAll (T.holds taker.now of) flow.out flow.out_now)
+        (StopsTaking (T.holds taker.now of) (T.says of) flow.out flow.out_now) limit flow.file flow.file_now read →
+        EndsTaking (T.holds taker.now of) (T.says of) limit flow result }
+{
+    match read {
+        Ok(FileEnd::Whole) => Ok(taker.at_end()),
+        Ok(FileEnd::Fault) => Ok(LogEnd::Fault),
+        Ok(FileEnd::TooLong) => Ok(LogEnd::Long),
+        Err(Stop::BadLine { line }) => Ok(LogEnd::BadLine { line }),
+        Err(Stop::WriteFault) => Err(Failed),
+    }
 }
 
 /// Reads a file of at most this many bytes to its end, to its first bad line or to its first fault. A taker takes the bytes, as
@@ -105,17 +138,7 @@ pub fn read_lines<S: Source, T: Taker, K: Sink>(
         EndsTaking (T.holds taker.new of) (T.says of) limit
         (flow_of (S.state file.old) (S.state file.new) (K.state out.old) (K.state out.new)) result }
 {
-    let mut reader = FileReader::new(limit);
-    'pieces: loop {
-        match reader.pull(file) {
-            Pulled::Piece => match take_piece(taker, reader.piece(), out) {
-                Ok(None) => {}
-                Ok(Some(line)) => return Ok(LogEnd::BadLine { line }),
-                Err(Failed) => return Err(Failed),
-            },
-            Pulled::Ended(FileEnd::Whole) => return Ok(taker.at_end()),
-            Pulled::Ended(FileEnd::Fault) => return Ok(LogEnd::Fault),
-            Pulled::Ended(FileEnd::TooLong) => return Ok(LogEnd::Long),
-        }
-    }
+    let mut writing = Writing { taker, out };
+    let read = read_pieces(file, &mut writing, limit);
+    end_of(read, writing.taker)
 }

@@ -9,12 +9,12 @@ use Rattle.feed_workers.proofs.radio.hear_piece.Given as goal
 -- the bytes of the piece up to the rest were heard
 abbrev pub invariant-rest : goal.invariant-rest
 invariant-rest g l = record {
-  ready : IsReady (λ b. (goal.Receiver-dyn g (b.vtable, b.value)).least_start b.value) l.decoder;
+  ready : IsReady g.Q.Receiver.least_start l.decoder;
   feed : feed_of l.decoder ≡ feed_of l.fn.decoder;
-  pass : IsOfFeed g.N.HubName.table (length g.N.HubName.settings.sources) (feed_of l.fn.decoder) l.pass;
+  pass : IsOfFeed g.K.Keeper.table g.K.Keeper.sources (feed_of l.fn.decoder) l.pass;
   so_far : (tuning : Tuning) (begun : Claim) (bytes : List ℕ) →
-      HasHeard (λ b h. (goal.Receiver-dyn g (b.vtable, b.value)).stands_for b.value h) l.fn.decoder tuning (share_of begun l.fn.pass g.N.HubName.limit l.fn.full) bytes None →
-      HasHeardUpTo (λ b h. (goal.Receiver-dyn g (b.vtable, b.value)).stands_for b.value h) l.decoder tuning (share_of begun l.pass g.N.HubName.limit l.full) (bytes ++ l.fn.piece) l.rest;
+      HasHeard g.Q.Receiver.stands_for l.fn.decoder tuning (share_of begun l.fn.pass g.K.Keeper.limit l.fn.full) bytes None →
+      HasHeardUpTo g.Q.Receiver.stands_for l.decoder tuning (share_of begun l.pass g.K.Keeper.limit l.full) (bytes ++ l.fn.piece) l.rest;
 }
 
 abbrev pub decreases-rest : goal.decreases-rest
