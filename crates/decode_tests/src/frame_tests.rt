@@ -1,18 +1,10 @@
 //! The frames of the three plans, which read mark by mark, answer as the readers of slices do.
-use crate::shared::{MSF_A, NOON, WWVB_MARKERS, moment};
+ghost use Rattle.std.specs.Prelude.{◌≤◌, ◌<◌};
+
+use crate::shared::{MSF_A, NOON, WWVB_MARKERS, moment, same};
 use frame_rules::{CodePlan, Frame, Segment};
 use std::process::Abort;
-use std::test::Fail;
 use tick_units::{Broken, Coded, Local, Mark, Plan, Symbol};
-
-const SYMBOLS: [Symbol; 6] = [
-    Symbol::Zero,
-    Symbol::One,
-    Symbol::OnlyB,
-    Symbol::Both,
-    Symbol::Long,
-    Symbol::Odd,
-];
 
 // Seventy symbols, of a valid minute and more: 1 January 2026, 13:00 CET, by PTB's table.
 fn dcf_symbol(place: usize) -> Symbol {
@@ -43,20 +35,20 @@ fn wwvb_symbol(place: usize) -> Symbol {
 }
 
 // The start of the mark of a place where `moved` is 100000 microseconds, and as much later as it is more.
-fn start_of(place: usize, moved: u64) -> Result<Local, Fail> {
+fn start_of(place: usize, moved: u64) -> Local {
     moment(1_900_000 + 1_000_000 * (place % 100) as u64 + moved % 1_000_000)
 }
 
-fn seventy(symbols: &[Symbol; 70]) -> Result<[Mark; 70], Fail> {
+fn seventy(symbols: &[Symbol; 70]) -> [Mark; 70] {
     let mut marks = [Mark {
-        at: moment(0)?,
+        at: moment(0),
         symbol: Symbol::Zero,
     }; 70];
     for (place, mark) in marks.iter_mut().enumerate() {
-        mark.at = start_of(place, 100_000)?;
+        mark.at = start_of(place, 100_000);
         mark.symbol = symbols[place];
     }
-    Ok(marks)
+    marks
 }
 
 // What a frame comes to, where it reads these marks one by one.
@@ -68,91 +60,122 @@ fn read_one_by_one<C: CodePlan>(segment: &[Mark], close: Local) -> Result<Coded,
     frame.close(close)
 }
 
-// What a segment comes to, where the slice and the frame agree.
-fn read_both<C: CodePlan>(segment: &[Mark], close: Local) -> Result<Result<Coded, Broken>, Fail> {
+// What a segment comes to; the slice and the frame agree on that.
+fn read_both<C: CodePlan>(
+    rt: &impl Abort,
+    segment: &[Mark],
+    close: Local,
+) -> Result<Coded, Broken> {
     let wanted = C::judge(&Segment { marks: segment }, close);
-    let agreed = if read_one_by_one::<C>(segment, close) == wanted {
-        Some(wanted)
-    } else {
-        None
-    };
-    Ok(agreed.ok_or("the frame answers otherwise than the slice")?)
+    same(rt, read_one_by_one::<C>(segment, close), wanted);
+    wanted
+}
+
+// Reads so many of these marks in both ways, closed this much after them.
+fn agree_on_front<C: CodePlan>(rt: &impl Abort, marks: &[Mark; 70], count: usize, moved: u64)
+    requires { count ≤ 70 }
+{
+    let _ = read_both::<C>(rt, &marks[..count], start_of(count, moved));
 }
 
 // Reads prefixes of these marks in both ways, closed a second after them.
-fn agree_on_fronts<C: CodePlan>(marks: &[Mark]) -> Result<(), Fail> {
-    for count in [1usize, 58, 59, 60, 61, 62, 70] {
-        let front = marks.get(..count).ok_or("count")?;
-        let _ = read_both::<C>(front, start_of(count, 100_000)?)?;
-    }
-    Ok(())
+fn agree_on_fronts<C: CodePlan>(rt: &impl Abort, marks: &[Mark; 70]) {
+    agree_on_front::<C>(rt, marks, 1, 100_000);
+    agree_on_front::<C>(rt, marks, 58, 100_000);
+    agree_on_front::<C>(rt, marks, 59, 100_000);
+    agree_on_front::<C>(rt, marks, 60, 100_000);
+    agree_on_front::<C>(rt, marks, 61, 100_000);
+    agree_on_front::<C>(rt, marks, 62, 100_000);
+    agree_on_front::<C>(rt, marks, 70, 100_000);
+}
+
+// A minute in which the mark of one place has this symbol.
+fn agree_with_symbol<C: CodePlan>(
+    rt: &impl Abort,
+    symbols: &[Symbol; 70],
+    place: usize,
+    symbol: Symbol,
+)
+    requires { place < 70 }
+{
+    let mut changed = seventy(symbols);
+    changed[place].symbol = symbol;
+    agree_on_fronts::<C>(rt, &changed);
 }
 
 // Each symbol at each place, within a minute and after it.
-fn agree_on_symbols<C: CodePlan>(symbols: &[Symbol; 70]) -> Result<(), Fail> {
+fn agree_on_symbols<C: CodePlan>(rt: &impl Abort, symbols: &[Symbol; 70]) {
     for place in 0..70 {
-        for symbol in SYMBOLS {
-            let mut changed = seventy(symbols)?;
-            changed[place].symbol = symbol;
-            agree_on_fronts::<C>(&changed)?;
-        }
+        agree_with_symbol::<C>(rt, symbols, place, Symbol::Zero);
+        agree_with_symbol::<C>(rt, symbols, place, Symbol::One);
+        agree_with_symbol::<C>(rt, symbols, place, Symbol::OnlyB);
+        agree_with_symbol::<C>(rt, symbols, place, Symbol::Both);
+        agree_with_symbol::<C>(rt, symbols, place, Symbol::Long);
+        agree_with_symbol::<C>(rt, symbols, place, Symbol::Odd);
     }
-    Ok(())
+}
+
+// A minute in which the mark of one place is moved.
+fn agree_with_start<C: CodePlan>(rt: &impl Abort, symbols: &[Symbol; 70], place: usize, moved: u64)
+    requires { place < 70 }
+{
+    let mut changed = seventy(symbols);
+    changed[place].at = start_of(place, moved);
+    agree_on_fronts::<C>(rt, &changed);
 }
 
 // Each mark too early, too late, and just in time.
-fn agree_on_starts<C: CodePlan>(symbols: &[Symbol; 70]) -> Result<(), Fail> {
+fn agree_on_starts<C: CodePlan>(rt: &impl Abort, symbols: &[Symbol; 70]) {
     for place in 0..70 {
-        for moved in [0u64, 199_999, 200_000, 200_001, 300_000] {
-            let mut changed = seventy(symbols)?;
-            changed[place].at = start_of(place, moved)?;
-            agree_on_fronts::<C>(&changed)?;
-        }
+        agree_with_start::<C>(rt, symbols, place, 0);
+        agree_with_start::<C>(rt, symbols, place, 199_999);
+        agree_with_start::<C>(rt, symbols, place, 200_000);
+        agree_with_start::<C>(rt, symbols, place, 200_001);
+        agree_with_start::<C>(rt, symbols, place, 300_000);
     }
-    Ok(())
 }
 
 // Segments of each length, closed too early, too late, and just in time.
-fn agree_on_lengths<C: CodePlan>(symbols: &[Symbol; 70]) -> Result<(), Fail> {
-    let marks = seventy(symbols)?;
+fn agree_on_lengths<C: CodePlan>(rt: &impl Abort, marks: &[Mark; 70]) {
     for count in 0..71 {
-        for moved in [0u64, 199_999, 200_000, 200_001, 300_000] {
-            let _ = read_both::<C>(&marks[..count], start_of(count, moved)?)?;
-        }
+        agree_on_front::<C>(rt, marks, count, 0);
+        agree_on_front::<C>(rt, marks, count, 199_999);
+        agree_on_front::<C>(rt, marks, count, 200_000);
+        agree_on_front::<C>(rt, marks, count, 200_001);
+        agree_on_front::<C>(rt, marks, count, 300_000);
     }
-    Ok(())
+}
+
+// Seventy marks, of which one is odd and one is late, where they are among them, break this rule.
+fn refuse<C: CodePlan>(rt: &impl Abort, symbols: &[Symbol; 70], odd: usize, late: usize, rule: u8) {
+    let mut marks = seventy(symbols);
+    if odd < 70 {
+        marks[odd].symbol = Symbol::Odd;
+    }
+    if late < 70 {
+        marks[late].at = start_of(late, 200_001);
+    }
+    let read = read_both::<C>(rt, &marks, start_of(70, 100_000));
+    same(rt, (odd, late, read), (odd, late, Err(Broken { rule })));
 }
 
 // Seventy marks are refused by their length; by an odd width, or by their spacing, wherever they are.
-fn refuse_a_long_segment<C: CodePlan>(rt: &impl Abort, symbols: &[Symbol; 70]) -> Result<(), Fail> {
-    let rows = [
-        (70, 70, 3),
-        (64, 70, 2),
-        (3, 70, 2),
-        (70, 61, 1),
-        (70, 69, 1),
-        (64, 65, 1),
-        (70, 2, 1),
-    ];
-    for (odd, late, rule) in rows {
-        let mut marks = seventy(symbols)?;
-        if odd < 70 {
-            marks[odd].symbol = Symbol::Odd;
-        }
-        if late < 70 {
-            marks[late].at = start_of(late, 200_001)?;
-        }
-        let read = read_both::<C>(&marks, start_of(70, 100_000)?)?;
-        assert_eq!(rt; read, Err(Broken { rule }), "{odd} {late}");
-    }
-    Ok(())
+fn refuse_a_long_segment<C: CodePlan>(rt: &impl Abort, symbols: &[Symbol; 70]) {
+    refuse::<C>(rt, symbols, 70, 70, 3);
+    refuse::<C>(rt, symbols, 64, 70, 2);
+    refuse::<C>(rt, symbols, 3, 70, 2);
+    refuse::<C>(rt, symbols, 70, 61, 1);
+    refuse::<C>(rt, symbols, 70, 69, 1);
+    refuse::<C>(rt, symbols, 64, 65, 1);
+    refuse::<C>(rt, symbols, 70, 2, 1);
 }
 
-fn agree<C: CodePlan>(rt: &impl Abort, symbols: &[Symbol; 70]) -> Result<(), Fail> {
-    agree_on_symbols::<C>(symbols)?;
-    agree_on_starts::<C>(symbols)?;
-    agree_on_lengths::<C>(symbols)?;
-    refuse_a_long_segment::<C>(rt, symbols)
+fn agree<C: CodePlan>(rt: &impl Abort, symbols: &[Symbol; 70]) {
+    let marks = seventy(symbols);
+    agree_on_symbols::<C>(rt, symbols);
+    agree_on_starts::<C>(rt, symbols);
+    agree_on_lengths::<C>(rt, &marks);
+    refuse_a_long_segment::<C>(rt, symbols);
 }
 
 fn symbols_by(plan: Plan) -> [Symbol; 70] {
@@ -168,8 +191,8 @@ fn symbols_by(plan: Plan) -> [Symbol; 70] {
 }
 
 #[test]
-fn frames_agree_with_slices(rt: HostRuntime) -> Result<(), Fail> {
-    agree::<plan_dcf::Dcf>(&rt, &symbols_by(Plan::Dcf))?;
-    agree::<plan_msf::Msf>(&rt, &symbols_by(Plan::Msf))?;
-    agree::<plan_wwvb::Wwvb>(&rt, &symbols_by(Plan::Wwvb))
+fn frames_agree_with_slices(rt: HostRuntime) {
+    agree::<plan_dcf::Dcf>(&rt, &symbols_by(Plan::Dcf));
+    agree::<plan_msf::Msf>(&rt, &symbols_by(Plan::Msf));
+    agree::<plan_wwvb::Wwvb>(&rt, &symbols_by(Plan::Wwvb));
 }

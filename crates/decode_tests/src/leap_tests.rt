@@ -1,6 +1,6 @@
 //! A leap second is believed where both of two neighbouring frames announce it. Two that differ are tried in `minute_pair`, at the function that
 //! compares them.
-use crate::shared::mark_at;
+use crate::shared::{mark_at, same};
 use minute_pair::Pairing;
 use std::process::Abort;
 use tick_units::{Heard, Kind, Plan, Symbol};
@@ -68,7 +68,7 @@ fn hear_minute(
     let mut first = None;
     for place in 0..count {
         let start = begin.saturating_add(place as u64).saturating_mul(1_000_000);
-        let mark = mark_at(start, symbol_at(plan, minute, place))?;
+        let mark = mark_at(start, symbol_at(plan, minute, place));
         let heard = pairing.hear(mark);
         if place == 0 {
             first = heard;
@@ -83,49 +83,75 @@ fn after_two(plan: Plan, first: &Minute<'_>, second: &Minute<'_>) -> Option<Kind
     let _ = hear_minute(&mut pairing, plan, first, 0);
     let _ = hear_minute(&mut pairing, plan, first, 60);
     let _ = hear_minute(&mut pairing, plan, second, 120);
-    let heard = hear_minute(&mut pairing, plan, second, 180)?;
-    Some(heard.kind)
-}
-
-// Each way in which two neighbouring frames announce the same leap second, or do not.
-fn believes_both(
-    rt: &impl Abort,
-    plan: Plan,
-    first: &[usize],
-    second: &[usize],
-    minute: u64,
-    leap_at: u64,
-) {
-    for (was, is) in [(false, false), (false, true), (true, false), (true, true)] {
-        let first = Minute {
-            ones: first,
-            announces: was,
-        };
-        let second = Minute {
-            ones: second,
-            announces: is,
-        };
-        let kind = Kind::Verdict {
-            second: minute,
-            leap_at: if was && is { leap_at } else { 0 },
-        };
-        assert_eq!(rt; after_two(plan, &first, &second), Some(kind), "{was} {is}");
+    match hear_minute(&mut pairing, plan, second, 180) {
+        Some(heard) => Some(heard.kind),
+        None => None,
     }
 }
 
+// Two neighbouring minutes of a plan, by the places that are One, and the second and the leap second that they say.
+#[derive(Clone, Copy)]
+struct Neighbours {
+    plan: Plan,
+    first: &'static [usize],
+    second: &'static [usize],
+    minute: u64,
+    leap_at: u64,
+}
+
+// The frames announce the leap second or do not, and this one is believed.
+fn believes(rt: &impl Abort, pair: &Neighbours, was: bool, is: bool, leap_at: u64) {
+    let first = Minute {
+        ones: pair.first,
+        announces: was,
+    };
+    let second = Minute {
+        ones: pair.second,
+        announces: is,
+    };
+    let kind = Kind::Verdict {
+        second: pair.minute,
+        leap_at,
+    };
+    let found = after_two(pair.plan, &first, &second);
+    same(rt, (was, is, found), (was, is, Some(kind)));
+}
+
+// Each way in which two neighbouring frames announce the same leap second, or do not.
+fn believes_both(rt: &impl Abort, pair: &Neighbours) {
+    believes(rt, pair, false, false, 0);
+    believes(rt, pair, false, true, 0);
+    believes(rt, pair, true, false, 0);
+    believes(rt, pair, true, true, pair.leap_at);
+}
+
+const IN_WINTER: Neighbours = Neighbours {
+    plan: Plan::Dcf,
+    first: &WINTER,
+    second: &WINTER_LATER,
+    minute: END_OF_2016 - 60,
+    leap_at: END_OF_2016,
+};
+
+const IN_SUMMER: Neighbours = Neighbours {
+    plan: Plan::Dcf,
+    first: &SUMMER,
+    second: &SUMMER_LATER,
+    minute: END_OF_JUNE_2015 - 3540,
+    leap_at: END_OF_JUNE_2015,
+};
+
+const BY_WWVB: Neighbours = Neighbours {
+    plan: Plan::Wwvb,
+    first: &WWVB_WINTER,
+    second: &WWVB_WINTER_LATER,
+    minute: END_OF_2016 - 60,
+    leap_at: END_OF_2016,
+};
+
 #[test]
 fn a_leap_second_of_one_frame_is_not_believed(rt: HostRuntime) {
-    let at = END_OF_2016 - 60;
-    believes_both(&rt, Plan::Dcf, &WINTER, &WINTER_LATER, at, END_OF_2016);
-    let at = END_OF_JUNE_2015 - 3540;
-    believes_both(&rt, Plan::Dcf, &SUMMER, &SUMMER_LATER, at, END_OF_JUNE_2015);
-    let at = END_OF_2016 - 60;
-    believes_both(
-        &rt,
-        Plan::Wwvb,
-        &WWVB_WINTER,
-        &WWVB_WINTER_LATER,
-        at,
-        END_OF_2016,
-    );
+    believes_both(&rt, &IN_WINTER);
+    believes_both(&rt, &IN_SUMMER);
+    believes_both(&rt, &BY_WWVB);
 }

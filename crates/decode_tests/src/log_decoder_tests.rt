@@ -3,12 +3,13 @@
 ghost use Rattle.std.specs.Prelude.{◌≡◌, ◌≤◌};
 ghost use Rattle.log_decoder.specs.Decoding.{IsReady};
 
-use crate::shared::{NOON, NOON_1};
+use crate::shared::{NOON, NOON_1, same};
 use journal_entry::{ENTRY_ROOM, Entry, write_entry};
 use log_decoder::LogDecoder;
 use pulse_log::{BadLine, Taken};
 use radio_receiver::{BoxedReceiver, DcfReceiver, Receiver};
 use std::alloc::Global;
+use std::process::Abort;
 use std::test::Fail;
 
 // The lines of a frame that starts at this microsecond.
@@ -94,27 +95,42 @@ fn text_of(
 fn each_minute_is_an_entry_of_the_feed_less_the_delay(rt: HostRuntime) -> Result<(), Fail> {
     let log = two_frames(rt.alloc())?;
     let (text, end) = text_of(rt.alloc(), 3, 2_500, log.as_bytes())?;
-    assert_eq!(rt; end, Ok(()));
-    assert_eq!(rt;
+    same(&rt, end, Ok(()));
+    same(
+        &rt,
         text.as_slice(),
-        b"3 61997500 lone 3976257600\n3 121997500 verdict 3976257660 0\n".as_slice()
+        b"3 61997500 lone 3976257600\n3 121997500 verdict 3976257660 0\n",
     );
+    Ok(())
+}
+
+// A log that gives no entry, and how it ends.
+type Row<'a> = (&'a str, Result<(), BadLine>);
+
+const SHORT: [Row<'static>; 4] = [
+    ("0 100000\n0 100000\n5 100000\n", Err(BadLine { line: 2 })),
+    ("0 100000\n7 100000", Err(BadLine { line: 2 })),
+    ("0 100000\n7 100000\n", Ok(())),
+    ("", Ok(())),
+];
+
+fn ends(rt: &impl Abort, alloc: Global, row: &Row<'_>) -> Result<(), Fail> {
+    let (log, want) = *row;
+    let (text, end) = text_of(alloc, 0, 0, log.as_bytes())?;
+    same(rt, (log, text.len(), end), (log, 0, want));
+    Ok(())
+}
+
+fn all_end(rt: &impl Abort, alloc: Global, rows: &[Row<'_>]) -> Result<(), Fail> {
+    for row in rows {
+        ends(rt, alloc, row)?;
+    }
     Ok(())
 }
 
 #[test]
 fn a_bad_line_ends_the_log(rt: HostRuntime) -> Result<(), Fail> {
-    let table = [
-        ("0 100000\n0 100000\n5 100000\n", Err(BadLine { line: 2 })),
-        ("0 100000\n7 100000", Err(BadLine { line: 2 })),
-        ("0 100000\n7 100000\n", Ok(())),
-        ("", Ok(())),
-    ];
-    for (log, want) in table {
-        let (text, end) = text_of(rt.alloc(), 0, 0, log.as_bytes())?;
-        assert_eq!(rt; (text.len(), end), (0, want));
-    }
-    Ok(())
+    all_end(&rt, rt.alloc(), &SHORT)
 }
 
 // The lines of the entries of feed 3, by a receiver whose type is known, and the bad line.
@@ -128,29 +144,42 @@ fn decoded_by<R: Receiver>(
     decoded(LogDecoder::new(3, Box::into_inner(receiver)), bytes, text)
 }
 
-#[test]
-fn a_receiver_of_a_known_type_gives_the_same_entries(rt: HostRuntime) -> Result<(), Fail> {
-    let log = two_frames(rt.alloc())?;
-    let mut text = Vec::new(rt.alloc());
-    let receiver = Box::new(rt.alloc(), DcfReceiver::new())?;
-    assert_eq!(rt; decoded_by(receiver, log.as_bytes(), &mut text)?, Ok(()));
-    assert_eq!(rt;
-        text.as_slice(),
-        b"3 62000000 lone 3976257600\n3 122000000 verdict 3976257660 0\n".as_slice()
-    );
-    for (log, want) in [
-        ("0 100000\n0 100000\n5 100000\n", Err(BadLine { line: 2 })),
-        ("0 100000\n7 100000", Err(BadLine { line: 2 })),
-        ("0 100000\n7 100000\n", Ok(())),
-    ] {
-        let mut text = Vec::new(rt.alloc());
-        let receiver = Box::new(rt.alloc(), DcfReceiver::new())?;
-        assert_eq!(rt;
-            decoded_by(receiver, log.as_bytes(), &mut text)?,
-            want,
-            "in {log}"
-        );
-        assert!(rt; text.is_empty());
+// The text of a log of DCF77 for feed 3, by a receiver of a known type, and its bad line.
+fn known_text_of(alloc: Global, bytes: &[u8]) -> Result<(Vec<u8>, Result<(), BadLine>), Fail> {
+    let receiver = Box::new(alloc, DcfReceiver::new())?;
+    let mut text = Vec::new(alloc);
+    let end = decoded_by(receiver, bytes, &mut text)?;
+    Ok((text, end))
+}
+
+fn ends_known(rt: &impl Abort, alloc: Global, row: &Row<'_>) -> Result<(), Fail> {
+    let (log, want) = *row;
+    let (text, end) = known_text_of(alloc, log.as_bytes())?;
+    same(rt, (log, text.len(), end), (log, 0, want));
+    Ok(())
+}
+
+fn all_end_known(rt: &impl Abort, alloc: Global, rows: &[Row<'_>]) -> Result<(), Fail> {
+    for row in rows {
+        ends_known(rt, alloc, row)?;
     }
     Ok(())
+}
+
+fn gives_minutes(rt: &impl Abort, alloc: Global) -> Result<(), Fail> {
+    let log = two_frames(alloc)?;
+    let (text, end) = known_text_of(alloc, log.as_bytes())?;
+    same(rt, end, Ok(()));
+    same(
+        rt,
+        text.as_slice(),
+        b"3 62000000 lone 3976257600\n3 122000000 verdict 3976257660 0\n",
+    );
+    Ok(())
+}
+
+#[test]
+fn a_receiver_of_a_known_type_gives_the_same_entries(rt: HostRuntime) -> Result<(), Fail> {
+    gives_minutes(&rt, rt.alloc())?;
+    all_end_known(&rt, rt.alloc(), &SHORT)
 }

@@ -208,7 +208,7 @@ fn lines_are_written(rt: HostRuntime) -> Result<(), Fail> {
         ),
     ];
     for (at, width, want) in table {
-        let at = moment(at)?;
+        let at = moment(at);
         let mut out = [b'#'; 40];
         let length = write_line(Reduction { at, width }, &mut out);
         same(&rt, out.as_slice(), want.as_bytes());

@@ -5,6 +5,7 @@ use crate::shared::{SUM_OF_NONE, same, sum_on};
 use feed_link::{Failed, MemorySink};
 use pulse_maker::make;
 use std::alloc::Global;
+use std::process::Abort;
 use std::test::Fail;
 use tick_units::Plan;
 
@@ -31,44 +32,67 @@ fn make_log(alloc: Global, plan: Plan, minutes: u32, fails: Vec<u64>) -> Making
     }
 }
 
+// How many lines a text has.
+fn lines_of(text: &[u8]) -> usize {
+    let mut lines = 0usize;
+    for byte in text {
+        if *byte == b'\n' {
+            lines = lines.saturating_add(1);
+        }
+    }
+    lines
+}
+
 // The first number of the generator for DCF77 is 1282168116, which is 1353 modulo 2001.
 #[test]
-fn a_log_begins_with_the_mark_before_its_first_minute(rt: HostRuntime) -> Result<(), Fail> {
+fn a_log_begins_with_the_mark_before_its_first_minute(rt: HostRuntime) {
     let dcf = make_log(rt.alloc(), Plan::Dcf, 1, Vec::new(rt.alloc()));
-    same(&rt, dcf.ended, Ok(61));
-    assert!(rt; dcf.text.starts_with(b"5001353 100000\n"));
     same(
         &rt,
-        dcf.text.iter().filter(|byte| **byte == b'\n').count(),
-        61,
+        (dcf.ended, lines_of(dcf.text.as_slice())),
+        (Ok(61), 61),
     );
-    Ok(())
+    assert!(rt; dcf.text.starts_with(b"5001353 100000\n"));
+}
+
+// A log of eight minutes of a plan has so many lines, this length and this checksum.
+fn is_made(rt: &impl Abort, alloc: Global, plan: Plan, lines: u64, length: usize, sum: u64) {
+    let made = make_log(alloc, plan, 8, Vec::new(alloc));
+    let found = (
+        made.ended,
+        made.text.len(),
+        sum_on(SUM_OF_NONE, made.text.as_slice()),
+    );
+    same(rt, found, (Ok(lines), length, sum));
 }
 
 // The numbers of lines, the lengths and the checksums of logs that a separate program made by the same description
 // (`bench/made_log.py`). Minute 7 of eight is damaged.
 #[test]
-fn logs_are_those_of_another_program(rt: HostRuntime) -> Result<(), Fail> {
-    for (plan, lines, length, sum) in [
-        (Plan::Dcf, 474, 7960, 0x6141_14cb_f4a1_ee65),
-        (Plan::Msf, 482, 8097, 0xe4fa_b4ca_dc2d_3bf1),
-        (Plan::Wwvb, 482, 8095, 0x5251_b4a7_428e_3f61),
-    ] {
-        let made = make_log(rt.alloc(), plan, 8, Vec::new(rt.alloc()));
-        same(&rt, made.ended, Ok(lines));
-        same(&rt, made.text.len(), length);
-        same(&rt, sum_on(SUM_OF_NONE, &made.text), sum);
-    }
+fn logs_are_those_of_another_program(rt: HostRuntime) {
+    is_made(&rt, rt.alloc(), Plan::Dcf, 474, 7960, 0x6141_14cb_f4a1_ee65);
+    is_made(&rt, rt.alloc(), Plan::Msf, 482, 8097, 0xe4fa_b4ca_dc2d_3bf1);
+    is_made(
+        &rt,
+        rt.alloc(),
+        Plan::Wwvb,
+        482,
+        8095,
+        0x5251_b4a7_428e_3f61,
+    );
+}
+
+// A log whose write of this number fails holds this.
+fn ends_with(rt: &impl Abort, alloc: Global, failing: u64, text: &[u8]) -> Result<(), Fail> {
+    let fails = Vec::from_slice(alloc, &[failing])?;
+    let made = make_log(alloc, Plan::Dcf, 1, fails);
+    same(rt, made.ended, Err(Failed));
+    same(rt, made.text.as_slice(), text);
     Ok(())
 }
 
 #[test]
 fn a_log_ends_where_a_write_fails(rt: HostRuntime) -> Result<(), Fail> {
-    let none = make_log(rt.alloc(), Plan::Dcf, 1, vec![in rt.alloc(); 1u64]?);
-    same(&rt, none.ended, Err(Failed));
-    assert!(rt; none.text.is_empty());
-    let one = make_log(rt.alloc(), Plan::Dcf, 1, vec![in rt.alloc(); 2u64]?);
-    same(&rt, one.ended, Err(Failed));
-    same(&rt, one.text.as_slice(), b"5001353 100000\n".as_slice());
-    Ok(())
+    ends_with(&rt, rt.alloc(), 1, b"")?;
+    ends_with(&rt, rt.alloc(), 2, b"5001353 100000\n")
 }

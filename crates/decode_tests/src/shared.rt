@@ -2,12 +2,10 @@
 //! log.
 ghost use Rattle.std.specs.Prelude.{◌≡◌, ◌≤◌};
 
-use radio_receiver::Receiver;
-use std::alloc::Global;
+use radio_receiver::{BoxedReceiver, Receiver};
 use std::fmt::Debug;
 use std::process::Abort;
-use std::test::Fail;
-use tick_units::{Heard, Kind, Local, Mark, Reduction, Symbol};
+use tick_units::{Heard, Kind, Local, Mark, Plan, Reduction, Symbol};
 
 // Does what `assert_eq!` does, as a call. In a test with many of them, calls are proved in a third of the time.
 pub fn same<T: PartialEq + Debug + Drop>(rt: &impl Abort, left: T, right: T) {
@@ -19,92 +17,109 @@ pub const NOON: [usize; 12] = [18, 20, 29, 30, 33, 35, 36, 44, 45, 51, 52, 55];
 
 pub const NOON_1: [usize; 14] = [18, 20, 21, 28, 29, 30, 33, 35, 36, 44, 45, 51, 52, 55];
 
-// The places with bit A 1, and those with bit B 1, in a frame of MSF, by NPL's table: 1 January 2026, 12:00.
+// The places with bit A 1, and those with bit B 1 except for place 1, in a frame of MSF, by NPL's table: 1 January 2026, 12:00.
 pub const MSF_A: [usize; 14] = [19, 22, 23, 29, 35, 36, 40, 43, 53, 54, 55, 56, 57, 58];
 
-const MSF_B: [usize; 3] = [1, 55, 57];
+const MSF_B: [usize; 2] = [55, 57];
 
 // The places that are One in a frame of WWVB, and its markers, by NIST's table: 31 December 2024, 00:00.
 const WWVB_ONES: [usize; 10] = [22, 23, 26, 27, 31, 32, 36, 38, 47, 51];
 
 pub const WWVB_MARKERS: [usize; 7] = [0, 9, 19, 29, 39, 49, 59];
 
-// The host's counter at this microsecond.
-pub fn moment(microseconds: u64) -> Result<Local, Fail> {
-    Ok(Local::new(microseconds).ok_or("no moment")?)
+// The host's counter at this microsecond, up to its last.
+pub fn moment(microseconds: u64) -> Local {
+    Local::new(microseconds.min((1 << 50) - 1)).unwrap()
 }
 
-pub fn mark_at(start: u64, symbol: Symbol) -> Option<Mark> {
-    Some(Mark {
-        at: Local::new(start)?,
+pub fn mark_at(start: u64, symbol: Symbol) -> Mark {
+    Mark {
+        at: moment(start),
         symbol,
-    })
+    }
 }
 
-pub fn reduction(at: u64, width: u32) -> Result<Reduction, Fail> {
-    let at = moment(at)?;
-    Ok(Reduction { at, width })
-}
-
-pub fn push(list: &mut Vec<Reduction>, at: u64, width: u32) -> Result<(), Fail> {
-    list.push(reduction(at, width)?)?;
-    Ok(())
+pub fn reduction(at: u64, width: u32) -> Reduction
+    ensures { result.width ≡ width }
+{
+    Reduction {
+        at: moment(at),
+        width,
+    }
 }
 
 fn start_of(place: usize) -> u64 {
     2_000_000u64.saturating_add(1_000_000u64.saturating_mul(place as u64))
 }
 
-pub fn dcf_minute(alloc: Global) -> Result<Vec<Reduction>, Fail> {
-    let mut list = Vec::new(alloc);
-    push(&mut list, 0, 100_000)?;
-    for place in 0..59usize {
-        let is_one = NOON.contains(&place);
-        push(
-            &mut list,
-            start_of(place),
-            if is_one { 200_000 } else { 100_000 },
-        )?;
-    }
-    push(&mut list, 62_000_000, 100_000)?;
-    Ok(list)
+// The second of this place of a minute of DCF77.
+fn dcf_second(place: usize) -> Reduction {
+    let is_one = NOON.contains(&place);
+    reduction(start_of(place), if is_one { 200_000 } else { 100_000 })
 }
 
-pub fn msf_minute(alloc: Global) -> Result<Vec<Reduction>, Fail> {
-    let mut list = Vec::new(alloc);
-    push(&mut list, 2_000_000, 500_000)?;
-    for place in 1..60usize {
-        let at = start_of(place);
-        match (MSF_A.contains(&place), MSF_B.contains(&place)) {
-            (false, false) => push(&mut list, at, 100_000)?,
-            (true, false) => push(&mut list, at, 200_000)?,
-            (true, true) => push(&mut list, at, 300_000)?,
-            (false, true) => {
-                push(&mut list, at, 100_000)?;
-                push(&mut list, at.saturating_add(200_000), 100_000)?;
-            }
-        }
-    }
-    push(&mut list, 62_000_000, 500_000)?;
-    push(&mut list, 63_000_000, 100_000)?;
-    Ok(list)
-}
-
-pub fn wwvb_minute(alloc: Global) -> Result<Vec<Reduction>, Fail> {
-    let mut list = Vec::new(alloc);
-    push(&mut list, 1_000_000, 800_000)?;
-    for place in 0..60usize {
-        let width = if WWVB_MARKERS.contains(&place) {
-            800_000
-        } else if WWVB_ONES.contains(&place) {
-            500_000
-        } else {
-            200_000
+// The mark before a minute of DCF77, its 59 marks, and the one that closes it.
+pub fn dcf_minute() -> [Reduction; 61] {
+    let mut list = [reduction(0, 100_000); 61];
+    for (number, kept) in list.iter_mut().enumerate() {
+        *kept = match number {
+            0 => reduction(0, 100_000),
+            60 => reduction(62_000_000, 100_000),
+            _ => dcf_second(number.saturating_sub(1)),
         };
-        push(&mut list, start_of(place), width)?;
     }
-    push(&mut list, 62_000_000, 800_000)?;
-    Ok(list)
+    list
+}
+
+// The second of this place of a minute of MSF, in one part.
+fn msf_second(place: usize) -> Reduction {
+    let width = match (MSF_A.contains(&place), MSF_B.contains(&place)) {
+        (false, _) => 100_000,
+        (true, false) => 200_000,
+        (true, true) => 300_000,
+    };
+    reduction(start_of(place), width)
+}
+
+// A minute of MSF, whose second at place 1 has two parts, and two marks after it.
+pub fn msf_minute() -> [Reduction; 63] {
+    let mut list = [reduction(2_000_000, 500_000); 63];
+    for (number, kept) in list.iter_mut().enumerate() {
+        *kept = match number {
+            0 => reduction(2_000_000, 500_000),
+            1 => reduction(3_000_000, 100_000),
+            2 => reduction(3_200_000, 100_000),
+            61 => reduction(62_000_000, 500_000),
+            62 => reduction(63_000_000, 100_000),
+            _ => msf_second(number.saturating_sub(1)),
+        };
+    }
+    list
+}
+
+// The second of this place of a minute of WWVB.
+fn wwvb_second(place: usize) -> Reduction {
+    let width = if WWVB_MARKERS.contains(&place) {
+        800_000
+    } else if WWVB_ONES.contains(&place) {
+        500_000
+    } else {
+        200_000
+    };
+    reduction(start_of(place), width)
+}
+
+// The marker before a minute of WWVB, its 60 marks, and the marker that closes it.
+pub fn wwvb_minute() -> [Reduction; 62] {
+    let mut list = [reduction(1_000_000, 800_000); 62];
+    for (number, kept) in list.iter_mut().enumerate() {
+        *kept = match number {
+            0 => reduction(1_000_000, 800_000),
+            61 => reduction(62_000_000, 800_000),
+            _ => wwvb_second(number.saturating_sub(1)),
+        };
+    }
+    list
 }
 
 // The last answer of a receiver with a path delay to reductions, as far as their starts rise.
@@ -134,9 +149,25 @@ pub fn last_answer(
     last
 }
 
+// A receiver of this plan, with a path delay, answers so at last.
+pub fn hears(
+    rt: &impl Abort,
+    receiver: BoxedReceiver,
+    plan: Plan,
+    delay_us: u32,
+    list: &[Reduction],
+    want: Option<Heard>,
+)
+    requires blank { least_start receiver ≡ 0 }
+    requires delay { delay_us ≤ 100000 }
+{
+    same(rt, receiver.plan(), plan);
+    same(rt, last_answer(receiver, delay_us, list), want);
+}
+
 pub fn lone(at: u64, second: u64) -> Option<Heard> {
     Some(Heard {
-        at: Local::new(at)?,
+        at: moment(at),
         kind: Kind::Lone { second },
     })
 }

@@ -1,10 +1,11 @@
 // Links in memory: the planned hearings come in order, and each fault, bound and room shows where it was stated.
 use crate::memory_tests::same;
 use feed_link::{
-    Address, Arrival, Failed, Gate, Hearing, HoldGate, Link, LinkEvent, MemoryLink, MemoryOutside,
-    OpenGate, Outside, Planned,
+    Address, Arrival, Failed, FakeOpen, Gate, Hearing, HoldGate, Link, LinkEvent, MemoryLink,
+    MemoryOutside, OpenGate, Outside, Planned,
 };
-use std::alloc::Global;
+use std::alloc::{AllocError, Global};
+use std::process::Abort;
 use std::test::Fail;
 use tick_units::Local;
 
@@ -19,7 +20,7 @@ fn moment(microseconds: u32) -> Local {
 }
 
 // A datagram of the client.
-fn datagram(alloc: Global, at: u32, bytes: &[u8]) -> Result<Planned, Fail> {
+fn datagram(alloc: Global, at: u32, bytes: &[u8]) -> Result<Planned, AllocError> {
     Ok(Planned::Datagram {
         from: CLIENT,
         at: moment(at),
@@ -39,197 +40,250 @@ const AMPLE: Space = Space {
     bytes: 4000,
 };
 
-// A link that receives "ab" at 7, nothing, "cde" at 5, and then its end. It has the moments 6 and 9, and one of its calls fails.
-fn link(alloc: Global, failing: u64, space: Space) -> Result<MemoryLink, Fail> {
+fn hearings_of(alloc: Global) -> Result<Vec<Planned>, AllocError> {
     let mut hearings = Vec::new(alloc);
     hearings.push(datagram(alloc, 7, b"ab")?)?;
     hearings.push(Planned::Quiet)?;
     hearings.push(datagram(alloc, 5, b"cde")?)?;
-    let mut moments = Vec::new(alloc);
-    moments.push(moment(6))?;
-    moments.push(moment(9))?;
-    let fails = vec![in alloc; failing]?;
-    Ok(MemoryLink::new(alloc, hearings, moments, fails, space.events, space.bytes)?)
+    Ok(hearings)
 }
 
-// Adds the text of what a link receives next: the datagram with its moment, or a word.
-fn hear_into(text: &mut String, link: &mut MemoryLink) -> Result<(), Fail> {
+// A link that receives "ab" at 7, nothing, "cde" at 5, and then its end. It has the moments 6 and 9, and one of its calls fails.
+fn link(alloc: Global, failing: u64, space: Space) -> Result<MemoryLink, FakeOpen> {
+    let hearings = hearings_of(alloc)?;
+    let moments = Vec::from_slice(alloc, &[moment(6), moment(9)])?;
+    let fails = Vec::from_slice(alloc, &[failing])?;
+    MemoryLink::new(alloc, hearings, moments, fails, space.events, space.bytes)
+}
+
+// What a hearing gives: a word, and of a datagram the sender's port, the moment, the length and the first bytes.
+type Given = (&'static str, u16, u64, usize, [u8; 4]);
+
+const QUIET: Given = ("quiet", 0, 0, 0, [0; 4]);
+
+const END: Given = ("end", 0, 0, 0, [0; 4]);
+
+const FAILED: Given = ("failed", 0, 0, 0, [0; 4]);
+
+const AB: Given = ("datagram", 5000, 7, 2, [97, 98, 0, 0]);
+
+const CDE: Given = ("datagram", 5000, 7, 3, [99, 100, 101, 0]);
+
+// The same, after the moment 9 was given.
+const LATE_CDE: Given = ("datagram", 5000, 9, 3, [99, 100, 101, 0]);
+
+fn given(arrival: &Arrival, piece: &[u8; 1024]) -> Given {
+    let first = [piece[0], piece[1], piece[2], piece[3]];
+    (
+        "datagram",
+        arrival.from.port,
+        arrival.at.get(),
+        arrival.length,
+        first,
+    )
+}
+
+// What a link receives next.
+fn heard(link: &mut MemoryLink) -> Given {
     let mut piece = [0u8; 1024];
     match link.hear(&mut piece) {
-        Ok(Hearing::Datagram(arrival)) => {
-            let Arrival { from, length, at } = &arrival;
-            write!(text, "{}:{}@{}", from.port, length, at.get())?;
-            for byte in piece.iter().take(*length) {
-                write!(text, " {byte}")?;
-            }
-            text.push_str("; ")?;
-        }
-        Ok(Hearing::Quiet) => text.push_str("quiet; ")?,
-        Ok(Hearing::End) => text.push_str("end; ")?,
-        Err(Failed) => text.push_str("failed; ")?,
+        Ok(Hearing::Datagram(arrival)) => given(&arrival, &piece),
+        Ok(Hearing::Quiet) => QUIET,
+        Ok(Hearing::End) => END,
+        Err(Failed) => FAILED,
     }
-    Ok(())
 }
 
-// What a link reports.
-fn told(alloc: Global, link: &MemoryLink) -> Result<String, Fail> {
-    let mut text = String::new(alloc);
-    write!(text, "{}: ", link.count())?;
-    for place in 0..20usize {
-        match link.event(place) {
-            Some(event) => add_event(&mut text, &event)?,
-            None => {}
-        }
-    }
-    Ok(text)
+fn next_moment(link: &mut MemoryLink) -> u64 {
+    link.moment().get()
 }
 
-fn add_event(text: &mut String, event: &LinkEvent<'_>) -> Result<(), Fail> {
+fn is_sent(link: &mut MemoryLink) -> bool {
+    link.send(CLIENT, b"xyzw").is_ok()
+}
+
+// Four hearings, the moments after the first and after the third, and whether what was sent after the second is on its way.
+type Talk = ([Given; 4], [u64; 3], bool);
+
+// Receives, asks for a moment, receives on, sends, receives, asks for two moments, and receives.
+fn talk(link: &mut MemoryLink) -> Talk {
+    let first = heard(link);
+    let then = next_moment(link);
+    let second = heard(link);
+    let sent = is_sent(link);
+    let third = heard(link);
+    let later = next_moment(link);
+    let last = next_moment(link);
+    let fourth = heard(link);
+    ([first, second, third, fourth], [then, later, last], sent)
+}
+
+fn says(rt: &impl Abort, link: &mut MemoryLink, want: Talk) {
+    same(rt, talk(link), want);
+}
+
+// What a link reports of one event: a word, a port, a moment, and how many bytes.
+type Event = (&'static str, u16, u64, usize);
+
+fn event_of(event: &LinkEvent<'_>) -> Event {
     match event {
-        LinkEvent::Datagram { from, at, bytes } => {
-            write!(text, "from {} @{} x{}; ", from.port, at.get(), bytes.len())?;
+        LinkEvent::Datagram { from, at, bytes } => ("from", from.port, at.get(), bytes.len()),
+        LinkEvent::Quiet => ("quiet", 0, 0, 0),
+        LinkEvent::End => ("end", 0, 0, 0),
+        LinkEvent::Moment(at) => ("moment", 0, at.get(), 0),
+        LinkEvent::Sent { to, bytes } => ("to", to.port, 0, bytes.len()),
+    }
+}
+
+// The event at a place, as far as the link reports one.
+fn told(link: &MemoryLink, place: usize) -> Option<Event> {
+    match link.event(place) {
+        Some(event) => Some(event_of(&event)),
+        None => None,
+    }
+}
+
+// The link reports these events and no others.
+fn tells(rt: &impl Abort, link: &MemoryLink, events: &[Event]) {
+    same(rt, link.count(), events.len());
+    for place in 0..20usize {
+        same(
+            rt,
+            (place, told(link, place)),
+            (place, events.get(place).copied()),
+        );
+    }
+}
+
+const WHOLE: Talk = ([AB, QUIET, CDE, END], [7, 9, 9], true);
+
+const EVENTS: [Event; 8] = [
+    ("from", 5000, 7, 2),
+    ("moment", 0, 7, 0),
+    ("quiet", 0, 0, 0),
+    ("to", 5000, 0, 4),
+    ("from", 5000, 7, 3),
+    ("moment", 0, 9, 0),
+    ("moment", 0, 9, 0),
+    ("end", 0, 0, 0),
+];
+
+// A link with this room, none of whose calls fails, reports these events.
+fn is_told(rt: &impl Abort, alloc: Global, space: Space, events: &[Event]) {
+    match link(alloc, 0, space) {
+        Ok(mut link) => {
+            says(rt, &mut link, WHOLE);
+            tells(rt, &link, events);
         }
-        LinkEvent::Quiet => text.push_str("quiet; ")?,
-        LinkEvent::End => text.push_str("end; ")?,
-        LinkEvent::Moment(at) => write!(text, "moment {}; ", at.get())?,
-        LinkEvent::Sent { to, bytes } => write!(text, "to {} x{}; ", to.port, bytes.len())?,
+        Err(_) => assert!(*rt; false),
     }
-    Ok(())
-}
-
-// Receives, asks for a moment, receives on and sends, as a text; and what the link reports of it.
-fn talk(alloc: Global, failing: u64, space: Space) -> Result<(String, String), Fail> {
-    let mut link = link(alloc, failing, space)?;
-    let mut text = String::new(alloc);
-    hear_into(&mut text, &mut link)?;
-    write!(text, "{}; ", link.moment().get())?;
-    hear_into(&mut text, &mut link)?;
-    let sent = link.send(CLIENT, b"xyzw").is_ok();
-    write!(text, "{sent}; ")?;
-    hear_into(&mut text, &mut link)?;
-    write!(text, "{}; {}; ", link.moment().get(), link.moment().get())?;
-    hear_into(&mut text, &mut link)?;
-    let told = told(alloc, &link)?;
-    Ok((text, told))
-}
-
-const HEARD: &str = "5000:2@7 97 98; 7; quiet; true; 5000:3@7 99 100 101; 9; 9; end; ";
-
-#[test]
-fn a_link_hears_what_was_planned_and_then_its_end(rt: HostRuntime) -> Result<(), Fail> {
-    let (text, told) = talk(rt.alloc(), 0, AMPLE)?;
-    same(&rt, text.as_str(), HEARD);
-    same(
-        &rt,
-        told.as_str(),
-        "8: from 5000 @7 x2; moment 7; quiet; to 5000 x4; from 5000 @7 x3; moment 9; moment 9; end; ",
-    );
-    Ok(())
 }
 
 #[test]
-fn a_call_that_fails_leaves_its_hearing_for_the_next(rt: HostRuntime) -> Result<(), Fail> {
-    let table = [
-        (
-            1,
-            "failed; 6; 5000:2@7 97 98; true; quiet; 9; 9; 5000:3@9 99 100 101; ",
-        ),
-        (
-            2,
-            "5000:2@7 97 98; 7; failed; true; quiet; 9; 9; 5000:3@9 99 100 101; ",
-        ),
-        (
-            3,
-            "5000:2@7 97 98; 7; quiet; false; 5000:3@7 99 100 101; 9; 9; end; ",
-        ),
-        (
-            5,
-            "5000:2@7 97 98; 7; quiet; true; 5000:3@7 99 100 101; 9; 9; failed; ",
-        ),
-    ];
-    for (failing, want) in table {
-        let (text, _) = talk(rt.alloc(), failing, AMPLE)?;
-        same(&rt, text.as_str(), want);
+fn a_link_hears_what_was_planned_and_then_its_end(rt: HostRuntime) {
+    is_told(&rt, rt.alloc(), AMPLE, &EVENTS);
+}
+
+// A link whose call of this number fails says this.
+fn is_said(rt: &impl Abort, alloc: Global, failing: u64, want: Talk) {
+    match link(alloc, failing, AMPLE) {
+        Ok(mut link) => says(rt, &mut link, want),
+        Err(_) => assert!(*rt; false),
     }
-    Ok(())
 }
 
 #[test]
-fn past_its_room_a_link_tells_nothing(rt: HostRuntime) -> Result<(), Fail> {
-    let whole =
-        "8: from 5000 @7 x2; moment 7; quiet; to 5000 x4; from 5000 @7 x3; moment 9; moment 9; end; ";
-    let table = [
-        (
-            Space {
-                events: 8,
-                bytes: 9,
-            },
-            whole,
-        ),
-        (
-            Space {
-                events: 7,
-                bytes: 9,
-            },
-            "0: ",
-        ),
-        (
-            Space {
-                events: 8,
-                bytes: 8,
-            },
-            "0: ",
-        ),
-        (
-            Space {
-                events: 0,
-                bytes: 0,
-            },
-            "0: ",
-        ),
-    ];
-    for (space, want) in table {
-        let (text, told) = talk(rt.alloc(), 0, space)?;
-        same(&rt, told.as_str(), want);
-        same(&rt, text.as_str(), HEARD);
-    }
-    Ok(())
+fn a_call_that_fails_leaves_its_hearing_for_the_next(rt: HostRuntime) {
+    let first = ([FAILED, AB, QUIET, LATE_CDE], [6, 9, 9], true);
+    is_said(&rt, rt.alloc(), 1, first);
+    let second = ([AB, FAILED, QUIET, LATE_CDE], [7, 9, 9], true);
+    is_said(&rt, rt.alloc(), 2, second);
+    let third = ([AB, QUIET, CDE, END], [7, 9, 9], false);
+    is_said(&rt, rt.alloc(), 3, third);
+    let fifth = ([AB, QUIET, CDE, FAILED], [7, 9, 9], true);
+    is_said(&rt, rt.alloc(), 5, fifth);
+}
+
+fn room_of(events: usize, bytes: usize) -> Space {
+    Space { events, bytes }
 }
 
 #[test]
-fn of_a_longer_datagram_1024_bytes_are_heard(rt: HostRuntime) -> Result<(), Fail> {
-    for (length, heard) in [(0, 0), (1023, 1023), (1024, 1024), (1025, 1024)] {
-        let mut hearings = Vec::new(rt.alloc());
-        let bytes = vec![in rt.alloc(); 7u8; length]?;
-        hearings.push(Planned::Datagram {
-            from: CLIENT,
-            at: moment(1),
-            bytes,
-        })?;
-        let (moments, fails) = (Vec::new(rt.alloc()), Vec::new(rt.alloc()));
-        let mut link = MemoryLink::new(rt.alloc(), hearings, moments, fails, 1, 2000)?;
-        let mut piece = [0u8; 1024];
-        match link.hear(&mut piece)? {
-            Hearing::Datagram(arrival) => same(&rt, arrival.length, heard),
-            _ => assert!(rt; false),
+fn past_its_room_a_link_tells_nothing(rt: HostRuntime) {
+    is_told(&rt, rt.alloc(), room_of(8, 9), &EVENTS);
+    is_told(&rt, rt.alloc(), room_of(7, 9), &[]);
+    is_told(&rt, rt.alloc(), room_of(8, 8), &[]);
+    is_told(&rt, rt.alloc(), room_of(0, 0), &[]);
+}
+
+// A link that receives one datagram, of so many bytes that are 7.
+fn link_of_sevens(alloc: Global, length: usize) -> Result<MemoryLink, FakeOpen> {
+    let mut hearings = Vec::new(alloc);
+    hearings.push(Planned::Datagram {
+        from: CLIENT,
+        at: moment(1),
+        bytes: vec![in alloc; 7u8; length]?,
+    })?;
+    MemoryLink::new(alloc, hearings, Vec::new(alloc), Vec::new(alloc), 1, 2000)
+}
+
+// How many bytes of a piece are 7.
+fn sevens(piece: &[u8]) -> usize {
+    let mut count = 0usize;
+    for byte in piece {
+        if *byte == 7 {
+            count = count.saturating_add(1);
         }
-        same(&rt, link.moment().get(), 1);
-        same(&rt, piece.iter().filter(|byte| **byte == 7).count(), heard);
     }
-    Ok(())
+    count
 }
+
+// The length of the datagram that a link receives, its next moment, and how many bytes of the piece are 7 then.
+fn heard_of(link: &mut MemoryLink) -> Option<(usize, u64, usize)> {
+    let mut piece = [0u8; 1024];
+    let length = match link.hear(&mut piece) {
+        Ok(Hearing::Datagram(arrival)) => arrival.length,
+        _ => return None,
+    };
+    Some((length, link.moment().get(), sevens(&piece)))
+}
+
+// Of a datagram of this length this many bytes are received.
+fn are_heard(rt: &impl Abort, alloc: Global, length: usize, heard: usize) {
+    match link_of_sevens(alloc, length) {
+        Ok(mut link) => same(rt, heard_of(&mut link), Some((heard, 1, heard))),
+        Err(_) => assert!(*rt; false),
+    }
+}
+
+#[test]
+fn of_a_longer_datagram_1024_bytes_are_heard(rt: HostRuntime) {
+    are_heard(&rt, rt.alloc(), 0, 0);
+    are_heard(&rt, rt.alloc(), 1023, 1023);
+    are_heard(&rt, rt.alloc(), 1024, 1024);
+    are_heard(&rt, rt.alloc(), 1025, 1024);
+}
+
+// Links in each of which the call of this number fails.
+fn links_of(alloc: Global, fails: &[u64]) -> Result<Vec<MemoryLink>, FakeOpen> {
+    let mut links = Vec::new(alloc);
+    for failing in fails {
+        links.push(link(alloc, *failing, AMPLE)?)?;
+    }
+    Ok(links)
+}
+
+type Fake = MemoryOutside<OpenGate>;
 
 // An outside with two links; its opening of this number fails.
-fn two_links(alloc: Global, failing: u64) -> Result<MemoryOutside<OpenGate>, Fail> {
-    let mut links = Vec::new(alloc);
-    links.push(link(alloc, 0, AMPLE)?)?;
-    links.push(link(alloc, 1, AMPLE)?)?;
-    let fails = vec![in alloc; failing]?;
-    Ok(MemoryOutside::new(alloc, Vec::new(alloc), links, OpenGate::new(), fails, 4, 0)?)
+fn two_links(alloc: Global, failing: u64) -> Result<Fake, FakeOpen> {
+    let links = links_of(alloc, &[0, 1])?;
+    let fails = Vec::from_slice(alloc, &[failing])?;
+    MemoryOutside::new(alloc, Vec::new(alloc), links, OpenGate::new(), fails, 4, 0)
 }
 
 // Opens a link, receives once and gives it back.
-fn visit(outside: &mut MemoryOutside<OpenGate>) -> Result<(), Failed> {
+fn visit(outside: &mut Fake) -> Result<(), Failed> {
     let mut net = outside.open_link(123, moment(3))?;
     let mut piece = [0u8; 1024];
     let heard = net.hear(&mut piece);
@@ -241,15 +295,34 @@ fn visit(outside: &mut MemoryOutside<OpenGate>) -> Result<(), Failed> {
 }
 
 // How many events the links of the outside report, where they stand in their places.
-fn counts(outside: &MemoryOutside<OpenGate>) -> [Option<usize>; 3] {
+fn counts(outside: &Fake) -> [Option<usize>; 3] {
     [count(outside, 0), count(outside, 1), count(outside, 2)]
 }
 
-fn count(outside: &MemoryOutside<OpenGate>, place: usize) -> Option<usize> {
+fn count(outside: &Fake, place: usize) -> Option<usize> {
     match outside.link(place) {
         Some(link) => Some(link.count()),
         None => None,
     }
+}
+
+// The links of the outside have reported so many events, where they stand in their places.
+fn stand(rt: &impl Abort, outside: &Fake, want: [Option<usize>; 3]) {
+    same(rt, counts(outside), want);
+}
+
+fn is_visited(rt: &impl Abort, outside: &mut Fake, want: Result<(), Failed>) {
+    same(rt, visit(outside), want);
+}
+
+// Two links are handed out in order, and come back to their places. The call of the second fails.
+fn hands_out_two(rt: &impl Abort, outside: &mut Fake) {
+    stand(rt, outside, [Some(0), Some(0), None]);
+    is_visited(rt, outside, Ok(()));
+    stand(rt, outside, [Some(1), Some(0), None]);
+    is_visited(rt, outside, Err(Failed));
+    stand(rt, outside, [Some(1), Some(0), None]);
+    is_visited(rt, outside, Err(Failed));
 }
 
 #[test]
@@ -257,12 +330,7 @@ fn links_are_handed_out_in_order_and_come_back_to_their_places(
     rt: HostRuntime,
 ) -> Result<(), Fail> {
     let mut outside = two_links(rt.alloc(), 9)?;
-    same(&rt, counts(&outside), [Some(0), Some(0), None]);
-    same(&rt, visit(&mut outside), Ok(()));
-    same(&rt, counts(&outside), [Some(1), Some(0), None]);
-    same(&rt, visit(&mut outside), Err(Failed));
-    same(&rt, counts(&outside), [Some(1), Some(0), None]);
-    same(&rt, visit(&mut outside), Err(Failed));
+    hands_out_two(&rt, &mut outside);
     Ok(())
 }
 
@@ -271,9 +339,9 @@ fn a_link_that_is_out_does_not_stand_in_its_place(rt: HostRuntime) -> Result<(),
     let mut outside = two_links(rt.alloc(), 1)?;
     assert!(rt; outside.open_link(123, moment(3)).is_err());
     let net = outside.open_link(123, moment(3))?;
-    same(&rt, counts(&outside), [None, Some(0), None]);
+    stand(&rt, &outside, [None, Some(0), None]);
     outside.give_back_link(net);
-    same(&rt, counts(&outside), [Some(0), Some(0), None]);
+    stand(&rt, &outside, [Some(0), Some(0), None]);
     Ok(())
 }
 

@@ -1,16 +1,14 @@
 // Files and streams, over readers and writers that are interrupted, fail, or take little at a call.
 ghost use Rattle.std.specs.Prelude.{◌≡◌, ◌≤◌, IfOk};
 
-use crate::memory_tests::same;
-use feed_link::{Failed, FileSource, Sink, Source, StreamSink};
+use crate::memory_tests::{gives, read_three, same, takes};
+use feed_link::{Failed, FileSource, Source, StreamSink};
 use std::io::{self, ErrorKind, Read, Write};
-use std::test::Fail;
+use std::process::Abort;
 
-// What a read gives, and the piece after it.
-fn read_three<S: Source>(source: &mut S) -> (Result<usize, Failed>, [u8; 3]) {
-    let mut piece = [0u8; 3];
-    let outcome = source.read(&mut piece);
-    (outcome, piece)
+// How a read ends.
+fn ends<S: Source>(rt: &impl Abort, source: &mut S, want: Result<usize, Failed>) {
+    same(rt, read_three(source).0, want);
 }
 
 // A stream that is interrupted at its first call, goes on at its second, and fails from the third on.
@@ -51,17 +49,17 @@ impl Write for Shaky {
 #[test]
 fn a_file_is_read_on_after_an_interruption(rt: HostRuntime) {
     let mut source = FileSource::new(Shaky { calls: 0 });
-    same(&rt, read_three(&mut source).0, Ok(0));
-    same(&rt, read_three(&mut source).0, Err(Failed));
+    ends(&rt, &mut source, Ok(0));
+    ends(&rt, &mut source, Err(Failed));
 }
 
 #[test]
 fn a_write_of_nothing_is_a_fault(rt: HostRuntime) {
     let mut sink = StreamSink::new(Shaky { calls: 0 });
-    same(&rt, sink.write(b"a"), Err(Failed));
+    takes(&rt, &mut sink, b"a", Err(Failed));
     let mut sink = StreamSink::new(Shaky { calls: 0 });
-    same(&rt, sink.write(b""), Ok(0));
-    same(&rt, sink.write(b"a"), Err(Failed));
+    takes(&rt, &mut sink, b"", Ok(0));
+    takes(&rt, &mut sink, b"a", Err(Failed));
 }
 
 // A stream that is interrupted at a number of calls, one after another. Then it is at its end, and takes all that is written.
@@ -105,9 +103,9 @@ impl Write for Interrupted {
 #[test]
 fn a_call_that_is_interrupted_again_and_again_is_made_again(rt: HostRuntime) {
     let mut source = FileSource::new(Interrupted { calls: 5000 });
-    same(&rt, read_three(&mut source).0, Ok(0));
+    ends(&rt, &mut source, Ok(0));
     let mut sink = StreamSink::new(Interrupted { calls: 5000 });
-    same(&rt, sink.write(b"ab"), Ok(2));
+    takes(&rt, &mut sink, b"ab", Ok(2));
 }
 
 // A file of the bytes 1, 2, 3 .. up to a last one, of which each call gives one.
@@ -131,10 +129,10 @@ impl Read for OneByOne {
 #[test]
 fn a_file_that_gives_one_byte_a_call_loses_none(rt: HostRuntime) {
     let mut source = FileSource::new(OneByOne { next: 0, last: 3 });
-    for want in [1, 2, 3] {
-        same(&rt, read_three(&mut source), (Ok(1), [want, 0, 0]));
-    }
-    same(&rt, read_three(&mut source), (Ok(0), [0; 3]));
+    gives(&rt, &mut source, (Ok(1), [1, 0, 0]));
+    gives(&rt, &mut source, (Ok(1), [2, 0, 0]));
+    gives(&rt, &mut source, (Ok(1), [3, 0, 0]));
+    gives(&rt, &mut source, (Ok(0), [0; 3]));
 }
 
 // A file that fills every piece.
@@ -183,8 +181,8 @@ impl Write for Narrow {
 #[test]
 fn a_short_write_is_answered_as_short_and_a_fault_in_mid_piece_as_a_fault(rt: HostRuntime) {
     let mut sink = StreamSink::new(Narrow { calls: 0, last: 0 });
-    same(&rt, sink.write(b"abcde"), Ok(3));
-    same(&rt, sink.write(b"de"), Err(Failed));
-    same(&rt, sink.write(b"de"), Ok(2));
-    same(&rt, sink.write(b""), Ok(0));
+    takes(&rt, &mut sink, b"abcde", Ok(3));
+    takes(&rt, &mut sink, b"de", Err(Failed));
+    takes(&rt, &mut sink, b"de", Ok(2));
+    takes(&rt, &mut sink, b"", Ok(0));
 }

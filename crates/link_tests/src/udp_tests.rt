@@ -60,14 +60,20 @@ impl DatagramSocket for Shaky {
     }
 }
 
+// The port of the sender from which a link receives next, or 0 where nothing came.
+fn port_of(link: &mut impl Link) -> Result<u16, Failed> {
+    let mut piece = [0u8; 1024];
+    match link.hear(&mut piece) {
+        Ok(Hearing::Datagram(arrival)) => Ok(arrival.from.port),
+        Ok(_) => Ok(0),
+        Err(failed) => Err(failed),
+    }
+}
+
 // What a link receives over a socket whose first calls fail: the sender's port, or 0 where nothing came.
 fn heard(rt: &HostRuntime, socket: Shaky) -> Result<u16, Failed> {
     let mut link = UdpLink::new(socket, Counter::new(rt), moment(5));
-    let mut piece = [0u8; 1024];
-    match link.hear(&mut piece)? {
-        Hearing::Datagram(arrival) => Ok(arrival.from.port),
-        _ => Ok(0),
-    }
+    port_of(&mut link)
 }
 
 fn sent(rt: &HostRuntime, socket: Shaky) -> Result<(), Failed> {
@@ -88,48 +94,76 @@ fn failing(kind: ErrorKind, calls: u8, port: u16) -> Shaky {
     }
 }
 
+// What was received is from this port.
+fn is_from(rt: &impl Abort, heard: Result<u16, Failed>, port: Result<u16, Failed>) {
+    same(rt, heard, port);
+}
+
+// A sending ended so.
+fn has_ended(rt: &impl Abort, sent: Result<(), Failed>, want: Result<(), Failed>) {
+    same(rt, sent, want);
+}
+
+// A socket fails once.
+fn once(kind: ErrorKind) -> Shaky {
+    failing(kind, 1, 123)
+}
+
 #[test]
 fn silence_is_quiet_and_an_error_of_the_socket_is_a_fault(rt: HostRuntime) {
-    let table = [
-        (ErrorKind::WouldBlock, Ok(0), Err(Failed)),
-        (ErrorKind::TimedOut, Ok(0), Err(Failed)),
-        (ErrorKind::NotConnected, Err(Failed), Err(Failed)),
-        (ErrorKind::OutOfMemory, Err(Failed), Err(Failed)),
-    ];
-    for (kind, hears, sends) in table {
-        same(&rt, heard(&rt, failing(kind, 1, 123)), hears);
-        same(&rt, sent(&rt, failing(kind, 1, 123)), sends);
-    }
+    is_from(&rt, heard(&rt, once(ErrorKind::WouldBlock)), Ok(0));
+    has_ended(&rt, sent(&rt, once(ErrorKind::WouldBlock)), Err(Failed));
+    is_from(&rt, heard(&rt, once(ErrorKind::TimedOut)), Ok(0));
+    has_ended(&rt, sent(&rt, once(ErrorKind::TimedOut)), Err(Failed));
+    is_from(&rt, heard(&rt, once(ErrorKind::NotConnected)), Err(Failed));
+    has_ended(&rt, sent(&rt, once(ErrorKind::NotConnected)), Err(Failed));
+    is_from(&rt, heard(&rt, once(ErrorKind::OutOfMemory)), Err(Failed));
+    has_ended(&rt, sent(&rt, once(ErrorKind::OutOfMemory)), Err(Failed));
+}
+
+// After so many calls that fail in this way, a link receives and sends.
+fn tried(
+    rt: &HostRuntime,
+    kind: ErrorKind,
+    calls: u8,
+) -> (Result<u16, Failed>, Result<(), Failed>) {
+    (
+        heard(rt, failing(kind, calls, 123)),
+        sent(rt, failing(kind, calls, 123)),
+    )
+}
+
+// What was received is from port 123, and what was sent is on its way.
+fn is_done(rt: &impl Abort, tried: (Result<u16, Failed>, Result<(), Failed>)) {
+    same(rt, tried, (Ok(123), Ok(())));
 }
 
 #[test]
 fn a_call_is_made_again_that_was_interrupted_or_told_of_another_datagram(rt: HostRuntime) {
-    let table = [
-        ErrorKind::Interrupted,
-        ErrorKind::ConnectionRefused,
-        ErrorKind::ConnectionReset,
-        ErrorKind::HostUnreachable,
-        ErrorKind::NetworkUnreachable,
-    ];
-    for kind in table {
-        for calls in [3, 200] {
-            same(&rt, heard(&rt, failing(kind, calls, 123)), Ok(123));
-            same(&rt, sent(&rt, failing(kind, calls, 123)), Ok(()));
-        }
-    }
+    is_done(&rt, tried(&rt, ErrorKind::Interrupted, 3));
+    is_done(&rt, tried(&rt, ErrorKind::Interrupted, 200));
+    is_done(&rt, tried(&rt, ErrorKind::ConnectionRefused, 3));
+    is_done(&rt, tried(&rt, ErrorKind::ConnectionRefused, 200));
+    is_done(&rt, tried(&rt, ErrorKind::ConnectionReset, 3));
+    is_done(&rt, tried(&rt, ErrorKind::ConnectionReset, 200));
+    is_done(&rt, tried(&rt, ErrorKind::HostUnreachable, 3));
+    is_done(&rt, tried(&rt, ErrorKind::HostUnreachable, 200));
+    is_done(&rt, tried(&rt, ErrorKind::NetworkUnreachable, 3));
+    is_done(&rt, tried(&rt, ErrorKind::NetworkUnreachable, 200));
 }
 
 #[test]
 fn a_datagram_without_a_way_is_lost_and_no_fault(rt: HostRuntime) {
-    let table = [
-        ErrorKind::NetworkDown,
-        ErrorKind::PermissionDenied,
-        ErrorKind::InvalidInput,
-    ];
-    for kind in table {
-        same(&rt, sent(&rt, failing(kind, 1, 123)), Ok(()));
-        same(&rt, heard(&rt, failing(kind, 1, 123)), Err(Failed));
-    }
+    has_ended(&rt, sent(&rt, once(ErrorKind::NetworkDown)), Ok(()));
+    is_from(&rt, heard(&rt, once(ErrorKind::NetworkDown)), Err(Failed));
+    has_ended(&rt, sent(&rt, once(ErrorKind::PermissionDenied)), Ok(()));
+    is_from(
+        &rt,
+        heard(&rt, once(ErrorKind::PermissionDenied)),
+        Err(Failed),
+    );
+    has_ended(&rt, sent(&rt, once(ErrorKind::InvalidInput)), Ok(()));
+    is_from(&rt, heard(&rt, once(ErrorKind::InvalidInput)), Err(Failed));
 }
 
 // A socket whose host never has a route.
@@ -148,23 +182,35 @@ impl DatagramSocket for Cut {
     }
 }
 
-// The network is not there for as long as it takes: a link that serves must outlast that (docs/OPERATING.md, status 7).
-#[test]
-fn a_network_that_stays_away_is_no_fault(rt: HostRuntime) {
+// How a sending ends where the socket never has a route, for this reason.
+fn sent_without_route(rt: &HostRuntime, kind: ErrorKind) -> Result<(), Failed> {
     let to = Address {
         ip: 0xc000_0209,
         port: 123,
     };
-    for kind in [ErrorKind::HostUnreachable, ErrorKind::NetworkUnreachable] {
-        let mut link = UdpLink::new(Cut { kind }, Counter::new(&rt), moment(5));
-        same(&rt, link.send(to, b"a"), Ok(()));
-    }
+    let mut link = UdpLink::new(Cut { kind }, Counter::new(rt), moment(5));
+    link.send(to, b"a")
+}
+
+// The network is not there for as long as it takes: a link that serves must outlast that (docs/OPERATING.md, status 7).
+#[test]
+fn a_network_that_stays_away_is_no_fault(rt: HostRuntime) {
+    has_ended(
+        &rt,
+        sent_without_route(&rt, ErrorKind::HostUnreachable),
+        Ok(()),
+    );
+    has_ended(
+        &rt,
+        sent_without_route(&rt, ErrorKind::NetworkUnreachable),
+        Ok(()),
+    );
 }
 
 #[test]
 fn a_sender_without_a_port_is_not_heard(rt: HostRuntime) {
-    same(&rt, heard(&rt, failing(ErrorKind::Other, 0, 0)), Ok(7));
-    same(&rt, heard(&rt, failing(ErrorKind::Other, 0, 9)), Ok(9));
+    is_from(&rt, heard(&rt, failing(ErrorKind::Other, 0, 0)), Ok(7));
+    is_from(&rt, heard(&rt, failing(ErrorKind::Other, 0, 9)), Ok(9));
 }
 
 // A socket on which as many datagrams come from port 0 as are left, and then one from port 7.
@@ -186,21 +232,20 @@ impl DatagramSocket for Flooded {
 }
 
 #[test]
-fn a_flood_from_port_0_ends_no_hearing(rt: HostRuntime) -> Result<(), Fail> {
+fn a_flood_from_port_0_ends_no_hearing(rt: HostRuntime) {
     let mut link = UdpLink::new(Flooded { left: 50_000 }, Counter::new(&rt), moment(5));
-    let mut piece = [0u8; 1024];
-    match link.hear(&mut piece)? {
-        Hearing::Datagram(arrival) => same(&rt, arrival.from.port, 7),
-        _ => assert!(rt; false),
-    }
-    Ok(())
+    same(&rt, port_of(&mut link), Ok(7));
 }
 
 #[test]
 fn a_datagram_that_is_taken_in_part_is_a_fault(rt: HostRuntime) {
-    let mut socket = failing(ErrorKind::Other, 0, 123);
-    socket.short = 1;
-    same(&rt, sent(&rt, socket), Err(Failed));
+    let socket = Shaky {
+        kind: ErrorKind::Other,
+        calls: 0,
+        port: 123,
+        short: 1,
+    };
+    has_ended(&rt, sent(&rt, socket), Err(Failed));
 }
 
 // A socket on which a datagram comes after 20 ms.
@@ -220,19 +265,21 @@ impl DatagramSocket for Late<'_> {
     }
 }
 
-#[test]
-fn a_datagram_has_the_moment_at_which_it_came(rt: HostRuntime) -> Result<(), Fail> {
-    let mut link = UdpLink::new(Late { rt: &rt }, Counter::new(&rt), moment(5));
+// For how many microseconds a link waits for a datagram, by the moment that this has; none where no datagram comes.
+fn wait_of(link: &mut impl Link) -> Option<u64> {
     let mut piece = [0u8; 1024];
     let before = link.moment().get();
-    match link.hear(&mut piece)? {
-        Hearing::Datagram(arrival) => {
-            let waited = arrival.at.get().saturating_sub(before);
-            assert!(rt; waited >= 20_000);
-        }
-        _ => assert!(rt; false),
+    match link.hear(&mut piece) {
+        Ok(Hearing::Datagram(arrival)) => Some(arrival.at.get().saturating_sub(before)),
+        _ => None,
     }
-    Ok(())
+}
+
+#[test]
+fn a_datagram_has_the_moment_at_which_it_came(rt: HostRuntime) {
+    let mut link = UdpLink::new(Late { rt: &rt }, Counter::new(&rt), moment(5));
+    let waited = wait_of(&mut link);
+    assert!(rt; waited.is_some() && waited >= Some(20_000));
 }
 
 // A host whose clock of day goes back by a second in each second.
@@ -280,62 +327,104 @@ fn moments_are_of_single_microseconds(rt: HostRuntime) {
     assert!(rt; is_odd);
 }
 
-#[test]
-fn a_host_says_why_it_refused(rt: HostRuntime) {
-    let table = [
-        (ErrorKind::NotFound, Refusal::NotThere),
-        (ErrorKind::PermissionDenied, Refusal::NoRight),
-        (ErrorKind::AddrInUse, Refusal::Taken),
-        (ErrorKind::IsADirectory, Refusal::Other),
-    ];
-    for (kind, refusal) in table {
-        same(&rt, Refusal::of(kind), refusal);
-    }
-    let mut outside = HostOutside::new(&rt);
-    same(&rt, outside.refusal(), None);
-    assert!(rt; outside.open_log("nosuch").is_err());
-    same(&rt, outside.refusal(), Some(Refusal::NotThere));
+fn is_refused_as(rt: &impl Abort, kind: ErrorKind, refusal: Refusal) {
+    same(rt, Refusal::of(kind), refusal);
 }
 
-// The link of a free port, and a client's socket that waits for at most two seconds.
+type Host<'a> = HostOutside<'a, HostRuntime>;
+
+// The last refusal of the host is this.
+fn has_refused(rt: &impl Abort, outside: &Host<'_>, refusal: Option<Refusal>) {
+    same(rt, outside.refusal(), refusal);
+}
+
+#[test]
+fn a_host_says_why_it_refused(rt: HostRuntime) {
+    is_refused_as(&rt, ErrorKind::NotFound, Refusal::NotThere);
+    is_refused_as(&rt, ErrorKind::PermissionDenied, Refusal::NoRight);
+    is_refused_as(&rt, ErrorKind::AddrInUse, Refusal::Taken);
+    is_refused_as(&rt, ErrorKind::IsADirectory, Refusal::Other);
+    let mut outside = HostOutside::new(&rt);
+    has_refused(&rt, &outside, None);
+    assert!(rt; outside.open_log("nosuch").is_err());
+    has_refused(&rt, &outside, Some(Refusal::NotThere));
+}
+
+// The client of a link: a socket of the host that waits for at most two seconds, and its address.
+#[derive(Drop)]
+struct Client {
+    socket: UdpSocket,
+    address: Address,
+}
+
+fn client_of(rt: &HostRuntime) -> Result<Client, Fail> {
+    let mut socket = UdpSocket::bind(rt, loopback(0))?;
+    socket.set_read_timeout(Some(Duration::from_secs(2)))?;
+    let address = Address {
+        ip: 0x7f00_0001,
+        port: socket.local_addr()?.port(),
+    };
+    Ok(Client { socket, address })
+}
+
+// A client receives these bytes, and the answer is where they came from.
+fn receives(rt: &impl Abort, client: &mut Client, bytes: &[u8]) -> Result<SocketAddr, Fail> {
+    let mut piece = [0u8; 1024];
+    let (length, from) = client.socket.receive(&mut piece)?;
+    same(rt, &piece[..length], bytes);
+    Ok(from)
+}
+
+// A client sends these bytes, all at once.
+fn transmits(
+    rt: &impl Abort,
+    client: &mut Client,
+    to: SocketAddr,
+    bytes: &[u8],
+) -> Result<(), Fail> {
+    let count = client.socket.transmit(to, bytes)?;
+    same(rt, count, bytes.len());
+    Ok(())
+}
+
+// A link receives a datagram from this address, of which it keeps these bytes. Its moment lies between two that the link gives.
+fn brings(rt: &impl Abort, link: &mut impl Link, from: Address, bytes: &[u8]) {
+    let mut piece = [0u8; 1024];
+    let first = link.moment().get();
+    match link.hear(&mut piece) {
+        Ok(Hearing::Datagram(arrival)) => {
+            same(rt, (arrival.from, arrival.length), (from, bytes.len()));
+            same(rt, piece.starts_with(bytes), true);
+            let at = arrival.at.get();
+            assert!(*rt; first <= at && at <= link.moment().get());
+        }
+        _ => assert!(*rt; false),
+    }
+}
+
+// A link and its client talk. The link is bound to all addresses of the host.
+fn talk(rt: &impl Abort, link: &mut impl Link, client: &mut Client) -> Result<(), Fail> {
+    let to = client.address;
+    same(rt, link.send(to, b"abc"), Ok(()));
+    let from = receives(rt, client, b"abc")?;
+    transmits(rt, client, from, &[7; 1100])?;
+    brings(rt, link, to, &[7; 1024]);
+    let other = SocketAddr::new(IpAddr::V4(Ipv4Addr::new(127, 0, 0, 2)), from.port());
+    transmits(rt, client, other, b"xy")?;
+    brings(rt, link, to, b"xy");
+    Ok(())
+}
+
+// The link of a free port, and a client.
 #[test]
 fn a_link_of_the_host_hears_and_answers(rt: HostRuntime) -> Result<(), Fail> {
+    let mut client = client_of(&rt)?;
     let mut outside = HostOutside::new(&rt);
-    let mut server = UdpSocket::bind(&rt, loopback(0))?;
-    server.set_read_timeout(Some(Duration::from_secs(2)))?;
-    let port = server.local_addr()?.port();
     let Ok(mut link) = outside.open_link(0, moment(50)) else {
         return Err("the link was not opened")?;
     };
-    let first = link.moment();
-    assert!(rt; first.get() >= 50);
-    let to = Address {
-        ip: 0x7f00_0001,
-        port,
-    };
-    same(&rt, link.send(to, b"abc"), Ok(()));
-    let mut piece = [0u8; 1024];
-    let (length, from) = server.receive(&mut piece)?;
-    same(&rt, &piece[..length], b"abc".as_slice());
-    let long = [7u8; 1100];
-    same(&rt, server.transmit(from, &long)?, 1100);
-    match link.hear(&mut piece)? {
-        Hearing::Datagram(arrival) => {
-            same(&rt, (arrival.from, arrival.length), (to, 1024));
-            same(&rt, piece.as_slice(), &long[..1024]);
-            assert!(rt; arrival.at.get() >= first.get());
-            assert!(rt; link.moment().get() >= arrival.at.get());
-        }
-        _ => assert!(rt; false),
-    }
-
-    // It is bound to all addresses of the host.
-    let other = SocketAddr::new(IpAddr::V4(Ipv4Addr::new(127, 0, 0, 2)), from.port());
-    same(&rt, server.transmit(other, b"xy")?, 2);
-    match link.hear(&mut piece)? {
-        Hearing::Datagram(arrival) => same(&rt, (arrival.from, arrival.length), (to, 2)),
-        _ => assert!(rt; false),
-    }
+    assert!(rt; link.moment().get() >= 50);
+    talk(&rt, &mut link, &mut client)?;
     outside.give_back_link(link);
     Ok(())
 }

@@ -1,7 +1,8 @@
 //! Tests of units, against values from outside.
+ghost use Rattle.std.specs.Prelude.{◌<◌};
+
 use std::fmt::Debug;
 use std::process::Abort;
-use std::test::Fail;
 use tick_units::{
     END_OF_TOLD, FIRST_TOLD, LEAST_DISPERSION, Local, Plan, Short, Span, Stamp, is_told, isqrt,
     local_span, phi, stamp_of, to_short,
@@ -12,46 +13,53 @@ fn same<T: PartialEq + Debug + Drop>(rt: &impl Abort, left: T, right: T) {
     assert_eq!(*rt; left, right);
 }
 
+// The moment of this many microseconds has so many units, or is none.
+fn has_units(rt: &impl Abort, us: u64, units: Option<i128>) {
+    let found = match Local::new(us) {
+        Some(moment) => Some(local_span(moment).get()),
+        None => None,
+    };
+    same(rt, found, units);
+}
+
 // A second has 2^32 units, so 500 microseconds have 0x20c49b and a part of one.
 #[test]
-fn microseconds_are_rounded_down(rt: HostRuntime) -> Result<(), Fail> {
-    for (us, units) in [
-        (0, 0),
-        (500, 0x0020_c49b),
-        (250_000, 1 << 30),
-        (1_000_000, 1 << 32),
-        (303_000_500, 303 * (1 << 32) + 0x0020_c49b),
-    ] {
-        let moment = Local::new(us).ok_or("no moment")?;
-        assert_eq!(rt; local_span(moment).get(), units, "at {us}");
-    }
-    assert!(rt; Local::new(1 << 50).is_none());
-    Ok(())
+fn microseconds_are_rounded_down(rt: HostRuntime) {
+    has_units(&rt, 0, Some(0));
+    has_units(&rt, 500, Some(0x0020_c49b));
+    has_units(&rt, 250_000, Some(1 << 30));
+    has_units(&rt, 1_000_000, Some(1 << 32));
+    has_units(&rt, 303_000_500, Some(303 * (1 << 32) + 0x0020_c49b));
+    has_units(&rt, 1 << 50, None);
 }
 
 // 15 microseconds in a second, and 15 seconds in a million of them.
 #[test]
 fn drift_is_rounded_up(rt: HostRuntime) {
-    same(&rt, phi(0).get(), 0);
-    same(&rt, phi(1).get(), 1);
-    same(&rt, phi(1_000_000).get(), 64_425);
-    same(&rt, phi(1_000_000_000_000).get(), 15 << 32);
-    same(&rt, phi(2_000_000_000_000).get(), 30 << 32);
+    is_span(&rt, phi(0), 0);
+    is_span(&rt, phi(1), 1);
+    is_span(&rt, phi(1_000_000), 64_425);
+    is_span(&rt, phi(1_000_000_000_000), 15 << 32);
+    is_span(&rt, phi(2_000_000_000_000), 30 << 32);
+}
+
+fn is_span(rt: &impl Abort, span: Span, units: i128) {
+    same(rt, span.get(), units);
+}
+
+fn has_root(rt: &impl Abort, v: u128, root: u64) {
+    same(rt, isqrt(v), root);
 }
 
 #[test]
 fn roots_are_rounded_down(rt: HostRuntime) {
-    for (v, root) in [
-        (0, 0),
-        (1, 1),
-        (3, 1),
-        (15, 3),
-        (16, 4),
-        (1 << 80, 1 << 40),
-        (u128::MAX, u64::MAX),
-    ] {
-        assert_eq!(rt; isqrt(v), root, "of {v}");
-    }
+    has_root(&rt, 0, 0);
+    has_root(&rt, 1, 1);
+    has_root(&rt, 3, 1);
+    has_root(&rt, 15, 3);
+    has_root(&rt, 16, 4);
+    has_root(&rt, 1 << 80, 1 << 40);
+    has_root(&rt, u128::MAX, u64::MAX);
 }
 
 #[test]
@@ -74,89 +82,121 @@ fn stamps_wrap_after_an_era(rt: HostRuntime) {
     same(&rt, stamp_of(in_february_2036), Stamp(63_104 << 32));
 }
 
+// The span of so many units has these units and this size, or is none.
+fn has_size(rt: &impl Abort, units: i128, size: Option<(i128, u128)>) {
+    let found = match Span::new(units) {
+        Some(span) => Some((span.get(), span.unsigned_abs())),
+        None => None,
+    };
+    same(rt, found, size);
+}
+
+const GREATEST: i128 = (1 << 70) - 1;
+
 #[test]
-fn spans_are_below_their_bound(rt: HostRuntime) -> Result<(), Fail> {
-    let greatest = (1 << 70) - 1;
-    same(&rt, Span::new(greatest).ok_or("none")?.get(), greatest);
-    same(
-        &rt,
-        Span::new(-greatest).ok_or("none")?.unsigned_abs(),
-        greatest as u128,
-    );
-    assert!(rt; Span::new(1 << 70).is_none());
-    assert!(rt; Span::new(-(1 << 70)).is_none());
-    Ok(())
+fn spans_are_below_their_bound(rt: HostRuntime) {
+    has_size(&rt, GREATEST, Some((GREATEST, GREATEST as u128)));
+    has_size(&rt, -GREATEST, Some((-GREATEST, GREATEST as u128)));
+    has_size(&rt, 1 << 70, None);
+    has_size(&rt, -(1 << 70), None);
+}
+
+fn is_number(rt: &impl Abort, left: u128, right: u128) {
+    same(rt, left, right);
 }
 
 #[test]
 fn spans_are_reckoned_with(rt: HostRuntime) {
     let five = Span::from(5);
     let seven = Span::from(7);
-    same(&rt, (five + seven).get(), 12);
-    same(&rt, (five - seven).get(), -2);
-    same(&rt, five.abs_diff(-seven), 12);
-    same(&rt, five.squared_apart(-seven), 144);
-    same(
-        &rt,
-        Span::from_seconds(255).squared_apart(Span::from(0)),
-        (255 << 32) * (255 << 32),
-    );
-    same(
-        &rt,
-        Span::from_seconds(257).squared_apart(Span::from(0)),
-        1 << 80,
-    );
-    same(&rt, five.min(-seven), -seven);
-    same(&rt, five.max(-seven), five);
+    is_span(&rt, five + seven, 12);
+    is_span(&rt, five - seven, -2);
+    is_number(&rt, five.abs_diff(-seven), 12);
+    is_number(&rt, five.squared_apart(-seven), 144);
+    let long = Span::from_seconds(255).squared_apart(Span::from(0));
+    is_number(&rt, long, (255 << 32) * (255 << 32));
+    let longer = Span::from_seconds(257).squared_apart(Span::from(0));
+    is_number(&rt, longer, 1 << 80);
+    is_span(&rt, five.min(-seven), -7);
+    is_span(&rt, five.max(-seven), 5);
     assert!(rt; -seven < five);
-    same(&rt, five.halved_down(1).get(), 2);
-    same(&rt, five.halved_up(1).get(), 3);
-    same(&rt, (-five).halved_down(1).get(), -3);
-    same(&rt, (-five).halved_up(1).get(), -2);
-    same(&rt, Span::from(Short(3)).get(), 3 * 65_536);
+    is_span(&rt, five.halved_down(1), 2);
+    is_span(&rt, five.halved_up(1), 3);
+    is_span(&rt, (-five).halved_down(1), -3);
+    is_span(&rt, (-five).halved_up(1), -2);
+    is_span(&rt, Span::from(Short(3)), 3 * 65_536);
+}
+
+// Halving the span of so many units this often gives these units.
+fn has_half(rt: &impl Abort, units: i128, times: u32, half: i128)
+    requires { times < 64 }
+{
+    let found = match Span::new(units) {
+        Some(span) => Some(span.halved_up(times).get()),
+        None => None,
+    };
+    same(rt, found, Some(half));
 }
 
 // Around 2^64 units, from where on a span takes more than 64 bits, and around 0.
 #[test]
 fn halves_are_rounded_up_on_both_sides_of_64_bits(rt: HostRuntime) {
-    for (units, times, half) in [
-        (0, 1, 0),
-        (1, 1, 1),
-        (1, 63, 1),
-        (4, 1, 2),
-        (18_446_744_073_709_551_615, 1, 9_223_372_036_854_775_808),
-        (18_446_744_073_709_551_616, 1, 9_223_372_036_854_775_808),
-        (18_446_744_073_709_551_617, 1, 9_223_372_036_854_775_809),
-        (18_446_744_073_709_551_615, 63, 2),
-        (18_446_744_073_709_551_617, 63, 3),
-    ] {
-        same(
-            &rt,
-            Span::new(units).map(|span| span.halved_up(times).get()),
-            Some(half),
-        );
-    }
+    has_half(&rt, 0, 1, 0);
+    has_half(&rt, 1, 1, 1);
+    has_half(&rt, 1, 63, 1);
+    has_half(&rt, 4, 1, 2);
+    has_half(
+        &rt,
+        18_446_744_073_709_551_615,
+        1,
+        9_223_372_036_854_775_808,
+    );
+    has_half(
+        &rt,
+        18_446_744_073_709_551_616,
+        1,
+        9_223_372_036_854_775_808,
+    );
+    has_half(
+        &rt,
+        18_446_744_073_709_551_617,
+        1,
+        9_223_372_036_854_775_809,
+    );
+    has_half(&rt, 18_446_744_073_709_551_615, 63, 2);
+    has_half(&rt, 18_446_744_073_709_551_617, 63, 3);
+}
+
+// The word stands for this plan, or for none.
+fn names(rt: &impl Abort, word: &str, plan: Option<Plan>) {
+    same(rt, Plan::of_word(word), plan);
+}
+
+// The plan has this word and these letters.
+fn has_word(rt: &impl Abort, plan: Plan, word: &str, letters: [u8; 4]) {
+    same(rt, plan.word(), word);
+    names(rt, word, Some(plan));
+    same(rt, plan.reference_id(), u32::from_be_bytes(letters));
 }
 
 // The letters of RFC 5905, section 7.3, figure 12, as ASCII has them.
 #[test]
 fn plans_have_words_and_letters(rt: HostRuntime) {
-    for (plan, word, letters) in [
-        (Plan::Dcf, "dcf", [68, 67, 70, 0]),
-        (Plan::Msf, "msf", [77, 83, 70, 0]),
-        (Plan::Wwvb, "wwvb", [87, 87, 86, 66]),
-    ] {
-        same(&rt, plan.word(), word);
-        same(&rt, Plan::of_word(word), Some(plan));
-        assert_eq!(rt;
-            plan.reference_id(),
-            u32::from_be_bytes(letters),
-            "of {word}"
-        );
-    }
-    for word in ["", "DCF", "dcf77", "dc", "wwv", "wwvb ", "gps"] {
-        assert_eq!(rt; Plan::of_word(word), None, "of {word}");
-    }
+    has_word(&rt, Plan::Dcf, "dcf", [68, 67, 70, 0]);
+    has_word(&rt, Plan::Msf, "msf", [77, 83, 70, 0]);
+    has_word(&rt, Plan::Wwvb, "wwvb", [87, 87, 86, 66]);
+    names(&rt, "", None);
+    names(&rt, "DCF", None);
+    names(&rt, "dcf77", None);
+    names(&rt, "dc", None);
+    names(&rt, "wwv", None);
+    names(&rt, "wwvb ", None);
+    names(&rt, "gps", None);
+}
+
+// Whether a second is told.
+fn is_in_century(rt: &impl Abort, second: u64, told: bool) {
+    same(rt, is_told(second), told);
 }
 
 // RFC 5905, figure 4, has the last day of 1999; from 2000 on, 100 years have 36525 days.
@@ -164,15 +204,11 @@ fn plans_have_words_and_letters(rt: HostRuntime) {
 fn seconds_are_told_in_a_century(rt: HostRuntime) {
     same(&rt, FIRST_TOLD, 3_155_587_200);
     same(&rt, END_OF_TOLD, FIRST_TOLD + (1 + 36_525 + 2) * 86_400);
-    for (second, told) in [
-        (0, false),
-        (FIRST_TOLD - 1, false),
-        (FIRST_TOLD, true),
-        (END_OF_TOLD - 1, true),
-        (END_OF_TOLD, false),
-    ] {
-        assert_eq!(rt; is_told(second), told, "at {second}");
-    }
+    is_in_century(&rt, 0, false);
+    is_in_century(&rt, FIRST_TOLD - 1, false);
+    is_in_century(&rt, FIRST_TOLD, true);
+    is_in_century(&rt, END_OF_TOLD - 1, true);
+    is_in_century(&rt, END_OF_TOLD, false);
 }
 
 #[test]

@@ -1,11 +1,10 @@
 //! Frames of DCF77 that are read, refused and spelt.
 ghost use Rattle.plan_dcf.specs.Spelling.{IsSpellable};
 
-use crate::shared::{broken, moment, plain, same};
+use crate::shared::{Answer, broken, is_answer, moment, plain, same};
 use plan_dcf::{read, spell};
 use std::process::Abort;
-use std::test::Fail;
-use tick_units::{Broken, Coded, Mark, Symbol};
+use tick_units::{Coded, Mark, Symbol};
 
 // The places that are 1, from Python's datetime. Thursday 2026-01-01, 13:00 and 13:01 CET.
 const NEW_YEAR: [usize; 12] = [18, 20, 29, 30, 33, 35, 36, 44, 45, 51, 52, 55];
@@ -38,26 +37,31 @@ const SUMMER_ANNOUNCED: [usize; 15] = [17, 19, 20, 29, 35, 36, 42, 43, 45, 46, 4
 const SUMMER_LEAP: [usize; 15] = [17, 19, 20, 30, 35, 36, 42, 43, 45, 46, 47, 50, 52, 54, 58];
 
 // Marks a second apart, of which these are One.
-fn frame(ones: &[usize]) -> Result<[Mark; 70], Fail> {
+fn frame(ones: &[usize]) -> [Mark; 70] {
     let mut marks = [Mark {
-        at: moment(0)?,
+        at: moment(0),
         symbol: Symbol::Zero,
     }; 70];
     for (place, mark) in marks.iter_mut().enumerate() {
-        mark.at = moment(2_000_000 + 1_000_000 * place as u64)?;
+        mark.at = moment(2_000_000 + 1_000_000 * place as u64);
         if ones.contains(&place) {
             mark.symbol = Symbol::One;
         }
     }
-    Ok(marks)
+    marks
 }
 
 // What a segment comes to. The moment of the closing mark does not matter.
-fn read_closed(segment: &[Mark]) -> Result<Result<Coded, Broken>, Fail> {
-    Ok(read(segment, moment(90_000_000)?))
+fn read_closed(segment: &[Mark]) -> Answer {
+    read(segment, moment(90_000_000))
 }
 
-fn minute(minute: u64, leap_at: u64, summer: bool) -> Result<Coded, Broken> {
+// So many of these marks come to this.
+fn comes_to(rt: &impl Abort, marks: &[Mark], count: usize, wanted: Answer) {
+    is_answer(rt, read_closed(&marks[..count.min(marks.len())]), wanted);
+}
+
+fn minute(minute: u64, leap_at: u64, summer: bool) -> Answer {
     Ok(Coded {
         minute,
         leap_at,
@@ -65,69 +69,61 @@ fn minute(minute: u64, leap_at: u64, summer: bool) -> Result<Coded, Broken> {
     })
 }
 
-#[test]
-fn frames_are_read(rt: HostRuntime) -> Result<(), Fail> {
-    let rows = [
-        (&NEW_YEAR[..], minute(3976257600, 0, false)),
-        (&NEXT, minute(3976257660, 0, false)),
-        (&STANDARD, minute(3983734740, 0, false)),
-        (&SUMMER, minute(3983734800, 0, true)),
-        (&BEFORE_LEAP, minute(3692217540, 3692217600, false)),
-        (&AFTER_LEAP, minute(3692217660, 0, false)),
-        (&SUMMER_ANNOUNCED, minute(3644694000, 3644697600, true)),
-    ];
-    for (ones, wanted) in rows {
-        let marks = frame(ones)?;
-        same(&rt, read_closed(&marks[..59])?, wanted);
-        same(&rt, read_closed(&marks[..60])?, broken(24));
-    }
-    Ok(())
+// The frame of these places is read with 59 marks, and not with 60.
+fn is_read(rt: &impl Abort, ones: &[usize], wanted: Answer) {
+    let marks = frame(ones);
+    comes_to(rt, &marks, 59, wanted);
+    comes_to(rt, &marks, 60, broken(24));
 }
 
 #[test]
-fn the_leap_minute_has_sixty_marks(rt: HostRuntime) -> Result<(), Fail> {
-    let rows = [
-        (LEAP, minute(3692217600, 3692217600, false)),
-        (SUMMER_LEAP, minute(3644697600, 3644697600, true)),
-    ];
-    for (ones, wanted) in rows {
-        let mut marks = frame(&ones)?;
-        same(&rt, read_closed(&marks[..60])?, wanted);
-        same(&rt, read_closed(&marks[..59])?, broken(24));
-        marks[59].symbol = Symbol::One;
-        same(&rt, read_closed(&marks[..60])?, broken(24));
-        marks[59].symbol = Symbol::Odd;
-        same(&rt, read_closed(&marks[..60])?, broken(2));
-    }
-    Ok(())
+fn frames_are_read(rt: HostRuntime) {
+    is_read(&rt, &NEW_YEAR, minute(3976257600, 0, false));
+    is_read(&rt, &NEXT, minute(3976257660, 0, false));
+    is_read(&rt, &STANDARD, minute(3983734740, 0, false));
+    is_read(&rt, &SUMMER, minute(3983734800, 0, true));
+    is_read(&rt, &BEFORE_LEAP, minute(3692217540, 3692217600, false));
+    is_read(&rt, &AFTER_LEAP, minute(3692217660, 0, false));
+    is_read(&rt, &SUMMER_ANNOUNCED, minute(3644694000, 3644697600, true));
+}
+
+// The frame of these places is read with 60 marks, of which the last is Zero.
+fn has_sixty_marks(rt: &impl Abort, ones: &[usize], wanted: Answer) {
+    let mut marks = frame(ones);
+    comes_to(rt, &marks, 60, wanted);
+    comes_to(rt, &marks, 59, broken(24));
+    marks[59].symbol = Symbol::One;
+    comes_to(rt, &marks, 60, broken(24));
+    marks[59].symbol = Symbol::Odd;
+    comes_to(rt, &marks, 60, broken(2));
+}
+
+#[test]
+fn the_leap_minute_has_sixty_marks(rt: HostRuntime) {
+    has_sixty_marks(&rt, &LEAP, minute(3692217600, 3692217600, false));
+    has_sixty_marks(&rt, &SUMMER_LEAP, minute(3644697600, 3644697600, true));
 }
 
 // The first hours and last minutes of the century, in both zones.
+const FIRST: [usize; 6] = [18, 20, 36, 43, 44, 45];
+
+const LAST: [usize; 19] = [
+    20, 21, 24, 25, 27, 29, 30, 34, 35, 36, 40, 41, 44, 46, 49, 50, 53, 54, 57,
+];
+
 #[test]
-fn the_century_has_its_ends(rt: HostRuntime) -> Result<(), Fail> {
-    let mut first = frame(&[18, 20, 36, 43, 44, 45])?;
-    same(
-        &rt,
-        read_closed(&first[..59])?,
-        minute(3155670000, 0, false),
-    );
+fn the_century_has_its_ends(rt: HostRuntime) {
+    let mut first = frame(&FIRST);
+    comes_to(&rt, &first, 59, minute(3155670000, 0, false));
     first[17].symbol = Symbol::One;
     first[18].symbol = Symbol::Zero;
-    same(&rt, read_closed(&first[..59])?, minute(3155666400, 0, true));
-    let ones = [
-        20, 21, 24, 25, 27, 29, 30, 34, 35, 36, 40, 41, 44, 46, 49, 50, 53, 54, 57,
-    ];
-    let mut last = frame(&ones)?;
-    same(&rt, read_closed(&last[..59])?, broken(11));
+    comes_to(&rt, &first, 59, minute(3155666400, 0, true));
+    let mut last = frame(&LAST);
+    comes_to(&rt, &last, 59, broken(11));
     last[18].symbol = Symbol::One;
-    same(&rt, read_closed(&last[..59])?, minute(6311429940, 0, false));
+    comes_to(&rt, &last, 59, minute(6311429940, 0, false));
     last[19].symbol = Symbol::One;
-    same(
-        &rt,
-        read_closed(&last[..59])?,
-        minute(6311429940, 6311433600, false),
-    );
-    Ok(())
+    comes_to(&rt, &last, 59, minute(6311429940, 6311433600, false));
 }
 
 // Turns the bits of these places.
@@ -142,47 +138,50 @@ fn turn(rt: &impl Abort, marks: &mut [Mark; 70], places: &[usize]) {
     }
 }
 
-fn with_changes(rt: &impl Abort, places: &[usize]) -> Result<[Mark; 70], Fail> {
-    let mut marks = frame(&NEW_YEAR)?;
+fn with_changes(rt: &impl Abort, places: &[usize]) -> [Mark; 70] {
+    let mut marks = frame(&NEW_YEAR);
     turn(rt, &mut marks, places);
-    Ok(marks)
+    marks
 }
 
-// Each row changes these places of the frame of NEW_YEAR.
-#[test]
-fn each_rule_is_broken_alone(rt: HostRuntime) -> Result<(), Fail> {
-    let rows = [
-        (&[0][..], 10),
-        (&[17], 11),
-        (&[18], 11),
-        (&[20], 12),
-        (&[21], 13),
-        (&[28], 13),
-        (&[34], 14),
-        (&[58], 15),
-        (&[44], 15),
-        (&[22, 24], 16),
-        (&[26, 27], 16),
-        (&[31, 32], 17),
-        (&[34, 35], 17),
-        (&[37, 39], 18),
-        (&[36, 58], 18),
-        (&[37, 40, 41, 58], 18),
-        (&[44, 58], 19),
-        (&[45, 58], 20),
-        (&[46, 49], 20),
-        (&[46, 48], 20),
-        (&[53, 58], 21),
-        (&[57, 58], 21),
-        (&[40, 41, 45, 46], 22),
-        (&[42, 58], 23),
-        (&[37, 58], 23),
-    ];
+// Each row changes these places of the frame of NEW_YEAR, which breaks this rule alone.
+const ALONE: [(&[usize], u8); 25] = [
+    (&[0], 10),
+    (&[17], 11),
+    (&[18], 11),
+    (&[20], 12),
+    (&[21], 13),
+    (&[28], 13),
+    (&[34], 14),
+    (&[58], 15),
+    (&[44], 15),
+    (&[22, 24], 16),
+    (&[26, 27], 16),
+    (&[31, 32], 17),
+    (&[34, 35], 17),
+    (&[37, 39], 18),
+    (&[36, 58], 18),
+    (&[37, 40, 41, 58], 18),
+    (&[44, 58], 19),
+    (&[45, 58], 20),
+    (&[46, 49], 20),
+    (&[46, 48], 20),
+    (&[53, 58], 21),
+    (&[57, 58], 21),
+    (&[40, 41, 45, 46], 22),
+    (&[42, 58], 23),
+    (&[37, 58], 23),
+];
+
+fn are_broken(rt: &impl Abort, rows: &[(&[usize], u8)]) {
     for (places, rule) in rows {
-        let marks = with_changes(&rt, places)?;
-        same(&rt, read_closed(&marks[..59])?, broken(rule));
+        comes_to(rt, &with_changes(rt, places), 59, broken(*rule));
     }
-    Ok(())
+}
+
+#[test]
+fn each_rule_is_broken_alone(rt: HostRuntime) {
+    are_broken(&rt, &ALONE);
 }
 
 // Changes of the frame of NEW_YEAR. Each breaks the rule beside it and no other. The rules 21 and 22, and 22 and 23, are never
@@ -202,87 +201,73 @@ const BREAKS: [(&[usize], u8); 12] = [
     (&[53, 58], 21),
 ];
 
-fn lesser_is_named(rt: &impl Abort, breaks: &[(&[usize], u8)]) -> Result<(), Fail> {
+fn lesser_is_named(rt: &impl Abort, breaks: &[(&[usize], u8)]) {
     for (i, (places, rule)) in breaks.iter().enumerate() {
-        let mut marks = with_changes(rt, places)?;
-        same(&rt, read_closed(&marks[..59])?, broken(*rule));
+        let mut marks = with_changes(rt, places);
+        comes_to(rt, &marks, 59, broken(*rule));
         if let Some((next, _)) = breaks.get(i + 1) {
             turn(rt, &mut marks, next);
-            same(&rt, read_closed(&marks[..59])?, broken(*rule));
+            comes_to(rt, &marks, 59, broken(*rule));
         }
     }
-    Ok(())
 }
 
 // Where a segment breaks two neighbouring rules, the lesser is named.
 #[test]
-fn of_two_rules_the_lesser_is_named(rt: HostRuntime) -> Result<(), Fail> {
-    lesser_is_named(&rt, &BREAKS)
+fn of_two_rules_the_lesser_is_named(rt: HostRuntime) {
+    lesser_is_named(&rt, &BREAKS);
 }
 
 // A frame whose start bit is 1, with a mark too many, then an odd width too, then a late mark too.
 #[test]
-fn spacing_comes_before_width_and_width_before_length(rt: HostRuntime) -> Result<(), Fail> {
-    let mut marks = with_changes(&rt, &[0])?;
-    same(&rt, read_closed(&marks[..61])?, broken(3));
+fn spacing_comes_before_width_and_width_before_length(rt: HostRuntime) {
+    let mut marks = with_changes(&rt, &[0]);
+    comes_to(&rt, &marks, 61, broken(3));
     marks[3].symbol = Symbol::Odd;
-    same(&rt, read_closed(&marks[..59])?, broken(2));
-    same(&rt, read_closed(&marks[..61])?, broken(2));
-    marks[58].at = moment(60_100_001)?;
-    same(&rt, read_closed(&marks[..61])?, broken(1));
-    Ok(())
+    comes_to(&rt, &marks, 59, broken(2));
+    comes_to(&rt, &marks, 61, broken(2));
+    marks[58].at = moment(60_100_001);
+    comes_to(&rt, &marks, 61, broken(1));
 }
 
 // Rules that are not neighbours: the zone bits, the parity of the minute and the weekday.
 #[test]
-fn the_least_broken_rule_is_named(rt: HostRuntime) -> Result<(), Fail> {
-    let mut marks = with_changes(&rt, &[17, 21, 44, 58])?;
-    same(&rt, read_closed(&marks[..59])?, broken(11));
+fn the_least_broken_rule_is_named(rt: HostRuntime) {
+    let mut marks = with_changes(&rt, &[17, 21, 44, 58]);
+    comes_to(&rt, &marks, 59, broken(11));
     turn(&rt, &mut marks, &[17]);
-    same(&rt, read_closed(&marks[..59])?, broken(13));
+    comes_to(&rt, &marks, 59, broken(13));
     turn(&rt, &mut marks, &[21]);
-    same(&rt, read_closed(&marks[..59])?, broken(19));
-    same(&rt, read_closed(&marks[..60])?, broken(19));
-    Ok(())
+    comes_to(&rt, &marks, 59, broken(19));
+    comes_to(&rt, &marks, 60, broken(19));
 }
 
 // With a 60th mark and the weekday of the next day, and with the right weekday.
 #[test]
-fn the_weekday_comes_before_the_60th_mark(rt: HostRuntime) -> Result<(), Fail> {
-    let mut marks = with_changes(&rt, &[42, 58])?;
-    same(&rt, read_closed(&marks[..60])?, broken(23));
+fn the_weekday_comes_before_the_60th_mark(rt: HostRuntime) {
+    let mut marks = with_changes(&rt, &[42, 58]);
+    comes_to(&rt, &marks, 60, broken(23));
     turn(&rt, &mut marks, &[42, 58]);
-    same(&rt, read_closed(&marks[..60])?, broken(24));
-    Ok(())
+    comes_to(&rt, &marks, 60, broken(24));
 }
 
 #[test]
-fn marks_are_counted_and_spaced(rt: HostRuntime) -> Result<(), Fail> {
-    let mut marks = frame(&NEW_YEAR)?;
-    same(&rt, read_closed(&[])?, broken(3));
-    same(&rt, read_closed(&marks[..58])?, broken(3));
-    same(&rt, read_closed(&marks[..61])?, broken(3));
-    marks[58].at = moment(60_100_000)?;
-    same(
-        &rt,
-        read_closed(&marks[..59])?,
-        minute(3976257600, 0, false),
-    );
-    marks[58].at = moment(60_100_001)?;
-    same(&rt, read_closed(&marks[..59])?, broken(1));
-    Ok(())
+fn marks_are_counted_and_spaced(rt: HostRuntime) {
+    let mut marks = frame(&NEW_YEAR);
+    comes_to(&rt, &[], 0, broken(3));
+    comes_to(&rt, &marks, 58, broken(3));
+    comes_to(&rt, &marks, 61, broken(3));
+    marks[58].at = moment(60_100_000);
+    comes_to(&rt, &marks, 59, minute(3976257600, 0, false));
+    marks[58].at = moment(60_100_001);
+    comes_to(&rt, &marks, 59, broken(1));
 }
 
 // Places 1 to 16 carry other things. A leap second is announced for the end of a month only.
 #[test]
-fn what_is_passed_over_changes_nothing(rt: HostRuntime) -> Result<(), Fail> {
-    let marks = with_changes(&rt, &[1, 5, 14, 15, 16, 19])?;
-    same(
-        &rt,
-        read_closed(&marks[..59])?,
-        minute(3976257600, 0, false),
-    );
-    Ok(())
+fn what_is_passed_over_changes_nothing(rt: HostRuntime) {
+    let marks = with_changes(&rt, &[1, 5, 14, 15, 16, 19]);
+    comes_to(&rt, &marks, 59, minute(3976257600, 0, false));
 }
 
 // In the symbols of a minute these places are One, up to this number of symbols; the rest of the room stays.

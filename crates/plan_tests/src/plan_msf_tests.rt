@@ -1,11 +1,10 @@
 //! Frames of MSF that are read, refused and spelt.
 ghost use Rattle.plan_msf.specs.Spelling.{IsSpellable};
 
-use crate::shared::{broken, moment, plain, same};
+use crate::shared::{Answer, broken, is_answer, moment, plain, same};
 use plan_msf::{read, spell};
 use std::process::Abort;
-use std::test::Fail;
-use tick_units::{Broken, Coded, Mark, Symbol};
+use tick_units::{Coded, Mark, Symbol};
 
 // The places whose bit A is 1, and those whose bit B is.
 #[derive(Clone, Copy)]
@@ -72,28 +71,37 @@ fn symbol(a: bool, b: bool) -> Symbol {
 }
 
 // Marks a second apart, of which these bits are 1, except for the changed ones. The first is the minute mark.
-fn frame(ones: Ones, changed: Ones) -> Result<[Mark; 61], Fail> {
+fn frame(ones: Ones, changed: Ones) -> [Mark; 61] {
     let mut marks = [Mark {
-        at: moment(0)?,
+        at: moment(0),
         symbol: Symbol::Long,
     }; 61];
     for (place, mark) in marks.iter_mut().enumerate() {
-        mark.at = moment(2_000_000 + 1_000_000 * place as u64)?;
+        mark.at = moment(2_000_000 + 1_000_000 * place as u64);
         if place > 0 {
             let a = ones.a.contains(&place) != changed.a.contains(&place);
             let b = ones.b.contains(&place) != changed.b.contains(&place);
             mark.symbol = symbol(a, b);
         }
     }
-    Ok(marks)
+    marks
 }
 
-// What a segment comes to that is closed a minute after its first mark.
-fn read_closed(segment: &[Mark]) -> Result<Result<Coded, Broken>, Fail> {
-    Ok(read(segment, moment(62_000_000)?))
+// So many of these marks come to this, where the next mark starts at this microsecond.
+fn comes_to_by(rt: &impl Abort, marks: &[Mark], count: usize, close: u64, wanted: Answer) {
+    is_answer(
+        rt,
+        read(&marks[..count.min(marks.len())], moment(close)),
+        wanted,
+    );
 }
 
-fn minute(minute: u64, summer: bool) -> Result<Coded, Broken> {
+// So many of these marks come to this, closed a minute after the first.
+fn comes_to(rt: &impl Abort, marks: &[Mark], count: usize, wanted: Answer) {
+    comes_to_by(rt, marks, count, 62_000_000, wanted);
+}
+
+fn minute(minute: u64, summer: bool) -> Answer {
     Ok(Coded {
         minute,
         leap_at: 0,
@@ -101,80 +109,82 @@ fn minute(minute: u64, summer: bool) -> Result<Coded, Broken> {
     })
 }
 
-#[test]
-fn frames_are_read(rt: HostRuntime) -> Result<(), Fail> {
-    let rows = [
-        (NEW_YEAR, minute(3976257600, false)),
-        (SUNDAY, minute(3155760000, false)),
-        (STANDARD, minute(3983734740, false)),
-        (SUMMER, minute(3983734800, true)),
-        (SATURDAY, minute(4001848680, true)),
-        (FIRST, minute(3155673600, false)),
-        (LAST, minute(6311433540, false)),
-    ];
-    for (ones, wanted) in rows {
-        let marks = frame(ones, NONE)?;
-        same(&rt, read_closed(&marks[..60])?, wanted);
-    }
-    let summer = Ones { a: &[], b: &[58] };
-    let marks = frame(FIRST, summer)?;
-    same(&rt, read_closed(&marks[..60])?, minute(3155670000, true));
-
-    // Thursday 2024-02-29
-    let leap_day = Ones {
-        a: &[23, 28, 29, 30, 32],
-        b: &[54],
-    };
-    let marks = frame(NEW_YEAR, leap_day)?;
-    same(&rt, read_closed(&marks[..60])?, minute(3918196800, false));
-    Ok(())
+// The frame of these bits, except for the changed ones, comes to this.
+fn is_read(rt: &impl Abort, ones: Ones, changed: Ones, wanted: Answer) {
+    comes_to(rt, &frame(ones, changed), 60, wanted);
 }
 
-// Each row changes these bits of the frame of NEW_YEAR.
+const TO_SUMMER: Ones = Ones { a: &[], b: &[58] };
+
+// Thursday 2024-02-29.
+const TO_LEAP_DAY: Ones = Ones {
+    a: &[23, 28, 29, 30, 32],
+    b: &[54],
+};
+
 #[test]
-fn each_rule_is_broken_alone(rt: HostRuntime) -> Result<(), Fail> {
-    let rows = [
-        (&[52][..], &[][..], 30),
-        (&[53], &[], 30),
-        (&[58], &[], 30),
-        (&[59], &[], 30),
-        (&[17], &[], 31),
-        (&[24], &[], 31),
-        (&[], &[54], 31),
-        (&[25], &[], 32),
-        (&[35], &[], 32),
-        (&[], &[55], 32),
-        (&[36], &[], 33),
-        (&[38], &[], 33),
-        (&[], &[56], 33),
-        (&[39], &[], 34),
-        (&[51], &[], 34),
-        (&[], &[57], 34),
-        (&[48, 50], &[], 35),
-        (&[45, 46], &[], 35),
-        (&[41], &[57], 36),
-        (&[39], &[57], 36),
-        (&[39, 40, 42, 43], &[], 36),
-        (&[35], &[55], 37),
-        (&[30, 31, 34, 35], &[], 37),
-        (&[32, 34], &[], 37),
-        (&[37, 38], &[], 38),
-        (&[29], &[55], 39),
-        (&[25, 28], &[], 39),
-        (&[26, 28], &[], 39),
-        (&[21], &[54], 40),
-        (&[17], &[54], 40),
-        (&[28, 29, 30, 31, 35], &[55], 41),
-        (&[28, 29, 30, 32], &[], 41),
-        (&[38], &[56], 42),
-        (&[36], &[56], 42),
-        (&[34, 35], &[], 42),
-    ];
+fn frames_are_read(rt: HostRuntime) {
+    is_read(&rt, NEW_YEAR, NONE, minute(3976257600, false));
+    is_read(&rt, SUNDAY, NONE, minute(3155760000, false));
+    is_read(&rt, STANDARD, NONE, minute(3983734740, false));
+    is_read(&rt, SUMMER, NONE, minute(3983734800, true));
+    is_read(&rt, SATURDAY, NONE, minute(4001848680, true));
+    is_read(&rt, FIRST, NONE, minute(3155673600, false));
+    is_read(&rt, LAST, NONE, minute(6311433540, false));
+    is_read(&rt, FIRST, TO_SUMMER, minute(3155670000, true));
+    is_read(&rt, NEW_YEAR, TO_LEAP_DAY, minute(3918196800, false));
+}
+
+// Each row changes these bits A and B of the frame of NEW_YEAR, which breaks this rule.
+type Row<'a> = (&'a [usize], &'a [usize], u8);
+
+const ALONE: [Row<'static>; 35] = [
+    (&[52], &[], 30),
+    (&[53], &[], 30),
+    (&[58], &[], 30),
+    (&[59], &[], 30),
+    (&[17], &[], 31),
+    (&[24], &[], 31),
+    (&[], &[54], 31),
+    (&[25], &[], 32),
+    (&[35], &[], 32),
+    (&[], &[55], 32),
+    (&[36], &[], 33),
+    (&[38], &[], 33),
+    (&[], &[56], 33),
+    (&[39], &[], 34),
+    (&[51], &[], 34),
+    (&[], &[57], 34),
+    (&[48, 50], &[], 35),
+    (&[45, 46], &[], 35),
+    (&[41], &[57], 36),
+    (&[39], &[57], 36),
+    (&[39, 40, 42, 43], &[], 36),
+    (&[35], &[55], 37),
+    (&[30, 31, 34, 35], &[], 37),
+    (&[32, 34], &[], 37),
+    (&[37, 38], &[], 38),
+    (&[29], &[55], 39),
+    (&[25, 28], &[], 39),
+    (&[26, 28], &[], 39),
+    (&[21], &[54], 40),
+    (&[17], &[54], 40),
+    (&[28, 29, 30, 31, 35], &[55], 41),
+    (&[28, 29, 30, 32], &[], 41),
+    (&[38], &[56], 42),
+    (&[36], &[56], 42),
+    (&[34, 35], &[], 42),
+];
+
+fn are_broken(rt: &impl Abort, rows: &[Row<'static>]) {
     for (a, b, rule) in rows {
-        let marks = frame(NEW_YEAR, Ones { a, b })?;
-        same(&rt, read_closed(&marks[..60])?, broken(rule));
+        is_read(rt, NEW_YEAR, Ones { a, b }, broken(*rule));
     }
-    Ok(())
+}
+
+#[test]
+fn each_rule_is_broken_alone(rt: HostRuntime) {
+    are_broken(&rt, &ALONE);
 }
 
 // Changes of the frame of NEW_YEAR. Each breaks the rule beside it and no other. The rules 40 and 41, and 41 and 42, are never
@@ -222,104 +232,88 @@ fn turn(marks: &mut [Mark; 61], ones: &Ones) {
     }
 }
 
-fn lesser_is_named(rt: &impl Abort, breaks: &[(Ones, u8)]) -> Result<(), Fail> {
+fn lesser_is_named(rt: &impl Abort, breaks: &[(Ones, u8)]) {
     for (i, (changed, rule)) in breaks.iter().enumerate() {
-        let mut marks = frame(NEW_YEAR, *changed)?;
-        same(&rt, read_closed(&marks[..60])?, broken(*rule));
+        let mut marks = frame(NEW_YEAR, *changed);
+        comes_to(rt, &marks, 60, broken(*rule));
         if let Some((next, _)) = breaks.get(i + 1) {
             turn(&mut marks, next);
-            same(&rt, read_closed(&marks[..60])?, broken(*rule));
+            comes_to(rt, &marks, 60, broken(*rule));
         }
     }
-    Ok(())
 }
 
 // Where a segment breaks two neighbouring rules, the lesser is named.
 #[test]
-fn of_two_rules_the_lesser_is_named(rt: HostRuntime) -> Result<(), Fail> {
-    lesser_is_named(&rt, &BREAKS)
+fn of_two_rules_the_lesser_is_named(rt: HostRuntime) {
+    lesser_is_named(&rt, &BREAKS);
 }
 
 // A day that its month does not have, in an invalid year, and on another weekday.
+const NO_DATES: [Row<'static>; 2] = [
+    (&[17, 28, 29, 30, 31, 35], &[54, 55], 40),
+    (&[28, 29, 30, 32, 36], &[56], 41),
+];
+
 #[test]
-fn a_date_is_judged_where_there_is_one(rt: HostRuntime) -> Result<(), Fail> {
-    let rows = [
-        (&[17, 28, 29, 30, 31, 35][..], &[54, 55][..], 40),
-        (&[28, 29, 30, 32, 36], &[56], 41),
-    ];
-    for (a, b, rule) in rows {
-        let marks = frame(NEW_YEAR, Ones { a, b })?;
-        same(&rt, read_closed(&marks[..60])?, broken(rule));
-    }
-    Ok(())
+fn a_date_is_judged_where_there_is_one(rt: HostRuntime) {
+    are_broken(&rt, &NO_DATES);
 }
 
 // A frame without its identifier, with a mark too few, then an odd width too, then a late closing mark too.
 #[test]
-fn spacing_comes_before_width_and_width_before_length(rt: HostRuntime) -> Result<(), Fail> {
-    let mut marks = frame(NEW_YEAR, Ones { a: &[52], b: &[] })?;
-    let close = moment(61_000_000)?;
-    same(&rt, read(&marks[..59], close), broken(3));
+fn spacing_comes_before_width_and_width_before_length(rt: HostRuntime) {
+    let mut marks = frame(NEW_YEAR, Ones { a: &[52], b: &[] });
+    comes_to_by(&rt, &marks, 59, 61_000_000, broken(3));
     marks[3].symbol = Symbol::Odd;
-    same(&rt, read_closed(&marks[..60])?, broken(2));
-    same(&rt, read(&marks[..59], close), broken(2));
-    same(&rt, read_closed(&marks[..59])?, broken(1));
-    Ok(())
+    comes_to(&rt, &marks, 60, broken(2));
+    comes_to_by(&rt, &marks, 59, 61_000_000, broken(2));
+    comes_to(&rt, &marks, 59, broken(1));
 }
 
 // The closing mark is spaced as the marks are.
 #[test]
-fn marks_are_counted_and_spaced(rt: HostRuntime) -> Result<(), Fail> {
-    let mut marks = frame(NEW_YEAR, NONE)?;
-    let rows = [
-        (61_900_000, minute(3976257600, false)),
-        (62_100_000, minute(3976257600, false)),
-        (61_899_999, broken(1)),
-        (62_100_001, broken(1)),
-    ];
-    for (close, wanted) in rows {
-        let close = moment(close)?;
-        same(&rt, read(&marks[..60], close), wanted);
-    }
-    let close = moment(63_000_000)?;
-    same(&rt, read(&marks, close), broken(3));
-    same(&rt, read(&[], close), broken(3));
-    marks[1].at = moment(3_100_001)?;
-    same(&rt, read_closed(&marks[..60])?, broken(1));
-    Ok(())
+fn marks_are_counted_and_spaced(rt: HostRuntime) {
+    let mut marks = frame(NEW_YEAR, NONE);
+    comes_to_by(&rt, &marks, 60, 61_900_000, minute(3976257600, false));
+    comes_to_by(&rt, &marks, 60, 62_100_000, minute(3976257600, false));
+    comes_to_by(&rt, &marks, 60, 61_899_999, broken(1));
+    comes_to_by(&rt, &marks, 60, 62_100_001, broken(1));
+    comes_to_by(&rt, &marks, 61, 63_000_000, broken(3));
+    comes_to_by(&rt, &[], 0, 63_000_000, broken(3));
+    marks[1].at = moment(3_100_001);
+    comes_to(&rt, &marks, 60, broken(1));
 }
 
 // A second reduction 251 ms after the first is a mark of its own.
 #[test]
-fn a_mark_too_many_is_spaced_wrongly(rt: HostRuntime) -> Result<(), Fail> {
-    let mut marks = frame(NEW_YEAR, NONE)?;
+fn a_mark_too_many_is_spaced_wrongly(rt: HostRuntime) {
+    let mut marks = frame(NEW_YEAR, NONE);
     for place in (2..61).rev() {
         marks[place] = Mark {
-            at: moment(1_000_000 + 1_000_000 * place as u64)?,
+            at: moment(1_000_000 + 1_000_000 * place as u64),
             symbol: marks[place - 1].symbol,
         };
     }
     marks[2] = Mark {
-        at: moment(3_251_000)?,
+        at: moment(3_251_000),
         symbol: Symbol::Zero,
     };
-    same(&rt, read_closed(&marks)?, broken(1));
-    Ok(())
+    comes_to(&rt, &marks, 61, broken(1));
 }
 
 // Bits A up to place 16 and bits B up to place 53 carry other things, and no rule concerns the minute mark's width.
 #[test]
-fn what_is_passed_over_changes_nothing(rt: HostRuntime) -> Result<(), Fail> {
+fn what_is_passed_over_changes_nothing(rt: HostRuntime) {
     let passed = Ones {
         a: &[1, 2, 5, 14, 16],
         b: &[1, 2, 16, 17, 24, 29, 36, 45, 52, 53, 59],
     };
-    let mut marks = frame(NEW_YEAR, passed)?;
-    same(&rt, read_closed(&marks[..60])?, minute(3976257600, false));
+    let mut marks = frame(NEW_YEAR, passed);
+    comes_to(&rt, &marks, 60, minute(3976257600, false));
     marks[0].symbol = Symbol::Both;
     marks[4].symbol = Symbol::Long;
-    same(&rt, read_closed(&marks[..60])?, minute(3976257600, false));
-    Ok(())
+    comes_to(&rt, &marks, 60, minute(3976257600, false));
 }
 
 // The symbols of a minute are the minute mark and these bits; the rest of the room stays.
