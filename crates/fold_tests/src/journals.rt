@@ -4,10 +4,12 @@ ghost use Rattle.journal_entry.specs.Lawful.{IsLawfulKind, IsLawfulVerdict, IsLa
 ghost use Rattle.tick_units.specs.Samples as samples;
 ghost use Rattle.system_fold.specs.Settings.{AreLawful, IsJournal, IsKept};
 
+use crate::shared::same;
 use clock_page::Page;
 use feed_link::Address;
 use journal_entry::{ENTRY_ROOM, Entry, What, read_entry};
-use std::test::Fail;
+use std::alloc::Global;
+use std::process::Abort;
 use system_fold::{Settings, SourceKind, page_by_steps, page_from_scratch, page_text};
 use tick_units::{END_OF_TOLD, Kind, Plan, Sample, Span, is_told};
 
@@ -122,59 +124,54 @@ fn are_lawful(settings: &Settings) -> bool
 }
 
 /// The page of a journal, where it is one of valid entries: by steps and from scratch, which give the same.
-pub fn page_after(settings: &Settings, journal: &[Entry]) -> Result<Page, Fail> {
+pub fn page_after(rt: &impl Abort, settings: &Settings, journal: &[Entry]) -> Page {
     if !are_lawful(settings) {
-        return Err("no lawful settings")?;
+        panic!(*rt; "no valid settings");
     }
     if !is_journal(settings, journal) {
-        return Err("no lawful journal")?;
+        panic!(*rt; "no valid journal");
     }
     if journal.len() > 1 << 22 {
-        return Err("too long")?;
+        panic!(*rt; "too long");
     }
     let page = page_by_steps(settings, journal);
-    if page_from_scratch(settings, journal) != page {
-        return Err("the two pages differ")?;
-    }
-    Ok(page)
+    same(rt, page_from_scratch(settings, journal), page);
+    page
 }
 
-/// The line of a page.
-pub fn line_of(rt: &HostRuntime, page: &Page) -> Result<String, Fail> {
+/// The line of a page is this one. Where it isn't, the message says why this page was made.
+pub fn has_line(rt: &impl Abort, why: &str, page: &Page, line: &str) {
     let mut out = [0; ENTRY_ROOM];
     let length = page_text(page, &mut out);
-    Ok(String::from_utf8(out[..length].to_vec(rt.alloc())?)?)
+    match str::from_utf8(&out[..length]) {
+        Ok(text) => same(rt, (why, text), (why, line)),
+        Err(_) => panic!(*rt; "no text"),
+    }
 }
 
 /// Settings with feeds of these kinds.
-pub fn settings_of(bound_ms: u32, kinds: &[SourceKind]) -> Result<Settings, Fail>
+pub fn settings_of(rt: &impl Abort, bound_ms: u32, kinds: &[SourceKind]) -> Settings
     requires least { 1 ≤ bound_ms }
     requires most { bound_ms ≤ 16000 }
 {
     let mut settings = Settings::new(bound_ms);
     for kind in kinds {
         if settings.count() >= 16 {
-            return Err("too many feeds")?;
+            panic!(*rt; "too many feeds");
         }
         settings.add(*kind);
     }
-    Ok(settings)
+    settings
 }
 
 /// The entries of these texts.
-pub fn journal_of(rt: &HostRuntime, texts: &[&str]) -> Result<Vec<Entry>, Fail> {
-    let mut journal = Vec::new(rt.alloc());
+pub fn journal_of(rt: &impl Abort, alloc: Global, texts: &[&str]) -> Vec<Entry> {
+    let mut journal = Vec::new(alloc);
     for text in texts {
-        journal.push(read_entry(text.as_bytes()).ok_or("no entry")?)?;
+        let entry = read_entry(text.as_bytes()).expect(rt, "no entry");
+        journal.push(entry).expect(rt, "no memory");
     }
-    Ok(journal)
-}
-
-/// The line of the page of the entries of these texts.
-pub fn text_after(rt: &HostRuntime, settings: &Settings, texts: &[&str]) -> Result<String, Fail> {
-    let journal = journal_of(rt, texts)?;
-    let page = page_after(settings, &journal)?;
-    line_of(rt, &page)
+    journal
 }
 
 /// A journal, and the line of its page, which another program computed from the rules.
@@ -186,11 +183,16 @@ pub struct Odd<'a> {
 }
 
 /// The page of an odd journal has its line.
-pub fn is_the_page(rt: &HostRuntime, odd: &Odd<'_>) -> Result<(), Fail> {
-    let settings = settings_of(1000, odd.kinds)?;
-    let text = text_after(rt, &settings, odd.entries)?;
-    if text.as_str() != odd.line {
-        return Err(odd.why)?;
+fn is_the_page(rt: &impl Abort, alloc: Global, odd: &Odd<'_>) {
+    let settings = settings_of(rt, 1000, odd.kinds);
+    let journal = journal_of(rt, alloc, odd.entries);
+    let page = page_after(rt, &settings, &journal);
+    has_line(rt, odd.why, &page, odd.line);
+}
+
+/// The same of each of these.
+pub fn are_the_pages(rt: &impl Abort, alloc: Global, all: &[Odd<'_>]) {
+    for odd in all {
+        is_the_page(rt, alloc, odd);
     }
-    Ok(())
 }

@@ -1,6 +1,5 @@
 //! Pages of odd journals with leap seconds.
-use crate::journals::{DCF, LEAP, MSF, Odd, SERVER, is_the_page};
-use std::test::Fail;
+use crate::journals::{DCF, LEAP, MSF, Odd, SERVER, are_the_pages};
 
 // Their leap second ends at 3692217600, 2017-01-01 00:00, which is the moment 362000000 where a radio announces it.
 const LEAPS: [Odd<'static>; 18] = [
@@ -227,9 +226,6 @@ const LEAPS: [Odd<'static>; 18] = [
 ];
 
 #[test]
-fn leap_seconds_of_odd_journals(rt: HostRuntime) -> Result<(), Fail> {
-    for odd in &LEAPS {
-        is_the_page(&rt, odd)?;
-    }
-    Ok(())
+fn leap_seconds_of_odd_journals(rt: HostRuntime) {
+    are_the_pages(&rt, rt.alloc(), &LEAPS);
 }
