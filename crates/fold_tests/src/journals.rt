@@ -15,16 +15,10 @@ use tick_units::{END_OF_TOLD, Kind, Plan, Sample, Span, is_told};
 
 pub const DCF: SourceKind = SourceKind::Radio(Plan::Dcf);
 
-pub const MSF: SourceKind = SourceKind::Radio(Plan::Msf);
-
-pub const WWVB: SourceKind = SourceKind::Radio(Plan::Wwvb);
-
 pub const SERVER: SourceKind = SourceKind::Server(Address {
     ip: 0x7f00_0001,
     port: 123,
 });
-
-pub const LEAP: SourceKind = SourceKind::Leap;
 
 fn may_be_told(second: u64) -> bool
     ensures { result ≡ true → IsTold second }
@@ -164,35 +158,72 @@ pub fn settings_of(rt: &impl Abort, bound_ms: u32, kinds: &[SourceKind]) -> Sett
     settings
 }
 
+// Adds the entry of a text to a journal.
+fn add_entry(rt: &impl Abort, journal: &mut Vec<Entry>, text: &str) {
+    let entry = read_entry(text.as_bytes()).expect(rt, "no entry");
+    journal.push(entry).expect(rt, "no memory");
+}
+
 /// The entries of these texts.
 pub fn journal_of(rt: &impl Abort, alloc: Global, texts: &[&str]) -> Vec<Entry> {
     let mut journal = Vec::new(alloc);
     for text in texts {
-        let entry = read_entry(text.as_bytes()).expect(rt, "no entry");
-        journal.push(entry).expect(rt, "no memory");
+        add_entry(rt, &mut journal, text);
     }
     journal
 }
 
-/// A journal, and the line of its page, which another program computed from the rules.
-pub struct Odd<'a> {
-    pub why: &'a str,
-    pub kinds: &'a [SourceKind],
-    pub entries: &'a [&'a str],
-    pub line: &'a str,
+// The kind of a feed, by its word.
+fn kind_of(rt: &impl Abort, word: &str) -> SourceKind {
+    match word {
+        "dcf" => DCF,
+        "msf" => SourceKind::Radio(Plan::Msf),
+        "wwvb" => SourceKind::Radio(Plan::Wwvb),
+        "server" => SERVER,
+        "leap" => SourceKind::Leap,
+        _ => panic!(*rt; "no kind of a feed: {word}"),
+    }
 }
 
-/// The page of an odd journal has its line.
-fn is_the_page(rt: &impl Abort, alloc: Global, odd: &Odd<'_>) {
-    let settings = settings_of(rt, 1000, odd.kinds);
-    let journal = journal_of(rt, alloc, odd.entries);
-    let page = page_after(rt, &settings, &journal);
-    has_line(rt, odd.why, &page, odd.line);
+// Settings with a bound of a second and feeds of these kinds.
+fn settings_by(rt: &impl Abort, words: &str) -> Settings {
+    let mut settings = Settings::new(1000);
+    for word in words.split(' ') {
+        if settings.count() >= 16 {
+            panic!(*rt; "too many feeds");
+        }
+        settings.add(kind_of(rt, word));
+    }
+    settings
 }
 
-/// The same of each of these.
-pub fn are_the_pages(rt: &impl Abort, alloc: Global, all: &[Odd<'_>]) {
-    for odd in all {
-        is_the_page(rt, alloc, odd);
+// The first line of a text, and the others.
+fn cut<'a>(rt: &impl Abort, text: &'a str) -> (&'a str, &'a str) {
+    match text.split_once("\n") {
+        Some(both) => both,
+        None => panic!(*rt; "too few lines: {text}"),
+    }
+}
+
+// The page of an odd journal has its line, which another program computed from the rules. The text says why the journal is odd,
+// and has its feeds, the line of its page and its entries.
+fn is_the_page(rt: &impl Abort, alloc: Global, odd: &str) {
+    let (why, rest) = cut(rt, odd);
+    let (feeds, rest) = cut(rt, rest);
+    let (line, entries) = cut(rt, rest);
+    let settings = settings_by(rt, feeds);
+    let mut journal = Vec::new(alloc);
+    for text in entries.lines() {
+        add_entry(rt, &mut journal, text);
+    }
+    has_line(rt, why, &page_after(rt, &settings, &journal), line);
+}
+
+/// The same of each journal of a table, which begins with `#`.
+pub fn are_the_pages(rt: &impl Abort, alloc: Global, table: &str) {
+    for odd in table.split('#') {
+        if !odd.is_empty() {
+            is_the_page(rt, alloc, odd);
+        }
     }
 }
