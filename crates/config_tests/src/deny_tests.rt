@@ -2,12 +2,15 @@
 ghost use Rattle.std.specs.Prelude.{◌≡◌, IfOk};
 ghost use Rattle.station_config.specs.Station.{gate_of};
 
-use crate::tests::{answer, push_times, same, wrong};
+use crate::key_tests::push_keys;
+use crate::tests::{
+    are_right, are_right_between, has_answer, one_of_each, push_times, same, station_of,
+};
 use kiss_gate::{ClientGate, GateOpen};
 use reply_core::Code;
-use station_config::{Station, read_station};
+use station_config::Station;
 use std::alloc::Global;
-use std::test::Fail;
+use std::process::Abort;
 use tick_units::Local;
 
 // Each line has a file, with `|` for its line feeds, and the file's result.
@@ -85,63 +88,46 @@ start = -1|[[deny]]|net = "" -> range start
 "#;
 
 #[test]
-fn gaps_and_clients(rt: HostRuntime) -> Result<(), Fail> {
-    same(&rt, wrong(rt.alloc(), NUMBERS, "", "|")?, None);
-    Ok(())
+fn gaps_and_clients(rt: HostRuntime) {
+    are_right(&rt, rt.alloc(), NUMBERS);
 }
 
 #[test]
-fn texts_of_nets(rt: HostRuntime) -> Result<(), Fail> {
-    same(
-        &rt,
-        wrong(rt.alloc(), NETS, "[[deny]]|net = \"", "\"|")?,
-        None,
-    );
-    Ok(())
+fn texts_of_nets(rt: HostRuntime) {
+    are_right_between(&rt, rt.alloc(), NETS, "[[deny]]|net = \"", "\"|");
 }
 
 #[test]
-fn faults_of_nets(rt: HostRuntime) -> Result<(), Fail> {
-    same(&rt, wrong(rt.alloc(), TABLES, "", "|")?, None);
-    same(&rt, wrong(rt.alloc(), ORDER, "", "|")?, None);
-    Ok(())
+fn faults_of_nets(rt: HostRuntime) {
+    are_right(&rt, rt.alloc(), TABLES);
+    are_right(&rt, rt.alloc(), ORDER);
+}
+
+// Sixteen nets, then a further text, and keys with the identifiers from 1 up to the one before this.
+fn nets_and_keys(alloc: Global, further: &str, end: u8) -> String {
+    let mut text = String::new(alloc);
+    push_times(&mut text, "[[deny]]\nnet = \"1.2.3.4/8\"\n", 16);
+    push_times(&mut text, further, 1);
+    push_keys(&mut text, end);
+    text
+}
+
+// Such a file has this result.
+fn nets_have_answer(rt: &impl Abort, alloc: Global, further: &str, end: u8, want: &str) {
+    let file = nets_and_keys(alloc, further, end);
+    has_answer(rt, alloc, file.as_bytes(), want);
 }
 
 // There may be sixteen nets; of more the texts are looked at first, and the keys are counted before them.
 #[test]
-fn seventeen_nets(rt: HostRuntime) -> Result<(), Fail> {
+fn seventeen_nets(rt: HostRuntime) {
     let alloc = rt.alloc();
-    let mut nets = String::new(alloc);
-    push_times(&mut nets, "[[deny]]\nnet = \"1.2.3.4/8\"\n", 16)?;
-    same(
-        &rt,
-        answer(alloc, nets.as_bytes())?.as_str(),
-        "4294967296 0",
-    );
-    let bad = format!(in alloc; "{nets}[[deny]]\nnet = \"\"\n")?;
-    same(
-        &rt,
-        answer(alloc, bad.as_bytes())?.as_str(),
-        "range deny.16.net",
-    );
-    nets.push_str("[[deny]]\nnet = \"1.2.3.4/8\"\n")?;
-    same(
-        &rt,
-        answer(alloc, nets.as_bytes())?.as_str(),
-        "many deny 17",
-    );
-    for id in 1..10u8 {
-        nets.push_str(format!(in alloc; "[[key]]\nid = {id}\nsecret = \"a\"\n")?.as_str())?;
-    }
-    same(&rt, answer(alloc, nets.as_bytes())?.as_str(), "many key 9");
-    Ok(())
-}
-
-fn station(alloc: Global, text: &[u8]) -> Result<Station, Fail> {
-    match read_station(alloc, text) {
-        Ok(station) => Ok(station),
-        Err(_) => Err("refused")?,
-    }
+    let bad = "[[deny]]\nnet = \"\"\n";
+    let further = "[[deny]]\nnet = \"1.2.3.4/8\"\n";
+    nets_have_answer(&rt, alloc, "", 0, "4294967296 0");
+    nets_have_answer(&rt, alloc, bad, 0, "range deny.16.net");
+    nets_have_answer(&rt, alloc, further, 0, "many deny 17");
+    nets_have_answer(&rt, alloc, further, 10, "many key 9");
 }
 
 // The gate of clients with which a link of a station begins.
@@ -151,62 +137,69 @@ fn gate(alloc: Global, station: &Station) -> Result<ClientGate, GateOpen>
     ClientGate::open(alloc, station.deny(), station.gap(), station.clients())
 }
 
-// Whether requests of these addresses at one moment get these codes in turn.
-fn are_judged(alloc: Global, text: &[u8], requests: &[(u32, Code)]) -> Result<bool, Fail> {
-    let Ok(mut gate) = gate(alloc, &station(alloc, text)?) else {
-        return Err("no memory")?;
+// A request of an address, and the code that it gets.
+type Asked = (u32, Code);
+
+// Requests of these addresses at one moment get these codes in turn.
+fn are_judged(rt: &impl Abort, alloc: Global, text: &[u8], requests: &[Asked]) {
+    let Ok(mut gate) = gate(alloc, &station_of(rt, alloc, text)) else {
+        panic!(*rt; "no memory");
     };
-    let Some(at) = Local::new(303_000_000) else {
-        return Err("no moment")?;
-    };
-    let mut all = true;
+    let at = Local::new(303_000_000).unwrap();
     for (ip, code) in requests {
-        all = gate.judge(*ip, at).code == *code && all;
+        let found = gate.judge(*ip, at).code;
+        same(rt, (*ip, found), (*ip, *code));
     }
-    Ok(all)
 }
 
 const DENYING: &[u8] =
     b"gap = 2000000\nclients = 2\n[[deny]]\nnet = \"127.0.0.2/32\"\n[[deny]]\nnet = \"10.1.2.3/8\"\n";
 
-#[test]
-fn the_numbers_of_a_station(rt: HostRuntime) -> Result<(), Fail> {
-    let alloc = rt.alloc();
-    let denying = station(alloc, DENYING)?;
-    same(&rt, (denying.gap(), denying.clients()), (2_000_000, 2));
-    let plain = station(alloc, b"")?;
-    same(&rt, (plain.gap(), plain.clients()), (0, 1024));
-    let drill = Station::one_of_each(alloc)?;
-    same(&rt, (drill.gap(), drill.clients()), (0, 1024));
-    Ok(())
+// The gap of a station, and how many clients it knows.
+fn numbers_of(station: &Station) -> (u64, u32) {
+    (station.gap(), station.clients())
 }
 
 #[test]
-fn the_nets_of_a_station(rt: HostRuntime) -> Result<(), Fail> {
+fn the_numbers_of_a_station(rt: HostRuntime) {
     let alloc = rt.alloc();
-    let requests = [
-        (0x7f00_0001, Code::Pass),
-        (0x7f00_0002, Code::Deny),
-        (0x7f00_0003, Code::Pass),
-        (0x0a00_0000, Code::Deny),
-        (0x0aff_ffff, Code::Deny),
-        (0x09ff_ffff, Code::Pass),
-        (0x09ff_ffff, Code::Rate),
-        (0x0b00_0000, Code::Pass),
-        (0x7f00_0003, Code::Pass),
-    ];
-    assert!(rt; are_judged(alloc, DENYING, &requests)?);
-    let none = [
-        (0x7f00_0002, Code::Pass),
-        (0x7f00_0002, Code::Pass),
-        (0xffff_ffff, Code::Pass),
-    ];
-    assert!(rt; are_judged(alloc, b"", &none)?);
-    let all = [
-        (0, Code::Deny),
-        (0x7f00_0001, Code::Deny),
-        (0xffff_ffff, Code::Deny),
-    ];
-    assert!(rt; are_judged(alloc, b"[[deny]]\nnet = \"1.2.3.4/0\"\n", &all)?);
-    Ok(())
+    let denying = station_of(&rt, alloc, DENYING);
+    same(&rt, numbers_of(&denying), (2_000_000, 2));
+    let plain = station_of(&rt, alloc, b"");
+    same(&rt, numbers_of(&plain), (0, 1024));
+    let drill = one_of_each(&rt, alloc);
+    same(&rt, numbers_of(&drill), (0, 1024));
+}
+
+const SOME_DENIED: [Asked; 9] = [
+    (0x7f00_0001, Code::Pass),
+    (0x7f00_0002, Code::Deny),
+    (0x7f00_0003, Code::Pass),
+    (0x0a00_0000, Code::Deny),
+    (0x0aff_ffff, Code::Deny),
+    (0x09ff_ffff, Code::Pass),
+    (0x09ff_ffff, Code::Rate),
+    (0x0b00_0000, Code::Pass),
+    (0x7f00_0003, Code::Pass),
+];
+
+const NONE_DENIED: [Asked; 3] = [
+    (0x7f00_0002, Code::Pass),
+    (0x7f00_0002, Code::Pass),
+    (0xffff_ffff, Code::Pass),
+];
+
+const ALL_DENIED: [Asked; 3] = [
+    (0, Code::Deny),
+    (0x7f00_0001, Code::Deny),
+    (0xffff_ffff, Code::Deny),
+];
+
+#[test]
+fn the_nets_of_a_station(rt: HostRuntime) {
+    let alloc = rt.alloc();
+    are_judged(&rt, alloc, DENYING, &SOME_DENIED);
+    are_judged(&rt, alloc, b"", &NONE_DENIED);
+    let text = b"[[deny]]\nnet = \"1.2.3.4/0\"\n";
+    are_judged(&rt, alloc, text, &ALL_DENIED);
 }

@@ -7,19 +7,36 @@ ghost use Rattle.feed_link.specs.Openings.Wanted.{LogOf};
 ghost use Rattle.station_gear.specs.Gears.{IsEmptyFor, wanted_by};
 ghost use Rattle.station_gear.specs.Opens.{failing_of};
 
-use crate::tests::same;
+use crate::tests::{same, station_of};
 use feed_link::{
     Address, Failed, Hearing, Link, MemoryLink, MemoryOutside, MemorySource, NamedLog, OpenGate,
     Outside, Planned, Source,
 };
-use station_config::{Station, read_station};
+use station_config::Station;
 use station_gear::{Gear, Missing, give_back_gear, open_gear};
 use std::alloc::Global;
 use std::process::Abort;
-use std::test::Fail;
 use tick_units::Local;
 
 const STATION: &str = r#"start = 7000
+[[radio]]
+plan = "dcf"
+log = "b.log"
+[[radio]]
+plan = "msf"
+log = "a.log"
+[[server]]
+address = "127.0.0.1"
+port = 4123
+[[link]]
+port = 5123
+[[link]]
+port = 5001
+"#;
+
+// The same with a leap second file.
+const LISTED: &str = r#"leap_file = "leap"
+start = 7000
 [[radio]]
 plan = "dcf"
 log = "b.log"
@@ -93,42 +110,52 @@ impl Outside for Noting {
 }
 
 // A log under a name, with this text.
-fn log(alloc: Global, name: &str, text: &str) -> Result<NamedLog, Fail> {
-    let text = Vec::from_slice(alloc, text.as_bytes())?;
-    Ok(NamedLog::new(
-        String::from_str(alloc, name)?,
-        MemorySource::new(text, Vec::new(alloc)),
-    ))
+fn log(rt: &impl Abort, alloc: Global, name: &str, text: &str) -> NamedLog {
+    let name = String::from_str(alloc, name).expect(rt, "no memory");
+    let text = Vec::from_slice(alloc, text.as_bytes()).expect(rt, "no memory");
+    NamedLog::new(name, MemorySource::new(text, Vec::new(alloc)))
 }
 
 // A link that receives a datagram from this port.
-fn link(alloc: Global, port: u16) -> Result<MemoryLink, Fail> {
-    let mut hearings = Vec::new(alloc);
-    hearings.push(Planned::Datagram {
+fn link(rt: &impl Abort, alloc: Global, port: u16) -> MemoryLink {
+    let hearing = Planned::Datagram {
         from: Address { ip: 1, port },
         at: Local::new(0).unwrap(),
         bytes: Vec::new(alloc),
-    })?;
-    Ok(MemoryLink::new(alloc, hearings, Vec::new(alloc), Vec::new(alloc), 4, 0)?)
+    };
+    let mut hearings = Vec::new(alloc);
+    hearings.push(hearing).expect(rt, "no memory");
+    MemoryLink::new(alloc, hearings, Vec::new(alloc), Vec::new(alloc), 4, 0).expect(rt, "no memory")
 }
 
-// An outside with the logs "own", "a.log", "leap" and, under the name `second`, a fourth one, and with three links. The opening
-// with this number fails.
-fn outside(alloc: Global, second: &str, failing: u64) -> Result<Noting, Fail> {
+// The logs "a.log", "own", "leap" and, under the name `second`, a fourth one.
+fn logs(rt: &impl Abort, alloc: Global, second: &str) -> Vec<NamedLog> {
     let mut logs = Vec::new(alloc);
-    logs.push(log(alloc, "a.log", "A")?)?;
-    logs.push(log(alloc, second, "B")?)?;
-    logs.push(log(alloc, "own", "")?)?;
-    logs.push(log(alloc, "leap", "L")?)?;
+    for (name, text) in [("a.log", "A"), (second, "B"), ("own", ""), ("leap", "L")] {
+        logs.push(log(rt, alloc, name, text))
+            .expect(rt, "no memory");
+    }
+    logs
+}
+
+fn links(rt: &impl Abort, alloc: Global) -> Vec<MemoryLink> {
     let mut links = Vec::new(alloc);
     for port in [31, 32, 33] {
-        links.push(link(alloc, port)?)?;
+        links.push(link(rt, alloc, port)).expect(rt, "no memory");
     }
-    let fails = vec![in alloc; failing]?;
-    Ok(Noting {
-        inner: MemoryOutside::new(alloc, logs, links, OpenGate::new(), fails, 9, 99)?,
+    links
+}
+
+// An outside with such logs and three links. The opening with this number fails.
+fn outside(rt: &impl Abort, alloc: Global, second: &str, failing: u64) -> Noting {
+    let logs = logs(rt, alloc, second);
+    let links = links(rt, alloc);
+    let fails = Vec::from_slice(alloc, &[failing]).expect(rt, "no memory");
+    let inner = MemoryOutside::new(alloc, logs, links, OpenGate::new(), fails, 9, 99);
+    Noting {
+        inner: inner.expect(rt, "no memory"),
         calls: String::new(alloc),
-    })
+    }
 }
 
 // The first byte of a log.
@@ -215,13 +242,6 @@ fn visit<O: Outside>(
     Ok(visit_gear(outside, station, gear, seen))
 }
 
-// The text of the station with a leap second file.
-fn listed(alloc: Global) -> Result<String, Fail> {
-    let mut text = String::from_str(alloc, "leap_file = \"leap\"\n")?;
-    text.push_str(STATION)?;
-    Ok(text)
-}
-
 // How many events the links of an outside report, where they are in their places.
 fn counts(outside: &Noting) -> [Option<usize>; 3] {
     [count(outside, 0), count(outside, 1), count(outside, 2)]
@@ -243,60 +263,81 @@ struct Visited {
     counts: [Option<usize>; 3],
 }
 
-fn visit_station(alloc: Global, text: &str, second: &str, failing: u64) -> Result<Visited, Fail> {
-    let Ok(station) = read_station(alloc, text.as_bytes()) else {
-        return Err("the station was refused")?;
-    };
-    let gear = Gear::with_room(alloc, &station)?;
-    let mut outside = outside(alloc, second, failing)?;
+// The gear of a station, where nothing is opened yet.
+fn gear_of(rt: &impl Abort, alloc: Global, station: &Station) -> Gear<MemorySource, MemoryLink>
+    ensures { IsEmptyFor station.now result }
+{
+    match Gear::with_room(alloc, station) {
+        Ok(gear) => gear,
+        Err(_) => panic!(*rt; "no memory"),
+    }
+}
+
+fn visit_station(
+    rt: &impl Abort,
+    alloc: Global,
+    text: &str,
+    second: &str,
+    failing: u64,
+) -> Visited {
+    let station = station_of(rt, alloc, text.as_bytes());
+    let gear = gear_of(rt, alloc, &station);
+    let mut outside = outside(rt, alloc, second, failing);
     let mut seen = String::new(alloc);
-    let answer = visit(&mut outside, "own", &station, gear, &mut seen)?;
+    let Ok(answer) = visit(&mut outside, "own", &station, gear, &mut seen) else {
+        panic!(*rt; "the station's own log was not opened");
+    };
     let counts = counts(&outside);
-    Ok(Visited {
+    Visited {
         answer,
         seen,
         calls: outside.calls,
         counts,
-    })
+    }
+}
+
+// A visit has this answer, these calls and these counts.
+fn has_visited(
+    rt: &impl Abort,
+    visited: &Visited,
+    answer: Result<(), Missing>,
+    calls: &str,
+    counts: [Option<usize>; 3],
+) {
+    same(rt, visited.answer, answer);
+    same(rt, visited.calls.as_str(), calls);
+    same(rt, visited.counts, counts);
 }
 
 // All of a station is opened, with these calls, and this is seen of it.
-fn opens_all<R: Abort>(
-    rt: &R,
-    alloc: Global,
-    text: &str,
-    calls: &str,
-    seen: &str,
-) -> Result<(), Fail> {
-    let visited = visit_station(alloc, text, "b.log", 0)?;
-    same(rt, visited.answer, Ok(()));
-    same(rt, visited.calls.as_str(), calls);
+fn opens_all(rt: &impl Abort, alloc: Global, text: &str, calls: &str, seen: &str) {
+    let visited = visit_station(rt, alloc, text, "b.log", 0);
+    has_visited(rt, &visited, Ok(()), calls, [Some(1); 3]);
     same(rt, visited.seen.as_str(), seen);
-    same(rt, visited.counts, [Some(1); 3]);
-    Ok(())
 }
 
 // The opening that fails, what is missing then, and what is seen of the rest.
-fn stops_so<R: Abort>(
-    rt: &R,
-    alloc: Global,
-    text: &str,
-    rows: &[(u64, Missing, &str)],
-) -> Result<(), Fail> {
-    for (failing, missing, seen) in rows {
-        let visited = visit_station(alloc, text, "b.log", *failing)?;
-        same(rt, visited.answer, Err(*missing));
-        same(rt, visited.seen.as_str(), *seen);
+type Stop = (u64, Missing, &'static str);
+
+fn stops_so(rt: &impl Abort, alloc: Global, text: &str, stop: &Stop) {
+    let (failing, missing, seen) = *stop;
+    let visited = visit_station(rt, alloc, text, "b.log", failing);
+    same(rt, (failing, visited.answer), (failing, Err(missing)));
+    same(rt, (failing, visited.seen.as_str()), (failing, seen));
+}
+
+fn each_stops_so(rt: &impl Abort, alloc: Global, text: &str, stops: &[Stop]) {
+    for stop in stops {
+        stops_so(rt, alloc, text, stop);
     }
-    Ok(())
 }
 
 #[test]
-fn all_are_opened_in_order_and_come_back_to_their_places(rt: HostRuntime) -> Result<(), Fail> {
-    opens_all(&rt, rt.alloc(), STATION, ALL, "66 65 31 32 33 ")
+fn all_are_opened_in_order_and_come_back_to_their_places(rt: HostRuntime) {
+    opens_all(&rt, rt.alloc(), STATION, ALL, "66 65 31 32 33 ");
 }
 
-const STOPS: [(u64, Missing, &str); 5] = [
+const STOPS: [Stop; 5] = [
     (2, Missing::Feed(0), ""),
     (3, Missing::Feed(1), "66 "),
     (4, Missing::Feed(2), "66 65 "),
@@ -305,23 +346,17 @@ const STOPS: [(u64, Missing, &str); 5] = [
 ];
 
 #[test]
-fn it_stops_at_the_first_that_fails(rt: HostRuntime) -> Result<(), Fail> {
-    stops_so(&rt, rt.alloc(), STATION, &STOPS)
+fn it_stops_at_the_first_that_fails(rt: HostRuntime) {
+    each_stops_so(&rt, rt.alloc(), STATION, &STOPS);
 }
 
 #[test]
-fn a_leap_second_file_is_opened_behind_the_logs(rt: HostRuntime) -> Result<(), Fail> {
-    let text = listed(rt.alloc())?;
-    opens_all(
-        &rt,
-        rt.alloc(),
-        text.as_str(),
-        ALL_LISTED,
-        "66 65 76 31 32 33 ",
-    )
+fn a_leap_second_file_is_opened_behind_the_logs(rt: HostRuntime) {
+    let seen = "66 65 76 31 32 33 ";
+    opens_all(&rt, rt.alloc(), LISTED, ALL_LISTED, seen);
 }
 
-const STOPS_LISTED: [(u64, Missing, &str); 4] = [
+const STOPS_LISTED: [Stop; 4] = [
     (3, Missing::Feed(1), "66 "),
     (4, Missing::LeapFile, "66 65 "),
     (5, Missing::Feed(2), "66 65 76 "),
@@ -329,42 +364,37 @@ const STOPS_LISTED: [(u64, Missing, &str); 4] = [
 ];
 
 #[test]
-fn it_stops_at_the_first_that_fails_with_a_leap_second_file(rt: HostRuntime) -> Result<(), Fail> {
-    let text = listed(rt.alloc())?;
-    stops_so(&rt, rt.alloc(), text.as_str(), &STOPS_LISTED)
+fn it_stops_at_the_first_that_fails_with_a_leap_second_file(rt: HostRuntime) {
+    each_stops_so(&rt, rt.alloc(), LISTED, &STOPS_LISTED);
 }
 
+const BEFORE_A_FAILURE: &str =
+    "log own; back log; log b.log; log a.log; link 0 @7000; link 5123 @7000; back log; back log; back link; ";
+
 #[test]
-fn what_was_opened_before_a_failure_comes_back(rt: HostRuntime) -> Result<(), Fail> {
-    let visited = visit_station(rt.alloc(), STATION, "b.log", 5)?;
-    same(&rt, visited.answer, Err(Missing::Link(0)));
-    same(
+fn what_was_opened_before_a_failure_comes_back(rt: HostRuntime) {
+    let visited = visit_station(&rt, rt.alloc(), STATION, "b.log", 5);
+    let counts = [Some(1), Some(0), Some(0)];
+    has_visited(
         &rt,
-        visited.calls.as_str(),
-        "log own; back log; log b.log; log a.log; link 0 @7000; link 5123 @7000; back log; back log; back link; ",
+        &visited,
+        Err(Missing::Link(0)),
+        BEFORE_A_FAILURE,
+        counts,
     );
-    same(&rt, visited.counts, [Some(1), Some(0), Some(0)]);
-    Ok(())
 }
 
 #[test]
-fn a_log_that_is_not_there_is_missing(rt: HostRuntime) -> Result<(), Fail> {
-    let visited = visit_station(rt.alloc(), STATION, "c.log", 0)?;
-    same(&rt, visited.answer, Err(Missing::Feed(0)));
-    same(
-        &rt,
-        visited.calls.as_str(),
-        "log own; back log; log b.log; ",
-    );
-    same(&rt, visited.counts, [Some(0); 3]);
-    Ok(())
+fn a_log_that_is_not_there_is_missing(rt: HostRuntime) {
+    let visited = visit_station(&rt, rt.alloc(), STATION, "c.log", 0);
+    let calls = "log own; back log; log b.log; ";
+    has_visited(&rt, &visited, Err(Missing::Feed(0)), calls, [Some(0); 3]);
 }
 
 #[test]
-fn a_station_with_nothing_in_it_opens_nothing(rt: HostRuntime) -> Result<(), Fail> {
-    let visited = visit_station(rt.alloc(), "", "b.log", 0)?;
+fn a_station_with_nothing_in_it_opens_nothing(rt: HostRuntime) {
+    let visited = visit_station(&rt, rt.alloc(), "", "b.log", 0);
     same(&rt, visited.answer, Ok(()));
     same(&rt, visited.calls.as_str(), "log own; back log; ");
     same(&rt, visited.seen.as_str(), "");
-    Ok(())
 }

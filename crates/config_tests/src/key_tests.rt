@@ -1,7 +1,8 @@
 //! The keys of a station file, valid ones and faulty ones.
-use crate::tests::{answer, same, wrong};
-use station_config::read_station;
-use std::test::Fail;
+use crate::tests::{are_right, are_right_between, has_answer, push_times, same, station_of};
+use station_config::Station;
+use std::alloc::Global;
+use std::process::Abort;
 
 // Each line has a file, with `|` for its line feeds, and the file's result.
 
@@ -57,50 +58,55 @@ link = 1|key = 1 -> range key
 "#;
 
 #[test]
-fn identifiers_of_keys(rt: HostRuntime) -> Result<(), Fail> {
-    same(&rt, wrong(rt.alloc(), IDENTIFIERS, "", "|")?, None);
-    Ok(())
+fn identifiers_of_keys(rt: HostRuntime) {
+    are_right(&rt, rt.alloc(), IDENTIFIERS);
 }
 
 #[test]
-fn secrets_of_keys(rt: HostRuntime) -> Result<(), Fail> {
+fn secrets_of_keys(rt: HostRuntime) {
     let before = "[[key]]|id = 1|secret = \"";
-    same(&rt, wrong(rt.alloc(), SECRETS, before, "\"|")?, None);
-    Ok(())
+    are_right_between(&rt, rt.alloc(), SECRETS, before, "\"|");
 }
 
 #[test]
-fn faults_of_keys(rt: HostRuntime) -> Result<(), Fail> {
-    same(&rt, wrong(rt.alloc(), ORDER, "", "|")?, None);
-    Ok(())
+fn faults_of_keys(rt: HostRuntime) {
+    are_right(&rt, rt.alloc(), ORDER);
+}
+
+// Keys with the identifiers from 1 to 8, then a further text, and this many links.
+fn keys_and_links(alloc: Global, further: &str, links: u8) -> String {
+    let mut text = String::new(alloc);
+    push_keys(&mut text, 9);
+    push_times(&mut text, further, 1);
+    push_times(&mut text, "[[link]]\nport = 1\n", links);
+    text
+}
+
+// Adds keys with the identifiers from 1 on, up to the one before this.
+pub(crate) fn push_keys(text: &mut String, end: u8) {
+    for id in 1..end {
+        let _ = write!(text, "[[key]]\nid = {id}\nsecret = \"a\"\n");
+    }
+}
+
+// Such a file has this result.
+fn keys_have_answer(rt: &impl Abort, alloc: Global, further: &str, links: u8, want: &str) {
+    let file = keys_and_links(alloc, further, links);
+    has_answer(rt, alloc, file.as_bytes(), want);
 }
 
 // There may be eight keys; of nine the identifiers and secrets are looked at first, and the links are counted before them.
 #[test]
-fn nine_keys(rt: HostRuntime) -> Result<(), Fail> {
+fn nine_keys(rt: HostRuntime) {
     let alloc = rt.alloc();
-    let mut keys = String::new(alloc);
-    let mut links = String::new(alloc);
-    for id in 1..9u8 {
-        keys.push_str(format!(in alloc; "[[key]]\nid = {id}\nsecret = \"a\"\n")?.as_str())?;
-        links.push_str("[[link]]\nport = 1\n")?;
-    }
-    same(
-        &rt,
-        answer(alloc, keys.as_bytes())?.as_str(),
-        "4294967296 0",
+    let (ninth, twice) = (
+        "[[key]]\nid = 9\nsecret = \"a\"\n",
+        "[[key]]\nid = 8\nsecret = \"a\"\n",
     );
-    let nine = format!(in alloc; "{keys}[[key]]\nid = 9\nsecret = \"a\"\n")?;
-    same(&rt, answer(alloc, nine.as_bytes())?.as_str(), "many key 9");
-    let both = format!(in alloc; "{nine}{links}[[link]]\nport = 1\n")?;
-    same(&rt, answer(alloc, both.as_bytes())?.as_str(), "many link 9");
-    let twice = format!(in alloc; "{keys}[[key]]\nid = 8\nsecret = \"a\"\n")?;
-    same(
-        &rt,
-        answer(alloc, twice.as_bytes())?.as_str(),
-        "range key.8.id",
-    );
-    Ok(())
+    keys_have_answer(&rt, alloc, "", 0, "4294967296 0");
+    keys_have_answer(&rt, alloc, ninth, 0, "many key 9");
+    keys_have_answer(&rt, alloc, ninth, 9, "many link 9");
+    keys_have_answer(&rt, alloc, twice, 0, "range key.8.id");
 }
 
 // A packet of 48 zero bytes, the identifier, and MD5 of the secret and the zeros as Python's `hashlib` gives it.
@@ -119,21 +125,21 @@ const OF_SHORTWAVE: [u8; 16] = [
     0x95, 0x4b, 0x3c, 0x4c, 0x11, 0xef, 0x4a, 0xb1, 0x2e, 0x21, 0x26, 0xc9, 0x10, 0xce, 0x75, 0x17,
 ];
 
+const TWO_KEYS: &[u8] =
+    b"[[key]]\nid = 7\nsecret = \"longwave\"\n[[key]]\nid = 2\nsecret = \"shortwave\"\n";
+
+// Whose key this digest is of, with this identifier.
+fn authentic(station: &Station, id: u8, digest: [u8; 16]) -> Option<u32> {
+    station.keys().authentic(&packet(id, digest))
+}
+
 #[test]
-fn the_keys_of_a_station(rt: HostRuntime) -> Result<(), Fail> {
-    let alloc = rt.alloc();
-    let text = b"[[key]]\nid = 7\nsecret = \"longwave\"\n[[key]]\nid = 2\nsecret = \"shortwave\"\n";
-    let Ok(station) = read_station(alloc, text) else {
-        return Err("refused")?;
-    };
-    let keys = station.keys();
-    same(&rt, keys.authentic(&packet(7, OF_LONGWAVE)), Some(7));
-    same(&rt, keys.authentic(&packet(2, OF_SHORTWAVE)), Some(2));
-    same(&rt, keys.authentic(&packet(2, OF_LONGWAVE)), None);
-    same(&rt, keys.authentic(&packet(1, OF_LONGWAVE)), None);
-    let Ok(station) = read_station(alloc, b"") else {
-        return Err("refused")?;
-    };
-    same(&rt, station.keys().authentic(&packet(7, OF_LONGWAVE)), None);
-    Ok(())
+fn the_keys_of_a_station(rt: HostRuntime) {
+    let station = station_of(&rt, rt.alloc(), TWO_KEYS);
+    same(&rt, authentic(&station, 7, OF_LONGWAVE), Some(7));
+    same(&rt, authentic(&station, 2, OF_SHORTWAVE), Some(2));
+    same(&rt, authentic(&station, 2, OF_LONGWAVE), None);
+    same(&rt, authentic(&station, 1, OF_LONGWAVE), None);
+    let station = station_of(&rt, rt.alloc(), b"");
+    same(&rt, authentic(&station, 7, OF_LONGWAVE), None);
 }

@@ -1,8 +1,7 @@
 //! The leap second file of a station.
-use crate::tests::{answer, same, wrong};
-use station_config::read_station;
+use crate::tests::{are_right, feeds_of, has_answer, push_times, same, station_of};
 use std::alloc::Global;
-use std::test::Fail;
+use std::process::Abort;
 
 // Each line has a file, with `|` for its line feeds, and the file's result.
 
@@ -23,15 +22,13 @@ leap_file = ""|[[link]] -> missing link.0.port
 "#;
 
 #[test]
-fn names_of_leap_second_files(rt: HostRuntime) -> Result<(), Fail> {
-    same(&rt, wrong(rt.alloc(), VALUES, "", "|")?, None);
-    Ok(())
+fn names_of_leap_second_files(rt: HostRuntime) {
+    are_right(&rt, rt.alloc(), VALUES);
 }
 
 #[test]
-fn faults_of_leap_second_files(rt: HostRuntime) -> Result<(), Fail> {
-    same(&rt, wrong(rt.alloc(), ORDER, "", "|")?, None);
-    Ok(())
+fn faults_of_leap_second_files(rt: HostRuntime) {
+    are_right(&rt, rt.alloc(), ORDER);
 }
 
 const FEEDS: &str = r#"leap_file = "leap-seconds.list"
@@ -43,49 +40,40 @@ address = "127.0.0.1"
 port = 123
 "#;
 
-#[test]
-fn it_is_a_feed_beside_radios_and_servers(rt: HostRuntime) -> Result<(), Fail> {
-    let Ok(station) = read_station(rt.alloc(), FEEDS.as_bytes()) else {
-        return Err("refused")?;
-    };
-    same(&rt, station.leap_file(), Some("leap-seconds.list"));
-    same(&rt, station.settings().count(), 3);
-    Ok(())
+// A station has this leap second file, and this many feeds.
+fn has_leap_file(rt: &impl Abort, alloc: Global, text: &str, name: Option<&str>, feeds: u32) {
+    let station = station_of(rt, alloc, text.as_bytes());
+    same(rt, station.leap_file(), name);
+    same(rt, feeds_of(&station), feeds);
 }
 
 #[test]
-fn a_station_may_have_none(rt: HostRuntime) -> Result<(), Fail> {
-    let Ok(station) = read_station(rt.alloc(), b"[[radio]]\nplan = \"msf\"\nlog = \"a\"\n") else {
-        return Err("refused")?;
-    };
-    same(&rt, station.leap_file(), None);
-    same(&rt, station.settings().count(), 1);
-    Ok(())
+fn it_is_a_feed_beside_radios_and_servers(rt: HostRuntime) {
+    has_leap_file(&rt, rt.alloc(), FEEDS, Some("leap-seconds.list"), 3);
 }
 
-// A station of this many servers.
-fn servers(alloc: Global, top: &str, count: u8) -> Result<String, Fail> {
-    let mut text = String::from_str(alloc, top)?;
-    for _ in 0..count {
-        text.push_str("[[server]]\naddress = \"127.0.0.1\"\nport = 123\npolls = 0\n")?;
-    }
-    Ok(text)
+#[test]
+fn a_station_may_have_none(rt: HostRuntime) {
+    let text = "[[radio]]\nplan = \"msf\"\nlog = \"a\"\n";
+    has_leap_file(&rt, rt.alloc(), text, None, 1);
+}
+
+const OF_SERVER: &str = "[[server]]\naddress = \"127.0.0.1\"\nport = 123\npolls = 0\n";
+
+// A station of a leap second file and this many servers.
+fn servers(alloc: Global, count: u8) -> String {
+    let mut text = String::new(alloc);
+    push_times(&mut text, "leap_file = \"a\"\n", 1);
+    push_times(&mut text, OF_SERVER, count);
+    text
 }
 
 // There may be sixteen feeds of any kind.
 #[test]
-fn it_counts_as_a_feed(rt: HostRuntime) -> Result<(), Fail> {
+fn it_counts_as_a_feed(rt: HostRuntime) {
     let alloc = rt.alloc();
-    let top = "leap_file = \"a\"\n";
-    let Ok(station) = read_station(alloc, servers(alloc, top, 15)?.as_str().as_bytes()) else {
-        return Err("refused")?;
-    };
-    same(&rt, station.settings().count(), 16);
-    let many = servers(alloc, top, 16)?;
-    same(
-        &rt,
-        answer(alloc, many.as_str().as_bytes())?.as_str(),
-        "many radio 17",
-    );
-    Ok(())
+    let full = servers(alloc, 15);
+    same(&rt, feeds_of(&station_of(&rt, alloc, full.as_bytes())), 16);
+    let many = servers(alloc, 16);
+    has_answer(&rt, alloc, many.as_bytes(), "many radio 17");
 }

@@ -3,10 +3,9 @@ use station_config::{KeyText, Station, StationFault, read_station};
 use std::alloc::Global;
 use std::fmt::Debug;
 use std::process::Abort;
-use std::test::Fail;
 use tick_units::Plan;
 
-// What `assert_eq!` does, as a call: where a test has many, calls are proved in a third of the time.
+// What `assert_eq!` does, as a call, which is proved in a tenth of the time.
 pub(crate) fn same<T: PartialEq + Debug + Drop>(rt: &impl Abort, left: T, right: T) {
     assert_eq!(*rt; left, right);
 }
@@ -172,308 +171,294 @@ radio = [{log = "a", plan = "dcf"}, {log = "b", plan = "msf", delay = 7}] -> 429
 link = [{}] -> missing link.0.port
 "#;
 
-fn radio_text(alloc: Global, station: &Station, i: usize) -> Result<String, Fail> {
-    match station.radio(i) {
-        Some(radio) => {
-            let plan = radio.plan.word();
-            let log = radio.log;
-            let delay = radio.delay;
-            Ok(format!(in alloc; " {plan} {log} {delay}")?)
-        }
-        None => Ok(String::from_str(alloc, " none")?),
-    }
+// These write what they find to the end of a text. Where memory is short, the text is not what the test wants.
+
+fn write_radio(text: &mut String, station: &Station, i: usize) {
+    let Some(radio) = station.radio(i) else {
+        let _ = text.push_str(" none");
+        return;
+    };
+    let plan = radio.plan.word();
+    let log = radio.log;
+    let delay = radio.delay;
+    let _ = write!(text, " {plan} {log} {delay}");
 }
 
-fn server_text(alloc: Global, station: &Station, i: usize) -> Result<String, Fail> {
-    match station.server(i) {
-        Some(server) => {
-            let ip = server.address.ip;
-            let port = server.address.port;
-            let polls = server.polls;
-            Ok(format!(in alloc; " {ip:08x} {port} {polls}")?)
-        }
-        None => Ok(String::from_str(alloc, " none")?),
-    }
+fn write_server(text: &mut String, station: &Station, i: usize) {
+    let Some(server) = station.server(i) else {
+        let _ = text.push_str(" none");
+        return;
+    };
+    let ip = server.address.ip;
+    let port = server.address.port;
+    let polls = server.polls;
+    let _ = write!(text, " {ip:08x} {port} {polls}");
 }
 
-fn link_text(alloc: Global, station: &Station, i: usize) -> Result<String, Fail> {
-    match station.link(i) {
-        Some(link) => {
-            let port = link.port;
-            Ok(format!(in alloc; " {port}")?)
-        }
-        None => Ok(String::from_str(alloc, " none")?),
-    }
+fn write_link(text: &mut String, station: &Station, i: usize) {
+    let Some(link) = station.link(i) else {
+        let _ = text.push_str(" none");
+        return;
+    };
+    let port = link.port;
+    let _ = write!(text, " {port}");
 }
 
 // A station's values in one line: the bound in units of 2^-32 s, the start, and the rows.
-fn station_text(alloc: Global, station: &Station) -> Result<String, Fail> {
+fn write_station(text: &mut String, station: &Station) {
     let bound = station.settings().bound();
     let start = station.start().get();
-    let mut text = format!(in alloc; "{bound} {start}")?;
+    let _ = write!(text, "{bound} {start}");
     for i in 0..station.radios() {
-        text.push_str(radio_text(alloc, station, i)?.as_str())?;
+        write_radio(text, station, i);
     }
     for i in 0..station.servers() {
-        text.push_str(server_text(alloc, station, i)?.as_str())?;
+        write_server(text, station, i);
     }
     for i in 0..station.links() {
-        text.push_str(link_text(alloc, station, i)?.as_str())?;
+        write_link(text, station, i);
     }
-    Ok(text)
 }
 
-fn named(alloc: Global, kind: &str, key: &KeyText) -> Result<String, Fail> {
+fn write_named(text: &mut String, kind: &str, key: &KeyText) {
     let key = std::str::from_utf8(key.bytes()).unwrap_or("?");
-    Ok(format!(in alloc; "{kind} {key}")?)
+    let _ = write!(text, "{kind} {key}");
 }
 
-fn fault_text(alloc: Global, fault: &StationFault) -> Result<String, Fail> {
+fn write_fault(text: &mut String, fault: &StationFault) {
     match fault {
-        StationFault::NotToml => Ok(String::from_str(alloc, "toml")?),
-        StationFault::UnknownKey { key } => named(alloc, "unknown", key),
-        StationFault::Missing { key } => named(alloc, "missing", key),
-        StationFault::Range { key } => named(alloc, "range", key),
+        StationFault::NotToml => write_word(text, "toml"),
+        StationFault::UnknownKey { key } => write_named(text, "unknown", key),
+        StationFault::Missing { key } => write_named(text, "missing", key),
+        StationFault::Range { key } => write_named(text, "range", key),
         StationFault::TooMany { key, count } => {
-            let key = named(alloc, "many", key)?;
-            Ok(format!(in alloc; "{key} {count}")?)
+            write_named(text, "many", key);
+            let _ = write!(text, " {count}");
         }
-        StationFault::Memory => Ok(String::from_str(alloc, "memory")?),
+        StationFault::Memory => write_word(text, "memory"),
     }
+}
+
+fn write_word(text: &mut String, word: &str) {
+    let _ = text.push_str(word);
 }
 
 // The result of a station file, in one line.
-pub(crate) fn answer(alloc: Global, text: &[u8]) -> Result<String, Fail> {
-    match read_station(alloc, text) {
-        Ok(station) => station_text(alloc, &station),
-        Err(fault) => fault_text(alloc, &fault),
+fn answer(alloc: Global, file: &[u8]) -> String {
+    let mut text = String::new(alloc);
+    match read_station(alloc, file) {
+        Ok(station) => write_station(&mut text, &station),
+        Err(fault) => write_fault(&mut text, &fault),
     }
+    text
 }
 
-// A text with a line feed for each `|`.
-fn in_lines(alloc: Global, text: &str) -> Result<String, Fail> {
-    let mut lines = String::new(alloc);
+// A station file has this result.
+pub(crate) fn has_answer(rt: &impl Abort, alloc: Global, file: &[u8], want: &str) {
+    same(rt, answer(alloc, file).as_str(), want);
+}
+
+// Writes a text with a line feed for each `|`.
+fn write_lines(lines: &mut String, text: &str) {
     for c in text.chars() {
-        lines.push(if c == '|' { '\n' } else { c })?;
+        let _ = lines.push(if c == '|' { '\n' } else { c });
     }
-    Ok(lines)
 }
 
-// Whether the file of a line, between two texts, has the result that the line says.
-fn is_right(alloc: Global, line: &str, before: &str, after: &str) -> Result<bool, Fail> {
-    let Some((file, want)) = line.split_once(" -> ") else {
-        return Ok(false);
+// The file of a line, between two texts, has the result that the line gives.
+fn is_right(rt: &impl Abort, alloc: Global, line: &str, before: &str, after: &str) {
+    let Some((middle, result)) = line.split_once(" -> ") else {
+        panic!(*rt; "no line of a table: {line}");
     };
-    let file = format!(in alloc; "{before}{file}{after}")?;
-    let file = in_lines(alloc, file.as_str())?;
-    let want = in_lines(alloc, want)?;
-    Ok(answer(alloc, file.as_bytes())?.as_str() == want.as_str())
+    let mut file = String::new(alloc);
+    write_lines(&mut file, before);
+    write_lines(&mut file, middle);
+    write_lines(&mut file, after);
+    let mut want = String::new(alloc);
+    write_lines(&mut want, result);
+    let found = answer(alloc, file.as_bytes());
+    same(rt, (line, found.as_str()), (line, want.as_str()));
 }
 
-// The first line of a table that is wrong.
-pub(crate) fn wrong<'a>(
+// Each line of a table is right, with these texts before and after its file.
+pub(crate) fn are_right_between(
+    rt: &impl Abort,
     alloc: Global,
-    table: &'a str,
+    table: &str,
     before: &str,
     after: &str,
-) -> Result<Option<&'a str>, Fail> {
+) {
     for line in table.lines() {
-        if !is_right(alloc, line, before, after)? {
-            return Ok(Some(line));
-        }
+        is_right(rt, alloc, line, before, after);
     }
-    Ok(None)
 }
 
-#[test]
-fn the_laboratory(rt: HostRuntime) -> Result<(), Fail> {
-    let alloc = rt.alloc();
-    let text = answer(alloc, LABORATORY.as_bytes())?;
-    let want =
-        "2147483648 0 dcf dcf.log 1400 msf msf.log 2700 wwvb wwvb.log 24000 7f000001 4123 8 5123";
-    same(&rt, text.as_str(), want);
-    if let Ok(station) = read_station(alloc, LABORATORY.as_bytes()) {
-        same(&rt, station.radios(), 3);
-        same(&rt, station.servers(), 1);
-        same(&rt, station.links(), 1);
-        assert!(rt; station.radio(3).is_none());
-        assert!(rt; station.server(1).is_none());
-        assert!(rt; station.link(1).is_none());
-        same(&rt, station.settings().count(), 4);
+// The same where each file is a whole one but for its last line feed.
+pub(crate) fn are_right(rt: &impl Abort, alloc: Global, table: &str) {
+    are_right_between(rt, alloc, table, "", "|");
+}
+
+// The station of a file.
+pub(crate) fn station_of(rt: &impl Abort, alloc: Global, file: &[u8]) -> Station {
+    match read_station(alloc, file) {
+        Ok(station) => station,
+        Err(_) => panic!(*rt; "refused"),
     }
-    Ok(())
+}
+
+// How many radios, servers and links a station has.
+fn counts_of(station: &Station) -> (usize, usize, usize) {
+    (station.radios(), station.servers(), station.links())
+}
+
+// How many feeds its settings have.
+pub(crate) fn feeds_of(station: &Station) -> u32 {
+    station.settings().count()
+}
+
+// Whether it has a radio, a server and a link at these places.
+fn has_rows(station: &Station, radio: usize, server: usize, link: usize) -> (bool, bool, bool) {
+    (
+        station.radio(radio).is_some(),
+        station.server(server).is_some(),
+        station.link(link).is_some(),
+    )
+}
+
+const LABORATORY_LINE: &str =
+    "2147483648 0 dcf dcf.log 1400 msf msf.log 2700 wwvb wwvb.log 24000 7f000001 4123 8 5123";
+
+#[test]
+fn the_laboratory(rt: HostRuntime) {
+    let alloc = rt.alloc();
+    has_answer(&rt, alloc, LABORATORY.as_bytes(), LABORATORY_LINE);
+    let station = station_of(&rt, alloc, LABORATORY.as_bytes());
+    same(&rt, counts_of(&station), (3, 1, 1));
+    same(&rt, has_rows(&station, 3, 1, 1), (false, false, false));
+    same(&rt, feeds_of(&station), 4);
 }
 
 #[test]
-fn defaults(rt: HostRuntime) -> Result<(), Fail> {
-    let alloc = rt.alloc();
-    same(&rt, answer(alloc, b"")?.as_str(), "4294967296 0");
-    same(&rt, wrong(alloc, DEFAULTS, "", "|")?, None);
-    Ok(())
+fn defaults(rt: HostRuntime) {
+    has_answer(&rt, rt.alloc(), b"", "4294967296 0");
+    are_right(&rt, rt.alloc(), DEFAULTS);
 }
 
 #[test]
-fn no_text(rt: HostRuntime) -> Result<(), Fail> {
-    let alloc = rt.alloc();
-    same(&rt, answer(alloc, b"start = 0\xff")?.as_str(), "toml");
-    same(
-        &rt,
-        answer(alloc, b"leap = \"\xc3\x28\"\n")?.as_str(),
-        "toml",
-    );
-    Ok(())
+fn no_text(rt: HostRuntime) {
+    has_answer(&rt, rt.alloc(), b"start = 0\xff", "toml");
+    has_answer(&rt, rt.alloc(), b"leap = \"\xc3\x28\"\n", "toml");
 }
 
 #[test]
-fn values(rt: HostRuntime) -> Result<(), Fail> {
-    let alloc = rt.alloc();
-    same(&rt, wrong(alloc, NUMBERS, "", "|")?, None);
-    same(&rt, wrong(alloc, RADIOS, "", "|")?, None);
-    same(&rt, wrong(alloc, PORTS, "", "|")?, None);
-    Ok(())
+fn values(rt: HostRuntime) {
+    are_right(&rt, rt.alloc(), NUMBERS);
+    are_right(&rt, rt.alloc(), RADIOS);
+    are_right(&rt, rt.alloc(), PORTS);
 }
 
 #[test]
-fn addresses(rt: HostRuntime) -> Result<(), Fail> {
-    let alloc = rt.alloc();
+fn addresses(rt: HostRuntime) {
     let before = "[[server]]|port = 123|address = \"";
-    same(&rt, wrong(alloc, ADDRESSES, before, "\"|")?, None);
-    Ok(())
+    are_right_between(&rt, rt.alloc(), ADDRESSES, before, "\"|");
 }
 
 #[test]
-fn faults(rt: HostRuntime) -> Result<(), Fail> {
-    let alloc = rt.alloc();
-    same(&rt, wrong(alloc, UNKNOWN, "", "|")?, None);
-    same(&rt, answer(alloc, b"\"\" = 1\n")?.as_str(), "unknown ");
-    same(&rt, wrong(alloc, FIRST, "", "|")?, None);
-    same(&rt, wrong(alloc, ARRAYS, "", "|")?, None);
-    Ok(())
+fn faults(rt: HostRuntime) {
+    are_right(&rt, rt.alloc(), UNKNOWN);
+    has_answer(&rt, rt.alloc(), b"\"\" = 1\n", "unknown ");
+    are_right(&rt, rt.alloc(), FIRST);
+    are_right(&rt, rt.alloc(), ARRAYS);
 }
 
-pub(crate) fn push_times(text: &mut String, row: &str, times: u8) -> Result<(), Fail> {
+pub(crate) fn push_times(text: &mut String, row: &str, times: u8) {
     for _ in 0..times {
-        text.push_str(row)?;
+        let _ = text.push_str(row);
     }
-    Ok(())
 }
 
-// How many rows of each kind a file has.
-#[derive(Clone, Copy, Debug)]
-struct Rows {
-    dcf: u8,
-    msf: u8,
-    wwvb: u8,
-    servers: u8,
-    links: u8,
-}
+const OF_DCF: &str = "[[radio]]\nplan = \"dcf\"\nlog = \"a\"\n";
 
-fn file_of(alloc: Global, rows: Rows) -> Result<String, Fail> {
+const OF_MSF: &str = "[[radio]]\nplan = \"msf\"\nlog = \"a\"\n";
+
+const OF_WWVB: &str = "[[radio]]\nplan = \"wwvb\"\nlog = \"a\"\n";
+
+const OF_SERVER: &str = "[[server]]\naddress = \"1.2.3.4\"\nport = 1\n";
+
+// A file with this many rows of each kind: radios of DCF77, MSF and WWVB, servers, and links.
+fn file_of(alloc: Global, radios: [u8; 3], servers: u8, links: u8) -> String {
+    let [dcf, msf, wwvb] = radios;
     let mut text = String::new(alloc);
-    push_times(
-        &mut text,
-        "[[radio]]\nplan = \"dcf\"\nlog = \"a\"\n",
-        rows.dcf,
-    )?;
-    push_times(
-        &mut text,
-        "[[radio]]\nplan = \"msf\"\nlog = \"a\"\n",
-        rows.msf,
-    )?;
-    push_times(
-        &mut text,
-        "[[radio]]\nplan = \"wwvb\"\nlog = \"a\"\n",
-        rows.wwvb,
-    )?;
-    push_times(
-        &mut text,
-        "[[server]]\naddress = \"1.2.3.4\"\nport = 1\n",
-        rows.servers,
-    )?;
-    push_times(&mut text, "[[link]]\nport = 1\n", rows.links)?;
-    Ok(text)
+    push_times(&mut text, OF_DCF, dcf);
+    push_times(&mut text, OF_MSF, msf);
+    push_times(&mut text, OF_WWVB, wwvb);
+    push_times(&mut text, OF_SERVER, servers);
+    push_times(&mut text, "[[link]]\nport = 1\n", links);
+    text
 }
 
-// The result of a file with this many rows of each kind.
-fn of_rows(
+// Such a file has this result.
+fn rows_have_answer(
+    rt: &impl Abort,
     alloc: Global,
-    dcf: u8,
-    msf: u8,
-    wwvb: u8,
+    radios: [u8; 3],
     servers: u8,
     links: u8,
-) -> Result<String, Fail> {
-    let rows = Rows {
-        dcf,
-        msf,
-        wwvb,
-        servers,
-        links,
-    };
-    answer(alloc, file_of(alloc, rows)?.as_bytes())
+    want: &str,
+) {
+    let file = file_of(alloc, radios, servers, links);
+    let found = answer(alloc, file.as_bytes());
+    same(
+        rt,
+        (radios, servers, links, found.as_str()),
+        (radios, servers, links, want),
+    );
 }
 
 // The radios and servers together come first, and then the plans and the links.
 #[test]
-fn too_many(rt: HostRuntime) -> Result<(), Fail> {
+fn too_many(rt: HostRuntime) {
     let alloc = rt.alloc();
-    same(
-        &rt,
-        of_rows(alloc, 5, 5, 5, 2, 9)?.as_str(),
-        "many radio 17",
-    );
-    same(
-        &rt,
-        of_rows(alloc, 0, 0, 0, 17, 0)?.as_str(),
-        "many radio 17",
-    );
-    same(&rt, of_rows(alloc, 5, 6, 4, 0, 9)?.as_str(), "many radio 5");
-    same(&rt, of_rows(alloc, 4, 6, 5, 0, 9)?.as_str(), "many radio 6");
-    same(&rt, of_rows(alloc, 4, 3, 5, 0, 9)?.as_str(), "many radio 5");
-    same(&rt, of_rows(alloc, 4, 4, 4, 4, 9)?.as_str(), "many link 9");
-    Ok(())
+    rows_have_answer(&rt, alloc, [5, 5, 5], 2, 9, "many radio 17");
+    rows_have_answer(&rt, alloc, [0, 0, 0], 17, 0, "many radio 17");
+    rows_have_answer(&rt, alloc, [5, 6, 4], 0, 9, "many radio 5");
+    rows_have_answer(&rt, alloc, [4, 6, 5], 0, 9, "many radio 6");
+    rows_have_answer(&rt, alloc, [4, 3, 5], 0, 9, "many radio 5");
+    rows_have_answer(&rt, alloc, [4, 4, 4], 4, 9, "many link 9");
 }
 
 #[test]
-fn as_many_as_may_be(rt: HostRuntime) -> Result<(), Fail> {
+fn as_many_as_may_be(rt: HostRuntime) {
     let alloc = rt.alloc();
-    let rows = Rows {
-        dcf: 4,
-        msf: 4,
-        wwvb: 4,
-        servers: 4,
-        links: 8,
-    };
-    let full = file_of(alloc, rows)?;
-    assert!(rt; read_station(alloc, full.as_bytes()).is_ok());
-    let text = format!(in alloc; "{full}[[link]]\nport = 0\n")?;
-    same(
-        &rt,
-        answer(alloc, text.as_bytes())?.as_str(),
-        "range link.8.port",
-    );
-    Ok(())
+    let mut full = file_of(alloc, [4, 4, 4], 4, 8);
+    same(&rt, read_station(alloc, full.as_bytes()).is_ok(), true);
+    write_word(&mut full, "[[link]]\nport = 0\n");
+    has_answer(&rt, alloc, full.as_bytes(), "range link.8.port");
+}
+
+// The radio at a place of a station is of this plan, and has this log and no delay.
+fn has_radio(rt: &impl Abort, station: &Station, place: usize, plan: Plan, log: &str) {
+    match station.radio(place) {
+        Some(radio) => same(rt, (radio.plan, radio.log, radio.delay), (plan, log, 0)),
+        None => panic!(*rt; "no radio {place}"),
+    }
+}
+
+// What a drill serves.
+pub(crate) fn one_of_each(rt: &impl Abort, alloc: Global) -> Station {
+    match Station::one_of_each(alloc) {
+        Ok(station) => station,
+        Err(_) => panic!(*rt; "no memory"),
+    }
 }
 
 // What a drill serves: each plan once, in the order of its feeds.
 #[test]
-fn one_of_each_plan(rt: HostRuntime) -> Result<(), Fail> {
-    let station = Station::one_of_each(rt.alloc())?;
-    same(
-        &rt,
-        (station.radios(), station.servers(), station.links()),
-        (3, 0, 0),
-    );
+fn one_of_each_plan(rt: HostRuntime) {
+    let station = one_of_each(&rt, rt.alloc());
+    same(&rt, counts_of(&station), (3, 0, 0));
     same(&rt, station.start().get(), 0);
-    for (place, plan, log) in [
-        (0, Plan::Dcf, "dcf"),
-        (1, Plan::Msf, "msf"),
-        (2, Plan::Wwvb, "wwvb"),
-    ] {
-        let radio = station.radio(place).ok_or("a radio")?;
-        same(&rt, radio.plan, plan);
-        same(&rt, radio.log, log);
-        same(&rt, radio.delay, 0);
-    }
-    Ok(())
+    has_radio(&rt, &station, 0, Plan::Dcf, "dcf");
+    has_radio(&rt, &station, 1, Plan::Msf, "msf");
+    has_radio(&rt, &station, 2, Plan::Wwvb, "wwvb");
 }

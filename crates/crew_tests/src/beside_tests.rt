@@ -11,7 +11,6 @@ use station_crew::Budget;
 use std::alloc::Global;
 use std::process::Abort;
 use std::sync::{Mutex, Wait};
-use std::test::Fail;
 use std::thread::{Threads, sleep};
 use std::time::Duration;
 use verdict_journal::Journal;
@@ -54,7 +53,7 @@ fn answers_after<R: Abort + Threads + Wait + Sync>(
     budget: Budget,
     held: u32,
     other: u32,
-) -> Result<(), Fail> {
+) {
     let gate = HoldGate::new(held, 2, other, 3, 1, TURNS);
     let ended = left_held(
         rt,
@@ -64,10 +63,9 @@ fn answers_after<R: Abort + Threads + Wait + Sync>(
             ..TWO_LINKS
         },
         &gate,
-    )?;
+    );
     has_held_once(rt, &gate);
     have_answered(rt, &ended);
-    Ok(())
 }
 
 const FIRST_PHASE: Budget = Budget {
@@ -81,17 +79,15 @@ const SECOND_PHASE: Budget = Budget {
 };
 
 #[test]
-fn either_link_answers_while_the_other_waits(rt: HostRuntime) -> Result<(), Fail> {
-    answers_after(&rt, rt.alloc(), FIRST_PHASE, 100, 101)?;
-    answers_after(&rt, rt.alloc(), FIRST_PHASE, 101, 100)
+fn either_link_answers_while_the_other_waits(rt: HostRuntime) {
+    answers_after(&rt, rt.alloc(), FIRST_PHASE, 100, 101);
+    answers_after(&rt, rt.alloc(), FIRST_PHASE, 101, 100);
 }
 
 #[test]
-fn either_link_answers_in_the_second_phase_while_the_other_waits(
-    rt: HostRuntime,
-) -> Result<(), Fail> {
-    answers_after(&rt, rt.alloc(), SECOND_PHASE, 100, 101)?;
-    answers_after(&rt, rt.alloc(), SECOND_PHASE, 101, 100)
+fn either_link_answers_in_the_second_phase_while_the_other_waits(rt: HostRuntime) {
+    answers_after(&rt, rt.alloc(), SECOND_PHASE, 100, 101);
+    answers_after(&rt, rt.alloc(), SECOND_PHASE, 101, 100);
 }
 
 const LEAP_FILE: &str = "leap_file = \"leap\"\n";
@@ -115,15 +111,15 @@ const SIXTEEN: Case<'static> = Case {
 };
 
 // The place of the first entry of a feed in a journal.
-fn place_of(journal: &Journal, feed: u32) -> Option<usize> {
+fn place_of(rt: &impl Abort, journal: &Journal, feed: u32) -> usize {
     for place in 0..journal.len() {
         if let Some(entry) = journal.get(place) {
             if entry.feed == feed {
-                return Some(place);
+                return place;
             }
         }
     }
-    None
+    panic!(*rt; "no entry of feed {feed}")
 }
 
 // Each feed keeps one entry. One feed comes to its entry, and keeps it once another has kept its own.
@@ -134,39 +130,36 @@ fn keeps_after<R: Abort + Threads + Wait + Sync>(
     entries: usize,
     held: u32,
     other: u32,
-) -> Result<(), Fail> {
+) {
     let gate = HoldGate::new(held, 1, other, 4, 1, TURNS);
-    let ended = left_held(rt, alloc, case, &gate)?;
+    let ended = left_held(rt, alloc, case, &gate);
     has_held_once(rt, &gate);
     has_entries(rt, &ended, entries);
     have_heard(rt, &ended, &[WHOLE]);
     has_listed(rt, &ended, Some(WHOLE));
-    let first = place_of(&ended.journal, other).ok_or("no entry of the other")?;
-    let later = place_of(&ended.journal, held).ok_or("no entry of the one held")?;
+    let first = place_of(rt, &ended.journal, other);
+    let later = place_of(rt, &ended.journal, held);
     holds(rt, "the order", first < later);
-    Ok(())
 }
 
 // Feed 0 is the radio, feed 15 the leap second file.
 #[test]
-fn of_sixteen_feeds_the_first_and_the_last_wait_for_one_another(
-    rt: HostRuntime,
-) -> Result<(), Fail> {
-    keeps_after(&rt, rt.alloc(), &SIXTEEN, 16, 0, 15)?;
-    keeps_after(&rt, rt.alloc(), &SIXTEEN, 16, 15, 0)
+fn of_sixteen_feeds_the_first_and_the_last_wait_for_one_another(rt: HostRuntime) {
+    keeps_after(&rt, rt.alloc(), &SIXTEEN, 16, 0, 15);
+    keeps_after(&rt, rt.alloc(), &SIXTEEN, 16, 15, 0);
 }
 
 // Feed 0 is the radio, feed 1 the server, feed 2 the leap second file.
 #[test]
-fn a_radio_and_a_server_wait_for_one_another(rt: HostRuntime) -> Result<(), Fail> {
-    keeps_after(&rt, rt.alloc(), &THREE, 3, 0, 1)?;
-    keeps_after(&rt, rt.alloc(), &THREE, 3, 1, 0)
+fn a_radio_and_a_server_wait_for_one_another(rt: HostRuntime) {
+    keeps_after(&rt, rt.alloc(), &THREE, 3, 0, 1);
+    keeps_after(&rt, rt.alloc(), &THREE, 3, 1, 0);
 }
 
 #[test]
-fn a_server_and_a_leap_second_file_wait_for_one_another(rt: HostRuntime) -> Result<(), Fail> {
-    keeps_after(&rt, rt.alloc(), &THREE, 3, 1, 2)?;
-    keeps_after(&rt, rt.alloc(), &THREE, 3, 2, 1)
+fn a_server_and_a_leap_second_file_wait_for_one_another(rt: HostRuntime) {
+    keeps_after(&rt, rt.alloc(), &THREE, 3, 1, 2);
+    keeps_after(&rt, rt.alloc(), &THREE, 3, 2, 1);
 }
 
 // Which workers have come to their place, a bit for each, and whether one has waited for longer than it was to.
@@ -247,17 +240,16 @@ fn meet<R: Abort + Threads + Wait + Sync>(
     alloc: Global,
     case: &Case<'_>,
     gate: &MeetGate<'_>,
-) -> Result<Done, Fail> {
-    let ended = left_with(rt, alloc, case, gate)?;
+) -> Done {
+    let ended = left_with(rt, alloc, case, gate);
     holds(rt, "all have met", gate.has_met(rt));
-    Ok(ended)
+    ended
 }
 
 #[test]
-fn sixteen_feeds_of_all_kinds_meet(rt: HostRuntime) -> Result<(), Fail> {
-    let ended = meet(&rt, rt.alloc(), &SIXTEEN, &MeetGate::new(&rt, 1, 16))?;
+fn sixteen_feeds_of_all_kinds_meet(rt: HostRuntime) {
+    let ended = meet(&rt, rt.alloc(), &SIXTEEN, &MeetGate::new(&rt, 1, 16));
     has_entries(&rt, &ended, 16);
-    Ok(())
 }
 
 const SERVERS: Case<'static> = Case {
@@ -272,10 +264,9 @@ const ROUND: PollWork = PollWork {
 };
 
 #[test]
-fn sixteen_servers_meet(rt: HostRuntime) -> Result<(), Fail> {
-    let ended = meet(&rt, rt.alloc(), &SERVERS, &MeetGate::new(&rt, 1, 16))?;
+fn sixteen_servers_meet(rt: HostRuntime) {
+    let ended = meet(&rt, rt.alloc(), &SERVERS, &MeetGate::new(&rt, 1, 16));
     have_polled(&rt, &ended, &[ROUND; 16]);
-    Ok(())
 }
 
 // Eight links, which receive a request each.
@@ -291,7 +282,7 @@ fn eight_links_meet<R: Abort + Threads + Wait + Sync>(
     alloc: Global,
     budget: Budget,
     gate: &MeetGate<'_>,
-) -> Result<(), Fail> {
+) {
     let ended = meet(
         rt,
         alloc,
@@ -300,15 +291,14 @@ fn eight_links_meet<R: Abort + Threads + Wait + Sync>(
             ..EIGHT_LINKS
         },
         gate,
-    )?;
+    );
     holds(rt, "eight links", ended.work.links.len() == 8);
     have_answered(rt, &ended);
-    Ok(())
 }
 
 #[test]
-fn eight_links_are_served_at_once_in_either_phase(rt: HostRuntime) -> Result<(), Fail> {
+fn eight_links_are_served_at_once_in_either_phase(rt: HostRuntime) {
     let alloc = rt.alloc();
-    eight_links_meet(&rt, alloc, FIRST_PHASE, &MeetGate::new(&rt, 2, 8))?;
-    eight_links_meet(&rt, alloc, SECOND_PHASE, &MeetGate::new(&rt, 2, 8))
+    eight_links_meet(&rt, alloc, FIRST_PHASE, &MeetGate::new(&rt, 2, 8));
+    eight_links_meet(&rt, alloc, SECOND_PHASE, &MeetGate::new(&rt, 2, 8));
 }

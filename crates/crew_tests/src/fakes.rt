@@ -2,7 +2,7 @@
 
 use feed_link::{Address, MemoryLink, MemorySource, Planned};
 use std::alloc::Global;
-use std::test::Fail;
+use std::process::Abort;
 use tick_units::Local;
 
 pub const CLIENT: Address = Address {
@@ -91,36 +91,43 @@ fn moment(microseconds: u32) -> Local {
     Local::new(u64::from(microseconds)).unwrap()
 }
 
-fn datagram_of(alloc: Global, datagram: &Datagram<'_>) -> Result<Planned, Fail> {
+// These fill lists and texts as far as there is memory. Where it is short, a station leaves something else than the test wants.
+
+fn datagram_of(alloc: Global, datagram: &Datagram<'_>) -> Planned {
     let mut bytes = Vec::new(alloc);
-    for byte in datagram.bytes {
-        bytes.push(*byte)?;
-    }
+    let _ = bytes.extend_from_slice(datagram.bytes);
     for _ in 0..datagram.zeros {
-        bytes.push(0)?;
+        let _ = bytes.push(0);
     }
-    Ok(Planned::Datagram {
+    Planned::Datagram {
         from: datagram.from,
         at: moment(datagram.at),
         bytes,
-    })
+    }
+}
+
+fn alone<T: Drop>(alloc: Global, item: T) -> Vec<T> {
+    let mut list = Vec::new(alloc);
+    let _ = list.push(item);
+    list
 }
 
 /// The link that is stated.
-pub fn link_of(alloc: Global, wire: &Wire<'_>) -> Result<MemoryLink, Fail> {
+pub fn link_of(rt: &impl Abort, alloc: Global, wire: &Wire<'_>) -> MemoryLink {
     let mut hearings = Vec::new(alloc);
     for datagram in wire.hears {
-        hearings.push(datagram_of(alloc, datagram)?)?;
+        let _ = hearings.push(datagram_of(alloc, datagram));
     }
-    let moments = vec![in alloc; moment(wire.moment)]?;
-    let fails = vec![in alloc; wire.fails]?;
-    Ok(MemoryLink::new(alloc, hearings, moments, fails, 40, 4000)?)
+    let moments = alone(alloc, moment(wire.moment));
+    let fails = alone(alloc, wire.fails);
+    MemoryLink::new(alloc, hearings, moments, fails, 40, 4000).expect(rt, "no memory")
 }
 
 /// A file of this text.
-pub fn source_of(alloc: Global, text: &str) -> Result<MemorySource, Fail> {
-    let bytes = Vec::from_slice(alloc, text.as_bytes())?;
-    Ok(MemorySource::new(bytes, Vec::new(alloc)))
+pub fn source_of(alloc: Global, text: &str) -> MemorySource {
+    let mut bytes = Vec::new(alloc);
+    let _ = bytes.extend_from_slice(text.as_bytes());
+    MemorySource::new(bytes, Vec::new(alloc))
 }
 
 // The places that are One in the frame that announces 12:00 UTC.
@@ -138,7 +145,7 @@ fn is_one(minute: u32, place: u32) -> bool {
 }
 
 // The lines of the frame of a minute after 13:00, which starts at 2 s in the first minute.
-fn add_frame(text: &mut String, minute: u32) -> Result<(), Fail> {
+fn add_frame(text: &mut String, minute: u32) {
     for place in 0..59u32 {
         let second = u64::from(minute)
             .saturating_mul(60)
@@ -150,21 +157,21 @@ fn add_frame(text: &mut String, minute: u32) -> Result<(), Fail> {
         } else {
             100_000
         };
-        writeln!(text, "{at} {width}")?;
+        let _ = writeln!(text, "{at} {width}");
     }
-    Ok(())
 }
 
 /// The log of this many minutes: the last one closes 2 s after their sum. The log of none is empty.
-pub fn minutes(alloc: Global, count: u32) -> Result<MemorySource, Fail> {
+pub fn minutes(alloc: Global, count: u32) -> MemorySource {
     if count == 0 {
         return source_of(alloc, "");
     }
-    let mut text = String::from_str(alloc, "0 100000\n")?;
+    let mut text = String::new(alloc);
+    let _ = text.push_str("0 100000\n");
     for minute in 0..count {
-        add_frame(&mut text, minute)?;
+        add_frame(&mut text, minute);
     }
     let at = u64::from(count).saturating_mul(60).saturating_add(2);
-    writeln!(text, "{at}000000 100000")?;
+    let _ = writeln!(text, "{at}000000 100000");
     source_of(alloc, text.as_str())
 }

@@ -7,7 +7,6 @@ use crate::stations::{CASE, Case, LINK, SECOND_LINK, left};
 use feed_link::Address;
 use responder::Served;
 use station_crew::{Budget, LinkWork};
-use std::test::Fail;
 
 const GAP: &str = "gap = 2000000\n";
 
@@ -86,8 +85,8 @@ const WORK: LinkWork = LinkWork {
 
 // The client that passed in the first phase asks again in the second, first too soon.
 #[test]
-fn the_gate_goes_on_from_phase_to_phase(rt: HostRuntime) -> Result<(), Fail> {
-    let ended = left(&rt, rt.alloc(), &PHASES)?;
+fn the_gate_goes_on_from_phase_to_phase(rt: HostRuntime) {
+    let ended = left(&rt, rt.alloc(), &PHASES);
     have_served(&rt, &ended, &[WORK]);
     let denied = Reply {
         to: DENIED,
@@ -95,7 +94,6 @@ fn the_gate_goes_on_from_phase_to_phase(rt: HostRuntime) -> Result<(), Fail> {
         ..REPLY
     };
     has_sent(&rt, &ended, 0, &[REPLY, denied, RATE, TO_NEIGHBOUR, REPLY]);
-    Ok(())
 }
 
 const ONCE: Wire<'static> = Wire {
@@ -116,11 +114,10 @@ const TWO_LINKS: Case<'static> = Case {
 
 // What one link has let pass, the other doesn't know of.
 #[test]
-fn each_link_has_a_gate_of_its_own(rt: HostRuntime) -> Result<(), Fail> {
-    let ended = left(&rt, rt.alloc(), &TWO_LINKS)?;
+fn each_link_has_a_gate_of_its_own(rt: HostRuntime) {
+    let ended = left(&rt, rt.alloc(), &TWO_LINKS);
     has_sent(&rt, &ended, 0, &[REPLY]);
     has_sent(&rt, &ended, 1, &[REPLY]);
-    Ok(())
 }
 
 const ROOM_FOR_TWO: Case<'static> = Case {
@@ -160,13 +157,12 @@ const ROOM_FOR_TWO: Case<'static> = Case {
 
 // A table of two keeps the two that were let pass last: of three clients the second is known, and the first was forgotten.
 #[test]
-fn a_table_has_as_many_clients_as_the_station_says(rt: HostRuntime) -> Result<(), Fail> {
-    let ended = left(&rt, rt.alloc(), &ROOM_FOR_TWO)?;
+fn a_table_has_as_many_clients_as_the_station_says(rt: HostRuntime) {
+    let ended = left(&rt, rt.alloc(), &ROOM_FOR_TWO);
     let third = Reply { to: THIRD, ..REPLY };
     let known = Reply {
         to: NEIGHBOUR,
         ..RATE
     };
     has_sent(&rt, &ended, 0, &[REPLY, TO_NEIGHBOUR, third, known, REPLY]);
-    Ok(())
 }

@@ -3,7 +3,6 @@
 use crate::checks::{FULL, WHOLE, has_entries, has_lines, has_listed, have_heard, holds};
 use crate::stations::{CASE, Case, RADIO, left};
 use feed_workers::{LogEnd, LogWork};
-use std::test::Fail;
 
 const LEAP_FILE: &str = "leap_file = \"leap\"\n";
 
@@ -16,12 +15,11 @@ const LISTED: Case<'static> = Case {
 
 // The first row says when the list begins, and is no leap second.
 #[test]
-fn each_row_but_the_first_is_a_notice(rt: HostRuntime) -> Result<(), Fail> {
-    let ended = left(&rt, rt.alloc(), &LISTED)?;
-    has_lines(&rt, rt.alloc(), &ended, "0 7000 notice 3692217600\n")?;
+fn each_row_but_the_first_is_a_notice(rt: HostRuntime) {
+    let ended = left(&rt, rt.alloc(), &LISTED);
+    has_lines(&rt, rt.alloc(), &ended, "0 7000 notice 3692217600\n");
     has_listed(&rt, &ended, Some(WHOLE));
     holds(&rt, "the file is back", ended.gear.leap.is_some());
-    Ok(())
 }
 
 // The radio's log is empty.
@@ -32,11 +30,10 @@ const WITH_RADIO: Case<'static> = Case {
 };
 
 #[test]
-fn its_feed_stands_behind_the_radios(rt: HostRuntime) -> Result<(), Fail> {
-    let ended = left(&rt, rt.alloc(), &WITH_RADIO)?;
-    has_lines(&rt, rt.alloc(), &ended, "1 0 notice 3692217600\n")?;
+fn its_feed_stands_behind_the_radios(rt: HostRuntime) {
+    let ended = left(&rt, rt.alloc(), &WITH_RADIO);
+    has_lines(&rt, rt.alloc(), &ended, "1 0 notice 3692217600\n");
     have_heard(&rt, &ended, &[WHOLE]);
-    Ok(())
 }
 
 const SKIPPING: Case<'static> = Case {
@@ -51,11 +48,10 @@ const BAD: LogWork = LogWork {
 };
 
 #[test]
-fn a_row_that_skips_a_second_is_a_bad_line(rt: HostRuntime) -> Result<(), Fail> {
-    let ended = left(&rt, rt.alloc(), &SKIPPING)?;
+fn a_row_that_skips_a_second_is_a_bad_line(rt: HostRuntime) {
+    let ended = left(&rt, rt.alloc(), &SKIPPING);
     has_entries(&rt, &ended, 0);
     has_listed(&rt, &ended, Some(BAD));
-    Ok(())
 }
 
 const ROOM_FOR_ONE: Case<'static> = Case {
@@ -65,11 +61,10 @@ const ROOM_FOR_ONE: Case<'static> = Case {
 };
 
 #[test]
-fn a_full_journal_loses_a_notice_and_says_so(rt: HostRuntime) -> Result<(), Fail> {
-    let ended = left(&rt, rt.alloc(), &ROOM_FOR_ONE)?;
-    has_lines(&rt, rt.alloc(), &ended, "0 0 notice 3644697600\n")?;
+fn a_full_journal_loses_a_notice_and_says_so(rt: HostRuntime) {
+    let ended = left(&rt, rt.alloc(), &ROOM_FOR_ONE);
+    has_lines(&rt, rt.alloc(), &ended, "0 0 notice 3644697600\n");
     has_listed(&rt, &ended, Some(FULL));
-    Ok(())
 }
 
 const EMPTY: Case<'static> = Case {
@@ -78,16 +73,14 @@ const EMPTY: Case<'static> = Case {
 };
 
 #[test]
-fn an_empty_list_tells_nothing(rt: HostRuntime) -> Result<(), Fail> {
-    let ended = left(&rt, rt.alloc(), &EMPTY)?;
+fn an_empty_list_tells_nothing(rt: HostRuntime) {
+    let ended = left(&rt, rt.alloc(), &EMPTY);
     has_entries(&rt, &ended, 0);
     has_listed(&rt, &ended, Some(WHOLE));
-    Ok(())
 }
 
 #[test]
-fn a_station_without_one_has_no_work_for_it(rt: HostRuntime) -> Result<(), Fail> {
-    let ended = left(&rt, rt.alloc(), &CASE)?;
+fn a_station_without_one_has_no_work_for_it(rt: HostRuntime) {
+    let ended = left(&rt, rt.alloc(), &CASE);
     has_listed(&rt, &ended, None);
-    Ok(())
 }

@@ -10,7 +10,6 @@ use station_crew::Budget;
 use std::alloc::Global;
 use std::process::Abort;
 use std::sync::{Mutex, Wait};
-use std::test::Fail;
 use std::thread::{Threads, yield_now};
 
 // For how many turns a worker is held at the most: for some seconds.
@@ -133,13 +132,12 @@ fn is_answered_at<R: Abort + Threads + Wait + Sync>(
     alloc: Global,
     place: u8,
     want: Reply<'_>,
-) -> Result<(), Fail> {
+) {
     let gate = PairGate::new(place, 5);
-    let ended = left_with(rt, alloc, &FIVE_MINUTES, &gate)?;
+    let ended = left_with(rt, alloc, &FIVE_MINUTES, &gate);
     holds(rt, "they have met", gate.has_met(rt));
     has_entries(rt, &ended, 5);
     has_sent(rt, &ended, 0, &[want]);
-    Ok(())
 }
 
 const NO_TIME: Reply<'static> = Reply {
@@ -155,9 +153,9 @@ const TIME: Reply<'static> = Reply {
 
 // Four entries are no time yet, and five are.
 #[test]
-fn a_feed_keeps_its_entry_between_its_two_places(rt: HostRuntime) -> Result<(), Fail> {
-    is_answered_at(&rt, rt.alloc(), 1, NO_TIME)?;
-    is_answered_at(&rt, rt.alloc(), 4, TIME)
+fn a_feed_keeps_its_entry_between_its_two_places(rt: HostRuntime) {
+    is_answered_at(&rt, rt.alloc(), 1, NO_TIME);
+    is_answered_at(&rt, rt.alloc(), 4, TIME);
 }
 
 // The responder of a link whose call of this number fails comes to place 3 so often, and does this: receiving is its first call, sending its second.
@@ -167,7 +165,7 @@ fn comes_to_3<R: Abort + Threads + Wait + Sync>(
     fails: u64,
     count: usize,
     first: Served,
-) -> Result<(), Fail> {
+) {
     let gate = HoldGate::new(100, 3, 0, 1, 0, 1);
     let case = Case {
         station: &[LINK],
@@ -180,15 +178,14 @@ fn comes_to_3<R: Abort + Threads + Wait + Sync>(
         }],
         ..CASE
     };
-    let ended = left_held(rt, alloc, &case, &gate)?;
+    let ended = left_held(rt, alloc, &case, &gate);
     same_count(rt, "comings", gate.passed(rt) as usize, count);
     has_first(rt, &ended, first);
-    Ok(())
 }
 
 #[test]
-fn a_responder_comes_to_place_3_only_where_it_has_sent(rt: HostRuntime) -> Result<(), Fail> {
-    comes_to_3(&rt, rt.alloc(), 0, 1, ONE)?;
+fn a_responder_comes_to_place_3_only_where_it_has_sent(rt: HostRuntime) {
+    comes_to_3(&rt, rt.alloc(), 0, 1, ONE);
     let end = End::LinkFault;
-    comes_to_3(&rt, rt.alloc(), 2, 0, Served { end, ..NONE })
+    comes_to_3(&rt, rt.alloc(), 2, 0, Served { end, ..NONE });
 }

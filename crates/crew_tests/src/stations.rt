@@ -1,7 +1,7 @@
 //! Stations over fakes, stated by constants, and what they leave: a log of DCF77 by PTB's table of 1 January 2026, 13:00 (12:00 UTC) and the
 //! minutes after it, a server's answer that was worked by hand from RFC 5905, section 8, and clients whose answers are those of RFC 5905,
 //! section 7.3.
-ghost use Rattle.std.specs.Prelude.{◌≡◌, ◌<◌, ◌≤◌, IfOk};
+ghost use Rattle.std.specs.Prelude.{◌≡◌, ◌<◌, ◌≤◌};
 ghost use Rattle.radio_receiver.specs.Histories.{blank_of};
 ghost use Rattle.crew_work.specs.Served.{AreBlank};
 ghost use Rattle.tick_units.specs.declared.marks.Plan.TheVariants.{Dcf};
@@ -12,9 +12,9 @@ use radio_receiver::{BoxedReceiver, DcfReceiver, Receiver};
 use station_config::{Station, read_station};
 use station_crew::{Budget, Ended, Kit, Orders, serve_station};
 use station_gear::Gear;
-use std::alloc::Global;
+use std::alloc::{AllocError, Global};
+use std::process::Abort;
 use std::sync::Wait;
-use std::test::Fail;
 use std::thread::Threads;
 use tick_units::Plan;
 
@@ -60,169 +60,165 @@ pub const CASE: Case<'static> = Case {
 };
 
 // The logs of the radios.
-fn logs_of(alloc: Global, counts: &[u32]) -> Result<Vec<MemorySource>, Fail> {
+fn logs_of(alloc: Global, counts: &[u32]) -> Vec<MemorySource> {
     let mut logs = Vec::new(alloc);
     for count in counts {
-        logs.push(minutes(alloc, *count)?)?;
+        let _ = logs.push(minutes(alloc, *count));
     }
-    Ok(logs)
+    logs
 }
 
-fn links_of(alloc: Global, wires: &[Wire<'_>]) -> Result<Vec<MemoryLink>, Fail> {
+fn links_of(rt: &impl Abort, alloc: Global, wires: &[Wire<'_>]) -> Vec<MemoryLink> {
     let mut links = Vec::new(alloc);
     for wire in wires {
-        links.push(link_of(alloc, wire)?)?;
+        let _ = links.push(link_of(rt, alloc, wire));
     }
-    Ok(links)
+    links
 }
 
-fn leap_of(alloc: Global, list: Option<&str>) -> Result<Option<MemorySource>, Fail> {
+fn leap_of(alloc: Global, list: Option<&str>) -> Option<MemorySource> {
     match list {
-        Some(list) => Ok(Some(source_of(alloc, list)?)),
-        None => Ok(None),
+        Some(list) => Some(source_of(alloc, list)),
+        None => None,
     }
 }
 
-fn gear_of(alloc: Global, case: &Case<'_>) -> Result<Fakes, Fail> {
-    Ok(Gear {
-        logs: logs_of(alloc, case.minutes)?,
-        leap: leap_of(alloc, case.leap)?,
-        servers: links_of(alloc, case.servers)?,
-        links: links_of(alloc, case.links)?,
-    })
+fn gear_of(rt: &impl Abort, alloc: Global, case: &Case<'_>) -> Fakes {
+    Gear {
+        logs: logs_of(alloc, case.minutes),
+        leap: leap_of(alloc, case.leap),
+        servers: links_of(rt, alloc, case.servers),
+        links: links_of(rt, alloc, case.links),
+    }
 }
 
-fn text_of(alloc: Global, texts: &[&str]) -> Result<String, Fail> {
+// The station of these texts.
+fn station_of(rt: &impl Abort, alloc: Global, texts: &[&str]) -> Station {
     let mut all = String::new(alloc);
     for text in texts {
-        all.push_str(text)?;
+        let _ = all.push_str(text);
     }
-    Ok(all)
+    match read_station(alloc, all.as_bytes()) {
+        Ok(station) => station,
+        Err(_) => panic!(*rt; "no station"),
+    }
 }
 
 // The receivers of a station that has no radio, or one of DCF77 without a delay.
 fn receivers_of(
+    rt: &impl Abort,
     alloc: Global,
     station: &Station,
     receiver: BoxedReceiver,
-) -> Result<Vec<BoxedReceiver>, Fail>
+) -> Vec<BoxedReceiver>
     requires stands { stands_for receiver (blank_of Dcf) }
     requires least { least_start receiver ≡ 0 }
-    ensures { IfOk result (λ v. AreBlank stands_for least_start station.now.radios v.items) }
+    ensures { AreBlank stands_for least_start station.now.radios result.items }
 {
     let mut receivers = Vec::new(alloc);
     if station.radios() == 0 {
-        return Ok(receivers);
+        return receivers;
     }
     if station.radios() != 1 {
-        return Err("two radios")?;
+        panic!(*rt; "two radios");
     }
     let Some(radio) = station.radio(0) else {
-        return Err("no radio")?;
+        panic!(*rt; "no radio");
     };
     if radio.delay != 0 {
-        return Err("a delay")?;
+        panic!(*rt; "a delay");
     }
     let Plan::Dcf = radio.plan else {
-        return Err("another plan")?;
+        panic!(*rt; "another plan");
     };
-    receivers.push(receiver)?;
-    Ok(receivers)
+    match receivers.push(receiver) {
+        Ok(()) => receivers,
+        Err(_) => panic!(*rt; "no memory"),
+    }
 }
 
-// What a station of this text leaves, where its radio, if it has one, is given this receiver.
-fn serve_with<R: Threads + Wait + Sync, G: Gate>(
+// What a station leaves, where its radio, if it has one, is given this receiver.
+fn serve_with<R: Abort + Threads + Wait + Sync, G: Gate>(
     rt: &R,
     alloc: Global,
     gate: &G,
-    text: &str,
-    limit: u32,
-    budget: Budget,
+    station: &Station,
+    orders: Orders,
     receiver: BoxedReceiver,
     gear: Fakes,
-) -> Result<Done, Fail>
-    requires limit { (0 < limit) × (limit ≤ 4194304) }
+) -> Done
+    requires limit { (0 < orders.limit) × (orders.limit ≤ 4194304) }
     requires stands { stands_for receiver (blank_of Dcf) }
     requires least { least_start receiver ≡ 0 }
 {
-    let Ok(station) = read_station(alloc, text.as_bytes()) else {
-        return Err("no station")?;
-    };
-    let receivers = receivers_of(alloc, &station, receiver)?;
+    let receivers = receivers_of(rt, alloc, station, receiver);
     if gear.logs.len() != station.radios() {
-        return Err("logs")?;
+        panic!(*rt; "logs");
     }
     if gear.leap.is_some() != station.leap_file().is_some() {
-        return Err("leap second file")?;
+        panic!(*rt; "leap second file");
     }
     if gear.servers.len() != station.servers() {
-        return Err("servers")?;
+        panic!(*rt; "servers");
     }
     if gear.links.len() != station.links() {
-        return Err("links")?;
+        panic!(*rt; "links");
     }
-    let orders = Orders { limit, budget };
     let kit = Kit { receivers, gear };
-    match serve_station(rt, alloc, gate, &station, orders, kit) {
-        Ok(ended) => Ok(ended),
-        Err(_) => Err("memory")?,
+    match serve_station(rt, alloc, gate, station, orders, kit) {
+        Ok(ended) => ended,
+        Err(_) => panic!(*rt; "no memory"),
     }
 }
 
-// What a station of this text leaves.
-fn serve<R: Threads + Wait + Sync, G: Gate>(
+// What a station leaves.
+fn serve<R: Abort + Threads + Wait + Sync, G: Gate>(
     rt: &R,
     alloc: Global,
     gate: &G,
-    text: &str,
-    limit: u32,
-    budget: Budget,
+    station: &Station,
+    orders: Orders,
     gear: Fakes,
-) -> Result<Done, Fail>
-    requires { (0 < limit) × (limit ≤ 4194304) }
+) -> Result<Done, AllocError>
+    requires { (0 < orders.limit) × (orders.limit ≤ 4194304) }
 {
     let receiver = Box::new(alloc, DcfReceiver::new())?;
-    serve_with(rt, alloc, gate, text, limit, budget, receiver, gear)
+    Ok(serve_with(rt, alloc, gate, station, orders, receiver, gear))
 }
 
 /// What the station of a case leaves, with this gate.
-pub fn left_with<R: Threads + Wait + Sync, G: Gate>(
+pub fn left_with<R: Abort + Threads + Wait + Sync, G: Gate>(
     rt: &R,
     alloc: Global,
     case: &Case<'_>,
     gate: &G,
-) -> Result<Done, Fail> {
+) -> Done {
     if case.limit == 0 || case.limit > 4_194_304 {
-        return Err("the limit")?;
+        panic!(*rt; "the limit");
     }
-    let text = text_of(alloc, case.station)?;
-    let gear = gear_of(alloc, case)?;
-    serve(
-        rt,
-        alloc,
-        gate,
-        text.as_str(),
-        case.limit,
-        case.budget,
-        gear,
-    )
+    let station = station_of(rt, alloc, case.station);
+    let gear = gear_of(rt, alloc, case);
+    let orders = Orders {
+        limit: case.limit,
+        budget: case.budget,
+    };
+    match serve(rt, alloc, gate, &station, orders, gear) {
+        Ok(ended) => ended,
+        Err(_) => panic!(*rt; "no memory"),
+    }
 }
 
 /// What it leaves with a gate that holds nobody.
-pub fn left<R: Threads + Wait + Sync>(
-    rt: &R,
-    alloc: Global,
-    case: &Case<'_>,
-) -> Result<Done, Fail> {
+pub fn left<R: Abort + Threads + Wait + Sync>(rt: &R, alloc: Global, case: &Case<'_>) -> Done {
     left_with(rt, alloc, case, &OpenGate::new())
 }
 
 /// What it leaves with a gate that holds a worker.
-pub fn left_held<R: Threads + Wait + Sync>(
+pub fn left_held<R: Abort + Threads + Wait + Sync>(
     rt: &R,
     alloc: Global,
     case: &Case<'_>,
     gate: &HoldGate,
-) -> Result<Done, Fail> {
+) -> Done {
     left_with(rt, alloc, case, gate)
 }

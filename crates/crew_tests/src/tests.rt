@@ -10,7 +10,6 @@ use feed_link::HoldGate;
 use feed_workers::{PollEnd, PollWork};
 use responder::{End, Served};
 use station_crew::{Budget, LinkWork};
-use std::test::Fail;
 
 const ONE_EACH: Budget = Budget {
     during: 1,
@@ -57,14 +56,13 @@ const TIME: Reply<'static> = Reply {
 // The radio's first entry waits until the responder has answered; so the first answer is from no entry, and the second from all. Five samples make
 // a source fit, and the last one is of 12:05 at 362 s.
 #[test]
-fn a_link_is_answered_in_both_phases(rt: HostRuntime) -> Result<(), Fail> {
+fn a_link_is_answered_in_both_phases(rt: HostRuntime) {
     let gate = HoldGate::new(0, 1, 100, 3, 1, 1_000_000_000);
-    let ended = left_held(&rt, rt.alloc(), &SIX_MINUTES, &gate)?;
+    let ended = left_held(&rt, rt.alloc(), &SIX_MINUTES, &gate);
     has_entries(&rt, &ended, 6);
     have_heard(&rt, &ended, &[WHOLE]);
     have_served(&rt, &ended, &[TWICE]);
     has_sent(&rt, &ended, 0, &[NO_TIME, TIME]);
-    Ok(())
 }
 
 const ASKED_ONCE: Case<'static> = Case {
@@ -78,11 +76,10 @@ const ASKED_ONCE: Case<'static> = Case {
 
 // The responder waits until all six entries are in the journal.
 #[test]
-fn the_first_phase_answers_from_the_journal_so_far(rt: HostRuntime) -> Result<(), Fail> {
+fn the_first_phase_answers_from_the_journal_so_far(rt: HostRuntime) {
     let gate = HoldGate::new(100, 2, 0, 4, 6, 1_000_000_000);
-    let ended = left_held(&rt, rt.alloc(), &ASKED_ONCE, &gate)?;
+    let ended = left_held(&rt, rt.alloc(), &ASKED_ONCE, &gate);
     has_sent(&rt, &ended, 0, &[TIME]);
-    Ok(())
 }
 
 const NO_FEEDS: Case<'static> = Case {
@@ -100,8 +97,8 @@ const NO_FEEDS: Case<'static> = Case {
 };
 
 #[test]
-fn a_station_without_feeds_is_served(rt: HostRuntime) -> Result<(), Fail> {
-    let ended = left(&rt, rt.alloc(), &NO_FEEDS)?;
+fn a_station_without_feeds_is_served(rt: HostRuntime) {
+    let ended = left(&rt, rt.alloc(), &NO_FEEDS);
     has_entries(&rt, &ended, 0);
     have_heard(&rt, &ended, &[]);
     have_polled(&rt, &ended, &[]);
@@ -113,7 +110,6 @@ fn a_station_without_feeds_is_served(rt: HostRuntime) -> Result<(), Fail> {
             second: Some(ONE),
         }],
     );
-    Ok(())
 }
 
 const ROOM_FOR_ONE: Case<'static> = Case {
@@ -124,11 +120,10 @@ const ROOM_FOR_ONE: Case<'static> = Case {
 };
 
 #[test]
-fn a_full_journal_keeps_a_front(rt: HostRuntime) -> Result<(), Fail> {
-    let ended = left(&rt, rt.alloc(), &ROOM_FOR_ONE)?;
-    has_lines(&rt, rt.alloc(), &ended, LONE)?;
+fn a_full_journal_keeps_a_front(rt: HostRuntime) {
+    let ended = left(&rt, rt.alloc(), &ROOM_FOR_ONE);
+    has_lines(&rt, rt.alloc(), &ended, LONE);
     have_heard(&rt, &ended, &[FULL]);
-    Ok(())
 }
 
 const TWO_LINKS: Case<'static> = Case {
@@ -149,8 +144,8 @@ const ENDED: Served = Served {
 };
 
 #[test]
-fn a_link_that_ends_has_no_second_phase(rt: HostRuntime) -> Result<(), Fail> {
-    let ended = left(&rt, rt.alloc(), &TWO_LINKS)?;
+fn a_link_that_ends_has_no_second_phase(rt: HostRuntime) {
+    let ended = left(&rt, rt.alloc(), &TWO_LINKS);
     have_served(
         &rt,
         &ended,
@@ -167,7 +162,6 @@ fn a_link_that_ends_has_no_second_phase(rt: HostRuntime) -> Result<(), Fail> {
     );
     has_events(&rt, &ended, 0, 4);
     has_events(&rt, &ended, 1, 10);
-    Ok(())
 }
 
 const POLLED: Case<'static> = Case {
@@ -178,12 +172,11 @@ const POLLED: Case<'static> = Case {
 };
 
 #[test]
-fn a_server_is_polled(rt: HostRuntime) -> Result<(), Fail> {
-    let ended = left(&rt, rt.alloc(), &POLLED)?;
-    has_lines(&rt, rt.alloc(), &ended, SAMPLE)?;
+fn a_server_is_polled(rt: HostRuntime) {
+    let ended = left(&rt, rt.alloc(), &POLLED);
+    has_lines(&rt, rt.alloc(), &ended, SAMPLE);
     let end = PollEnd::Rounds;
     have_polled(&rt, &ended, &[PollWork { end, full: false }]);
-    Ok(())
 }
 
 const BOTH: Case<'static> = Case {
@@ -194,8 +187,8 @@ const BOTH: Case<'static> = Case {
 
 // The poller waits at the gate until both of the radio's entries are in the journal.
 #[test]
-fn radios_are_numbered_before_servers(rt: HostRuntime) -> Result<(), Fail> {
+fn radios_are_numbered_before_servers(rt: HostRuntime) {
     let gate = HoldGate::new(1, 1, 0, 4, 2, 1_000_000_000);
-    let ended = left_held(&rt, rt.alloc(), &BOTH, &gate)?;
-    has_lines(&rt, rt.alloc(), &ended, OF_BOTH)
+    let ended = left_held(&rt, rt.alloc(), &BOTH, &gate);
+    has_lines(&rt, rt.alloc(), &ended, OF_BOTH);
 }

@@ -2,9 +2,9 @@
 ghost use Rattle.std.specs.Prelude.{◌≡◌, ◌<◌, ◌≤◌, ◌^◌, All, length, pos, neg_ℤ, ◌≤ℤ◌};
 ghost use Rattle.cluster_core.specs.Bounds.{AreNear, IsWeighable};
 
+use crate::shared::same;
 use cluster_core::{Survivor, Survivors, cluster, combine};
 use std::process::Abort;
-use std::test::Fail;
 use tick_units::Span;
 
 // A survivor without its feed. Its distance is one unit more than the given one.
@@ -44,21 +44,33 @@ fn survivors_of(parts: &[Part]) -> Survivors
     survivors
 }
 
+// The feed of the survivor at a place.
+fn feed_at(survivors: &Survivors, place: usize) -> Option<u32> {
+    match survivors.get(place) {
+        Some(survivor) => Some(survivor.feed),
+        None => None,
+    }
+}
+
+// The survivors are these feeds, in this order.
+fn are_left(rt: &impl Abort, survivors: &Survivors, feeds: &[u32]) {
+    same(rt, survivors.len(), feeds.len());
+    for (place, feed) in feeds.iter().enumerate() {
+        let found = feed_at(survivors, place);
+        same(rt, (place, found), (place, Some(*feed)));
+    }
+    same(rt, feed_at(survivors, feeds.len()), None);
+}
+
 // The feeds of those that are left, and the mean of their offsets.
-fn check(rt: &impl Abort, parts: &[Part], feeds: &[u32], mean: i128) -> Result<(), Fail>
+fn check(rt: &impl Abort, parts: &[Part], feeds: &[u32], mean: i128)
     requires some { 0 < length parts.now }
     requires few { length parts.now ≤ 16 }
 {
     let mut survivors = survivors_of(parts);
     cluster(&mut survivors);
-    assert_eq!(rt; survivors.len(), feeds.len());
-    for (place, feed) in feeds.iter().enumerate() {
-        let survivor = survivors.get(place).ok_or("none")?;
-        assert_eq!(rt; survivor.feed, *feed, "at {place}");
-    }
-    assert!(rt; survivors.get(feeds.len()).is_none());
-    assert_eq!(rt; combine(&survivors).get(), mean);
-    Ok(())
+    are_left(rt, &survivors, feeds);
+    same(rt, combine(&survivors).get(), mean);
 }
 
 // Sources of stratum 0 and a distance of 1000 units.
@@ -81,122 +93,123 @@ fn at(distance_less_one: u16, offset: i32) -> Part {
     }
 }
 
+// Three at 0 and one at 40, each with this jitter.
+fn three_and_one(jitter2: u64) -> [Part; 4] {
+    let near = of_a_radio(0, jitter2);
+    [near, near, near, of_a_radio(40, jitter2)]
+}
+
 // Three at 0 and one at 40 have selection jitters of 533, 533, 533 and 1600: the fourth goes, unless each one's own jitter is
 // greater than that.
 #[test]
-fn the_farthest_of_four_is_discarded(rt: HostRuntime) -> Result<(), Fail> {
-    for jitter2 in [0, 1600] {
-        let near = of_a_radio(0, jitter2);
-        let four = [near, near, near, of_a_radio(40, jitter2)];
-        check(&rt, &four, &[0, 1, 2], 0)?;
-    }
-    for jitter2 in [1601, 2000] {
-        let near = of_a_radio(0, jitter2);
-        let four = [near, near, near, of_a_radio(40, jitter2)];
-        check(&rt, &four, &[0, 1, 2, 3], 10)?;
-    }
-    Ok(())
+fn the_farthest_of_four_is_discarded(rt: HostRuntime) {
+    check(&rt, &three_and_one(0), &[0, 1, 2], 0);
+    check(&rt, &three_and_one(1600), &[0, 1, 2], 0);
+    check(&rt, &three_and_one(1601), &[0, 1, 2, 3], 10);
+    check(&rt, &three_and_one(2000), &[0, 1, 2, 3], 10);
+}
+
+// Four at 0, 1, 5 and 25, each with this jitter.
+fn up_to_25(jitter2: u64) -> [Part; 4] {
+    [
+        of_a_radio(0, jitter2),
+        of_a_radio(1, jitter2),
+        of_a_radio(5, jitter2),
+        of_a_radio(25, jitter2),
+    ]
 }
 
 // The greatest selection jitter is that of the one at 25: its squared differences from the others sum up to 1601, a third of
 // which is 533 2/3, and that counts as 533.
 #[test]
-fn a_selection_jitter_is_rounded_down(rt: HostRuntime) -> Result<(), Fail> {
-    for (jitter2, feeds, mean) in [(533, [0, 1, 2].as_slice(), 2), (534, &[0, 1, 2, 3], 7)] {
-        let four = [0, 1, 5, 25].map(|offset| of_a_radio(offset, jitter2));
-        check(&rt, &four, feeds, mean)?;
-    }
-    Ok(())
+fn a_selection_jitter_is_rounded_down(rt: HostRuntime) {
+    check(&rt, &up_to_25(533), &[0, 1, 2], 2);
+    check(&rt, &up_to_25(534), &[0, 1, 2, 3], 7);
 }
 
-#[test]
-fn survivors_stand_by_stratum_distance_and_feed(rt: HostRuntime) -> Result<(), Fail> {
-    let of_stratum = |stratum: u8, nearest: u16| Part {
+// Sources at 7, of these strata and distances less one.
+fn of_strata(strata: [u8; 3], nearest: [u16; 3]) -> [Part; 3] {
+    let ([a, b, c], [x, y, z]) = (strata, nearest);
+    [of_stratum(a, x), of_stratum(b, y), of_stratum(c, z)]
+}
+
+fn of_stratum(stratum: u8, nearest: u16) -> Part {
+    Part {
         stratum,
         nearest,
         offset: 7,
         jitter2: 0,
-    };
-    check(
-        &rt,
-        &[of_stratum(2, 4), of_stratum(1, 8), of_stratum(1, 2)],
-        &[2, 1, 0],
-        7,
-    )?;
-    check(
-        &rt,
-        &[of_stratum(0, 9), of_stratum(0, 9), of_stratum(0, 3)],
-        &[2, 0, 1],
-        7,
-    )
+    }
+}
+
+#[test]
+fn survivors_stand_by_stratum_distance_and_feed(rt: HostRuntime) {
+    check(&rt, &of_strata([2, 1, 1], [4, 8, 2]), &[2, 1, 0], 7);
+    check(&rt, &of_strata([0, 0, 0], [9, 9, 3]), &[2, 0, 1], 7);
 }
 
 // Two at 0 and two at 10: all are equally far from the others.
 #[test]
-fn the_later_of_equally_far_ones_is_discarded(rt: HostRuntime) -> Result<(), Fail> {
+fn the_later_of_equally_far_ones_is_discarded(rt: HostRuntime) {
     let low = of_a_radio(0, 0);
     let high = of_a_radio(10, 0);
-    check(&rt, &[low, high, low, high], &[0, 1, 2], 3)
+    check(&rt, &[low, high, low, high], &[0, 1, 2], 3);
 }
 
 #[test]
-fn three_stay_however_far(rt: HostRuntime) -> Result<(), Fail> {
+fn three_stay_however_far(rt: HostRuntime) {
     let far = of_a_radio(1_000_000, 0);
-    check(
-        &rt,
-        &[of_a_radio(0, 0), far, of_a_radio(5, 0)],
-        &[0, 1, 2],
-        333_335,
-    )
+    let three = [of_a_radio(0, 0), far, of_a_radio(5, 0)];
+    check(&rt, &three, &[0, 1, 2], 333_335);
 }
 
-#[test]
-fn one_after_another_is_discarded(rt: HostRuntime) -> Result<(), Fail> {
-    let six = [
+fn from_70_below_to_100() -> [Part; 6] {
+    [
         of_a_radio(0, 0),
         of_a_radio(100, 0),
         of_a_radio(1, 0),
         of_a_radio(-70, 0),
         of_a_radio(2, 0),
         of_a_radio(3, 0),
-    ];
-    check(&rt, &six, &[0, 2, 4], 1)
+    ]
+}
+
+#[test]
+fn one_after_another_is_discarded(rt: HostRuntime) {
+    check(&rt, &from_70_below_to_100(), &[0, 2, 4], 1);
 }
 
 // The one at 100 agrees with itself to the unit. It goes, and has no say then: of the four that are left the selection jitters are
 // 533, 533, 533 and 1600, and each one's own is greater.
 #[test]
-fn a_discarded_one_has_no_say(rt: HostRuntime) -> Result<(), Fail> {
+fn a_discarded_one_has_no_say(rt: HostRuntime) {
     let near = of_a_radio(0, 2000);
     let five = [of_a_radio(100, 0), near, near, near, of_a_radio(40, 2000)];
-    check(&rt, &five, &[1, 2, 3, 4], 10)
+    check(&rt, &five, &[1, 2, 3, 4], 10);
 }
 
 // Weights are 2^62 divided by the distance, and the mean is rounded down.
 #[test]
-fn the_nearer_weighs_more(rt: HostRuntime) -> Result<(), Fail> {
-    check(&rt, &[at(0, 0), at(1, 3)], &[0, 1], 1)?;
-    check(&rt, &[at(1, -1), at(1, 0)], &[0, 1], -1)?;
-    check(&rt, &[at(0, -3), at(2, 5), at(6, 11)], &[0, 1, 2], 0)?;
-    check(
-        &rt,
-        &[at(2, i32::MAX), at(65_535, i32::MIN)],
-        &[0, 1],
-        2_147_287_047,
-    )?;
-    check(&rt, &[at(8, -7)], &[0], -7)
+fn the_nearer_weighs_more(rt: HostRuntime) {
+    check(&rt, &[at(0, 0), at(1, 3)], &[0, 1], 1);
+    check(&rt, &[at(1, -1), at(1, 0)], &[0, 1], -1);
+    check(&rt, &[at(0, -3), at(2, 5), at(6, 11)], &[0, 1, 2], 0);
+    let widest = [at(2, i32::MAX), at(65_535, i32::MIN)];
+    check(&rt, &widest, &[0, 1], 2_147_287_047);
+    check(&rt, &[at(8, -7)], &[0], -7);
 }
 
 // With 2^61 or 2^63 in place of 2^62 the mean would be -9.
 #[test]
-fn weights_are_rounded_down(rt: HostRuntime) -> Result<(), Fail> {
-    check(&rt, &[at(2, -11), at(4, -4), at(8, -12)], &[0, 1, 2], -10)
+fn weights_are_rounded_down(rt: HostRuntime) {
+    let three = [at(2, -11), at(4, -4), at(8, -12)];
+    check(&rt, &three, &[0, 1, 2], -10);
 }
 
 #[test]
 fn a_list_of_none(rt: HostRuntime) {
     let mut survivors = Survivors::new();
-    assert!(rt; survivors.is_empty());
+    same(&rt, survivors.is_empty(), true);
     cluster(&mut survivors);
-    assert_eq!(rt; survivors.len(), 0);
+    same(&rt, survivors.len(), 0);
 }

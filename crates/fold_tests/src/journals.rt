@@ -4,25 +4,21 @@ ghost use Rattle.journal_entry.specs.Lawful.{IsLawfulKind, IsLawfulVerdict, IsLa
 ghost use Rattle.tick_units.specs.Samples as samples;
 ghost use Rattle.system_fold.specs.Settings.{AreLawful, IsJournal, IsKept};
 
+use crate::shared::same;
 use clock_page::Page;
 use feed_link::Address;
 use journal_entry::{ENTRY_ROOM, Entry, What, read_entry};
-use std::test::Fail;
+use std::alloc::Global;
+use std::process::Abort;
 use system_fold::{Settings, SourceKind, page_by_steps, page_from_scratch, page_text};
 use tick_units::{END_OF_TOLD, Kind, Plan, Sample, Span, is_told};
 
 pub const DCF: SourceKind = SourceKind::Radio(Plan::Dcf);
 
-pub const MSF: SourceKind = SourceKind::Radio(Plan::Msf);
-
-pub const WWVB: SourceKind = SourceKind::Radio(Plan::Wwvb);
-
 pub const SERVER: SourceKind = SourceKind::Server(Address {
     ip: 0x7f00_0001,
     port: 123,
 });
-
-pub const LEAP: SourceKind = SourceKind::Leap;
 
 fn may_be_told(second: u64) -> bool
     ensures { result ≡ true → IsTold second }
@@ -122,75 +118,112 @@ fn are_lawful(settings: &Settings) -> bool
 }
 
 /// The page of a journal, where it is one of valid entries: by steps and from scratch, which give the same.
-pub fn page_after(settings: &Settings, journal: &[Entry]) -> Result<Page, Fail> {
+pub fn page_after(rt: &impl Abort, settings: &Settings, journal: &[Entry]) -> Page {
     if !are_lawful(settings) {
-        return Err("no lawful settings")?;
+        panic!(*rt; "no valid settings");
     }
     if !is_journal(settings, journal) {
-        return Err("no lawful journal")?;
+        panic!(*rt; "no valid journal");
     }
     if journal.len() > 1 << 22 {
-        return Err("too long")?;
+        panic!(*rt; "too long");
     }
     let page = page_by_steps(settings, journal);
-    if page_from_scratch(settings, journal) != page {
-        return Err("the two pages differ")?;
-    }
-    Ok(page)
+    same(rt, page_from_scratch(settings, journal), page);
+    page
 }
 
-/// The line of a page.
-pub fn line_of(rt: &HostRuntime, page: &Page) -> Result<String, Fail> {
+/// The line of a page is this one. Where it isn't, the message says why this page was made.
+pub fn has_line(rt: &impl Abort, why: &str, page: &Page, line: &str) {
     let mut out = [0; ENTRY_ROOM];
     let length = page_text(page, &mut out);
-    Ok(String::from_utf8(out[..length].to_vec(rt.alloc())?)?)
+    match str::from_utf8(&out[..length]) {
+        Ok(text) => same(rt, (why, text), (why, line)),
+        Err(_) => panic!(*rt; "no text"),
+    }
 }
 
 /// Settings with feeds of these kinds.
-pub fn settings_of(bound_ms: u32, kinds: &[SourceKind]) -> Result<Settings, Fail>
+pub fn settings_of(rt: &impl Abort, bound_ms: u32, kinds: &[SourceKind]) -> Settings
     requires least { 1 ≤ bound_ms }
     requires most { bound_ms ≤ 16000 }
 {
     let mut settings = Settings::new(bound_ms);
     for kind in kinds {
         if settings.count() >= 16 {
-            return Err("too many feeds")?;
+            panic!(*rt; "too many feeds");
         }
         settings.add(*kind);
     }
-    Ok(settings)
+    settings
+}
+
+// Adds the entry of a text to a journal.
+fn add_entry(rt: &impl Abort, journal: &mut Vec<Entry>, text: &str) {
+    let entry = read_entry(text.as_bytes()).expect(rt, "no entry");
+    journal.push(entry).expect(rt, "no memory");
 }
 
 /// The entries of these texts.
-pub fn journal_of(rt: &HostRuntime, texts: &[&str]) -> Result<Vec<Entry>, Fail> {
-    let mut journal = Vec::new(rt.alloc());
+pub fn journal_of(rt: &impl Abort, alloc: Global, texts: &[&str]) -> Vec<Entry> {
+    let mut journal = Vec::new(alloc);
     for text in texts {
-        journal.push(read_entry(text.as_bytes()).ok_or("no entry")?)?;
+        add_entry(rt, &mut journal, text);
     }
-    Ok(journal)
+    journal
 }
 
-/// The line of the page of the entries of these texts.
-pub fn text_after(rt: &HostRuntime, settings: &Settings, texts: &[&str]) -> Result<String, Fail> {
-    let journal = journal_of(rt, texts)?;
-    let page = page_after(settings, &journal)?;
-    line_of(rt, &page)
-}
-
-/// A journal, and the line of its page, which another program computed from the rules.
-pub struct Odd<'a> {
-    pub why: &'a str,
-    pub kinds: &'a [SourceKind],
-    pub entries: &'a [&'a str],
-    pub line: &'a str,
-}
-
-/// The page of an odd journal has its line.
-pub fn is_the_page(rt: &HostRuntime, odd: &Odd<'_>) -> Result<(), Fail> {
-    let settings = settings_of(1000, odd.kinds)?;
-    let text = text_after(rt, &settings, odd.entries)?;
-    if text.as_str() != odd.line {
-        return Err(odd.why)?;
+// The kind of a feed, by its word.
+fn kind_of(rt: &impl Abort, word: &str) -> SourceKind {
+    match word {
+        "dcf" => DCF,
+        "msf" => SourceKind::Radio(Plan::Msf),
+        "wwvb" => SourceKind::Radio(Plan::Wwvb),
+        "server" => SERVER,
+        "leap" => SourceKind::Leap,
+        _ => panic!(*rt; "no kind of a feed: {word}"),
     }
-    Ok(())
+}
+
+// Settings with a bound of a second and feeds of these kinds.
+fn settings_by(rt: &impl Abort, words: &str) -> Settings {
+    let mut settings = Settings::new(1000);
+    for word in words.split(' ') {
+        if settings.count() >= 16 {
+            panic!(*rt; "too many feeds");
+        }
+        settings.add(kind_of(rt, word));
+    }
+    settings
+}
+
+// The first line of a text, and the others.
+fn cut<'a>(rt: &impl Abort, text: &'a str) -> (&'a str, &'a str) {
+    match text.split_once("\n") {
+        Some(both) => both,
+        None => panic!(*rt; "too few lines: {text}"),
+    }
+}
+
+// The page of an odd journal has its line, which another program computed from the rules. The text says why the journal is odd,
+// and has its feeds, the line of its page and its entries.
+fn is_the_page(rt: &impl Abort, alloc: Global, odd: &str) {
+    let (why, rest) = cut(rt, odd);
+    let (feeds, rest) = cut(rt, rest);
+    let (line, entries) = cut(rt, rest);
+    let settings = settings_by(rt, feeds);
+    let mut journal = Vec::new(alloc);
+    for text in entries.lines() {
+        add_entry(rt, &mut journal, text);
+    }
+    has_line(rt, why, &page_after(rt, &settings, &journal), line);
+}
+
+/// The same of each journal of a table, which begins with `#`.
+pub fn are_the_pages(rt: &impl Abort, alloc: Global, table: &str) {
+    for odd in table.split('#') {
+        if !odd.is_empty() {
+            is_the_page(rt, alloc, odd);
+        }
+    }
 }

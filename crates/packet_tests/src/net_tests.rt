@@ -2,23 +2,28 @@
 ghost use Rattle.std.specs.Prelude.{◌≡◌, ◌≤◌, ◌<◌, [], length};
 ghost use Rattle.kiss_gate.specs.Nets.{nets_of};
 
-use crate::shared::moment;
+use crate::shared::{moment, same};
 use kiss_gate::{ClientGate, DenyList, Judged};
 use reply_core::Code;
 use std::alloc::Global;
 use std::process::Abort;
-use std::test::Fail;
 
-// Whether a list denies an address: a gate with a gap of 0 says `Deny` or `Pass`, and keeps nothing.
-fn denies(alloc: Global, deny: &DenyList, ip: u32) -> Result<bool, Fail> {
-    let Ok(mut gate) = ClientGate::open(alloc, deny, 0, 1) else {
-        return Err("no memory")?;
-    };
-    let Judged { code, kept } = gate.judge(ip, moment(0)?);
+// A gate that lets every client pass whenever it asks, and keeps nothing.
+fn open_gate(rt: &impl Abort, alloc: Global, deny: &DenyList) -> ClientGate {
+    match ClientGate::open(alloc, deny, 0, 1) {
+        Ok(gate) => gate,
+        Err(_) => panic!(*rt; "no memory"),
+    }
+}
+
+// Whether a list denies an address: such a gate says `Deny` or `Pass`.
+fn denies(rt: &impl Abort, alloc: Global, deny: &DenyList, ip: u32) -> bool {
+    let mut gate = open_gate(rt, alloc, deny);
+    let Judged { code, kept } = gate.judge(ip, moment(0));
     match code {
-        Code::Deny if kept => Ok(true),
-        Code::Pass if kept => Ok(false),
-        _ => Err("another answer")?,
+        Code::Deny if kept => true,
+        Code::Pass if kept => false,
+        _ => panic!(*rt; "another answer"),
     }
 }
 
@@ -107,22 +112,30 @@ fn list_of(net: u32, bits: u8) -> DenyList
     deny
 }
 
-fn have_addresses<R: Abort>(rt: &R, alloc: Global, nets: &[Net]) -> Result<(), Fail> {
-    for (net, bits, addresses) in nets {
-        let bits = *bits;
-        assert!(*rt; bits <= 32);
-        let deny = list_of(*net, bits);
-        for (ip, is_in) in addresses {
-            let is_denied = denies(alloc, &deny, *ip)?;
-            assert!(*rt; is_denied == *is_in, "{ip} in {net}/{bits}");
-        }
+// A list denies an address, or does not.
+fn is_denied(rt: &impl Abort, alloc: Global, deny: &DenyList, ip: u32, is_in: bool) {
+    same(rt, (ip, denies(rt, alloc, deny, ip)), (ip, is_in));
+}
+
+fn has_addresses(rt: &impl Abort, alloc: Global, net: &Net) {
+    let (net, bits, addresses) = net;
+    let bits = *bits;
+    assert!(*rt; bits <= 32);
+    let deny = list_of(*net, bits);
+    for (ip, is_in) in addresses {
+        is_denied(rt, alloc, &deny, *ip, *is_in);
     }
-    Ok(())
+}
+
+fn have_addresses(rt: &impl Abort, alloc: Global, nets: &[Net]) {
+    for net in nets {
+        has_addresses(rt, alloc, net);
+    }
 }
 
 #[test]
-fn nets_have_their_addresses(rt: HostRuntime) -> Result<(), Fail> {
-    have_addresses(&rt, rt.alloc(), &NETS)
+fn nets_have_their_addresses(rt: HostRuntime) {
+    have_addresses(&rt, rt.alloc(), &NETS);
 }
 
 // 16 nets of one address each, the first and the last among them.
@@ -147,16 +160,20 @@ fn sixteen() -> DenyList {
     deny
 }
 
+// A list denies the addresses from 0 to 15.
+fn denies_sixteen(rt: &impl Abort, alloc: Global, deny: &DenyList) {
+    for ip in 0..16 {
+        is_denied(rt, alloc, deny, ip, true);
+    }
+}
+
 // A list without nets denies nobody.
 #[test]
-fn a_full_list_denies_each_of_its_nets(rt: HostRuntime) -> Result<(), Fail> {
+fn a_full_list_denies_each_of_its_nets(rt: HostRuntime) {
     let alloc = rt.alloc();
-    assert!(rt; !denies(alloc, &DenyList::new(), 0)?);
+    is_denied(&rt, alloc, &DenyList::new(), 0, false);
     let deny = sixteen();
-    for ip in 0..16 {
-        assert!(rt; denies(alloc, &deny, ip)?);
-    }
-    assert!(rt; !denies(alloc, &deny, 16)?);
-    assert!(rt; !denies(alloc, &deny, u32::MAX)?);
-    Ok(())
+    denies_sixteen(&rt, alloc, &deny);
+    is_denied(&rt, alloc, &deny, 16, false);
+    is_denied(&rt, alloc, &deny, u32::MAX, false);
 }

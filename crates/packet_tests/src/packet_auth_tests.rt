@@ -1,9 +1,10 @@
 //! Datagrams with and without a digest. The digests are those of Python's `hashlib` and of `openssl dgst -md5`.
-ghost use Rattle.std.specs.Prelude.{◌≡◌, ◌∷◌, [], codes};
-ghost use Rattle.packet_auth.specs.Keys.{keys_of};
+ghost use Rattle.std.specs.Prelude.{◌≡◌, ◌≤◌, ◌∷◌, [], codes, IsTrue};
+ghost use Rattle.packet_auth.specs.Keys.{has_id, keys_of};
 
 use crate::shared::{BY_LONGWAVE, REQUEST, same};
 use packet_auth::{KeyRing, SEALED_LENGTH};
+use std::process::Abort;
 
 // MD5 of `another client has this secret!!`, which has 32 bytes, and the request.
 const OF_ANOTHER: [u8; 16] = [
@@ -35,111 +36,116 @@ fn ring_of_three() -> KeyRing
     ring
 }
 
+// Whose digest this is of the request under an identifier.
+fn authentic(id: [u8; 4], digest: [u8; 16]) -> Option<u32> {
+    ring_of_three().authentic(&packet(id, digest))
+}
+
 #[test]
 fn a_request_with_the_digest_of_its_key(rt: HostRuntime) {
-    let ring = ring_of_three();
-    same(
-        &rt,
-        ring.authentic(&packet([0, 0, 0, 1], BY_LONGWAVE)),
-        Some(1),
-    );
-    same(
-        &rt,
-        ring.authentic(&packet([0, 0, 0, 7], OF_ANOTHER)),
-        Some(7),
-    );
-    same(
-        &rt,
-        ring.authentic(&packet([1, 2, 3, 4], OF_ONE_BYTE)),
-        Some(0x0102_0304),
-    );
-    same(
-        &rt,
-        KeyRing::new().authentic(&packet([0, 0, 0, 1], BY_LONGWAVE)),
-        None,
-    );
+    same(&rt, authentic([0, 0, 0, 1], BY_LONGWAVE), Some(1));
+    same(&rt, authentic([0, 0, 0, 7], OF_ANOTHER), Some(7));
+    let found = authentic([1, 2, 3, 4], OF_ONE_BYTE);
+    same(&rt, found, Some(0x0102_0304));
+    let found = KeyRing::new().authentic(&packet([0, 0, 0, 1], BY_LONGWAVE));
+    same(&rt, found, None);
+}
+
+// This digest under this identifier is nobody's.
+fn is_nobodys(rt: &impl Abort, id: [u8; 4], digest: [u8; 16]) {
+    same(rt, (id, digest, authentic(id, digest)), (id, digest, None));
 }
 
 #[test]
 fn a_digest_under_another_identifier(rt: HostRuntime) {
+    is_nobodys(&rt, [0, 0, 0, 7], BY_LONGWAVE);
+    is_nobodys(&rt, [1, 0, 0, 0], BY_LONGWAVE);
+    is_nobodys(&rt, [0, 0, 0, 0], BY_LONGWAVE);
+    is_nobodys(&rt, [0, 0, 0, 2], BY_LONGWAVE);
+    is_nobodys(&rt, [0, 0, 1, 1], BY_LONGWAVE);
+    is_nobodys(&rt, [0xff, 0xff, 0xff, 0xff], BY_LONGWAVE);
+    is_nobodys(&rt, [4, 3, 2, 1], OF_ONE_BYTE);
+}
+
+// The sealed request is not authentic where this bit is wrong, in whichever of its bytes.
+fn each_place_counts(rt: &impl Abort, bit: u8) {
     let ring = ring_of_three();
-    for id in [
-        [0, 0, 0, 7],
-        [1, 0, 0, 0],
-        [0, 0, 0, 0],
-        [0, 0, 0, 2],
-        [0, 0, 1, 1],
-        [0xff, 0xff, 0xff, 0xff],
-    ] {
-        same(&rt, ring.authentic(&packet(id, BY_LONGWAVE)), None);
+    for place in 0..SEALED_LENGTH {
+        let mut changed = packet([0, 0, 0, 1], BY_LONGWAVE);
+        changed[place] ^= bit;
+        let found = ring.authentic(&changed);
+        same(rt, (bit, place, found), (bit, place, None));
     }
-    same(
-        &rt,
-        ring.authentic(&packet([4, 3, 2, 1], OF_ONE_BYTE)),
-        None,
-    );
 }
 
 #[test]
 fn one_wrong_bit_at_each_place(rt: HostRuntime) {
-    let ring = ring_of_three();
-    for bit in [0x80, 0x01] {
-        for place in 0..SEALED_LENGTH {
-            let mut changed = packet([0, 0, 0, 1], BY_LONGWAVE);
-            changed[place] ^= bit;
-            assert_eq!(rt; ring.authentic(&changed), None, "{bit} at {place}");
-        }
-    }
+    each_place_counts(&rt, 0x80);
+    each_place_counts(&rt, 0x01);
 }
 
 // MD5 of `longwave` alone, of it and the first 47 bytes, and of the request and then `longwave`.
+const ALONE: [u8; 16] = [
+    0xd9, 0x22, 0x30, 0x86, 0xb2, 0x8d, 0xff, 0x87, 0xc4, 0xa9, 0x1c, 0x7a, 0x94, 0x2b, 0x29, 0xfe,
+];
+
+const SHORTER: [u8; 16] = [
+    0x38, 0x3d, 0xfe, 0x6d, 0x49, 0x9d, 0x43, 0x6f, 0x8a, 0x45, 0x95, 0x35, 0x2c, 0xcd, 0x82, 0xd0,
+];
+
+const TURNED: [u8; 16] = [
+    0x96, 0xdb, 0x01, 0x5a, 0xac, 0x73, 0xd2, 0x70, 0x22, 0x4a, 0x06, 0xf1, 0x7e, 0xa8, 0x7f, 0x43,
+];
+
 #[test]
 fn a_digest_of_something_else(rt: HostRuntime) {
-    let ring = ring_of_three();
-    for digest in [
-        [
-            0xd9, 0x22, 0x30, 0x86, 0xb2, 0x8d, 0xff, 0x87, 0xc4, 0xa9, 0x1c, 0x7a, 0x94, 0x2b,
-            0x29, 0xfe,
-        ],
-        [
-            0x38, 0x3d, 0xfe, 0x6d, 0x49, 0x9d, 0x43, 0x6f, 0x8a, 0x45, 0x95, 0x35, 0x2c, 0xcd,
-            0x82, 0xd0,
-        ],
-        [
-            0x96, 0xdb, 0x01, 0x5a, 0xac, 0x73, 0xd2, 0x70, 0x22, 0x4a, 0x06, 0xf1, 0x7e, 0xa8,
-            0x7f, 0x43,
-        ],
-        [0; 16],
-    ] {
-        same(&rt, ring.authentic(&packet([0, 0, 0, 1], digest)), None);
-    }
+    is_nobodys(&rt, [0, 0, 0, 1], ALONE);
+    is_nobodys(&rt, [0, 0, 0, 1], SHORTER);
+    is_nobodys(&rt, [0, 0, 0, 1], TURNED);
+    is_nobodys(&rt, [0, 0, 0, 1], [0; 16]);
+}
+
+// The sealed request with this length is not authentic.
+fn has_another_length(rt: &impl Abort, length: usize)
+    requires { length ≤ 88 }
+{
+    let mut longer = [0; 88];
+    longer[..SEALED_LENGTH].copy_from_slice(&packet([0, 0, 0, 1], BY_LONGWAVE));
+    let found = ring_of_three().authentic(&longer[..length]);
+    same(rt, (length, found), (length, None));
 }
 
 // Of these lengths 52 is that of a crypto-NAK, and 72 and 88 those of packets with longer digests.
 #[test]
 fn another_length(rt: HostRuntime) {
-    let ring = ring_of_three();
-    let mut longer = [0; 88];
-    longer[..SEALED_LENGTH].copy_from_slice(&packet([0, 0, 0, 1], BY_LONGWAVE));
-    for length in [0, 47, 48, 52, 67, 69, 72, 88] {
-        assert_eq!(rt; ring.authentic(&longer[..length]), None, "{length} bytes");
-    }
+    has_another_length(&rt, 0);
+    has_another_length(&rt, 47);
+    has_another_length(&rt, 48);
+    has_another_length(&rt, 52);
+    has_another_length(&rt, 67);
+    has_another_length(&rt, 69);
+    has_another_length(&rt, 72);
+    has_another_length(&rt, 88);
+}
+
+// What the key of an identifier makes of the request, in the place of these bytes.
+fn sealed_over(ring: &KeyRing, id: u32, byte: u8) -> [u8; SEALED_LENGTH]
+    requires { IsTrue (has_id id (keys_of ring.now)) }
+{
+    let mut out = [byte; SEALED_LENGTH];
+    ring.seal(id, &REQUEST, &mut out);
+    out
 }
 
 #[test]
 fn a_seal_is_that_of_the_key_that_was_asked_for(rt: HostRuntime) {
     let ring = ring_of_three();
-    for (id, bytes, digest) in [
-        (1, [0, 0, 0, 1], BY_LONGWAVE),
-        (7, [0, 0, 0, 7], OF_ANOTHER),
-    ] {
-        let mut out = [0xaa; SEALED_LENGTH];
-        ring.seal(id, &REQUEST, &mut out);
-        assert_eq!(rt; out, packet(bytes, digest), "key {id}");
-    }
-    let mut out = [0x55; SEALED_LENGTH];
-    ring.seal(0x0102_0304, &REQUEST, &mut out);
-    same(&rt, out, packet([1, 2, 3, 4], OF_ONE_BYTE));
+    let sealed = sealed_over(&ring, 1, 0xaa);
+    same(&rt, sealed, packet([0, 0, 0, 1], BY_LONGWAVE));
+    let sealed = sealed_over(&ring, 7, 0xaa);
+    same(&rt, sealed, packet([0, 0, 0, 7], OF_ANOTHER));
+    let sealed = sealed_over(&ring, 0x0102_0304, 0x55);
+    same(&rt, sealed, packet([1, 2, 3, 4], OF_ONE_BYTE));
 }
 
 // A ring is a value: what is added to a copy is not in it.
@@ -148,39 +154,29 @@ fn a_copy_of_a_ring(rt: HostRuntime) {
     let empty = KeyRing::new();
     let mut copy = empty;
     copy.add(1, b"longwave");
-    same(
-        &rt,
-        copy.authentic(&packet([0, 0, 0, 1], BY_LONGWAVE)),
-        Some(1),
-    );
-    same(
-        &rt,
-        empty.authentic(&packet([0, 0, 0, 1], BY_LONGWAVE)),
-        None,
-    );
+    let request = packet([0, 0, 0, 1], BY_LONGWAVE);
+    same(&rt, copy.authentic(&request), Some(1));
+    same(&rt, empty.authentic(&request), None);
 }
 
-#[test]
-fn eight_keys(rt: HostRuntime) {
+// The ring of three clients and five others, the last of which has the secret of one of the three.
+fn ring_of_eight() -> KeyRing {
     let mut ring = ring_of_three();
     ring.add(2, b"two");
     ring.add(3, b"three");
     ring.add(4, b"four");
     ring.add(5, b"five");
     ring.add(6, b"longwave");
-    same(
-        &rt,
-        ring.authentic(&packet([0, 0, 0, 6], BY_LONGWAVE)),
-        Some(6),
-    );
-    same(
-        &rt,
-        ring.authentic(&packet([0, 0, 0, 1], BY_LONGWAVE)),
-        Some(1),
-    );
-    same(
-        &rt,
-        ring.authentic(&packet([0, 0, 0, 2], BY_LONGWAVE)),
-        None,
-    );
+    ring
+}
+
+#[test]
+fn eight_keys(rt: HostRuntime) {
+    let ring = ring_of_eight();
+    let found = ring.authentic(&packet([0, 0, 0, 6], BY_LONGWAVE));
+    same(&rt, found, Some(6));
+    let found = ring.authentic(&packet([0, 0, 0, 1], BY_LONGWAVE));
+    same(&rt, found, Some(1));
+    let found = ring.authentic(&packet([0, 0, 0, 2], BY_LONGWAVE));
+    same(&rt, found, None);
 }

@@ -1,12 +1,12 @@
 //! Replies with and without a digest. The digests are those of Python's `hashlib`; the headers were worked by hand from RFC 5905.
-ghost use Rattle.std.specs.Prelude.{◌≡◌, ◌≤◌, ◌∷◌, [], codes};
+ghost use Rattle.std.specs.Prelude.{◌≡◌, ◌≤◌, ◌<◌, ◌^◌, ◌∷◌, [], codes};
 ghost use Rattle.packet_auth.specs.Keys.{keys_of};
 
-use crate::shared::{ANSWER, BY_LONGWAVE, DENY, REQUEST, moment, of_a_radio};
+use crate::shared::{ANSWER, BY_LONGWAVE, DENY, REQUEST, moment, of_a_radio, same};
 use packet_auth::KeyRing;
 use reply_core::{Code, Dropped};
 use sealed_reply::{Reply, Request};
-use std::test::Fail;
+use std::process::Abort;
 
 // MD5 of `shortwave` and the request.
 const BY_SHORTWAVE: [u8; 16] = [
@@ -56,135 +56,144 @@ fn ring_of_two() -> KeyRing
     ring
 }
 
-// The reply that a client gets by its code, half a millisecond after its datagram.
-fn reply_by(
-    code: Code,
-    datagram: &[u8],
-    arrived: u32,
-    sent: u32,
-) -> Result<Result<Reply, Dropped>, Fail>
-    requires { arrived ≤ sent }
+// The reply that a client gets by its code at moments of its datagram and of the reply.
+fn reply_at(code: Code, datagram: &[u8], arrived: u64, sent: u64) -> Result<Reply, Dropped>
+    requires order { arrived ≤ sent }
+    requires most { sent < 2 ^ 50 }
 {
-    let page = of_a_radio()?;
-    let (arrived, sent) = (moment(u64::from(arrived))?, moment(u64::from(sent))?);
-    Ok(match Request::read(datagram) {
-        Ok(request) => Ok(request.reply(&ring_of_two(), code, &page, arrived, sent)),
+    let (page, ring) = (of_a_radio(), ring_of_two());
+    match Request::read(datagram) {
+        Ok(request) => Ok(request.reply(&ring, code, &page, moment(arrived), moment(sent))),
         Err(why) => Err(why),
-    })
-}
-
-// Whether it has these bytes.
-fn is_replied_by(code: Code, datagram: &[u8], want: &[u8]) -> Result<bool, Fail> {
-    match reply_by(code, datagram, 303_000_000, 303_000_500)? {
-        Ok(reply) => Ok(reply.bytes() == want),
-        Err(_) => Ok(false),
     }
 }
 
-fn is_replied(datagram: &[u8], want: &[u8]) -> Result<bool, Fail> {
-    is_replied_by(Code::Pass, datagram, want)
+// The reply half a millisecond after a datagram of 303 s has these bytes.
+fn is_replied_by(rt: &impl Abort, code: Code, datagram: &[u8], want: &[u8]) {
+    match reply_at(code, datagram, 303_000_000, 303_000_500) {
+        Ok(reply) => same(rt, (code, datagram, reply.bytes()), (code, datagram, want)),
+        Err(why) => panic!(*rt; "dropped: {why:?}"),
+    }
+}
+
+fn is_replied(rt: &impl Abort, datagram: &[u8], want: &[u8]) {
+    is_replied_by(rt, Code::Pass, datagram, want);
+}
+
+// The request with the digest of the first key, and with that of the second one.
+fn by_longwave() -> [u8; 68] {
+    packet(REQUEST, 1, BY_LONGWAVE)
+}
+
+fn by_shortwave() -> [u8; 68] {
+    packet(REQUEST, 9, BY_SHORTWAVE)
+}
+
+// The answer sealed by the first key.
+fn answer_by_longwave() -> [u8; 68] {
+    packet(ANSWER, 1, ANSWER_BY_LONGWAVE)
 }
 
 #[test]
-fn a_reply_is_sealed_as_its_request_is(rt: HostRuntime) -> Result<(), Fail> {
-    assert!(rt; is_replied(&REQUEST, &ANSWER)?);
-    let asked = packet(REQUEST, 1, BY_LONGWAVE);
-    assert!(rt; is_replied(&asked, &packet(ANSWER, 1, ANSWER_BY_LONGWAVE))?);
-    let asked = packet(REQUEST, 9, BY_SHORTWAVE);
-    assert!(rt; is_replied(&asked, &packet(ANSWER, 9, ANSWER_BY_SHORTWAVE))?);
-    Ok(())
+fn a_reply_is_sealed_as_its_request_is(rt: HostRuntime) {
+    is_replied(&rt, &REQUEST, &ANSWER);
+    is_replied(&rt, &by_longwave(), &answer_by_longwave());
+    let sealed = packet(ANSWER, 9, ANSWER_BY_SHORTWAVE);
+    is_replied(&rt, &by_shortwave(), &sealed);
+}
+
+// The request with its digest, whose last byte is changed.
+fn changed() -> [u8; 68] {
+    let mut changed = by_longwave();
+    changed[67] ^= 1;
+    changed
+}
+
+// As many bytes of the request, its digest, and 20 bytes of 0 get the answer without a digest.
+fn is_not_authentic(rt: &impl Abort, length: usize)
+    requires { length ≤ 88 }
+{
+    let mut longer = [0; 88];
+    longer[..68].copy_from_slice(&by_longwave());
+    is_replied(rt, &longer[..length], &ANSWER);
 }
 
 // The last byte is changed, or the identifier is another's or nobody's. Or the length is that of a crypto-NAK, or one byte too
 // many or too few.
 #[test]
-fn a_request_that_is_not_authentic(rt: HostRuntime) -> Result<(), Fail> {
-    let mut changed = packet(REQUEST, 1, BY_LONGWAVE);
-    changed[67] ^= 1;
-    assert!(rt; is_replied(&changed, &ANSWER)?);
-    assert!(rt; is_replied(&packet(REQUEST, 9, BY_LONGWAVE), &ANSWER)?);
-    assert!(rt; is_replied(&packet(REQUEST, 2, BY_LONGWAVE), &ANSWER)?);
-    assert!(rt; is_replied(&packet(REQUEST, 0, BY_LONGWAVE), &ANSWER)?);
-    let mut longer = [0; 88];
-    longer[..68].copy_from_slice(&packet(REQUEST, 1, BY_LONGWAVE));
-    for length in [52, 67, 69, 72, 88] {
-        assert!(rt; is_replied(&longer[..length], &ANSWER)?, "{length} bytes");
-    }
-    Ok(())
+fn a_request_that_is_not_authentic(rt: HostRuntime) {
+    is_replied(&rt, &changed(), &ANSWER);
+    is_replied(&rt, &packet(REQUEST, 9, BY_LONGWAVE), &ANSWER);
+    is_replied(&rt, &packet(REQUEST, 2, BY_LONGWAVE), &ANSWER);
+    is_replied(&rt, &packet(REQUEST, 0, BY_LONGWAVE), &ANSWER);
+    is_not_authentic(&rt, 52);
+    is_not_authentic(&rt, 67);
+    is_not_authentic(&rt, 69);
+    is_not_authentic(&rt, 72);
+    is_not_authentic(&rt, 88);
 }
 
 #[test]
-fn a_kiss_is_sealed_as_its_request_is(rt: HostRuntime) -> Result<(), Fail> {
-    let asked = packet(REQUEST, 1, BY_LONGWAVE);
-    for (code, kiss, digest) in [
-        (Code::Rate, RATE, RATE_BY_LONGWAVE),
-        (Code::Deny, DENY, DENY_BY_LONGWAVE),
-    ] {
-        assert!(rt; is_replied_by(code, &REQUEST, &kiss)?, "{code:?}");
-        assert!(rt;
-            is_replied_by(code, &asked, &packet(kiss, 1, digest))?,
-            "{code:?}"
-        );
-    }
-    Ok(())
+fn a_kiss_is_sealed_as_its_request_is(rt: HostRuntime) {
+    is_replied_by(&rt, Code::Rate, &REQUEST, &RATE);
+    let sealed = packet(RATE, 1, RATE_BY_LONGWAVE);
+    is_replied_by(&rt, Code::Rate, &by_longwave(), &sealed);
+    is_replied_by(&rt, Code::Deny, &REQUEST, &DENY);
+    let sealed = packet(DENY, 1, DENY_BY_LONGWAVE);
+    is_replied_by(&rt, Code::Deny, &by_longwave(), &sealed);
 }
 
-// Whether a reply that is written in the place of an earlier one has these bytes.
-fn is_replied_in(reply: &mut Reply, datagram: &[u8], want: &[u8]) -> Result<bool, Fail> {
-    let page = of_a_radio()?;
-    let (arrived, sent) = (moment(303_000_000)?, moment(303_000_500)?);
+// A reply that is written in the place of an earlier one has these bytes.
+fn is_replied_in(rt: &impl Abort, reply: &mut Reply, datagram: &[u8], want: &[u8]) {
+    let (page, ring) = (of_a_radio(), ring_of_two());
+    let (arrived, sent) = (moment(303_000_000), moment(303_000_500));
     match Request::read(datagram) {
-        Ok(request) => {
-            request.reply_in(&ring_of_two(), Code::Pass, &page, arrived, sent, reply);
-            Ok(reply.bytes() == want)
-        }
-        Err(_) => Ok(false),
+        Ok(request) => request.reply_in(&ring, Code::Pass, &page, arrived, sent, reply),
+        Err(why) => panic!(*rt; "dropped: {why:?}"),
     }
+    same(rt, reply.bytes(), want);
 }
 
 // A reply is sealed, the next one in its place is not, and the one after that is sealed again.
 #[test]
-fn a_reply_is_written_in_the_place_of_another(rt: HostRuntime) -> Result<(), Fail> {
+fn a_reply_is_written_in_the_place_of_another(rt: HostRuntime) {
     let mut reply = Reply::blank();
-    let asked = packet(REQUEST, 1, BY_LONGWAVE);
-    let sealed = packet(ANSWER, 1, ANSWER_BY_LONGWAVE);
-    assert!(rt; is_replied_in(&mut reply, &asked, &sealed)?);
-    assert!(rt; is_replied_in(&mut reply, &REQUEST, &ANSWER)?);
-    assert!(rt; is_replied_in(&mut reply, &asked, &sealed)?);
-    Ok(())
+    let (asked, sealed) = (by_longwave(), answer_by_longwave());
+    is_replied_in(&rt, &mut reply, &asked, &sealed);
+    is_replied_in(&rt, &mut reply, &REQUEST, &ANSWER);
+    is_replied_in(&rt, &mut reply, &asked, &sealed);
 }
 
 // MD5 of `longwave` and the request with the first byte 2b, of version 5, and 24, of a server.
-#[test]
-fn what_is_no_request_is_dropped_sealed_or_not(rt: HostRuntime) -> Result<(), Fail> {
-    for (first, digest, why) in [
-        (
-            0x2b,
-            [
-                0x27, 0xaf, 0x0f, 0xe4, 0xc5, 0xe2, 0x83, 0x0b, 0x15, 0xa1, 0x38, 0x35, 0x58, 0xe0,
-                0x66, 0xd3,
-            ],
-            Dropped::Version,
-        ),
-        (
-            0x24,
-            [
-                0xa7, 0xf3, 0x47, 0x4c, 0xa7, 0x05, 0x7f, 0xe7, 0xfe, 0x42, 0xc6, 0xa1, 0x78, 0xa8,
-                0x9a, 0x68,
-            ],
-            Dropped::Mode,
-        ),
-    ] {
-        let mut datagram = packet(REQUEST, 1, digest);
-        datagram[0] = first;
-        assert_eq!(rt; ring_of_two().authentic(&datagram), Some(1));
-        for code in [Code::Pass, Code::Rate, Code::Deny] {
-            assert_eq!(rt; reply_by(code, &datagram, 0, 0)?, Err(why), "{code:?}");
-        }
+const OF_VERSION_5: [u8; 16] = [
+    0x27, 0xaf, 0x0f, 0xe4, 0xc5, 0xe2, 0x83, 0x0b, 0x15, 0xa1, 0x38, 0x35, 0x58, 0xe0, 0x66, 0xd3,
+];
+
+const OF_A_SERVER: [u8; 16] = [
+    0xa7, 0xf3, 0x47, 0x4c, 0xa7, 0x05, 0x7f, 0xe7, 0xfe, 0x42, 0xc6, 0xa1, 0x78, 0xa8, 0x9a, 0x68,
+];
+
+// The datagram of a client that gets this code is dropped for this reason.
+fn is_dropped_by(rt: &impl Abort, code: Code, datagram: &[u8], why: Dropped) {
+    match reply_at(code, datagram, 0, 0) {
+        Ok(_) => panic!(*rt; "a reply to a client that gets {code:?}"),
+        Err(found) => same(rt, (code, datagram, found), (code, datagram, why)),
     }
-    assert_eq!(rt;
-        reply_by(Code::Deny, &REQUEST[..47], 0, 0)?,
-        Err(Dropped::Short)
-    );
-    Ok(())
+}
+
+// The request with this first byte and this digest is authentic, and dropped whatever its client gets.
+fn is_dropped(rt: &impl Abort, first: u8, digest: [u8; 16], why: Dropped) {
+    let mut datagram = packet(REQUEST, 1, digest);
+    datagram[0] = first;
+    same(rt, ring_of_two().authentic(&datagram), Some(1));
+    is_dropped_by(rt, Code::Pass, &datagram, why);
+    is_dropped_by(rt, Code::Rate, &datagram, why);
+    is_dropped_by(rt, Code::Deny, &datagram, why);
+}
+
+#[test]
+fn what_is_no_request_is_dropped_sealed_or_not(rt: HostRuntime) {
+    is_dropped(&rt, 0x2b, OF_VERSION_5, Dropped::Version);
+    is_dropped(&rt, 0x24, OF_A_SERVER, Dropped::Mode);
+    is_dropped_by(&rt, Code::Deny, &REQUEST[..47], Dropped::Short);
 }

@@ -78,64 +78,52 @@ fn in_turn<N: HubName, R: Wait>(
     Some((answers, hub.close(passes, Vec::new(alloc))))
 }
 
-// Two feeds in turn, in a journal of this many entries: the answers to the first four appends, and how many entries there are.
-fn four_appends<R: Wait>(rt: &R, alloc: Global, limit: u32) -> Result<([Answer; 4], usize), Fail>
-    requires { (0 < limit) × (limit ≤ 4194304) }
-{
-    let settings = of_radios(2);
-    let Ok(parts) = PageCell::open(alloc, &settings, 0) else {
-        return Err("memory")?;
-    };
-    let Some((answers, journal)) = in_turn::<Brand, _>(rt, alloc, parts, &settings, limit) else {
-        return Err("memory")?;
-    };
+// The answers to the first four of these appends.
+fn first_four(answers: &[Answer]) -> [Answer; 4] {
     let mut first = [(None, 0); 4];
     for (place, answer) in answers.iter().enumerate() {
         if place < 4 {
             first[place] = *answer;
         }
     }
-    Ok((first, journal.len()))
+    first
+}
+
+// Two feeds in turn, in a journal of this many entries: these are the answers to the first four appends, and then there are as many
+// entries as it may have.
+fn four_appends<R: Abort + Wait>(rt: &R, alloc: Global, limit: u32, want: [Answer; 4])
+    requires { (0 < limit) × (limit ≤ 4194304) }
+{
+    let settings = of_radios(2);
+    let Ok(parts) = PageCell::open(alloc, &settings, 0) else {
+        panic!(*rt; "no memory");
+    };
+    let Some((answers, journal)) = in_turn::<Brand, _>(rt, alloc, parts, &settings, limit) else {
+        panic!(*rt; "no memory");
+    };
+    same(rt, first_four(answers.as_slice()), want);
+    same(rt, journal.len(), limit as usize);
+}
+
+// What an append gets that the journal takes, as the entry of this number, and what it gets where the journal is full.
+fn taken(number: u64) -> Answer {
+    (Some(Ok(number)), number)
+}
+
+fn full(limit: u32) -> Answer {
+    (Some(Err(Full { limit })), u64::from(limit))
 }
 
 // A journal is full exactly where it has as many entries as it may. The pass that appends has then seen all that are in it, also
 // where there was no room.
 #[test]
-fn a_journal_is_full_at_its_limit(rt: HostRuntime) -> Result<(), Fail> {
-    let full = Some(Err(Full { limit: 1 }));
-    same(
-        &rt,
-        four_appends(&rt, rt.alloc(), 1)?,
-        ([(Some(Ok(1)), 1), (full, 1), (full, 1), (full, 1)], 1),
-    );
-    let full = Some(Err(Full { limit: 3 }));
-    same(
-        &rt,
-        four_appends(&rt, rt.alloc(), 3)?,
-        (
-            [
-                (Some(Ok(1)), 1),
-                (Some(Ok(2)), 2),
-                (Some(Ok(3)), 3),
-                (full, 3),
-            ],
-            3,
-        ),
-    );
-    same(
-        &rt,
-        four_appends(&rt, rt.alloc(), 4)?,
-        (
-            [
-                (Some(Ok(1)), 1),
-                (Some(Ok(2)), 2),
-                (Some(Ok(3)), 3),
-                (Some(Ok(4)), 4),
-            ],
-            4,
-        ),
-    );
-    Ok(())
+fn a_journal_is_full_at_its_limit(rt: HostRuntime) {
+    let want = [taken(1), full(1), full(1), full(1)];
+    four_appends(&rt, rt.alloc(), 1, want);
+    let want = [taken(1), taken(2), taken(3), full(3)];
+    four_appends(&rt, rt.alloc(), 3, want);
+    let want = [taken(1), taken(2), taken(3), taken(4)];
+    four_appends(&rt, rt.alloc(), 4, want);
 }
 
 // One radio appends six minutes to a journal of this many entries: how many were taken, and the journal.

@@ -2,14 +2,13 @@
 //! from then on.
 ghost use Rattle.std.specs.Prelude.{◌<◌, ◌≤◌};
 
-use crate::shared::{Work, moment, run_alone, same};
+use crate::shared::{Work, alone, moment, run_alone, same};
 use feed_link::{MemorySource, OpenGate};
 use feed_workers::{LeapWorker, LogEnd, LogWork};
 use page_cell::FeedPass;
 use std::alloc::Global;
 use std::process::Abort;
 use std::sync::Wait;
-use std::test::Fail;
 use system_fold::SourceKind;
 use verdict_journal::{Hub, HubName};
 
@@ -57,89 +56,97 @@ fn reads<R: Abort + Wait>(
     limit: u32,
     lines: &str,
     work: LogWork,
-) -> Result<(), Fail>
+)
     requires { (0 < limit) × (limit ≤ 4194304) }
 {
-    let log = MemorySource::new(Vec::from_slice(alloc, text)?, vec![in alloc; failing]?);
-    let ran = run_alone(rt, alloc, SourceKind::Leap, limit, Listed { log })?;
+    let text = Vec::from_slice(alloc, text).expect(rt, "no memory");
+    let log = MemorySource::new(text, alone(alloc, failing));
+    let ran = run_alone(rt, alloc, SourceKind::Leap, limit, Listed { log });
     same(rt, ran.lines.as_str(), lines);
     same(rt, ran.done, work);
-    Ok(())
 }
 
 #[test]
-fn each_row_but_the_first_is_a_notice(rt: HostRuntime) -> Result<(), Fail> {
-    reads(&rt, rt.alloc(), LIST.as_bytes(), 0, 10, TWO, WHOLE)?;
-    reads(&rt, rt.alloc(), b"", 0, 10, "", WHOLE)?;
-    reads(&rt, rt.alloc(), b"# none\n", 0, 10, "", WHOLE)
+fn each_row_but_the_first_is_a_notice(rt: HostRuntime) {
+    reads(&rt, rt.alloc(), LIST.as_bytes(), 0, 10, TWO, WHOLE);
+    reads(&rt, rt.alloc(), b"", 0, 10, "", WHOLE);
+    reads(&rt, rt.alloc(), b"# none\n", 0, 10, "", WHOLE);
+}
+
+// The list without its last line feed.
+fn cut() -> &'static [u8] {
+    let list = LIST.as_bytes();
+    list.split_at(list.len() - 1).0
 }
 
 // A last line without its line feed counts where the end was read, and not where a read failed before it.
 #[test]
-fn a_last_line_counts_at_the_end(rt: HostRuntime) -> Result<(), Fail> {
-    let list = LIST.as_bytes();
-    let cut = list.split_at(list.len() - 1).0;
-    reads(&rt, rt.alloc(), cut, 0, 10, TWO, WHOLE)?;
-    reads(&rt, rt.alloc(), cut, 2, 10, FIRST, FAULT)?;
-    reads(&rt, rt.alloc(), list, 1, 10, "", FAULT)
+fn a_last_line_counts_at_the_end(rt: HostRuntime) {
+    reads(&rt, rt.alloc(), cut(), 0, 10, TWO, WHOLE);
+    reads(&rt, rt.alloc(), cut(), 2, 10, FIRST, FAULT);
+    reads(&rt, rt.alloc(), LIST.as_bytes(), 1, 10, "", FAULT);
+}
+
+// The reading ends at a bad line of this number.
+fn bad(line: u64, full: bool) -> LogWork {
+    LogWork {
+        end: LogEnd::BadLine { line },
+        full,
+    }
+}
+
+const A_BAD_THIRD: &[u8] = b"3550089600 35\n3644697600 36\n3692217600 38\n3723753600 39\n";
+
+// The last line is bad only at the end of the file.
+const A_BAD_LAST: &[u8] = b"3550089600 35\n3644697600";
+
+#[test]
+fn rows_before_a_bad_line_stand(rt: HostRuntime) {
+    reads(&rt, rt.alloc(), A_BAD_THIRD, 0, 10, FIRST, bad(3, false));
+    reads(&rt, rt.alloc(), A_BAD_LAST, 0, 10, "", bad(2, false));
 }
 
 #[test]
-fn rows_before_a_bad_line_stand(rt: HostRuntime) -> Result<(), Fail> {
-    let text = b"3550089600 35\n3644697600 36\n3692217600 38\n3723753600 39\n";
-    let bad = LogWork {
-        end: LogEnd::BadLine { line: 3 },
-        full: false,
-    };
-    reads(&rt, rt.alloc(), text, 0, 10, FIRST, bad)?;
-    // The last line is bad only at the end of the file.
-    let cut = b"3550089600 35\n3644697600";
-    let bad = LogWork {
-        end: LogEnd::BadLine { line: 2 },
-        full: false,
-    };
-    reads(&rt, rt.alloc(), cut, 0, 10, "", bad)
-}
-
-#[test]
-fn a_full_journal_keeps_the_first(rt: HostRuntime) -> Result<(), Fail> {
+fn a_full_journal_keeps_the_first(rt: HostRuntime) {
     let full = LogWork {
         end: LogEnd::Whole,
         full: true,
     };
-    reads(&rt, rt.alloc(), LIST.as_bytes(), 0, 1, FIRST, full)
+    reads(&rt, rt.alloc(), LIST.as_bytes(), 0, 1, FIRST, full);
+}
+
+// A text, then this many `#`, then another text. Where memory is short, the text is not what the test wants.
+fn with_comment(alloc: Global, text: &[u8], count: u32, rest: &[u8]) -> Vec<u8> {
+    let mut all = Vec::new(alloc);
+    let _ = all.extend_from_slice(text);
+    for _ in 0..count {
+        let _ = all.push(b'#');
+    }
+    let _ = all.extend_from_slice(rest);
+    all
 }
 
 // The second notice finds the journal full. The bad line follows a comment of 600 bytes, in a later piece.
 #[test]
-fn a_list_is_read_on_to_a_bad_line_behind_a_lost_notice(rt: HostRuntime) -> Result<(), Fail> {
-    let mut text = Vec::from_slice(rt.alloc(), LIST.as_bytes())?;
-    for _ in 0..600u32 {
-        text.push(b'#')?;
-    }
-    text.extend_from_slice(b"\nx\n")?;
-    let bad = LogWork {
-        end: LogEnd::BadLine { line: 6 },
-        full: true,
-    };
-    reads(&rt, rt.alloc(), text.as_slice(), 0, 1, FIRST, bad)
+fn a_list_is_read_on_to_a_bad_line_behind_a_lost_notice(rt: HostRuntime) {
+    let text = with_comment(rt.alloc(), LIST.as_bytes(), 600, b"\nx\n");
+    reads(&rt, rt.alloc(), text.as_slice(), 0, 1, FIRST, bad(6, true));
 }
+
+const TWO_ROWS: &[u8] = b"3550089600\t35\n3644697600\t36\n";
+
+const LONG: LogWork = LogWork {
+    end: LogEnd::Long,
+    full: false,
+};
 
 // A comment comes before the last row, which ends at byte 65536 of the file. Then there is one byte more.
 #[test]
-fn a_list_of_65536_bytes_is_whole(rt: HostRuntime) -> Result<(), Fail> {
-    let mut text = Vec::with_capacity(rt.alloc(), 65_537)?;
-    text.extend_from_slice(b"3550089600\t35\n3644697600\t36\n")?;
-    for _ in text.len()..65_521 {
-        text.push(b'#')?;
-    }
-    text.extend_from_slice(b"\n3692217600\t37\n")?;
-    same(&rt, text.len(), 65_536);
-    reads(&rt, rt.alloc(), text.as_slice(), 0, 10, TWO, WHOLE)?;
-    text.push(b'\n')?;
-    let long = LogWork {
-        end: LogEnd::Long,
-        full: false,
-    };
-    reads(&rt, rt.alloc(), text.as_slice(), 0, 10, TWO, long)
+fn a_list_of_65536_bytes_is_whole(rt: HostRuntime) {
+    let alloc = rt.alloc();
+    let whole = with_comment(alloc, TWO_ROWS, 65_493, b"\n3692217600\t37\n");
+    same(&rt, whole.len(), 65_536);
+    reads(&rt, alloc, whole.as_slice(), 0, 10, TWO, WHOLE);
+    let longer = with_comment(alloc, TWO_ROWS, 65_493, b"\n3692217600\t37\n\n");
+    reads(&rt, alloc, longer.as_slice(), 0, 10, TWO, LONG);
 }

@@ -4,7 +4,7 @@ ghost use Rattle.std.specs.Prelude.{◌≡◌, ◌<◌, ◌≤◌, [], All};
 ghost use Rattle.page_cell.specs.Passes.{key_of};
 ghost use Rattle.system_fold.specs.Settings.{AreLawful};
 
-use crate::shared::{moment, same, settings_of, text_of};
+use crate::shared::{alone, moment, same, settings_of, text_of};
 use feed_link::{Address, HostOutside, Link, MemoryLink, OpenGate, Outside, Planned, UdpLink};
 use feed_workers::{PollEnd, PollWork, PollWorker};
 use page_cell::{CellParts, PageCell};
@@ -74,44 +74,43 @@ fn run_poller<N: HubName, R: Wait, L: Link + Drop>(
     Some((work, hub.close(passes, Vec::new(alloc)), link))
 }
 
-// The answer as it comes at 1.01 s from a port of the server, or its first bytes.
-fn answer(alloc: Global, port: u16, length: usize) -> Result<Planned, Fail> {
-    Ok(Planned::Datagram {
+// The answer as it comes at 1.01 s from a port of the server, or its first bytes. Without memory it has none, and is declined.
+fn answer(alloc: Global, port: u16, length: usize) -> Planned {
+    Planned::Datagram {
         from: Address {
             ip: SERVER.ip,
             port,
         },
         at: moment(1_010_000),
-        bytes: Vec::from_slice(alloc, &ANSWER[..length.min(48)])?,
-    })
+        bytes: Vec::from_slice(alloc, &ANSWER[..length.min(48)]).unwrap_or(Vec::new(alloc)),
+    }
 }
 
 // A link with these hearings whose first moment is 1 s, of which one call fails.
-fn link_of(alloc: Global, hearings: Vec<Planned>, failing: u64) -> Result<MemoryLink, Fail> {
-    let mut moments = Vec::new(alloc);
-    moments.push(moment(1_000_000))?;
-    let fails = vec![in alloc; failing]?;
-    Ok(MemoryLink::new(alloc, hearings, moments, fails, 40, 4000)?)
+fn link_of(rt: &impl Abort, alloc: Global, hearings: Vec<Planned>, failing: u64) -> MemoryLink {
+    let moments = alone(alloc, moment(1_000_000));
+    let fails = alone(alloc, failing);
+    MemoryLink::new(alloc, hearings, moments, fails, 40, 4000).expect(rt, "no memory")
 }
 
 // A link with this many datagrams that are too short, and then the answer; one call of it fails.
-fn short_ones(alloc: Global, count: u32, failing: u64) -> Result<MemoryLink, Fail> {
+fn short_ones(rt: &impl Abort, alloc: Global, count: u32, failing: u64) -> MemoryLink {
     let mut hearings = Vec::new(alloc);
     for _ in 0..count {
-        hearings.push(answer(alloc, 123, 47)?)?;
+        let _ = hearings.push(answer(alloc, 123, 47));
     }
-    hearings.push(answer(alloc, 123, 48)?)?;
-    link_of(alloc, hearings, failing)
+    let _ = hearings.push(answer(alloc, 123, 48));
+    link_of(rt, alloc, hearings, failing)
 }
 
 // This many lines of a datagram that is too short, and an end.
-fn declined(alloc: Global, count: u32, end: &str) -> Result<String, Fail> {
+fn declined(alloc: Global, count: u32, end: &str) -> String {
     let mut lines = String::new(alloc);
     for _ in 0..count {
-        lines.push_str("0 1010000 declined 2\n")?;
+        let _ = lines.push_str("0 1010000 declined 2\n");
     }
-    lines.push_str(end)?;
-    Ok(lines)
+    let _ = lines.push_str(end);
+    lines
 }
 
 // A poller's worker polls this many times over a link, where the journal may have this many entries. It does this. The journal
@@ -125,22 +124,21 @@ fn polls<R: Abort + Wait>(
     work: PollWork,
     lines: &str,
     events: usize,
-) -> Result<(), Fail>
+)
     requires { (0 < limit) × (limit ≤ 4194304) }
 {
     let settings = settings_of(SourceKind::Server(SERVER));
     let Ok(parts) = PageCell::open(alloc, &settings, 1) else {
-        return Err("memory")?;
+        panic!(*rt; "no memory");
     };
     let ran = run_poller::<Brand, R, MemoryLink>(
         rt, alloc, parts, &settings, limit, SERVER, polls, link,
     );
     let Some((done, journal, link)) = ran else {
-        return Err("memory")?;
+        panic!(*rt; "no memory");
     };
     same(rt, (done, link.count()), (work, events));
-    same(rt, text_of(alloc, &journal)?.as_str(), lines);
-    Ok(())
+    same(rt, text_of(alloc, &journal).as_str(), lines);
 }
 
 const ROUNDS: PollWork = PollWork {
@@ -153,34 +151,36 @@ const LINK_END: PollWork = PollWork {
     full: false,
 };
 
-#[test]
-fn an_answer_is_a_sample_and_a_strangers_is_declined(rt: HostRuntime) -> Result<(), Fail> {
-    let mut hearings = Vec::new(rt.alloc());
-    hearings.push(answer(rt.alloc(), 124, 48)?)?;
-    hearings.push(answer(rt.alloc(), 123, 48)?)?;
-    let link = link_of(rt.alloc(), hearings, 0)?;
-    let mut lines = String::from_str(rt.alloc(), "0 1010000 declined 1\n")?;
-    lines.push_str(SAMPLE)?;
-    polls(&rt, rt.alloc(), link, 1, 9, ROUNDS, lines.as_str(), 4)
+const DECLINED: &str = "0 1010000 declined 2\n";
+
+const STRANGE: &str =
+    "0 1010000 declined 1\n0 1010000 sample 17077897383243199545 40802189 8837 2 7f000001 256 512\n";
+
+// A link on which the answer comes from another port, and then from the server's.
+fn strange_one(rt: &impl Abort, alloc: Global) -> MemoryLink {
+    let mut hearings = alone(alloc, answer(alloc, 124, 48));
+    let _ = hearings.push(answer(alloc, 123, 48));
+    link_of(rt, alloc, hearings, 0)
 }
 
 #[test]
-fn silence_ends_a_round_without_an_entry(rt: HostRuntime) -> Result<(), Fail> {
-    let mut hearings = Vec::new(rt.alloc());
-    hearings.push(Planned::Quiet)?;
-    hearings.push(answer(rt.alloc(), 123, 47)?)?;
-    hearings.push(Planned::Quiet)?;
-    let link = link_of(rt.alloc(), hearings, 0)?;
-    polls(
-        &rt,
-        rt.alloc(),
-        link,
-        2,
-        9,
-        ROUNDS,
-        "0 1010000 declined 2\n",
-        7,
-    )
+fn an_answer_is_a_sample_and_a_strangers_is_declined(rt: HostRuntime) {
+    let link = strange_one(&rt, rt.alloc());
+    polls(&rt, rt.alloc(), link, 1, 9, ROUNDS, STRANGE, 4);
+}
+
+// A link on which a short datagram comes between two silences.
+fn silent_one(rt: &impl Abort, alloc: Global) -> MemoryLink {
+    let mut hearings = alone(alloc, Planned::Quiet);
+    let _ = hearings.push(answer(alloc, 123, 47));
+    let _ = hearings.push(Planned::Quiet);
+    link_of(rt, alloc, hearings, 0)
+}
+
+#[test]
+fn silence_ends_a_round_without_an_entry(rt: HostRuntime) {
+    let link = silent_one(&rt, rt.alloc());
+    polls(&rt, rt.alloc(), link, 2, 9, ROUNDS, DECLINED, 7);
 }
 
 // How many short datagrams come before the answer, how many polls there are, what the worker does, how many lines speak of short
@@ -195,19 +195,18 @@ fn end_rounds<R: Abort + Wait>(
     rt: &R,
     alloc: Global,
     rows: &[(u32, u32, PollWork, u32, &str, usize)],
-) -> Result<(), Fail> {
+) {
     for (short, count, work, bad, end, events) in rows {
-        let link = short_ones(alloc, *short, 0)?;
-        let lines = declined(alloc, *bad, end)?;
-        polls(rt, alloc, link, *count, 20, *work, lines.as_str(), *events)?;
+        let link = short_ones(rt, alloc, *short, 0);
+        let lines = declined(alloc, *bad, end);
+        polls(rt, alloc, link, *count, 20, *work, lines.as_str(), *events);
     }
-    Ok(())
 }
 
 // The eighth hearing ends its round, so the answer comes in the next one, whose request has another stamp.
 #[test]
-fn eight_wrong_datagrams_end_a_round(rt: HostRuntime) -> Result<(), Fail> {
-    end_rounds(&rt, rt.alloc(), &WRONG)
+fn eight_wrong_datagrams_end_a_round(rt: HostRuntime) {
+    end_rounds(&rt, rt.alloc(), &WRONG);
 }
 
 // The call that fails, why the worker ends, the lines of the journal, and how many events there are.
@@ -219,43 +218,29 @@ const FAULTS: [(u64, PollEnd, &str, usize); 5] = [
     (5, PollEnd::LinkEnd, SAMPLE, 6),
 ];
 
-fn end_at_faults<R: Abort + Wait>(
-    rt: &R,
-    alloc: Global,
-    rows: &[(u64, PollEnd, &str, usize)],
-) -> Result<(), Fail> {
+fn end_at_faults<R: Abort + Wait>(rt: &R, alloc: Global, rows: &[(u64, PollEnd, &str, usize)]) {
     for (failing, end, lines, events) in rows {
-        let link = short_ones(alloc, 0, *failing)?;
+        let link = short_ones(rt, alloc, 0, *failing);
         let work = PollWork {
             end: *end,
             full: false,
         };
-        polls(rt, alloc, link, 2, 9, work, lines, *events)?;
+        polls(rt, alloc, link, 2, 9, work, lines, *events);
     }
-    Ok(())
 }
 
 // Two polls: one of the sending, the hearing, the second sending and the hearing of the end fails.
 #[test]
-fn a_fault_of_the_link_ends_the_polling(rt: HostRuntime) -> Result<(), Fail> {
-    end_at_faults(&rt, rt.alloc(), &FAULTS)
+fn a_fault_of_the_link_ends_the_polling(rt: HostRuntime) {
+    end_at_faults(&rt, rt.alloc(), &FAULTS);
 }
 
 #[test]
-fn a_full_journal_keeps_a_front_and_the_polling_goes_on(rt: HostRuntime) -> Result<(), Fail> {
-    let link = short_ones(rt.alloc(), 1, 0)?;
+fn a_full_journal_keeps_a_front_and_the_polling_goes_on(rt: HostRuntime) {
+    let link = short_ones(&rt, rt.alloc(), 1, 0);
     let end = PollEnd::LinkEnd;
     let work = PollWork { end, full: true };
-    polls(
-        &rt,
-        rt.alloc(),
-        link,
-        2,
-        1,
-        work,
-        "0 1010000 declined 2\n",
-        7,
-    )
+    polls(&rt, rt.alloc(), link, 2, 1, work, DECLINED, 7);
 }
 
 // A server that answers one request with the origin of that request: how many bytes the request had.
@@ -305,7 +290,7 @@ fn a_server_on_the_loopback_is_polled(rt: HostRuntime) -> Result<(), Fail> {
         return Err("the server was not asked")?;
     };
     same(&rt, (work, length), (ROUNDS, 48));
-    let lines = text_of(rt.alloc(), &journal)?;
+    let lines = text_of(rt.alloc(), &journal);
     let is_sample = lines.as_str().contains(" sample ");
     same(&rt, (journal.len(), is_sample), (1, true));
     Ok(())

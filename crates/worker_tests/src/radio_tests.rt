@@ -3,7 +3,7 @@ ghost use Rattle.std.specs.Prelude.{◌≡◌, ◌<◌, ◌≤◌, length};
 ghost use Rattle.feed_workers.specs.Keeping.{IsOfFeed};
 ghost use Rattle.page_cell.specs.Passes.{claim_of};
 
-use crate::shared::{Work, run_alone, same};
+use crate::shared::{Work, alone, run_alone, same};
 use feed_link::{MemorySource, OpenGate, Source};
 use feed_workers::{LogEnd, LogWork, RadioWorker};
 use page_cell::FeedPass;
@@ -11,7 +11,6 @@ use radio_receiver::{DcfReceiver, Receiver};
 use std::alloc::Global;
 use std::process::Abort;
 use std::sync::Wait;
-use std::test::Fail;
 use system_fold::SourceKind;
 use tick_units::Plan;
 use verdict_journal::{Hub, HubName};
@@ -64,7 +63,7 @@ impl Work for Heard<MemorySource> {
 }
 
 // The lines of a frame that starts at this microsecond.
-fn add_frame(text: &mut String, ones: &[usize], start: u64) -> Result<(), Fail> {
+fn add_frame(text: &mut String, ones: &[usize], start: u64) {
     for place in 0..59usize {
         let at = start.saturating_add(1_000_000u64.saturating_mul(place as u64));
         let width = if ones.contains(&place) {
@@ -72,18 +71,18 @@ fn add_frame(text: &mut String, ones: &[usize], start: u64) -> Result<(), Fail> 
         } else {
             100_000
         };
-        writeln!(text, "{at} {width}")?;
+        let _ = writeln!(text, "{at} {width}");
     }
-    Ok(())
 }
 
 // The log of two minutes, with an end.
-fn two_frames(alloc: Global, end: &str) -> Result<String, Fail> {
-    let mut text = String::from_str(alloc, "0 100000\n")?;
-    add_frame(&mut text, &NOON, 2_000_000)?;
-    add_frame(&mut text, &NOON_1, 62_000_000)?;
-    text.push_str(end)?;
-    Ok(text)
+fn two_frames(alloc: Global, end: &str) -> String {
+    let mut text = String::new(alloc);
+    let _ = text.push_str("0 100000\n");
+    add_frame(&mut text, &NOON, 2_000_000);
+    add_frame(&mut text, &NOON_1, 62_000_000);
+    let _ = text.push_str(end);
+    text
 }
 
 // A radio's worker reads a log of which given reads fail, where the journal may have this many entries: what it did, and the lines
@@ -96,17 +95,34 @@ fn reads<R: Abort + Wait>(
     limit: u32,
     work: LogWork,
     lines: &str,
-) -> Result<(), Fail>
+)
     requires { (0 < limit) × (limit ≤ 4194304) }
 {
-    let fails = vec![in alloc; failing]?;
-    let log = MemorySource::new(Vec::from_slice(alloc, log.as_bytes())?, fails);
+    let text = Vec::from_slice(alloc, log.as_bytes()).expect(rt, "no memory");
+    let log = MemorySource::new(text, alone(alloc, failing));
     let heard = Heard { alloc, log };
-    let ran = run_alone(rt, alloc, SourceKind::Radio(Plan::Dcf), limit, heard)?;
+    let ran = run_alone(rt, alloc, SourceKind::Radio(Plan::Dcf), limit, heard);
     same(rt, ran.done, Some(work));
     same(rt, ran.lines.as_str(), lines);
-    Ok(())
 }
+
+// The same of the log of two minutes with an end, which is read to its own end.
+fn reads_two<R: Abort + Wait>(
+    rt: &R,
+    alloc: Global,
+    tail: &str,
+    limit: u32,
+    work: LogWork,
+    lines: &str,
+)
+    requires { (0 < limit) × (limit ≤ 4194304) }
+{
+    let log = two_frames(alloc, tail);
+    reads(rt, alloc, log.as_str(), 0, limit, work, lines);
+}
+
+// The pulse that closes the second minute.
+const END: &str = "122000000 100000\n";
 
 // How the log of two minutes ends, by its end, and the lines of the journal.
 const ENDS: [(&str, LogEnd, &str); 4] = [
@@ -116,92 +132,64 @@ const ENDS: [(&str, LogEnd, &str); 4] = [
     ("x\n122000000 100000\n", LogEnd::BadLine { line: 120 }, LONE),
 ];
 
-fn end_so<R: Abort + Wait>(
-    rt: &R,
-    alloc: Global,
-    rows: &[(&str, LogEnd, &str)],
-) -> Result<(), Fail> {
+fn end_so<R: Abort + Wait>(rt: &R, alloc: Global, rows: &[(&str, LogEnd, &str)]) {
     for (tail, end, lines) in rows {
-        let log = two_frames(alloc, tail)?;
         let work = LogWork {
             end: *end,
             full: false,
         };
-        reads(rt, alloc, log.as_str(), 0, 9, work, lines)?;
+        reads_two(rt, alloc, tail, 9, work, lines);
     }
-    Ok(())
 }
 
 #[test]
-fn a_log_is_read_to_its_end_or_to_its_first_bad_line(rt: HostRuntime) -> Result<(), Fail> {
-    end_so(&rt, rt.alloc(), &ENDS)
+fn a_log_is_read_to_its_end_or_to_its_first_bad_line(rt: HostRuntime) {
+    end_so(&rt, rt.alloc(), &ENDS);
 }
 
 // The read that fails, and the lines of the journal.
 const FAULTS: [(u64, &str); 5] = [(1, ""), (2, ""), (3, LONE), (4, LONE), (5, BOTH)];
 
-fn end_at_faults<R: Abort + Wait>(
-    rt: &R,
-    alloc: Global,
-    log: &str,
-    rows: &[(u64, &str)],
-) -> Result<(), Fail> {
+fn end_at_faults<R: Abort + Wait>(rt: &R, alloc: Global, rows: &[(u64, &str)]) {
+    let log = two_frames(alloc, END);
     let work = LogWork {
         end: LogEnd::Fault,
         full: false,
     };
     for (failing, lines) in rows {
-        reads(rt, alloc, log, *failing, 9, work, lines)?;
+        reads(rt, alloc, log.as_str(), *failing, 9, work, lines);
     }
-    Ok(())
 }
 
 // The log has 1,927 bytes, so its reads are of 512, 512, 512, 391 and no bytes.
 #[test]
-fn a_read_that_fails_ends_the_reading(rt: HostRuntime) -> Result<(), Fail> {
-    let log = two_frames(rt.alloc(), "122000000 100000\n")?;
-    end_at_faults(&rt, rt.alloc(), log.as_str(), &FAULTS)
+fn a_read_that_fails_ends_the_reading(rt: HostRuntime) {
+    end_at_faults(&rt, rt.alloc(), &FAULTS);
 }
 
 #[test]
-fn a_full_journal_keeps_a_front_and_the_log_is_read_on(rt: HostRuntime) -> Result<(), Fail> {
-    let log = two_frames(rt.alloc(), "122000000 100000\n")?;
+fn a_full_journal_keeps_a_front_and_the_log_is_read_on(rt: HostRuntime) {
     let end = LogEnd::Whole;
-    reads(
-        &rt,
-        rt.alloc(),
-        log.as_str(),
-        0,
-        1,
-        LogWork { end, full: true },
-        LONE,
-    )?;
-    reads(
-        &rt,
-        rt.alloc(),
-        log.as_str(),
-        0,
-        2,
-        LogWork { end, full: false },
-        BOTH,
-    )
+    reads_two(&rt, rt.alloc(), END, 1, LogWork { end, full: true }, LONE);
+    reads_two(&rt, rt.alloc(), END, 2, LogWork { end, full: false }, BOTH);
+}
+
+// Three minutes and a bad line.
+fn three_frames(alloc: Global) -> String {
+    let mut log = two_frames(alloc, "");
+    add_frame(&mut log, &NOON, 122_000_000);
+    let _ = log.push_str("x\n");
+    log
 }
 
 // The second minute's entry finds the journal full. The bad line follows one more frame, in a later piece: 1 and three times 59
 // lines before it.
 #[test]
-fn a_log_is_read_on_to_a_bad_line_behind_a_lost_entry(rt: HostRuntime) -> Result<(), Fail> {
-    let mut log = two_frames(rt.alloc(), "")?;
-    add_frame(&mut log, &NOON, 122_000_000)?;
-    log.push_str("x\n")?;
-    let end = LogEnd::BadLine { line: 179 };
-    reads(
-        &rt,
-        rt.alloc(),
-        log.as_str(),
-        0,
-        1,
-        LogWork { end, full: true },
-        LONE,
-    )
+fn a_log_is_read_on_to_a_bad_line_behind_a_lost_entry(rt: HostRuntime) {
+    let log = three_frames(rt.alloc());
+    let work = LogWork {
+        end: LogEnd::BadLine { line: 179 },
+        full: true,
+    };
+    reads(&rt, rt.alloc(), log.as_str(), 0, 1, work, LONE);
 }

@@ -2,7 +2,7 @@
 use crate::serving::{
     CLIENT, NONE, REQUEST, bytes_of, link_of, open_to_all, opened, serve as serve_with,
 };
-use crate::shared::{moment, same};
+use crate::shared::{alone, moment, same};
 use feed_link::{Address, HostOutside, Link, LinkEvent, MemoryLink, OpenGate, Outside, Planned};
 use packet_auth::KeyRing;
 use responder::{End, Responder, Served};
@@ -15,12 +15,12 @@ use std::time::Duration;
 use std::{io, thread};
 
 // A datagram of this many bytes from the client.
-fn datagram(alloc: Global, first: u8, length: usize) -> Result<Planned, Fail> {
-    Ok(Planned::Datagram {
+fn datagram(alloc: Global, first: u8, length: usize) -> Planned {
+    Planned::Datagram {
         from: CLIENT,
         at: moment(7),
-        bytes: bytes_of(alloc, first, length)?,
-    })
+        bytes: bytes_of(alloc, first, length),
+    }
 }
 
 // What a responder that lets all pass does on a link for this many hearings, and the link after it.
@@ -29,10 +29,10 @@ fn serve<R: Abort + Wait>(
     alloc: Global,
     link: MemoryLink,
     budget: u64,
-) -> Result<(Served, MemoryLink), Fail> {
-    let gate = open_to_all(alloc)?;
-    let (served, link, _) = serve_with(rt, alloc, link, KeyRing::new(), gate, budget)?;
-    Ok((served, link))
+) -> (Served, MemoryLink) {
+    let gate = open_to_all(rt, alloc);
+    let (served, link, _) = serve_with(rt, alloc, link, KeyRing::new(), gate, budget);
+    (served, link)
 }
 
 // The last event of a link: the length and the first byte of a datagram that was sent to the client, or None.
@@ -67,40 +67,33 @@ fn is_answered_so<R: Abort + Wait>(
     first: u8,
     length: usize,
     want: Option<(usize, u8)>,
-) -> Result<(), Fail> {
-    let mut hearings = Vec::new(alloc);
-    hearings.push(datagram(alloc, first, length)?)?;
-    let (served, link) = serve(rt, alloc, link_of(alloc, hearings, 0, 9)?, 1)?;
-    let answered = u64::from(want.is_some());
-    let dropped = u64::from(want.is_none());
-    same(
-        rt,
-        served,
-        Served {
-            answered,
-            dropped,
-            ..NONE
-        },
-    );
+) {
+    let hearings = alone(alloc, datagram(alloc, first, length));
+    let (served, link) = serve(rt, alloc, link_of(rt, alloc, hearings, 0, 9), 1);
+    let wanted = Served {
+        answered: u64::from(want.is_some()),
+        dropped: u64::from(want.is_none()),
+        ..NONE
+    };
+    same(rt, (first, length, served), (first, length, wanted));
     let events = if want.is_some() { 3 } else { 2 };
-    same(rt, (sent(&link), link.count()), (want, events));
-    Ok(())
+    let found = (first, length, sent(&link), link.count());
+    same(rt, found, (first, length, want, events));
 }
 
 fn are_answered_so<R: Abort + Wait>(
     rt: &R,
     alloc: Global,
     rows: &[(u8, usize, Option<(usize, u8)>)],
-) -> Result<(), Fail> {
+) {
     for (first, length, want) in rows {
-        is_answered_so(rt, alloc, *first, *length, *want)?;
+        is_answered_so(rt, alloc, *first, *length, *want);
     }
-    Ok(())
 }
 
 #[test]
-fn each_datagram_is_answered_or_dropped(rt: HostRuntime) -> Result<(), Fail> {
-    are_answered_so(&rt, rt.alloc(), &DATAGRAMS)
+fn each_datagram_is_answered_or_dropped(rt: HostRuntime) {
+    are_answered_so(&rt, rt.alloc(), &DATAGRAMS);
 }
 
 // MD5 of `longwave` and the request, by Python's `hashlib`.
@@ -118,19 +111,24 @@ const SEALED: [u8; 68] = [
     0x59, 0xf3, 0x0d, 0xdf,
 ];
 
-// A link on which a request comes that names this key, with this digest.
-fn asking(alloc: Global, id: u8, digest: [u8; 16]) -> Result<MemoryLink, Fail> {
-    let mut bytes = vec![in alloc; 0u8; 68]?;
+// A request that names this key, with this digest.
+fn sealed(id: u8, digest: [u8; 16]) -> [u8; 68] {
+    let mut bytes = [0; 68];
     bytes[..48].copy_from_slice(&REQUEST);
     bytes[51] = id;
     bytes[52..].copy_from_slice(&digest);
-    let mut hearings = Vec::new(alloc);
-    hearings.push(Planned::Datagram {
+    bytes
+}
+
+// A link on which such a request comes.
+fn asking(rt: &impl Abort, alloc: Global, id: u8, digest: [u8; 16]) -> MemoryLink {
+    let bytes = Vec::from_slice(alloc, &sealed(id, digest)).expect(rt, "no memory");
+    let hearing = Planned::Datagram {
         from: CLIENT,
         at: moment(7),
         bytes,
-    })?;
-    link_of(alloc, hearings, 0, 9)
+    };
+    link_of(rt, alloc, alone(alloc, hearing), 0, 9)
 }
 
 // Whether the last event of a link is the sending of these bytes to the client.
@@ -141,59 +139,70 @@ fn has_sent(link: &MemoryLink, want: &[u8]) -> bool {
     }
 }
 
-// A request that names this key gets the first bytes of the sealed reply.
-fn is_sealed_so<R: Abort + Wait>(
-    rt: &R,
-    alloc: Global,
-    keys: KeyRing,
-    id: u8,
-    want: &[u8],
-) -> Result<(), Fail> {
-    let link = asking(alloc, id, DIGEST)?;
-    let gate = open_to_all(alloc)?;
-    let (served, link, _) = serve_with(rt, alloc, link, keys, gate, 1)?;
-    let answered = 1;
-    same(rt, served, Served { answered, ..NONE });
-    assert!(*rt; has_sent(&link, want), "key {id}");
-    Ok(())
+// A request that names this key gets these first bytes of the sealed reply.
+fn is_sealed_so<R: Abort + Wait>(rt: &R, alloc: Global, keys: KeyRing, id: u8, want: &[u8]) {
+    let link = asking(rt, alloc, id, DIGEST);
+    let gate = open_to_all(rt, alloc);
+    let (served, link, _) = serve_with(rt, alloc, link, keys, gate, 1);
+    let wanted = Served {
+        answered: 1,
+        ..NONE
+    };
+    same(rt, (id, served), (id, wanted));
+    same(rt, (id, has_sent(&link, want)), (id, true));
 }
 
-#[test]
-fn a_reply_is_sealed_where_its_request_is_authentic(rt: HostRuntime) -> Result<(), Fail> {
+fn ring_of_two() -> KeyRing {
     let mut ring = KeyRing::new();
     ring.add(9, b"shortwave");
     ring.add(1, b"longwave");
-    is_sealed_so(&rt, rt.alloc(), ring, 1, &SEALED)?;
-    for id in [9, 2, 0] {
-        is_sealed_so(&rt, rt.alloc(), ring, id, &SEALED[..48])?;
-    }
-    Ok(())
+    ring
+}
+
+#[test]
+fn a_reply_is_sealed_where_its_request_is_authentic(rt: HostRuntime) {
+    let (alloc, ring) = (rt.alloc(), ring_of_two());
+    is_sealed_so(&rt, alloc, ring, 1, &SEALED);
+    is_sealed_so(&rt, alloc, ring, 9, &SEALED[..48]);
+    is_sealed_so(&rt, alloc, ring, 2, &SEALED[..48]);
+    is_sealed_so(&rt, alloc, ring, 0, &SEALED[..48]);
+}
+
+// The reply that is sent at 1 s.
+fn sent_at_1_s() -> [u8; 48] {
+    let mut want = [0u8; 48];
+    want.copy_from_slice(&SEALED[..48]);
+    want[40..].copy_from_slice(&[0, 0, 0, 1, 0, 0, 0, 0]);
+    want
+}
+
+// A link on which the request comes, and whose clock is at 1 s then.
+fn asking_at_1_s(rt: &impl Abort, alloc: Global) -> MemoryLink {
+    let hearings = alone(alloc, datagram(alloc, 0x23, 48));
+    let moments = alone(alloc, moment(1_000_000));
+    let link = MemoryLink::new(alloc, hearings, moments, Vec::new(alloc), 9, 4000);
+    link.expect(rt, "no memory")
+}
+
+// On such a link the reply of 1 s is sent.
+fn is_answered_at_1_s<R: Abort + Wait>(rt: &R, alloc: Global) {
+    let (served, link) = serve(rt, alloc, asking_at_1_s(rt, alloc), 1);
+    same(rt, served.answered, 1);
+    same(rt, has_sent(&link, &sent_at_1_s()), true);
 }
 
 // The request comes at 7 us, which is 30064 of the 2^32 parts of a second, and is answered at 1 s.
 #[test]
-fn a_reply_has_the_moments_of_its_hearing_and_its_sending(rt: HostRuntime) -> Result<(), Fail> {
-    let alloc = rt.alloc();
-    let mut hearings = Vec::new(alloc);
-    hearings.push(datagram(alloc, 0x23, 48)?)?;
-    let moments = vec![in alloc; moment(1_000_000)]?;
-    let link = MemoryLink::new(alloc, hearings, moments, Vec::new(alloc), 9, 4000)?;
-    let (served, link) = serve(&rt, rt.alloc(), link, 1)?;
-    same(&rt, served.answered, 1);
-    let mut want = [0u8; 48];
-    want.copy_from_slice(&SEALED[..48]);
-    want[40..].copy_from_slice(&[0, 0, 0, 1, 0, 0, 0, 0]);
-    assert!(rt; has_sent(&link, &want));
-    Ok(())
+fn a_reply_has_the_moments_of_its_hearing_and_its_sending(rt: HostRuntime) {
+    is_answered_at_1_s(&rt, rt.alloc());
 }
 
 // A link that gives a request, nothing, a request, and its end.
-fn two_requests(alloc: Global, failing: u64, events: usize) -> Result<MemoryLink, Fail> {
-    let mut hearings = Vec::new(alloc);
-    hearings.push(datagram(alloc, 0x23, 48)?)?;
-    hearings.push(Planned::Quiet)?;
-    hearings.push(datagram(alloc, 0x23, 48)?)?;
-    link_of(alloc, hearings, failing, events)
+fn two_requests(rt: &impl Abort, alloc: Global, failing: u64, events: usize) -> MemoryLink {
+    let mut hearings = alone(alloc, datagram(alloc, 0x23, 48));
+    let _ = hearings.push(Planned::Quiet);
+    let _ = hearings.push(datagram(alloc, 0x23, 48));
+    link_of(rt, alloc, hearings, failing, events)
 }
 
 // The call that fails, how many requests are answered, why the serving ends, and how many events there are.
@@ -207,80 +216,56 @@ const FAULTS: [(u64, u64, End, usize); 7] = [
     (7, 2, End::LinkEnd, 8),
 ];
 
-fn end_at_faults<R: Abort + Wait>(
+// On this link the responder answers so many requests and ends so, and there are so many events then.
+fn serves_two<R: Abort + Wait>(
     rt: &R,
     alloc: Global,
-    rows: &[(u64, u64, End, usize)],
-) -> Result<(), Fail> {
+    link: MemoryLink,
+    budget: u64,
+    want: (u64, End, usize),
+) {
+    let (answered, end, events) = want;
+    let (served, link) = serve(rt, alloc, link, budget);
+    let wanted = Served {
+        answered,
+        end,
+        ..NONE
+    };
+    same(rt, (served, link.count()), (wanted, events));
+}
+
+fn end_at_faults<R: Abort + Wait>(rt: &R, alloc: Global, rows: &[(u64, u64, End, usize)]) {
     for (failing, answered, end, events) in rows {
-        let (served, link) = serve(rt, alloc, two_requests(alloc, *failing, 9)?, 9)?;
-        let answered = *answered;
-        let end = *end;
-        same(
-            rt,
-            (served, link.count()),
-            (
-                Served {
-                    answered,
-                    end,
-                    ..NONE
-                },
-                *events,
-            ),
-        );
+        let link = two_requests(rt, alloc, *failing, 9);
+        serves_two(rt, alloc, link, 9, (*answered, *end, *events));
     }
-    Ok(())
 }
 
 // The calls of hearing and sending are 1 to 6: request, reply, nothing, request, reply, end.
 #[test]
-fn a_fault_of_the_link_ends_the_serving(rt: HostRuntime) -> Result<(), Fail> {
-    end_at_faults(&rt, rt.alloc(), &FAULTS)
+fn a_fault_of_the_link_ends_the_serving(rt: HostRuntime) {
+    end_at_faults(&rt, rt.alloc(), &FAULTS);
 }
 
 // How many hearings it is asked for, how many requests it answers, and how many events there are.
 const BUDGETS: [(u64, u64, usize); 4] = [(0, 0, 0), (1, 1, 3), (2, 1, 4), (3, 2, 7)];
 
-fn hear_so_often<R: Abort + Wait>(
-    rt: &R,
-    alloc: Global,
-    rows: &[(u64, u64, usize)],
-) -> Result<(), Fail> {
+fn hear_so_often<R: Abort + Wait>(rt: &R, alloc: Global, rows: &[(u64, u64, usize)]) {
     for (budget, answered, events) in rows {
-        let (served, link) = serve(rt, alloc, two_requests(alloc, 0, 9)?, *budget)?;
-        let answered = *answered;
-        same(
-            rt,
-            (served, link.count()),
-            (Served { answered, ..NONE }, *events),
-        );
+        let link = two_requests(rt, alloc, 0, 9);
+        serves_two(rt, alloc, link, *budget, (*answered, End::Count, *events));
     }
-    Ok(())
 }
 
 #[test]
-fn it_hears_as_often_as_it_is_asked_to(rt: HostRuntime) -> Result<(), Fail> {
-    hear_so_often(&rt, rt.alloc(), &BUDGETS)
+fn it_hears_as_often_as_it_is_asked_to(rt: HostRuntime) {
+    hear_so_often(&rt, rt.alloc(), &BUDGETS);
 }
 
 #[test]
-fn a_link_past_its_room_is_served_on(rt: HostRuntime) -> Result<(), Fail> {
-    let (served, link) = serve(&rt, rt.alloc(), two_requests(rt.alloc(), 0, 2)?, 9)?;
-    let end = End::LinkEnd;
-    let answered = 2;
-    same(
-        &rt,
-        (served, link.count()),
-        (
-            Served {
-                answered,
-                end,
-                ..NONE
-            },
-            0,
-        ),
-    );
-    Ok(())
+fn a_link_past_its_room_is_served_on(rt: HostRuntime) {
+    let link = two_requests(&rt, rt.alloc(), 0, 2);
+    serves_two(&rt, rt.alloc(), link, 9, (2, End::LinkEnd, 0));
 }
 
 // A client that waits for a datagram of the server, and then asks three times. It counts the replies of 48 bytes that say that
@@ -313,8 +298,8 @@ fn a_client_on_the_loopback_is_answered(rt: HostRuntime) -> Result<(), Fail> {
         return Err("the link was not opened")?;
     };
     assert!(rt; link.send(to, b"come").is_ok());
-    let (cell, pass) = opened(rt.alloc())?;
-    let mut responder = Responder::new(link, pass, 0, KeyRing::new(), open_to_all(rt.alloc())?);
+    let (cell, pass) = opened(&rt, rt.alloc());
+    let mut responder = Responder::new(link, pass, 0, KeyRing::new(), open_to_all(&rt, rt.alloc()));
     let Ok(child) = thread::spawn(&rt, move || ask(&client)) else {
         return Err("no thread")?;
     };

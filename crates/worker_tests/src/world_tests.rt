@@ -7,8 +7,9 @@ ghost use Rattle.system_fold.specs.Settings.{AreLawful};
 use crate::shared::{same, settings_of};
 use journal_entry::{Entry, What};
 use station_world::{Step, StepRefusal, World};
+use std::alloc::Global;
 use std::marker::Model;
-use std::test::*;
+use std::process::Abort;
 use system_fold::{Settings, SourceKind};
 use tick_units::{Local, Plan};
 
@@ -33,6 +34,16 @@ fn announced(feed: u32) -> Entry
     }
 }
 
+// Such a station with one reader.
+fn world_of(rt: &impl Abort, alloc: Global) -> World
+    ensures { length result.journal ≡ 0 }
+{
+    match World::new(alloc, &of_one_radio(), 1) {
+        Ok(world) => world,
+        Err(_) => panic!(*rt; "no memory"),
+    }
+}
+
 // A station with one radio and one reader, and the most entries that it was given.
 #[derive(Drop)]
 struct Bench {
@@ -51,11 +62,11 @@ impl Model for Bench {
 }
 
 impl Bench {
-    fn new(rt: &HostRuntime) -> Result<Bench, Fail> {
-        let Ok(world) = World::new(rt.alloc(), &of_one_radio(), 1) else {
-            return Err("memory")?;
-        };
-        Ok(Bench { world, entries: 0 })
+    fn new(rt: &impl Abort, alloc: Global) -> Bench {
+        Bench {
+            world: world_of(rt, alloc),
+            entries: 0,
+        }
     }
 
     fn enter(&mut self, feed: u32) -> Result<Option<u64>, StepRefusal> {
@@ -83,71 +94,88 @@ impl Bench {
     }
 }
 
+// The answer to a step: the length of the page that was read, if one was, or why the step was refused.
+type Answer = Result<Option<u64>, StepRefusal>;
+
+fn reads(rt: &impl Abort, bench: &mut Bench, number: u32, want: Answer) {
+    same(rt, bench.read(number), want);
+}
+
+fn enters(rt: &impl Abort, bench: &mut Bench, feed: u32, want: Answer) {
+    same(rt, bench.enter(feed), want);
+}
+
+fn publishes(rt: &impl Abort, bench: &mut Bench, want: Answer) {
+    same(rt, bench.publish(), want);
+}
+
+fn tells(rt: &impl Abort, bench: &mut Bench, number: u32, told: u64, want: Answer) {
+    same(rt, bench.tell(number, told), want);
+}
+
+fn reads_what_is_published(rt: &impl Abort, bench: &mut Bench) {
+    reads(rt, bench, 0, Ok(Some(0)));
+    enters(rt, bench, 0, Ok(None));
+    publishes(rt, bench, Ok(None));
+    reads(rt, bench, 0, Ok(Some(1)));
+    enters(rt, bench, 0, Ok(None));
+    reads(rt, bench, 0, Ok(Some(1)));
+    publishes(rt, bench, Ok(None));
+    reads(rt, bench, 0, Ok(Some(2)));
+}
+
 // A reader reads what is published, and not what is only entered.
 #[test]
-fn a_reader_reads_what_is_published(rt: HostRuntime) -> Result<(), Fail> {
-    let mut bench = Bench::new(&rt)?;
-    same(&rt, bench.read(0), Ok(Some(0)));
-    same(&rt, bench.enter(0), Ok(None));
-    same(&rt, bench.publish(), Ok(None));
-    same(&rt, bench.read(0), Ok(Some(1)));
-    same(&rt, bench.enter(0), Ok(None));
-    same(&rt, bench.read(0), Ok(Some(1)));
-    same(&rt, bench.publish(), Ok(None));
-    same(&rt, bench.read(0), Ok(Some(2)));
-    Ok(())
+fn a_reader_reads_what_is_published(rt: HostRuntime) {
+    reads_what_is_published(&rt, &mut Bench::new(&rt, rt.alloc()));
+}
+
+const NO_READER: StepRefusal = StepRefusal::NoReader { number: 1 };
+
+const NO_FEED: StepRefusal = StepRefusal::NoFeed { feed: 1 };
+
+const UNPUBLISHED: StepRefusal = StepRefusal::Unpublished {
+    entered: 1,
+    published: 0,
+};
+
+fn beyond(told: u64, published: u64) -> StepRefusal {
+    StepRefusal::Beyond { told, published }
+}
+
+fn nothing(length: u64) -> StepRefusal {
+    StepRefusal::Nothing { length }
+}
+
+// Before and after the first entry.
+fn is_refused_at_first(rt: &impl Abort, bench: &mut Bench) {
+    reads(rt, bench, 1, Err(NO_READER));
+    tells(rt, bench, 1, 9, Err(NO_READER));
+    tells(rt, bench, 0, 1, Err(beyond(1, 0)));
+    publishes(rt, bench, Err(nothing(0)));
+    enters(rt, bench, 1, Err(NO_FEED));
+    reads(rt, bench, 0, Ok(Some(0)));
+    enters(rt, bench, 0, Ok(None));
+    enters(rt, bench, 0, Err(UNPUBLISHED));
+    enters(rt, bench, 1, Err(NO_FEED));
+}
+
+// From its publishing on.
+fn is_refused_then(rt: &impl Abort, bench: &mut Bench) {
+    publishes(rt, bench, Ok(None));
+    publishes(rt, bench, Err(nothing(1)));
+    tells(rt, bench, 0, 1, Ok(None));
+    tells(rt, bench, 0, 0, Ok(None));
+    tells(rt, bench, 0, 2, Err(beyond(2, 1)));
+    reads(rt, bench, 0, Ok(Some(1)));
 }
 
 // Each refusal carries what was found, and leaves the station as it was.
 #[test]
-fn each_refusal_has_its_cause(rt: HostRuntime) -> Result<(), Fail> {
-    let mut bench = Bench::new(&rt)?;
-    same(&rt, bench.read(1), Err(StepRefusal::NoReader { number: 1 }));
-    same(
-        &rt,
-        bench.tell(1, 9),
-        Err(StepRefusal::NoReader { number: 1 }),
-    );
-    same(
-        &rt,
-        bench.tell(0, 1),
-        Err(StepRefusal::Beyond {
-            told: 1,
-            published: 0,
-        }),
-    );
-    same(
-        &rt,
-        bench.publish(),
-        Err(StepRefusal::Nothing { length: 0 }),
-    );
-    same(&rt, bench.enter(1), Err(StepRefusal::NoFeed { feed: 1 }));
-    same(&rt, bench.read(0), Ok(Some(0)));
-    same(&rt, bench.enter(0), Ok(None));
-    let unpublished = StepRefusal::Unpublished {
-        entered: 1,
-        published: 0,
-    };
-    same(&rt, bench.enter(0), Err(unpublished));
-    same(&rt, bench.enter(1), Err(StepRefusal::NoFeed { feed: 1 }));
-    same(&rt, bench.publish(), Ok(None));
-    same(
-        &rt,
-        bench.publish(),
-        Err(StepRefusal::Nothing { length: 1 }),
-    );
-    same(&rt, bench.tell(0, 1), Ok(None));
-    same(&rt, bench.tell(0, 0), Ok(None));
-    same(
-        &rt,
-        bench.tell(0, 2),
-        Err(StepRefusal::Beyond {
-            told: 2,
-            published: 1,
-        }),
-    );
-    same(&rt, bench.read(0), Ok(Some(1)));
-    Ok(())
+fn each_refusal_has_its_cause(rt: HostRuntime) {
+    let mut bench = Bench::new(&rt, rt.alloc());
+    is_refused_at_first(&rt, &mut bench);
+    is_refused_then(&rt, &mut bench);
 }
 
 // Two entries are entered, published and read in turn.
@@ -176,22 +204,17 @@ fn unpublished() -> [Step; 3]
     ]
 }
 
+// Both runs, each of a new station. The second one publishes once more.
+fn runs_stop(rt: &impl Abort, alloc: Global) {
+    let mut world = world_of(rt, alloc);
+    same(rt, world.run(&in_turn()), Ok(()));
+    let mut world = world_of(rt, alloc);
+    same(rt, world.run(&unpublished()), Err(UNPUBLISHED));
+    same(rt, world.step(Step::Publish).is_ok(), true);
+}
+
 // A run goes on up to the first refused step, and the steps before it count.
 #[test]
-fn a_run_stops_at_the_first_refusal(rt: HostRuntime) -> Result<(), Fail> {
-    let settings = of_one_radio();
-    let Ok(mut world) = World::new(rt.alloc(), &settings, 1) else {
-        return Err("memory")?;
-    };
-    same(&rt, world.run(&in_turn()), Ok(()));
-    let Ok(mut world) = World::new(rt.alloc(), &settings, 1) else {
-        return Err("memory")?;
-    };
-    let refusal = StepRefusal::Unpublished {
-        entered: 1,
-        published: 0,
-    };
-    same(&rt, world.run(&unpublished()), Err(refusal));
-    same(&rt, world.step(Step::Publish).is_ok(), true);
-    Ok(())
+fn a_run_stops_at_the_first_refusal(rt: HostRuntime) {
+    runs_stop(&rt, rt.alloc());
 }
