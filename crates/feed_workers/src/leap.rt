@@ -90,7 +90,8 @@ fn take_piece<K: Keeper>(
     ensures noticed { (begun : Claim) (bytes : List ℕ) →
         HasNoticed reader.old start (share_of begun pass.old K.limit full.old) bytes →
         let now = share_of begun pass.new K.limit full.new in
-        TakesOrStops (HasNoticed reader.new start now) (λ line b. HasPassed start now b line) (bytes ++ piece.now) result }
+        TakesOrStops (HasNoticed reader.new start now) (λ line b. HasPassed start now b line)
+        (bytes ++ piece.now) result }
 {
     for place in 0..piece.len() {
         match take_byte(keeper, reader, start, pass, piece[place], full) {

@@ -124,7 +124,8 @@ impl<K: Keeper, Q: Receiver> PieceTaker<u64> for Listening<'_, K, Q> {
     // The feed, and which decoder and pass it has.
     ghost Mark = { ℕ × GName × GName };
 
-    ghost mark = { λ listening. (feed_of listening.decoder.now, listening.decoder.ghost_name, listening.pass.ghost_name) };
+    ghost mark = { λ listening.
+        (feed_of listening.decoder.now, listening.decoder.ghost_name, listening.pass.ghost_name) };
 
     ghost is_ready = { λ listening. IsReady Q.least_start listening.decoder.now
         × IsOfFeed K.table K.sources (feed_of listening.decoder.now) listening.pass.now };

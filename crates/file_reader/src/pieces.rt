@@ -55,7 +55,8 @@ pub fn read_pieces<E, S: Source, T: PieceTaker<E>>(
     ensures room { 0 < T.room taker.new }
     ensures mark { T.mark taker.new ≡ T.mark taker.old }
     ensures ends { (of : T.Case) → T.has_taken taker.old of [] →
-        EndsPieces (T.has_taken taker.new of) (T.has_stopped taker.new of) limit (S.state file.old) (S.state file.new) result }
+        EndsPieces (T.has_taken taker.new of) (T.has_stopped taker.new of) limit
+        (S.state file.old) (S.state file.new) result }
 {
     let mut reader = FileReader::new(limit);
     'pieces: loop {

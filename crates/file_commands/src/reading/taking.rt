@@ -107,7 +107,8 @@ impl<T: Taker, K: Sink> PieceTaker<Stop> for Writing<'_, T, K> {
 fn end_of<T: Taker>(read: Result<FileEnd, Stop>, taker: &T) -> Result<LogEnd, Failed>
     requires ready { T.is_ready taker.now }
     requires room { 0 < T.room taker.now }
-    ensures { (of : T.Case) (limit : ℕ) (flow : Flow) → EndsPieces (TakesAll (T.holds taker.now of) flow.out flow.out_now)
+    ensures { (of : T.Case) (limit : ℕ) (flow : Flow) →
+        EndsPieces (TakesAll (T.holds taker.now of) flow.out flow.out_now)
         (StopsTaking (T.holds taker.now of) (T.says of) flow.out flow.out_now) limit flow.file flow.file_now read →
         EndsTaking (T.holds taker.now of) (T.says of) limit flow result }
 {
