@@ -17,7 +17,7 @@ const BEFORE: u8 = 1;
 const AFTER: u8 = 4;
 
 /// Keeps the entries of a feed.
-pub trait Keeper {
+pub trait Recorder {
     ghost use Rattle.std.specs.Prelude.{◌++◌, ◌∷◌, [], ℕ, List};
     ghost use Rattle.atomic_table.specs.Seated.{TableId};
 
@@ -69,7 +69,7 @@ fn offer<N: HubName, R: Wait>(
 
 // The methods of this block call no function that asks for a `Gate`: a call would ask that the gate is `Sync`, which a trait's
 // method can't show.
-impl<N: HubName, R: Wait, G: Gate> Keeper for Post<'_, N, R, G> {
+impl<N: HubName, R: Wait, G: Gate> Recorder for Post<'_, N, R, G> {
     ghost use Rattle.std.specs.Prelude.{length};
 
     ghost table = { N.table };

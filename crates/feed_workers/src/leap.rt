@@ -12,7 +12,7 @@ ghost use Rattle.page_cell.specs.declared.view.Claim.{Claim};
 ghost use Rattle.page_cell.specs.Passes.{claim_of};
 ghost use Rattle.tick_units.specs.Years.{end_of_told};
 
-use crate::keeping::{Keeper, Post};
+use crate::keeping::{Post, Recorder};
 use crate::work::LogWork;
 use feed_link::{Gate, Source};
 use file_reader::{FileEnd, LogEnd, PieceTaker, read_pieces};
@@ -27,8 +27,8 @@ use verdict_journal::{Hub, HubName};
 const LIMIT: usize = 1 << 16;
 
 // Keeps the notice of a leap second, where one was found.
-fn notice<K: Keeper>(
-    keeper: &K,
+fn notice<K: Recorder>(
+    recorder: &K,
     start: Local,
     pass: &mut FeedPass,
     found: Option<u64>,
@@ -48,13 +48,13 @@ fn notice<K: Keeper>(
             at: start,
             what: What::Notice(second),
         };
-        keeper.keep(pass, entry, full);
+        recorder.keep(pass, entry, full);
     }
 }
 
 // Takes a byte, and keeps the notice of the row that it ends. Fails where the line that it ends is bad.
-fn take_byte<K: Keeper>(
-    keeper: &K,
+fn take_byte<K: Recorder>(
+    recorder: &K,
     reader: &mut LeapReader,
     start: Local,
     pass: &mut FeedPass,
@@ -69,7 +69,7 @@ fn take_byte<K: Keeper>(
 {
     match reader.take(byte) {
         Ok(found) => {
-            notice(keeper, start, pass, found, full);
+            notice(recorder, start, pass, found, full);
             Ok(())
         }
         Err(bad) => Err(bad),
@@ -77,8 +77,8 @@ fn take_byte<K: Keeper>(
 }
 
 // Takes a piece of a file, or stops at a bad line, by its number.
-fn take_piece<K: Keeper>(
-    keeper: &K,
+fn take_piece<K: Recorder>(
+    recorder: &K,
     reader: &mut LeapReader,
     start: Local,
     pass: &mut FeedPass,
@@ -94,7 +94,7 @@ fn take_piece<K: Keeper>(
         (bytes ++ piece.now) result }
 {
     for place in 0..piece.len() {
-        match take_byte(keeper, reader, start, pass, piece[place], full) {
+        match take_byte(recorder, reader, start, pass, piece[place], full) {
             Ok(()) => {}
             Err(bad) => return Err(bad.line),
         }
@@ -103,8 +103,8 @@ fn take_piece<K: Keeper>(
 }
 
 // At the end of the file: keeps the notice of a last line without its line feed, and answers how the file ends.
-fn finish_list<K: Keeper>(
-    keeper: &K,
+fn finish_list<K: Recorder>(
+    recorder: &K,
     reader: &mut LeapReader,
     start: Local,
     pass: &mut FeedPass,
@@ -118,7 +118,7 @@ fn finish_list<K: Keeper>(
 {
     match reader.finish() {
         Ok(found) => {
-            notice(keeper, start, pass, found, full);
+            notice(recorder, start, pass, found, full);
             LogEnd::Whole
         }
         Err(bad) => LogEnd::BadLine { line: bad.line },
@@ -126,8 +126,8 @@ fn finish_list<K: Keeper>(
 }
 
 // Why the reading of a list ended, by what came of its pieces. Keeps the notice of a last line without its line feed.
-fn end_of<K: Keeper>(
-    keeper: &K,
+fn end_of<K: Recorder>(
+    recorder: &K,
     read: Result<FileEnd, u64>,
     reader: &mut LeapReader,
     start: Local,
@@ -142,7 +142,7 @@ fn end_of<K: Keeper>(
         RunsLeap start (intake (share_of begun pass.new K.limit full.new)) result }
 {
     match read {
-        Ok(FileEnd::Whole) => finish_list(keeper, reader, start, pass, full),
+        Ok(FileEnd::Whole) => finish_list(recorder, reader, start, pass, full),
         Ok(FileEnd::Fault) => LogEnd::Fault,
         Ok(FileEnd::TooLong) => LogEnd::Long,
         Err(line) => LogEnd::BadLine { line },
@@ -153,14 +153,14 @@ fn end_of<K: Keeper>(
 // moment.
 #[derive(Drop)]
 struct Noticing<'a, K> {
-    keeper: &'a K,
+    recorder: &'a K,
     reader: LeapReader,
     start: Local,
     pass: &'a mut FeedPass,
     full: bool,
 }
 
-impl<K: Keeper> PieceTaker<u64> for Noticing<'_, K> {
+impl<K: Recorder> PieceTaker<u64> for Noticing<'_, K> {
     ghost use Rattle.std.specs.Borrow.{GName};
     ghost use Rattle.std.specs.Prelude.{◌^◌, ℕ};
     ghost use Rattle.feed_workers.specs.Keeping.{IsOfFeed, share_of};
@@ -189,7 +189,7 @@ impl<K: Keeper> PieceTaker<u64> for Noticing<'_, K> {
 
     fn take(&mut self, piece: &[u8]) -> Result<(), u64> {
         take_piece(
-            self.keeper,
+            self.recorder,
             &mut self.reader,
             self.start,
             self.pass,
@@ -200,8 +200,8 @@ impl<K: Keeper> PieceTaker<u64> for Noticing<'_, K> {
 }
 
 // Reads a file to its end, a bad line, a fault or 2^16 bytes, whichever comes first, and keeps the entries that are due.
-fn read_list<L: Source, K: Keeper>(
-    keeper: &K,
+fn read_list<L: Source, K: Recorder>(
+    recorder: &K,
     log: &mut L,
     start: Local,
     pass: &mut FeedPass,
@@ -213,7 +213,7 @@ fn read_list<L: Source, K: Keeper>(
         RunsLeap start (intake_of (L.state log.old) (L.state log.new) most_of_a_list share) result.end }
 {
     let mut noticing = Noticing {
-        keeper,
+        recorder,
         reader: LeapReader::new(),
         start,
         pass,
@@ -227,7 +227,7 @@ fn read_list<L: Source, K: Keeper>(
         ..
     } = noticing;
     let mut reader = reader;
-    let end = end_of(keeper, read, &mut reader, start, pass, &mut full);
+    let end = end_of(recorder, read, &mut reader, start, pass, &mut full);
     LogWork { end, full }
 }
 

@@ -14,7 +14,7 @@ ghost use Rattle.poll_core.specs.Histories.{Event, judge};
 ghost use Rattle.poll_core.specs.Histories.Event.{Answered};
 ghost use Rattle.poll_core.specs.Polling.{HasPolled, asked_at};
 
-use crate::keeping::{Keeper, Post};
+use crate::keeping::{Post, Recorder};
 use crate::work::{PollEnd, PollWork};
 use feed_link::{Address, Arrival, Failed, Gate, Hearing, Link};
 use journal_entry::{Entry, What};
@@ -87,8 +87,8 @@ fn judge_datagram(poll: &mut Poll, arrival: &Arrival, bytes: &[u8]) -> JudgedAns
 }
 
 // One hearing; keeps the entry of a datagram.
-fn hear_once<L: Link, K: Keeper>(
-    keeper: &K,
+fn hear_once<L: Link, K: Recorder>(
+    recorder: &K,
     feed: u32,
     poll: &mut Poll,
     link: &mut L,
@@ -112,7 +112,7 @@ fn hear_once<L: Link, K: Keeper>(
             let judged = judge_datagram(poll, &arrival, &piece[..arrival.length]);
             let JudgedAnswer { what, accepted } = judged;
             let at = arrival.at;
-            keeper.keep(pass, Entry { feed, at, what }, full);
+            recorder.keep(pass, Entry { feed, at, what }, full);
             if accepted {
                 HearingEnd::Over
             } else {
@@ -126,8 +126,8 @@ fn hear_once<L: Link, K: Keeper>(
 }
 
 // Makes one poll, and answers why the polling ends with it, if it does.
-fn poll_once<L: Link, K: Keeper>(
-    keeper: &K,
+fn poll_once<L: Link, K: Recorder>(
+    recorder: &K,
     peer: Peer,
     poll: &mut Poll,
     link: &mut L,
@@ -156,7 +156,7 @@ fn poll_once<L: Link, K: Keeper>(
         Err(Failed) => return Some(PollEnd::LinkFault),
     }
     'hearings: for _ in 0..HEARINGS {
-        match hear_once(keeper, peer.feed, poll, link, pass, full) {
+        match hear_once(recorder, peer.feed, poll, link, pass, full) {
             HearingEnd::On => {}
             HearingEnd::Over => return None,
             HearingEnd::End => return Some(PollEnd::LinkEnd),

@@ -9,7 +9,7 @@ ghost use Rattle.page_cell.specs.declared.view.Claim.{Claim};
 ghost use Rattle.page_cell.specs.Passes.{claim_of};
 ghost use Rattle.tick_units.specs.declared.marks.Plan.{Plan};
 
-use crate::keeping::{Keeper, Post};
+use crate::keeping::{Post, Recorder};
 use crate::work::LogWork;
 use feed_link::{Gate, Source};
 use file_reader::{FileEnd, LogEnd, PieceTaker, read_pieces};
@@ -33,8 +33,8 @@ pub type RadioWorker<L> = WorkerOf<L, BoxedReceiver>;
 
 // Takes bytes up to the end of a line, up to a bad line, or all of them, and keeps the entry that they complete. What came of
 // them is the number of that bad line, where there is one.
-fn take_line<K: Keeper, Q: Receiver>(
-    keeper: &K,
+fn take_line<K: Recorder, Q: Receiver>(
+    recorder: &K,
     decoder: &mut LogDecoder<Q>,
     pass: &mut FeedPass,
     bytes: &[u8],
@@ -57,7 +57,7 @@ fn take_line<K: Keeper, Q: Receiver>(
     match found {
         Ok(None) => Taken { count, found: None },
         Ok(Some(entry)) => {
-            keeper.keep(pass, entry, full);
+            recorder.keep(pass, entry, full);
             Taken { count, found: None }
         }
         Err(bad) => Taken {
@@ -68,8 +68,8 @@ fn take_line<K: Keeper, Q: Receiver>(
 }
 
 // Takes a piece of a log, or stops at a bad line, by its number.
-fn hear_piece<K: Keeper, Q: Receiver>(
-    keeper: &K,
+fn hear_piece<K: Recorder, Q: Receiver>(
+    recorder: &K,
     decoder: &mut LogDecoder<Q>,
     pass: &mut FeedPass,
     piece: &[u8],
@@ -88,7 +88,7 @@ fn hear_piece<K: Keeper, Q: Receiver>(
 {
     let mut rest = piece;
     'rest: while !rest.is_empty() {
-        let took = take_line(keeper, decoder, pass, rest, full);
+        let took = take_line(recorder, decoder, pass, rest, full);
         match took.found {
             Some(line) => return Err(line),
             None => rest = rest.split_at(took.count).1,
@@ -100,13 +100,13 @@ fn hear_piece<K: Keeper, Q: Receiver>(
 // What takes the pieces of a log: its decoder, and the pass by which the entries are kept that are due.
 #[derive(Drop)]
 struct Listening<'a, K, Q: Drop> {
-    keeper: &'a K,
+    recorder: &'a K,
     decoder: &'a mut LogDecoder<Q>,
     pass: &'a mut FeedPass,
     full: bool,
 }
 
-impl<K: Keeper, Q: Receiver> PieceTaker<u64> for Listening<'_, K, Q> {
+impl<K: Recorder, Q: Receiver> PieceTaker<u64> for Listening<'_, K, Q> {
     ghost use Rattle.std.specs.Borrow.{GName};
     ghost use Rattle.std.specs.Prelude.{◌^◌, ℕ, None};
     ghost use Rattle.log_decoder.specs.Decoding.{IsReady, feed_of};
@@ -133,7 +133,13 @@ impl<K: Keeper, Q: Receiver> PieceTaker<u64> for Listening<'_, K, Q> {
     ghost room = { λ listening. 2 ^ 64 };
 
     fn take(&mut self, piece: &[u8]) -> Result<(), u64> {
-        hear_piece(self.keeper, self.decoder, self.pass, piece, &mut self.full)
+        hear_piece(
+            self.recorder,
+            self.decoder,
+            self.pass,
+            piece,
+            &mut self.full,
+        )
     }
 }
 
@@ -154,8 +160,8 @@ fn end_of<Q: Receiver>(read: Result<FileEnd, u64>, decoder: &LogDecoder<Q>) -> L
 }
 
 // Reads a log of at most this many bytes, to its end, a bad line or a fault, and keeps the entries that are due.
-pub fn read_log<L: Source, K: Keeper, Q: Receiver>(
-    keeper: &K,
+pub fn read_log<L: Source, K: Recorder, Q: Receiver>(
+    recorder: &K,
     decoder: &mut LogDecoder<Q>,
     log: &mut L,
     pass: &mut FeedPass,
@@ -173,7 +179,7 @@ pub fn read_log<L: Source, K: Keeper, Q: Receiver>(
         RunsLog plan delay (intake_of (L.state log.old) (L.state log.new) limit share) result.end }
 {
     let mut listening = Listening {
-        keeper,
+        recorder,
         decoder,
         pass,
         full: false,

@@ -11,7 +11,7 @@ use Rattle.feed_workers.proofs.leap.end_of.Goals as goal
 
 pub returns-in-Ok-Whole-clause-runs : goal.returns-in-Ok-Whole-clause-runs
 returns-in-Ok-Whole-clause-runs g c = λ begun was is any.
-    let intake = intake_of was is most_of_a_list (share_of begun c.args.pass.now g.K.Keeper.limit c.args.full.now) in
+    let intake = intake_of was is most_of_a_list (share_of begun c.args.pass.now g.K.Recorder.limit c.args.full.now) in
     let read : c.args.read ≡ Ok file.Whole = search rules in
     let p = subst (λ (r : Result FileEnd ℕ). EndsNoticing c.args.reader.now c.args.start intake r) read any in
     let ended = c.finish_list.ensures.ended begun p.0 p.2 in
@@ -24,7 +24,7 @@ returns-in-Ok-Whole-clause-runs g c = λ begun was is any.
 
 pub returns-in-Err-clause-runs : goal.returns-in-Err-clause-runs
 returns-in-Err-clause-runs g c = λ begun was is any.
-    let intake = intake_of was is most_of_a_list (share_of begun c.args.pass.now g.K.Keeper.limit c.args.full.now) in
+    let intake = intake_of was is most_of_a_list (share_of begun c.args.pass.now g.K.Recorder.limit c.args.full.now) in
     let read : c.args.read ≡ Err c.in-Err.line = search rules in
     let p = subst (λ (r : Result FileEnd ℕ). EndsNoticing c.args.reader.now c.args.start intake r) read any in
     record {

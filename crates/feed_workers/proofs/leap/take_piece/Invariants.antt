@@ -11,7 +11,7 @@ abbrev pub invariant-loop-place : goal.invariant-loop-place
 invariant-loop-place g l = record {
   start : l.start ≡ l.fn.start;
   piece : l.piece ≡ l.fn.piece;
-  pass : IsOfFeed g.K.Keeper.table g.K.Keeper.sources (claim_of l.fn.pass.view).number l.pass;
-  so_far : (begin : Claim) (bytes : List ℕ) → HasNoticed l.fn.reader l.fn.start (share_of begin l.fn.pass g.K.Keeper.limit l.fn.full) bytes →
-      HasNoticed l.reader l.fn.start (share_of begin l.pass g.K.Keeper.limit l.full) (bytes ++ take l.place l.fn.piece);
+  pass : IsOfFeed g.K.Recorder.table g.K.Recorder.sources (claim_of l.fn.pass.view).number l.pass;
+  so_far : (begin : Claim) (bytes : List ℕ) → HasNoticed l.fn.reader l.fn.start (share_of begin l.fn.pass g.K.Recorder.limit l.fn.full) bytes →
+      HasNoticed l.reader l.fn.start (share_of begin l.pass g.K.Recorder.limit l.full) (bytes ++ take l.place l.fn.piece);
 }

@@ -10,7 +10,7 @@ use Rattle.feed_workers.proofs.poller.hear_once.Goals as goal
 
 pub returns-then-accepted-clause-hears : goal.returns-then-accepted-clause-hears
 returns-then-accepted-clause-hears g c = λ server before begun events done same.
-    let session = session_at server before (g.L.Link.state c.args.link.now) (share_of begun c.args.pass.now g.K.Keeper.limit c.args.full.now) in
+    let session = session_at server before (g.L.Link.state c.args.link.now) (share_of begun c.args.pass.now g.K.Recorder.limit c.args.full.now) in
     let a = c.in-Ok-Datagram.arrival in
     let j = c.judge_datagram-judged in
     let h = hears_datagram session c.args.poll.now j.new.poll (g.L.Link.state c.hear.new.self) (claim_of c.keep.new.pass.view) c.keep.new.full j.result.accepted events
@@ -20,7 +20,7 @@ returns-then-accepted-clause-hears g c = λ server before begun events done same
 
 pub returns-else-accepted-clause-hears : goal.returns-else-accepted-clause-hears
 returns-else-accepted-clause-hears g c = λ server before begun events done same.
-    let session = session_at server before (g.L.Link.state c.args.link.now) (share_of begun c.args.pass.now g.K.Keeper.limit c.args.full.now) in
+    let session = session_at server before (g.L.Link.state c.args.link.now) (share_of begun c.args.pass.now g.K.Recorder.limit c.args.full.now) in
     let a = c.in-Ok-Datagram.arrival in
     let j = c.judge_datagram-judged in
     let h = hears_datagram session c.args.poll.now j.new.poll (g.L.Link.state c.hear.new.self) (claim_of c.keep.new.pass.view) c.keep.new.full j.result.accepted events
@@ -30,7 +30,7 @@ returns-else-accepted-clause-hears g c = λ server before begun events done same
 
 pub returns-in-Ok-Quiet-clause-hears : goal.returns-in-Ok-Quiet-clause-hears
 returns-in-Ok-Quiet-clause-hears g c = λ server before begun events done same.
-    let session = session_at server before (g.L.Link.state c.args.link.now) (share_of begun c.args.pass.now g.K.Keeper.limit c.args.full.now) in (
+    let session = session_at server before (g.L.Link.state c.args.link.now) (share_of begun c.args.pass.now g.K.Recorder.limit c.args.full.now) in (
       Silent,
       refl,
       refl,
@@ -40,5 +40,5 @@ returns-in-Ok-Quiet-clause-hears g c = λ server before begun events done same.
 
 pub returns-in-Ok-End-clause-hears : goal.returns-in-Ok-End-clause-hears
 returns-in-Ok-End-clause-hears g c = λ server before begun events done same.
-    let session = session_at server before (g.L.Link.state c.args.link.now) (share_of begun c.args.pass.now g.K.Keeper.limit c.args.full.now) in
+    let session = session_at server before (g.L.Link.state c.args.link.now) (share_of begun c.args.pass.now g.K.Recorder.limit c.args.full.now) in
     hears_end session c.args.poll.now _ events c.in-Ok-End.field-0 c.hear.new.piece done c.in-Ok-End.ensures.heard c.in-Ok-End.field-0-is c.in-Ok-End.ensures.cause.kept

@@ -13,9 +13,9 @@ use Rattle.feed_workers.proofs.poller.poll_once.Given as goal
 abbrev pub invariant-hearings : goal.invariant-hearings
 invariant-hearings g l = record {
   link : g.L.Link.opening l.link ≡ g.L.Link.opening l.fn.link;
-  pass : IsOfFeed g.K.Keeper.table g.K.Keeper.sources l.fn.peer.feed l.pass;
+  pass : IsOfFeed g.K.Recorder.table g.K.Recorder.sources l.fn.peer.feed l.pass;
   asked : ForSome (asked_at l.poll) (λ moment. moment ≤ (g.L.Link.state l.link).latest);
   so_far : (before : LinkState) (begun : Claim) (count : ℕ) →
-      Polled l.fn.poll (session_at l.fn.peer.server before (g.L.Link.state l.fn.link) (share_of begun l.fn.pass g.K.Keeper.limit l.fn.full)) count → begun.number ≡ l.fn.peer.feed →
-      InRound l.poll (session_at l.fn.peer.server before (g.L.Link.state l.link) (share_of begun l.pass g.K.Keeper.limit l.full)) count l.counter;
+      Polled l.fn.poll (session_at l.fn.peer.server before (g.L.Link.state l.fn.link) (share_of begun l.fn.pass g.K.Recorder.limit l.fn.full)) count → begun.number ≡ l.fn.peer.feed →
+      InRound l.poll (session_at l.fn.peer.server before (g.L.Link.state l.link) (share_of begun l.pass g.K.Recorder.limit l.full)) count l.counter;
 }

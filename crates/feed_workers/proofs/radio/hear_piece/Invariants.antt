@@ -11,10 +11,10 @@ abbrev pub invariant-rest : goal.invariant-rest
 invariant-rest g l = record {
   ready : IsReady g.Q.Receiver.least_start l.decoder;
   feed : feed_of l.decoder ≡ feed_of l.fn.decoder;
-  pass : IsOfFeed g.K.Keeper.table g.K.Keeper.sources (feed_of l.fn.decoder) l.pass;
+  pass : IsOfFeed g.K.Recorder.table g.K.Recorder.sources (feed_of l.fn.decoder) l.pass;
   so_far : (tuning : Tuning) (begun : Claim) (bytes : List ℕ) →
-      HasHeard g.Q.Receiver.stands_for l.fn.decoder tuning (share_of begun l.fn.pass g.K.Keeper.limit l.fn.full) bytes None →
-      HasHeardUpTo g.Q.Receiver.stands_for l.decoder tuning (share_of begun l.pass g.K.Keeper.limit l.full) (bytes ++ l.fn.piece) l.rest;
+      HasHeard g.Q.Receiver.stands_for l.fn.decoder tuning (share_of begun l.fn.pass g.K.Recorder.limit l.fn.full) bytes None →
+      HasHeardUpTo g.Q.Receiver.stands_for l.decoder tuning (share_of begun l.pass g.K.Recorder.limit l.full) (bytes ++ l.fn.piece) l.rest;
 }
 
 abbrev pub decreases-rest : goal.decreases-rest

@@ -13,7 +13,7 @@ returns-clause-runs g c = λ plan delay h.
     let read = c.read_pieces-read in
     let since : Since = record { tuning = record { plan = plan; delay = delay }; begun = claim_of c.args.pass.now.view } in
     let intake = intake_of (g.L.Source.state c.args.log.now) (g.L.Source.state read.new.file) c.args.limit in
-    let heard = read.ensures.ends since (heard_none _ c.args.decoder.now since.tuning since.begun g.K.Keeper.limit h) in
-    let runs = c.end_of-end.ensures since.tuning (intake (share_of since.begun read.new.taker.pass.now g.K.Keeper.limit read.new.taker.full)) heard in
-    subst (λ (claim : Claim). RunsLog plan delay (intake (record { begun = since.begun; claim = claim; limit = g.K.Keeper.limit; full = read.new.taker.full })) c.end_of-end.result)
+    let heard = read.ensures.ends since (heard_none _ c.args.decoder.now since.tuning since.begun g.K.Recorder.limit h) in
+    let runs = c.end_of-end.ensures since.tuning (intake (share_of since.begun read.new.taker.pass.now g.K.Recorder.limit read.new.taker.full)) heard in
+    subst (λ (claim : Claim). RunsLog plan delay (intake (record { begun = since.begun; claim = claim; limit = g.K.Recorder.limit; full = read.new.taker.full })) c.end_of-end.result)
     (search rules) runs
