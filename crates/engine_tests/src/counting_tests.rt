@@ -1,11 +1,9 @@
 //! Swaps with receivers that count what they receive: what is written is the same, whichever receivers stand in the rack.
-ghost use Rattle.std.specs.Prelude.{◌≡◌, false};
+ghost use Rattle.std.specs.Prelude.{◌≡◌, IfOk, false};
 ghost use Rattle.feed_link.specs.MemoryOutside.{is_gate_out};
 
-use crate::pieces::Piece;
-use crate::rows::{same_status, same_text};
-use crate::runs::{OF_A_PLAN, ROW, Row, outside_of, run};
-use crate::test_station::RADIO;
+use crate::runs::{OF_A_PLAN, outside_of, run_over, same};
+use crate::test_station::{file, minutes, one};
 use feed_link::{FakeOpen, Gate, MemoryOutside, MemorySink, OpenGate};
 use radio_engine::{Status, run_station};
 use radio_receiver::{CountingReceiver, DcfReceiver, MsfReceiver, WwvbReceiver};
@@ -16,6 +14,8 @@ use std::sync::Wait;
 use std::test::Fail;
 use std::thread::Threads;
 use tick_units::Plan;
+
+const REPLAY: [&str; 5] = ["replay", "--station", "s", "--script", "p"];
 
 // Runs the words with four receivers of each plan, each of which counts what it receives.
 fn run_counting<R: Threads + Wait + Sync, G: Gate + Drop>(
@@ -40,36 +40,38 @@ fn run_counting<R: Threads + Wait + Sync, G: Gate + Drop>(
 }
 
 // A station with a radio of DCF77, and the script of three minutes in which it is swapped after the pulse at 90 s.
-const SWAPPED: Row<'static> = Row {
-    words: &["replay", "--station", "s", "--script", "p"],
-    station: &[RADIO],
-    name: "p",
-    text: &[
-        Piece::Pulses(0, 90_000_000),
-        Piece::Text("swap 0\n"),
-        Piece::Pulses(90_000_000, 182_000_000),
-    ],
-    ..ROW
-};
+fn swapped(alloc: Global) -> Result<MemoryOutside<OpenGate>, FakeOpen>
+    ensures { IfOk result (λ outside. is_gate_out outside ≡ false) }
+{
+    let mut script = String::new(alloc);
+    for line in minutes(alloc, 3)?.as_str().split_inclusive('\n') {
+        script.push_str("pulse 0 ")?;
+        script.push_str(line)?;
+        if line.starts_with("90000000 ") {
+            script.push_str("swap 0\n")?;
+        }
+    }
+    let radio = "[[radio]]\nplan = \"dcf\"\nlog = \"a\"\n";
+    let mut files = one(alloc, file(alloc, "s", radio, 0)?)?;
+    files.push(file(alloc, "p", script.as_str(), 0)?)?;
+    outside_of(alloc, files, 0)
+}
 
 const WHOLE: &str = "j2 1 0 0 62000000 lone 3976257600\nj2 2 0 0 182000000 lone 3976257720\n\
 page 2 0 0 494e4954 0 182000000 0 0 1048576 0000000000000000 0 0\nstatus 0\n";
 
-// What is written with receivers that count.
-fn counted<R: Threads + Wait + Sync>(rt: &R, alloc: Global) -> Result<(Vec<u8>, Status), FakeOpen> {
-    let mut outside = outside_of(alloc, &SWAPPED, OpenGate::new())?;
-    let mut out = MemorySink::new(alloc, Vec::new(alloc));
-    let status = run_counting(rt, alloc, SWAPPED.words, &mut outside, &mut out)?;
-    Ok((out.into_bytes(), status))
-}
-
 #[test]
 fn a_swap_gives_the_same_with_receivers_that_count(rt: HostRuntime) -> Result<(), Fail> {
-    let ran = run(&rt, rt.alloc(), &SWAPPED)?;
-    same_text(&rt, 0, ran.written.as_slice(), WHOLE);
-    same_status(&rt, 0, ran.status, Status::Done);
-    let (written, status) = counted(&rt, rt.alloc())?;
-    same_text(&rt, 1, written.as_slice(), WHOLE);
-    same_status(&rt, 1, status, Status::Done);
+    let alloc = rt.alloc();
+    let mut outside = swapped(alloc)?;
+    let mut out = MemorySink::new(alloc, Vec::new(alloc));
+    let status = run_over(&rt, alloc, &REPLAY, &mut outside, &mut out)?;
+    same(&rt, out.into_bytes().as_slice(), WHOLE.as_bytes());
+    same(&rt, status, Status::Done);
+    let mut outside = swapped(alloc)?;
+    let mut out = MemorySink::new(alloc, Vec::new(alloc));
+    let status = run_counting(&rt, alloc, &REPLAY, &mut outside, &mut out)?;
+    same(&rt, out.into_bytes().as_slice(), WHOLE.as_bytes());
+    same(&rt, status, Status::Done);
     Ok(())
 }

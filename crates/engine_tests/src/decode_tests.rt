@@ -1,542 +1,548 @@
 //! Tests of `decode`, and of words that are refused.
-
-use crate::frames::{
-    BEFORE_LEAP, LEAP, MSF_2000, MSF_NOON, NOON, NOON_1, NOON_2, NOON_3, SUMMER, SUMMER_1, WINTER,
-    WWVB_2016, WWVB_2024,
-};
-use crate::pieces::{Frame, Piece};
-use crate::rows::{Told, Want, are_met, are_told, are_usage, same_count};
-use crate::runs::{ROW, Row};
+use crate::runs::{outside_of, same, written_over};
+use feed_link::{MemorySource, NamedLog};
 use radio_engine::Status;
+use std::alloc::{AllocError, Global};
 use std::process::Abort;
+use std::sync::Wait;
 use std::test::Fail;
+use std::thread::Threads;
 
 const WORDS: [&str; 5] = ["decode", "--plan", "dcf", "--log", "log"];
 
-// The mark before the first frame, and the marks that close the first, the second and the third.
-const MARK: Piece<'static> = Piece::Text("0 100000\n");
+const MSF: [&str; 5] = ["decode", "--plan", "msf", "--log", "log"];
 
-const CLOSING_1: Piece<'static> = Piece::Text("62000000 100000\n");
+const WWVB: [&str; 5] = ["decode", "--plan", "wwvb", "--log", "log"];
 
-const CLOSING_2: Piece<'static> = Piece::Text("122000000 100000\n");
+// The places that are One in frames of DCF77, computed from the calendar by PTB's table: 1 January 2026, 13:00 to 13:03;
+// 29 March 2026, 01:59 in winter and 03:00 and 03:01 in summer; 1 January 2017, 00:59 and 01:00 with a leap second
+// announced.
+const NOON: [usize; 12] = [18, 20, 29, 30, 33, 35, 36, 44, 45, 51, 52, 55];
 
-const CLOSING_3: Piece<'static> = Piece::Text("182000000 100000\n");
+const NOON_1: [usize; 14] = [18, 20, 21, 28, 29, 30, 33, 35, 36, 44, 45, 51, 52, 55];
 
-pub const LONE: &str = "0 62000000 lone 3976257600\n";
+const NOON_2: [usize; 14] = [18, 20, 22, 28, 29, 30, 33, 35, 36, 44, 45, 51, 52, 55];
 
-pub const VERDICT: &str = "0 122000000 verdict 3976257660 0\n";
+const NOON_3: [usize; 14] = [18, 20, 21, 22, 29, 30, 33, 35, 36, 44, 45, 51, 52, 55];
 
-pub const DONE: &str = "status 0\n";
-
-// An empty log.
-pub const DECODED: Row<'static> = Row {
-    words: &WORDS,
-    name: "log",
-    ..ROW
-};
-
-// The log of two frames, the second of which starts where the first has ended.
-pub const TWO_FRAMES: [Piece<'static>; 4] = [
-    MARK,
-    Piece::Marks(NOON),
-    Piece::Marks(NOON_1),
-    CLOSING_2,
+const WINTER: [usize; 20] = [
+    18, 20, 21, 24, 25, 27, 29, 35, 36, 39, 41, 42, 43, 44, 45, 46, 51, 52, 55, 58,
 ];
 
-// The first frame but for its place 0, with these marks before the rest.
-const REST: Piece<'static> = Piece::Marks(Frame { from: 1, ..NOON });
+const SUMMER: [usize; 16] = [
+    17, 20, 29, 30, 36, 39, 41, 42, 43, 44, 45, 46, 51, 52, 55, 58,
+];
 
-const MSF: Row<'static> = Row {
-    words: &["decode", "--plan", "msf", "--log", "log"],
-    ..DECODED
-};
+const SUMMER_1: [usize; 18] = [
+    17, 20, 21, 28, 29, 30, 36, 39, 41, 42, 43, 44, 45, 46, 51, 52, 55, 58,
+];
 
-// The first two seconds, and the others. In the second one bit B alone is 1, so it has another part.
-const MSF_BEGIN: Piece<'static> = Piece::Marks(Frame { to: 2, ..MSF_NOON });
+const BEFORE_LEAP: [usize; 17] = [
+    18, 19, 20, 21, 24, 25, 27, 36, 42, 43, 44, 45, 50, 51, 52, 54, 58,
+];
 
-const MSF_REST: Piece<'static> = Piece::Marks(Frame {
-    from: 2,
-    ..MSF_NOON
-});
+const LEAP: [usize; 15] = [18, 19, 20, 29, 35, 36, 42, 43, 44, 45, 50, 51, 52, 54, 58];
 
-// A closing mark, and a mark that gives that one.
-const MSF_CLOSING: Piece<'static> = Piece::Text("62000000 500000\n");
+pub(crate) const TWO_FRAMES: &str =
+    "0 62000000 lone 3976257600\n0 122000000 verdict 3976257660 0\nstatus 0\n";
 
-const MSF_LAST: Piece<'static> = Piece::Text("63000000 100000\n");
+// A frame in a log: its places that are One, the start of its first mark, how far its marks are apart, and how many it has.
+#[derive(Clone, Copy)]
+struct Frame<'a> {
+    ones: &'a [usize],
+    start: u64,
+    spacing: u64,
+    marks: usize,
+}
 
-const WWVB: Row<'static> = Row {
-    words: &["decode", "--plan", "wwvb", "--log", "log"],
-    ..DECODED
-};
+fn frame_at(ones: &[usize], start: u64) -> Frame<'_> {
+    Frame {
+        ones,
+        start,
+        spacing: 1_000_000,
+        marks: 59,
+    }
+}
 
-// The markers before a frame and after it.
-const WWVB_MARK: Piece<'static> = Piece::Text("1000000 800000\n");
+// Another width for the mark at a start; with the width 0 the mark is left out.
+#[derive(Clone, Copy)]
+struct Change {
+    at: u64,
+    width: u64,
+}
 
-const WWVB_CLOSING: Piece<'static> = Piece::Text("62000000 800000\n");
+// The lines of a log: a first mark at 0, the frames, and a closing mark.
+fn log_of(
+    alloc: Global,
+    frames: &[Frame<'_>],
+    changes: &[Change],
+    close: u64,
+) -> Result<String, AllocError> {
+    let mut text = String::from_str(alloc, "0 100000\n")?;
+    for frame in frames {
+        for place in 0..frame.marks {
+            let at = frame
+                .start
+                .saturating_add(frame.spacing.saturating_mul(place as u64));
+            let width = width_at(
+                at,
+                if frame.ones.contains(&place) {
+                    200_000
+                } else {
+                    100_000
+                },
+                changes,
+            );
+            if width != 0 {
+                writeln!(text, "{at} {width}")?;
+            }
+        }
+    }
+    writeln!(text, "{close} 100000")?;
+    Ok(text)
+}
 
-const TWO_FRAMES_IN_A_ROW_ARE_A_VERDICT: [Row<'static>; 1] = [Row {
-    text: &TWO_FRAMES,
-    want: &[Want::Is(&[LONE, VERDICT, DONE])],
-    ..DECODED
-}];
+fn width_at(at: u64, width: u64, changes: &[Change]) -> u64 {
+    for change in changes {
+        if change.at == at {
+            return change.width;
+        }
+    }
+    width
+}
+
+pub(crate) fn two_frames(alloc: Global) -> Result<String, AllocError> {
+    log_of(
+        alloc,
+        &[frame_at(&NOON, 2_000_000), frame_at(&NOON_1, 62_000_000)],
+        &[],
+        122_000_000,
+    )
+}
+
+// The calls that fail: readings of the log, and openings, each counted from 1, or 0 for none.
+#[derive(Clone, Copy)]
+struct Failing {
+    read: u64,
+    open: u64,
+}
+
+const NONE: Failing = Failing { read: 0, open: 0 };
+
+// What the words write over a log of this text under the name "log", and their status.
+fn run<R: Threads + Wait + Sync>(
+    rt: &R,
+    alloc: Global,
+    words: &[&str],
+    text: &str,
+    failing: Failing,
+) -> Result<(Vec<u8>, Status), Fail> {
+    let source = MemorySource::new(
+        Vec::from_slice(alloc, text.as_bytes())?,
+        vec![in alloc; failing.read]?,
+    );
+    let mut logs = Vec::new(alloc);
+    logs.push(NamedLog::new(String::from_str(alloc, "log")?, source))?;
+    let mut outside = outside_of(alloc, logs, failing.open)?;
+    Ok(written_over(rt, alloc, words, &mut outside, 0)?)
+}
+
+// What a log of these frames writes is this text.
+fn decodes(
+    rt: &(impl Abort + Threads + Wait + Sync),
+    alloc: Global,
+    frames: &[Frame<'_>],
+    changes: &[Change],
+    close: u64,
+    want: &str,
+) -> Result<(), Fail> {
+    let text = log_of(alloc, frames, changes, close)?;
+    let (written, status) = run(rt, alloc, &WORDS, text.as_str(), NONE)?;
+    same(&rt, written.as_slice(), want.as_bytes());
+    same(&rt, status, Status::Done);
+    Ok(())
+}
 
 #[test]
 fn two_frames_in_a_row_are_a_verdict(rt: HostRuntime) -> Result<(), Fail> {
-    are_met(&rt, rt.alloc(), &TWO_FRAMES_IN_A_ROW_ARE_A_VERDICT)
+    let frames = [frame_at(&NOON, 2_000_000), frame_at(&NOON_1, 62_000_000)];
+    decodes(&rt, rt.alloc(), &frames, &[], 122_000_000, TWO_FRAMES)
 }
-
-const THE_CHANGE_TO_SUMMER_TIME_IS_A_MINUTE: [Row<'static>; 1] = [Row {
-    text: &[
-        MARK,
-        Piece::Marks(WINTER),
-        Piece::Marks(SUMMER),
-        Piece::Marks(SUMMER_1),
-        CLOSING_3,
-    ],
-    want: &[Want::Is(&[
-        "0 62000000 lone 3983734740\n",
-        "0 122000000 verdict 3983734800 0\n",
-        "0 182000000 verdict 3983734860 0\n",
-        DONE,
-    ])],
-    ..DECODED
-}];
-
-#[test]
-fn the_change_to_summer_time_is_a_minute(rt: HostRuntime) -> Result<(), Fail> {
-    are_met(&rt, rt.alloc(), &THE_CHANGE_TO_SUMMER_TIME_IS_A_MINUTE)
-}
-
-const A_MINUTE_MAY_END_WITH_A_LEAP_SECOND: [Row<'static>; 2] = [
-    Row {
-        text: &[
-            MARK,
-            Piece::Marks(BEFORE_LEAP),
-            Piece::Marks(Frame { to: 60, ..LEAP }),
-            Piece::Text("123000000 100000\n"),
-        ],
-        want: &[Want::Is(&[
-            "0 62000000 lone 3692217540\n",
-            "0 123000000 verdict 3692217600 3692217600\n",
-            DONE,
-        ])],
-        ..DECODED
-    },
-    Row {
-        text: &[
-            MARK,
-            Piece::Marks(BEFORE_LEAP),
-            Piece::Marks(LEAP),
-            CLOSING_2,
-        ],
-        want: &[Want::Is(&[
-            "0 62000000 lone 3692217540\n",
-            "0 122000000 refused 24\n",
-            DONE,
-        ])],
-        ..DECODED
-    },
-];
-
-#[test]
-fn a_minute_may_end_with_a_leap_second(rt: HostRuntime) -> Result<(), Fail> {
-    are_met(&rt, rt.alloc(), &A_MINUTE_MAY_END_WITH_A_LEAP_SECOND)
-}
-
-const A_LOST_MARK_COSTS_ITS_MINUTE: [Row<'static>; 1] = [
-    // The mark of place 30 of the second frame is lost.
-    Row {
-        text: &[
-            MARK,
-            Piece::Marks(NOON),
-            Piece::Marks(Frame { to: 30, ..NOON_1 }),
-            Piece::Marks(Frame { from: 31, ..NOON_1 }),
-            Piece::Marks(NOON_2),
-            Piece::Marks(NOON_3),
-            Piece::Text("242000000 100000\n"),
-        ],
-        want: &[Want::Is(&[
-            LONE,
-            "0 93000000 refused 3\n",
-            "0 122000000 refused 3\n",
-            "0 182000000 lone 3976257720\n",
-            "0 242000000 verdict 3976257780 0\n",
-            DONE,
-        ])],
-        ..DECODED
-    },
-];
-
-#[test]
-fn a_lost_mark_costs_its_minute(rt: HostRuntime) -> Result<(), Fail> {
-    are_met(&rt, rt.alloc(), &A_LOST_MARK_COSTS_ITS_MINUTE)
-}
-
-const TWO_VALID_FRAMES_MAY_DIFFER: [Row<'static>; 1] = [Row {
-    text: &[
-        MARK,
-        Piece::Marks(NOON),
-        Piece::Marks(Frame {
-            start: 62_000_000,
-            ..NOON_2
-        }),
-        CLOSING_2,
-    ],
-    want: &[Want::Is(&[
-        LONE,
-        "0 122000000 differs 3976257600 3976257720 60000000\n",
-        DONE,
-    ])],
-    ..DECODED
-}];
-
-#[test]
-fn two_valid_frames_may_differ(rt: HostRuntime) -> Result<(), Fail> {
-    are_met(&rt, rt.alloc(), &TWO_VALID_FRAMES_MAY_DIFFER)
-}
-
-const CLOSINGS_THAT_ARE_NO_MINUTE_APART_DIFFER: [Row<'static>; 1] = [
-    // The second frame lasts 116 ms too long by the host's counter.
-    Row {
-        text: &[
-            MARK,
-            Piece::Marks(NOON),
-            Piece::Marks(Frame {
-                spacing: 1_002_000,
-                ..NOON_1
-            }),
-            Piece::Text("122116000 100000\n"),
-        ],
-        want: &[Want::Is(&[
-            LONE,
-            "0 122116000 differs 3976257600 3976257660 60116000\n",
-            DONE,
-        ])],
-        ..DECODED
-    },
-];
-
-#[test]
-fn closings_that_are_no_minute_apart_differ(rt: HostRuntime) -> Result<(), Fail> {
-    are_met(&rt, rt.alloc(), &CLOSINGS_THAT_ARE_NO_MINUTE_APART_DIFFER)
-}
-
-const THE_LEAST_BROKEN_RULE_IS_NAMED: [Row<'static>; 2] = [
-    // The weekday is 0.
-    Row {
-        text: &[
-            MARK,
-            Piece::Marks(Frame { to: 44, ..NOON }),
-            Piece::Text("46000000 100000\n"),
-            Piece::Marks(Frame { from: 45, ..NOON }),
-            CLOSING_1,
-        ],
-        want: &[Want::Is(&["0 62000000 refused 15\n", DONE])],
-        ..DECODED
-    },
-    // And the parity of the date agrees with that.
-    Row {
-        text: &[
-            MARK,
-            Piece::Marks(Frame { to: 44, ..NOON }),
-            Piece::Text("46000000 100000\n"),
-            Piece::Marks(Frame {
-                from: 45,
-                to: 58,
-                ..NOON
-            }),
-            Piece::Text("60000000 200000\n"),
-            CLOSING_1,
-        ],
-        want: &[Want::Is(&["0 62000000 refused 19\n", DONE])],
-        ..DECODED
-    },
-];
 
 #[test]
 fn the_least_broken_rule_is_named(rt: HostRuntime) -> Result<(), Fail> {
-    are_met(&rt, rt.alloc(), &THE_LEAST_BROKEN_RULE_IS_NAMED)
+    let frames = [frame_at(&NOON, 2_000_000)];
+    let weekday = Change {
+        at: 46_000_000,
+        width: 100_000,
+    };
+    let parity = Change {
+        at: 60_000_000,
+        width: 200_000,
+    };
+    decodes(
+        &rt,
+        rt.alloc(),
+        &frames,
+        &[weekday],
+        62_000_000,
+        "0 62000000 refused 15\nstatus 0\n",
+    )?;
+    decodes(
+        &rt,
+        rt.alloc(),
+        &frames,
+        &[weekday, parity],
+        62_000_000,
+        "0 62000000 refused 19\nstatus 0\n",
+    )
 }
 
-const THE_WIDTH_OF_THE_START_BIT_DECIDES: [Row<'static>; 3] = [
-    Row {
-        text: &[MARK, Piece::Text("2000000 149999\n"), REST, CLOSING_1],
-        want: &[Want::Is(&[LONE, DONE])],
-        ..DECODED
-    },
-    Row {
-        text: &[MARK, Piece::Text("2000000 150000\n"), REST, CLOSING_1],
-        want: &[Want::Is(&["0 62000000 refused 10\n", DONE])],
-        ..DECODED
-    },
-    Row {
-        text: &[MARK, Piece::Text("2000000 39999\n"), REST, CLOSING_1],
-        want: &[Want::Is(&["0 62000000 refused 2\n", DONE])],
-        ..DECODED
-    },
-];
+#[test]
+fn the_change_to_summer_time_is_a_minute(rt: HostRuntime) -> Result<(), Fail> {
+    let frames = [
+        frame_at(&WINTER, 2_000_000),
+        frame_at(&SUMMER, 62_000_000),
+        frame_at(&SUMMER_1, 122_000_000),
+    ];
+    let want =
+        "0 62000000 lone 3983734740\n0 122000000 verdict 3983734800 0\n0 182000000 verdict 3983734860 0\nstatus 0\n";
+    decodes(&rt, rt.alloc(), &frames, &[], 182_000_000, want)
+}
+
+#[test]
+fn a_minute_may_end_with_a_leap_second(rt: HostRuntime) -> Result<(), Fail> {
+    let leap = Frame {
+        marks: 60,
+        ..frame_at(&LEAP, 62_000_000)
+    };
+    let want = "0 62000000 lone 3692217540\n0 123000000 verdict 3692217600 3692217600\nstatus 0\n";
+    decodes(
+        &rt,
+        rt.alloc(),
+        &[frame_at(&BEFORE_LEAP, 2_000_000), leap],
+        &[],
+        123_000_000,
+        want,
+    )?;
+    let without = [
+        frame_at(&BEFORE_LEAP, 2_000_000),
+        frame_at(&LEAP, 62_000_000),
+    ];
+    let want = "0 62000000 lone 3692217540\n0 122000000 refused 24\nstatus 0\n";
+    decodes(&rt, rt.alloc(), &without, &[], 122_000_000, want)
+}
 
 #[test]
 fn the_width_of_the_start_bit_decides(rt: HostRuntime) -> Result<(), Fail> {
-    are_met(&rt, rt.alloc(), &THE_WIDTH_OF_THE_START_BIT_DECIDES)
+    let table = [
+        (149_999, "0 62000000 lone 3976257600\nstatus 0\n"),
+        (150_000, "0 62000000 refused 10\nstatus 0\n"),
+        (39_999, "0 62000000 refused 2\nstatus 0\n"),
+    ];
+    for (width, want) in table {
+        let change = Change {
+            at: 2_000_000,
+            width,
+        };
+        decodes(
+            &rt,
+            rt.alloc(),
+            &[frame_at(&NOON, 2_000_000)],
+            &[change],
+            62_000_000,
+            want,
+        )?;
+    }
+    Ok(())
 }
 
-const MSF_MINUTES_ARE_READ: [Row<'static>; 4] = [
-    Row {
-        text: &[
-            MSF_BEGIN,
-            Piece::Text("3200000 100000\n"),
-            MSF_REST,
-            MSF_CLOSING,
-            MSF_LAST,
-        ],
-        want: &[Want::Is(&[LONE, DONE])],
-        ..MSF
-    },
-    Row {
-        text: &[
-            MSF_BEGIN,
-            Piece::Text("3251000 100000\n"),
-            MSF_REST,
-            MSF_CLOSING,
-            MSF_LAST,
-        ],
-        want: &[Want::Is(&["0 62000000 refused 1\n", DONE])],
-        ..MSF
-    },
-    Row {
-        text: &[
-            MSF_BEGIN,
-            Piece::Text("3200000 100000\n"),
-            MSF_REST,
-            MSF_CLOSING,
-        ],
-        want: &[Want::Is(&[DONE])],
-        ..MSF
-    },
-    Row {
-        text: &[Piece::Marks(MSF_2000), MSF_CLOSING, MSF_LAST],
-        want: &[Want::Is(&["0 62000000 lone 3155760000\n", DONE])],
-        ..MSF
-    },
-];
+#[test]
+fn a_lost_mark_costs_its_minute(rt: HostRuntime) -> Result<(), Fail> {
+    let frames = [
+        frame_at(&NOON, 2_000_000),
+        frame_at(&NOON_1, 62_000_000),
+        frame_at(&NOON_2, 122_000_000),
+        frame_at(&NOON_3, 182_000_000),
+    ];
+    let lost = Change {
+        at: 92_000_000,
+        width: 0,
+    };
+    let want =
+        "0 62000000 lone 3976257600\n0 93000000 refused 3\n0 122000000 refused 3\n0 182000000 lone 3976257720\n0 242000000 verdict 3976257780 0\nstatus 0\n";
+    decodes(&rt, rt.alloc(), &frames, &[lost], 242_000_000, want)
+}
+
+#[test]
+fn two_valid_frames_may_differ(rt: HostRuntime) -> Result<(), Fail> {
+    let frames = [frame_at(&NOON, 2_000_000), frame_at(&NOON_2, 62_000_000)];
+    let want =
+        "0 62000000 lone 3976257600\n0 122000000 differs 3976257600 3976257720 60000000\nstatus 0\n";
+    decodes(&rt, rt.alloc(), &frames, &[], 122_000_000, want)
+}
+
+// The second frame lasts 116 ms too long by the host's counter.
+#[test]
+fn closings_that_are_no_minute_apart_differ(rt: HostRuntime) -> Result<(), Fail> {
+    let slow = Frame {
+        spacing: 1_002_000,
+        ..frame_at(&NOON_1, 62_000_000)
+    };
+    let want =
+        "0 62000000 lone 3976257600\n0 122116000 differs 3976257600 3976257660 60116000\nstatus 0\n";
+    decodes(
+        &rt,
+        rt.alloc(),
+        &[frame_at(&NOON, 2_000_000), slow],
+        &[],
+        122_116_000,
+        want,
+    )
+}
+
+// The lines of an MSF frame that starts at 2 s: the places at which bit A and bit B are 1, and how far apart the two parts
+// of a second start in which bit B alone is. A closing mark stands after it, and a mark that gives that one.
+fn msf_log(
+    alloc: Global,
+    a: &[usize],
+    b: &[usize],
+    apart: u64,
+    last: bool,
+) -> Result<String, AllocError> {
+    let mut text = String::from_str(alloc, "2000000 500000\n")?;
+    for place in 1..60usize {
+        let at = 2_000_000u64.saturating_add(1_000_000u64.saturating_mul(place as u64));
+        match (a.contains(&place), b.contains(&place)) {
+            (false, false) => writeln!(text, "{at} 100000")?,
+            (true, false) => writeln!(text, "{at} 200000")?,
+            (true, true) => writeln!(text, "{at} 300000")?,
+            (false, true) => {
+                let second = at.saturating_add(apart);
+                writeln!(text, "{at} 100000")?;
+                writeln!(text, "{second} 100000")?;
+            }
+        }
+    }
+    text.push_str("62000000 500000\n")?;
+    if last {
+        text.push_str("63000000 100000\n")?;
+    }
+    Ok(text)
+}
+
+// What an MSF log writes is this text.
+fn decodes_msf(
+    rt: &(impl Abort + Threads + Wait + Sync),
+    alloc: Global,
+    text: &str,
+    want: &str,
+) -> Result<(), Fail> {
+    let (written, status) = run(rt, alloc, &MSF, text, NONE)?;
+    same(&rt, written.as_slice(), want.as_bytes());
+    same(&rt, status, Status::Done);
+    Ok(())
+}
+
+// The places at which the bits of MSF are 1, computed from the calendar by NPL's table: 1 January 2026, 12:00, and
+// 2 January 2000, 00:00.
+const MSF_NOON_A: [usize; 14] = [19, 22, 23, 29, 35, 36, 40, 43, 53, 54, 55, 56, 57, 58];
+
+const MSF_2000_A: [usize; 8] = [29, 34, 53, 54, 55, 56, 57, 58];
 
 #[test]
 fn msf_minutes_are_read(rt: HostRuntime) -> Result<(), Fail> {
-    are_met(&rt, rt.alloc(), &MSF_MINUTES_ARE_READ)
+    let alloc = rt.alloc();
+    let noon = "0 62000000 lone 3976257600\nstatus 0\n";
+    let text = msf_log(alloc, &MSF_NOON_A, &[1, 55, 57], 200_000, true)?;
+    decodes_msf(&rt, alloc, text.as_str(), noon)?;
+    let text = msf_log(alloc, &MSF_NOON_A, &[1, 55, 57], 251_000, true)?;
+    decodes_msf(
+        &rt,
+        alloc,
+        text.as_str(),
+        "0 62000000 refused 1\nstatus 0\n",
+    )?;
+    let text = msf_log(alloc, &MSF_NOON_A, &[1, 55, 57], 200_000, false)?;
+    decodes_msf(&rt, alloc, text.as_str(), "status 0\n")?;
+    let text = msf_log(alloc, &MSF_2000_A, &[54, 55, 56, 57], 200_000, true)?;
+    decodes_msf(
+        &rt,
+        alloc,
+        text.as_str(),
+        "0 62000000 lone 3155760000\nstatus 0\n",
+    )
 }
 
-const WWVB_MINUTES_ARE_READ: [Row<'static>; 3] = [
-    Row {
-        text: &[WWVB_MARK, Piece::Marks(WWVB_2024), WWVB_CLOSING],
-        want: &[Want::Is(&["0 62000000 lone 3944592060\n", DONE])],
-        ..WWVB
-    },
-    // Place 53 is One: a common year, in which that day's number is none.
-    Row {
-        text: &[
-            WWVB_MARK,
-            Piece::Marks(Frame {
-                to: 53,
-                ..WWVB_2024
-            }),
-            Piece::Text("55000000 500000\n"),
-            Piece::Marks(Frame {
-                from: 54,
-                ..WWVB_2024
-            }),
-            WWVB_CLOSING,
-        ],
-        want: &[Want::Is(&["0 62000000 refused 56\n", DONE])],
-        ..WWVB
-    },
-    // Place 56 is One: a leap second.
-    Row {
-        text: &[
-            WWVB_MARK,
-            Piece::Marks(Frame {
-                to: 56,
-                ..WWVB_2016
-            }),
-            Piece::Text("58000000 500000\n"),
-            Piece::Marks(Frame {
-                from: 57,
-                ..WWVB_2016
-            }),
-            WWVB_CLOSING,
-        ],
-        want: &[Want::Is(&["0 62000000 refused 58\n", DONE])],
-        ..WWVB
-    },
+// The places that are One in frames of WWVB, computed from the calendar by NIST's table: 31 December 2024, 00:00, and
+// 31 December 2016, 23:59.
+const WWVB_2024: [usize; 10] = [22, 23, 26, 27, 31, 32, 36, 38, 47, 51];
+
+const WWVB_2016: [usize; 18] = [
+    1, 3, 5, 8, 12, 17, 18, 22, 23, 26, 27, 31, 32, 36, 38, 48, 51, 52,
 ];
+
+// A frame of WWVB that starts at 2 s, with a marker before it and one after it. One more place is One.
+fn wwvb_log(alloc: Global, ones: &[usize], more: usize) -> Result<String, AllocError> {
+    let mut text = String::from_str(alloc, "1000000 800000\n")?;
+    for place in 0..60usize {
+        let at = 2_000_000u64.saturating_add(1_000_000u64.saturating_mul(place as u64));
+        if [0, 9, 19, 29, 39, 49, 59].contains(&place) {
+            writeln!(text, "{at} 800000")?;
+        } else if ones.contains(&place) || place == more {
+            writeln!(text, "{at} 500000")?;
+        } else {
+            writeln!(text, "{at} 200000")?;
+        }
+    }
+    text.push_str("62000000 800000\n")?;
+    Ok(text)
+}
 
 #[test]
 fn wwvb_minutes_are_read(rt: HostRuntime) -> Result<(), Fail> {
-    are_met(&rt, rt.alloc(), &WWVB_MINUTES_ARE_READ)
+    let lone = "0 62000000 lone 3944592060\nstatus 0\n";
+    let common_year = "0 62000000 refused 56\nstatus 0\n";
+    let leap_minute = "0 62000000 refused 58\nstatus 0\n";
+    let table: [(&[usize], usize, &str); 3] = [
+        (&WWVB_2024, 60, lone),
+        (&WWVB_2024, 53, common_year),
+        (&WWVB_2016, 56, leap_minute),
+    ];
+    for (ones, more, want) in table {
+        let text = wwvb_log(rt.alloc(), ones, more)?;
+        let (written, status) = run(&rt, rt.alloc(), &WWVB, text.as_str(), NONE)?;
+        assert_eq!(rt; written.as_slice(), want.as_bytes(), "with {more}");
+        same(&rt, status, Status::Done);
+    }
+    Ok(())
 }
-
-const BAD: Row<'static> = Row {
-    end: Status::BadLine,
-    ..DECODED
-};
-
-const BAD_LINES: [Told<'static>; 11] = [
-    Told("1000000 100000\n900000 100000\n", &["status 5 line 0 2\n"]),
-    Told("1000000 100000\n1000000 100000\n", &["status 5 line 0 2\n"]),
-    Told("1000000 100000\n2000000 10", &["status 5 line 0 2\n"]),
-    Told("x 100000\n", &["status 5 line 0 1\n"]),
-    Told("01 100000\n", &["status 5 line 0 1\n"]),
-    Told("1 0\n", &["status 5 line 0 1\n"]),
-    Told("1 2000001\n", &["status 5 line 0 1\n"]),
-    Told("1 100000\r\n", &["status 5 line 0 1\n"]),
-    Told("\n", &["status 5 line 0 1\n"]),
-    Told("1125899906842624 1\n", &["status 5 line 0 1\n"]),
-    Told(
-        "1 1\n2 1\n11111111111111111111111111111111111111",
-        &["status 5 line 0 3\n"],
-    ),
-];
 
 #[test]
 fn a_log_ends_at_its_first_bad_line(rt: HostRuntime) -> Result<(), Fail> {
-    are_told(&rt, rt.alloc(), &BAD, &BAD_LINES)
+    let table = [
+        ("1000000 100000\n900000 100000\n", 2),
+        ("1000000 100000\n1000000 100000\n", 2),
+        ("1000000 100000\n2000000 10", 2),
+        ("x 100000\n", 1),
+        ("01 100000\n", 1),
+        ("1 0\n", 1),
+        ("1 2000001\n", 1),
+        ("1 100000\r\n", 1),
+        ("\n", 1),
+        ("1125899906842624 1\n", 1),
+        ("1 1\n2 1\n11111111111111111111111111111111111111", 3),
+    ];
+    for (text, line) in table {
+        let (written, status) = run(&rt, rt.alloc(), &WORDS, text, NONE)?;
+        let mut want = String::new(rt.alloc());
+        writeln!(want, "status 5 line 0 {line}")?;
+        assert_eq!(rt; written.as_slice(), want.as_bytes(), "at {text}");
+        same(&rt, status, Status::BadLine);
+    }
+    Ok(())
 }
-
-const LAWFUL: [Told<'static>; 3] = [
-    Told("", &[DONE]),
-    Told("0 1\n", &[DONE]),
-    Told("1125899906842623 2000000\n", &[DONE]),
-];
 
 #[test]
 fn what_is_lawful_is_taken(rt: HostRuntime) -> Result<(), Fail> {
-    are_told(&rt, rt.alloc(), &DECODED, &LAWFUL)
+    for text in ["", "0 1\n", "1125899906842623 2000000\n"] {
+        let (written, status) = run(&rt, rt.alloc(), &WORDS, text, NONE)?;
+        assert_eq!(rt; written.as_slice(), b"status 0\n".as_slice(), "at {text}");
+        same(&rt, status, Status::Done);
+    }
+    Ok(())
 }
 
-const FAILED: &str = "status 4 read feed 0\n";
+#[test]
+fn entries_before_a_bad_line_stand(rt: HostRuntime) -> Result<(), Fail> {
+    let mut text = two_frames(rt.alloc())?;
+    text.push_str("122000000 100000\n")?;
+    let (written, status) = run(&rt, rt.alloc(), &WORDS, text.as_str(), NONE)?;
+    let want =
+        "0 62000000 lone 3976257600\n0 122000000 verdict 3976257660 0\nstatus 5 line 0 121\n";
+    same(&rt, written.as_slice(), want.as_bytes());
+    same(&rt, status, Status::BadLine);
+    Ok(())
+}
 
-const UNREAD: Row<'static> = Row {
-    text: &TWO_FRAMES,
-    end: Status::ReadFault,
-    ..DECODED
-};
+// The log has five readings: four pieces, the last of them short, and the end.
+#[test]
+fn a_read_that_fails_ends_the_log(rt: HostRuntime) -> Result<(), Fail> {
+    let text = two_frames(rt.alloc())?;
+    let first = "0 62000000 lone 3976257600\nstatus 4 read feed 0\n";
+    let both =
+        "0 62000000 lone 3976257600\n0 122000000 verdict 3976257660 0\nstatus 4 read feed 0\n";
+    let table = [
+        (1, "status 4 read feed 0\n"),
+        (2, "status 4 read feed 0\n"),
+        (3, first),
+        (4, first),
+        (5, both),
+    ];
+    for (read, want) in table {
+        let failing = Failing { read, ..NONE };
+        let (written, status) = run(&rt, rt.alloc(), &WORDS, text.as_str(), failing)?;
+        assert_eq!(rt; written.as_slice(), want.as_bytes(), "at {read}");
+        same(&rt, status, Status::ReadFault);
+    }
+    let past = Failing { read: 6, ..NONE };
+    let (written, status) = run(&rt, rt.alloc(), &WORDS, text.as_str(), past)?;
+    same(&rt, written.as_slice(), TWO_FRAMES.as_bytes());
+    same(&rt, status, Status::Done);
+    Ok(())
+}
 
-const UNOPENED: Row<'static> = Row {
-    want: &[Want::Is(&["status 2 open feed 0\n"])],
-    end: Status::OpenFault,
-    ..DECODED
-};
-
-const USAGE: [&[&str]; 7] = [
-    &[],
-    &["decode"],
-    &["decode", "--log", "log"],
-    &["decode", "--plan", "jjy", "--log", "log"],
-    &["decode", "--plan", "dcf", "--log", ""],
-    &["decode", "--plan", "dcf", "--log", "-"],
-    &["decode", "--plan", "dcf", "--log", "log", "log"],
-];
+#[test]
+fn a_log_that_cannot_be_opened(rt: HostRuntime) -> Result<(), Fail> {
+    let other = ["decode", "--plan", "dcf", "--log", "other"];
+    let failing = Failing { open: 1, ..NONE };
+    for (words, failing) in [(other, NONE), (WORDS, failing)] {
+        let (written, status) = run(&rt, rt.alloc(), &words, "", failing)?;
+        same(
+            &rt,
+            written.as_slice(),
+            b"status 2 open feed 0\n".as_slice(),
+        );
+        same(&rt, status, Status::OpenFault);
+    }
+    Ok(())
+}
 
 #[test]
 fn other_words_are_usage(rt: HostRuntime) -> Result<(), Fail> {
-    are_usage(&rt, rt.alloc(), &DECODED, &USAGE)
-}
-
-// Each at the place of its number.
-const STATUSES: [Status; 11] = [
-    Status::Done,
-    Status::Usage,
-    Status::OpenFault,
-    Status::Station,
-    Status::ReadFault,
-    Status::BadLine,
-    Status::JournalFull,
-    Status::LinkFault,
-    Status::WriteFault,
-    Status::Memory,
-    Status::TooLong,
-];
-
-fn are_numbered(rt: &impl Abort, statuses: &[Status]) {
-    for (place, status) in statuses.iter().enumerate() {
-        same_count(rt, place, status.number() as usize, place);
+    let table: [&[&str]; 7] = [
+        &[],
+        &["decode"],
+        &["decode", "--log", "log"],
+        &["decode", "--plan", "jjy", "--log", "log"],
+        &["decode", "--plan", "dcf", "--log", ""],
+        &["decode", "--plan", "dcf", "--log", "-"],
+        &["decode", "--plan", "dcf", "--log", "log", "log"],
+    ];
+    for words in table {
+        let (written, status) = run(&rt, rt.alloc(), words, "", NONE)?;
+        same(&rt, written.as_slice(), b"status 1 usage\n".as_slice());
+        same(&rt, status, Status::Usage);
     }
+    Ok(())
 }
 
 #[test]
 fn statuses_have_their_numbers(rt: HostRuntime) {
-    are_numbered(&rt, &STATUSES);
-}
-
-const ENTRIES_BEFORE_A_BAD_LINE_STAND: [Row<'static>; 1] = [Row {
-    text: &[
-        Piece::Text("0 100000\n"),
-        Piece::Marks(NOON),
-        Piece::Marks(NOON_1),
-        Piece::Text("122000000 100000\n122000000 100000\n"),
-    ],
-    want: &[Want::Is(&[LONE, VERDICT, "status 5 line 0 121\n"])],
-    ..BAD
-}];
-
-#[test]
-fn entries_before_a_bad_line_stand(rt: HostRuntime) -> Result<(), Fail> {
-    are_met(&rt, rt.alloc(), &ENTRIES_BEFORE_A_BAD_LINE_STAND)
-}
-
-const A_READ_THAT_FAILS_ENDS_THE_LOG: [Row<'static>; 6] = [
-    // The log has five readings: four pieces, the last of them short, and the end.
-    Row {
-        fails: 1,
-        want: &[Want::Is(&[FAILED])],
-        ..UNREAD
-    },
-    Row {
-        fails: 2,
-        want: &[Want::Is(&[FAILED])],
-        ..UNREAD
-    },
-    Row {
-        fails: 3,
-        want: &[Want::Is(&[LONE, FAILED])],
-        ..UNREAD
-    },
-    Row {
-        fails: 4,
-        want: &[Want::Is(&[LONE, FAILED])],
-        ..UNREAD
-    },
-    Row {
-        fails: 5,
-        want: &[Want::Is(&[LONE, VERDICT, FAILED])],
-        ..UNREAD
-    },
-    Row {
-        fails: 6,
-        want: &[Want::Is(&[LONE, VERDICT, DONE])],
-        end: Status::Done,
-        ..UNREAD
-    },
-];
-
-#[test]
-fn a_read_that_fails_ends_the_log(rt: HostRuntime) -> Result<(), Fail> {
-    are_met(&rt, rt.alloc(), &A_READ_THAT_FAILS_ENDS_THE_LOG)
-}
-
-const A_LOG_THAT_CANNOT_BE_OPENED: [Row<'static>; 2] = [
-    Row {
-        words: &["decode", "--plan", "dcf", "--log", "other"],
-        ..UNOPENED
-    },
-    Row {
-        words: &WORDS,
-        opening: 1,
-        ..UNOPENED
-    },
-];
-
-#[test]
-fn a_log_that_cannot_be_opened(rt: HostRuntime) -> Result<(), Fail> {
-    are_met(&rt, rt.alloc(), &A_LOG_THAT_CANNOT_BE_OPENED)
+    let table = [
+        (Status::Done, 0),
+        (Status::Usage, 1),
+        (Status::OpenFault, 2),
+        (Status::Station, 3),
+        (Status::ReadFault, 4),
+        (Status::BadLine, 5),
+        (Status::JournalFull, 6),
+        (Status::LinkFault, 7),
+        (Status::WriteFault, 8),
+        (Status::Memory, 9),
+        (Status::TooLong, 10),
+    ];
+    for (status, number) in table {
+        same(&rt, status.number(), number);
+    }
 }

@@ -1,18 +1,17 @@
 //! Tests of the gate of clients over the fakes: what `replay` and `serve` answer a client that asks too often, one of a denied net, and the
 //! others. The kiss codes are those of RFC 5905, section 7.4; the minutes are those of the other tests.
 
-use crate::pieces::{Asked, Piece};
-use crate::replay_tests::{AT_303, DCF, REPLAY};
-use crate::rows::{Want, are_met, holds, is_met, same_count, same_text, text_in};
-use crate::runs::{Datagram, ROW, Ran, Row, Wire};
-use crate::test_station::{
-    ASKS, Bytes, CLIENT, FIVE_MINUTES, LINK, RADIO, SECOND_LINK, WIRE, bytes_of,
-};
-use feed_link::{Address, LinkEvent, OpenGate};
+use crate::replay_tests::{DCF, NONE, WORDS, pulses, run};
+use crate::runs::{same, written_over};
+use crate::serve_tests::{REPLY, REQUEST, joined, outside_of};
+use crate::test_station::{CLIENT, file, minutes, moment, one};
+use feed_link::{Address, FakeOpen, LinkEvent, MemoryLink, OpenGate, Planned};
 use radio_engine::Status;
 use std::alloc::{AllocError, Global};
 use std::process::Abort;
+use std::sync::Wait;
 use std::test::Fail;
+use std::thread::Threads;
 
 const GAP: &str = "gap = 2000000\n";
 
@@ -25,16 +24,152 @@ const TIME: &str = "reply 240106ec";
 
 const DENIED: &str = "reply e40006ec000000000010000044454e590000000000000000";
 
-const END: &str = "page 5 1 1 ";
+// A request of a connection.
+fn request(text: &mut String, connection: u32, arrived: u64, sent: u64) -> Result<(), AllocError> {
+    write!(text, "request {connection} {arrived} {sent} 230006ec")?;
+    for _ in 0..36u8 {
+        text.push_str("00")?;
+    }
+    text.push_str("1122334455667788\n")
+}
 
-// The five minutes of a DCF77 radio, which give five lines.
-const HEARD: Piece<'static> = Piece::Pulses(0, 302_000_000);
+// The replies to requests of these connections at these moments, after five minutes of a DCF77 radio, begin so.
+fn are_replied(
+    rt: &(impl Abort + Threads + Wait + Sync),
+    alloc: Global,
+    station: &str,
+    asked: &[(u32, u64, u64)],
+    want: &[&str],
+) -> Result<(), Fail> {
+    let mut script = String::new(alloc);
+    pulses(&mut script, 0, 302_000_000)?;
+    for (connection, arrived, sent) in asked {
+        request(&mut script, *connection, *arrived, *sent)?;
+    }
+    let (written, status) = run(rt, alloc, &WORDS, station.as_bytes(), script.as_str(), NONE)?;
+    same(&rt, status, Status::Done);
+    let mut lines = written.split(|byte| *byte == b'\n').skip(5);
+    for reply in want {
+        let line = lines.next().ok_or("no reply")?;
+        assert!(rt; line.starts_with(reply.as_bytes()), "{reply}");
+    }
+    assert!(rt;
+        lines
+            .next()
+            .is_some_and(|line| line.starts_with(b"page 5 1 1 "))
+    );
+    Ok(())
+}
 
-// A request of another connection at 303 s.
-const OF_OTHER: Asked<'static> = Asked {
-    connection: 1,
-    ..AT_303
-};
+// The gap is counted from the request that was let pass.
+#[test]
+fn a_client_that_asks_within_the_gap(rt: HostRuntime) -> Result<(), Fail> {
+    let alloc = rt.alloc();
+    let station = joined(alloc, &[GAP, DCF])?;
+    are_replied(
+        &rt,
+        alloc,
+        station.as_str(),
+        &[
+            (0, 303_000_000, 303_000_500),
+            (0, 304_000_000, 304_000_500),
+            (0, 305_000_000, 305_000_500),
+        ],
+        &[
+            TIME_AT_303,
+            "reply e40006ec0000000000100000524154450000000000000000\
+1122334455667788ed00e13200000000ed00e1320020c49b",
+            TIME,
+        ],
+    )
+}
+
+// The one place of the table is the second client's by then.
+#[test]
+fn a_client_that_is_forgotten(rt: HostRuntime) -> Result<(), Fail> {
+    let alloc = rt.alloc();
+    let station = joined(alloc, &[GAP, "clients = 1\n", DCF])?;
+    are_replied(
+        &rt,
+        alloc,
+        station.as_str(),
+        &[
+            (0, 303_000_000, 303_000_000),
+            (1, 304_000_000, 304_000_000),
+            (0, 304_500_000, 304_500_000),
+        ],
+        &[TIME, TIME, TIME],
+    )
+}
+
+#[test]
+fn a_client_of_a_denied_net(rt: HostRuntime) -> Result<(), Fail> {
+    let alloc = rt.alloc();
+    let station = joined(alloc, &[DCF, DENY])?;
+    are_replied(
+        &rt,
+        alloc,
+        station.as_str(),
+        &[
+            (1, 303_000_000, 303_000_500),
+            (0, 303_000_000, 303_000_500),
+            (1, 303_000_000, 303_000_500),
+        ],
+        &[DENIED, TIME_AT_303, DENIED],
+    )
+}
+
+// Without a gap each client may ask as often as it likes.
+#[test]
+fn a_client_without_a_gap(rt: HostRuntime) -> Result<(), Fail> {
+    let asked = (0, 303_000_000, 303_000_500);
+    let want = [TIME_AT_303, TIME_AT_303, TIME_AT_303];
+    are_replied(&rt, rt.alloc(), DCF, &[asked, asked, asked], &want)
+}
+
+// What a denied client sends is dropped where another's would be, and takes nothing from its gap.
+#[test]
+fn no_request_is_judged_that_is_dropped(rt: HostRuntime) -> Result<(), Fail> {
+    let alloc = rt.alloc();
+    let station = joined(alloc, &[GAP, DCF, DENY])?;
+    let mut script = String::from_str(
+        alloc,
+        "request 0 1000000 1000000 23\nrequest 1 1000000 1000000 23\n",
+    )?;
+    request(&mut script, 0, 1_000_001, 1_000_001)?;
+    request(&mut script, 0, 1_000_002, 1_000_002)?;
+    let (written, status) = run(
+        &rt,
+        alloc,
+        &WORDS,
+        station.as_bytes(),
+        script.as_str(),
+        NONE,
+    )?;
+    assert!(rt;
+        written.starts_with(b"drop short\ndrop short\nreply e40006ec0000000000100000494e4954")
+    );
+    let mut lines = written.split(|byte| *byte == b'\n').skip(3);
+    assert!(rt;
+        lines.next().is_some_and(|line| line.starts_with(b"reply e40006ec000000000010000052415445"))
+    );
+    same(&rt, status, Status::Done);
+    Ok(())
+}
+
+#[test]
+fn a_net_of_33_bits(rt: HostRuntime) -> Result<(), Fail> {
+    let alloc = rt.alloc();
+    let station = joined(alloc, &[DCF, "[[deny]]\nnet = \"127.0.0.2/33\"\n"])?;
+    let (written, status) = run(&rt, alloc, &WORDS, station.as_bytes(), "", NONE)?;
+    same(
+        &rt,
+        written.as_slice(),
+        b"status 3 station range deny.0.net\n".as_slice(),
+    );
+    same(&rt, status, Status::Station);
+    Ok(())
+}
 
 const OTHER: Address = Address {
     ip: 0x7f00_0003,
@@ -46,55 +181,24 @@ const STRANGER: Address = Address {
     port: 5000,
 };
 
-// A request of the denied client.
-const DENIED_ASKS: Datagram = Datagram {
-    from: STRANGER,
-    ..ASKS
-};
+// A link that receives a request of each of these, at the same moment, and then its end.
+fn hears(alloc: Global, senders: &[Address]) -> Result<MemoryLink, FakeOpen> {
+    let mut hearings = Vec::new(alloc);
+    for from in senders {
+        hearings.push(Planned::Datagram {
+            from: *from,
+            at: moment(303_000_000),
+            bytes: Vec::from_slice(alloc, &REQUEST)?,
+        })?;
+    }
+    MemoryLink::new(alloc, hearings, Vec::new(alloc), Vec::new(alloc), 60, 6000)
+}
 
-const SERVED: Row<'static> = Row {
-    words: &["serve", "--station", "s", "--during", "1", "--after", "3"],
-    station: &[GAP, RADIO, LINK, SECOND_LINK, DENY],
-    name: "a",
-    text: &FIVE_MINUTES,
-    links: &[
-        Wire {
-            hears: &[
-                ASKS,
-                DENIED_ASKS,
-                ASKS,
-                Datagram {
-                    from: OTHER,
-                    ..ASKS
-                },
-            ],
-            ..WIRE
-        },
-        Wire {
-            hears: &[ASKS, DENIED_ASKS],
-            ..WIRE
-        },
-    ],
-    ..ROW
-};
-
-// The lines of the two links.
-const LINES: &str =
-    "\nlink 0 answered 2 dropped 0 again 0 kissed 2 unkept 0 end count\nlink 1 answered 1 dropped 0 again 0 kissed 1 unkept 0 end linkend\npage 5 ";
-
-// The reference IDs of the replies that a link has sent to a client, in order.
-fn letters_to(
-    alloc: Global,
-    ran: &Ran<OpenGate>,
-    place: usize,
-    client: Address,
-) -> Result<Vec<u8>, AllocError> {
+// The reference IDs of the replies that were sent to a client, in order.
+fn sent_to(alloc: Global, link: &MemoryLink, client: Address) -> Result<Vec<u8>, AllocError> {
     let mut letters = Vec::new(alloc);
-    let Some(link) = ran.outside.link(place) else {
-        return Ok(letters);
-    };
-    for event in 0..link.count() {
-        if let Some(LinkEvent::Sent { to, bytes }) = link.event(event) {
+    for place in 0..link.count() {
+        if let Some(LinkEvent::Sent { to, bytes }) = link.event(place) {
             if to == client {
                 for letter in bytes.iter().skip(12).take(4) {
                     letters.push(*letter)?;
@@ -105,252 +209,77 @@ fn letters_to(
     Ok(letters)
 }
 
-// The replies of a link to a client have these reference IDs.
-fn has_letters(
-    rt: &impl Abort,
-    alloc: Global,
-    ran: &Ran<OpenGate>,
-    place: usize,
-    client: Address,
-    want: &str,
-) -> Result<(), Fail> {
-    let letters = letters_to(alloc, ran, place, client)?;
-    same_text(rt, place, letters.as_slice(), want);
-    Ok(())
-}
-
-// The reference IDs of the replies of a link to the client have this length, and whether the last of them is the kiss code.
-fn is_kissed(
-    rt: &impl Abort,
-    alloc: Global,
-    ran: &Ran<OpenGate>,
-    place: usize,
-    length: usize,
-    last: bool,
-) -> Result<(), Fail> {
-    let letters = letters_to(alloc, ran, place, CLIENT)?;
-    same_count(rt, place, letters.len(), length);
-    holds(
-        rt,
-        place,
-        letters.as_slice().ends_with(b"RATE") == last,
-        "the kiss code",
+// The second phase goes on with the table of the first: the client that was let pass there gets RATE. Each link has a table of its own.
+#[test]
+fn two_links_judge_over_both_phases(rt: HostRuntime) -> Result<(), Fail> {
+    let alloc = rt.alloc();
+    let text = minutes(alloc, 5)?;
+    let logs = one(alloc, file(alloc, "a", text.as_str(), 0)?)?;
+    let mut links = one(alloc, hears(alloc, &[CLIENT, STRANGER, CLIENT, OTHER])?)?;
+    links.push(hears(alloc, &[CLIENT, STRANGER])?)?;
+    let link = "[[link]]\nport = 5123\n[[link]]\nport = 5124\n";
+    let station = joined(
+        alloc,
+        &[GAP, "[[radio]]\nplan = \"dcf\"\nlog = \"a\"\n", link, DENY],
+    )?;
+    let mut outside = outside_of(alloc, station.as_str(), logs, links, OpenGate::new(), 0)?;
+    let words = ["serve", "--station", "s", "--during", "1", "--after", "3"];
+    let (written, status) = written_over(&rt, alloc, &words, &mut outside, 0)?;
+    let lines =
+        "\nlink 0 answered 2 dropped 0 again 0 kissed 2 unkept 0 end count\nlink 1 answered 1 dropped 0 again 0 kissed 1 unkept 0 end linkend\npage 5 ";
+    assert!(rt;
+        written
+            .windows(lines.len())
+            .any(|part| part == lines.as_bytes())
+    );
+    same(&rt, status, Status::Done);
+    let first = outside.link(0).ok_or("no link")?;
+    assert!(rt; sent_to(alloc, first, CLIENT)?.ends_with(b"RATE"));
+    same(&rt, sent_to(alloc, first, CLIENT)?.len(), 8);
+    same(
+        &rt,
+        sent_to(alloc, first, STRANGER)?.as_slice(),
+        b"DENY".as_slice(),
+    );
+    same(
+        &rt,
+        sent_to(alloc, first, OTHER)?.as_slice(),
+        b"DCF\0".as_slice(),
+    );
+    let second = outside.link(1).ok_or("no link")?;
+    same(&rt, sent_to(alloc, second, CLIENT)?.len(), 4);
+    assert!(rt; !sent_to(alloc, second, CLIENT)?.ends_with(b"RATE"));
+    same(
+        &rt,
+        sent_to(alloc, second, STRANGER)?.as_slice(),
+        b"DENY".as_slice(),
     );
     Ok(())
 }
 
-// The second phase goes on with the table of the first: the client that was let pass there gets RATE. Each link has a table of its own.
-fn are_judged(rt: &impl Abort, alloc: Global, ran: &Ran<OpenGate>) -> Result<(), Fail> {
-    is_kissed(rt, alloc, ran, 0, 8, true)?;
-    has_letters(rt, alloc, ran, 0, STRANGER, "DENY")?;
-    has_letters(rt, alloc, ran, 0, OTHER, "DCF\0")?;
-    is_kissed(rt, alloc, ran, 1, 4, false)?;
-    has_letters(rt, alloc, ran, 1, STRANGER, "DENY")
-}
-
+// In the second phase alone: the first reply has the time of the page, and the next is the kiss code at the same moments.
 #[test]
-fn two_links_judge_over_both_phases(rt: HostRuntime) -> Result<(), Fail> {
-    let ran = is_met(&rt, rt.alloc(), 0, &SERVED)?;
-    let text = text_in(ran.written.as_slice());
-    holds(&rt, 0, text.contains(LINES), "the lines of the links");
-    are_judged(&rt, rt.alloc(), &ran)
-}
-
-// In the second phase alone.
-const ONCE: Row<'static> = Row {
-    words: &["serve", "--station", "s", "--during", "0", "--after", "4"],
-    station: &[GAP, RADIO, LINK],
-    name: "a",
-    text: &FIVE_MINUTES,
-    links: &[Wire {
-        hears: &[Datagram { times: 2, ..ASKS }],
-        ..WIRE
-    }],
-    ..ROW
-};
-
-// How many datagrams that a link has sent are the reply with the time at 303 s.
-fn times_of(ran: &Ran<OpenGate>) -> usize {
-    let Some(link) = ran.outside.link(0) else {
-        return 0;
-    };
-    let mut count = 0usize;
+fn a_link_tells_the_time_once_a_gap(rt: HostRuntime) -> Result<(), Fail> {
+    let alloc = rt.alloc();
+    let text = minutes(alloc, 5)?;
+    let logs = one(alloc, file(alloc, "a", text.as_str(), 0)?)?;
+    let links = one(alloc, hears(alloc, &[CLIENT, CLIENT])?)?;
+    let radio = "[[radio]]\nplan = \"dcf\"\nlog = \"a\"\n[[link]]\nport = 5123\n";
+    let station = joined(alloc, &[GAP, radio])?;
+    let mut outside = outside_of(alloc, station.as_str(), logs, links, OpenGate::new(), 0)?;
+    let words = ["serve", "--station", "s", "--during", "0", "--after", "4"];
+    let (_, status) = written_over(&rt, alloc, &words, &mut outside, 0)?;
+    same(&rt, status, Status::Done);
+    let link = outside.link(0).ok_or("no link")?;
+    let mut told = 0usize;
     for place in 0..link.count() {
         if let Some(LinkEvent::Sent { to: _, bytes }) = link.event(place) {
-            if bytes == bytes_of(Bytes::Reply) {
-                count = count.saturating_add(1);
+            if bytes == REPLY.as_slice() {
+                told = told.saturating_add(1);
             }
         }
     }
-    count
-}
-
-// The first reply has the time of the page, and the next is the kiss code at the same moments.
-#[test]
-fn a_link_tells_the_time_once_a_gap(rt: HostRuntime) -> Result<(), Fail> {
-    let ran = is_met(&rt, rt.alloc(), 0, &ONCE)?;
-    same_count(&rt, 0, times_of(&ran), 1);
-    is_kissed(&rt, rt.alloc(), &ran, 0, 8, true)
-}
-
-const A_CLIENT_THAT_ASKS_WITHIN_THE_GAP: [Row<'static>; 1] = [
-    // The gap is counted from the request that was let pass.
-    Row {
-        station: &[GAP, DCF],
-        text: &[
-            HEARD,
-            Piece::Asks(AT_303),
-            Piece::Asks(Asked {
-                arrived: 304_000_000,
-                sent: 304_000_500,
-                ..AT_303
-            }),
-            Piece::Asks(Asked {
-                arrived: 305_000_000,
-                sent: 305_000_500,
-                ..AT_303
-            }),
-        ],
-        want: &[
-            Want::Line(5, TIME_AT_303),
-            Want::Line(
-                6,
-                "reply e40006ec0000000000100000524154450000000000000000\
-1122334455667788ed00e13200000000ed00e1320020c49b",
-            ),
-            Want::Line(7, TIME),
-            Want::Line(8, END),
-        ],
-        ..REPLAY
-    },
-];
-
-#[test]
-fn a_client_that_asks_within_the_gap(rt: HostRuntime) -> Result<(), Fail> {
-    are_met(&rt, rt.alloc(), &A_CLIENT_THAT_ASKS_WITHIN_THE_GAP)
-}
-
-const A_CLIENT_THAT_IS_FORGOTTEN: [Row<'static>; 1] = [
-    // The one place of the table is the second client's by then.
-    Row {
-        station: &[GAP, "clients = 1\n", DCF],
-        text: &[
-            HEARD,
-            Piece::Asks(Asked {
-                sent: 303_000_000,
-                ..AT_303
-            }),
-            Piece::Asks(Asked {
-                arrived: 304_000_000,
-                sent: 304_000_000,
-                ..OF_OTHER
-            }),
-            Piece::Asks(Asked {
-                arrived: 304_500_000,
-                sent: 304_500_000,
-                ..AT_303
-            }),
-        ],
-        want: &[
-            Want::Line(5, TIME),
-            Want::Line(6, TIME),
-            Want::Line(7, TIME),
-            Want::Line(8, END),
-        ],
-        ..REPLAY
-    },
-];
-
-#[test]
-fn a_client_that_is_forgotten(rt: HostRuntime) -> Result<(), Fail> {
-    are_met(&rt, rt.alloc(), &A_CLIENT_THAT_IS_FORGOTTEN)
-}
-
-const A_CLIENT_OF_A_DENIED_NET: [Row<'static>; 1] = [Row {
-    station: &[DCF, DENY],
-    text: &[
-        HEARD,
-        Piece::Asks(OF_OTHER),
-        Piece::Asks(AT_303),
-        Piece::Asks(OF_OTHER),
-    ],
-    want: &[
-        Want::Line(5, DENIED),
-        Want::Line(6, TIME_AT_303),
-        Want::Line(7, DENIED),
-        Want::Line(8, END),
-    ],
-    ..REPLAY
-}];
-
-#[test]
-fn a_client_of_a_denied_net(rt: HostRuntime) -> Result<(), Fail> {
-    are_met(&rt, rt.alloc(), &A_CLIENT_OF_A_DENIED_NET)
-}
-
-const A_CLIENT_WITHOUT_A_GAP: [Row<'static>; 1] = [
-    // Without a gap each client may ask as often as it likes.
-    Row {
-        station: &[DCF],
-        text: &[
-            HEARD,
-            Piece::Asks(AT_303),
-            Piece::Asks(AT_303),
-            Piece::Asks(AT_303),
-        ],
-        want: &[
-            Want::Line(5, TIME_AT_303),
-            Want::Line(6, TIME_AT_303),
-            Want::Line(7, TIME_AT_303),
-            Want::Line(8, END),
-        ],
-        ..REPLAY
-    },
-];
-
-#[test]
-fn a_client_without_a_gap(rt: HostRuntime) -> Result<(), Fail> {
-    are_met(&rt, rt.alloc(), &A_CLIENT_WITHOUT_A_GAP)
-}
-
-const NO_REQUEST_IS_JUDGED_THAT_IS_DROPPED: [Row<'static>; 1] = [
-    // What a denied client sends is dropped where another's would be, and takes nothing from its gap.
-    Row {
-        station: &[GAP, DCF, DENY],
-        text: &[
-            Piece::Text("request 0 1000000 1000000 23\nrequest 1 1000000 1000000 23\n"),
-            Piece::Asks(Asked {
-                arrived: 1_000_001,
-                sent: 1_000_001,
-                ..AT_303
-            }),
-            Piece::Asks(Asked {
-                arrived: 1_000_002,
-                sent: 1_000_002,
-                ..AT_303
-            }),
-        ],
-        want: &[
-            Want::Begins("drop short\ndrop short\nreply e40006ec0000000000100000494e4954"),
-            Want::Line(3, "reply e40006ec000000000010000052415445"),
-        ],
-        ..REPLAY
-    },
-];
-
-#[test]
-fn no_request_is_judged_that_is_dropped(rt: HostRuntime) -> Result<(), Fail> {
-    are_met(&rt, rt.alloc(), &NO_REQUEST_IS_JUDGED_THAT_IS_DROPPED)
-}
-
-const A_NET_OF_33_BITS: [Row<'static>; 1] = [Row {
-    station: &[DCF, "[[deny]]\nnet = \"127.0.0.2/33\"\n"],
-    want: &[Want::Is(&["status 3 station range deny.0.net\n"])],
-    end: Status::Station,
-    ..REPLAY
-}];
-
-#[test]
-fn a_net_of_33_bits(rt: HostRuntime) -> Result<(), Fail> {
-    are_met(&rt, rt.alloc(), &A_NET_OF_33_BITS)
+    same(&rt, told, 1);
+    assert!(rt; sent_to(alloc, link, CLIENT)?.ends_with(b"RATE"));
+    Ok(())
 }

@@ -1,8 +1,7 @@
 //! Tests of the engine: whole runs of every command over the fakes, through the one call that the program makes, and lines of links whose
 //! counts no run reaches. They stand in a crate of their own, so that a change of one proves none of the engine anew.
 //!
-//! `runs`, `rows`, `pieces`, `frames`, `new_year` and `test_station` have what the others share; each other module is named after the command,
-//! or the circumstance, that it tests.
+//! `runs` and `test_station` have what the others share; each is named after the command, or the circumstance, that it tests.
 #![tactic(auto)]
 
 #[cfg(test)]
@@ -18,8 +17,6 @@ mod drill_tests;
 #[cfg(test)]
 mod fault_tests;
 #[cfg(test)]
-mod frames;
-#[cfg(test)]
 mod gate_tests;
 #[cfg(test)]
 mod leap_tests;
@@ -28,17 +25,11 @@ mod line_tests;
 #[cfg(test)]
 mod migrate_tests;
 #[cfg(test)]
-mod new_year;
-#[cfg(test)]
-mod pieces;
-#[cfg(test)]
 mod rack_tests;
 #[cfg(test)]
 mod replay_tests;
 #[cfg(test)]
 mod row_tests;
-#[cfg(test)]
-mod rows;
 #[cfg(test)]
 mod runs;
 #[cfg(test)]

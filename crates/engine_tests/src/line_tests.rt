@@ -1,5 +1,5 @@
 //! The line of a link: each count is its own, and the sum of both phases. The sums were worked by hand.
-use crate::rows::same_text;
+use crate::runs::same;
 use journal_entry::LINE_ROOM;
 use radio_engine::write_link_line;
 use responder::{End, Served};
@@ -37,7 +37,7 @@ const MOST: Served = Served {
 fn is_the_line(rt: &impl Abort, number: usize, first: Served, second: Option<Served>, text: &str) {
     let mut line = [0; LINE_ROOM];
     let length = write_link_line(number, &LinkWork { first, second }, &mut line);
-    same_text(rt, number, &line[..length], text);
+    same(&rt, &line[..length], text.as_bytes());
 }
 
 #[test]

@@ -1,24 +1,23 @@
 //! Which receivers of a rack are used: of each plan the first ones, in the order of the radios, and for each swap the next one.
-ghost use Rattle.std.specs.Prelude.{◌≡◌, false};
+ghost use Rattle.std.specs.Prelude.{◌≡◌, IfOk, false};
 ghost use Rattle.feed_link.specs.MemoryOutside.{is_gate_out};
 ghost use Rattle.radio_receiver.specs.Histories.{History};
 
-use crate::pieces::{Frame, Piece};
-use crate::rows::same_status;
-use crate::runs::{OF_A_PLAN, ROW, Row, outside_of};
-use crate::test_station::FRAME;
+use crate::runs::{OF_A_PLAN, outside_of, same};
+use crate::test_station::{file, one};
 use feed_link::{FakeOpen, Gate, MemoryOutside, MemorySink, OpenGate};
 use radio_engine::{Status, run_station};
 use radio_receiver::{DcfReceiver, MsfReceiver, Receiver, WwvbReceiver};
 use receiver_rack::put_in_rack;
 use script_player::BoxedReceiver;
 use std::alloc::{AllocError, Global};
-use std::process::Abort;
 use std::sync::atomic::{AtomicU64, Ordering};
 use std::sync::{Arc, Wait};
 use std::test::Fail;
 use std::thread::Threads;
 use tick_units::{Heard, Plan, Reduction};
+
+const REPLAY: [&str; 5] = ["replay", "--station", "s", "--script", "p"];
 
 // How many times more each receiver of a plan adds than the one before it, which adds 1 at first: four hexadecimal digits of a count are of
 // one receiver.
@@ -98,91 +97,54 @@ fn run_noting<R: Threads + Wait + Sync, G: Gate + Drop>(
     Ok(run_station(rt, alloc, words, rack, outside, out))
 }
 
-// A number of pulses of radio 0, a second apart, from 1 s on.
-const PULSES: Frame<'static> = Frame {
-    before: "pulse 0 ",
-    start: 1_000_000,
-    ..FRAME
-};
+// Radio 0 is the first of DCF77, radio 1 that of MSF, radio 2 the second of DCF77.
+const RADIOS: &str =
+    "[[radio]]\nplan = \"dcf\"\nlog = \"a\"\n[[radio]]\nplan = \"msf\"\nlog = \"b\"\n\
+[[radio]]\nplan = \"dcf\"\nlog = \"c\"\n";
 
-// Radio 0 is the first of DCF77, radio 1 that of MSF, radio 2 the second of DCF77. Each radio receives some pulses, then radio 2 is swapped and
-// receives some more, then radio 0, then radio 1.
-const SWAPPED: Row<'static> = Row {
-    words: &["replay", "--station", "s", "--script", "p"],
-    station: &[
-        "[[radio]]\nplan = \"dcf\"\nlog = \"a\"\n",
-        "[[radio]]\nplan = \"msf\"\nlog = \"b\"\n",
-        "[[radio]]\nplan = \"dcf\"\nlog = \"c\"\n",
-    ],
-    name: "p",
-    text: &[
-        Piece::Marks(Frame { to: 3, ..PULSES }),
-        Piece::Marks(Frame {
-            before: "pulse 1 ",
-            to: 1,
-            ..PULSES
-        }),
-        Piece::Marks(Frame {
-            before: "pulse 2 ",
-            to: 2,
-            ..PULSES
-        }),
-        Piece::Text("swap 2\n"),
-        Piece::Marks(Frame {
-            before: "pulse 2 ",
-            from: 9,
-            to: 13,
-            ..PULSES
-        }),
-        Piece::Text("swap 0\n"),
-        Piece::Marks(Frame {
-            from: 9,
-            to: 14,
-            ..PULSES
-        }),
-        Piece::Text("swap 1\n"),
-        Piece::Marks(Frame {
-            before: "pulse 1 ",
-            from: 9,
-            to: 15,
-            ..PULSES
-        }),
-    ],
-    ..ROW
-};
-
-// Runs it with receivers that take notes.
-fn noted<R: Threads + Wait + Sync>(
-    rt: &R,
-    alloc: Global,
-    heard: &Counts,
-) -> Result<Status, FakeOpen> {
-    let mut outside = outside_of(alloc, &SWAPPED, OpenGate::new())?;
-    let mut out = MemorySink::new(alloc, Vec::new(alloc));
-    Ok(run_noting(rt, alloc, SWAPPED.words, heard, &mut outside, &mut out)?)
+// A number of pulses of a radio, a second apart.
+fn pulses(script: &mut String, radio: u32, from: u64, count: u64) -> Result<(), AllocError> {
+    for number in 0..count {
+        let at = from.saturating_add(number).saturating_mul(1_000_000);
+        writeln!(script, "pulse {radio} {at} 100000")?;
+    }
+    Ok(())
 }
 
-fn no_counts(alloc: Global) -> Result<Counts, AllocError> {
-    Ok(Counts {
-        dcf: Arc::new(alloc, AtomicU64::new(0))?,
-        msf: Arc::new(alloc, AtomicU64::new(0))?,
-        wwvb: Arc::new(alloc, AtomicU64::new(0))?,
-    })
-}
-
-// The count is this one.
-fn is_count(rt: &impl Abort, count: &AtomicU64, want: u64) {
-    assert_eq!(rt; count.load(Ordering::SeqCst), want);
+// Each radio receives some pulses, then radio 2 is swapped and receives some more, then radio 0, then radio 1.
+fn swapped(alloc: Global) -> Result<MemoryOutside<OpenGate>, FakeOpen>
+    ensures { IfOk result (λ outside. is_gate_out outside ≡ false) }
+{
+    let mut script = String::new(alloc);
+    pulses(&mut script, 0, 1, 3)?;
+    pulses(&mut script, 1, 1, 1)?;
+    pulses(&mut script, 2, 1, 2)?;
+    script.push_str("swap 2\n")?;
+    pulses(&mut script, 2, 10, 4)?;
+    script.push_str("swap 0\n")?;
+    pulses(&mut script, 0, 10, 5)?;
+    script.push_str("swap 1\n")?;
+    pulses(&mut script, 1, 10, 6)?;
+    let mut files = one(alloc, file(alloc, "s", RADIOS, 0)?)?;
+    files.push(file(alloc, "p", script.as_str(), 0)?)?;
+    outside_of(alloc, files, 0)
 }
 
 // The third and the fourth of DCF77 come by the swaps, the first one asked for first; of MSF two are left, and of WWVB all.
 #[test]
 fn receivers_are_used_in_the_order_of_the_rack(rt: HostRuntime) -> Result<(), Fail> {
-    let heard = no_counts(rt.alloc())?;
-    let status = noted(&rt, rt.alloc(), &heard)?;
-    same_status(&rt, 0, status, Status::Done);
-    is_count(&rt, &heard.dcf, 0x0005_0004_0002_0003);
-    is_count(&rt, &heard.msf, 0x0006_0001);
-    is_count(&rt, &heard.wwvb, 0);
+    let alloc = rt.alloc();
+    let heard = Counts {
+        dcf: Arc::new(alloc, AtomicU64::new(0))?,
+        msf: Arc::new(alloc, AtomicU64::new(0))?,
+        wwvb: Arc::new(alloc, AtomicU64::new(0))?,
+    };
+    let mut outside = swapped(alloc)?;
+    let mut out = MemorySink::new(alloc, Vec::new(alloc));
+    let status = run_noting(&rt, alloc, &REPLAY, &heard, &mut outside, &mut out)?;
+    same(&rt, status, Status::Done);
+    same(&rt, heard.dcf.load(Ordering::SeqCst), 0x0005_0004_0002_0003);
+    same(&rt, heard.msf.load(Ordering::SeqCst), 0x0006_0001);
+    same(&rt, heard.wwvb.load(Ordering::SeqCst), 0);
     Ok(())
 }

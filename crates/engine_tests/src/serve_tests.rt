@@ -1,20 +1,19 @@
 //! Tests of `serve` over the fakes: logs of DCF77 by PTB's table of 1 January 2026, 13:00 (12:00 UTC) and the minutes after it, a server's
 //! answer that was worked by hand from RFC 5905, section 8, and clients whose answers are those of section 7.3 there.
+ghost use Rattle.std.specs.Prelude.{◌≡◌, IfOk, false};
+ghost use Rattle.feed_link.specs.MemoryOutside.{is_gate_out};
 
-use crate::pieces::Piece;
-use crate::rows::{
-    Pieces, SENT, Sent, Want, are_met, entries_of, fits, has_held, holds, is_met, same_bytes,
-    same_count, same_status, sent_to, stops_at_each_writing,
-};
-use crate::runs::{Datagram, File, ROW, Ran, Row, Wire, run, run_held};
+use crate::runs::{same, written_over};
 use crate::test_station::{
-    ANSWERS, ASKS, Bytes, CLIENT, EMPTY_PAGE, FILE, FIVE_MINUTES, KEY, LINK, LONE, LONE_PAGE,
-    NO_TIME, RADIO, SECOND_LINK, SECOND_RADIO, SERVER, SERVER_3, TIME, TWO_MINUTES, VERDICT,
-    VERDICT_PAGE, WIRE, bytes_of,
+    ANSWER, ASKED, CLIENT, EMPTY_PAGE, LONE, LONE_PAGE, VERDICT, VERDICT_PAGE, file, minutes,
+    moment, one,
 };
-use feed_link::{Address, Gate, HoldGate, LinkEvent};
+use feed_link::{
+    Address, FakeOpen, Gate, HoldGate, LinkEvent, MemoryLink, MemoryOutside, NamedLog, OpenGate,
+    Planned,
+};
 use radio_engine::Status;
-use std::alloc::Global;
+use std::alloc::{AllocError, Global};
 use std::process::Abort;
 use std::sync::Wait;
 use std::test::Fail;
@@ -26,616 +25,674 @@ const DURING_2: [&str; 5] = ["serve", "--station", "s", "--during", "2"];
 
 const AFTER_4: [&str; 7] = ["serve", "--station", "s", "--during", "0", "--after", "4"];
 
+const FOUR_AND_ONE: [&str; 7] = ["serve", "--station", "s", "--during", "4", "--after", "1"];
+
 const LIMIT_1: [&str; 7] = ["serve", "--station", "s", "--during", "0", "--limit", "1"];
 
-pub const SERVE: Row<'static> = Row {
-    words: &WORDS,
-    ..ROW
-};
+const LIMIT_3: [&str; 9] = [
+    "serve",
+    "--station",
+    "s",
+    "--limit",
+    "3",
+    "--during",
+    "0",
+    "--after",
+    "1",
+];
 
-// An empty log.
-pub const HEARD: Row<'static> = Row { name: "a", ..SERVE };
+const RADIO: &str = "[[radio]]\nplan = \"dcf\"\nlog = \"a\"\n";
 
-pub const SAMPLE: &str =
-    "j2 1 0 0 1010000 sample 17077897383243199545 40802189 8837 2 7f000001 256 512\n";
+pub(crate) const TWO_RADIOS: &str =
+    "[[radio]]\nplan = \"dcf\"\nlog = \"a\"\n[[radio]]\nplan = \"dcf\"\nlog = \"b\"\n";
 
-pub const SAMPLE_PAGE: &str = "page 1 0 0 494e4954 0 1010000 0 0 1048576 0000000000000000 0 0\n";
+pub(crate) const SERVER: &str = "[[server]]\naddress = \"127.0.0.1\"\nport = 123\npolls = 1\n";
+
+pub(crate) const SERVER_3: &str = "[[server]]\naddress = \"127.0.0.1\"\nport = 123\npolls = 3\n";
+
+pub(crate) const LINK: &str = "[[link]]\nport = 5123\n";
+
+const DELAYED: &str =
+    "[[radio]]\nplan = \"msf\"\nlog = \"a\"\n[[radio]]\nplan = \"dcf\"\nlog = \"b\"\ndelay = 1400\n";
+
+const SAME_LOG: &str =
+    "[[radio]]\nplan = \"dcf\"\nlog = \"a\"\n[[radio]]\nplan = \"dcf\"\nlog = \"a\"\n";
+
+const ALL: &str =
+    "[[link]]\nport = 5123\n[[server]]\naddress = \"127.0.0.1\"\nport = 123\n[[radio]]\nplan = \"dcf\"\nlog = \"a\"\n";
+
+const THREE_RADIOS_TWO_LINKS: &str =
+    "[[radio]]\nplan = \"dcf\"\nlog = \"a\"\n[[radio]]\nplan = \"dcf\"\nlog = \"b\"\n[[radio]]\nplan = \"dcf\"\nlog = \"c\"\n[[link]]\nport = 5123\n[[link]]\nport = 5124\n";
+
+const TWO_LINKS: &str = "[[link]]\nport = 5123\n[[link]]\nport = 5124\n";
+
+// The page of five minutes that as many radios have received alike.
+const FIVE_OF_3: &str =
+    "page 15 1 1 44434600 17077896086183477248 302000000 4364906902 0 61542 ed00e13000000000 0 0\n";
 
 const STRANGER: Address = Address {
     ip: 0x7f00_0001,
     port: 124,
 };
 
-// The answer twice: first from another sender, then from the server.
-const FROM_A_STRANGER: [Datagram; 2] = [
-    Datagram {
-        from: STRANGER,
-        ..ANSWERS
-    },
-    ANSWERS,
+// A request of version 4 with a poll of 64 s, sent at 0x1122334455667788 by the client's clock.
+pub const REQUEST: [u8; 48] = [
+    0x23, 0x00, 0x06, 0xec, 0x00, 0x00, 0x00, 0x00, 0x00, 0x00, 0x00, 0x00, 0x00, 0x00, 0x00, 0x00, // to the refid
+    0x00, 0x00, 0x00, 0x00, 0x00, 0x00, 0x00, 0x00, 0x00, 0x00, 0x00, 0x00, 0x00, 0x00, 0x00, 0x00, // to the origin
+    0x00, 0x00, 0x00, 0x00, 0x00, 0x00, 0x00, 0x00, 0x11, 0x22, 0x33, 0x44, 0x55, 0x66, 0x77, 0x88,
 ];
 
-// A link over which the server answers twice, the first time at 1 s.
-pub const ANSWERED: Wire<'static> = Wire {
-    moments: &[1_000_000],
-    hears: &[Datagram {
-        times: 2,
-        ..ANSWERS
-    }],
-    fails: 0,
-};
-
-// A link that receives five requests.
-pub const ASKED_5: Wire<'static> = Wire {
-    hears: &[Datagram { times: 5, ..ASKS }],
-    ..WIRE
-};
-
-const A_SERVER_IS_POLLED: [Row<'static>; 1] = [Row {
-    station: &[SERVER],
-    links: &[Wire {
-        hears: &FROM_A_STRANGER,
-        ..ANSWERED
-    }],
-    want: &[Want::Is(&[
-        "j2 1 0 0 1010000 declined 1\n",
-        "j2 2 0 0 1010000 sample 17077897383243199545 40802189 8837 2 7f000001 256 512\n",
-        "page 2 0 0 494e4954 0 1010000 0 0 1048576 0000000000000000 0 0\n",
-        "status 0\n",
-    ])],
-    ..SERVE
-}];
-
-#[test]
-fn a_server_is_polled(rt: HostRuntime) -> Result<(), Fail> {
-    are_met(&rt, rt.alloc(), &A_SERVER_IS_POLLED)
-}
-
-const A_POLLER_ENDS_BY_A_FAULT: [Row<'static>; 1] = [
-    // The link's third call, its second sending, fails.
-    Row {
-        station: &[SERVER_3],
-        links: &[Wire {
-            fails: 3,
-            ..ANSWERED
-        }],
-        want: &[Want::Is(&[SAMPLE, SAMPLE_PAGE, "status 7 feed 0\n"])],
-        end: Status::LinkFault,
-        ..SERVE
-    },
+// The reply to it from the page of five minutes, where it came and was answered at 303 s, which is 12:04:01 UTC.
+pub const REPLY: [u8; 48] = [
+    0x24, 0x01, 0x06, 0xec, 0x00, 0x00, 0x00, 0x00, 0x00, 0x00, 0xf0, 0x67, 0x44, 0x43, 0x46, 0x00, // to the refid
+    0xed, 0x00, 0xe1, 0x30, 0x00, 0x00, 0x00, 0x00, 0x11, 0x22, 0x33, 0x44, 0x55, 0x66, 0x77, 0x88, // to the origin
+    0xed, 0x00, 0xe1, 0x31, 0x00, 0x00, 0x00, 0x00, 0xed, 0x00, 0xe1, 0x31, 0x00, 0x00, 0x00, 0x00,
 ];
 
-#[test]
-fn a_poller_ends_by_a_fault(rt: HostRuntime) -> Result<(), Fail> {
-    are_met(&rt, rt.alloc(), &A_POLLER_ENDS_BY_A_FAULT)
+// A link that receives this many requests at 303 s, and then its end; its call of this number fails.
+pub(crate) fn asked(alloc: Global, count: u32, fails: u64) -> Result<MemoryLink, FakeOpen> {
+    let mut hearings = Vec::new(alloc);
+    for _ in 0..count {
+        hearings.push(Planned::Datagram {
+            from: CLIENT,
+            at: moment(303_000_000),
+            bytes: Vec::from_slice(alloc, &REQUEST)?,
+        })?;
+    }
+    let fails = vec![in alloc; fails]?;
+    MemoryLink::new(alloc, hearings, Vec::new(alloc), fails, 60, 6000)
 }
 
-const A_LINK_THAT_ENDS_IS_TOLD: [Row<'static>; 1] = [Row {
-    words: &DURING_2,
-    station: &[LINK],
-    links: &[Wire {
-        hears: &[ASKS],
-        ..WIRE
-    }],
-    want: &[Want::Is(&[
-        "link 0 answered 1 dropped 0 again 0 kissed 0 unkept 0 end linkend\n",
-        EMPTY_PAGE,
-        "status 0\n",
-    ])],
-    sent: &[Sent {
-        count: Some(1),
-        last: &NO_TIME,
-        ..SENT
-    }],
-    ..SERVE
-}];
-
-#[test]
-fn a_link_that_ends_is_told(rt: HostRuntime) -> Result<(), Fail> {
-    are_met(&rt, rt.alloc(), &A_LINK_THAT_ENDS_IS_TOLD)
+// A link that receives these datagrams at 303 s, and then its end.
+fn hears(alloc: Global, datagrams: &[Vec<u8>]) -> Result<MemoryLink, FakeOpen> {
+    let mut hearings = Vec::new(alloc);
+    for datagram in datagrams {
+        if datagram.len() > 1024 {
+            return Err(FakeOpen::Memory);
+        }
+        hearings.push(Planned::Datagram {
+            from: CLIENT,
+            at: moment(303_000_000),
+            bytes: Vec::from_slice(alloc, datagram.as_slice())?,
+        })?;
+    }
+    MemoryLink::new(alloc, hearings, Vec::new(alloc), Vec::new(alloc), 60, 6000)
 }
 
-const THE_THIRD_SENDING_FAILS: [Row<'static>; 1] = [
-    // Each of the first three sendings is the second call of its turn.
-    Row {
-        words: &AFTER_4,
-        station: &[RADIO, LINK],
-        text: &TWO_MINUTES,
-        links: &[Wire {
-            fails: 6,
-            ..ASKED_5
-        }],
-        want: &[Want::Is(&[
-            LONE,
-            VERDICT,
-            "link 0 answered 2 dropped 0 again 0 kissed 0 unkept 0 end linkfault\n",
-            VERDICT_PAGE,
-            "status 7 link 0\n",
-        ])],
-        end: Status::LinkFault,
-        sent: &[Sent {
-            count: Some(2),
-            ..SENT
-        }],
-        ..HEARD
-    },
-];
-
-#[test]
-fn the_third_sending_fails(rt: HostRuntime) -> Result<(), Fail> {
-    are_met(&rt, rt.alloc(), &THE_THIRD_SENDING_FAILS)
+// A link whose first moment is 1 s, over which the answer comes twice: first from this sender, then from the server.
+pub(crate) fn answered(alloc: Global, first: Address, fails: u64) -> Result<MemoryLink, FakeOpen> {
+    let mut hearings = Vec::new(alloc);
+    for from in [first, ASKED] {
+        hearings.push(Planned::Datagram {
+            from,
+            at: moment(1_010_000),
+            bytes: Vec::from_slice(alloc, &ANSWER)?,
+        })?;
+    }
+    let moments = vec![in alloc; moment(1_000_000)]?;
+    let fails = vec![in alloc; fails]?;
+    MemoryLink::new(alloc, hearings, moments, fails, 60, 6000)
 }
 
-const A_HEARING_FAILS: [Row<'static>; 1] = [Row {
-    words: &DURING_2,
-    station: &[LINK],
-    links: &[Wire {
-        fails: 3,
-        ..ASKED_5
-    }],
-    want: &[Want::Is(&[
-        "link 0 answered 1 dropped 0 again 0 kissed 0 unkept 0 end linkfault\n",
-        EMPTY_PAGE,
-        "status 7 link 0\n",
-    ])],
-    end: Status::LinkFault,
-    ..SERVE
-}];
-
-#[test]
-fn a_hearing_fails(rt: HostRuntime) -> Result<(), Fail> {
-    are_met(&rt, rt.alloc(), &A_HEARING_FAILS)
+// An outside with a station file "s", these logs after it and these links, and this gate; its opening of this number fails.
+pub fn outside_of<G: Gate + Drop>(
+    alloc: Global,
+    station: &str,
+    logs: Vec<NamedLog>,
+    links: Vec<MemoryLink>,
+    gate: G,
+    fails: u64,
+) -> Result<MemoryOutside<G>, FakeOpen>
+    ensures { IfOk result (λ outside. is_gate_out outside ≡ false) }
+{
+    let mut all = Vec::new(alloc);
+    all.push(file(alloc, "s", station, 0)?)?;
+    for log in logs {
+        all.push(log)?;
+    }
+    let fails = vec![in alloc; fails]?;
+    MemoryOutside::new(alloc, all, links, gate, fails, 12, 100)
 }
 
-const THE_FIRST_OF_TWO_IS_TOLD: [Row<'static>; 2] = [
-    // Of two with one number the first is reported; the rest of the station goes on.
-    Row {
-        words: &DURING_2,
-        station: &[LINK, SECOND_LINK],
-        links: &[
-            Wire {
-                fails: 3,
-                ..ASKED_5
-            },
-            Wire {
-                fails: 1,
-                ..ASKED_5
-            },
-        ],
-        want: &[Want::Is(&[
-            "link 0 answered 1 dropped 0 again 0 kissed 0 unkept 0 end linkfault\n",
-            "link 1 answered 0 dropped 0 again 0 kissed 0 unkept 0 end linkfault\n",
-            EMPTY_PAGE,
-            "status 7 link 0\n",
-        ])],
-        end: Status::LinkFault,
-        ..SERVE
-    },
-    Row {
-        words: &DURING_2,
-        station: &[LINK, SECOND_LINK],
-        links: &[
-            Wire {
-                hears: &[Datagram { times: 2, ..ASKS }],
-                ..WIRE
-            },
-            Wire {
-                fails: 3,
-                ..ASKED_5
-            },
-        ],
-        want: &[Want::Is(&[
-            "link 0 answered 2 dropped 0 again 0 kissed 0 unkept 0 end count\n",
-            "link 1 answered 1 dropped 0 again 0 kissed 0 unkept 0 end linkfault\n",
-            EMPTY_PAGE,
-            "status 7 link 1\n",
-        ])],
-        end: Status::LinkFault,
-        ..SERVE
-    },
-];
-
-#[test]
-fn the_first_of_two_is_told(rt: HostRuntime) -> Result<(), Fail> {
-    are_met(&rt, rt.alloc(), &THE_FIRST_OF_TWO_IS_TOLD)
+// A station with these logs and links writes this text and ends so.
+pub fn writes(
+    rt: &(impl Abort + Threads + Wait + Sync),
+    alloc: Global,
+    words: &[&str],
+    station: &str,
+    logs: Vec<NamedLog>,
+    links: Vec<MemoryLink>,
+    want: &str,
+    end: Status,
+) -> Result<(), Fail> {
+    let mut outside = outside_of(alloc, station, logs, links, OpenGate::new(), 0)?;
+    let (written, status) = written_over(rt, alloc, words, &mut outside, 0)?;
+    same(&rt, written.as_slice(), want.as_bytes());
+    same(&rt, status, end);
+    Ok(())
 }
 
-const A_STATION_WITH_NOTHING_IN_IT_IS_SERVED: [Row<'static>; 1] = [Row {
-    station: &[""],
-    want: &[Want::Is(&[EMPTY_PAGE, "status 0\n"])],
-    ..SERVE
-}];
+// These texts as one.
+pub fn joined(alloc: Global, texts: &[&str]) -> Result<String, AllocError> {
+    let mut all = String::new(alloc);
+    for text in texts {
+        all.push_str(text)?;
+    }
+    Ok(all)
+}
+
+// The last reply on a link, and how many there are.
+pub(crate) fn replies(link: &MemoryLink) -> (usize, Option<&[u8]>) {
+    let mut count = 0usize;
+    let mut last = None;
+    for place in 0..link.count() {
+        if let Some(LinkEvent::Sent { to, bytes }) = link.event(place) {
+            if to == CLIENT {
+                count = count.saturating_add(1);
+                last = Some(bytes);
+            }
+        }
+    }
+    (count, last)
+}
+
+// Whether a text ends with another.
+fn ends_with(text: &[u8], end: &str) -> bool {
+    text.ends_with(end.as_bytes())
+}
 
 #[test]
 fn a_station_with_nothing_in_it_is_served(rt: HostRuntime) -> Result<(), Fail> {
-    are_met(&rt, rt.alloc(), &A_STATION_WITH_NOTHING_IN_IT_IS_SERVED)
+    let alloc = rt.alloc();
+    let want = joined(alloc, &[EMPTY_PAGE, "status 0\n"])?;
+    let (logs, links) = (Vec::new(alloc), Vec::new(alloc));
+    writes(
+        &rt,
+        alloc,
+        &WORDS,
+        "",
+        logs,
+        links,
+        want.as_str(),
+        Status::Done,
+    )
 }
-
-const A_READ_FAILS_IN_THE_MIDDLE: [Row<'static>; 1] = [
-    // The lines of 1,024 bytes are read, among them that of 62 s.
-    Row {
-        station: &[RADIO],
-        text: &TWO_MINUTES,
-        fails: 3,
-        want: &[Want::Is(&[LONE, LONE_PAGE, "status 4 read feed 0\n"])],
-        end: Status::ReadFault,
-        ..HEARD
-    },
-];
 
 #[test]
-fn a_read_fails_in_the_middle(rt: HostRuntime) -> Result<(), Fail> {
-    are_met(&rt, rt.alloc(), &A_READ_FAILS_IN_THE_MIDDLE)
+fn a_link_that_ends_is_told(rt: HostRuntime) -> Result<(), Fail> {
+    let alloc = rt.alloc();
+    let links = one(alloc, asked(alloc, 1, 0)?)?;
+    let mut outside = outside_of(alloc, LINK, Vec::new(alloc), links, OpenGate::new(), 0)?;
+    let (written, status) = written_over(&rt, alloc, &DURING_2, &mut outside, 0)?;
+    let line = "link 0 answered 1 dropped 0 again 0 kissed 0 unkept 0 end linkend\n";
+    let want = joined(alloc, &[line, EMPTY_PAGE, "status 0\n"])?;
+    same(&rt, written.as_slice(), want.as_str().as_bytes());
+    same(&rt, status, Status::Done);
+    let link = outside.link(0).ok_or("no link")?;
+    let (count, last) = replies(link);
+    same(&rt, count, 1);
+    assert!(rt; last.is_some_and(|reply| reply.starts_with(&[0xe4, 0x00, 0x06, 0xec])));
+    assert!(rt; outside.turns().is_some());
+    Ok(())
 }
 
-const A_RADIO_IS_HEARD_WITH_ITS_DELAY: [Row<'static>; 1] = [
-    // A closing mark is dated as much earlier as the signal was on its way.
-    Row {
-        station: &[
-            "[[radio]]\nplan = \"msf\"\nlog = \"a\"\n",
-            SECOND_RADIO,
-            "delay = 1400\n",
+#[test]
+fn a_server_is_polled(rt: HostRuntime) -> Result<(), Fail> {
+    let alloc = rt.alloc();
+    let links = one(alloc, answered(alloc, STRANGER, 0)?)?;
+    let want = joined(
+        alloc,
+        &[
+            "j2 1 0 0 1010000 declined 1\n",
+            "j2 2 0 0 1010000 sample 17077897383243199545 40802189 8837 2 7f000001 256 512\n",
+            "page 2 0 0 494e4954 0 1010000 0 0 1048576 0000000000000000 0 0\n",
+            "status 0\n",
         ],
-        files: &[File {
-            name: "b",
-            text: &TWO_MINUTES,
-            ..FILE
-        }],
-        want: &[Want::Is(&[
+    )?;
+    let logs = Vec::new(alloc);
+    writes(
+        &rt,
+        alloc,
+        &WORDS,
+        SERVER,
+        logs,
+        links,
+        want.as_str(),
+        Status::Done,
+    )
+}
+
+// The link's third call, its second sending, fails.
+#[test]
+fn a_poller_ends_by_a_fault(rt: HostRuntime) -> Result<(), Fail> {
+    let alloc = rt.alloc();
+    let links = one(alloc, answered(alloc, ASKED, 3)?)?;
+    let want = joined(
+        alloc,
+        &[
+            "j2 1 0 0 1010000 sample 17077897383243199545 40802189 8837 2 7f000001 256 512\n",
+            "page 1 0 0 494e4954 0 1010000 0 0 1048576 0000000000000000 0 0\n",
+            "status 7 feed 0\n",
+        ],
+    )?;
+    let logs = Vec::new(alloc);
+    let end = Status::LinkFault;
+    writes(
+        &rt,
+        alloc,
+        &WORDS,
+        SERVER_3,
+        logs,
+        links,
+        want.as_str(),
+        end,
+    )
+}
+
+// Each of the first three sendings is the second call of its turn.
+#[test]
+fn the_third_sending_fails(rt: HostRuntime) -> Result<(), Fail> {
+    let alloc = rt.alloc();
+    let text = minutes(alloc, 2)?;
+    let logs = one(alloc, file(alloc, "a", text.as_str(), 0)?)?;
+    let links = one(alloc, asked(alloc, 5, 6)?)?;
+    let station = joined(alloc, &[RADIO, LINK])?;
+    let mut outside = outside_of(alloc, station.as_str(), logs, links, OpenGate::new(), 0)?;
+    let (written, status) = written_over(&rt, alloc, &AFTER_4, &mut outside, 0)?;
+    let line = "link 0 answered 2 dropped 0 again 0 kissed 0 unkept 0 end linkfault\n";
+    let want = joined(
+        alloc,
+        &[LONE, VERDICT, line, VERDICT_PAGE, "status 7 link 0\n"],
+    )?;
+    same(&rt, written.as_slice(), want.as_str().as_bytes());
+    same(&rt, status, Status::LinkFault);
+    let link = outside.link(0).ok_or("no link")?;
+    same(&rt, replies(link).0, 2);
+    Ok(())
+}
+
+#[test]
+fn a_hearing_fails(rt: HostRuntime) -> Result<(), Fail> {
+    let alloc = rt.alloc();
+    let links = one(alloc, asked(alloc, 5, 3)?)?;
+    let line = "link 0 answered 1 dropped 0 again 0 kissed 0 unkept 0 end linkfault\n";
+    let want = joined(alloc, &[line, EMPTY_PAGE, "status 7 link 0\n"])?;
+    let logs = Vec::new(alloc);
+    let end = Status::LinkFault;
+    writes(&rt, alloc, &DURING_2, LINK, logs, links, want.as_str(), end)
+}
+
+// The lines of 1,024 bytes are read, among them that of 62 s.
+#[test]
+fn a_read_fails_in_the_middle(rt: HostRuntime) -> Result<(), Fail> {
+    let alloc = rt.alloc();
+    let text = minutes(alloc, 2)?;
+    let logs = one(alloc, file(alloc, "a", text.as_str(), 3)?)?;
+    let want = joined(alloc, &[LONE, LONE_PAGE, "status 4 read feed 0\n"])?;
+    let links = Vec::new(alloc);
+    let end = Status::ReadFault;
+    writes(&rt, alloc, &WORDS, RADIO, logs, links, want.as_str(), end)
+}
+
+// A closing mark is dated as much earlier as the signal was on its way.
+#[test]
+fn a_radio_is_heard_with_its_delay(rt: HostRuntime) -> Result<(), Fail> {
+    let alloc = rt.alloc();
+    let text = minutes(alloc, 2)?;
+    let mut logs = Vec::new(alloc);
+    logs.push(file(alloc, "a", "", 0)?)?;
+    logs.push(file(alloc, "b", text.as_str(), 0)?)?;
+    let want = joined(
+        alloc,
+        &[
             "j2 1 0 1 61998600 lone 3976257600\n",
             "j2 2 0 1 121998600 verdict 3976257660 0\n",
             "page 2 0 0 494e4954 0 121998600 0 0 1048576 0000000000000000 0 0\n",
             "status 0\n",
-        ])],
-        ..HEARD
-    },
-];
-
-#[test]
-fn a_radio_is_heard_with_its_delay(rt: HostRuntime) -> Result<(), Fail> {
-    are_met(&rt, rt.alloc(), &A_RADIO_IS_HEARD_WITH_ITS_DELAY)
+        ],
+    )?;
+    let links = Vec::new(alloc);
+    let end = Status::Done;
+    writes(&rt, alloc, &WORDS, DELAYED, logs, links, want.as_str(), end)
 }
-
-const A_BAD_LINE_ENDS_ITS_FEED_ALONE: [Row<'static>; 1] = [Row {
-    station: &[RADIO, SECOND_RADIO],
-    text: &[Piece::Text("1000000 100000\n900000 100000\n")],
-    files: &[File {
-        name: "b",
-        text: &TWO_MINUTES,
-        ..FILE
-    }],
-    want: &[Want::Is(&[
-        "j2 1 0 1 62000000 lone 3976257600\n",
-        "j2 2 0 1 122000000 verdict 3976257660 0\n",
-        VERDICT_PAGE,
-        "status 5 line 0 2\n",
-    ])],
-    end: Status::BadLine,
-    ..HEARD
-}];
 
 #[test]
 fn a_bad_line_ends_its_feed_alone(rt: HostRuntime) -> Result<(), Fail> {
-    are_met(&rt, rt.alloc(), &A_BAD_LINE_ENDS_ITS_FEED_ALONE)
+    let alloc = rt.alloc();
+    let text = minutes(alloc, 2)?;
+    let mut logs = Vec::new(alloc);
+    logs.push(file(alloc, "a", "1000000 100000\n900000 100000\n", 0)?)?;
+    logs.push(file(alloc, "b", text.as_str(), 0)?)?;
+    let want = joined(
+        alloc,
+        &[
+            "j2 1 0 1 62000000 lone 3976257600\n",
+            "j2 2 0 1 122000000 verdict 3976257660 0\n",
+            VERDICT_PAGE,
+            "status 5 line 0 2\n",
+        ],
+    )?;
+    let links = Vec::new(alloc);
+    let end = Status::BadLine;
+    writes(
+        &rt,
+        alloc,
+        &WORDS,
+        TWO_RADIOS,
+        logs,
+        links,
+        want.as_str(),
+        end,
+    )
 }
-
-const A_FULL_JOURNAL_IS_TOLD: [Row<'static>; 1] = [Row {
-    words: &LIMIT_1,
-    station: &[RADIO],
-    text: &TWO_MINUTES,
-    want: &[Want::Is(&[LONE, LONE_PAGE, "status 6 full 1\n"])],
-    end: Status::JournalFull,
-    ..HEARD
-}];
 
 #[test]
 fn a_full_journal_is_told(rt: HostRuntime) -> Result<(), Fail> {
-    are_met(&rt, rt.alloc(), &A_FULL_JOURNAL_IS_TOLD)
+    let alloc = rt.alloc();
+    let text = minutes(alloc, 2)?;
+    let logs = one(alloc, file(alloc, "a", text.as_str(), 0)?)?;
+    let want = joined(alloc, &[LONE, LONE_PAGE, "status 6 full 1\n"])?;
+    let links = Vec::new(alloc);
+    let end = Status::JournalFull;
+    writes(&rt, alloc, &LIMIT_1, RADIO, logs, links, want.as_str(), end)
 }
 
-const THE_LEAST_NUMBER_IS_TOLD: [Row<'static>; 2] = [
-    // A bad line has a lesser number than a full journal, and a read that failed than a bad line, on whatever feed.
-    Row {
-        words: &LIMIT_1,
-        station: &[RADIO],
-        text: &[Piece::Minutes(2), Piece::Text("bad\n")],
-        want: &[Want::Is(&[LONE, LONE_PAGE, "status 5 line 0 121\n"])],
-        end: Status::BadLine,
-        ..HEARD
-    },
-    Row {
-        station: &[RADIO, SECOND_RADIO],
-        text: &[Piece::Text("bad\n")],
-        files: &[File {
-            name: "b",
-            fails: 1,
-            ..FILE
-        }],
-        want: &[Want::Is(&[EMPTY_PAGE, "status 4 read feed 1\n"])],
-        end: Status::ReadFault,
-        ..HEARD
-    },
-];
-
+// A bad line has a lesser number than a full journal, and a read that failed than a bad line, on whatever feed.
 #[test]
 fn the_least_number_is_told(rt: HostRuntime) -> Result<(), Fail> {
-    are_met(&rt, rt.alloc(), &THE_LEAST_NUMBER_IS_TOLD)
+    let alloc = rt.alloc();
+    let mut text = minutes(alloc, 2)?;
+    text.push_str("bad\n")?;
+    let logs = one(alloc, file(alloc, "a", text.as_str(), 0)?)?;
+    let want = joined(alloc, &[LONE, LONE_PAGE, "status 5 line 0 121\n"])?;
+    let links = Vec::new(alloc);
+    let end = Status::BadLine;
+    writes(&rt, alloc, &LIMIT_1, RADIO, logs, links, want.as_str(), end)?;
+    let mut logs = Vec::new(alloc);
+    logs.push(file(alloc, "a", "bad\n", 0)?)?;
+    logs.push(file(alloc, "b", "", 1)?)?;
+    let want = joined(alloc, &[EMPTY_PAGE, "status 4 read feed 1\n"])?;
+    let links = Vec::new(alloc);
+    let end = Status::ReadFault;
+    writes(
+        &rt,
+        alloc,
+        &WORDS,
+        TWO_RADIOS,
+        logs,
+        links,
+        want.as_str(),
+        end,
+    )
 }
 
-const ONE_LOG_OF_TWO_RADIOS_IS_OPENED_ONCE: [Row<'static>; 1] = [Row {
-    station: &[RADIO, RADIO],
-    want: &[Want::Is(&["status 2 open feed 1\n"])],
-    end: Status::OpenFault,
-    ..HEARD
-}];
+// Of two with one number the first is reported; the rest of the station goes on.
+#[test]
+fn the_first_of_two_is_told(rt: HostRuntime) -> Result<(), Fail> {
+    let alloc = rt.alloc();
+    let mut links = Vec::new(alloc);
+    links.push(asked(alloc, 5, 3)?)?;
+    links.push(asked(alloc, 5, 1)?)?;
+    let want = joined(
+        alloc,
+        &[
+            "link 0 answered 1 dropped 0 again 0 kissed 0 unkept 0 end linkfault\n",
+            "link 1 answered 0 dropped 0 again 0 kissed 0 unkept 0 end linkfault\n",
+            EMPTY_PAGE,
+            "status 7 link 0\n",
+        ],
+    )?;
+    let logs = Vec::new(alloc);
+    let end = Status::LinkFault;
+    writes(
+        &rt,
+        alloc,
+        &DURING_2,
+        TWO_LINKS,
+        logs,
+        links,
+        want.as_str(),
+        end,
+    )?;
+    let mut links = Vec::new(alloc);
+    links.push(asked(alloc, 2, 0)?)?;
+    links.push(asked(alloc, 5, 3)?)?;
+    let want = joined(
+        alloc,
+        &[
+            "link 0 answered 2 dropped 0 again 0 kissed 0 unkept 0 end count\n",
+            "link 1 answered 1 dropped 0 again 0 kissed 0 unkept 0 end linkfault\n",
+            EMPTY_PAGE,
+            "status 7 link 1\n",
+        ],
+    )?;
+    let logs = Vec::new(alloc);
+    writes(
+        &rt,
+        alloc,
+        &DURING_2,
+        TWO_LINKS,
+        logs,
+        links,
+        want.as_str(),
+        end,
+    )
+}
+
+// The feeds of a station are numbered in order, the radios first. What was opened was not used.
+#[test]
+fn each_opening_may_fail(rt: HostRuntime) -> Result<(), Fail> {
+    let alloc = rt.alloc();
+    for (open, want) in [
+        (1, "status 2 open station\n"),
+        (2, "status 2 open feed 0\n"),
+        (3, "status 2 open feed 1\n"),
+        (4, "status 2 open link 0\n"),
+    ] {
+        let logs = one(alloc, file(alloc, "a", "bad\n", 0)?)?;
+        let mut links = Vec::new(alloc);
+        links.push(answered(alloc, ASKED, 0)?)?;
+        links.push(asked(alloc, 1, 0)?)?;
+        let mut outside = outside_of(alloc, ALL, logs, links, OpenGate::new(), open)?;
+        let (written, status) = written_over(&rt, alloc, &WORDS, &mut outside, 0)?;
+        same(&rt, written.as_slice(), want.as_bytes());
+        same(&rt, status, Status::OpenFault);
+        for place in 0..2usize {
+            assert!(rt; outside.link(place).is_some_and(|link| link.count() == 0));
+        }
+    }
+    Ok(())
+}
 
 #[test]
 fn one_log_of_two_radios_is_opened_once(rt: HostRuntime) -> Result<(), Fail> {
-    are_met(&rt, rt.alloc(), &ONE_LOG_OF_TWO_RADIOS_IS_OPENED_ONCE)
+    let alloc = rt.alloc();
+    let logs = one(alloc, file(alloc, "a", "", 0)?)?;
+    let links = Vec::new(alloc);
+    let want = "status 2 open feed 1\n";
+    let end = Status::OpenFault;
+    writes(&rt, alloc, &WORDS, SAME_LOG, logs, links, want, end)
 }
-
-const A_FAULTY_STATION_IS_NOT_SERVED: [Row<'static>; 1] = [Row {
-    station: &["holdover = 600\n"],
-    want: &[Want::Is(&["status 3 station unknown holdover\n"])],
-    end: Status::Station,
-    ..SERVE
-}];
 
 #[test]
 fn a_faulty_station_is_not_served(rt: HostRuntime) -> Result<(), Fail> {
-    are_met(&rt, rt.alloc(), &A_FAULTY_STATION_IS_NOT_SERVED)
-}
-
-const FOUR_AND_ONE: [&str; 7] = ["serve", "--station", "s", "--during", "4", "--after", "1"];
-
-// A server, a link and a radio: the feeds of a station are numbered in order, the radios first.
-const ALL: Row<'static> = Row {
-    station: &[
-        LINK,
-        "[[server]]\naddress = \"127.0.0.1\"\nport = 123\n",
-        RADIO,
-    ],
-    text: &[Piece::Text("bad\n")],
-    links: &[
-        Wire {
-            moments: &[1_000_000],
-            hears: &[Datagram {
-                times: 2,
-                ..ANSWERS
-            }],
-            ..WIRE
-        },
-        Wire {
-            hears: &[ASKS],
-            ..WIRE
-        },
-    ],
-    ..HEARD
-};
-
-// Nothing was received or sent on either link.
-const UNUSED: [Sent<'static>; 2] = [Sent {
-    events: Some(0),
-    ..SENT
-}; 2];
-
-const UNOPENED: Row<'static> = Row {
-    end: Status::OpenFault,
-    sent: &UNUSED,
-    ..ALL
-};
-
-const EACH_OPENING_MAY_FAIL: [Row<'static>; 4] = [
-    Row {
-        opening: 1,
-        want: &[Want::Is(&["status 2 open station\n"])],
-        ..UNOPENED
-    },
-    Row {
-        opening: 2,
-        want: &[Want::Is(&["status 2 open feed 0\n"])],
-        ..UNOPENED
-    },
-    Row {
-        opening: 3,
-        want: &[Want::Is(&["status 2 open feed 1\n"])],
-        ..UNOPENED
-    },
-    Row {
-        opening: 4,
-        want: &[Want::Is(&["status 2 open link 0\n"])],
-        ..UNOPENED
-    },
-];
-
-// What was opened was not used.
-#[test]
-fn each_opening_may_fail(rt: HostRuntime) -> Result<(), Fail> {
-    are_met(&rt, rt.alloc(), &EACH_OPENING_MAY_FAIL)
+    let alloc = rt.alloc();
+    let (logs, links) = (Vec::new(alloc), Vec::new(alloc));
+    let want = "status 3 station unknown holdover\n";
+    let end = Status::Station;
+    writes(
+        &rt,
+        alloc,
+        &WORDS,
+        "holdover = 600\n",
+        logs,
+        links,
+        want,
+        end,
+    )
 }
 
 // The lines of the journal, of the link, of the page, and the status line, each of which may not be taken.
-const WRITINGS: Pieces<'static> = Pieces {
-    run: Row {
-        words: &AFTER_4,
-        station: &[RADIO, LINK],
-        text: &TWO_MINUTES,
-        links: &[ASKED_5],
-        ..HEARD
-    },
-    pieces: &[
-        LONE,
-        VERDICT,
-        "link 0 answered 4 dropped 0 again 0 kissed 0 unkept 0 end count\n",
-        VERDICT_PAGE,
-        "status 0\n",
-    ],
-    end: Status::Done,
-};
-
 #[test]
 fn each_writing_may_fail(rt: HostRuntime) -> Result<(), Fail> {
-    stops_at_each_writing(&rt, rt.alloc(), &WRITINGS)
+    let alloc = rt.alloc();
+    let line = "link 0 answered 4 dropped 0 again 0 kissed 0 unkept 0 end count\n";
+    let lines = [LONE, VERDICT, line, VERDICT_PAGE, "status 0\n"];
+    let station = joined(alloc, &[RADIO, LINK])?;
+    let text = minutes(alloc, 2)?;
+    for fails in 1..7usize {
+        let logs = one(alloc, file(alloc, "a", text.as_str(), 0)?)?;
+        let links = one(alloc, asked(alloc, 5, 0)?)?;
+        let gate = OpenGate::new();
+        let mut outside = outside_of(alloc, station.as_str(), logs, links, gate, 0)?;
+        let (written, status) = written_over(&rt, alloc, &AFTER_4, &mut outside, fails as u64)?;
+        let mut want = String::new(alloc);
+        for line in lines.iter().take(fails.saturating_sub(1)) {
+            want.push_str(line)?;
+        }
+        same(&rt, written.as_slice(), want.as_str().as_bytes());
+        let end = if fails <= 5 {
+            Status::WriteFault
+        } else {
+            Status::Done
+        };
+        same(&rt, status, end);
+    }
+    Ok(())
 }
 
-// Three radios that receive alike and two links.
-const THREE_RADIOS: Row<'static> = Row {
-    words: &FOUR_AND_ONE,
-    station: &[
-        RADIO,
-        SECOND_RADIO,
-        "[[radio]]\nplan = \"dcf\"\nlog = \"c\"\n",
-        LINK,
-        SECOND_LINK,
-    ],
-    text: &FIVE_MINUTES,
-    files: &[
-        File {
-            name: "b",
-            text: &FIVE_MINUTES,
-            ..FILE
-        },
-        File {
-            name: "c",
-            text: &FIVE_MINUTES,
-            ..FILE
-        },
-    ],
-    links: &[ASKED_5, ASKED_5],
-    ..HEARD
-};
-
-// The end of what is written: the page of five minutes that three radios have received alike.
-const FIVE_OF_3: &str =
-    "page 15 1 1 44434600 17077896086183477248 302000000 4364906902 0 61542 ed00e13000000000 0 0\nstatus 0\n";
-
-// Three radios are served with a gate that holds a worker. The last reply on each link is from the page of all entries.
-fn held<R: Abort + Threads + Wait + Sync>(
+// Three radios that receive alike and two links, with a gate; what is written, and the outside.
+fn three_radios<R: Threads + Wait + Sync>(
     rt: &R,
     alloc: Global,
     gate: HoldGate,
-) -> Result<Ran<HoldGate>, Fail> {
-    let ran = run_held(rt, alloc, &THREE_RADIOS, gate)?;
-    has_held(rt, &ran.outside);
-    same_status(rt, 0, ran.status, Status::Done);
-    fits(rt, alloc, 0, ran.written.as_slice(), &Want::Ends(FIVE_OF_3))?;
-    is_replied(rt, &ran, 0);
-    is_replied(rt, &ran, 1);
-    Ok(ran)
+) -> Result<(Vec<u8>, Status, MemoryOutside<HoldGate>), Fail> {
+    let text = minutes(alloc, 5)?;
+    let mut logs = Vec::new(alloc);
+    for name in ["a", "b", "c"] {
+        logs.push(file(alloc, name, text.as_str(), 0)?)?;
+    }
+    let mut links = Vec::new(alloc);
+    links.push(asked(alloc, 5, 0)?)?;
+    links.push(asked(alloc, 5, 0)?)?;
+    let mut outside = outside_of(alloc, THREE_RADIOS_TWO_LINKS, logs, links, gate, 0)?;
+    let (written, status) = written_over(rt, alloc, &FOUR_AND_ONE, &mut outside, 0)?;
+    Ok((written, status, outside))
 }
 
-// The last datagram that a link has sent to the client is the reply from the page of five minutes.
-fn is_replied(rt: &impl Abort, ran: &Ran<HoldGate>, place: usize) {
-    match ran.outside.link(place) {
-        Some(link) => same_bytes(
-            rt,
-            place,
-            sent_to(link, Some(CLIENT)).1,
-            bytes_of(Bytes::Reply),
-        ),
-        None => holds(rt, place, false, "a link is out"),
+// The worker that a gate held has passed its place, and waited no longer than it was to; the reply of the second phase is from the page of all
+// entries on both links.
+fn held<R: Threads + Wait + Sync + Abort>(
+    rt: &R,
+    alloc: Global,
+    written: &[u8],
+    status: Status,
+    outside: &MemoryOutside<HoldGate>,
+) -> Result<(), Fail> {
+    let gate = outside.turns().ok_or("the gate is out")?;
+    assert!(rt; gate.passed(rt) >= 1);
+    assert!(rt; !gate.ran_out(rt));
+    same(&rt, status, Status::Done);
+    let end = joined(alloc, &[FIVE_OF_3, "status 0\n"])?;
+    assert!(rt; ends_with(written, end.as_str()));
+    for place in 0..2usize {
+        let link = outside.link(place).ok_or("a link is out")?;
+        same(&rt, replies(link).1, Some(&REPLY[..]));
     }
+    Ok(())
 }
 
 // The first feed waits at its first entry until a responder has answered.
 #[test]
 fn a_feed_waits_for_a_responder(rt: HostRuntime) -> Result<(), Fail> {
+    let alloc = rt.alloc();
     let gate = HoldGate::new(0, 1, 100, 3, 1, 1_000_000_000);
-    let _ran = held(&rt, rt.alloc(), gate)?;
-    Ok(())
-}
-
-// The datagram that the first link has sent at this event, or none.
-fn sent_at<G: Gate + Drop>(ran: &Ran<G>, event: usize) -> &[u8] {
-    let Some(link) = ran.outside.link(0) else {
-        return &[];
-    };
-    match link.event(event) {
-        Some(LinkEvent::Sent { to: _, bytes }) => bytes,
-        _ => &[],
-    }
+    let (written, status, outside) = three_radios(&rt, alloc, gate)?;
+    held(&rt, alloc, written.as_slice(), status, &outside)
 }
 
 // A responder waits with its first datagram until the first feed has put five entries into the journal; so the page that it reads then has them.
 #[test]
 fn a_responder_waits_for_a_feed(rt: HostRuntime) -> Result<(), Fail> {
+    let alloc = rt.alloc();
     let gate = HoldGate::new(100, 2, 0, 4, 5, 1_000_000_000);
-    let ran = held(&rt, rt.alloc(), gate)?;
-    holds(
-        &rt,
-        0,
-        sent_at(&ran, 2).starts_with(&TIME),
-        "its first reply",
-    );
-    Ok(())
-}
-
-const KEYED: Row<'static> = Row {
-    words: &AFTER_4,
-    station: &[RADIO, LINK, KEY],
-    text: &FIVE_MINUTES,
-    links: &[Wire {
-        hears: &[
-            Datagram {
-                bytes: Bytes::Authentic,
-                ..ASKS
-            },
-            Datagram {
-                bytes: Bytes::Forged,
-                ..ASKS
-            },
-            ASKS,
-        ],
-        ..WIRE
-    }],
-    ..HEARD
-};
-
-// The first request is authentic by the station's key. The second has a wrong last byte, and the third has no digest.
-#[test]
-fn a_reply_is_authentic_where_its_request_is(rt: HostRuntime) -> Result<(), Fail> {
-    let ran = run(&rt, rt.alloc(), &KEYED)?;
-    same_status(&rt, 0, ran.status, Status::Done);
-    same_bytes(&rt, 0, sent_at(&ran, 2), bytes_of(Bytes::Sealed));
-    same_bytes(&rt, 1, sent_at(&ran, 5), bytes_of(Bytes::Reply));
-    same_bytes(&rt, 2, sent_at(&ran, 8), bytes_of(Bytes::Reply));
+    let (written, status, outside) = three_radios(&rt, alloc, gate)?;
+    held(&rt, alloc, written.as_slice(), status, &outside)?;
+    let link = outside.link(0).ok_or("a link is out")?;
+    let Some(LinkEvent::Sent { bytes, .. }) = link.event(2) else {
+        return Err("the first datagram isn't answered")?;
+    };
+    assert!(rt; bytes.starts_with(&[0x24, 0x01, 0x06, 0xec]));
     Ok(())
 }
 
 // Ten entries are due, and the journal has room for three.
-const TWO_RADIOS_FILL_A_JOURNAL: Row<'static> = Row {
-    words: &[
-        "serve",
-        "--station",
-        "s",
-        "--limit",
-        "3",
-        "--during",
-        "0",
-        "--after",
-        "1",
-    ],
-    station: &[RADIO, SECOND_RADIO, LINK],
-    text: &FIVE_MINUTES,
-    files: &[File {
-        name: "b",
-        text: &FIVE_MINUTES,
-        ..FILE
-    }],
-    links: &[ASKED_5],
-    want: &[Want::Ends("status 6 full 3\n")],
-    end: Status::JournalFull,
-    sent: &[Sent {
-        count: Some(1),
-        last: &NO_TIME,
-        ..SENT
-    }],
-    ..HEARD
-};
-
 #[test]
 fn two_radios_fill_a_journal(rt: HostRuntime) -> Result<(), Fail> {
-    let ran = is_met(&rt, rt.alloc(), 0, &TWO_RADIOS_FILL_A_JOURNAL)?;
-    same_count(&rt, 0, entries_of(ran.written.as_slice()), 3);
+    let alloc = rt.alloc();
+    let text = minutes(alloc, 5)?;
+    let mut logs = Vec::new(alloc);
+    logs.push(file(alloc, "a", text.as_str(), 0)?)?;
+    logs.push(file(alloc, "b", text.as_str(), 0)?)?;
+    let links = one(alloc, asked(alloc, 5, 0)?)?;
+    let station = joined(alloc, &[TWO_RADIOS, LINK])?;
+    let mut outside = outside_of(alloc, station.as_str(), logs, links, OpenGate::new(), 0)?;
+    let (written, status) = written_over(&rt, alloc, &LIMIT_3, &mut outside, 0)?;
+    same(&rt, status, Status::JournalFull);
+    assert!(rt; ends_with(written.as_slice(), "status 6 full 3\n"));
+    let entries = written
+        .as_slice()
+        .split(|byte| *byte == b'\n')
+        .filter(|line| line.starts_with(b"j2 "));
+    same(&rt, entries.count(), 3);
+    let link = outside.link(0).ok_or("a link is out")?;
+    let (count, last) = replies(link);
+    same(&rt, count, 1);
+    assert!(rt; last.is_some_and(|reply| reply.starts_with(&[0xe4, 0x00, 0x06, 0xec])));
+    Ok(())
+}
+
+const KEY: &str = "[[key]]\nid = 1\nsecret = \"longwave\"\n";
+
+// Key 1, and what Python's hashlib gave as MD5 of `longwave` and the 48 bytes before.
+const BEHIND_REQUEST: [u8; 20] = [
+    0x00, 0x00, 0x00, 0x01, 0xb4, 0x08, 0xcf, 0x70, 0xf4, 0xde, 0x37, 0x98, 0xe7, 0x13, 0xf3, 0x1a,
+    0x2a, 0x88, 0x5f, 0x12,
+];
+
+const BEHIND_REPLY: [u8; 20] = [
+    0x00, 0x00, 0x00, 0x01, 0x55, 0xd9, 0xde, 0xba, 0x01, 0x77, 0xeb, 0x53, 0x47, 0x84, 0x82, 0xdf,
+    0x29, 0x23, 0x62, 0x77,
+];
+
+// The first request is authentic by the station's key. The second has a wrong last byte, and the third has no digest.
+#[test]
+fn a_reply_is_authentic_where_its_request_is(rt: HostRuntime) -> Result<(), Fail> {
+    let alloc = rt.alloc();
+    let mut authentic = Vec::from_slice(alloc, &REQUEST)?;
+    authentic.extend_from_slice(&BEHIND_REQUEST)?;
+    let mut wrong = Vec::from_slice(alloc, &REQUEST)?;
+    wrong.extend_from_slice(&BEHIND_REQUEST[..19])?;
+    wrong.push(0x13)?;
+    let mut datagrams = one(alloc, authentic)?;
+    datagrams.push(wrong)?;
+    datagrams.push(Vec::from_slice(alloc, &REQUEST)?)?;
+    let links = one(alloc, hears(alloc, datagrams.as_slice())?)?;
+    let text = minutes(alloc, 5)?;
+    let logs = one(alloc, file(alloc, "a", text.as_str(), 0)?)?;
+    let station = joined(alloc, &[RADIO, LINK, KEY])?;
+    let mut outside = outside_of(alloc, station.as_str(), logs, links, OpenGate::new(), 0)?;
+    let (_, status) = written_over(&rt, alloc, &AFTER_4, &mut outside, 0)?;
+    same(&rt, status, Status::Done);
+    let link = outside.link(0).ok_or("a link is out")?;
+    let mut sealed = Vec::from_slice(alloc, &REPLY)?;
+    sealed.extend_from_slice(&BEHIND_REPLY)?;
+    let wanted = [sealed.as_slice(), REPLY.as_slice(), REPLY.as_slice()];
+    for (turn, want) in wanted.iter().enumerate() {
+        let Some(LinkEvent::Sent { to: _, bytes }) = link.event(3 * turn + 2) else {
+            return Err("a datagram isn't answered")?;
+        };
+        assert_eq!(rt; bytes, *want, "{turn}");
+    }
     Ok(())
 }

@@ -1,10 +1,8 @@
-//! What tests share: a radio of DCF77 that receives the minutes from 13:00 (12:00 UTC) on 1 January 2026, by PTB's table; the answer of a server,
-//! worked by hand from RFC 5905, section 8; a client's request; and what is written of them.
-
-use crate::frames::Minute;
-use crate::pieces::{Frame, Piece};
-use crate::runs::{Datagram, File, Wire};
-use feed_link::Address;
+// What the tests of `serve` and of broken input share: minutes of DCF77 by PTB's table, 1 January 2026, 13:00 (12:00 UTC) and later; the
+// answer of a server, worked by hand from RFC 5905, section 8; and what is written of them.
+use feed_link::{Address, MemorySource, NamedLog};
+use std::alloc::{AllocError, Global};
+use tick_units::Local;
 
 pub const EMPTY_PAGE: &str = "page 0 0 0 494e4954 0 0 0 0 1048576 0000000000000000 0 0\n";
 
@@ -15,20 +13,6 @@ pub const LONE_PAGE: &str = "page 1 0 0 494e4954 0 62000000 0 0 1048576 00000000
 pub const VERDICT: &str = "j2 2 0 0 122000000 verdict 3976257660 0\n";
 
 pub const VERDICT_PAGE: &str = "page 2 0 0 494e4954 0 122000000 0 0 1048576 0000000000000000 0 0\n";
-
-pub const RADIO: &str = "[[radio]]\nplan = \"dcf\"\nlog = \"a\"\n";
-
-pub const SECOND_RADIO: &str = "[[radio]]\nplan = \"dcf\"\nlog = \"b\"\n";
-
-pub const SERVER: &str = "[[server]]\naddress = \"127.0.0.1\"\nport = 123\npolls = 1\n";
-
-pub const SERVER_3: &str = "[[server]]\naddress = \"127.0.0.1\"\nport = 123\npolls = 3\n";
-
-pub const LINK: &str = "[[link]]\nport = 5123\n";
-
-pub const SECOND_LINK: &str = "[[link]]\nport = 5124\n";
-
-pub const KEY: &str = "[[key]]\nid = 1\nsecret = \"longwave\"\n";
 
 pub const CLIENT: Address = Address {
     ip: 0x7f00_0001,
@@ -41,132 +25,51 @@ pub const ASKED: Address = Address {
 };
 
 // The answer of a server of stratum 2 to the request of 1 s, received at 2026-01-01 12:05:05 UTC and answered half a millisecond later.
-const ANSWER: [u8; 48] = [
+pub const ANSWER: [u8; 48] = [
     0x24, 0x02, 0x06, 0xec, 0x00, 0x00, 0x01, 0x00, 0x00, 0x00, 0x02, 0x00, 0x0a, 0x00, 0x00, 0x01, // to the refid
     0x00, 0x00, 0x00, 0x00, 0x00, 0x00, 0x00, 0x00, 0x80, 0x00, 0x00, 0x01, 0x00, 0x00, 0x00, 0x00, // to the origin
     0xed, 0x00, 0xe1, 0x31, 0x00, 0x00, 0x00, 0x00, 0xed, 0x00, 0xe1, 0x31, 0x00, 0x20, 0xc4, 0x9b,
 ];
 
-// A request of version 4 with a poll of 64 s, sent at 0x1122334455667788 by the client's clock.
-const REQUEST: [u8; 48] = [
-    0x23, 0x00, 0x06, 0xec, 0x00, 0x00, 0x00, 0x00, 0x00, 0x00, 0x00, 0x00, 0x00, 0x00, 0x00, 0x00, // to the refid
-    0x00, 0x00, 0x00, 0x00, 0x00, 0x00, 0x00, 0x00, 0x00, 0x00, 0x00, 0x00, 0x00, 0x00, 0x00, 0x00, // to the origin
-    0x00, 0x00, 0x00, 0x00, 0x00, 0x00, 0x00, 0x00, 0x11, 0x22, 0x33, 0x44, 0x55, 0x66, 0x77, 0x88,
+// The places that are One in the frames that announce 12:00 to 12:04 UTC.
+const NOON: [&[u64]; 5] = [
+    &[18, 20, 29, 30, 33, 35, 36, 44, 45, 51, 52, 55],
+    &[18, 20, 21, 28, 29, 30, 33, 35, 36, 44, 45, 51, 52, 55],
+    &[18, 20, 22, 28, 29, 30, 33, 35, 36, 44, 45, 51, 52, 55],
+    &[18, 20, 21, 22, 29, 30, 33, 35, 36, 44, 45, 51, 52, 55],
+    &[18, 20, 23, 28, 29, 30, 33, 35, 36, 44, 45, 51, 52, 55],
 ];
 
-// The reply to it from the page of five minutes, where it came and was answered at 303 s, which is 12:04:01 UTC.
-const REPLY: [u8; 48] = [
-    0x24, 0x01, 0x06, 0xec, 0x00, 0x00, 0x00, 0x00, 0x00, 0x00, 0xf0, 0x67, 0x44, 0x43, 0x46, 0x00, // to the refid
-    0xed, 0x00, 0xe1, 0x30, 0x00, 0x00, 0x00, 0x00, 0x11, 0x22, 0x33, 0x44, 0x55, 0x66, 0x77, 0x88, // to the origin
-    0xed, 0x00, 0xe1, 0x31, 0x00, 0x00, 0x00, 0x00, 0xed, 0x00, 0xe1, 0x31, 0x00, 0x00, 0x00, 0x00,
-];
-
-// The request, key 1, and what Python's hashlib gave as MD5 of `longwave` and the request.
-const AUTHENTIC: [u8; 68] = [
-    0x23, 0x00, 0x06, 0xec, 0x00, 0x00, 0x00, 0x00, 0x00, 0x00, 0x00, 0x00, 0x00, 0x00, 0x00, 0x00,
-    0x00, 0x00, 0x00, 0x00, 0x00, 0x00, 0x00, 0x00, 0x00, 0x00, 0x00, 0x00, 0x00, 0x00, 0x00, 0x00,
-    0x00, 0x00, 0x00, 0x00, 0x00, 0x00, 0x00, 0x00, 0x11, 0x22, 0x33, 0x44, 0x55, 0x66, 0x77, 0x88,
-    0x00, 0x00, 0x00, 0x01, 0xb4, 0x08, 0xcf, 0x70, 0xf4, 0xde, 0x37, 0x98, 0xe7, 0x13, 0xf3, 0x1a,
-    0x2a, 0x88, 0x5f, 0x12,
-];
-
-// The same with another last byte.
-const FORGED: [u8; 68] = [
-    0x23, 0x00, 0x06, 0xec, 0x00, 0x00, 0x00, 0x00, 0x00, 0x00, 0x00, 0x00, 0x00, 0x00, 0x00, 0x00,
-    0x00, 0x00, 0x00, 0x00, 0x00, 0x00, 0x00, 0x00, 0x00, 0x00, 0x00, 0x00, 0x00, 0x00, 0x00, 0x00,
-    0x00, 0x00, 0x00, 0x00, 0x00, 0x00, 0x00, 0x00, 0x11, 0x22, 0x33, 0x44, 0x55, 0x66, 0x77, 0x88,
-    0x00, 0x00, 0x00, 0x01, 0xb4, 0x08, 0xcf, 0x70, 0xf4, 0xde, 0x37, 0x98, 0xe7, 0x13, 0xf3, 0x1a,
-    0x2a, 0x88, 0x5f, 0x13,
-];
-
-// The reply, key 1, and what Python's hashlib gave as MD5 of `longwave` and the reply.
-const SEALED: [u8; 68] = [
-    0x24, 0x01, 0x06, 0xec, 0x00, 0x00, 0x00, 0x00, 0x00, 0x00, 0xf0, 0x67, 0x44, 0x43, 0x46, 0x00,
-    0xed, 0x00, 0xe1, 0x30, 0x00, 0x00, 0x00, 0x00, 0x11, 0x22, 0x33, 0x44, 0x55, 0x66, 0x77, 0x88,
-    0xed, 0x00, 0xe1, 0x31, 0x00, 0x00, 0x00, 0x00, 0xed, 0x00, 0xe1, 0x31, 0x00, 0x00, 0x00, 0x00,
-    0x00, 0x00, 0x00, 0x01, 0x55, 0xd9, 0xde, 0xba, 0x01, 0x77, 0xeb, 0x53, 0x47, 0x84, 0x82, 0xdf,
-    0x29, 0x23, 0x62, 0x77,
-];
-
-/// The bytes of a datagram. Where a test has them by name, they are no part of its proof.
-#[derive(Clone, Copy)]
-pub enum Bytes {
-    /// None.
-    Nothing,
-    /// What a request begins with.
-    Begin,
-    Request,
-    Answer,
-    Reply,
-    Authentic,
-    Forged,
-    Sealed,
+pub fn moment(microseconds: u32) -> Local {
+    Local::new(u64::from(microseconds)).unwrap()
 }
 
-/// These bytes.
-pub fn bytes_of(bytes: Bytes) -> &'static [u8] {
-    match bytes {
-        Bytes::Nothing => &[],
-        Bytes::Begin => &[0x23, 0x00, 0x06, 0xec],
-        Bytes::Request => &REQUEST,
-        Bytes::Answer => &ANSWER,
-        Bytes::Reply => &REPLY,
-        Bytes::Authentic => &AUTHENTIC,
-        Bytes::Forged => &FORGED,
-        Bytes::Sealed => &SEALED,
+// The log of this many minutes: a mark at 0, their frames from 2 s on, and the mark that closes the last.
+pub fn minutes(alloc: Global, count: usize) -> Result<String, AllocError> {
+    let mut text = String::from_str(alloc, "0 100000\n")?;
+    let mut start = 2u64;
+    for ones in NOON.iter().take(count) {
+        for place in 0..59u64 {
+            let at = start.saturating_add(place).saturating_mul(1_000_000);
+            let width = if ones.contains(&place) { 2 } else { 1 };
+            writeln!(text, "{at} {width}00000")?;
+        }
+        start = start.saturating_add(60);
     }
+    writeln!(text, "{start}000000 100000")?;
+    Ok(text)
 }
 
-/// What a reply begins with that has no time to give, and one that has.
-pub const NO_TIME: [u8; 4] = [0xe4, 0x00, 0x06, 0xec];
+// A file of this name, whose reading of this number fails.
+pub fn file(alloc: Global, name: &str, text: &str, fails: u64) -> Result<NamedLog, AllocError> {
+    let bytes = Vec::from_slice(alloc, text.as_bytes())?;
+    let source = MemorySource::new(bytes, vec![in alloc; fails]?);
+    Ok(NamedLog::new(String::from_str(alloc, name)?, source))
+}
 
-pub const TIME: [u8; 4] = [0x24, 0x01, 0x06, 0xec];
-
-/// The request of the client, at 303 s.
-pub const ASKS: Datagram = Datagram {
-    from: CLIENT,
-    at: 303_000_000,
-    bytes: Bytes::Request,
-    zeros: 0,
-    times: 1,
-};
-
-/// The answer of the server to the request of 1 s.
-pub const ANSWERS: Datagram = Datagram {
-    from: ASKED,
-    at: 1_010_000,
-    bytes: Bytes::Answer,
-    zeros: 0,
-    times: 1,
-};
-
-/// A link that receives nothing but its end.
-pub const WIRE: Wire<'static> = Wire {
-    moments: &[],
-    hears: &[],
-    fails: 0,
-};
-
-/// An empty file.
-pub const FILE: File<'static> = File {
-    name: "a",
-    text: &[],
-    bytes: &[],
-    fails: 0,
-};
-
-/// The log of two of the minutes.
-pub const TWO_MINUTES: [Piece<'static>; 1] = [Piece::Minutes(2)];
-
-/// The log of five of the minutes.
-pub const FIVE_MINUTES: [Piece<'static>; 1] = [Piece::Minutes(5)];
-
-/// A frame of 59 marks that begins at 2 s, in a log of DCF77. Each bit is Zero.
-pub const FRAME: Frame<'static> = Frame {
-    before: "",
-    minute: Minute::Plain,
-    start: 2_000_000,
-    spacing: 1_000_000,
-    from: 0,
-    to: 59,
-};
+// A list of one.
+pub fn one<T: Drop>(alloc: Global, item: T) -> Result<Vec<T>, AllocError> {
+    let mut items = Vec::new(alloc);
+    items.push(item)?;
+    Ok(items)
+}
