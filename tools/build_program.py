@@ -3,14 +3,12 @@
 
     tools/build_program.py
 
-The launcher `radio_ntpd` calls it where the program isn't built yet, or a source is newer than it. In one checkout library builds
-wait for one another, so the crates are built in copies of the checkout ("lanes"), which take finished libraries from each other by
-the toolchain's own means. The crates with the longest chain of others above them come first. Crates of tests are left out, and
-nothing of a proof is. The program itself is built last, in the checkout.
+The launcher `radio_ntpd` calls it where the program isn't built yet, or a source is newer than it. It runs the toolchain's gate, `rt ci`, on
+a copy of those crates, without the crates of tests and without wrong bodies; nothing of a proof is left out. The gate proves as many crates
+side by side as processors and memory allow, the longest chain first, and keeps what it has proved beside the toolchain. So a build that was
+stopped goes on where it was, and so does the gate of the whole repository. Who may not write there begins anew.
 
-A lane needs 5 GB of memory. Lanes lie in $XDG_CACHE_HOME/radio_ntpd (or ~/.cache/radio_ntpd), and what was proved there is kept, so
-a build that was stopped goes on where it was. The toolchain shares libraries by a folder beside its own. Who may not write there
-has one lane, the checkout itself. Needs `rt` and Python 3.11.
+The copy and the log lie in $XDG_CACHE_HOME/radio_ntpd (or ~/.cache/radio_ntpd). Needs `rt` and Python 3.11.
 
 Exit status: 0 built, 69 no toolchain, 70 a crate isn't proved or the disk failed, 130 stopped by a signal.
 """
@@ -18,6 +16,7 @@ Exit status: 0 built, 69 no toolchain, 70 a crate isn't proved or the disk faile
 import contextlib
 import fcntl
 import os
+import re
 import shutil
 import signal
 import subprocess
@@ -26,15 +25,13 @@ import threading
 import time
 from pathlib import Path
 
-from build_lanes import cache_of, make_lanes, shares_libraries
+from build_copy import cache_of, keeps_proofs, make_copy, take_program
 from crate_graph import PROGRAM, chains, count_lines, read_crates
 
-MOST_JOBS = 4
-# What a crate gets at least: a build's jobs stay as they were when it began, and the lanes beside it may soon have nothing to do.
-LEAST_JOBS = 2
-# What the crate that begins the longest chain gets at least, also where that is more than the processors: all others wait for it in the end.
-CHAIN_JOBS = 3
 NO_TOOLCHAIN, FAILED, STOPPED = 69, 70, 130
+# A crate that is proved, by an earlier run or by this one, and one that isn't.
+PROVED = re.compile(r"rt: (\w+) (?:proved$|is kept: )")
+REFUSED = re.compile(r"rt: (\w+)(?:: its tests are)? NOT PROVED")
 
 
 def as_time(seconds: float) -> str:
@@ -42,146 +39,125 @@ def as_time(seconds: float) -> str:
     return f"{int(seconds) // 60}:{int(seconds) % 60:02}"
 
 
-class Build:
-    """One build: what is done, what runs, and what is left."""
+def in_hand(session: int) -> set[str]:
+    """Returns the crates that the processes of a session are proving, where the host tells."""
+    names = set()
+    for folder in Path("/proc").glob("[0-9]*"):
+        with contextlib.suppress(OSError, ValueError, IndexError):
+            words = (folder / "cmdline").read_bytes().split(b"\0")
+            name = words[words.index(b"--crate-name") + 1]
+            if os.getsid(int(folder.name)) == session:
+                names.add(name.decode())
+    return names
 
-    def __init__(self, top: Path, logs: Path, crates: dict[str, list[str]], processors: int, lanes: int):
-        self.top, self.logs, self.crates, self.processors, self.lanes = top, logs, crates, processors, lanes
-        self.lines = {name: count_lines(top / "crates" / name) for name in crates}
-        self.chain = chains(crates, self.lines)
+
+class Build:
+    """One build: what is done, what failed, and how much is left."""
+
+    def __init__(self, crates: dict[str, int], chains: dict[str, int], processors: int):
+        """`crates` are the lines of each crate, and `chains` those of the longest chain from it up to the program."""
+        self.crates, self.chains, self.processors = crates, chains, processors
         self.done: set[str] = set()
-        self.running: dict[str, tuple[subprocess.Popen, int]] = {}
-        self.failed: str | None = None
-        self.is_stopped = False
-        self.changed = threading.Condition()
+        self.refused: str | None = None
         self.started = time.monotonic()
 
-    def next_crate(self) -> str | None:
-        """Returns the crate to build next: of those whose libraries are done, the one with the longest chain above it."""
-        ready = [
-            name
-            for name in self.crates
-            if name not in self.done and name not in self.running and all(it in self.done for it in self.crates[name])
-        ]
-        return max(ready, key=self.chain.__getitem__, default=None)
-
-    def jobs(self, name: str) -> int:
-        """Returns how many jobs a crate gets: the processors that nothing else uses, shared with what can start beside it."""
-        idle = self.processors - sum(jobs for _, jobs in self.running.values())
-        waiting = sum(
-            name not in self.done and name not in self.running and all(it in self.done for it in self.crates[name])
-            for name in self.crates
-        )
-        beside = min(waiting, self.lanes - len(self.running))
-        longest = all(self.chain[it] <= self.chain[name] for it in self.crates if it not in self.done)
-        least = min(CHAIN_JOBS if longest else LEAST_JOBS, self.processors)
-        return max(least, min(MOST_JOBS, idle // max(1, beside)))
-
-    def start(self, name: str, lane: Path) -> subprocess.Popen:
-        """Starts the build of a crate in a lane, in a process group of its own; the program's runs in the checkout."""
-        jobs = self.jobs(name)
-        is_program = name == PROGRAM
-        words = ["rt", "run" if is_program else "lib", "--jobs", str(jobs)]
-        with open(self.logs / f"{name}.log", "wb") as log:
-            child = subprocess.Popen(
-                words,
-                cwd=(self.top if is_program else lane) / "crates" / name,
-                stdin=subprocess.DEVNULL,
-                stdout=log,
-                stderr=subprocess.STDOUT,
-                start_new_session=True,
-            )
-        self.running[name] = child, jobs
-        return child
-
-    def is_built(self, name: str, status: int) -> bool:
-        """Returns whether a crate was built. Without arguments the program prints a usage error: that it ran shows that it is built."""
-        if name != PROGRAM:
-            return status == 0
-        return b"\nstatus 1 usage\n" in b"\n" + (self.logs / f"{name}.log").read_bytes()
-
-    def work(self, lane: Path) -> None:
-        """Builds crates in a lane until none is left, one fails, or the build is stopped."""
-        while True:
-            with self.changed:
-                while (name := self.next_crate()) is None or self.failed or self.is_stopped:
-                    if self.failed or self.is_stopped or len(self.done) + len(self.running) == len(self.crates):
-                        return
-                    self.changed.wait()
-                child = self.start(name, lane)
-            status = child.wait()
-            with self.changed:
-                del self.running[name]
-                if self.is_stopped:
-                    pass
-                elif self.is_built(name, status):
-                    self.done.add(name)
-                    if not sys.stderr.isatty():
-                        print(self.progress(f"{name} is proved"), file=sys.stderr, flush=True)
-                else:
-                    self.failed = self.failed or name
-                self.changed.notify_all()
-
-    def stop(self) -> None:
-        """Ends what runs. What was proved is kept."""
-        with self.changed:
-            self.is_stopped = True
-            for child, _ in self.running.values():
-                with contextlib.suppress(OSError):
-                    os.killpg(child.pid, signal.SIGTERM)
-            self.changed.notify_all()
+    def hear(self, line: str) -> str | None:
+        """Takes a line of the toolchain's, and returns the crate that it says is proved."""
+        if refused := REFUSED.match(line):
+            self.refused = self.refused or refused[1]
+        if (proved := PROVED.match(line)) and proved[1] in self.crates:
+            self.done.add(proved[1])
+            return proved[1]
+        return None
 
     def progress(self, what: str) -> str:
         """Returns a line of progress: what, how many of how many, the time so far, and about how much is left."""
         spent = time.monotonic() - self.started
-        proved = sum(self.lines[name] for name in self.done)
-        left = sum(self.lines.values()) - proved
-        chain = max((self.chain[name] for name in self.crates if name not in self.done), default=0)
+        proved = sum(self.crates[name] for name in self.done)
+        left = sum(self.crates.values()) - proved
         line = f"{what} ({len(self.done)} of {len(self.crates)}), {as_time(spent)}"
         if proved and left:
-            # A chain of crates goes on at the pace of one lane, however many there are.
+            # A chain of crates goes on at the pace of one processor, however many there are.
             pace = spent / proved
-            lanes = max(1, min(self.processors, len(self.running) or 1))
-            line += f", about {as_time(max(left * pace, chain * pace * lanes / 2))} left"
+            chain = max(self.chains[name] for name in self.crates if name not in self.done)
+            line += f", about {as_time(max(left, chain * self.processors / 2) * pace)} left"
         return line
 
-    def show(self) -> None:
-        """Redraws the line of progress on a terminal until the build has ended."""
-        while not (self.failed or self.is_stopped or len(self.done) == len(self.crates)):
-            width = shutil.get_terminal_size().columns - 1
-            with self.changed:
-                line = self.progress("proving " + ", ".join(sorted(self.running)))
-                print(f"\r\x1b[K{line[:width]}", end="", file=sys.stderr, flush=True)
-                self.changed.wait(1)
-        print("\r\x1b[K", end="", file=sys.stderr, flush=True)
+
+def redraw(build: Build, session: int, ended: threading.Event) -> None:
+    """Redraws the line of progress on a terminal until the build has ended."""
+    while not ended.wait(1):
+        line = build.progress(f"proving {', '.join(sorted(in_hand(session)))}")
+        width = shutil.get_terminal_size().columns - 1
+        print(f"\r\x1b[K{line[:width]}", end="", file=sys.stderr, flush=True)
+    print("\r\x1b[K", end="", file=sys.stderr, flush=True)
 
 
-def build(top: Path, cache: Path, is_shared: bool) -> int:
-    """Builds the program of a checkout, and returns an exit status. `is_shared`: whether lanes can take libraries from each other."""
+def last_lines(log: Path, crate: str) -> list[str]:
+    """Returns the last lines that the toolchain said of a crate."""
+    said: list[str] = []
+    for line in log.read_text(encoding="utf-8", errors="replace").splitlines():
+        if line.startswith("== "):
+            is_its = line.split()[1].rstrip(":") == crate
+            said = [] if is_its else said
+        elif said or not line.startswith("rt: "):
+            said.append(line)
+        if (refused := REFUSED.match(line)) and refused[1] == crate:
+            break
+    return said[-6:-1]
+
+
+def run(copy: Path, log: Path, build: Build) -> int:
+    """Runs the toolchain's gate in the copy, shows how far it is, and returns its exit status, or STOPPED."""
+    with open(log, "w", encoding="utf-8") as notes:
+        child = subprocess.Popen(["rt", "ci"], cwd=copy, stdin=subprocess.DEVNULL, stdout=subprocess.PIPE, stderr=subprocess.STDOUT, text=True, errors="replace", start_new_session=True)
+        stopped = threading.Event()
+
+        def stop(*_: object) -> None:
+            stopped.set()
+            with contextlib.suppress(OSError):
+                os.killpg(child.pid, signal.SIGTERM)
+
+        for number in (signal.SIGTERM, signal.SIGINT):
+            signal.signal(number, stop)
+        ended = threading.Event()
+        drawer = threading.Thread(target=redraw, args=(build, child.pid, ended))
+        is_drawn = sys.stderr.isatty()
+        if is_drawn:
+            drawer.start()
+        for line in child.stdout:
+            notes.write(line)
+            if (name := build.hear(line)) and not is_drawn:
+                print(build.progress(f"{name} is proved"), file=sys.stderr, flush=True)
+        status = child.wait()
+        ended.set()
+        if is_drawn:
+            drawer.join()
+    return STOPPED if stopped.is_set() else status
+
+
+def build(top: Path, cache: Path, is_kept: bool) -> int:
+    """Builds the program of a checkout, and returns an exit status. `is_kept`: whether a build that is stopped can go on."""
     print("radio_ntpd: proving and building the program; README.md says how long that takes.", file=sys.stderr)
     print("Meanwhile, in crates/radio_ntpd, 'rt try -- drill --seed 7' runs it unproved, in two minutes.", file=sys.stderr, flush=True)
+    if not is_kept:
+        print("radio_ntpd: the folder beside the toolchain's is not this user's, so what is proved is not kept", file=sys.stderr)
     crates = read_crates(top)
-    processors = len(os.sched_getaffinity(0))
-    logs = cache / "logs"
-    logs.mkdir(parents=True, exist_ok=True)
-    lanes = make_lanes(top, cache, processors, is_shared)
-    run = Build(top, logs, crates, processors, len(lanes))
-    signal.signal(signal.SIGTERM, lambda *_: run.stop())
-    signal.signal(signal.SIGINT, lambda *_: run.stop())
-    workers = [threading.Thread(target=run.work, args=(lane,)) for lane in lanes]
-    if sys.stderr.isatty():
-        workers.append(threading.Thread(target=run.show))
-    for worker in workers:
-        worker.start()
-    for worker in workers:
-        worker.join()
-    if run.is_stopped:
-        print("radio_ntpd: stopped; what is proved is kept, and the next start goes on from there", file=sys.stderr)
+    lines = {name: count_lines(top / "crates" / name) for name in crates}
+    copy, log = cache / "copy", cache / "log"
+    make_copy(top, copy, list(crates))
+    made = Build(lines, chains(crates, lines), len(os.sched_getaffinity(0)))
+    status = run(copy, log, made)
+    if status == STOPPED:
+        more = "what is proved is kept, and the next start goes on from there" if is_kept else "the next start begins anew"
+        print(f"radio_ntpd: stopped; {more}", file=sys.stderr)
         return STOPPED
-    if run.failed:
-        said = (logs / f"{run.failed}.log").read_text(encoding="utf-8", errors="replace").splitlines()[-5:]
-        print(f"radio_ntpd: {run.failed} is not proved; `rt check` in crates/{run.failed} says more:", *said, sep="\n    ", file=sys.stderr)
+    if status != 0:
+        crate = made.refused or PROGRAM
+        why = f"radio_ntpd: {crate} is not proved; `rt check` in crates/{crate} says more, and {log} has all:"
+        print(why, *last_lines(log, crate), sep="\n    ", file=sys.stderr)
         return FAILED
+    take_program(copy, top / "crates" / PROGRAM / "out" / PROGRAM)
     return 0
 
 
@@ -211,7 +187,7 @@ def main() -> int:
                 fcntl.flock(lock, fcntl.LOCK_EX)
                 if is_newer(top / "crates" / PROGRAM / "out" / PROGRAM, since):
                     return 0
-            return build(top, cache, shares_libraries(rt))
+            return build(top, cache, keeps_proofs(rt))
     except OSError as error:
         print(f"radio_ntpd: the build failed: {error.filename or 'the host'}: {error.strerror}", file=sys.stderr)
         return FAILED

@@ -1,5 +1,5 @@
 #!/usr/bin/env python3
-"""Tests of tools/build_program.py over a toolchain that does nothing: python3 -B tools/test_build_program.py"""
+"""Tests of tools/build_program.py over a toolchain that proves nothing: python3 -B tools/test_build_program.py"""
 
 import os
 import shutil
@@ -15,9 +15,8 @@ from unittest import mock
 HERE = Path(__file__).resolve().parent
 sys.path.insert(0, str(HERE))
 
-import build_lanes  # noqa: E402
+import build_copy  # noqa: E402
 import build_program  # noqa: E402
-import crate_graph  # noqa: E402
 
 CRATES = """# a comment
 low:
@@ -26,14 +25,21 @@ right: low itoa
 radio_ntpd: left right   # the program
 some_tests: radio_ntpd
 """
-# Notes when it begins and ends, in the order of the lines of one file; `slow` and `broken` name crates.
+# Says what the toolchain's gate says of each crate, and notes what it found; `slow` and `broken` name a crate.
 TOOLCHAIN = """#!/bin/sh
-name=$(basename "$PWD")
-echo "begin $name $*" >> "$NOTES"
-case " $SLOW " in *" $name "*) sleep 30 & wait $! ;; *) sleep 0.2 ;; esac
-case " $BROKEN " in *" $name "*) echo "fn $name::f: not proved"; exit 1 ;; esac
-echo "end $name" >> "$NOTES"
-if [ "$1" = run ]; then mkdir -p out; : > out/radio_ntpd; echo "status 1 usage"; exit 1; fi
+[ "$*" = ci ] || exit 3
+ls crates > "$NOTES.crates"
+cp crates.txt "$NOTES.list"
+find crates -name '*.edit' -o -name out > "$NOTES.left"
+for name in low left right radio_ntpd; do
+    echo "== $name"
+    case "$SLOW" in $name) echo "$name" > "$NOTES.slow"; sleep 30 & wait $! ;; esac
+    case "$BROKEN" in $name) echo "fn $name::f: not proved"; echo "logic=not-proved"; echo "rt: $name NOT PROVED"; exit 1 ;; esac
+    case "$KEPT" in $name) echo "rt: $name is kept: an earlier run proved it" ;; *) echo "rt: $name proved" ;; esac
+done
+mkdir -p crates/radio_ntpd/out
+printf '#!/bin/sh\\n' > crates/radio_ntpd/out/radio_ntpd
+chmod +x crates/radio_ntpd/out/radio_ntpd
 """
 
 
@@ -41,22 +47,25 @@ class Builds(unittest.TestCase):
     def setUp(self):
         self.room = Path(tempfile.mkdtemp())
         self.addCleanup(shutil.rmtree, self.room)
-        top = self.room / "top"
+        self.top = self.room / "top"
         for name in ("low", "left", "right", "radio_ntpd", "some_tests"):
-            (top / "crates" / name / "src").mkdir(parents=True)
-            (top / "crates" / name / "src" / "lib.rt").write_text("//! A crate.\n" * (40 if name == "right" else 2))
-        (top / "crates.txt").write_text(CRATES)
-        (top / "HANDLES").write_text("Handles allowed: none.\n")
-        (top / "tools").mkdir()
-        for name in ("build_program.py", "build_lanes.py", "crate_graph.py"):
-            shutil.copyfile(HERE / name, top / "tools" / name)
-        self.words = [sys.executable, "-B", str(top / "tools" / "build_program.py")]
+            (self.top / "crates" / name / "src").mkdir(parents=True)
+            (self.top / "crates" / name / "src" / "lib.rt").write_text("//! A crate.\n" * (40 if name == "right" else 2))
+        for name, file in (("must-fail", "wrong.edit"), ("out", "old")):
+            (self.top / "crates" / "low" / name).mkdir()
+            (self.top / "crates" / "low" / name / file).write_text("")
+        (self.top / "crates.txt").write_text(CRATES)
+        (self.top / "HANDLES").write_text("Handles allowed: none.\n")
+        (self.top / "tools").mkdir()
+        for name in ("build_program.py", "build_copy.py", "crate_graph.py"):
+            shutil.copyfile(HERE / name, self.top / "tools" / name)
+        self.words = [sys.executable, "-B", str(self.top / "tools" / "build_program.py")]
+        self.program = self.top / "crates/radio_ntpd/out/radio_ntpd"
         (self.room / "kit" / "bin").mkdir(parents=True)
-        rt = self.room / "kit" / "bin" / "rt"
-        rt.write_text(TOOLCHAIN)
-        rt.chmod(0o755)
+        self.rt = self.room / "kit" / "bin" / "rt"
+        self.rt.write_text(TOOLCHAIN)
+        self.rt.chmod(0o755)
         self.notes = self.room / "notes"
-        self.notes.write_text("")
         self.about = {
             **os.environ,
             "PATH": f"{self.room}/kit/bin:{os.environ['PATH']}",
@@ -68,48 +77,56 @@ class Builds(unittest.TestCase):
         return subprocess.run(self.words, env={**self.about, **more}, capture_output=True, text=True, timeout=60)
 
     def noted(self, kind):
-        return [line.split()[1] for line in self.notes.read_text().splitlines() if line.startswith(kind)]
+        return Path(f"{self.notes}.{kind}").read_text()
 
-    def test_each_crate_comes_after_its_libraries_and_tests_are_left_out(self):
+    def test_the_program_and_its_crates_are_built_without_tests_and_wrong_bodies(self):
         done = self.run_build()
         self.assertEqual(done.returncode, 0, done.stderr)
-        self.assertEqual(sorted(self.noted("end")), ["left", "low", "radio_ntpd", "right"])
-        lines = self.notes.read_text().splitlines()
-        at = lines.index
-        begin = {line.split()[1]: number for number, line in enumerate(lines) if line.startswith("begin")}
-        for above, below in (("left", "low"), ("right", "low"), ("radio_ntpd", "left"), ("radio_ntpd", "right")):
-            self.assertLess(at(f"end {below}"), begin[above])
-        self.assertIn("(4 of 4)", done.stderr.splitlines()[-1])
+        self.assertEqual(self.noted("crates").split(), ["left", "low", "radio_ntpd", "right"])
+        self.assertEqual(self.noted("list"), "low:\nleft: low\nright: low itoa\nradio_ntpd: left right   # the program\n")
+        self.assertEqual(self.noted("left"), "")
+        self.assertTrue(os.access(self.program, os.X_OK))
+        self.assertEqual([file.name for file in self.program.parent.iterdir()], ["radio_ntpd"])
 
-    def test_the_longest_chain_comes_first(self):
-        top = self.room / "top"
-        build = build_program.Build(top, self.room, crate_graph.read_crates(top), 2, 2)
-        self.assertEqual(build.next_crate(), "low")
-        build.done.add("low")
-        self.assertEqual(build.next_crate(), "right")
+    def test_each_crate_has_its_line_whether_it_is_proved_or_kept(self):
+        said = self.run_build(KEPT="left").stderr.splitlines()
+        self.assertEqual([line.split()[0] for line in said[2:]], ["low", "left", "right", "radio_ntpd"])
+        for number, line in enumerate(said[2:], 1):
+            self.assertIn(f"is proved ({number} of 4), 0:", line)
+        self.assertIn("left", said[2])
+        self.assertNotIn("about", said[-1])
 
-    def test_the_longest_chain_has_jobs_of_its_own(self):
-        top = self.room / "top"
-        build = build_program.Build(top, self.room, crate_graph.read_crates(top), 4, 4)
-        build.done.add("low")
-        self.assertEqual(build.jobs("right"), 3)
-        self.assertEqual(build.jobs("left"), 2)
-        build.running["left"] = None, 4
-        self.assertEqual(build.jobs("right"), 3)
-        build.running["right"] = build.running.pop("left")
-        self.assertEqual(build.jobs("left"), 2)
-        build.processors = 1
-        self.assertEqual(build.jobs("right"), 1)
+    def test_what_is_left_goes_by_lines_and_by_the_longest_chain(self):
+        build = build_program.Build({"low": 100, "left": 50, "right": 300}, {"low": 400, "left": 50, "right": 300}, 2)
+        build.started = time.monotonic() - 60
+        self.assertEqual(build.progress("begun"), "begun (0 of 3), 1:00")
+        self.assertEqual(build.hear("rt: low proved"), "low")
+        self.assertEqual(build.progress("low"), "low (1 of 3), 1:00, about 3:30 left")
+        build.processors = 4
+        self.assertEqual(build.progress("low"), "low (1 of 3), 1:00, about 6:00 left")
+        self.assertIsNone(build.hear("rt: low: its tests are proved"))
+        self.assertIsNone(build.hear("rt: other proved"))
 
     def test_a_crate_that_is_not_proved_is_named_with_its_last_lines(self):
         done = self.run_build(BROKEN="right")
         self.assertEqual(done.returncode, 70)
         self.assertIn("right is not proved", done.stderr)
         self.assertIn("fn right::f: not proved", done.stderr)
-        self.assertNotIn("radio_ntpd", self.noted("begin"))
+        self.assertNotIn("== ", done.stderr)
+        self.assertFalse(self.program.exists())
+
+    def test_the_crates_in_hand_are_those_of_its_session(self):
+        child = subprocess.Popen(["sh", "-c", "sleep 30; exit", "--crate-name", "low"], start_new_session=True)
+        self.addCleanup(child.wait)
+        self.addCleanup(os.killpg, child.pid, signal.SIGTERM)
+        limit = time.monotonic() + 20
+        while build_program.in_hand(child.pid) != {"low"}:
+            self.assertLess(time.monotonic(), limit)
+            time.sleep(0.05)
+        self.assertEqual(build_program.in_hand(os.getpid()), set())
 
     def test_without_a_toolchain_it_says_so(self):
-        (self.room / "kit" / "bin" / "rt").unlink()
+        self.rt.unlink()
         done = subprocess.run(self.words, env={**self.about, "PATH": f"{self.room}/kit/bin"}, capture_output=True, text=True, timeout=60)
         self.assertEqual(done.returncode, 69)
         self.assertEqual(len(done.stderr.splitlines()), 1)
@@ -117,42 +134,27 @@ class Builds(unittest.TestCase):
 
     def test_the_announcement_comes_only_where_a_build_begins(self):
         self.assertIn("proving and building", self.run_build().stderr)
-        (self.room / "kit" / "bin" / "rt").unlink()
+        self.rt.unlink()
         self.assertNotIn("proving", self.run_build(PATH=f"{self.room}/kit/bin").stderr)
 
-    def test_where_libraries_are_not_shared_the_checkout_is_the_only_lane(self):
-        # A file in the place of the toolchain's folder for what it shares.
+    def test_who_keeps_nothing_is_told(self):
+        # A file in the place of the toolchain's folder for what it keeps.
         (self.room / "rattle-kept").write_text("")
         done = self.run_build()
         self.assertEqual(done.returncode, 0, done.stderr)
-        self.assertIn("one crate at a time", done.stderr)
-        lines = [line.split() for line in self.notes.read_text().splitlines()]
-        self.assertEqual([words[0] for words in lines], ["begin", "end"] * 4)
-        self.assertEqual(list(self.room.glob("cache/radio_ntpd/*/lane-*")), [])
-        processors = str(max(1, min(4, len(os.sched_getaffinity(0)))))
-        self.assertEqual({words[-1] for words in lines if words[0] == "begin"}, {processors})
+        self.assertIn("what is proved is not kept", done.stderr)
 
-    def test_where_libraries_are_shared(self):
-        kit = self.room / "kit"
-        rt = str(kit / "bin" / "rt")
-        self.assertTrue(build_lanes.shares_libraries(rt))
+    def test_where_proofs_are_kept(self):
+        self.assertTrue(build_copy.keeps_proofs(str(self.rt)))
         (self.room / "rattle-kept").mkdir()
-        self.assertTrue(build_lanes.shares_libraries(rt))
+        self.assertTrue(build_copy.keeps_proofs(str(self.rt)))
         with mock.patch("os.geteuid", return_value=os.geteuid() + 1):
-            self.assertFalse(build_lanes.shares_libraries(rt))
+            self.assertFalse(build_copy.keeps_proofs(str(self.rt)))
         (self.room / "rattle-kept").rmdir()
         with mock.patch("os.access", return_value=False):
-            self.assertFalse(build_lanes.shares_libraries(rt))
+            self.assertFalse(build_copy.keeps_proofs(str(self.rt)))
 
-    def test_as_many_lanes_as_the_memory_holds(self):
-        """proc(5): /proc/meminfo has units of 1024 bytes. Here 12 GiB are free, which two lanes of 5 GB fit into."""
-        said = "MemTotal:       16777216 kB\nMemFree:          262144 kB\nMemAvailable:   12582912 kB\n"
-        with mock.patch("pathlib.Path.read_text", return_value=said):
-            self.assertEqual(build_lanes.free_bytes(), 12 * 2**30)
-        with mock.patch("build_lanes.free_bytes", return_value=12 * 2**30):
-            self.assertEqual(len(build_lanes.make_lanes(self.room / "top", self.room / "lanes", 4, True)), 2)
-
-    def test_a_user_without_a_folder_for_lanes_is_told_what_to_set(self):
+    def test_a_user_without_a_folder_for_the_copy_is_told_what_to_set(self):
         (self.room / "taken").write_text("")
         done = self.run_build(XDG_CACHE_HOME=str(self.room / "taken"))
         self.assertEqual(done.returncode, 70)
@@ -160,17 +162,17 @@ class Builds(unittest.TestCase):
         self.assertIn("set XDG_CACHE_HOME", done.stderr)
 
     def start_slow(self):
-        child = subprocess.Popen(self.words, env={**self.about, "SLOW": "left right"}, stderr=subprocess.PIPE, text=True)
+        Path(f"{self.notes}.slow").unlink(missing_ok=True)
+        child = subprocess.Popen(self.words, env={**self.about, "SLOW": "left"}, stderr=subprocess.PIPE, text=True)
         self.addCleanup(child.stderr.close)
         limit = time.monotonic() + 20
-        while "left" not in self.noted("begin") and "right" not in self.noted("begin"):
+        while not Path(f"{self.notes}.slow").exists():
             self.assertLess(time.monotonic(), limit)
             time.sleep(0.05)
         return child
 
-    def test_a_stopped_build_keeps_what_is_done_and_leaves_no_child(self):
+    def test_a_stopped_build_leaves_no_child_and_no_program(self):
         for number in (signal.SIGINT, signal.SIGTERM):
-            self.notes.write_text("")
             child = self.start_slow()
             child.send_signal(number)
             said = child.stderr.read()
@@ -178,6 +180,7 @@ class Builds(unittest.TestCase):
             self.assertIn("what is proved is kept", said)
             left = subprocess.run(["pgrep", "-f", f"{self.room}/kit/bin/rt"], capture_output=True, text=True)
             self.assertEqual(left.stdout, "")
+            self.assertFalse(self.program.exists())
 
     def test_a_second_build_waits_and_says_so(self):
         first = self.start_slow()

@@ -1,135 +1,172 @@
 //! A station of sixteen feeds of all kinds, which is served only where its feeds run side by side: four radios of each plan, three servers and a
 //! leap second file. Each keeps one entry.
-
-use crate::runs::{same, written_over};
-use crate::serve_tests::outside_of;
-use crate::test_station::{ANSWER, ASKED, file, moment};
-use feed_link::{FakeOpen, HoldGate, MemoryLink, NamedLog, Planned};
-use radio_engine::Status;
-use std::alloc::{AllocError, Global};
+use crate::scene::plays;
+use std::alloc::Global;
 use std::process::Abort;
 use std::sync::Wait;
-use std::test::Fail;
 use std::thread::Threads;
 
-const WORDS: [&str; 5] = ["serve", "--station", "s", "--during", "0"];
-
-// For how many turns a feed is held at the most: for some seconds.
-const TURNS: u64 = 10_000_000;
-
-const SERVER: &str = "[[server]]\naddress = \"127.0.0.1\"\nport = 123\npolls = 1\n";
-
-// Of each plan a log whose minute has one mark, and so breaks a rule.
-const LOGS: [(&str, &str); 3] = [
-    ("dcf", "0 100000\n2000000 100000\n4000000 100000\n"),
-    ("msf", "0 500000\n2000000 500000\n3000000 100000\n"),
-    ("wwvb", "0 800000\n1000000 800000\n2000000 800000\n"),
-];
-
-const LIST: &str = "3644697600\t36\n3692217600\t37\n";
-
-// The radios, plan by plan, and after them the servers.
-fn station(alloc: Global) -> Result<String, AllocError> {
-    let mut text = String::from_str(alloc, "leap_file = \"l\"\n")?;
-    for (plan, _) in LOGS {
-        for number in 0..4u8 {
-            writeln!(
-                text,
-                "[[radio]]\nplan = \"{plan}\"\nlog = \"{plan}{number}\""
-            )?;
-        }
-    }
-    for _ in 0..3u8 {
-        text.push_str(SERVER)?;
-    }
-    Ok(text)
-}
-
-fn logs(alloc: Global) -> Result<Vec<NamedLog>, AllocError> {
-    let mut logs = Vec::new(alloc);
-    for (plan, lines) in LOGS {
-        for number in 0..4u8 {
-            let name = format!(in alloc; "{plan}{number}")?;
-            logs.push(file(alloc, name.as_str(), lines, 0)?)?;
-        }
-    }
-    logs.push(file(alloc, "l", LIST, 0)?)?;
-    Ok(logs)
-}
-
-// A link whose first moment is 1 s, over which the answer comes.
-fn link(alloc: Global) -> Result<MemoryLink, FakeOpen> {
-    let mut hearings = Vec::new(alloc);
-    hearings.push(Planned::Datagram {
-        from: ASKED,
-        at: moment(1_010_000),
-        bytes: Vec::from_slice(alloc, &ANSWER)?,
-    })?;
-    let moments = vec![in alloc; moment(1_000_000)]?;
-    MemoryLink::new(alloc, hearings, moments, Vec::new(alloc), 60, 6000)
-}
-
-fn links(alloc: Global) -> Result<Vec<MemoryLink>, FakeOpen> {
-    let mut links = Vec::new(alloc);
-    for _ in 0..3u8 {
-        links.push(link(alloc)?)?;
-    }
-    Ok(links)
-}
+// The radios, plan by plan, and after them the servers and the leap second file. Each log has a minute of one mark, which breaks a rule.
+const SIXTEEN: &str = r#"
+    run serve --station s --during 0
+    file s
+    | leap_file = "l"
+    | [[radio]]
+    | plan = "dcf"
+    | log = "dcf0"
+    | [[radio]]
+    | plan = "dcf"
+    | log = "dcf1"
+    | [[radio]]
+    | plan = "dcf"
+    | log = "dcf2"
+    | [[radio]]
+    | plan = "dcf"
+    | log = "dcf3"
+    | [[radio]]
+    | plan = "msf"
+    | log = "msf0"
+    | [[radio]]
+    | plan = "msf"
+    | log = "msf1"
+    | [[radio]]
+    | plan = "msf"
+    | log = "msf2"
+    | [[radio]]
+    | plan = "msf"
+    | log = "msf3"
+    | [[radio]]
+    | plan = "wwvb"
+    | log = "wwvb0"
+    | [[radio]]
+    | plan = "wwvb"
+    | log = "wwvb1"
+    | [[radio]]
+    | plan = "wwvb"
+    | log = "wwvb2"
+    | [[radio]]
+    | plan = "wwvb"
+    | log = "wwvb3"
+    | [[server]]
+    | address = "127.0.0.1"
+    | port = 123
+    | polls = 1
+    | [[server]]
+    | address = "127.0.0.1"
+    | port = 123
+    | polls = 1
+    | [[server]]
+    | address = "127.0.0.1"
+    | port = 123
+    | polls = 1
+    file dcf0
+    | 0 100000
+    | 2000000 100000
+    | 4000000 100000
+    file dcf1
+    | 0 100000
+    | 2000000 100000
+    | 4000000 100000
+    file dcf2
+    | 0 100000
+    | 2000000 100000
+    | 4000000 100000
+    file dcf3
+    | 0 100000
+    | 2000000 100000
+    | 4000000 100000
+    file msf0
+    | 0 500000
+    | 2000000 500000
+    | 3000000 100000
+    file msf1
+    | 0 500000
+    | 2000000 500000
+    | 3000000 100000
+    file msf2
+    | 0 500000
+    | 2000000 500000
+    | 3000000 100000
+    file msf3
+    | 0 500000
+    | 2000000 500000
+    | 3000000 100000
+    file wwvb0
+    | 0 800000
+    | 1000000 800000
+    | 2000000 800000
+    file wwvb1
+    | 0 800000
+    | 1000000 800000
+    | 2000000 800000
+    file wwvb2
+    | 0 800000
+    | 1000000 800000
+    | 2000000 800000
+    file wwvb3
+    | 0 800000
+    | 1000000 800000
+    | 2000000 800000
+    file l
+    | 3644697600 36
+    | 3692217600 37
+    link
+    at 1000000
+    hears 1 server 1010000 answer
+    link
+    at 1000000
+    hears 1 server 1010000 answer
+    link
+    at 1000000
+    hears 1 server 1010000 answer
+    passed
+    entries 16
+    status 0
+"#;
 
 // One feed comes to its entry, and keeps it once another has kept its own.
-fn keeps_after<R: Threads + Wait + Sync + Abort>(
-    rt: &R,
-    alloc: Global,
-    held: u32,
-    other: u32,
-) -> Result<(), Fail> {
-    let station = station(alloc)?;
-    let gate = HoldGate::new(held, 1, other, 4, 1, TURNS);
-    let mut outside = outside_of(
-        alloc,
-        station.as_str(),
-        logs(alloc)?,
-        links(alloc)?,
-        gate,
-        0,
-    )?;
-    let (written, status) = written_over(rt, alloc, &WORDS, &mut outside, 0)?;
-    let gate = outside.turns().ok_or("the gate is out")?;
-    same(rt, gate.passed(rt), 1);
-    assert!(*rt; !gate.ran_out(rt));
-    same(rt, status, Status::Done);
-    let entries = written
-        .as_slice()
-        .split(|byte| *byte == b'\n')
-        .filter(|line| line.starts_with(b"j2 "));
-    same(rt, entries.count(), 16);
-    Ok(())
+fn keeps_after(rt: &(impl Abort + Threads + Wait + Sync), alloc: Global, gates: &[&str]) {
+    for gate in gates {
+        plays(rt, alloc, &[SIXTEEN, gate]);
+    }
 }
 
 // Feed 0 is a radio, feed 15 the leap second file.
 #[test]
-fn the_first_and_the_last_of_sixteen_feeds_wait_for_one_another(
-    rt: HostRuntime,
-) -> Result<(), Fail> {
-    keeps_after(&rt, rt.alloc(), 0, 15)?;
-    keeps_after(&rt, rt.alloc(), 15, 0)
+fn the_first_and_the_last_of_sixteen_feeds_wait_for_one_another(rt: HostRuntime) {
+    keeps_after(&rt, rt.alloc(), &["gate 0 1 15 4 1", "gate 15 1 0 4 1"]);
 }
 
 // Feeds 0 to 11 are radios, four of each plan.
 #[test]
-fn radios_wait_for_one_another(rt: HostRuntime) -> Result<(), Fail> {
-    for (held, other) in [(0, 1), (1, 0), (0, 11), (11, 0), (4, 5), (10, 11)] {
-        keeps_after(&rt, rt.alloc(), held, other)?;
-    }
-    Ok(())
+fn radios_wait_for_one_another(rt: HostRuntime) {
+    keeps_after(
+        &rt,
+        rt.alloc(),
+        &[
+            "gate 0 1 1 4 1",
+            "gate 1 1 0 4 1",
+            "gate 0 1 11 4 1",
+            "gate 11 1 0 4 1",
+            "gate 4 1 5 4 1",
+            "gate 10 1 11 4 1",
+        ],
+    );
 }
 
 // Feeds 12 to 14 are servers.
 #[test]
-fn servers_wait_for_one_another_and_for_the_other_feeds(rt: HostRuntime) -> Result<(), Fail> {
-    for (held, other) in [(12, 13), (14, 12), (0, 12), (12, 0), (12, 15), (15, 12)] {
-        keeps_after(&rt, rt.alloc(), held, other)?;
-    }
-    Ok(())
+fn servers_wait_for_one_another_and_for_the_other_feeds(rt: HostRuntime) {
+    keeps_after(
+        &rt,
+        rt.alloc(),
+        &[
+            "gate 12 1 13 4 1",
+            "gate 14 1 12 4 1",
+            "gate 0 1 12 4 1",
+            "gate 12 1 0 4 1",
+            "gate 12 1 15 4 1",
+            "gate 15 1 12 4 1",
+        ],
+    );
 }

@@ -1,323 +1,183 @@
-// What is written and how it ends where calls of the outside fail, each at each of its numbers, or where memory is refused.
-use crate::replay_tests::{Failing, NONE, WORDS, request, run};
-use crate::runs::same;
-use crate::test_station::EMPTY_PAGE;
-use radio_engine::Status;
-use std::alloc::{AllocError, Global};
+//! What is written and how it ends where calls of the outside fail, each at each of its numbers, or where memory is refused.
+use crate::scene::{plays, plays_each_writing, plays_or_wants_memory};
+use std::alloc::Global;
 use std::process::Abort;
 use std::sync::Wait;
-use std::test::Fail;
 use std::thread::Threads;
 
-const DECODE: [&str; 5] = ["decode", "--plan", "dcf", "--log", "p"];
+// A station with a radio and a server. A comment makes it longer than 512 bytes, the most of one reading, so it has three readings: two pieces and
+// the end. The script has two minute marks with no second between them, an exchange, and requests; at last the answer of the exchange once more. It
+// has three readings too, of which the first ends in the last line.
+const GIVEN: &str = r#"
+    run replay --station s --script p
+    file s
+    | [[radio]]
+    | plan = "dcf"
+    | log = "log"
+    | [[server]]
+    | address = "127.0.0.1"
+    | port = 123
+    > repeat 512 #
+    file p
+    | pulse 0 0 100000
+    | pulse 0 2000000 100000
+    | pulse 0 4000000 100000
+    | ask 1 1000000
+    | answer 1 1010000 240206ec00000100000002000a00000100000000000000008000000100000000ed00e13100000000ed00e1310020c49b
+    | request 0 1 1 23
+    > request 0 1000000 1000000 23 0
+    > request 0 1000000 1000000 2b 0
+    | answer 1 5000000 240206ec00000100000002000a00000100000000000000008000000100000000ed00e13100000000ed00e1310020c49b
+"#;
 
-// A station with a radio and a server. A comment makes it longer than 512 bytes, the most of one reading, so it has three
-// readings: two pieces and the end.
-fn station(alloc: Global) -> Result<String, AllocError> {
-    let mut text = String::from_str(
-        alloc,
-        "[[radio]]\nplan = \"dcf\"\nlog = \"log\"\n[[server]]\naddress = \"127.0.0.1\"\nport = 123\n",
-    )?;
-    for _ in 0..512u32 {
-        text.push_str("#")?;
-    }
-    Ok(text)
-}
+// What the first six lines that it gives are, and the others.
+const SIX: &str = r#"
+    writes
+    | j2 1 0 0 4000000 refused 3
+    | asked 230006ec0000000000000000000000000000000000000000000000000000000000000000000000008000000100000000
+    | j2 2 0 1 1010000 sample 17077897383243199545 40802189 8837 2 7f000001 256 512
+    | drop short
+    | reply e40006ec0000000000100000494e49540000000000000000112233445566778800000001000000000000000100000000
+    | drop version
+"#;
 
-// The answer to the request that the server was sent at 1 s.
-fn answer(text: &mut String, at: u64) -> Result<(), AllocError> {
-    writeln!(
-        text,
-        "answer 1 {at} 240206ec00000100000002000a00000100000000000000008000000100000000ed00e13100000000ed00e1310020c49b"
-    )
-}
+const LAST: &str = r#"
+    | j2 3 0 1 5000000 declined 3
+    | page 3 0 0 494e4954 0 5000000 0 0 1048576 0000000000000000 0 0
+"#;
 
-// Two minute marks with no second between them, an exchange, and requests; at last the answer of the exchange once more.
-// The script has three readings, of which the first ends in the last line, and the third is the end.
-fn script(alloc: Global) -> Result<String, AllocError> {
-    let mut text = String::from_str(
-        alloc,
-        "pulse 0 0 100000\npulse 0 2000000 100000\npulse 0 4000000 100000\nask 1 1000000\n",
-    )?;
-    answer(&mut text, 1_010_000)?;
-    text.push_str("request 0 1 1 23\n")?;
-    request(&mut text, 1_000_000, 1_000_000, "23", 0)?;
-    request(&mut text, 1_000_000, 1_000_000, "2b", 0)?;
-    answer(&mut text, 5_000_000)?;
-    Ok(text)
-}
+const EMPTY_PAGE: &str = "| page 0 0 0 494e4954 0 0 0 0 1048576 0000000000000000 0 0";
 
-// What the script gives, without a fault.
-const LINES: [&str; 9] = [
-    "j2 1 0 0 4000000 refused 3\n",
-    "asked 230006ec0000000000000000000000000000000000000000000000000000000000000000000000008000000100000000\n",
-    "j2 2 0 1 1010000 sample 17077897383243199545 40802189 8837 2 7f000001 256 512\n",
-    "drop short\n",
-    "reply e40006ec0000000000100000494e4954000000000000000011223344556677880000000100000000\
-0000000100000000\n",
-    "drop version\n",
-    "j2 3 0 1 5000000 declined 3\n",
-    "page 3 0 0 494e4954 0 5000000 0 0 1048576 0000000000000000 0 0\n",
-    "status 0\n",
-];
+const DONE: &str = "| status 0\nstatus 0";
 
-// The first of these lines, this many, and a text after them.
-fn front(alloc: Global, count: usize, end: &str) -> Result<String, AllocError> {
-    let mut text = String::new(alloc);
-    for line in LINES.iter().take(count) {
-        text.push_str(line)?;
-    }
-    text.push_str(end)?;
-    Ok(text)
-}
-
-// The script, with these calls failing, writes this text and ends so.
-fn gives(
-    rt: &(impl Abort + Threads + Wait + Sync),
-    alloc: Global,
-    failing: Failing,
-    want: &str,
-    end: Status,
-) -> Result<(), Fail> {
-    let station = station(alloc)?;
-    let script = script(alloc)?;
-    let (written, status) = run(
-        rt,
-        alloc,
-        &WORDS,
-        station.as_bytes(),
-        script.as_str(),
-        failing,
-    )?;
-    same(&rt, written.as_slice(), want.as_bytes());
-    same(&rt, status, end);
-    Ok(())
+#[test]
+fn each_opening_may_fail(rt: HostRuntime) {
+    let station = "fails opening 1\nwrites\n| status 2 open station\nstatus 2";
+    plays(&rt, rt.alloc(), &[GIVEN, station]);
+    let script = "fails opening 2\nwrites\n| status 2 open script\nstatus 2";
+    plays(&rt, rt.alloc(), &[GIVEN, script]);
 }
 
 #[test]
-fn each_opening_may_fail(rt: HostRuntime) -> Result<(), Fail> {
-    for (open, want) in [
-        (1, "status 2 open station\n"),
-        (2, "status 2 open script\n"),
-    ] {
-        gives(
+fn each_reading_of_a_station_may_fail(rt: HostRuntime) {
+    for fails in ["fails file s 1", "fails file s 2", "fails file s 3"] {
+        plays(
             &rt,
             rt.alloc(),
-            Failing { open, ..NONE },
-            want,
-            Status::OpenFault,
-        )?;
+            &[GIVEN, fails, "writes\n| status 4 read station\nstatus 4"],
+        );
     }
-    Ok(())
 }
-
-#[test]
-fn each_reading_of_a_station_may_fail(rt: HostRuntime) -> Result<(), Fail> {
-    for station in 1..4u64 {
-        gives(
-            &rt,
-            rt.alloc(),
-            Failing { station, ..NONE },
-            "status 4 read station\n",
-            Status::ReadFault,
-        )?;
-    }
-    Ok(())
-}
-
-const PAGE_2: &str = "page 2 0 0 494e4954 0 4000000 0 0 1048576 0000000000000000 0 0\n";
 
 // The lines before it stand, and the page of their entries. A line that the reading cut off isn't judged.
 #[test]
-fn each_reading_of_a_script_may_fail(rt: HostRuntime) -> Result<(), Fail> {
-    for (script, lines, page) in [(1, 0, EMPTY_PAGE), (2, 6, PAGE_2), (3, 8, "")] {
-        let mut want = front(rt.alloc(), lines, page)?;
-        want.push_str("status 4 read script\n")?;
-        gives(
-            &rt,
-            rt.alloc(),
-            Failing { script, ..NONE },
-            want.as_str(),
-            Status::ReadFault,
-        )?;
-    }
-    Ok(())
-}
-
-#[test]
-fn calls_past_the_last_fail_nothing(rt: HostRuntime) -> Result<(), Fail> {
-    let failing = Failing {
-        open: 3,
-        station: 4,
-        script: 4,
-        write: 10,
-    };
-    let want = front(rt.alloc(), 9, "")?;
-    gives(&rt, rt.alloc(), failing, want.as_str(), Status::Done)
-}
-
-// The words write these pieces one by one and end so. Where a writing fails, the pieces before it stand and nothing else.
-pub(crate) fn stops_at_each_writing(
-    rt: &(impl Abort + Threads + Wait + Sync),
-    alloc: Global,
-    words: &[&str],
-    station: &str,
-    script: &str,
-    pieces: &[&str],
-    end: Status,
-) -> Result<(), Fail> {
-    let mut want = String::new(alloc);
-    let mut write = 1u64;
-    for piece in pieces {
-        let failing = Failing { write, ..NONE };
-        let (written, status) = run(rt, alloc, words, station.as_bytes(), script, failing)?;
-        assert_eq!(rt; written.as_slice(), want.as_bytes(), "at {write}");
-        same(&rt, status, Status::WriteFault);
-        want.push_str(piece)?;
-        write = write.saturating_add(1);
-    }
-    let failing = Failing { write, ..NONE };
-    let (written, status) = run(rt, alloc, words, station.as_bytes(), script, failing)?;
-    same(&rt, written.as_slice(), want.as_bytes());
-    same(&rt, status, end);
-    Ok(())
-}
-
-#[test]
-fn each_writing_of_a_replay_may_fail(rt: HostRuntime) -> Result<(), Fail> {
-    let station = station(rt.alloc())?;
-    let script = script(rt.alloc())?;
-    stops_at_each_writing(
+fn each_reading_of_a_script_may_fail(rt: HostRuntime) {
+    let end = "| status 4 read script\nstatus 4";
+    let two = "| page 2 0 0 494e4954 0 4000000 0 0 1048576 0000000000000000 0 0";
+    plays(
         &rt,
         rt.alloc(),
-        &WORDS,
-        station.as_str(),
-        script.as_str(),
-        &LINES,
-        Status::Done,
-    )
+        &[GIVEN, "fails file p 1\nwrites", EMPTY_PAGE, end],
+    );
+    plays(&rt, rt.alloc(), &[GIVEN, "fails file p 2", SIX, two, end]);
+    plays(&rt, rt.alloc(), &[GIVEN, "fails file p 3", SIX, LAST, end]);
 }
 
 #[test]
-fn each_writing_of_a_station_fault_may_fail(rt: HostRuntime) -> Result<(), Fail> {
-    let pieces = ["status 3 station unknown ", "leap", "\n"];
-    stops_at_each_writing(
-        &rt,
-        rt.alloc(),
-        &WORDS,
-        "leap = 1\n",
-        "",
-        &pieces,
-        Status::Station,
-    )
+fn calls_past_the_last_fail_nothing(rt: HostRuntime) {
+    let past = "fails opening 3\nfails file s 4\nfails file p 4\nfails writing 10";
+    plays(&rt, rt.alloc(), &[GIVEN, past, SIX, LAST, DONE]);
+}
+
+#[test]
+fn each_writing_of_a_replay_may_fail(rt: HostRuntime) {
+    plays_each_writing(&rt, rt.alloc(), &[GIVEN, SIX, LAST, DONE]);
+}
+
+#[test]
+fn each_writing_of_a_station_fault_may_fail(rt: HostRuntime) {
+    let scene = r#"
+        run replay --station s --script p
+        file s
+        | leap = 1
+        file p
+        writes
+        | status 3 station unknown \
+        | leap\
+        |
+        status 3
+    "#;
+    plays_each_writing(&rt, rt.alloc(), &[scene]);
 }
 
 // Minute marks with no second between them.
-const MARKS: &str = "0 100000\n2000000 100000\n4000000 100000\n6000000 100000\n";
-
-const ANSWERS: [&str; 3] = [
-    "0 4000000 refused 3\n",
-    "0 6000000 refused 3\n",
-    "status 0\n",
-];
+const MARKS: &str = r#"
+    run decode --plan dcf --log p
+    file p
+    | 0 100000
+    | 2000000 100000
+    | 4000000 100000
+    | 6000000 100000
+    writes
+    | 0 4000000 refused 3
+    | 0 6000000 refused 3
+    | status 0
+    status 0
+"#;
 
 #[test]
-fn each_writing_of_a_log_may_fail(rt: HostRuntime) -> Result<(), Fail> {
-    stops_at_each_writing(&rt, rt.alloc(), &DECODE, "", MARKS, &ANSWERS, Status::Done)
+fn each_writing_of_a_log_may_fail(rt: HostRuntime) {
+    plays_each_writing(&rt, rt.alloc(), &[MARKS]);
+}
+
+// A script, with these calls failing, of which a writing is one, writes this and no more.
+fn ends_by_a_writing(
+    rt: &(impl Abort + Threads + Wait + Sync),
+    alloc: Global,
+    fails: &str,
+    written: &str,
+) {
+    plays(rt, alloc, &[GIVEN, fails, "writes", written, "status 8"]);
 }
 
 // Of several causes a failed writing comes first.
 #[test]
-fn a_failed_writing_comes_before_other_faults(rt: HostRuntime) -> Result<(), Fail> {
-    for (open, station, script, write, want) in [
-        (1, 0, 0, 1, ""),
-        (2, 0, 0, 1, ""),
-        (0, 1, 0, 1, ""),
-        (0, 0, 1, 2, EMPTY_PAGE),
-    ] {
-        let failing = Failing {
-            open,
-            station,
-            script,
-            write,
-        };
-        gives(&rt, rt.alloc(), failing, want, Status::WriteFault)?;
-    }
-    Ok(())
-}
-
-// Runs words where memory may be refused. What they write is the whole text, or the status of want of memory alone, or, where
-// the output in memory found no room for more, a prefix of the text. Where the run wasn't reached nothing is judged.
-fn is_whole_or_wants_memory(
-    rt: &(impl Abort + Threads + Wait + Sync),
-    alloc: Global,
-    words: &[&str],
-    station: &str,
-    script: &str,
-    whole: &str,
-    end: Status,
-) {
-    let Ok((written, status)) = run(rt, alloc, words, station.as_bytes(), script, NONE) else {
-        return;
-    };
-    let written = written.as_slice();
-    match status {
-        Status::Memory => same(&rt, written, b"status 9 memory\n".as_slice()),
-        Status::WriteFault => {
-            assert!(rt; whole.as_bytes().starts_with(written));
-            assert!(rt; written.len() < whole.len());
-        }
-        _ => {
-            same(&rt, written, whole.as_bytes());
-            same(&rt, status, end);
-        }
-    }
+fn a_failed_writing_comes_before_other_faults(rt: HostRuntime) {
+    let alloc = rt.alloc();
+    ends_by_a_writing(&rt, alloc, "fails opening 1\nfails writing 1", "");
+    ends_by_a_writing(&rt, alloc, "fails opening 2\nfails writing 1", "");
+    ends_by_a_writing(&rt, alloc, "fails file s 1\nfails writing 1", "");
+    ends_by_a_writing(&rt, alloc, "fails file p 1\nfails writing 2", EMPTY_PAGE);
 }
 
 // Under checks/refuse-allocations.sh each allocation is refused in turn.
 #[test]
 fn want_of_memory_in_a_replay(rt: HostRuntime) {
-    let alloc = rt.alloc();
-    let Ok(station) = station(alloc) else {
-        return;
-    };
-    let Ok(script) = script(alloc) else {
-        return;
-    };
-    let Ok(whole) = front(alloc, 9, "") else {
-        return;
-    };
-    is_whole_or_wants_memory(
-        &rt,
-        alloc,
-        &WORDS,
-        station.as_str(),
-        script.as_str(),
-        whole.as_str(),
-        Status::Done,
-    );
+    plays_or_wants_memory(&rt, rt.alloc(), &[GIVEN, SIX, LAST, DONE]);
 }
 
 #[test]
 fn want_of_memory_in_a_log(rt: HostRuntime) {
-    is_whole_or_wants_memory(
-        &rt,
-        rt.alloc(),
-        &DECODE,
-        "",
-        MARKS,
-        "0 4000000 refused 3\n0 6000000 refused 3\nstatus 0\n",
-        Status::Done,
-    );
+    plays_or_wants_memory(&rt, rt.alloc(), &[MARKS]);
 }
+
+// A replay of a station of this text.
+const REPLAY: &str = "
+    run replay --station s --script p
+    file p
+    file s
+";
 
 #[test]
 fn want_of_memory_in_a_refusal(rt: HostRuntime) {
     let alloc = rt.alloc();
-    let usage = "status 1 usage\n";
-    is_whole_or_wants_memory(&rt, alloc, &["decode"], "", "", usage, Status::Usage);
-    let toml = "status 3 station toml\n";
-    is_whole_or_wants_memory(&rt, alloc, &WORDS, "bound = \n", "", toml, Status::Station);
-    let fault = "status 3 station unknown leap\n";
-    is_whole_or_wants_memory(&rt, alloc, &WORDS, "leap = 1\n", "", fault, Status::Station);
+    plays_or_wants_memory(
+        &rt,
+        alloc,
+        &["run decode\nwrites\n| status 1 usage\nstatus 1"],
+    );
+    let toml = "| bound = \nwrites\n| status 3 station toml\nstatus 3";
+    plays_or_wants_memory(&rt, alloc, &[REPLAY, toml]);
+    let fault = "| leap = 1\nwrites\n| status 3 station unknown leap\nstatus 3";
+    plays_or_wants_memory(&rt, alloc, &[REPLAY, fault]);
 }

@@ -1,7 +1,8 @@
 //! Tests of the engine: whole runs of every command over the fakes, through the one call that the program makes, and lines of links whose
 //! counts no run reaches. They stand in a crate of their own, so that a change of one proves none of the engine anew.
 //!
-//! `runs` and `test_station` have what the others share; each is named after the command, or the circumstance, that it tests.
+//! Most tests are scenes: texts that say what a run is given and what it must give; `scene` has their form. `runs` makes the one call. The others
+//! are named after the command, or the circumstance, that they test.
 #![tactic(auto)]
 
 #[cfg(test)]
@@ -33,6 +34,8 @@ mod row_tests;
 #[cfg(test)]
 mod runs;
 #[cfg(test)]
-mod serve_tests;
+mod scene;
 #[cfg(test)]
-mod test_station;
+mod scene_tests;
+#[cfg(test)]
+mod serve_tests;

@@ -1,11 +1,11 @@
 //! Which receivers of a rack are used: of each plan the first ones, in the order of the radios, and for each swap the next one.
-ghost use Rattle.std.specs.Prelude.{◌≡◌, IfOk, false};
+ghost use Rattle.std.specs.Prelude.{◌≡◌, false};
 ghost use Rattle.feed_link.specs.MemoryOutside.{is_gate_out};
 ghost use Rattle.radio_receiver.specs.Histories.{History};
 
-use crate::runs::{OF_A_PLAN, outside_of, same};
-use crate::test_station::{file, one};
-use feed_link::{FakeOpen, Gate, MemoryOutside, MemorySink, OpenGate};
+use crate::runs::{OF_A_PLAN, same};
+use crate::scene::outside_of;
+use feed_link::{Gate, MemoryOutside, MemorySink};
 use radio_engine::{Status, run_station};
 use radio_receiver::{DcfReceiver, MsfReceiver, Receiver, WwvbReceiver};
 use receiver_rack::put_in_rack;
@@ -97,38 +97,30 @@ fn run_noting<R: Threads + Wait + Sync, G: Gate + Drop>(
     Ok(run_station(rt, alloc, words, rack, outside, out))
 }
 
-// Radio 0 is the first of DCF77, radio 1 that of MSF, radio 2 the second of DCF77.
-const RADIOS: &str =
-    "[[radio]]\nplan = \"dcf\"\nlog = \"a\"\n[[radio]]\nplan = \"msf\"\nlog = \"b\"\n\
-[[radio]]\nplan = \"dcf\"\nlog = \"c\"\n";
-
-// A number of pulses of a radio, a second apart.
-fn pulses(script: &mut String, radio: u32, from: u64, count: u64) -> Result<(), AllocError> {
-    for number in 0..count {
-        let at = from.saturating_add(number).saturating_mul(1_000_000);
-        writeln!(script, "pulse {radio} {at} 100000")?;
-    }
-    Ok(())
-}
-
-// Each radio receives some pulses, then radio 2 is swapped and receives some more, then radio 0, then radio 1.
-fn swapped(alloc: Global) -> Result<MemoryOutside<OpenGate>, FakeOpen>
-    ensures { IfOk result (λ outside. is_gate_out outside ≡ false) }
-{
-    let mut script = String::new(alloc);
-    pulses(&mut script, 0, 1, 3)?;
-    pulses(&mut script, 1, 1, 1)?;
-    pulses(&mut script, 2, 1, 2)?;
-    script.push_str("swap 2\n")?;
-    pulses(&mut script, 2, 10, 4)?;
-    script.push_str("swap 0\n")?;
-    pulses(&mut script, 0, 10, 5)?;
-    script.push_str("swap 1\n")?;
-    pulses(&mut script, 1, 10, 6)?;
-    let mut files = one(alloc, file(alloc, "s", RADIOS, 0)?)?;
-    files.push(file(alloc, "p", script.as_str(), 0)?)?;
-    outside_of(alloc, files, 0)
-}
+// Radio 0 is the first of DCF77, radio 1 that of MSF, radio 2 the second of DCF77. Each receives some pulses, then radio 2 is swapped and receives
+// some more, then radio 0, then radio 1.
+const SWAPPED: &str = r#"
+    file s
+    | [[radio]]
+    | plan = "dcf"
+    | log = "a"
+    | [[radio]]
+    | plan = "msf"
+    | log = "b"
+    | [[radio]]
+    | plan = "dcf"
+    | log = "c"
+    file p
+    > pulse 0 dcf 1000000 1000000 0 2
+    > pulse 1 dcf 1000000 1000000 0 0
+    > pulse 2 dcf 1000000 1000000 0 1
+    | swap 2
+    > pulse 2 dcf 10000000 1000000 0 3
+    | swap 0
+    > pulse 0 dcf 10000000 1000000 0 4
+    | swap 1
+    > pulse 1 dcf 10000000 1000000 0 5
+"#;
 
 // The third and the fourth of DCF77 come by the swaps, the first one asked for first; of MSF two are left, and of WWVB all.
 #[test]
@@ -139,7 +131,7 @@ fn receivers_are_used_in_the_order_of_the_rack(rt: HostRuntime) -> Result<(), Fa
         msf: Arc::new(alloc, AtomicU64::new(0))?,
         wwvb: Arc::new(alloc, AtomicU64::new(0))?,
     };
-    let mut outside = swapped(alloc)?;
+    let mut outside = outside_of(alloc, SWAPPED)?;
     let mut out = MemorySink::new(alloc, Vec::new(alloc));
     let status = run_noting(&rt, alloc, &REPLAY, &heard, &mut outside, &mut out)?;
     same(&rt, status, Status::Done);

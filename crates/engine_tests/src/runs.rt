@@ -1,8 +1,8 @@
 //! The one call of the program over the fakes, as every test here makes it.
-ghost use Rattle.std.specs.Prelude.{◌≡◌, IfOk, false};
+ghost use Rattle.std.specs.Prelude.{◌≡◌, false};
 ghost use Rattle.feed_link.specs.MemoryOutside.{is_gate_out};
 
-use feed_link::{FakeOpen, Gate, MemoryOutside, MemorySink, NamedLog, OpenGate};
+use feed_link::{Gate, MemoryOutside, MemorySink};
 use radio_engine::{Status, run_station};
 use radio_receiver::{DcfReceiver, MsfReceiver, WwvbReceiver};
 use receiver_rack::put_in_rack;
@@ -17,18 +17,6 @@ use tick_units::Plan;
 // What `assert_eq!` does, as a call: where many stand in a test, calls are proved in a third of the time.
 pub fn same<T: PartialEq + Debug + Drop>(rt: &impl Abort, left: T, right: T) {
     assert_eq!(*rt; left, right);
-}
-
-// An outside with these logs and no links, whose opening of this number fails.
-pub fn outside_of(
-    alloc: Global,
-    logs: Vec<NamedLog>,
-    failing: u64,
-) -> Result<MemoryOutside<OpenGate>, FakeOpen>
-    ensures { IfOk result (λ outside. is_gate_out outside ≡ false) }
-{
-    let fails = vec![in alloc; failing]?;
-    MemoryOutside::new(alloc, logs, Vec::new(alloc), OpenGate::new(), fails, 4, 100)
 }
 
 // What the words write over this outside, and their status; the writing of this number fails.
