@@ -1,15 +1,23 @@
 #!/bin/sh
-# The tests of the keeper's modules over fakes. They need Python 3.11 alone, no built program, and take a minute on a machine with other work.
+# The tests of the keeper's modules over fakes, each module in a process of its own, as many at once as there are processors. They need Python
+# 3.11 alone, no built program, and take a minute on a machine with other work.
 #
 #     checks/keeper_tests.sh
 cd "$(dirname "$0")/.." || exit 1
-work=$(mktemp) || exit 1
-trap 'rm -f "$work"' EXIT
+work=$(mktemp -d) || exit 1
+trap 'rm -rf "$work"' EXIT
 trap 'exit 1' INT TERM
 unset RADIO_NTPD
-if ! python3 -B -m unittest discover -s keeper/tests -t . > "$work" 2>&1; then
-    # Where no test failed, the run itself ended before its time.
-    grep -E -A 20 '^(FAIL|ERROR)' "$work" >&2 || tail -20 "$work" >&2
+# The largest first. Where a module's tests don't all pass, its name stands in `failed`.
+ls -S keeper/tests/test_*.py | xargs -P "$(nproc)" -I{} sh -c '
+    module=$(basename "$1" .py)
+    python3 -B -m unittest "keeper.tests.$module" > "$2/$module.out" 2>&1 || echo "$module" >> "$2/failed"
+' run {} "$work"
+if [ -e "$work/failed" ]; then
+    while read -r module; do
+        # Where no test failed, the run itself ended before its time.
+        grep -E -A 20 '^(FAIL|ERROR)' "$work/$module.out" >&2 || { echo "$module:"; tail -20 "$work/$module.out"; } >&2
+    done < "$work/failed"
     exit 1
 fi
-echo "keeper_tests: $(sed -n 's/^Ran \([0-9]*\) tests.*/\1/p' "$work") tests"
+echo "keeper_tests: $(sed -n 's/^Ran \([0-9]*\) tests\{0,1\} .*/\1/p' "$work"/*.out | awk '{ sum += $1 } END { print sum }') tests"

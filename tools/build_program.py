@@ -87,7 +87,7 @@ class Build:
 def redraw(build: Build, session: int, ended: threading.Event) -> None:
     """Redraws the line of progress on a terminal until the build has ended."""
     while not ended.wait(1):
-        line = build.progress(f"proving {', '.join(sorted(in_hand(session)))}")
+        line = build.progress(f"proving {', '.join(sorted(in_hand(session))) or 'what is left'}")
         width = shutil.get_terminal_size().columns - 1
         print(f"\r\x1b[K{line[:width]}", end="", file=sys.stderr, flush=True)
     print("\r\x1b[K", end="", file=sys.stderr, flush=True)
