@@ -93,18 +93,14 @@ def redraw(build: Build, session: int, ended: threading.Event) -> None:
     print("\r\x1b[K", end="", file=sys.stderr, flush=True)
 
 
-def last_lines(log: Path, crate: str) -> list[str]:
-    """Returns the last lines that the toolchain said of a crate."""
+def last_lines(log: Path, crate: str | None) -> list[str]:
+    """Returns the last lines that the toolchain said before it refused a crate, or at its end."""
     said: list[str] = []
     for line in log.read_text(encoding="utf-8", errors="replace").splitlines():
-        if line.startswith("== "):
-            is_its = line.split()[1].rstrip(":") == crate
-            said = [] if is_its else said
-        elif said or not line.startswith("rt: "):
-            said.append(line)
-        if (refused := REFUSED.match(line)) and refused[1] == crate:
+        if crate and (refused := REFUSED.match(line)) and refused[1] == crate:
             break
-    return said[-6:-1]
+        said = [] if line.startswith("== ") else [*said[-4:], line]
+    return said
 
 
 def run(copy: Path, log: Path, build: Build) -> int:
@@ -153,9 +149,9 @@ def build(top: Path, cache: Path, is_kept: bool) -> int:
         print(f"radio_ntpd: stopped; {more}", file=sys.stderr)
         return STOPPED
     if status != 0:
-        crate = made.refused or PROGRAM
-        why = f"radio_ntpd: {crate} is not proved; `rt check` in crates/{crate} says more, and {log} has all:"
-        print(why, *last_lines(log, crate), sep="\n    ", file=sys.stderr)
+        crate = made.refused
+        why = f"{crate} is not proved; `rt check` in crates/{crate} says more, and" if crate else "the build failed;"
+        print(f"radio_ntpd: {why} {log} has all:", *last_lines(log, crate), sep="\n    ", file=sys.stderr)
         return FAILED
     take_program(copy, top / "crates" / PROGRAM / "out" / PROGRAM)
     return 0

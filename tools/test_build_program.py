@@ -37,6 +37,7 @@ for name in low left right radio_ntpd; do
     case "$BROKEN" in $name) echo "fn $name::f: not proved"; echo "logic=not-proved"; echo "rt: $name NOT PROVED"; exit 1 ;; esac
     case "$KEPT" in $name) echo "rt: $name is kept: an earlier run proved it" ;; *) echo "rt: $name proved" ;; esac
 done
+[ -z "$FAILS" ] || { echo "rt: the disk is full"; echo "0 passed, 1 failed"; exit 2; }
 mkdir -p crates/radio_ntpd/out
 printf '#!/bin/sh\\n' > crates/radio_ntpd/out/radio_ntpd
 chmod +x crates/radio_ntpd/out/radio_ntpd
@@ -113,6 +114,14 @@ class Builds(unittest.TestCase):
         self.assertIn("right is not proved", done.stderr)
         self.assertIn("fn right::f: not proved", done.stderr)
         self.assertNotIn("== ", done.stderr)
+        self.assertFalse(self.program.exists())
+
+    def test_a_build_that_refuses_no_crate_and_fails_shows_how_it_ended(self):
+        done = self.run_build(FAILS="1")
+        self.assertEqual(done.returncode, 70)
+        self.assertIn("radio_ntpd: the build failed; ", done.stderr)
+        self.assertEqual([line.strip() for line in done.stderr.splitlines()[-2:]], ["rt: the disk is full", "0 passed, 1 failed"])
+        self.assertNotIn("is not proved", done.stderr)
         self.assertFalse(self.program.exists())
 
     def test_the_crates_in_hand_are_those_of_its_session(self):
