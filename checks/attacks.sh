@@ -3,8 +3,8 @@
 #
 #     checks/attacks.sh [CRATE...]
 #
-# It works in a copy of the crates, and begins with what `rt check` kept in them. It takes 1 to 7 minutes of processor time a crate, and prints
-# what became of each edit. It ends with 1 where one is not refused. Needs rt.
+# It works in a copy of the crates, and begins with what `rt check` kept in them. All ten take some 6 minutes on four processors. It prints what
+# became of each edit, and ends with 1 where one is not refused. Needs rt.
 set -eu
 cd "$(dirname "$0")/.."
 [ $# -gt 0 ] || set -- $(ls attacks)
