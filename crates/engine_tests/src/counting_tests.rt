@@ -2,10 +2,10 @@
 ghost use Rattle.std.specs.Prelude.{◌≡◌, false};
 ghost use Rattle.feed_link.specs.MemoryOutside.{is_gate_out};
 
-use crate::runs::{OF_A_PLAN, run_over, same};
+use crate::runs::{OF_A_PLAN, run_over, run_with, same};
 use crate::scene::outside_of;
 use feed_link::{Gate, MemoryOutside, MemorySink};
-use radio_engine::{Status, run_station};
+use radio_engine::Status;
 use radio_receiver::{CountingReceiver, DcfReceiver, MsfReceiver, WwvbReceiver};
 use receiver_rack::put_in_rack;
 use script_player::BoxedReceiver;
@@ -36,7 +36,7 @@ fn run_counting<R: Threads + Wait + Sync, G: Gate + Drop>(
         let wwvb = CountingReceiver::new(WwvbReceiver::new());
         put_in_rack(&mut rack, Box::new(alloc, wwvb)?, Plan::Wwvb)?;
     }
-    Ok(run_station(rt, alloc, words, rack, outside, out))
+    Ok(run_with(rt, alloc, words, rack, outside, out))
 }
 
 // A station with a radio of DCF77, and the script of three minutes in which it is swapped after the pulse at 90 s.

@@ -3,10 +3,10 @@ ghost use Rattle.std.specs.Prelude.{◌≡◌, false};
 ghost use Rattle.feed_link.specs.MemoryOutside.{is_gate_out};
 ghost use Rattle.radio_receiver.specs.Histories.{History};
 
-use crate::runs::{OF_A_PLAN, same};
+use crate::runs::{OF_A_PLAN, run_with, same};
 use crate::scene::outside_of;
 use feed_link::{Gate, MemoryOutside, MemorySink};
-use radio_engine::{Status, run_station};
+use radio_engine::Status;
 use radio_receiver::{DcfReceiver, MsfReceiver, Receiver, WwvbReceiver};
 use receiver_rack::put_in_rack;
 use script_player::BoxedReceiver;
@@ -94,7 +94,7 @@ fn run_noting<R: Threads + Wait + Sync, G: Gate + Drop>(
         put_in_rack(&mut rack, Box::new(alloc, wwvb)?, Plan::Wwvb)?;
         step = step.wrapping_mul(NEXT);
     }
-    Ok(run_station(rt, alloc, words, rack, outside, out))
+    Ok(run_with(rt, alloc, words, rack, outside, out))
 }
 
 // Radio 0 is the first of DCF77, radio 1 that of MSF, radio 2 the second of DCF77. Each receives some pulses, then radio 2 is swapped and receives

@@ -1,10 +1,11 @@
 //! The one call of the program over the fakes, as every test here makes it.
 ghost use Rattle.std.specs.Prelude.{◌≡◌, false};
 ghost use Rattle.feed_link.specs.MemoryOutside.{is_gate_out};
+ghost use Rattle.receiver_rack.specs.Racks.{IsRack};
 
 use feed_link::{Gate, MemoryOutside, MemorySink};
 use radio_engine::{Status, run_station};
-use radio_receiver::{DcfReceiver, MsfReceiver, WwvbReceiver};
+use radio_receiver::{DcfReceiver, MsfReceiver, Receiver, WwvbReceiver};
 use receiver_rack::put_in_rack;
 use script_player::BoxedReceiver;
 use std::alloc::{AllocError, Global};
@@ -53,5 +54,20 @@ pub fn run_over<R: Threads + Wait + Sync, G: Gate + Drop>(
         put_in_rack(&mut rack, Box::new(alloc, MsfReceiver::new())?, Plan::Msf)?;
         put_in_rack(&mut rack, Box::new(alloc, WwvbReceiver::new())?, Plan::Wwvb)?;
     }
-    Ok(run_station(rt, alloc, words, rack, outside, out))
+    Ok(run_with(rt, alloc, words, rack, outside, out))
+}
+
+// The one call, with the receivers of this rack. It has no clause of its own, so what calls it is proved without those of the call.
+pub fn run_with<R: Threads + Wait + Sync, G: Gate + Drop>(
+    rt: &R,
+    alloc: Global,
+    words: &[&str],
+    rack: Vec<Box<dyn Receiver + Send>>,
+    outside: &mut MemoryOutside<G>,
+    out: &mut MemorySink,
+) -> Status
+    requires rack { IsRack stands_for rack.items }
+    requires gate { is_gate_out outside.old ≡ false }
+{
+    run_station(rt, alloc, words, rack, outside, out)
 }

@@ -6,7 +6,7 @@
 //! |---|---|
 //! | `run ARGUMENTS` | the arguments, divided by spaces; `''` is an empty one |
 //! | `file NAME` | a file of this name; the lines below it are its text |
-//! | `bytes COUNT file NAME` | that its text has so many bytes, on which a test of a bound rests |
+//! | `bytes COUNT file NAME` | how many bytes its text has, on which a test of a bound rests |
 //! | `link` | a link; the lines below it are what it receives and when it sends |
 //! | `writes`, `begins`, `ends`, `has` | what is written: just the text below it, its beginning, its end, or a part |
 //! | `\| TEXT` | a line of a text, with its line feed unless it ends with `\` |

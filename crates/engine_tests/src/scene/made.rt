@@ -21,7 +21,7 @@ const NOON: [&[u64]; 5] = [
 ///   are so far apart
 /// - `wwvb START ONES`: a frame of WWVB
 /// - `pulse RADIO` and one of these: the same as lines of a script
-/// - `request CONNECTION ARRIVED SENT FIRST MORE`: the line of a script with a request of this first byte, and so many zeros after it
+/// - `request CONNECTION ARRIVED SENT FIRST MORE`: the line of a script with a request of this first byte, and this many zeros after it
 /// - `lines COUNT TEXT`: a line so often
 /// - `repeat COUNT TEXT`, `hex BYTES`: without a line feed
 pub fn add_made(alloc: Global, text: &mut Vec<u8>, line: &str) -> Result<(), Unplayed> {

@@ -292,7 +292,7 @@ fn judge_status(rt: &impl Abort, words: Words<'_>, status: Status) -> Result<(),
     Ok(())
 }
 
-// A text that is to have so many bytes: what a test of a bound rests on.
+// How many bytes a text is to have: what a test of a bound rests on.
 fn judge_length(
     rt: &impl Abort,
     alloc: Global,

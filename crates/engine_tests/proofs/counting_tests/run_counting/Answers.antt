@@ -30,8 +30,8 @@ loop-init g c = none_yet _ _ (search rules)
 pub loop-preserved : goal.loop-preserved
 loop-preserved g c = round _ c.loop.counter _ (c.in_ok-put_in_rack-3.ensures _ (c.in_ok-put_in_rack-2.ensures _ (c.in_ok-put_in_rack.ensures _ c.loop.invariant)))
 
-pub run_station-requires-clause-rack : goal.run_station-requires-clause-rack
-run_station-requires-clause-rack g c κs within =
+pub run_with-requires-clause-rack : goal.run_with-requires-clause-rack
+run_with-requires-clause-rack g c κs within =
     let whole : c.loop.counter ≡ 4 = omega arith in
     let has = subst (λ n. HasOfEach (λ b h. (own-1.entry b.vtable).1.stands_for b.value h) (λ _. n) c.loop.rack.items) whole c.loop.invariant in
     let rack = rack_of (λ b h. (own-1.entry b.vtable).1.stands_for b.value h) _ has in
