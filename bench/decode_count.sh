@@ -15,13 +15,16 @@ below="tick_units feed_link file_reader sink_text pulse_log civil_minute frame_r
 above="second_marks minute_pair journal_entry radio_receiver log_decoder"
 . "$top/bench/decode_program.sh"
 for tree in before after; do
-    if [ "$tree" = before ]; then bring_of "$commit" "$work/before" $below $above; else bring "$work/after" $below code_plans $above; fi
-    echo "decode_loop: tick_units feed_link file_reader sink_text pulse_log journal_entry radio_receiver log_decoder" >> "$work/$tree/crates.txt"
+    if [ "$tree" = before ]; then bring_of "$commit" "$work/before" $below $above; else bring "$work/after" $below host_links code_plans $above; fi
+    links="feed_link host_links"
     cp -r "$work/loop" "$work/$tree/crates/decode_loop"
     if [ "$tree" = before ]; then
-        # Until boxed receivers were receivers, decoders had calls of their own for a receiver of a known type.
-        sed -i 's/LogDecoder::new(/LogDecoder::direct(/; s/self\.take(bytes)/self.take_direct(bytes)/; s/self\.finish()/self.finish_direct()/' "$work/before/crates/decode_loop/src/main.rt"
+        # Until boxed receivers were receivers, decoders had calls of their own for a receiver of a known type. The host's files were in
+        # `feed_link`.
+        links=feed_link
+        sed -i 's/LogDecoder::new(/LogDecoder::direct(/; s/self\.take(bytes)/self.take_direct(bytes)/; s/self\.finish()/self.finish_direct()/; s/host_links/feed_link/' "$work/before/crates/decode_loop/src/main.rt"
     fi
+    echo "decode_loop: tick_units $links file_reader sink_text pulse_log journal_entry radio_receiver log_decoder" >> "$work/$tree/crates.txt"
     build "$work/$tree/crates/decode_loop"
     cp "$work/$tree/crates/decode_loop/out/decode_loop" "$work/$tree.program"
 done

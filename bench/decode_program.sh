@@ -9,7 +9,8 @@ ghost use Rattle.std.specs.Prelude.{◌≡◌, ◌<◌, ◌≤◌, length};
 ghost use Rattle.log_decoder.specs.Decoding.{IsReady};
 ghost use Rattle.journal_entry.specs.declared.writer.TheConstants.{LINE_ROOM};
 
-use feed_link::{Failed, HostOutside, Outside, Sink, Source, StreamSink};
+use feed_link::{Failed, Outside, Sink, Source};
+use host_links::{HostOutside, StreamSink};
 use file_reader::{FileEnd, FileReader, Pulled};
 use journal_entry::{Entry, LINE_ROOM, write_unnumbered};
 use log_decoder::LogDecoder;

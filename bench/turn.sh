@@ -8,10 +8,10 @@
 set -eu
 turns=${1:-2000}
 . "$(dirname "$0")/small_program.sh"
-bring "$work" tick_units feed_link journal_entry clock_filter select_core cluster_core clock_page system_fold ntp_packet packet_auth \
+bring "$work" tick_units feed_link host_links journal_entry clock_filter select_core cluster_core clock_page system_fold ntp_packet packet_auth \
     reply_core kiss_gate sealed_reply page_cell responder
 mkdir -p "$work/crates/turn_loop/src" "$work/crates/turn_loop/proofs/settings_of_none"
-echo "turn_loop: tick_units feed_link journal_entry system_fold packet_auth kiss_gate page_cell responder" >> "$work/crates.txt"
+echo "turn_loop: tick_units feed_link host_links journal_entry system_fold packet_auth kiss_gate page_cell responder" >> "$work/crates.txt"
 cat > "$work/crates/turn_loop/src/main.rt" <<'RATTLE'
 //! Serves a number of datagrams on a port, from the page of no entry.
 #![tactic(auto)]
@@ -19,7 +19,8 @@ cat > "$work/crates/turn_loop/src/main.rt" <<'RATTLE'
 ghost use Rattle.std.specs.Prelude.{◌≡◌};
 ghost use Rattle.system_fold.specs.Settings.{AreLawful};
 
-use feed_link::{HostOutside, OpenGate, Outside};
+use feed_link::{OpenGate, Outside};
+use host_links::HostOutside;
 use kiss_gate::{ClientGate, DenyList};
 use packet_auth::KeyRing;
 use page_cell::{CellParts, PageCell};

@@ -1,5 +1,5 @@
 #!/bin/sh
-# Tries the wrong bodies of attacks/, which the gate leaves out, since each costs a whole check of a large crate. The prover must refuse each.
+# Tries the wrong bodies of attacks/, which the gate leaves out, since each costs a whole check of its crate. The prover must refuse each.
 #
 #     checks/attacks.sh [CRATE...]
 #

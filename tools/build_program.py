@@ -30,7 +30,7 @@ from crate_graph import PROGRAM, chains, count_lines, read_crates
 
 NO_TOOLCHAIN, FAILED, STOPPED = 69, 70, 130
 # A crate that is proved, by an earlier run or by this one, and one that isn't.
-PROVED = re.compile(r"rt: (\w+) (?:proved$|is kept: )")
+PROVED = re.compile(r"rt: (\w+) (?:proved$|(is kept): )")
 REFUSED = re.compile(r"rt: (\w+)(?:: its tests are)? NOT PROVED")
 
 
@@ -57,7 +57,9 @@ class Build:
     def __init__(self, crates: dict[str, int], chains: dict[str, int], processors: int):
         """`crates` are the lines of each crate, and `chains` those of the longest chain from it up to the program."""
         self.crates, self.chains, self.processors = crates, chains, processors
+        # What an earlier run had proved takes no time, so it says nothing of how long the rest takes.
         self.done: set[str] = set()
+        self.kept: set[str] = set()
         self.refused: str | None = None
         self.started = time.monotonic()
 
@@ -67,14 +69,16 @@ class Build:
             self.refused = self.refused or refused[1]
         if (proved := PROVED.match(line)) and proved[1] in self.crates:
             self.done.add(proved[1])
+            if proved[2]:
+                self.kept.add(proved[1])
             return proved[1]
         return None
 
     def progress(self, what: str) -> str:
         """Returns a line of progress: what, how many of how many, the time so far, and about how much is left."""
         spent = time.monotonic() - self.started
-        proved = sum(self.crates[name] for name in self.done)
-        left = sum(self.crates.values()) - proved
+        proved = sum(self.crates[name] for name in self.done - self.kept)
+        left = sum(lines for name, lines in self.crates.items() if name not in self.done)
         line = f"{what} ({len(self.done)} of {len(self.crates)}), {as_time(spent)}"
         if proved and left:
             # A chain of crates goes on at the pace of one processor, however many there are.

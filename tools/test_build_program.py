@@ -108,6 +108,14 @@ class Builds(unittest.TestCase):
         self.assertIsNone(build.hear("rt: low: its tests are proved"))
         self.assertIsNone(build.hear("rt: other proved"))
 
+    def test_what_is_kept_says_nothing_of_the_pace(self):
+        build = build_program.Build({"low": 100, "left": 50, "right": 300}, {"low": 400, "left": 50, "right": 300}, 2)
+        build.started = time.monotonic() - 60
+        self.assertEqual(build.hear("rt: low is kept: an earlier run proved it"), "low")
+        self.assertEqual(build.progress("low"), "low (1 of 3), 1:00")
+        self.assertEqual(build.hear("rt: left proved"), "left")
+        self.assertEqual(build.progress("left"), "left (2 of 3), 1:00, about 6:00 left")
+
     def test_a_crate_that_is_not_proved_is_named_with_its_last_lines(self):
         done = self.run_build(BROKEN="right")
         self.assertEqual(done.returncode, 70)

@@ -140,15 +140,25 @@ fn gate(alloc: Global, station: &Station) -> Result<ClientGate, GateOpen>
 // A request of an address, and the code that it gets.
 type Asked = (u32, Code);
 
-// Requests of these addresses at one moment get these codes in turn.
-fn are_judged(rt: &impl Abort, alloc: Global, text: &[u8], requests: &[Asked]) {
-    let Ok(mut gate) = gate(alloc, &station_of(rt, alloc, text)) else {
-        panic!(*rt; "no memory");
-    };
-    let at = Local::new(303_000_000).unwrap();
+// The gate of clients of the station of a text.
+fn gate_of_text(rt: &impl Abort, alloc: Global, text: &[u8]) -> ClientGate {
+    let station = station_of(rt, alloc, text);
+    match gate(alloc, &station) {
+        Ok(gate) => gate,
+        Err(_) => panic!(*rt; "no memory"),
+    }
+}
+
+// A request of this address, at one moment for all, gets this code.
+fn is_judged(rt: &impl Abort, gate: &mut ClientGate, ip: u32, code: Code) {
+    let judged = gate.judge(ip, Local::new(303_000_000).unwrap());
+    same(rt, (ip, judged.code), (ip, code));
+}
+
+// Requests of these addresses get these codes in turn.
+fn are_judged(rt: &impl Abort, gate: &mut ClientGate, requests: &[Asked]) {
     for (ip, code) in requests {
-        let found = gate.judge(*ip, at).code;
-        same(rt, (*ip, found), (*ip, *code));
+        is_judged(rt, gate, *ip, *code);
     }
 }
 
@@ -160,13 +170,16 @@ fn numbers_of(station: &Station) -> (u64, u32) {
     (station.gap(), station.clients())
 }
 
+// The station of a text has these numbers.
+fn has_numbers(rt: &impl Abort, alloc: Global, text: &[u8], want: (u64, u32)) {
+    same(rt, numbers_of(&station_of(rt, alloc, text)), want);
+}
+
 #[test]
 fn the_numbers_of_a_station(rt: HostRuntime) {
     let alloc = rt.alloc();
-    let denying = station_of(&rt, alloc, DENYING);
-    same(&rt, numbers_of(&denying), (2_000_000, 2));
-    let plain = station_of(&rt, alloc, b"");
-    same(&rt, numbers_of(&plain), (0, 1024));
+    has_numbers(&rt, alloc, DENYING, (2_000_000, 2));
+    has_numbers(&rt, alloc, b"", (0, 1024));
     let drill = one_of_each(&rt, alloc);
     same(&rt, numbers_of(&drill), (0, 1024));
 }
@@ -198,8 +211,10 @@ const ALL_DENIED: [Asked; 3] = [
 #[test]
 fn the_nets_of_a_station(rt: HostRuntime) {
     let alloc = rt.alloc();
-    are_judged(&rt, alloc, DENYING, &SOME_DENIED);
-    are_judged(&rt, alloc, b"", &NONE_DENIED);
-    let text = b"[[deny]]\nnet = \"1.2.3.4/0\"\n";
-    are_judged(&rt, alloc, text, &ALL_DENIED);
+    let mut gate = gate_of_text(&rt, alloc, DENYING);
+    are_judged(&rt, &mut gate, &SOME_DENIED);
+    let mut gate = gate_of_text(&rt, alloc, b"");
+    are_judged(&rt, &mut gate, &NONE_DENIED);
+    let mut gate = gate_of_text(&rt, alloc, b"[[deny]]\nnet = \"1.2.3.4/0\"\n");
+    are_judged(&rt, &mut gate, &ALL_DENIED);
 }

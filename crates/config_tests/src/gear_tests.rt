@@ -8,10 +8,8 @@ ghost use Rattle.station_gear.specs.Gears.{IsEmptyFor, wanted_by};
 ghost use Rattle.station_gear.specs.Opens.{failing_of};
 
 use crate::tests::{same, station_of};
-use feed_link::{
-    Address, Failed, Hearing, Link, MemoryLink, MemoryOutside, MemorySource, NamedLog, OpenGate,
-    Outside, Planned, Source,
-};
+use feed_link::{Address, Failed, Hearing, Link, OpenGate, Outside, Source};
+use memory_links::{MemoryLink, MemoryOutside, MemorySource, NamedLog, Planned};
 use station_config::Station;
 use station_gear::{Gear, Missing, give_back_gear, open_gear};
 use std::alloc::Global;
@@ -68,7 +66,7 @@ struct Noting {
 }
 
 impl Outside for Noting {
-    ghost use Rattle.feed_link.specs.MemoryOutside.{outside_state, is_gate_out};
+    ghost use Rattle.memory_links.specs.MemoryOutside.{outside_state, is_gate_out};
 
     type Log = MemorySource;
 
@@ -128,13 +126,18 @@ fn link(rt: &impl Abort, alloc: Global, port: u16) -> MemoryLink {
     MemoryLink::new(alloc, hearings, Vec::new(alloc), Vec::new(alloc), 4, 0).expect(rt, "no memory")
 }
 
+fn push_log(rt: &impl Abort, alloc: Global, logs: &mut Vec<NamedLog>, name: &str, text: &str) {
+    logs.push(log(rt, alloc, name, text))
+        .expect(rt, "no memory");
+}
+
 // The logs "a.log", "own", "leap" and, under the name `second`, a fourth one.
 fn logs(rt: &impl Abort, alloc: Global, second: &str) -> Vec<NamedLog> {
     let mut logs = Vec::new(alloc);
-    for (name, text) in [("a.log", "A"), (second, "B"), ("own", ""), ("leap", "L")] {
-        logs.push(log(rt, alloc, name, text))
-            .expect(rt, "no memory");
-    }
+    push_log(rt, alloc, &mut logs, "a.log", "A");
+    push_log(rt, alloc, &mut logs, second, "B");
+    push_log(rt, alloc, &mut logs, "own", "");
+    push_log(rt, alloc, &mut logs, "leap", "L");
     logs
 }
 
@@ -273,6 +276,21 @@ fn gear_of(rt: &impl Abort, alloc: Global, station: &Station) -> Gear<MemorySour
     }
 }
 
+// A visit to a station in an outside that has the station's own log.
+fn visit_in(
+    rt: &impl Abort,
+    alloc: Global,
+    outside: &mut Noting,
+    station: &Station,
+    seen: &mut String,
+) -> Result<(), Missing> {
+    let gear = gear_of(rt, alloc, station);
+    match visit(outside, "own", station, gear, seen) {
+        Ok(answer) => answer,
+        Err(_) => panic!(*rt; "the station's own log was not opened"),
+    }
+}
+
 fn visit_station(
     rt: &impl Abort,
     alloc: Global,
@@ -281,12 +299,9 @@ fn visit_station(
     failing: u64,
 ) -> Visited {
     let station = station_of(rt, alloc, text.as_bytes());
-    let gear = gear_of(rt, alloc, &station);
     let mut outside = outside(rt, alloc, second, failing);
     let mut seen = String::new(alloc);
-    let Ok(answer) = visit(&mut outside, "own", &station, gear, &mut seen) else {
-        panic!(*rt; "the station's own log was not opened");
-    };
+    let answer = visit_in(rt, alloc, &mut outside, &station, &mut seen);
     let counts = counts(&outside);
     Visited {
         answer,

@@ -43,8 +43,7 @@ port = 123
 // A station has this leap second file, and this many feeds.
 fn has_leap_file(rt: &impl Abort, alloc: Global, text: &str, name: Option<&str>, feeds: u32) {
     let station = station_of(rt, alloc, text.as_bytes());
-    same(rt, station.leap_file(), name);
-    same(rt, feeds_of(&station), feeds);
+    same(rt, (station.leap_file(), feeds_of(&station)), (name, feeds));
 }
 
 #[test]
@@ -73,7 +72,7 @@ fn servers(alloc: Global, count: u8) -> String {
 fn it_counts_as_a_feed(rt: HostRuntime) {
     let alloc = rt.alloc();
     let full = servers(alloc, 15);
-    same(&rt, feeds_of(&station_of(&rt, alloc, full.as_bytes())), 16);
+    has_leap_file(&rt, alloc, full.as_str(), Some("a"), 16);
     let many = servers(alloc, 16);
     has_answer(&rt, alloc, many.as_bytes(), "many radio 17");
 }

@@ -1,5 +1,6 @@
 //! Station files, valid ones and faulty ones, and the result of each.
-use station_config::{KeyText, Station, StationFault, read_station};
+use station_config::Station;
+use station_reader::{KeyText, StationFault, read_station};
 use std::alloc::Global;
 use std::fmt::Debug;
 use std::process::Abort;
@@ -265,17 +266,28 @@ fn write_lines(lines: &mut String, text: &str) {
     }
 }
 
-// The file of a line, between two texts, has the result that the line gives.
-fn is_right(rt: &impl Abort, alloc: Global, line: &str, before: &str, after: &str) {
-    let Some((middle, result)) = line.split_once(" -> ") else {
-        panic!(*rt; "no line of a table: {line}");
-    };
+// The file of a line of a table, and its result.
+fn halves_of<'a>(rt: &impl Abort, line: &'a str) -> (&'a str, &'a str) {
+    match line.split_once(" -> ") {
+        Some(halves) => halves,
+        None => panic!(*rt; "no line of a table: {line}"),
+    }
+}
+
+// These texts one after another, with a line feed for each `|`.
+fn file_between(alloc: Global, before: &str, middle: &str, after: &str) -> String {
     let mut file = String::new(alloc);
     write_lines(&mut file, before);
     write_lines(&mut file, middle);
     write_lines(&mut file, after);
-    let mut want = String::new(alloc);
-    write_lines(&mut want, result);
+    file
+}
+
+// The file of a line, between two texts, has the result that the line gives.
+fn is_right(rt: &impl Abort, alloc: Global, line: &str, before: &str, after: &str) {
+    let (middle, result) = halves_of(rt, line);
+    let file = file_between(alloc, before, middle, after);
+    let want = file_between(alloc, "", result, "");
     let found = answer(alloc, file.as_bytes());
     same(rt, (line, found.as_str()), (line, want.as_str()));
 }
@@ -427,21 +439,30 @@ fn too_many(rt: HostRuntime) {
     rows_have_answer(&rt, alloc, [4, 4, 4], 4, 9, "many link 9");
 }
 
+// Whether a file is that of a station.
+fn is_station(alloc: Global, file: &[u8]) -> bool {
+    read_station(alloc, file).is_ok()
+}
+
 #[test]
 fn as_many_as_may_be(rt: HostRuntime) {
     let alloc = rt.alloc();
     let mut full = file_of(alloc, [4, 4, 4], 4, 8);
-    same(&rt, read_station(alloc, full.as_bytes()).is_ok(), true);
+    same(&rt, is_station(alloc, full.as_bytes()), true);
     write_word(&mut full, "[[link]]\nport = 0\n");
     has_answer(&rt, alloc, full.as_bytes(), "range link.8.port");
 }
 
+// The plan, the log and the delay of the radio at a place of a station.
+fn radio_of(station: &Station, place: usize) -> Option<(Plan, &str, u32)> {
+    let radio = station.radio(place)?;
+    Some((radio.plan, radio.log, radio.delay))
+}
+
 // The radio at a place of a station is of this plan, and has this log and no delay.
 fn has_radio(rt: &impl Abort, station: &Station, place: usize, plan: Plan, log: &str) {
-    match station.radio(place) {
-        Some(radio) => same(rt, (radio.plan, radio.log, radio.delay), (plan, log, 0)),
-        None => panic!(*rt; "no radio {place}"),
-    }
+    let wanted = Some((plan, log, 0));
+    same(rt, (place, radio_of(station, place)), (place, wanted));
 }
 
 // What a drill serves.

@@ -2,9 +2,10 @@
 
 use crate::fakes::CLIENT;
 use crate::stations::Done;
-use feed_link::{Address, HoldGate, LinkEvent, MemoryLink};
+use feed_link::Address;
 use feed_workers::{LogEnd, LogWork, PollWork};
 use journal_entry::{ENTRY_ROOM, Entry, write_entry};
+use memory_links::{HoldGate, LinkEvent, MemoryLink};
 use responder::{End, Served};
 use station_crew::LinkWork;
 use std::alloc::Global;
@@ -96,9 +97,8 @@ pub fn has_entries(rt: &impl Abort, ended: &Done, count: usize) {
 fn add_line(text: &mut String, entry: &Entry) {
     let mut line = [0; ENTRY_ROOM];
     let count = write_entry(entry, &mut line);
-    for byte in line.iter().take(count) {
-        let _ = text.push(char::from(*byte));
-    }
+    let line = line.get(..count).unwrap_or(&[]);
+    let _ = text.push_str(std::str::from_utf8(line).unwrap_or("?"));
     let _ = text.push('\n');
 }
 
@@ -143,29 +143,31 @@ fn has_at(bytes: &[u8], place: usize, part: &[u8]) -> bool {
     }
 }
 
-fn is_reply(to: Address, bytes: &[u8], want: &Reply<'_>) -> bool {
-    to == want.to
-        && bytes.len() == 48
-        && bytes.starts_with(want.begin)
-        && has_at(bytes, 12, want.id)
-        && has_at(bytes, 32, want.second)
+// Whether a datagram that was sent is the reply of this place.
+fn is_reply(to: Address, bytes: &[u8], wants: &[Reply<'_>], place: usize) -> bool {
+    match wants.get(place) {
+        Some(want) => {
+            to == want.to
+                && bytes.len() == 48
+                && bytes.starts_with(want.begin)
+                && has_at(bytes, 12, want.id)
+                && has_at(bytes, 32, want.second)
+        }
+        None => false,
+    }
 }
 
-// Whether a link has sent these replies, in order.
+// Whether a link has sent these replies, in order, and nothing else.
 fn are_sent(link: &MemoryLink, wants: &[Reply<'_>]) -> bool {
     let mut count = 0usize;
+    let mut right = true;
     for place in 0..link.count() {
         if let Some(LinkEvent::Sent { to, bytes }) = link.event(place) {
-            let Some(want) = wants.get(count) else {
-                return false;
-            };
-            if !is_reply(to, bytes, want) {
-                return false;
-            }
+            right = right && is_reply(to, bytes, wants, count);
             count = count.saturating_add(1);
         }
     }
-    count == wants.len()
+    right && count == wants.len()
 }
 
 /// The link of this place has sent these replies, in order.

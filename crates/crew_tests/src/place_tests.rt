@@ -4,7 +4,8 @@
 use crate::checks::{NONE, ONE, REPLY, Reply, has_entries, has_first, has_sent, holds, same_count};
 use crate::fakes::{ASKED, ASKS, WIRE, Wire};
 use crate::stations::{CASE, Case, LINK, RADIO, left_held, left_with};
-use feed_link::{Gate, HoldGate};
+use feed_link::Gate;
+use memory_links::HoldGate;
 use responder::{End, Served};
 use station_crew::Budget;
 use std::alloc::Global;

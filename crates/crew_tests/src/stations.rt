@@ -7,11 +7,13 @@ ghost use Rattle.crew_work.specs.Served.{AreBlank};
 ghost use Rattle.tick_units.specs.declared.marks.Plan.TheVariants.{Dcf};
 
 use crate::fakes::{Wire, link_of, minutes, source_of};
-use feed_link::{Gate, HoldGate, MemoryLink, MemorySource, OpenGate};
+use feed_link::{Gate, OpenGate};
+use memory_links::{HoldGate, MemoryLink, MemorySource};
 use radio_receiver::{BoxedReceiver, DcfReceiver, Receiver};
-use station_config::{Station, read_station};
+use station_config::Station;
 use station_crew::{Budget, Ended, Kit, Orders, serve_station};
 use station_gear::Gear;
+use station_reader::read_station;
 use std::alloc::{AllocError, Global};
 use std::process::Abort;
 use std::sync::Wait;

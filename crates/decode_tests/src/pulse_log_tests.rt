@@ -2,6 +2,7 @@
 use crate::shared::{moment, same};
 use pulse_log::{BadLine, LineReader, write_line};
 use std::alloc::{AllocError, Global};
+use std::process::Abort;
 use std::test::Fail;
 use tick_units::Reduction;
 
@@ -59,111 +60,156 @@ fn read_in_pieces(
     Ok((found, bad))
 }
 
-#[test]
-fn pieces_are_taken_line_by_line(rt: HostRuntime) -> Result<(), Fail> {
-    let logs: [(&str, &[(u64, u32)], Option<u64>); 5] = [
-        (
-            "62000000 100000\n63000000 200000\n",
-            &[(62_000_000, 100_000), (63_000_000, 200_000)],
-            None,
-        ),
-        ("7 1\n\n8 1\n", &[(7, 1)], Some(2)),
-        ("7 1\n8 1\n9 1", &[(7, 1), (8, 1)], Some(3)),
-        (
-            "7 1\n11111111111111111111111111111111\n8 1\n",
-            &[(7, 1)],
-            Some(2),
-        ),
-        (
-            "0 1\n1 2000000\n2 x\n3 1\n",
-            &[(0, 1), (1, 2_000_000)],
-            Some(3),
-        ),
-    ];
-    for (log, want, line) in logs {
-        for size in 1..=log.len() {
-            let (found, bad) = read_in_pieces(rt.alloc(), log.as_bytes(), size)?;
-            assert_eq!(rt; found.as_slice(), want, "in {log} by {size}");
-            assert_eq!(rt; bad, line, "in {log} by {size}");
-        }
+// A log, the starts and widths of its valid lines before the first bad one, and the number of that line.
+type Read = (&'static str, &'static [(u64, u32)], Option<u64>);
+
+const IN_PIECES: [Read; 5] = [
+    (
+        "62000000 100000\n63000000 200000\n",
+        &[(62_000_000, 100_000), (63_000_000, 200_000)],
+        None,
+    ),
+    ("7 1\n\n8 1\n", &[(7, 1)], Some(2)),
+    ("7 1\n8 1\n9 1", &[(7, 1), (8, 1)], Some(3)),
+    (
+        "7 1\n11111111111111111111111111111111\n8 1\n",
+        &[(7, 1)],
+        Some(2),
+    ),
+    (
+        "0 1\n1 2000000\n2 x\n3 1\n",
+        &[(0, 1), (1, 2_000_000)],
+        Some(3),
+    ),
+];
+
+// A log is read so in pieces of this size.
+fn is_read_in_pieces(
+    rt: &impl Abort,
+    alloc: Global,
+    row: &Read,
+    size: usize,
+) -> Result<(), AllocError> {
+    let (log, want, line) = *row;
+    let (found, bad) = read_in_pieces(alloc, log.as_bytes(), size)?;
+    same(
+        rt,
+        (log, size, found.as_slice(), bad),
+        (log, size, want, line),
+    );
+    Ok(())
+}
+
+// A log is read so in pieces of each size.
+fn is_read_in_each_size(rt: &impl Abort, alloc: Global, row: &Read) -> Result<(), AllocError> {
+    for size in 1..=row.0.len() {
+        is_read_in_pieces(rt, alloc, row, size)?;
     }
     Ok(())
 }
 
 #[test]
-fn lawful_lines_are_read(rt: HostRuntime) -> Result<(), Fail> {
-    let table: [(&str, &[(u64, u32)]); 6] = [
-        ("", &[]),
-        ("0 1\n", &[(0, 1)]),
-        (
-            "62000000 100000\n63000000 200000\n",
-            &[(62_000_000, 100_000), (63_000_000, 200_000)],
-        ),
-        (
-            "1125899906842623 2000000\n",
-            &[(1_125_899_906_842_623, 2_000_000)],
-        ),
-        (
-            "999999999999999 999999\n1000000000000000 1000000\n",
-            &[
-                (999_999_999_999_999, 999_999),
-                (1_000_000_000_000_000, 1_000_000),
-            ],
-        ),
-        (
-            "1 10\n1000000000000000 9\n1000000000000001 1000001\n",
-            &[
-                (1, 10),
-                (1_000_000_000_000_000, 9),
-                (1_000_000_000_000_001, 1_000_001),
-            ],
-        ),
-    ];
-    for (log, want) in table {
-        let (found, bad) = read(rt.alloc(), log.as_bytes())?;
-        same(&rt, found.as_slice(), want);
-        same(&rt, bad, None);
-        let (found, bad) = read_in_pieces(rt.alloc(), log.as_bytes(), 512)?;
-        assert_eq!(rt; found.as_slice(), want, "at once");
-        assert_eq!(rt; bad, None, "at once");
+fn pieces_are_taken_line_by_line(rt: HostRuntime) -> Result<(), Fail> {
+    for row in &IN_PIECES {
+        is_read_in_each_size(&rt, rt.alloc(), row)?;
     }
+    Ok(())
+}
+
+const LAWFUL: [Read; 6] = [
+    ("", &[], None),
+    ("0 1\n", &[(0, 1)], None),
+    (
+        "62000000 100000\n63000000 200000\n",
+        &[(62_000_000, 100_000), (63_000_000, 200_000)],
+        None,
+    ),
+    (
+        "1125899906842623 2000000\n",
+        &[(1_125_899_906_842_623, 2_000_000)],
+        None,
+    ),
+    (
+        "999999999999999 999999\n1000000000000000 1000000\n",
+        &[
+            (999_999_999_999_999, 999_999),
+            (1_000_000_000_000_000, 1_000_000),
+        ],
+        None,
+    ),
+    (
+        "1 10\n1000000000000000 9\n1000000000000001 1000001\n",
+        &[
+            (1, 10),
+            (1_000_000_000_000_000, 9),
+            (1_000_000_000_000_001, 1_000_001),
+        ],
+        None,
+    ),
+];
+
+// A log is read so byte by byte, and at once.
+fn is_read_both_ways(rt: &impl Abort, alloc: Global, row: &Read) -> Result<(), AllocError> {
+    let (log, want, line) = *row;
+    let (found, bad) = read(alloc, log.as_bytes())?;
+    same(rt, (log, found.as_slice(), bad), (log, want, line));
+    is_read_in_pieces(rt, alloc, row, 512)
+}
+
+#[test]
+fn lawful_lines_are_read(rt: HostRuntime) -> Result<(), Fail> {
+    for row in &LAWFUL {
+        is_read_both_ways(&rt, rt.alloc(), row)?;
+    }
+    Ok(())
+}
+
+// A log, how many of its lines are valid, and the number of the first bad one.
+const UNLAWFUL: [(&str, usize, u64); 23] = [
+    ("\n", 0, 1),
+    (" 100\n", 0, 1),
+    ("100\n", 0, 1),
+    ("100 \n", 0, 1),
+    ("007 100\n", 0, 1),
+    ("00 100\n", 0, 1),
+    ("7 0100\n", 0, 1),
+    ("7 0\n", 0, 1),
+    ("7 2000001\n", 0, 1),
+    ("1125899906842624 1\n", 0, 1),
+    ("7  1\n", 0, 1),
+    ("7 1 \n", 0, 1),
+    ("7\t1\n", 0, 1),
+    ("7 1\r\n", 0, 1),
+    ("seven 1\n", 0, 1),
+    ("-7 1\n", 0, 1),
+    ("7 1x\n", 0, 1),
+    ("7 1\n6 1\n", 1, 2),
+    ("7 1\n7 1\n", 1, 2),
+    ("7 1\n\n8 1\n", 1, 2),
+    ("7 1\n8 1\n9 1", 2, 3),
+    ("1111111111111111111111111111111", 0, 1),
+    ("7 1\n11111111111111111111111111111111", 1, 2),
+];
+
+// A log has this many valid lines before its first bad one, byte by byte and at once.
+fn ends_at(
+    rt: &impl Abort,
+    alloc: Global,
+    log: &str,
+    lawful: usize,
+    line: u64,
+) -> Result<(), AllocError> {
+    let (found, bad) = read(alloc, log.as_bytes())?;
+    same(rt, (log, found.len(), bad), (log, lawful, Some(line)));
+    let (found, bad) = read_in_pieces(alloc, log.as_bytes(), 512)?;
+    same(rt, (log, found.len(), bad), (log, lawful, Some(line)));
     Ok(())
 }
 
 #[test]
 fn the_first_line_that_is_not_lawful_is_told(rt: HostRuntime) -> Result<(), Fail> {
-    let table = [
-        ("\n", 0, 1),
-        (" 100\n", 0, 1),
-        ("100\n", 0, 1),
-        ("100 \n", 0, 1),
-        ("007 100\n", 0, 1),
-        ("00 100\n", 0, 1),
-        ("7 0100\n", 0, 1),
-        ("7 0\n", 0, 1),
-        ("7 2000001\n", 0, 1),
-        ("1125899906842624 1\n", 0, 1),
-        ("7  1\n", 0, 1),
-        ("7 1 \n", 0, 1),
-        ("7\t1\n", 0, 1),
-        ("7 1\r\n", 0, 1),
-        ("seven 1\n", 0, 1),
-        ("-7 1\n", 0, 1),
-        ("7 1x\n", 0, 1),
-        ("7 1\n6 1\n", 1, 2),
-        ("7 1\n7 1\n", 1, 2),
-        ("7 1\n\n8 1\n", 1, 2),
-        ("7 1\n8 1\n9 1", 2, 3),
-        ("1111111111111111111111111111111", 0, 1),
-        ("7 1\n11111111111111111111111111111111", 1, 2),
-    ];
-    for (log, lawful, line) in table {
-        let (found, bad) = read(rt.alloc(), log.as_bytes())?;
-        assert_eq!(rt; found.len(), lawful, "in {log}");
-        assert_eq!(rt; bad, Some(line), "in {log}");
-        let (found, bad) = read_in_pieces(rt.alloc(), log.as_bytes(), 512)?;
-        assert_eq!(rt; found.len(), lawful, "in {log} at once");
-        assert_eq!(rt; bad, Some(line), "in {log} at once");
+    for (log, lawful, line) in UNLAWFUL {
+        ends_at(&rt, rt.alloc(), log, lawful, line)?;
     }
     Ok(())
 }

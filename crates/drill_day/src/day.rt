@@ -1,10 +1,11 @@
 //! The logs of a day.
 ghost use Rattle.std.specs.Prelude.{◌≡◌, ◌+◌, ◌<◌, ◌++◌, [], ◌∷◌, ℕ, IfOk, OnOk, map, vec_capacity, vec_len};
 ghost use Rattle.drill_day.specs.Day.{day_log, day_logs, source_of, IsDay};
-ghost use Rattle.feed_link.specs.Memory.{sure_state};
+ghost use Rattle.memory_links.specs.Memory.{sure_state};
 ghost use Rattle.tick_units.specs.declared.marks.Plan.{Plan};
 
-use feed_link::{Failed, MemorySink, SureSource};
+use feed_link::Failed;
+use memory_links::{MemorySink, SureSource};
 use pulse_maker::make;
 use std::alloc::{AllocError, Global};
 use std::thread::{Threads, join};

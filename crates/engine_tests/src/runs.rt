@@ -1,9 +1,10 @@
 //! The one call of the program over the fakes, as every test here makes it.
 ghost use Rattle.std.specs.Prelude.{◌≡◌, false};
-ghost use Rattle.feed_link.specs.MemoryOutside.{is_gate_out};
+ghost use Rattle.memory_links.specs.MemoryOutside.{is_gate_out};
 ghost use Rattle.receiver_rack.specs.Racks.{IsRack};
 
-use feed_link::{Gate, MemoryOutside, MemorySink};
+use feed_link::Gate;
+use memory_links::{MemoryOutside, MemorySink};
 use radio_engine::{Status, run_station};
 use radio_receiver::{DcfReceiver, MsfReceiver, Receiver, WwvbReceiver};
 use receiver_rack::put_in_rack;

@@ -23,7 +23,7 @@
 //! | `not LINK RECEIVER N BEGINNING ..` | that it begins otherwise |
 //! | `events LINK KINDS` | what the link has noted: `heard`, `quiet`, `moment`, `sent`, `end` |
 
-use feed_link::FakeOpen;
+use memory_links::FakeOpen;
 use std::alloc::{AllocError, AllocFailed};
 
 mod links;

@@ -62,3 +62,20 @@ pub trait Gate: Sync {
     /// datagram, 3 after it has sent a reply. The call changes nothing, and may wait.
     fn pass<R: Wait>(&self, rt: &R, worker: u32, place: u8);
 }
+
+/// A gate that never holds.
+#[derive(Clone, Copy, Debug, PartialEq, Eq)]
+pub struct OpenGate;
+
+impl OpenGate {
+    /// A gate that never holds.
+    pub fn new() -> OpenGate
+        ensures { result ≡ record {} }
+    {
+        OpenGate
+    }
+}
+
+impl Gate for OpenGate {
+    fn pass<R: Wait>(&self, _rt: &R, _worker: u32, _place: u8) {}
+}

@@ -11,9 +11,9 @@ use Rattle.file_reader.specs.Ends.{EndsReading, HasReadFront}
 use Rattle.file_reader.specs.declared.reader.FileEnd.{FileEnd}
 use Rattle.file_reader.specs.declared.reader.FileEnd.TheVariants.{Whole, TooLong}
 use Rattle.line_cutter.proofs.ItemLaws.{bad_stays, one_reading}
-use Rattle.station_config.specs.Faults.{Says}
+use Rattle.station_reader.specs.Faults.{Says}
 use Rattle.station_config.specs.Station.{StationFields}
-use Rattle.station_config.specs.Values.{station_of}
+use Rattle.station_reader.specs.Values.{station_of}
 use Rattle.tick_units.specs.Log.{lines_of, has_tail, or_unfinished}
 use Rattle.file_commands.specs.declared.ending.Ending.{Ending}
 use Rattle.file_commands.specs.declared.ending.Ending.TheVariants.{NotOpened}

@@ -5,10 +5,10 @@ use Rattle.feed_link.specs.Openings.{Wanted, MakesOpenings, log_visit}
 use Rattle.file_reader.specs.Ends.{EndsReading}
 use Rattle.file_reader.specs.declared.reader.FileEnd.{FileEnd}
 use Rattle.file_reader.specs.declared.reader.FileEnd.TheVariants as file
-use Rattle.station_config.specs.Faults.{Says, Refuses as RefusesStation}
+use Rattle.station_reader.specs.Faults.{Says, Refuses as RefusesStation}
 use Rattle.station_config.specs.Station.{StationFields}
-use Rattle.station_config.specs.declared.fault.StationFault.{StationFault}
-use Rattle.station_config.specs.declared.fault.StationFault.TheVariants as fault
+use Rattle.station_reader.specs.declared.fault.StationFault.{StationFault}
+use Rattle.station_reader.specs.declared.fault.StationFault.TheVariants as fault
 use Rattle.file_commands.specs.Effects.{Effect, EndsWith}
 use Rattle.file_commands.specs.Endings.{status_of, status_line}
 use Rattle.file_commands.specs.declared.ending.Ending.TheVariants.{NotRead, NoMemory, Long}

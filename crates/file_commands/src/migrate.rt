@@ -8,7 +8,7 @@ ghost use Rattle.file_commands.specs.Migrating.{RunsMigrate, journal_of, migrate
 ghost use Rattle.file_commands.specs.JournalTaking.{IsEven, IsMovedBy};
 ghost use Rattle.file_commands.specs.Unopened.{Lacks};
 ghost use Rattle.file_commands.specs.StationFile.{IsObstacle};
-ghost use Rattle.station_config.specs.Faults.{Says};
+ghost use Rattle.station_reader.specs.Faults.{Says};
 ghost use Rattle.station_config.specs.Station.{StationFields};
 
 mod lines;

@@ -3,7 +3,7 @@ ghost use Rattle.std.specs.Prelude.{◌≡◌, ◌≤◌, [], MatchResult, vec_c
 ghost use Rattle.file_reader.specs.declared.reader.FileEnd.TheVariants.{Whole};
 ghost use Rattle.file_commands.specs.Keeping.{TriesStation};
 ghost use Rattle.file_commands.specs.StationFile.{IsObstacle};
-ghost use Rattle.station_config.specs.Faults.{Says};
+ghost use Rattle.station_reader.specs.Faults.{Says};
 
 pub mod obstacle;
 
@@ -12,7 +12,8 @@ use crate::ending::subject::Subject;
 use feed_link::{Failed, Outside};
 use file_reader::{FileEnd, read_whole};
 use obstacle::Obstacle;
-use station_config::{Station, StationFault, read_station};
+use station_config::Station;
+use station_reader::{StationFault, read_station};
 use std::alloc::Global;
 
 /// The most bytes of a station file.

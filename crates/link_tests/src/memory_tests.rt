@@ -1,10 +1,9 @@
 // The fakes in memory, and the host's files.
 ghost use Rattle.std.specs.Prelude.{◌≡◌};
 
-use feed_link::{
-    Failed, FakeOpen, HostOutside, MemoryOutside, MemorySink, MemorySource, NamedLog, OpenGate,
-    Outside, Sink, Source, SureSource,
-};
+use feed_link::{Failed, OpenGate, Outside, Sink, Source};
+use host_links::HostOutside;
+use memory_links::{FakeOpen, MemoryOutside, MemorySink, MemorySource, NamedLog, SureSource};
 use std::alloc::{AllocError, Global};
 use std::fmt::Debug;
 use std::process::Abort;
@@ -16,7 +15,7 @@ pub(crate) fn same<T: PartialEq + Debug + Drop>(rt: &impl Abort, left: T, right:
 }
 
 // What a read gives, and the piece after it.
-type Read = (Result<usize, Failed>, [u8; 3]);
+pub(crate) type Read = (Result<usize, Failed>, [u8; 3]);
 
 pub(crate) fn read_three<S: Source>(source: &mut S) -> Read
     ensures { S.opening source.new ≡ S.opening source.old }
@@ -100,12 +99,17 @@ fn a_sink_in_memory_fails_at_its_calls_and_adds_nothing(rt: HostRuntime) -> Resu
     Ok(())
 }
 
+// A log with this name and this text.
+fn named(alloc: Global, name: &str, text: &str) -> Result<NamedLog, AllocError> {
+    let log = log_of(alloc, text.as_bytes(), &[])?;
+    Ok(NamedLog::new(String::from_str(alloc, name)?, log))
+}
+
 // Logs with these names and texts.
 fn logs_of(alloc: Global, rows: &[(&str, &str)]) -> Result<Vec<NamedLog>, AllocError> {
     let mut logs = Vec::new(alloc);
     for (name, text) in rows {
-        let log = log_of(alloc, text.as_bytes(), &[])?;
-        logs.push(NamedLog::new(String::from_str(alloc, name)?, log))?;
+        logs.push(named(alloc, name, text)?)?;
     }
     Ok(logs)
 }
@@ -133,39 +137,58 @@ fn begins(rt: &impl Abort, outside: &mut Fake, name: &str, want: Result<u8, Fail
     same(rt, first_byte(outside, name), want);
 }
 
+// A log, and how it begins where it is opened now.
+type Opened<'a> = (&'a str, Result<u8, Failed>);
+
+fn begin(rt: &impl Abort, outside: &mut Fake, rows: &[Opened<'_>]) {
+    for (name, want) in rows {
+        begins(rt, outside, name, *want);
+    }
+}
+
+// Logs in memory are handed out so, one after another, where the openings of these numbers fail.
+fn are_handed_out(
+    rt: &impl Abort,
+    alloc: Global,
+    logs: &[(&str, &str)],
+    fails: &[u64],
+    rows: &[Opened<'_>],
+) {
+    match outside_of(alloc, logs, fails) {
+        Ok(mut outside) => begin(rt, &mut outside, rows),
+        Err(_) => assert!(*rt; false),
+    }
+}
+
 const TWO_LOGS: [(&str, &str); 2] = [("a", "1"), ("b", "2")];
 
 // Each of two logs is handed out once, and no other.
-fn hands_out_once(rt: &impl Abort, outside: &mut Fake) {
-    begins(rt, outside, "b", Ok(b'2'));
-    begins(rt, outside, "b", Err(Failed));
-    begins(rt, outside, "c", Err(Failed));
-    begins(rt, outside, "a", Ok(b'1'));
-}
+const ONCE: [Opened<'static>; 4] = [
+    ("b", Ok(b'2')),
+    ("b", Err(Failed)),
+    ("c", Err(Failed)),
+    ("a", Ok(b'1')),
+];
 
 #[test]
-fn an_outside_in_memory_hands_each_log_out_once(rt: HostRuntime) -> Result<(), Fail> {
-    let mut outside = outside_of(rt.alloc(), &TWO_LOGS, &[9])?;
-    hands_out_once(&rt, &mut outside);
-    Ok(())
+fn an_outside_in_memory_hands_each_log_out_once(rt: HostRuntime) {
+    are_handed_out(&rt, rt.alloc(), &TWO_LOGS, &[9], &ONCE);
 }
 
 const FIVE_LOGS: [(&str, &str); 5] = [("b", "0"), ("a", "1"), ("a", "2"), ("c", "3"), ("a", "4")];
 
 // Of the logs of one name the first is opened first.
-fn hands_out_in_order(rt: &impl Abort, outside: &mut Fake) {
-    begins(rt, outside, "a", Ok(b'1'));
-    begins(rt, outside, "a", Ok(b'2'));
-    begins(rt, outside, "a", Ok(b'4'));
-    begins(rt, outside, "a", Err(Failed));
-    begins(rt, outside, "c", Ok(b'3'));
-}
+const IN_ORDER: [Opened<'static>; 5] = [
+    ("a", Ok(b'1')),
+    ("a", Ok(b'2')),
+    ("a", Ok(b'4')),
+    ("a", Err(Failed)),
+    ("c", Ok(b'3')),
+];
 
 #[test]
-fn the_first_log_of_a_name_is_opened_first(rt: HostRuntime) -> Result<(), Fail> {
-    let mut outside = outside_of(rt.alloc(), &FIVE_LOGS, &[])?;
-    hands_out_in_order(&rt, &mut outside);
-    Ok(())
+fn the_first_log_of_a_name_is_opened_first(rt: HostRuntime) {
+    are_handed_out(&rt, rt.alloc(), &FIVE_LOGS, &[], &IN_ORDER);
 }
 
 // A source of 600 bytes gives them at once.
@@ -184,24 +207,35 @@ fn a_read_may_be_of_more_than_512_bytes(rt: HostRuntime) -> Result<(), Fail> {
 }
 
 // The first opening fails, and the second does not.
-fn opens_late(rt: &impl Abort, outside: &mut Fake) {
-    begins(rt, outside, "a", Err(Failed));
-    begins(rt, outside, "a", Ok(b'1'));
-}
+const LATE: [Opened<'static>; 2] = [("a", Err(Failed)), ("a", Ok(b'1'))];
 
 #[test]
-fn an_opening_fails_at_its_number(rt: HostRuntime) -> Result<(), Fail> {
-    let mut outside = outside_of(rt.alloc(), &TWO_LOGS, &[1])?;
-    opens_late(&rt, &mut outside);
-    Ok(())
+fn an_opening_fails_at_its_number(rt: HostRuntime) {
+    are_handed_out(&rt, rt.alloc(), &TWO_LOGS, &[1], &LATE);
 }
 
-#[test]
-fn the_host_opens_files(rt: HostRuntime) -> Result<(), Fail> {
-    let mut outside = HostOutside::new(&rt);
-    let mut log = outside.open_log("/dev/zero")?;
-    gives(&rt, &mut log, (Ok(3), [0; 3]));
+pub(crate) type Host<'a> = HostOutside<'a, HostRuntime>;
+
+// What a log of the host gives at its first read. It is given back then.
+fn read_of(outside: &mut Host<'_>, name: &str) -> Result<Read, Failed> {
+    let mut log = outside.open_log(name)?;
+    let read = read_three(&mut log);
     outside.give_back_log(log);
-    assert!(rt; outside.open_log("/dev/null/none").is_err());
-    Ok(())
+    Ok(read)
+}
+
+pub(crate) fn is_read(
+    rt: &impl Abort,
+    outside: &mut Host<'_>,
+    name: &str,
+    want: Result<Read, Failed>,
+) {
+    same(rt, read_of(outside, name), want);
+}
+
+#[test]
+fn the_host_opens_files(rt: HostRuntime) {
+    let mut outside = HostOutside::new(&rt);
+    is_read(&rt, &mut outside, "/dev/zero", Ok((Ok(3), [0; 3])));
+    is_read(&rt, &mut outside, "/dev/null/none", Err(Failed));
 }

@@ -1,9 +1,7 @@
 // Links in memory: the planned hearings come in order, and each fault, bound and room shows where it was stated.
 use crate::memory_tests::same;
-use feed_link::{
-    Address, Arrival, Failed, FakeOpen, Gate, Hearing, HoldGate, Link, LinkEvent, MemoryLink,
-    MemoryOutside, OpenGate, Outside, Planned,
-};
+use feed_link::{Address, Arrival, Failed, Gate, Hearing, Link, OpenGate, Outside};
+use memory_links::{FakeOpen, HoldGate, LinkEvent, MemoryLink, MemoryOutside, Planned};
 use std::alloc::{AllocError, Global};
 use std::process::Abort;
 use std::test::Fail;
@@ -192,16 +190,23 @@ fn is_said(rt: &impl Abort, alloc: Global, failing: u64, want: Talk) {
     }
 }
 
+fn are_said(rt: &impl Abort, alloc: Global, rows: &[(u64, Talk)]) {
+    for (failing, want) in rows {
+        is_said(rt, alloc, *failing, *want);
+    }
+}
+
+// The number of the call that fails, and what is said then.
+const FAILING: [(u64, Talk); 4] = [
+    (1, ([FAILED, AB, QUIET, LATE_CDE], [6, 9, 9], true)),
+    (2, ([AB, FAILED, QUIET, LATE_CDE], [7, 9, 9], true)),
+    (3, ([AB, QUIET, CDE, END], [7, 9, 9], false)),
+    (5, ([AB, QUIET, CDE, FAILED], [7, 9, 9], true)),
+];
+
 #[test]
 fn a_call_that_fails_leaves_its_hearing_for_the_next(rt: HostRuntime) {
-    let first = ([FAILED, AB, QUIET, LATE_CDE], [6, 9, 9], true);
-    is_said(&rt, rt.alloc(), 1, first);
-    let second = ([AB, FAILED, QUIET, LATE_CDE], [7, 9, 9], true);
-    is_said(&rt, rt.alloc(), 2, second);
-    let third = ([AB, QUIET, CDE, END], [7, 9, 9], false);
-    is_said(&rt, rt.alloc(), 3, third);
-    let fifth = ([AB, QUIET, CDE, FAILED], [7, 9, 9], true);
-    is_said(&rt, rt.alloc(), 5, fifth);
+    are_said(&rt, rt.alloc(), &FAILING);
 }
 
 fn room_of(events: usize, bytes: usize) -> Space {

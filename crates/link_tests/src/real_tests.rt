@@ -2,7 +2,8 @@
 ghost use Rattle.std.specs.Prelude.{◌≡◌, ◌≤◌, IfOk};
 
 use crate::memory_tests::{gives, read_three, same, takes};
-use feed_link::{Failed, FileSource, Source, StreamSink};
+use feed_link::{Failed, Source};
+use host_links::{FileSource, StreamSink};
 use std::io::{self, ErrorKind, Read, Write};
 use std::process::Abort;
 

@@ -1,10 +1,9 @@
 // Sockets as links: over a socket that is interrupted, silent or fails, and over the host's own.
 ghost use Rattle.std.specs.Prelude.{◌≡◌};
 
-use crate::memory_tests::same;
-use feed_link::{
-    Address, Counter, DatagramSocket, Failed, Hearing, HostOutside, Link, Outside, Refusal, UdpLink,
-};
+use crate::memory_tests::{Host, is_read, same};
+use feed_link::{Address, Failed, Hearing, Link, Outside};
+use host_links::{Counter, DatagramSocket, HostOutside, Refusal, UdpLink};
 use std::io::{self, ErrorKind};
 use std::net::{IpAddr, Ipv4Addr, SocketAddr, UdpSocket};
 use std::process::Abort;
@@ -21,13 +20,15 @@ fn loopback(port: u16) -> SocketAddr {
     SocketAddr::new(IpAddr::V4(Ipv4Addr::LOCALHOST), port)
 }
 
-// A socket whose first calls fail in a stated way, a stated number of times. Then it gives a datagram from a port, and takes all
-// that is sent.
+// A socket whose first calls fail in a stated way, a stated number of times. Then it gives some datagrams from a port and all
+// others from port 7, and takes all that is sent.
 #[derive(Drop)]
 struct Shaky {
     kind: ErrorKind,
-    calls: u8,
+    calls: u32,
     port: u16,
+    /// How many datagrams come from the port.
+    count: u32,
     /// How many bytes fewer it takes than are given.
     short: usize,
 }
@@ -47,8 +48,8 @@ impl DatagramSocket for Shaky {
         if self.fails() {
             return Err(io::Error::from(self.kind));
         }
-        let port = self.port;
-        self.port = 7;
+        let port = if self.count == 0 { 7 } else { self.port };
+        self.count = self.count.saturating_sub(1);
         Ok((piece.len().min(3), loopback(port)))
     }
 
@@ -85,11 +86,13 @@ fn sent(rt: &HostRuntime, socket: Shaky) -> Result<(), Failed> {
     link.send(to, b"a")
 }
 
-fn failing(kind: ErrorKind, calls: u8, port: u16) -> Shaky {
+// A socket whose first calls fail, and which then gives one datagram from a port.
+fn failing(kind: ErrorKind, calls: u32, port: u16) -> Shaky {
     Shaky {
         kind,
         calls,
         port,
+        count: 1,
         short: 0,
     }
 }
@@ -104,107 +107,74 @@ fn has_ended(rt: &impl Abort, sent: Result<(), Failed>, want: Result<(), Failed>
     same(rt, sent, want);
 }
 
-// A socket fails once.
-fn once(kind: ErrorKind) -> Shaky {
-    failing(kind, 1, 123)
-}
+// How a hearing ends, and a sending.
+type Ends = (Result<u16, Failed>, Result<(), Failed>);
 
-#[test]
-fn silence_is_quiet_and_an_error_of_the_socket_is_a_fault(rt: HostRuntime) {
-    is_from(&rt, heard(&rt, once(ErrorKind::WouldBlock)), Ok(0));
-    has_ended(&rt, sent(&rt, once(ErrorKind::WouldBlock)), Err(Failed));
-    is_from(&rt, heard(&rt, once(ErrorKind::TimedOut)), Ok(0));
-    has_ended(&rt, sent(&rt, once(ErrorKind::TimedOut)), Err(Failed));
-    is_from(&rt, heard(&rt, once(ErrorKind::NotConnected)), Err(Failed));
-    has_ended(&rt, sent(&rt, once(ErrorKind::NotConnected)), Err(Failed));
-    is_from(&rt, heard(&rt, once(ErrorKind::OutOfMemory)), Err(Failed));
-    has_ended(&rt, sent(&rt, once(ErrorKind::OutOfMemory)), Err(Failed));
-}
+const FAULTS: Ends = (Err(Failed), Err(Failed));
 
-// After so many calls that fail in this way, a link receives and sends.
-fn tried(
-    rt: &HostRuntime,
-    kind: ErrorKind,
-    calls: u8,
-) -> (Result<u16, Failed>, Result<(), Failed>) {
+const QUIET_AND_FAULT: Ends = (Ok(0), Err(Failed));
+
+const FAULT_AND_LOSS: Ends = (Err(Failed), Ok(()));
+
+const DONE: Ends = (Ok(123), Ok(()));
+
+// How they end after so many calls that fail in this way.
+fn tried(rt: &HostRuntime, kind: ErrorKind, calls: u32) -> Ends {
     (
         heard(rt, failing(kind, calls, 123)),
         sent(rt, failing(kind, calls, 123)),
     )
 }
 
-// What was received is from port 123, and what was sent is on its way.
-fn is_done(rt: &impl Abort, tried: (Result<u16, Failed>, Result<(), Failed>)) {
-    same(rt, tried, (Ok(123), Ok(())));
+fn end(rt: &impl Abort, tried: Ends, want: Ends) {
+    same(rt, tried, want);
+}
+
+#[test]
+fn silence_is_quiet_and_an_error_of_the_socket_is_a_fault(rt: HostRuntime) {
+    end(&rt, tried(&rt, ErrorKind::WouldBlock, 1), QUIET_AND_FAULT);
+    end(&rt, tried(&rt, ErrorKind::TimedOut, 1), QUIET_AND_FAULT);
+    end(&rt, tried(&rt, ErrorKind::NotConnected, 1), FAULTS);
+    end(&rt, tried(&rt, ErrorKind::OutOfMemory, 1), FAULTS);
 }
 
 #[test]
 fn a_call_is_made_again_that_was_interrupted_or_told_of_another_datagram(rt: HostRuntime) {
-    is_done(&rt, tried(&rt, ErrorKind::Interrupted, 3));
-    is_done(&rt, tried(&rt, ErrorKind::Interrupted, 200));
-    is_done(&rt, tried(&rt, ErrorKind::ConnectionRefused, 3));
-    is_done(&rt, tried(&rt, ErrorKind::ConnectionRefused, 200));
-    is_done(&rt, tried(&rt, ErrorKind::ConnectionReset, 3));
-    is_done(&rt, tried(&rt, ErrorKind::ConnectionReset, 200));
-    is_done(&rt, tried(&rt, ErrorKind::HostUnreachable, 3));
-    is_done(&rt, tried(&rt, ErrorKind::HostUnreachable, 200));
-    is_done(&rt, tried(&rt, ErrorKind::NetworkUnreachable, 3));
-    is_done(&rt, tried(&rt, ErrorKind::NetworkUnreachable, 200));
+    end(&rt, tried(&rt, ErrorKind::Interrupted, 3), DONE);
+    end(&rt, tried(&rt, ErrorKind::Interrupted, 200), DONE);
+    end(&rt, tried(&rt, ErrorKind::ConnectionRefused, 3), DONE);
+    end(&rt, tried(&rt, ErrorKind::ConnectionRefused, 200), DONE);
+    end(&rt, tried(&rt, ErrorKind::ConnectionReset, 3), DONE);
+    end(&rt, tried(&rt, ErrorKind::ConnectionReset, 200), DONE);
+    end(&rt, tried(&rt, ErrorKind::HostUnreachable, 3), DONE);
+    end(&rt, tried(&rt, ErrorKind::HostUnreachable, 200), DONE);
+    end(&rt, tried(&rt, ErrorKind::NetworkUnreachable, 3), DONE);
+    end(&rt, tried(&rt, ErrorKind::NetworkUnreachable, 200), DONE);
 }
 
 #[test]
 fn a_datagram_without_a_way_is_lost_and_no_fault(rt: HostRuntime) {
-    has_ended(&rt, sent(&rt, once(ErrorKind::NetworkDown)), Ok(()));
-    is_from(&rt, heard(&rt, once(ErrorKind::NetworkDown)), Err(Failed));
-    has_ended(&rt, sent(&rt, once(ErrorKind::PermissionDenied)), Ok(()));
-    is_from(
+    end(&rt, tried(&rt, ErrorKind::NetworkDown, 1), FAULT_AND_LOSS);
+    end(
         &rt,
-        heard(&rt, once(ErrorKind::PermissionDenied)),
-        Err(Failed),
+        tried(&rt, ErrorKind::PermissionDenied, 1),
+        FAULT_AND_LOSS,
     );
-    has_ended(&rt, sent(&rt, once(ErrorKind::InvalidInput)), Ok(()));
-    is_from(&rt, heard(&rt, once(ErrorKind::InvalidInput)), Err(Failed));
+    end(&rt, tried(&rt, ErrorKind::InvalidInput, 1), FAULT_AND_LOSS);
 }
 
-// A socket whose host never has a route.
-#[derive(Drop)]
-struct Cut {
-    kind: ErrorKind,
-}
-
-impl DatagramSocket for Cut {
-    fn receive(&mut self, _: &mut [u8]) -> io::Result<(usize, SocketAddr)> {
-        Err(io::Error::from(ErrorKind::TimedOut))
-    }
-
-    fn transmit(&mut self, _: SocketAddr, _: &[u8]) -> io::Result<usize> {
-        Err(io::Error::from(self.kind))
-    }
-}
-
-// How a sending ends where the socket never has a route, for this reason.
+// How a sending ends where the host never has a route, for this reason.
 fn sent_without_route(rt: &HostRuntime, kind: ErrorKind) -> Result<(), Failed> {
-    let to = Address {
-        ip: 0xc000_0209,
-        port: 123,
-    };
-    let mut link = UdpLink::new(Cut { kind }, Counter::new(rt), moment(5));
-    link.send(to, b"a")
+    sent(rt, failing(kind, u32::MAX, 123))
 }
 
 // The network is not there for as long as it takes: a link that serves must outlast that (docs/OPERATING.md, status 7).
 #[test]
 fn a_network_that_stays_away_is_no_fault(rt: HostRuntime) {
-    has_ended(
-        &rt,
-        sent_without_route(&rt, ErrorKind::HostUnreachable),
-        Ok(()),
-    );
-    has_ended(
-        &rt,
-        sent_without_route(&rt, ErrorKind::NetworkUnreachable),
-        Ok(()),
-    );
+    let sent = sent_without_route(&rt, ErrorKind::HostUnreachable);
+    has_ended(&rt, sent, Ok(()));
+    let sent = sent_without_route(&rt, ErrorKind::NetworkUnreachable);
+    has_ended(&rt, sent, Ok(()));
 }
 
 #[test]
@@ -213,28 +183,16 @@ fn a_sender_without_a_port_is_not_heard(rt: HostRuntime) {
     is_from(&rt, heard(&rt, failing(ErrorKind::Other, 0, 9)), Ok(9));
 }
 
-// A socket on which as many datagrams come from port 0 as are left, and then one from port 7.
-#[derive(Drop)]
-struct Flooded {
-    left: u32,
-}
-
-impl DatagramSocket for Flooded {
-    fn receive(&mut self, piece: &mut [u8]) -> io::Result<(usize, SocketAddr)> {
-        let port = if self.left == 0 { 7 } else { 0 };
-        self.left = self.left.saturating_sub(1);
-        Ok((piece.len().min(3), loopback(port)))
-    }
-
-    fn transmit(&mut self, _: SocketAddr, bytes: &[u8]) -> io::Result<usize> {
-        Ok(bytes.len())
-    }
-}
-
 #[test]
 fn a_flood_from_port_0_ends_no_hearing(rt: HostRuntime) {
-    let mut link = UdpLink::new(Flooded { left: 50_000 }, Counter::new(&rt), moment(5));
-    same(&rt, port_of(&mut link), Ok(7));
+    let socket = Shaky {
+        kind: ErrorKind::Other,
+        calls: 0,
+        port: 0,
+        count: 50_000,
+        short: 0,
+    };
+    is_from(&rt, heard(&rt, socket), Ok(7));
 }
 
 #[test]
@@ -243,6 +201,7 @@ fn a_datagram_that_is_taken_in_part_is_a_fault(rt: HostRuntime) {
         kind: ErrorKind::Other,
         calls: 0,
         port: 123,
+        count: 1,
         short: 1,
     };
     has_ended(&rt, sent(&rt, socket), Err(Failed));
@@ -331,8 +290,6 @@ fn is_refused_as(rt: &impl Abort, kind: ErrorKind, refusal: Refusal) {
     same(rt, Refusal::of(kind), refusal);
 }
 
-type Host<'a> = HostOutside<'a, HostRuntime>;
-
 // The last refusal of the host is this.
 fn has_refused(rt: &impl Abort, outside: &Host<'_>, refusal: Option<Refusal>) {
     same(rt, outside.refusal(), refusal);
@@ -346,7 +303,7 @@ fn a_host_says_why_it_refused(rt: HostRuntime) {
     is_refused_as(&rt, ErrorKind::IsADirectory, Refusal::Other);
     let mut outside = HostOutside::new(&rt);
     has_refused(&rt, &outside, None);
-    assert!(rt; outside.open_log("nosuch").is_err());
+    is_read(&rt, &mut outside, "nosuch", Err(Failed));
     has_refused(&rt, &outside, Some(Refusal::NotThere));
 }
 
@@ -357,7 +314,7 @@ struct Client {
     address: Address,
 }
 
-fn client_of(rt: &HostRuntime) -> Result<Client, Fail> {
+fn client_of(rt: &HostRuntime) -> io::Result<Client> {
     let mut socket = UdpSocket::bind(rt, loopback(0))?;
     socket.set_read_timeout(Some(Duration::from_secs(2)))?;
     let address = Address {
@@ -368,115 +325,166 @@ fn client_of(rt: &HostRuntime) -> Result<Client, Fail> {
 }
 
 // A client receives these bytes, and the answer is where they came from.
-fn receives(rt: &impl Abort, client: &mut Client, bytes: &[u8]) -> Result<SocketAddr, Fail> {
+fn receives(rt: &impl Abort, client: &mut Client, bytes: &[u8]) -> SocketAddr {
     let mut piece = [0u8; 1024];
-    let (length, from) = client.socket.receive(&mut piece)?;
-    same(rt, &piece[..length], bytes);
-    Ok(from)
-}
-
-// A client sends these bytes, all at once.
-fn transmits(
-    rt: &impl Abort,
-    client: &mut Client,
-    to: SocketAddr,
-    bytes: &[u8],
-) -> Result<(), Fail> {
-    let count = client.socket.transmit(to, bytes)?;
-    same(rt, count, bytes.len());
-    Ok(())
-}
-
-// A link receives a datagram from this address, of which it keeps these bytes. Its moment lies between two that the link gives.
-fn brings(rt: &impl Abort, link: &mut impl Link, from: Address, bytes: &[u8]) {
-    let mut piece = [0u8; 1024];
-    let first = link.moment().get();
-    match link.hear(&mut piece) {
-        Ok(Hearing::Datagram(arrival)) => {
-            same(rt, (arrival.from, arrival.length), (from, bytes.len()));
-            same(rt, piece.starts_with(bytes), true);
-            let at = arrival.at.get();
-            assert!(*rt; first <= at && at <= link.moment().get());
+    match client.socket.receive(&mut piece) {
+        Ok((length, from)) => {
+            same(rt, &piece[..length], bytes);
+            from
         }
-        _ => assert!(*rt; false),
+        Err(error) => panic!(*rt; "{error:?}"),
     }
 }
 
-// A link and its client talk. The link is bound to all addresses of the host.
-fn talk(rt: &impl Abort, link: &mut impl Link, client: &mut Client) -> Result<(), Fail> {
-    let to = client.address;
+// A client sends these bytes, all at once.
+fn transmits(rt: &impl Abort, client: &mut Client, to: SocketAddr, bytes: &[u8]) {
+    same(
+        rt,
+        client.socket.transmit(to, bytes).ok(),
+        Some(bytes.len()),
+    );
+}
+
+// What a link receives of a datagram: from whom, how many bytes, whether these are the first of them, and whether its moment lies
+// between two that the link gives.
+fn brought(link: &mut impl Link, bytes: &[u8]) -> Option<(Address, usize, bool, bool)> {
+    let mut piece = [0u8; 1024];
+    let first = link.moment().get();
+    let heard = link.hear(&mut piece);
+    let last = link.moment().get();
+    match heard {
+        Ok(Hearing::Datagram(arrival)) => {
+            let at = arrival.at.get();
+            let is_between = first <= at && at <= last;
+            let begins = piece.starts_with(bytes);
+            Some((arrival.from, arrival.length, begins, is_between))
+        }
+        _ => None,
+    }
+}
+
+// A link receives a datagram from this address, of which it keeps these bytes.
+fn brings(rt: &impl Abort, link: &mut impl Link, from: Address, bytes: &[u8]) {
+    let found = brought(link, bytes);
+    same(rt, found, Some((from, bytes.len(), true, true)));
+}
+
+fn sends(rt: &impl Abort, link: &mut impl Link, to: Address) {
     same(rt, link.send(to, b"abc"), Ok(()));
-    let from = receives(rt, client, b"abc")?;
-    transmits(rt, client, from, &[7; 1100])?;
+}
+
+// A link and its client talk. The link is bound to all addresses of the host.
+fn talk(rt: &impl Abort, link: &mut impl Link, client: &mut Client) {
+    let to = client.address;
+    sends(rt, link, to);
+    let from = receives(rt, client, b"abc");
+    transmits(rt, client, from, &[7; 1100]);
     brings(rt, link, to, &[7; 1024]);
     let other = SocketAddr::new(IpAddr::V4(Ipv4Addr::new(127, 0, 0, 2)), from.port());
-    transmits(rt, client, other, b"xy")?;
+    transmits(rt, client, other, b"xy");
     brings(rt, link, to, b"xy");
-    Ok(())
+}
+
+// For how many microseconds a link waits to which nothing comes; none where it hears something, or fails.
+fn silence(link: &mut impl Link) -> Option<u64> {
+    let mut piece = [0u8; 1024];
+    let before = link.moment().get();
+    match link.hear(&mut piece) {
+        Ok(Hearing::Quiet) => Some(link.moment().get().saturating_sub(before)),
+        _ => None,
+    }
+}
+
+// A busy host may wake a link late, but hardly by 0.9 s three times. This is the least of its waits.
+fn least_silence(rt: &impl Abort, link: &mut impl Link) -> u64 {
+    let mut least = u64::MAX;
+    for _ in 0..3 {
+        if least >= 2_900_000 {
+            least = least.min(silence(link).expect(rt, "no silence"));
+        }
+    }
+    least
+}
+
+// What is done with a link of the host.
+#[derive(Drop)]
+enum Task {
+    Talk(Client),
+    Send(Address),
+    Look,
+}
+
+// Does it. What it returns is the link's first moment, or for how long it was silent after what it sent.
+fn work(rt: &impl Abort, link: &mut impl Link, task: &mut Task) -> u64 {
+    let first = link.moment().get();
+    match task {
+        Task::Talk(client) => {
+            talk(rt, link, client);
+            first
+        }
+        Task::Send(to) => {
+            sends(rt, link, *to);
+            least_silence(rt, link)
+        }
+        Task::Look => first,
+    }
+}
+
+// Opens a link on a port, does something with it and gives it back.
+fn visit(
+    rt: &impl Abort,
+    outside: &mut Host<'_>,
+    port: u16,
+    start: u32,
+    task: &mut Task,
+) -> Result<u64, Failed> {
+    let Ok(mut link) = outside.open_link(port, moment(start)) else {
+        return Err(Failed);
+    };
+    let found = work(rt, &mut link, task);
+    outside.give_back_link(link);
+    Ok(found)
 }
 
 // The link of a free port, and a client.
 #[test]
 fn a_link_of_the_host_hears_and_answers(rt: HostRuntime) -> Result<(), Fail> {
-    let mut client = client_of(&rt)?;
+    let mut task = Task::Talk(client_of(&rt)?);
     let mut outside = HostOutside::new(&rt);
-    let Ok(mut link) = outside.open_link(0, moment(50)) else {
-        return Err("the link was not opened")?;
-    };
-    assert!(rt; link.moment().get() >= 50);
-    talk(&rt, &mut link, &mut client)?;
-    outside.give_back_link(link);
+    let first = visit(&rt, &mut outside, 0, 50, &mut task);
+    assert!(rt; first.unwrap_or(0) >= 50);
     Ok(())
-}
-
-// For how many microseconds a link waits to which nothing comes.
-fn silence(rt: &impl Abort, link: &mut impl Link) -> Result<u64, Fail> {
-    let mut piece = [0u8; 1024];
-    let before = link.moment().get();
-    let heard = link.hear(&mut piece)?;
-    assert!(*rt; matches!(&heard, Hearing::Quiet));
-    Ok(link.moment().get().saturating_sub(before))
 }
 
 #[test]
-fn two_seconds_of_silence_are_quiet_also_behind_a_dead_server(rt: HostRuntime) -> Result<(), Fail> {
+fn two_seconds_of_silence_are_quiet_also_behind_a_dead_server(rt: HostRuntime) {
     let mut outside = HostOutside::new(&rt);
-    let Ok(mut link) = outside.open_link(0, moment(0)) else {
-        return Err("the link was not opened")?;
-    };
-    let to = Address {
+    let dead = Address {
         ip: 0x7f00_0001,
         port: 9,
     };
-    same(&rt, link.send(to, b"abc"), Ok(()));
-    let mut least = u64::MAX;
-    for _ in 0..3 {
-        if least >= 2_900_000 {
-            least = least.min(silence(&rt, &mut link)?);
-        }
-    }
-    // A busy host may wake a link late, but hardly by 0.9 s three times.
+    let least = visit(&rt, &mut outside, 0, 0, &mut Task::Send(dead)).unwrap_or(0);
     assert!(rt; least >= 1_900_000 && least < 2_900_000);
-    outside.give_back_link(link);
 
     // The moments of a later link count from its own start on, by the same counter.
-    let Ok(mut later) = outside.open_link(0, moment(7_000_000)) else {
-        return Err("the second link was not opened")?;
-    };
-    let first = later.moment().get();
+    let first = visit(&rt, &mut outside, 0, 7_000_000, &mut Task::Look).unwrap_or(0);
     assert!(rt; first >= 8_900_000 && first < 67_000_000);
-    outside.give_back_link(later);
-    Ok(())
+}
+
+// A host hands its gate out and takes it back.
+fn hands_out_its_gate(rt: &HostRuntime) {
+    let mut outside = HostOutside::new(rt);
+    let gate = outside.gate();
+    outside.give_back_gate(gate);
 }
 
 #[test]
 fn a_port_that_is_taken_cannot_be_opened(rt: HostRuntime) -> Result<(), Fail> {
+    let taken = client_of(&rt)?;
     let mut outside = HostOutside::new(&rt);
-    let taken = UdpSocket::bind(&rt, loopback(0))?;
-    let port = taken.local_addr()?.port();
-    assert!(rt; outside.open_link(port, moment(0)).is_err());
-    same(&rt, outside.refusal(), Some(Refusal::Taken));
-    let gate = outside.gate();
-    outside.give_back_gate(gate);
+    let found = visit(&rt, &mut outside, taken.address.port, 0, &mut Task::Look);
+    same(&rt, found, Err(Failed));
+    has_refused(&rt, &outside, Some(Refusal::Taken));
+    hands_out_its_gate(&rt);
     Ok(())
 }

@@ -105,26 +105,43 @@ fn is_number(rt: &impl Abort, left: u128, right: u128) {
     same(rt, left, right);
 }
 
+fn are_added(rt: &impl Abort) {
+    let (five, seven) = (Span::from(5), Span::from(7));
+    is_span(rt, five + seven, 12);
+    is_span(rt, five - seven, -2);
+    is_number(rt, five.abs_diff(-seven), 12);
+    is_span(rt, Span::from(Short(3)), 3 * 65_536);
+}
+
+fn are_squared(rt: &impl Abort) {
+    is_number(rt, Span::from(5).squared_apart(-Span::from(7)), 144);
+    let long = Span::from_seconds(255).squared_apart(Span::from(0));
+    is_number(rt, long, (255 << 32) * (255 << 32));
+    let longer = Span::from_seconds(257).squared_apart(Span::from(0));
+    is_number(rt, longer, 1 << 80);
+}
+
+fn are_ordered(rt: &impl Abort) {
+    let (five, seven) = (Span::from(5), Span::from(7));
+    is_span(rt, five.min(-seven), -7);
+    is_span(rt, five.max(-seven), 5);
+    assert!(*rt; -seven < five);
+}
+
+fn are_halved(rt: &impl Abort) {
+    let five = Span::from(5);
+    is_span(rt, five.halved_down(1), 2);
+    is_span(rt, five.halved_up(1), 3);
+    is_span(rt, (-five).halved_down(1), -3);
+    is_span(rt, (-five).halved_up(1), -2);
+}
+
 #[test]
 fn spans_are_reckoned_with(rt: HostRuntime) {
-    let five = Span::from(5);
-    let seven = Span::from(7);
-    is_span(&rt, five + seven, 12);
-    is_span(&rt, five - seven, -2);
-    is_number(&rt, five.abs_diff(-seven), 12);
-    is_number(&rt, five.squared_apart(-seven), 144);
-    let long = Span::from_seconds(255).squared_apart(Span::from(0));
-    is_number(&rt, long, (255 << 32) * (255 << 32));
-    let longer = Span::from_seconds(257).squared_apart(Span::from(0));
-    is_number(&rt, longer, 1 << 80);
-    is_span(&rt, five.min(-seven), -7);
-    is_span(&rt, five.max(-seven), 5);
-    assert!(rt; -seven < five);
-    is_span(&rt, five.halved_down(1), 2);
-    is_span(&rt, five.halved_up(1), 3);
-    is_span(&rt, (-five).halved_down(1), -3);
-    is_span(&rt, (-five).halved_up(1), -2);
-    is_span(&rt, Span::from(Short(3)), 3 * 65_536);
+    are_added(&rt);
+    are_squared(&rt);
+    are_ordered(&rt);
+    are_halved(&rt);
 }
 
 // Halving the span of so many units this often gives these units.

@@ -132,12 +132,12 @@ fn rates_and_their_words(rt: HostRuntime) {
     same(&rt, Page::of_words(with_word(9, u64::MAX)), Some(page));
 }
 
-// The time of a page at a moment, as its 64 bits.
-fn time_of(page: &Page, at: u64) -> u64
+// At a moment a page gives this time, as its 64 bits.
+fn tells(rt: &impl Abort, page: &Page, at: u64, bits: u64)
     requires { at < 2 ^ 50 }
 {
-    let Stamp(bits) = page.time_at(moment(at));
-    bits
+    let found = page.time_at(moment(at));
+    same(rt, (page.rate, at, found), (page.rate, at, Stamp(bits)));
 }
 
 // The counter loses 1, 53687 and 2147483 units a second, or gains as many: rounded down, from the anchor on and not before it.
@@ -145,33 +145,35 @@ fn time_of(page: &Page, at: u64) -> u64
 fn the_time_follows_the_rate(rt: HostRuntime) {
     let gains = of_2026_with(0, 53_687);
     let loses = of_2026_with(0, -53_687);
-    same(&rt, time_of(&gains, 301_000_000), 0xed00_e12f_0000_0000);
-    same(&rt, time_of(&loses, 301_000_000), 0xed00_e12f_0000_0000);
-    same(&rt, time_of(&gains, 302_000_000), 0xed00_e130_0000_0000);
-    same(&rt, time_of(&gains, 302_000_001), 0xed00_e130_0000_10c6);
-    same(&rt, time_of(&loses, 302_000_001), 0xed00_e130_0000_10c5);
-    same(&rt, time_of(&gains, 303_000_000), 0xed00_e131_0000_d1b7);
-    same(&rt, time_of(&loses, 303_000_000), 0xed00_e130_ffff_2e49);
-    same(&rt, time_of(&loses, 312_500_000), 0xed00_e13a_7ff7_65fe);
+    tells(&rt, &gains, 301_000_000, 0xed00_e12f_0000_0000);
+    tells(&rt, &loses, 301_000_000, 0xed00_e12f_0000_0000);
+    tells(&rt, &gains, 302_000_000, 0xed00_e130_0000_0000);
+    tells(&rt, &gains, 302_000_001, 0xed00_e130_0000_10c6);
+    tells(&rt, &loses, 302_000_001, 0xed00_e130_0000_10c5);
+    tells(&rt, &gains, 303_000_000, 0xed00_e131_0000_d1b7);
+    tells(&rt, &loses, 303_000_000, 0xed00_e130_ffff_2e49);
+    tells(&rt, &loses, 312_500_000, 0xed00_e13a_7ff7_65fe);
     let most = of_2026_with(0, 2_147_483);
-    same(&rt, time_of(&most, (1 << 50) - 1), 0x3025_558a_79a5_125d);
+    tells(&rt, &most, (1 << 50) - 1, 0x3025_558a_79a5_125d);
     let least = with_rate(Span::from(0), 0, -2_147_483);
-    same(&rt, time_of(&least, (1 << 50) - 1), 0x4313_477d_35c7_35c8);
+    tells(&rt, &least, (1 << 50) - 1, 0x4313_477d_35c7_35c8);
 }
 
 // The leap indicator of a page at a moment.
-fn leap_of(page: &Page, at: u64) -> u8
+fn warns(rt: &impl Abort, page: &Page, at: u64, indicator: u8)
     requires { at < 2 ^ 50 }
 {
-    page.leap_at_time(moment(at))
+    let leap_at = page.leap_at;
+    let found = page.leap_at_time(moment(at));
+    same(rt, (leap_at, at, found), (leap_at, at, indicator));
 }
 
 // A counter that gains crosses a second later: the warning ends by the rate's time.
 #[test]
 fn a_warning_follows_the_rate(rt: HostRuntime) {
     let page = of_2026_with(3_976_257_841, -1);
-    same(&rt, leap_of(&page, 303_000_000), 1);
-    same(&rt, leap_of(&of_2026(3_976_257_841), 303_000_000), 0);
+    warns(&rt, &page, 303_000_000, 1);
+    warns(&rt, &of_2026(3_976_257_841), 303_000_000, 0);
 }
 
 // The words with one word changed are no page's.
@@ -195,27 +197,26 @@ fn words_of_no_page(rt: HostRuntime) {
 }
 
 // Whether a page gives the time at a moment.
-fn is_synced(page: &Page, at: u64) -> bool
+fn is_good(rt: &impl Abort, page: &Page, at: u64, good: bool)
     requires { at < 2 ^ 50 }
 {
-    page.synced_at(moment(at))
+    same(rt, (at, page.synced_at(moment(at))), (at, good));
 }
 
 #[test]
 fn a_page_is_good_until_its_moment(rt: HostRuntime) {
     let page = of_2026(0);
-    same(&rt, is_synced(&page, 901_999_999), true);
-    same(&rt, is_synced(&page, 902_000_000), false);
-    same(&rt, leap_of(&page, 901_999_999), 0);
-    same(&rt, leap_of(&page, 902_000_000), 3);
-    same(&rt, time_of(&page, 303_000_000), 0xed00_e131_0000_0000);
-    same(&rt, time_of(&page, 303_000_500), 0xed00_e131_0020_c49b);
+    is_good(&rt, &page, 901_999_999, true);
+    is_good(&rt, &page, 902_000_000, false);
+    warns(&rt, &page, 901_999_999, 0);
+    warns(&rt, &page, 902_000_000, 3);
+    tells(&rt, &page, 303_000_000, 0xed00_e131_0000_0000);
+    tells(&rt, &page, 303_000_500, 0xed00_e131_0020_c49b);
 }
 
 // At 303 s it is second 3976257841 since 1900, and stays so for a whole second.
 fn is_announced(rt: &impl Abort, leap_at: u64, indicator: u8) {
-    let found = leap_of(&of_2026(leap_at), 303_999_999);
-    same(rt, (leap_at, found), (leap_at, indicator));
+    warns(rt, &of_2026(leap_at), 303_999_999, indicator);
 }
 
 #[test]

@@ -3,7 +3,7 @@ ghost use Rattle.std.specs.Prelude.{◌≢◌, ◌≤◌, ◌<◌, ◌^◌};
 ghost use Rattle.reply_core.specs.declared.code.Code.TheVariants.{Pass};
 
 use crate::reply_core_tests::{answered, beginning_with, of_a_fast_counter};
-use crate::shared::{DENY, REQUEST, moment, of_a_radio, same};
+use crate::shared::{DENY, REQUEST, is_packet, longer, moment, of_a_radio, same};
 use clock_page::Page;
 use reply_core::{Code, Dropped, kiss};
 use std::process::Abort;
@@ -54,7 +54,7 @@ fn a_client_asks_too_often(rt: HostRuntime) {
         304_000_000,
         304_000_500,
     );
-    same(&rt, found, Ok(RATE));
+    is_packet(&rt, found, Ok(RATE));
 }
 
 #[test]
@@ -67,7 +67,7 @@ fn a_client_is_denied(rt: HostRuntime) {
         303_000_000,
         303_000_500,
     );
-    same(&rt, found, Ok(DENY));
+    is_packet(&rt, found, Ok(DENY));
 }
 
 const DENY_OF_VERSION_1: [u8; 48] = [
@@ -95,7 +95,7 @@ fn a_server_that_is_not_synchronised_has_the_same_codes(rt: HostRuntime) {
     let page = Page::unsynchronised(4, moment(242_000_000));
     let request = beginning_with(0x0b);
     let found = kissed(&rt, Code::Deny, &page, &request, 243_000_000, 243_000_500);
-    same(&rt, found, Ok(DENY_OF_VERSION_1));
+    is_packet(&rt, found, Ok(DENY_OF_VERSION_1));
 
     let (page, request) = (of_a_radio(), of_version_3());
     let found = kissed(
@@ -106,8 +106,11 @@ fn a_server_that_is_not_synchronised_has_the_same_codes(rt: HostRuntime) {
         4_364_906_902,
         4_364_906_902,
     );
-    same(&rt, found, Ok(RATE_OF_VERSION_3));
+    is_packet(&rt, found, Ok(RATE_OF_VERSION_3));
 }
+
+// How a code begins.
+const BEGINS: [u8; 12] = [0xe4, 0x00, 0x06, 0xec, 0, 0, 0, 0, 0x00, 0x10, 0, 0];
 
 // An answer and a kiss code end alike from the origin on, and the code begins as one.
 fn has_stamps_of(
@@ -115,15 +118,13 @@ fn has_stamps_of(
     answer: Result<[u8; 48], Dropped>,
     kissed: Result<[u8; 48], Dropped>,
 ) {
-    let Ok(answer) = answer else {
-        panic!(*rt; "no answer");
-    };
-    let Ok(packet) = kissed else {
-        panic!(*rt; "no code");
-    };
-    same(rt, &packet[24..], &answer[24..]);
-    let begins = [0xe4, 0x00, 0x06, 0xec, 0, 0, 0, 0, 0x00, 0x10, 0, 0];
-    same(rt, &packet[..12], begins.as_slice());
+    match (answer, kissed) {
+        (Ok(answer), Ok(packet)) => {
+            same(rt, &packet[24..], &answer[24..]);
+            same(rt, &packet[..12], BEGINS.as_slice());
+        }
+        _ => panic!(*rt; "no answer, or no code"),
+    }
 }
 
 // A kiss code has the times of the answer in whose place it comes, and their origin.
@@ -135,19 +136,19 @@ fn a_code_has_the_stamps_of_the_answer(rt: HostRuntime) {
     has_stamps_of(&rt, answer, packet);
 }
 
-// A datagram with this first byte is dropped for this reason.
-fn is_dropped(rt: &impl Abort, code: Code, first: u8, dropped: Dropped)
+// A datagram is dropped for this reason.
+fn drops(rt: &impl Abort, code: Code, datagram: &[u8], why: Dropped)
     requires { code ≢ Pass }
 {
-    let found = kissed(rt, code, &of_a_radio(), &beginning_with(first), 0, 0);
-    same(rt, (first, found), (first, Err(dropped)));
+    let found = kissed(rt, code, &of_a_radio(), datagram, 0, 0);
+    same(rt, (code, datagram, found), (code, datagram, Err(why)));
 }
 
-// The request, followed by 20 bytes.
-fn longer() -> [u8; 68] {
-    let mut long = [0x55; 68];
-    long[..48].copy_from_slice(&REQUEST);
-    long
+// The request with this first byte is dropped for this reason.
+fn is_dropped(rt: &impl Abort, code: Code, first: u8, why: Dropped)
+    requires { code ≢ Pass }
+{
+    drops(rt, code, &beginning_with(first), why);
 }
 
 // What follows the request is passed over.
@@ -155,21 +156,18 @@ fn kisses_the_longer(rt: &impl Abort, code: Code)
     requires { code ≢ Pass }
 {
     let page = of_a_radio();
-    let packet = kissed(rt, code, &page, &longer(), 303_000_000, 303_000_500);
+    let packet = kissed(rt, code, &page, &longer(&REQUEST), 303_000_000, 303_000_500);
     let of_request = kissed(rt, code, &page, &REQUEST, 303_000_000, 303_000_500);
     same(rt, (code, packet.is_ok()), (code, true));
-    same(rt, packet, of_request);
+    is_packet(rt, packet, of_request);
 }
 
 // With this code the same datagrams are dropped as answers are.
 fn drops_as_answers_do(rt: &impl Abort, code: Code)
     requires { code ≢ Pass }
 {
-    let page = of_a_radio();
-    let none = kissed(rt, code, &page, &[], 0, 0);
-    same(rt, (code, none), (code, Err(Dropped::Short)));
-    let short = kissed(rt, code, &page, &REQUEST[..47], 0, 0);
-    same(rt, (code, short), (code, Err(Dropped::Short)));
+    drops(rt, code, &[], Dropped::Short);
+    drops(rt, code, &REQUEST[..47], Dropped::Short);
     is_dropped(rt, code, 0x2b, Dropped::Version);
     is_dropped(rt, code, 0x03, Dropped::Version);
     is_dropped(rt, code, 0x29, Dropped::Version);

@@ -2,7 +2,7 @@
 ghost use Rattle.std.specs.Prelude.{◌≡◌, ◌≤◌, ◌<◌, ◌^◌, [], length};
 ghost use Rattle.kiss_gate.specs.Nets.{nets_of};
 
-use crate::shared::{moment, same};
+use crate::shared::same;
 use kiss_gate::{ClientGate, DenyList, GateOpen, Judged};
 use reply_core::Code;
 use std::alloc::Global;
@@ -22,7 +22,13 @@ fn opened(rt: &impl Abort, gate: Result<ClientGate, GateOpen>) -> ClientGate {
 }
 
 // A gate with room for as many clients.
-fn gate(rt: &impl Abort, alloc: Global, deny: &DenyList, gap: u64, clients: u32) -> ClientGate
+pub(crate) fn gate(
+    rt: &impl Abort,
+    alloc: Global,
+    deny: &DenyList,
+    gap: u64,
+    clients: u32,
+) -> ClientGate
     requires gap { gap ≤ 60000000 }
     requires least { 1 ≤ clients }
     requires most { clients ≤ 65536 }
@@ -31,7 +37,7 @@ fn gate(rt: &impl Abort, alloc: Global, deny: &DenyList, gap: u64, clients: u32)
 }
 
 // What a request gets that is kept.
-fn kept(code: Code) -> Judged {
+pub(crate) fn kept(code: Code) -> Judged {
     Judged { code, kept: true }
 }
 
@@ -147,34 +153,52 @@ fn a_table_of_three_forgets_the_one_that_asked_longest_ago(rt: HostRuntime) {
     nobody_is_denied(&rt, rt.alloc(), 10, 3, &AT_A_TABLE_OF_THREE);
 }
 
-// A client gets alone what it gets among the others.
-fn is_judged_alike(rt: &impl Abort, all: &mut ClientGate, alone: &mut ClientGate, ip: u32, at: u64)
-    requires { at < 2 ^ 50 }
-{
-    let at = moment(at);
-    let (among, alone) = (all.judge(ip, at), alone.judge(ip, at));
-    same(rt, (ip, at, among), (ip, at, alone));
+// Requests of three clients: who asks, and when.
+const OF_THREE_CLIENTS: [(u32, u64); 12] = [
+    (7, 100),
+    (8, 101),
+    (7, 104),
+    (9, 105),
+    (8, 107),
+    (7, 109),
+    (7, 110),
+    (9, 111),
+    (8, 111),
+    (7, 112),
+    (9, 120),
+    (7, 120),
+];
+
+// A client gets alone what it gets among the others; the request of another client is judged among them only.
+fn is_judged_alike(
+    rt: &impl Abort,
+    all: &mut ClientGate,
+    alone: &mut ClientGate,
+    client: u32,
+    request: &(u32, u64),
+) {
+    let (ip, at) = *request;
+    let moment = Local::new(at).expect(rt, "no moment");
+    let among = all.judge(ip, moment);
+    if ip == client {
+        same(rt, (ip, at, among), (ip, at, alone.judge(ip, moment)));
+    }
+}
+
+fn are_judged_alike(rt: &impl Abort, alloc: Global, client: u32, requests: &[(u32, u64)]) {
+    let mut all = gate(rt, alloc, &DenyList::new(), 10, 3);
+    let mut alone = gate(rt, alloc, &DenyList::new(), 10, 3);
+    for request in requests {
+        is_judged_alike(rt, &mut all, &mut alone, client, request);
+    }
 }
 
 // Three clients at a table of three, and each of them alone at one: the same codes.
 #[test]
 fn each_client_is_judged_as_if_it_alone_had_asked(rt: HostRuntime) {
-    let mut all = gate(&rt, rt.alloc(), &DenyList::new(), 10, 3);
-    let mut first = gate(&rt, rt.alloc(), &DenyList::new(), 10, 3);
-    let mut second = gate(&rt, rt.alloc(), &DenyList::new(), 10, 3);
-    let mut third = gate(&rt, rt.alloc(), &DenyList::new(), 10, 3);
-    is_judged_alike(&rt, &mut all, &mut first, 7, 100);
-    is_judged_alike(&rt, &mut all, &mut second, 8, 101);
-    is_judged_alike(&rt, &mut all, &mut first, 7, 104);
-    is_judged_alike(&rt, &mut all, &mut third, 9, 105);
-    is_judged_alike(&rt, &mut all, &mut second, 8, 107);
-    is_judged_alike(&rt, &mut all, &mut first, 7, 109);
-    is_judged_alike(&rt, &mut all, &mut first, 7, 110);
-    is_judged_alike(&rt, &mut all, &mut third, 9, 111);
-    is_judged_alike(&rt, &mut all, &mut second, 8, 111);
-    is_judged_alike(&rt, &mut all, &mut first, 7, 112);
-    is_judged_alike(&rt, &mut all, &mut third, 9, 120);
-    is_judged_alike(&rt, &mut all, &mut first, 7, 120);
+    are_judged_alike(&rt, rt.alloc(), 7, &OF_THREE_CLIENTS);
+    are_judged_alike(&rt, rt.alloc(), 8, &OF_THREE_CLIENTS);
+    are_judged_alike(&rt, rt.alloc(), 9, &OF_THREE_CLIENTS);
 }
 
 const WITH_NO_GAP: [Asked; 3] = [

@@ -2,30 +2,12 @@
 ghost use Rattle.std.specs.Prelude.{◌≡◌, ◌≤◌, ◌<◌, [], length};
 ghost use Rattle.kiss_gate.specs.Nets.{nets_of};
 
+use crate::kiss_gate_tests::{gate, kept};
 use crate::shared::{moment, same};
-use kiss_gate::{ClientGate, DenyList, Judged};
+use kiss_gate::DenyList;
 use reply_core::Code;
 use std::alloc::Global;
 use std::process::Abort;
-
-// A gate that lets every client pass whenever it asks, and keeps nothing.
-fn open_gate(rt: &impl Abort, alloc: Global, deny: &DenyList) -> ClientGate {
-    match ClientGate::open(alloc, deny, 0, 1) {
-        Ok(gate) => gate,
-        Err(_) => panic!(*rt; "no memory"),
-    }
-}
-
-// Whether a list denies an address: such a gate says `Deny` or `Pass`.
-fn denies(rt: &impl Abort, alloc: Global, deny: &DenyList, ip: u32) -> bool {
-    let mut gate = open_gate(rt, alloc, deny);
-    let Judged { code, kept } = gate.judge(ip, moment(0));
-    match code {
-        Code::Deny if kept => true,
-        Code::Pass if kept => false,
-        _ => panic!(*rt; "another answer"),
-    }
-}
 
 // A net: its address, its bits, and addresses, each with whether it is in the net.
 type Net = (u32, u8, [(u32, bool); 4]);
@@ -112,9 +94,11 @@ fn list_of(net: u32, bits: u8) -> DenyList
     deny
 }
 
-// A list denies an address, or does not.
+// A gate that lets every client pass whenever it asks denies an address of the list, or does not.
 fn is_denied(rt: &impl Abort, alloc: Global, deny: &DenyList, ip: u32, is_in: bool) {
-    same(rt, (ip, denies(rt, alloc, deny, ip)), (ip, is_in));
+    let code = if is_in { Code::Deny } else { Code::Pass };
+    let mut gate = gate(rt, alloc, deny, 0, 1);
+    same(rt, (ip, gate.judge(ip, moment(0))), (ip, kept(code)));
 }
 
 fn has_addresses(rt: &impl Abort, alloc: Global, net: &Net) {

@@ -2,7 +2,7 @@
 ghost use Rattle.std.specs.Prelude.{◌≡◌, ◌≤◌, ◌∷◌, [], codes, IsTrue};
 ghost use Rattle.packet_auth.specs.Keys.{has_id, keys_of};
 
-use crate::shared::{BY_LONGWAVE, REQUEST, same};
+use crate::shared::{self, BY_LONGWAVE, REQUEST, same};
 use packet_auth::{KeyRing, SEALED_LENGTH};
 use std::process::Abort;
 
@@ -16,13 +16,9 @@ const OF_ONE_BYTE: [u8; 16] = [
     0x5a, 0xc8, 0x36, 0xae, 0xed, 0x24, 0x72, 0x9b, 0x2e, 0x5f, 0x19, 0x40, 0x00, 0xaa, 0x3d, 0xfe,
 ];
 
-// The request, followed by an identifier and a digest, on the wire.
+// The request, followed by an identifier and a digest.
 fn packet(id: [u8; 4], digest: [u8; 16]) -> [u8; SEALED_LENGTH] {
-    let mut bytes = [0; SEALED_LENGTH];
-    bytes[..48].copy_from_slice(&REQUEST);
-    bytes[48..52].copy_from_slice(&id);
-    bytes[52..].copy_from_slice(&digest);
-    bytes
+    shared::packet(REQUEST, id, digest)
 }
 
 // The ring of three clients.
@@ -36,24 +32,24 @@ fn ring_of_three() -> KeyRing
     ring
 }
 
-// Whose digest this is of the request under an identifier.
-fn authentic(id: [u8; 4], digest: [u8; 16]) -> Option<u32> {
-    ring_of_three().authentic(&packet(id, digest))
+// By a ring this digest of the request under an identifier is this key's, or nobody's.
+fn is_of(rt: &impl Abort, ring: &KeyRing, id: [u8; 4], digest: [u8; 16], key: Option<u32>) {
+    let found = ring.authentic(&packet(id, digest));
+    same(rt, (id, digest, found), (id, digest, key));
 }
 
 #[test]
 fn a_request_with_the_digest_of_its_key(rt: HostRuntime) {
-    same(&rt, authentic([0, 0, 0, 1], BY_LONGWAVE), Some(1));
-    same(&rt, authentic([0, 0, 0, 7], OF_ANOTHER), Some(7));
-    let found = authentic([1, 2, 3, 4], OF_ONE_BYTE);
-    same(&rt, found, Some(0x0102_0304));
-    let found = KeyRing::new().authentic(&packet([0, 0, 0, 1], BY_LONGWAVE));
-    same(&rt, found, None);
+    let ring = ring_of_three();
+    is_of(&rt, &ring, [0, 0, 0, 1], BY_LONGWAVE, Some(1));
+    is_of(&rt, &ring, [0, 0, 0, 7], OF_ANOTHER, Some(7));
+    is_of(&rt, &ring, [1, 2, 3, 4], OF_ONE_BYTE, Some(0x0102_0304));
+    is_of(&rt, &KeyRing::new(), [0, 0, 0, 1], BY_LONGWAVE, None);
 }
 
-// This digest under this identifier is nobody's.
+// By the ring of three clients this digest under this identifier is nobody's.
 fn is_nobodys(rt: &impl Abort, id: [u8; 4], digest: [u8; 16]) {
-    same(rt, (id, digest, authentic(id, digest)), (id, digest, None));
+    is_of(rt, &ring_of_three(), id, digest, None);
 }
 
 #[test]
@@ -105,13 +101,18 @@ fn a_digest_of_something_else(rt: HostRuntime) {
     is_nobodys(&rt, [0, 0, 0, 1], [0; 16]);
 }
 
-// The sealed request with this length is not authentic.
+// The sealed request, followed by 20 bytes of 0.
+fn longer() -> [u8; 88] {
+    let mut longer = [0; 88];
+    longer[..SEALED_LENGTH].copy_from_slice(&packet([0, 0, 0, 1], BY_LONGWAVE));
+    longer
+}
+
+// So many of those bytes are not authentic.
 fn has_another_length(rt: &impl Abort, length: usize)
     requires { length ≤ 88 }
 {
-    let mut longer = [0; 88];
-    longer[..SEALED_LENGTH].copy_from_slice(&packet([0, 0, 0, 1], BY_LONGWAVE));
-    let found = ring_of_three().authentic(&longer[..length]);
+    let found = ring_of_three().authentic(&longer()[..length]);
     same(rt, (length, found), (length, None));
 }
 
@@ -154,9 +155,8 @@ fn a_copy_of_a_ring(rt: HostRuntime) {
     let empty = KeyRing::new();
     let mut copy = empty;
     copy.add(1, b"longwave");
-    let request = packet([0, 0, 0, 1], BY_LONGWAVE);
-    same(&rt, copy.authentic(&request), Some(1));
-    same(&rt, empty.authentic(&request), None);
+    is_of(&rt, &copy, [0, 0, 0, 1], BY_LONGWAVE, Some(1));
+    is_of(&rt, &empty, [0, 0, 0, 1], BY_LONGWAVE, None);
 }
 
 // The ring of three clients and five others, the last of which has the secret of one of the three.
@@ -173,10 +173,7 @@ fn ring_of_eight() -> KeyRing {
 #[test]
 fn eight_keys(rt: HostRuntime) {
     let ring = ring_of_eight();
-    let found = ring.authentic(&packet([0, 0, 0, 6], BY_LONGWAVE));
-    same(&rt, found, Some(6));
-    let found = ring.authentic(&packet([0, 0, 0, 1], BY_LONGWAVE));
-    same(&rt, found, Some(1));
-    let found = ring.authentic(&packet([0, 0, 0, 2], BY_LONGWAVE));
-    same(&rt, found, None);
+    is_of(&rt, &ring, [0, 0, 0, 6], BY_LONGWAVE, Some(6));
+    is_of(&rt, &ring, [0, 0, 0, 1], BY_LONGWAVE, Some(1));
+    is_of(&rt, &ring, [0, 0, 0, 2], BY_LONGWAVE, None);
 }

@@ -2,7 +2,7 @@
 ghost use Rattle.std.specs.Prelude.{◌≡◌, ◌<◌, Some, None};
 ghost use Rattle.poll_core.specs.Polling.{asked_at};
 
-use crate::shared::{moment, same};
+use crate::shared::{longer, moment, same};
 use feed_link::Address;
 use poll_core::{Poll, PollRefusal};
 use std::process::Abort;
@@ -46,7 +46,7 @@ const REFERENCE_ID: usize = 12;
 
 const REFERENCE: usize = 16;
 
-pub(crate) const ROOT_DISP: usize = 8;
+const ROOT_DISP: usize = 8;
 
 pub(crate) const RECEIVE: usize = 32;
 
@@ -55,8 +55,10 @@ pub(crate) const TRANSMIT: usize = 40;
 // The answer with these bytes from a place on.
 pub(crate) fn with(place: usize, piece: &[u8]) -> [u8; 48] {
     let mut bytes = ANSWER;
-    for (byte, new) in bytes.iter_mut().skip(place).zip(piece) {
-        *byte = *new;
+    for (offset, new) in piece.iter().enumerate() {
+        if let Some(byte) = bytes.get_mut(place.saturating_add(offset)) {
+            *byte = *new;
+        }
     }
     bytes
 }
@@ -99,14 +101,23 @@ pub(crate) fn as_usual() -> Result<Sample, PollRefusal> {
     Ok(sample(OFFSET, DELAY, DISPERSION))
 }
 
+// What a poller says of a datagram.
+fn is_answer(
+    rt: &impl Abort,
+    found: Result<Sample, PollRefusal>,
+    wanted: Result<Sample, PollRefusal>,
+) {
+    same(rt, found, wanted);
+}
+
 #[test]
 fn an_exchange(rt: HostRuntime) {
     let mut poll = Poll::new(SERVER);
     same(&rt, poll.ask(moment(1_000_000)), REQUEST);
     let arrived = moment(1_010_000);
-    same(&rt, poll.answer(arrived, SERVER, &ANSWER), as_usual());
+    is_answer(&rt, poll.answer(arrived, SERVER, &ANSWER), as_usual());
     let again = poll.answer(arrived, SERVER, &ANSWER);
-    same(&rt, again, Err(PollRefusal::NotAsked));
+    is_answer(&rt, again, Err(PollRefusal::NotAsked));
 }
 
 // A datagram is refused so, and the right answer is taken then.
@@ -114,9 +125,8 @@ fn is_refused(rt: &impl Abort, from: Address, bytes: &[u8], refusal: PollRefusal
     let mut poll = asked(moment(1_000_000));
     let arrived = moment(1_010_000);
     let found = poll.answer(arrived, from, bytes);
-    same(rt, (bytes, found), (bytes, Err(refusal)));
     let then = poll.answer(arrived, SERVER, &ANSWER);
-    same(rt, (bytes, then), (bytes, as_usual()));
+    same(rt, (bytes, found, then), (bytes, Err(refusal), as_usual()));
 }
 
 // The same, where the refusal has this number.
@@ -181,7 +191,7 @@ fn a_short_answer(rt: HostRuntime) {
 fn an_answer_to_no_request(rt: HostRuntime) {
     let mut poll = Poll::new(SERVER);
     let found = poll.answer(moment(1_010_000), SERVER, &ANSWER);
-    same(&rt, found, Err(PollRefusal::NotAsked));
+    is_answer(&rt, found, Err(PollRefusal::NotAsked));
     same(&rt, PollRefusal::NotAsked.code(), 3);
 }
 
@@ -207,7 +217,7 @@ fn a_duplicate(rt: HostRuntime) {
     let mut poll = answered_once(&rt);
     let _request = poll.ask(moment(1_000_000));
     let second = poll.answer(moment(1_010_000), SERVER, &ANSWER);
-    same(&rt, second, Err(DUPLICATE));
+    is_answer(&rt, second, Err(DUPLICATE));
     same(&rt, DUPLICATE.code(), 7);
 }
 
@@ -223,7 +233,7 @@ fn a_late_answer(rt: HostRuntime) {
     let mut poll = asked(moment(1_000_000));
     let _request = poll.ask(moment(2_000_000));
     let late = poll.answer(moment(2_000_000), SERVER, &ANSWER);
-    same(&rt, late, Err(LATE));
+    is_answer(&rt, late, Err(LATE));
 }
 
 // Of several reasons the first counts.
@@ -232,13 +242,13 @@ fn an_answer_with_each_fault(rt: HostRuntime) {
     let mut poll = Poll::new(SERVER);
     let stranger = PollRefusal::Stranger { from: OTHER_PORT };
     let found = poll.answer(moment(0), OTHER_PORT, &[0; 47]);
-    same(&rt, found, Err(stranger));
+    is_answer(&rt, found, Err(stranger));
     let found = poll.answer(moment(0), SERVER, &[0; 47]);
-    same(&rt, found, Err(PollRefusal::Short { length: 47 }));
+    is_answer(&rt, found, Err(PollRefusal::Short { length: 47 }));
     let found = poll.answer(moment(0), SERVER, &[0; 48]);
-    same(&rt, found, Err(PollRefusal::NotAsked));
+    is_answer(&rt, found, Err(PollRefusal::NotAsked));
     let of_version_0 = PollRefusal::Version { version: 0 };
-    same(&rt, answered(SERVER, &[0; 48]), Err(of_version_0));
+    is_answer(&rt, answered(SERVER, &[0; 48]), Err(of_version_0));
 }
 
 // The answer with these bytes from a place on, and another byte at another one.
@@ -267,17 +277,15 @@ fn a_duplicate_with_another_fault(rt: HostRuntime) {
     let mut poll = answered_once(&rt);
     let _other = poll.ask(moment(2_000_000));
     let second = poll.answer(moment(2_000_000), SERVER, &ANSWER);
-    same(&rt, second, Err(LATE));
+    is_answer(&rt, second, Err(LATE));
     let _same = poll.ask(moment(1_000_000));
     let third = poll.answer(moment(1_010_000), SERVER, &with(0, &[0xe4]));
-    same(&rt, third, Err(DUPLICATE));
+    is_answer(&rt, third, Err(DUPLICATE));
 }
 
 // The answer with another first byte, followed by 20 bytes, is taken.
 fn version_is_taken(rt: &impl Abort, first: u8) {
-    let mut datagram = [0x55; 68];
-    datagram[..48].copy_from_slice(&with(0, &[first]));
-    let found = answered(SERVER, &datagram);
+    let found = answered(SERVER, &longer(&with(0, &[first])));
     same(rt, (first, found), (first, as_usual()));
 }
 
@@ -313,10 +321,9 @@ fn what_no_row_speaks_of_is_taken(rt: HostRuntime) {
 
 // The answer with this first byte is taken at the least stratum and at the greatest.
 fn strata_are_taken(rt: &impl Abort, first: u8) {
-    let of_least = answered(SERVER, &with(0, &[first, 1]));
-    same(rt, (first, 1, of_least.is_ok()), (first, 1, true));
-    let of_greatest = answered(SERVER, &with(0, &[first, 15]));
-    same(rt, (first, 15, of_greatest.is_ok()), (first, 15, true));
+    let of_least = answered(SERVER, &with(0, &[first, 1])).is_ok();
+    let of_greatest = answered(SERVER, &with(0, &[first, 15])).is_ok();
+    same(rt, (first, of_least, of_greatest), (first, true, true));
 }
 
 // Strata 1 to 15, with and without a warning of a leap second, are taken.

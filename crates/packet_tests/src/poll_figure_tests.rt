@@ -1,6 +1,6 @@
 //! Figures of exchanges at the bounds of their fields.
 use crate::poll_core_tests::{
-    DELAY, DISPERSION, OFFSET, RECEIVE, ROOT_DISP, SERVER, TRANSMIT, answered, sample, with,
+    DELAY, DISPERSION, OFFSET, RECEIVE, SERVER, TRANSMIT, answered, sample, with,
 };
 use crate::shared::same;
 use poll_core::PollRefusal;
@@ -10,6 +10,7 @@ use tick_units::{Sample, Span};
 // Where further fields of a header begin.
 const PRECISION: usize = 3;
 
+// The root dispersion follows it.
 const ROOT_DELAY: usize = 4;
 
 // The answer with this precision has this dispersion.
@@ -66,8 +67,9 @@ fn delay_of(found: Result<Sample, PollRefusal>) -> Result<Span, PollRefusal> {
 
 // Whether the answer is refused that has this root delay and this root dispersion.
 fn is_far(rt: &impl Abort, root_delay: u32, root_disp: u32, is_far: bool) {
-    let mut bytes = with(ROOT_DELAY, &root_delay.to_be_bytes());
-    bytes[ROOT_DISP..ROOT_DISP + 4].copy_from_slice(&root_disp.to_be_bytes());
+    let [a, b, c, d] = root_delay.to_be_bytes();
+    let [e, f, g, h] = root_disp.to_be_bytes();
+    let bytes = with(ROOT_DELAY, &[a, b, c, d, e, f, g, h]);
     let found = answered(SERVER, &bytes).is_err();
     same(
         rt,

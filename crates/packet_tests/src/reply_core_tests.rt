@@ -2,7 +2,7 @@
 ghost use Rattle.std.specs.Prelude.{◌≤◌, ◌<◌, ◌^◌};
 
 use crate::clock_page_tests::of_2026;
-use crate::shared::{ANSWER, REQUEST, moment, of_a_radio, same};
+use crate::shared::{ANSWER, REQUEST, is_packet, longer, moment, of_a_radio, same};
 use clock_page::Page;
 use reply_core::{Dropped, reply};
 use std::process::Abort;
@@ -35,13 +35,13 @@ const UNSYNCHRONISED: [u8; 48] = [
 fn an_answer_of_a_server_that_is_not_synchronised(rt: HostRuntime) {
     let page = Page::unsynchronised(4, moment(242_000_000));
     let found = answered(&page, &REQUEST, 243_000_000, 243_000_500);
-    same(&rt, found, Ok(UNSYNCHRONISED));
+    is_packet(&rt, found, Ok(UNSYNCHRONISED));
 }
 
 #[test]
 fn an_answer_of_a_synchronised_server(rt: HostRuntime) {
     let found = answered(&of_a_radio(), &REQUEST, 303_000_000, 303_000_500);
-    same(&rt, found, Ok(ANSWER));
+    is_packet(&rt, found, Ok(ANSWER));
 }
 
 // The same server, whose sixth minute comes 3 ms late: its counter gains 12.5 parts per million, and the answer follows that.
@@ -71,7 +71,7 @@ const OF_A_FAST_COUNTER: [u8; 48] = [
 #[test]
 fn an_answer_follows_the_rate(rt: HostRuntime) {
     let found = answered(&of_a_fast_counter(), &REQUEST, 372_003_000, 372_003_000);
-    same(&rt, found, Ok(OF_A_FAST_COUNTER));
+    is_packet(&rt, found, Ok(OF_A_FAST_COUNTER));
 }
 
 // The first four bytes of an answer, and its reference ID.
@@ -87,28 +87,33 @@ fn beginning_of(answer: Result<[u8; 48], Dropped>) -> Beginning {
     }
 }
 
-// The beginning of the answer to the request.
-fn begins(page: &Page, arrived: u64, sent: u64) -> Beginning
-    requires order { arrived ≤ sent }
-    requires most { sent < 2 ^ 50 }
-{
-    beginning_of(answered(page, &REQUEST, arrived, sent))
-}
-
 // `DCF` and `INIT`.
 const DCF: u32 = 0x4443_4600;
 
 const INIT: u32 = 0x494e_4954;
 
+// How an answer begins: with the time, with it and the warning of a leap second, and without the time.
+const PLAIN: (u32, u32) = (0x2401_06ec, DCF);
+
+const WARNING: (u32, u32) = (0x6401_06ec, DCF);
+
+const TIMELESS: (u32, u32) = (0xe400_06ec, INIT);
+
+// The answer to the request begins so.
+fn begins(rt: &impl Abort, page: &Page, arrived: u64, sent: u64, beginning: (u32, u32))
+    requires order { arrived ≤ sent }
+    requires most { sent < 2 ^ 50 }
+{
+    let found = beginning_of(answered(page, &REQUEST, arrived, sent));
+    same(rt, (arrived, sent, found), (arrived, sent, Ok(beginning)));
+}
+
 #[test]
 fn a_page_ends_at_the_moment_of_sending(rt: HostRuntime) {
     let page = of_a_radio();
-    let last = begins(&page, 4_364_906_901, 4_364_906_901);
-    let first_after = begins(&page, 4_364_906_902, 4_364_906_902);
-    let sent_after = begins(&page, 4_364_906_901, 4_364_906_902);
-    same(&rt, last, Ok((0x2401_06ec, DCF)));
-    same(&rt, first_after, Ok((0xe400_06ec, INIT)));
-    same(&rt, sent_after, Ok((0xe400_06ec, INIT)));
+    begins(&rt, &page, 4_364_906_901, 4_364_906_901, PLAIN);
+    begins(&rt, &page, 4_364_906_902, 4_364_906_902, TIMELESS);
+    begins(&rt, &page, 4_364_906_901, 4_364_906_902, TIMELESS);
 }
 
 // A server at the end of 2016, with its page's end where the leap second begins.
@@ -133,10 +138,8 @@ fn before_a_leap_second() -> Page {
 #[test]
 fn a_leap_second_is_announced(rt: HostRuntime) {
     let page = before_a_leap_second();
-    let last = begins(&page, 361_999_999, 361_999_999);
-    let after = begins(&page, 362_000_000, 362_000_000);
-    same(&rt, last, Ok((0x6401_06ec, DCF)));
-    same(&rt, after, Ok((0xe400_06ec, INIT)));
+    begins(&rt, &page, 361_999_999, 361_999_999, WARNING);
+    begins(&rt, &page, 362_000_000, 362_000_000, TIMELESS);
 }
 
 // Second 3976257842 begins at 304 s. Then the warning of a leap second that ends a day later begins, and that of one that ends there is
@@ -144,16 +147,12 @@ fn a_leap_second_is_announced(rt: HostRuntime) {
 #[test]
 fn a_leap_second_is_announced_by_the_moment_of_sending(rt: HostRuntime) {
     let page = of_2026(3_976_344_242);
-    let early = begins(&page, 303_999_999, 303_999_999);
-    let across = begins(&page, 303_999_999, 304_000_000);
-    same(&rt, early, Ok((0x2401_06ec, DCF)));
-    same(&rt, across, Ok((0x6401_06ec, DCF)));
+    begins(&rt, &page, 303_999_999, 303_999_999, PLAIN);
+    begins(&rt, &page, 303_999_999, 304_000_000, WARNING);
 
     let page = of_2026(3_976_257_842);
-    let early = begins(&page, 303_999_999, 303_999_999);
-    let across = begins(&page, 303_999_999, 304_000_000);
-    same(&rt, early, Ok((0x6401_06ec, DCF)));
-    same(&rt, across, Ok((0x2401_06ec, DCF)));
+    begins(&rt, &page, 303_999_999, 303_999_999, WARNING);
+    begins(&rt, &page, 303_999_999, 304_000_000, PLAIN);
 }
 
 // The request with another first byte.
@@ -163,18 +162,22 @@ pub(crate) fn beginning_with(first: u8) -> [u8; 48] {
     datagram
 }
 
-// A datagram with this first byte is dropped for this reason.
-fn is_dropped(rt: &impl Abort, page: &Page, first: u8, dropped: Dropped) {
-    let found = answered(page, &beginning_with(first), 0, 0);
-    same(rt, (first, found), (first, Err(dropped)));
+// A datagram is dropped for this reason.
+fn drops(rt: &impl Abort, page: &Page, datagram: &[u8], why: Dropped) {
+    let found = answered(page, datagram, 0, 0);
+    same(rt, (datagram, found), (datagram, Err(why)));
+}
+
+// The request with this first byte is dropped for this reason.
+fn is_dropped(rt: &impl Abort, page: &Page, first: u8, why: Dropped) {
+    drops(rt, page, &beginning_with(first), why);
 }
 
 #[test]
 fn what_is_no_request_is_dropped(rt: HostRuntime) {
     let page = of_a_radio();
-    same(&rt, answered(&page, &[], 0, 0), Err(Dropped::Short));
-    let short = answered(&page, &REQUEST[..47], 0, 0);
-    same(&rt, short, Err(Dropped::Short));
+    drops(&rt, &page, &[], Dropped::Short);
+    drops(&rt, &page, &REQUEST[..47], Dropped::Short);
     is_dropped(&rt, &page, 0x2b, Dropped::Version);
     is_dropped(&rt, &page, 0x03, Dropped::Version);
     is_dropped(&rt, &page, 0x29, Dropped::Version);
@@ -193,13 +196,11 @@ fn a_drop_writes_nothing(rt: HostRuntime) {
 
 // A datagram with this first byte gets an answer with this one, and so it does where 20 bytes follow it.
 fn version_is_answered(rt: &impl Abort, page: &Page, first: u8, head: u32) {
-    let mut datagram = [0x55; 68];
-    datagram[..48].copy_from_slice(&REQUEST);
-    datagram[0] = first;
-    let answer = answered(page, &datagram, 303_000_000, 303_000_500);
+    let datagram = beginning_with(first);
+    let alone = answered(page, &datagram, 303_000_000, 303_000_500);
+    let answer = answered(page, &longer(&datagram), 303_000_000, 303_000_500);
     same(rt, (first, beginning_of(answer)), (first, Ok((head, DCF))));
-    let alone = answered(page, &datagram[..48], 303_000_000, 303_000_500);
-    same(rt, answer, alone);
+    is_packet(rt, answer, alone);
 }
 
 // Versions 1 to 4 are answered with their own, and what follows the 48th byte is passed over.
@@ -213,13 +214,14 @@ fn each_version_is_answered(rt: HostRuntime) {
 }
 
 // The root dispersion of the answer that is sent at a moment.
-fn dispersion_at(page: &Page, sent: u64) -> Result<u32, Dropped>
+fn has_dispersion(rt: &impl Abort, page: &Page, sent: u64, dispersion: u32)
     requires { sent < 2 ^ 50 }
 {
-    match answered(page, &REQUEST, 0, sent) {
+    let found = match answered(page, &REQUEST, 0, sent) {
         Ok(b) => Ok(u32::from_be_bytes([b[8], b[9], b[10], b[11]])),
         Err(dropped) => Err(dropped),
-    }
+    };
+    same(rt, (sent, found), (sent, Ok(dispersion)));
 }
 
 // The page is from 302 s, and the host's counter drifts 15 us in a second. That is 590 units of 2^-16 s in ten minutes, up to a
@@ -227,9 +229,9 @@ fn dispersion_at(page: &Page, sent: u64) -> Result<u32, Dropped>
 #[test]
 fn a_dispersion_grows_from_the_page_on(rt: HostRuntime) {
     let page = of_a_radio();
-    same(&rt, dispersion_at(&page, 0), Ok(0xf066));
-    same(&rt, dispersion_at(&page, 302_000_000), Ok(0xf066));
-    same(&rt, dispersion_at(&page, 302_000_001), Ok(0xf067));
-    same(&rt, dispersion_at(&page, 901_999_999), Ok(0xf2b4));
-    same(&rt, dispersion_at(&page, 4_364_906_901), Ok(0x0001_0000));
+    has_dispersion(&rt, &page, 0, 0xf066);
+    has_dispersion(&rt, &page, 302_000_000, 0xf066);
+    has_dispersion(&rt, &page, 302_000_001, 0xf067);
+    has_dispersion(&rt, &page, 901_999_999, 0xf2b4);
+    has_dispersion(&rt, &page, 4_364_906_901, 0x0001_0000);
 }

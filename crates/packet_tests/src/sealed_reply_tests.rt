@@ -2,7 +2,7 @@
 ghost use Rattle.std.specs.Prelude.{◌≡◌, ◌≤◌, ◌<◌, ◌^◌, ◌∷◌, [], codes};
 ghost use Rattle.packet_auth.specs.Keys.{keys_of};
 
-use crate::shared::{ANSWER, BY_LONGWAVE, DENY, REQUEST, moment, of_a_radio, same};
+use crate::shared::{self, ANSWER, BY_LONGWAVE, DENY, REQUEST, moment, of_a_radio, same};
 use packet_auth::KeyRing;
 use reply_core::{Code, Dropped};
 use sealed_reply::{Reply, Request};
@@ -38,13 +38,9 @@ const ANSWER_BY_SHORTWAVE: [u8; 16] = [
     0xd5, 0xa6, 0xb4, 0xf0, 0x4f, 0x46, 0xf7, 0x59, 0x1a, 0xed, 0x52, 0x86, 0xff, 0x34, 0x14, 0x1c,
 ];
 
-// A header, followed by an identifier and a digest, on the wire.
+// A header, followed by an identifier below 256 and a digest.
 fn packet(header: [u8; 48], id: u8, digest: [u8; 16]) -> [u8; 68] {
-    let mut bytes = [0; 68];
-    bytes[..48].copy_from_slice(&header);
-    bytes[51] = id;
-    bytes[52..].copy_from_slice(&digest);
-    bytes
+    shared::packet(header, [0, 0, 0, id], digest)
 }
 
 fn ring_of_two() -> KeyRing
@@ -68,12 +64,33 @@ fn reply_at(code: Code, datagram: &[u8], arrived: u64, sent: u64) -> Result<Repl
     }
 }
 
+// The bytes of a reply, where there is one.
+fn bytes_of(reply: &Result<Reply, Dropped>) -> Result<&[u8], Dropped> {
+    match reply {
+        Ok(reply) => Ok(reply.bytes()),
+        Err(why) => Err(*why),
+    }
+}
+
+// A client gets these bytes by its code and its datagram, or nothing.
+fn comes_to(
+    rt: &impl Abort,
+    code: Code,
+    datagram: &[u8],
+    reply: &Result<Reply, Dropped>,
+    want: Result<&[u8], Dropped>,
+) {
+    same(
+        rt,
+        (code, datagram, bytes_of(reply)),
+        (code, datagram, want),
+    );
+}
+
 // The reply half a millisecond after a datagram of 303 s has these bytes.
 fn is_replied_by(rt: &impl Abort, code: Code, datagram: &[u8], want: &[u8]) {
-    match reply_at(code, datagram, 303_000_000, 303_000_500) {
-        Ok(reply) => same(rt, (code, datagram, reply.bytes()), (code, datagram, want)),
-        Err(why) => panic!(*rt; "dropped: {why:?}"),
-    }
+    let reply = reply_at(code, datagram, 303_000_000, 303_000_500);
+    comes_to(rt, code, datagram, &reply, Ok(want));
 }
 
 fn is_replied(rt: &impl Abort, datagram: &[u8], want: &[u8]) {
@@ -109,13 +126,23 @@ fn changed() -> [u8; 68] {
     changed
 }
 
-// As many bytes of the request, its digest, and 20 bytes of 0 get the answer without a digest.
+// The sealed request, followed by 20 bytes of 0.
+fn longer() -> [u8; 88] {
+    let mut longer = [0; 88];
+    longer[..68].copy_from_slice(&by_longwave());
+    longer
+}
+
+// So many of those bytes get the answer without a digest.
 fn is_not_authentic(rt: &impl Abort, length: usize)
     requires { length ≤ 88 }
 {
-    let mut longer = [0; 88];
-    longer[..68].copy_from_slice(&by_longwave());
-    is_replied(rt, &longer[..length], &ANSWER);
+    is_replied(rt, &longer()[..length], &ANSWER);
+}
+
+// The digest of the first key under this identifier gets the answer without a digest.
+fn is_of_another(rt: &impl Abort, id: u8) {
+    is_replied(rt, &packet(REQUEST, id, BY_LONGWAVE), &ANSWER);
 }
 
 // The last byte is changed, or the identifier is another's or nobody's. Or the length is that of a crypto-NAK, or one byte too
@@ -123,9 +150,9 @@ fn is_not_authentic(rt: &impl Abort, length: usize)
 #[test]
 fn a_request_that_is_not_authentic(rt: HostRuntime) {
     is_replied(&rt, &changed(), &ANSWER);
-    is_replied(&rt, &packet(REQUEST, 9, BY_LONGWAVE), &ANSWER);
-    is_replied(&rt, &packet(REQUEST, 2, BY_LONGWAVE), &ANSWER);
-    is_replied(&rt, &packet(REQUEST, 0, BY_LONGWAVE), &ANSWER);
+    is_of_another(&rt, 9);
+    is_of_another(&rt, 2);
+    is_of_another(&rt, 0);
     is_not_authentic(&rt, 52);
     is_not_authentic(&rt, 67);
     is_not_authentic(&rt, 69);
@@ -143,15 +170,19 @@ fn a_kiss_is_sealed_as_its_request_is(rt: HostRuntime) {
     is_replied_by(&rt, Code::Deny, &by_longwave(), &sealed);
 }
 
+// The reply to a datagram is written in the place of an earlier one.
+fn write_in(reply: &mut Reply, datagram: &[u8]) -> Result<(), Dropped> {
+    let (page, ring) = (of_a_radio(), ring_of_two());
+    let request = Request::read(datagram)?;
+    let (arrived, sent) = (moment(303_000_000), moment(303_000_500));
+    request.reply_in(&ring, Code::Pass, &page, arrived, sent, reply);
+    Ok(())
+}
+
 // A reply that is written in the place of an earlier one has these bytes.
 fn is_replied_in(rt: &impl Abort, reply: &mut Reply, datagram: &[u8], want: &[u8]) {
-    let (page, ring) = (of_a_radio(), ring_of_two());
-    let (arrived, sent) = (moment(303_000_000), moment(303_000_500));
-    match Request::read(datagram) {
-        Ok(request) => request.reply_in(&ring, Code::Pass, &page, arrived, sent, reply),
-        Err(why) => panic!(*rt; "dropped: {why:?}"),
-    }
-    same(rt, reply.bytes(), want);
+    let written = write_in(reply, datagram);
+    same(rt, (written, reply.bytes()), (Ok(()), want));
 }
 
 // A reply is sealed, the next one in its place is not, and the one after that is sealed again.
@@ -175,10 +206,8 @@ const OF_A_SERVER: [u8; 16] = [
 
 // The datagram of a client that gets this code is dropped for this reason.
 fn is_dropped_by(rt: &impl Abort, code: Code, datagram: &[u8], why: Dropped) {
-    match reply_at(code, datagram, 0, 0) {
-        Ok(_) => panic!(*rt; "a reply to a client that gets {code:?}"),
-        Err(found) => same(rt, (code, datagram, found), (code, datagram, why)),
-    }
+    let reply = reply_at(code, datagram, 0, 0);
+    comes_to(rt, code, datagram, &reply, Err(why));
 }
 
 // The request with this first byte and this digest is authentic, and dropped whatever its client gets.

@@ -2,6 +2,7 @@
 ghost use Rattle.std.specs.Prelude.{◌≡◌, ◌<◌, ◌^◌};
 
 use clock_page::Page;
+use reply_core::Dropped;
 use std::fmt::Debug;
 use std::process::Abort;
 use tick_units::{Local, Short, Span, Stamp};
@@ -24,6 +25,38 @@ pub(crate) const REQUEST: [u8; 48] = [
     0x00, 0x00, 0x00, 0x00, 0x00, 0x00, 0x00, 0x00, 0x00, 0x00, 0x00, 0x00, 0x00, 0x00, 0x00, 0x00, // to the origin
     0x00, 0x00, 0x00, 0x00, 0x00, 0x00, 0x00, 0x00, 0x11, 0x22, 0x33, 0x44, 0x55, 0x66, 0x77, 0x88,
 ];
+
+// A datagram, followed by 20 bytes.
+pub(crate) fn longer(datagram: &[u8; 48]) -> [u8; 68] {
+    let mut bytes = [0x55; 68];
+    bytes[..48].copy_from_slice(datagram);
+    bytes
+}
+
+// An identifier and a digest, on the wire.
+fn seal(id: [u8; 4], digest: [u8; 16]) -> [u8; 20] {
+    let mut bytes = [0; 20];
+    bytes[..4].copy_from_slice(&id);
+    bytes[4..].copy_from_slice(&digest);
+    bytes
+}
+
+// A header, followed by them.
+pub(crate) fn packet(header: [u8; 48], id: [u8; 4], digest: [u8; 16]) -> [u8; 68] {
+    let mut bytes = [0; 68];
+    bytes[..48].copy_from_slice(&header);
+    bytes[48..].copy_from_slice(&seal(id, digest));
+    bytes
+}
+
+// A request comes to this.
+pub(crate) fn is_packet(
+    rt: &impl Abort,
+    found: Result<[u8; 48], Dropped>,
+    wanted: Result<[u8; 48], Dropped>,
+) {
+    same(rt, found, wanted);
+}
 
 // MD5 of `longwave` and the request, by Python's `hashlib`.
 pub(crate) const BY_LONGWAVE: [u8; 16] = [

@@ -110,8 +110,12 @@ fn minute(minute: u64, summer: bool) -> Answer {
 }
 
 // The frame of these bits, except for the changed ones, comes to this.
-fn is_read(rt: &impl Abort, ones: Ones, changed: Ones, wanted: Answer) {
+fn is_changed(rt: &impl Abort, ones: Ones, changed: Ones, wanted: Answer) {
     comes_to(rt, &frame(ones, changed), 60, wanted);
+}
+
+fn is_read(rt: &impl Abort, ones: Ones, wanted: Answer) {
+    is_changed(rt, ones, NONE, wanted);
 }
 
 const TO_SUMMER: Ones = Ones { a: &[], b: &[58] };
@@ -124,15 +128,15 @@ const TO_LEAP_DAY: Ones = Ones {
 
 #[test]
 fn frames_are_read(rt: HostRuntime) {
-    is_read(&rt, NEW_YEAR, NONE, minute(3976257600, false));
-    is_read(&rt, SUNDAY, NONE, minute(3155760000, false));
-    is_read(&rt, STANDARD, NONE, minute(3983734740, false));
-    is_read(&rt, SUMMER, NONE, minute(3983734800, true));
-    is_read(&rt, SATURDAY, NONE, minute(4001848680, true));
-    is_read(&rt, FIRST, NONE, minute(3155673600, false));
-    is_read(&rt, LAST, NONE, minute(6311433540, false));
-    is_read(&rt, FIRST, TO_SUMMER, minute(3155670000, true));
-    is_read(&rt, NEW_YEAR, TO_LEAP_DAY, minute(3918196800, false));
+    is_read(&rt, NEW_YEAR, minute(3976257600, false));
+    is_read(&rt, SUNDAY, minute(3155760000, false));
+    is_read(&rt, STANDARD, minute(3983734740, false));
+    is_read(&rt, SUMMER, minute(3983734800, true));
+    is_read(&rt, SATURDAY, minute(4001848680, true));
+    is_read(&rt, FIRST, minute(3155673600, false));
+    is_read(&rt, LAST, minute(6311433540, false));
+    is_changed(&rt, FIRST, TO_SUMMER, minute(3155670000, true));
+    is_changed(&rt, NEW_YEAR, TO_LEAP_DAY, minute(3918196800, false));
 }
 
 // Each row changes these bits A and B of the frame of NEW_YEAR, which breaks this rule.
@@ -178,7 +182,7 @@ const ALONE: [Row<'static>; 35] = [
 
 fn are_broken(rt: &impl Abort, rows: &[Row<'static>]) {
     for (a, b, rule) in rows {
-        is_read(rt, NEW_YEAR, Ones { a, b }, broken(*rule));
+        is_changed(rt, NEW_YEAR, Ones { a, b }, broken(*rule));
     }
 }
 

@@ -1,7 +1,7 @@
 //! Made logs, against values from outside.
 use crate::minutes::write_symbols;
 use crate::writer::LogWriter;
-use feed_link::MemorySink;
+use memory_links::MemorySink;
 use std::fmt::Debug;
 use std::process::Abort;
 use std::test::Fail;

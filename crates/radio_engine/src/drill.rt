@@ -10,8 +10,9 @@ ghost use Rattle.crew_work.specs.Served.{AreBlank};
 ghost use Rattle.station_gear.specs.Opens.{IsWhole};
 
 use drill_day::make_logs;
-use feed_link::{Outside, Sink, SureSource};
+use feed_link::{Outside, Sink};
 use file_commands::{Ending, Status, finish};
+use memory_links::SureSource;
 use radio_receiver::{BoxedReceiver, Receiver};
 use receiver_rack::fit_radios;
 use station_config::Station;

@@ -15,7 +15,8 @@ ghost use Rattle.file_commands.specs.Writing.{Answers};
 ghost use Rattle.file_commands.specs.declared.ending.Ending.TheVariants.{NoMemory};
 ghost use Rattle.file_commands.specs.declared.ending.status.Status.{Status};
 
-use feed_link::{HostOutside, Outside, Sink, StreamSink};
+use feed_link::{Outside, Sink};
+use host_links::{HostOutside, StreamSink};
 use radio_engine::{Status, end_without_memory, run_station};
 use radio_receiver::{DcfReceiver, MsfReceiver, Receiver, WwvbReceiver};
 use receiver_rack::put_in_rack;

@@ -11,7 +11,7 @@ ghost use Rattle.file_commands.specs.StationFile.{IsObstacle};
 ghost use Rattle.receiver_rack.specs.Racks.{IsRack};
 ghost use Rattle.script_player.specs.KeptPlayer.{HasPlayed, IsReady};
 ghost use Rattle.script_player.specs.Replay.{case_of};
-ghost use Rattle.station_config.specs.Faults.{Says};
+ghost use Rattle.station_reader.specs.Faults.{Says};
 ghost use Rattle.station_config.specs.Station.{StationFields};
 
 mod replayer;

@@ -2,13 +2,14 @@
 //! clause speaks of it, and a closed standard error changes nothing.
 #![tactic(auto)]
 
-use feed_link::Refusal;
+use host_links::Refusal;
 use standard_error::{
     Argument, DONE_LINE, Detail, Kind, NO_MEMORY_LINE, NO_MINUTE, Place, Report, SAMPLE_BYTES,
     Subject, TOML_LINE, Watched, bad_line_text, no_minute_text, read_arguments, subject_of,
     toml_line, value_of,
 };
-use station_config::{Station, read_station};
+use station_config::Station;
+use station_reader::read_station;
 use std::alloc::{AllocError, Global};
 use std::fs::{self, Files};
 use std::io::{Eprint, Read, Write};

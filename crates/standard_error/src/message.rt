@@ -9,7 +9,7 @@ use crate::texts::{
     COMMAND_LINES, FULL, HELP, JOURNAL_LINE, LEAP_LINE, LINK_FAILED, LOG_LINE, NO_MEMORY,
     NO_OUTPUT, NO_TOML, NOT_READ, SCRIPT_LINE, VERSION, most_of, range_of, write_texts,
 };
-use feed_link::Refusal;
+use host_links::Refusal;
 use std::fmt;
 
 /// A feed or a link as its station file has it: the name of its file, its address, or its port.

@@ -1,9 +1,4 @@
 -- Lemmas that several proofs of this crate use.
-pub mod Bounds
 pub mod Feeds
-pub mod Firsts
-pub mod KeyRows
-pub mod KeysApart
-pub mod Orders
+pub mod KeptKeys
 pub mod PlanLaws
-pub mod Walks

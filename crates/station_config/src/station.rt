@@ -1,14 +1,13 @@
-//! A station, and what was read of its file.
+//! A station, and the parts that it is made of.
 ghost use Rattle.std.specs.Prelude.{◌≡◌, ◌≤◌, ◌+◌, ◌++◌, option_map, length, map, string_bytes};
 ghost use Rattle.std.specs.List.{slice_get};
 ghost use Rattle.packet_auth.specs.Keys.{AreApart, keys_of};
 ghost use Rattle.kiss_gate.specs.Nets.{nets_of};
 ghost use Rattle.system_fold.specs.Settings.{AreLawful};
 ghost use Rattle.station_config.specs.Station.{IsStation, kind_of_radio, kind_of_server, leap_feeds, settings_of};
-ghost use Rattle.station_config.specs.KeptStation.{key_kept, parts_fields, radio_given, radio_kept, server_fields};
+ghost use Rattle.station_config.specs.KeptStation.{key_kept, net_kept, parts_fields, radio_given, radio_kept, server_fields};
 
 use crate::denied_net::DeniedNet;
-use crate::nets::deny_list;
 use crate::shared_key::SharedKey;
 use feed_link::Address;
 use kiss_gate::DenyList;
@@ -44,11 +43,14 @@ pub struct LinkRow {
     pub port: u16,
 }
 
-// A radio as a station keeps it: its log is not empty, and its delay is at most 100000 microseconds.
+/// A radio as a station keeps it.
 #[derive(Debug, Drop)]
 pub struct Radio {
+    /// Its code plan.
     pub plan: Plan,
+    /// The name of its log, which is not empty.
     pub log: String,
+    /// The delay from the sender to the receiver in microseconds, 0 to 100000.
     pub delay: u32,
 }
 
@@ -65,16 +67,20 @@ pub struct TopNumbers {
     pub clients: u32,
 }
 
-// What was read of a station file: its top table's numbers, its rows, its leap second file's name, its links' ports, its keys,
-// and its denied nets. It has no `Debug`, so that no text contains a secret.
+/// What a station is made of. It has no `Debug`, so that no text contains a secret.
 #[derive(Drop)]
 pub struct Parts {
     pub top: TopNumbers,
+    /// At most 4 of each plan. Radios, servers and the leap second file are at most 16.
     pub radios: Vec<Radio>,
     pub servers: Vec<ServerRow>,
+    /// The name of its leap second file, which is not empty.
     pub leap_file: Option<String>,
+    /// At most 8.
     pub links: Vec<LinkRow>,
+    /// At most 8, of which no two have the same number.
     pub keys: Vec<SharedKey>,
+    /// At most 16.
     pub deny: Vec<DeniedNet>,
 }
 
@@ -126,6 +132,18 @@ fn ring_of(keys: &[SharedKey]) -> KeyRing
     ring
 }
 
+// The list of these nets.
+fn deny_list(nets: &[DeniedNet]) -> DenyList
+    requires { length nets.now ≤ 16 }
+    ensures { nets_of result ≡ map net_kept nets.now }
+{
+    let mut list = DenyList::new();
+    for net in nets {
+        list.add(net.address, net.bits);
+    }
+    list
+}
+
 /// A station: its radios, its servers, its leap second file, its links, the keys that it shares with its clients, and the nets
 /// that it denies. Contracts see it as a record of these.
 #[derive(Drop)]
@@ -147,8 +165,8 @@ impl Model for Station {
 }
 
 impl Station {
-    // The station of what was read.
-    pub(crate) fn new(parts: Parts) -> Station
+    /// The station of these parts, which are within its bounds.
+    pub fn new(parts: Parts) -> Station
         requires { IsStation (parts_fields parts) }
         ensures { result ≡ parts_fields parts }
     {

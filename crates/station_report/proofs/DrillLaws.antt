@@ -8,11 +8,11 @@ use Rattle.std.proofs.lemmas.Bool.Decides.{nat_tests}
 use Rattle.std.proofs.lemmas.List.{append-nil, length-append, length-map}
 use Rattle.std.proofs.lemmas.List.Elements.{All-append, All-cons, All-head, All-nil, All-tail, filter-append}
 use Rattle.feed_link.specs.Faults.{Rose}
-use Rattle.feed_link.specs.Memory.{sure_state}
+use Rattle.memory_links.specs.Memory.{sure_state}
 use Rattle.feed_link.specs.Openings.{OutsideState}
 use Rattle.feed_link.specs.Openings.State.{OfLog}
 use Rattle.feed_link.specs.Told.{LinkState, SinkState, SourceState}
-use Rattle.feed_link.specs.declared.sure_source.SureSource.{SureSource}
+use Rattle.memory_links.specs.declared.sure_source.SureSource.{SureSource}
 use Rattle.file_reader.specs.declared.log_end.LogEnd.TheVariants as log
 use Rattle.journal_entry.specs.declared.entry.Entry.{Entry}
 use Rattle.journal_orders.specs.Orders.{KeepsFeeds, NamesNoLeap, leap_named}

@@ -27,10 +27,10 @@ use Rattle.file_reader.specs.declared.reader.FileEnd.TheVariants as file
 use Rattle.journal_entry.specs.declared.entry.Entry.{Entry}
 use Rattle.responder.specs.declared.served.End.{End}
 use Rattle.responder.specs.declared.served.End.TheVariants.{Count, LinkEnd, LinkFault}
-use Rattle.station_config.specs.Faults.{Fault, Says, IsFirst, faults_of, Refuses as RefusesStation}
+use Rattle.station_reader.specs.Faults.{Fault, Says, IsFirst, faults_of, Refuses as RefusesStation}
 use Rattle.station_config.specs.Station.{RadioFields, ServerFields, StationFields, leap_feed}
-use Rattle.station_config.specs.declared.fault.StationFault.{StationFault}
-use Rattle.station_config.specs.declared.fault.StationFault.TheVariants as fault
+use Rattle.station_reader.specs.declared.fault.StationFault.{StationFault}
+use Rattle.station_reader.specs.declared.fault.StationFault.TheVariants as fault
 use Rattle.crew_work.specs.Lists.{Pairs}
 use Rattle.crew_work.proofs.ListLaws.{length-is-some}
 use Rattle.file_commands.specs.Decoding.{IsGoodLog}
@@ -285,7 +285,7 @@ nothing_told all due none (inr h) = absurd (let e = ap length (sym none ∙ h.is
 one_fault : (faults : List Fault) (at : Fault) → faults ≡ [] → slice_get faults 0 ≡ Some at → ⊥
 one_fault faults at none first = (let wrong : ◌≡◌ {A = Option Fault} None (Some at) = sym (ap (λ l. slice_get l 0) none) ∙ first in cc)
 
-no_faults : (bytes : List ℕ) (of : StationFields) (says : Says bytes of) (top : _) → Rattle.station_config.specs.Faults.IsDocument bytes top → faults_of top ≡ []
+no_faults : (bytes : List ℕ) (of : StationFields) (says : Says bytes of) (top : _) → Rattle.station_reader.specs.Faults.IsDocument bytes top → faults_of top ≡ []
 no_faults bytes of says top document =
     let parsed = sym document.parsed ∙ says.document.parsed in
     let same : top ≡ says.top = cc in

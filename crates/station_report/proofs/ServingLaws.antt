@@ -19,7 +19,7 @@ use Rattle.file_reader.specs.declared.reader.FileEnd.{FileEnd}
 use Rattle.file_reader.specs.declared.reader.FileEnd.TheVariants.{Whole}
 use Rattle.journal_entry.specs.declared.entry.Entry.{Entry}
 use Rattle.page_cell.specs.Claims.{of_feed}
-use Rattle.station_config.specs.Faults.{Says}
+use Rattle.station_reader.specs.Faults.{Says}
 use Rattle.station_config.specs.Station.{ServerFields, StationFields, kind_of_radio, kind_of_server, leap_feed, leap_feeds, settings_of}
 use Rattle.crew_work.proofs.JournalLaws.{feeds-counted}
 use Rattle.crew_work.proofs.ListLaws.{leap_feeds-length, length-is-some}

@@ -2,9 +2,9 @@
 use Rattle.std.specs.Prelude.{◌≡◌, ℕ, ◌+◌, ◌≤◌, ◌==◌, nat_lt, Option, None, Some, List, [], ◌∷◌, ◌++◌, map, if◌then◌else◌}
 use Rattle.std.specs.List.{flat_map}
 use Rattle.std.specs.Option.{option_to_list}
-use Rattle.feed_link.specs.Memory.{sure_state}
+use Rattle.memory_links.specs.Memory.{sure_state}
 use Rattle.feed_link.specs.Told.{SinkState}
-use Rattle.feed_link.specs.declared.sure_source.SureSource.{SureSource}
+use Rattle.memory_links.specs.declared.sure_source.SureSource.{SureSource}
 use Rattle.journal_entry.specs.declared.entry.Entry.{Entry}
 use Rattle.journal_entry.specs.declared.entry.What.{What}
 use Rattle.journal_entry.specs.declared.entry.What.TheVariants.{Heard, Sample, Declined, Notice}

@@ -160,14 +160,18 @@ const REPLAY_LIMITS: [(&str, Option<u32>); 16] = [
     ("", None),
 ];
 
+fn asks_for_replay(rt: &impl Abort, alloc: Global, text: &str, limit: Option<u32>) {
+    let want = match limit {
+        Some(limit) => replay(limit),
+        None => Err(WordsFault::Usage),
+    };
+    let words = ["--limit", text, "replay", "--station=s", "--script=t"];
+    asks(rt, alloc, &words, want);
+}
+
 fn ask_for_replay(rt: &impl Abort, alloc: Global, limits: &[(&str, Option<u32>)]) {
     for (text, limit) in limits {
-        let want = match limit {
-            Some(limit) => replay(*limit),
-            None => Err(WordsFault::Usage),
-        };
-        let words = ["--limit", text, "replay", "--station=s", "--script=t"];
-        asks(rt, alloc, &words, want);
+        asks_for_replay(rt, alloc, text, *limit);
     }
 }
 
@@ -245,16 +249,21 @@ const HEARINGS: [(&str, Option<u64>); 17] = [
     ("", None),
 ];
 
+// Where a text is a number of hearings, the arguments ask for as many beside the feeds, or after them.
+fn asks_for_hearings(rt: &impl Abort, alloc: Global, number: &str, want: Option<u64>) {
+    let (during, after) = match want {
+        Some(n) => (serve(n, 0, 1_048_576), serve(16, n, 1_048_576)),
+        None => (Err(WordsFault::Usage), Err(WordsFault::Usage)),
+    };
+    let beside = ["serve", "--during", number, "--station=s"];
+    asks(rt, alloc, &beside, during);
+    let behind = ["serve", "--station=s", "--after", number];
+    asks(rt, alloc, &behind, after);
+}
+
 fn ask_for_hearings(rt: &impl Abort, alloc: Global, numbers: &[(&str, Option<u64>)]) {
     for (number, want) in numbers {
-        let (during, after) = match want {
-            Some(n) => (serve(*n, 0, 1_048_576), serve(16, *n, 1_048_576)),
-            None => (Err(WordsFault::Usage), Err(WordsFault::Usage)),
-        };
-        let beside = ["serve", "--during", number, "--station=s"];
-        asks(rt, alloc, &beside, during);
-        let behind = ["serve", "--station=s", "--after", number];
-        asks(rt, alloc, &behind, after);
+        asks_for_hearings(rt, alloc, number, *want);
     }
 }
 
@@ -282,19 +291,24 @@ fn has_limit(rt: &impl Abort, alloc: Global, words: &[&str], want: Option<u32>) 
     same_for(rt, &words, limit_of(alloc, words), want);
 }
 
+// Where a text is a limit, the arguments of each command that has one ask for it.
+fn has_limits(rt: &impl Abort, alloc: Global, text: &str, limit: Option<u32>) {
+    let words = ["serve", "--station=s", "--limit", text];
+    let said = match limit {
+        Some(limit) => serve(16, 0, limit),
+        None => Err(WordsFault::Usage),
+    };
+    asks(rt, alloc, &words, said);
+    has_limit(rt, alloc, &words, limit);
+    let words = ["replay", "--station=s", "--script=t", "--limit", text];
+    has_limit(rt, alloc, &words, limit);
+    let words = ["drill", "--seed=7", "--limit", text];
+    has_limit(rt, alloc, &words, limit);
+}
+
 fn have_limits(rt: &impl Abort, alloc: Global, limits: &[(&str, Option<u32>)]) {
     for (text, limit) in limits {
-        let words = ["serve", "--station=s", "--limit", text];
-        let said = match limit {
-            Some(limit) => serve(16, 0, *limit),
-            None => Err(WordsFault::Usage),
-        };
-        asks(rt, alloc, &words, said);
-        has_limit(rt, alloc, &words, *limit);
-        let words = ["replay", "--station=s", "--script=t", "--limit", text];
-        has_limit(rt, alloc, &words, *limit);
-        let words = ["drill", "--seed=7", "--limit", text];
-        has_limit(rt, alloc, &words, *limit);
+        has_limits(rt, alloc, text, *limit);
     }
 }
 

@@ -1,25 +1,26 @@
 // Files in memory, read piece by piece, with expected values counted by hand.
-ghost use Rattle.feed_link.specs.Memory.{sure_state};
+ghost use Rattle.memory_links.specs.Memory.{sure_state};
 
 use crate::shared::{same, same_for};
-use feed_link::{Failed, MemorySource, Source, SureSource};
+use feed_link::{Failed, Source};
 use file_reader::{FileEnd, FileReader, Pulled, read_whole};
-use std::alloc::Global;
+use memory_links::{MemorySource, SureSource};
+use std::alloc::{AllocError, Global};
 use std::process::Abort;
-use std::test::Fail;
 
 // How the reading of a file ends, and how many bytes were read.
-fn end_of<S: Source>(alloc: Global, file: &mut S, limit: usize) -> Result<(FileEnd, usize), Fail> {
+type Ended = Result<(FileEnd, usize), AllocError>;
+
+fn end_of<S: Source>(alloc: Global, file: &mut S, limit: usize) -> Ended {
     let mut text = Vec::with_capacity(alloc, limit)?;
     let end = read_whole(file, limit, &mut text);
     Ok((end, text.len()))
 }
 
 // This many bytes, up to 1200.
-fn bytes(alloc: Global, count: usize) -> Result<Vec<u8>, Fail> {
+fn bytes(alloc: Global, count: usize) -> Result<Vec<u8>, AllocError> {
     let text = [b'x'; 1200];
-    let text = text.get(..count).ok_or("more than 1200 bytes")?;
-    Ok(Vec::from_slice(alloc, text)?)
+    Vec::from_slice(alloc, &text[..count.min(1200)])
 }
 
 // How many bytes a file has, the limit, how the reading ends, and how many bytes are read.
@@ -37,24 +38,22 @@ const LIMITS: [(usize, usize, FileEnd, usize); 11] = [
     (1200, 1024, FileEnd::TooLong, 1024),
 ];
 
-fn are_read(
-    rt: &impl Abort,
-    alloc: Global,
-    table: &[(usize, usize, FileEnd, usize)],
-) -> Result<(), Fail> {
+// The end of a file with so many bytes.
+fn end_at(alloc: Global, count: usize, limit: usize) -> Ended {
+    let mut file = SureSource::new(bytes(alloc, count)?);
+    end_of(alloc, &mut file, limit)
+}
+
+fn are_read(rt: &impl Abort, alloc: Global, table: &[(usize, usize, FileEnd, usize)]) {
     for (count, limit, end, read) in table {
-        let mut file = SureSource::new(bytes(alloc, *count)?);
-        let ended = end_of(alloc, &mut file, *limit)?;
-        same_for(rt, &(count, limit), ended, (*end, *read));
+        let ended = end_at(alloc, *count, *limit);
+        same_for(rt, &(count, limit), ended, Ok((*end, *read)));
     }
-    Ok(())
 }
 
 #[test]
-fn a_file_up_to_the_limit_is_whole_and_one_byte_more_is_too_long(
-    rt: HostRuntime,
-) -> Result<(), Fail> {
-    are_read(&rt, rt.alloc(), &LIMITS)
+fn a_file_up_to_the_limit_is_whole_and_one_byte_more_is_too_long(rt: HostRuntime) {
+    are_read(&rt, rt.alloc(), &LIMITS);
 }
 
 // Which read fails, how the reading ends, and how many bytes are read.
@@ -66,20 +65,24 @@ const FAILING: [(u64, FileEnd, usize); 5] = [
     (5, FileEnd::Whole, 1200),
 ];
 
-fn end_with(rt: &impl Abort, alloc: Global, table: &[(u64, FileEnd, usize)]) -> Result<(), Fail> {
+// The end of a file of 1200 bytes, one read of which fails.
+fn end_after_fault(alloc: Global, failing: u64) -> Ended {
+    let text = bytes(alloc, 1200)?;
+    let fails = Vec::from_slice(alloc, &[failing])?;
+    end_of(alloc, &mut MemorySource::new(text, fails), 1200)
+}
+
+fn end_with(rt: &impl Abort, alloc: Global, table: &[(u64, FileEnd, usize)]) {
     for (failing, end, read) in table {
-        let text = bytes(alloc, 1200)?;
-        let mut file = MemorySource::new(text, Vec::from_slice(alloc, &[*failing])?);
-        let ended = end_of(alloc, &mut file, 1200)?;
-        same_for(rt, &failing, ended, (*end, *read));
+        let ended = end_after_fault(alloc, *failing);
+        same_for(rt, &failing, ended, Ok((*end, *read)));
     }
-    Ok(())
 }
 
 // A file of 1200 bytes takes four reads: 512, 512, 176 and none.
 #[test]
-fn a_read_that_fails_ends_the_reading(rt: HostRuntime) -> Result<(), Fail> {
-    end_with(&rt, rt.alloc(), &FAILING)
+fn a_read_that_fails_ends_the_reading(rt: HostRuntime) {
+    end_with(&rt, rt.alloc(), &FAILING);
 }
 
 // A file that gives at most two bytes a call.
@@ -106,40 +109,52 @@ const IN_PARTS: [(usize, &[u8], FileEnd); 3] = [
     (5, b"abcde", FileEnd::TooLong),
 ];
 
-fn are_read_in_parts(
-    rt: &impl Abort,
-    alloc: Global,
-    table: &[(usize, &[u8], FileEnd)],
-) -> Result<(), Fail> {
+// A file that comes in small parts is read so.
+fn is_read_in_parts(rt: &impl Abort, alloc: Global, limit: usize, want: &[u8], end: FileEnd) {
+    let text = Vec::from_slice(alloc, b"abcdefg").expect(rt, "no memory");
+    let mut file = Slow {
+        file: SureSource::new(text),
+    };
+    let mut read = Vec::with_capacity(alloc, limit).expect(rt, "no memory");
+    let found = read_whole(&mut file, limit, &mut read);
+    same(rt, (limit, found, read.as_slice()), (limit, end, want));
+}
+
+fn are_read_in_parts(rt: &impl Abort, alloc: Global, table: &[(usize, &[u8], FileEnd)]) {
     for (limit, want, end) in table {
-        let text = Vec::from_slice(alloc, b"abcdefg")?;
-        let mut file = Slow {
-            file: SureSource::new(text),
-        };
-        let mut read = Vec::with_capacity(alloc, *limit)?;
-        same(rt, read_whole(&mut file, *limit, &mut read), *end);
-        same(rt, read.as_slice(), want);
+        is_read_in_parts(rt, alloc, *limit, want, *end);
     }
-    Ok(())
 }
 
 #[test]
-fn a_file_that_comes_in_small_parts_is_read_whole(rt: HostRuntime) -> Result<(), Fail> {
-    are_read_in_parts(&rt, rt.alloc(), &IN_PARTS)
+fn a_file_that_comes_in_small_parts_is_read_whole(rt: HostRuntime) {
+    are_read_in_parts(&rt, rt.alloc(), &IN_PARTS);
 }
 
-#[test]
-fn pieces_come_in_order_and_the_end_stays(rt: HostRuntime) -> Result<(), Fail> {
-    let mut text = bytes(rt.alloc(), 512)?;
+fn pulls(rt: &impl Abort, reader: &mut FileReader, file: &mut SureSource, pulled: Pulled) {
+    same(rt, reader.pull(file), pulled);
+}
+
+fn has_piece(rt: &impl Abort, reader: &FileReader, piece: &[u8]) {
+    same(rt, reader.piece(), piece);
+}
+
+// A file of 512 bytes and two more.
+fn longer(alloc: Global) -> Result<SureSource, AllocError> {
+    let mut text = bytes(alloc, 512)?;
     text.extend_from_slice(b"yz")?;
-    let mut file = SureSource::new(text);
+    Ok(SureSource::new(text))
+}
+
+#[test]
+fn pieces_come_in_order_and_the_end_stays(rt: HostRuntime) {
+    let mut file = longer(rt.alloc()).expect(&rt, "no memory");
     let mut reader = FileReader::new(1000);
     assert!(rt; reader.piece().is_empty());
-    same(&rt, reader.pull(&mut file), Pulled::Piece);
-    same(&rt, reader.piece(), [b'x'; 512].as_slice());
-    same(&rt, reader.pull(&mut file), Pulled::Piece);
-    same(&rt, reader.piece(), b"yz".as_slice());
-    same(&rt, reader.pull(&mut file), Pulled::Ended(FileEnd::Whole));
-    same(&rt, reader.pull(&mut file), Pulled::Ended(FileEnd::Whole));
-    Ok(())
+    pulls(&rt, &mut reader, &mut file, Pulled::Piece);
+    has_piece(&rt, &reader, &[b'x'; 512]);
+    pulls(&rt, &mut reader, &mut file, Pulled::Piece);
+    has_piece(&rt, &reader, b"yz");
+    pulls(&rt, &mut reader, &mut file, Pulled::Ended(FileEnd::Whole));
+    pulls(&rt, &mut reader, &mut file, Pulled::Ended(FileEnd::Whole));
 }

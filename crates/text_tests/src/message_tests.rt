@@ -1,43 +1,61 @@
 //! The messages on standard error, row by row.
-use crate::shared::same;
-use feed_link::Refusal;
+use crate::shared::{same, same_for};
+use host_links::Refusal;
 use standard_error::{
     Detail, Place, Report, Watched, bad_line_text, no_minute_text, read_arguments, toml_line,
 };
 use std::alloc::Global;
 use std::io::Write;
 use std::process::Abort;
-use std::test::Fail;
+
+fn text_of(rt: &impl Abort, alloc: Global, text: &str) -> String {
+    String::from_str(alloc, text).expect(rt, "no memory")
+}
+
+// The words of a text.
+fn words_of(rt: &impl Abort, alloc: Global, text: &str) -> Vec<String> {
+    let mut all = Vec::new(alloc);
+    for word in text.split_whitespace() {
+        all.push(text_of(rt, alloc, word)).expect(rt, "no memory");
+    }
+    all
+}
+
+fn written(rt: &impl Abort, alloc: Global, report: &Report<'_>) -> String {
+    format!(in alloc; "{report}").expect(rt, "no memory")
+}
 
 // The message about a run with these arguments.
 fn said(
+    rt: &impl Abort,
     alloc: Global,
     words: &str,
     last_line: &str,
     refusal: Refusal,
     detail: Detail,
-) -> Result<String, Fail> {
-    let mut all = Vec::new(alloc);
-    for word in words.split_whitespace() {
-        all.push(String::from_str(alloc, word)?)?;
-    }
-    let arguments = read_arguments(alloc, all.as_slice())?;
+) -> String {
+    let all = words_of(rt, alloc, words);
+    let arguments = read_arguments(alloc, all.as_slice()).expect(rt, "no memory");
     let report = Report {
         arguments: Some(arguments),
-        last_line: String::from_str(alloc, last_line)?,
+        last_line: text_of(rt, alloc, last_line),
         refusal: Some(refusal),
         detail,
     };
-    Ok(format!(in alloc; "{report}")?)
+    written(rt, alloc, &report)
+}
+
+// What a row leads to has a text in it.
+fn has_text(rt: &impl Abort, row: &str, found: &str, text: &str) {
+    assert!(*rt; found.contains(text), "{row}: {found}");
 }
 
 // Looks at a row of arguments, a last line, and a text of the message, with `|` between them.
-fn look(rt: &impl Abort, alloc: Global, row: &str) -> Result<(), Fail> {
+fn look(rt: &impl Abort, alloc: Global, row: &str) {
     let (words, rest) = row.split_once('|').unwrap_or(("", row));
     let (line, text) = rest.split_once('|').unwrap_or(("", ""));
-    let text_said = said(alloc, words, line, Refusal::NotThere, Detail::Nothing)?;
-    assert!(*rt; text_said.as_str().contains(text), "{row}: {text_said}");
-    Ok(())
+    let found = said(rt, alloc, words, line, Refusal::NotThere, Detail::Nothing);
+    has_text(rt, row, found.as_str(), text);
 }
 
 const ARGUMENTS: &str = "serve --staton a|status 1 usage|unknown option --staton
@@ -57,16 +75,15 @@ serve -- --station a|status 1 usage|two commands, serve and --station
 --version|status 1 usage|radio_ntpd 0.3.0";
 
 // Looks at each row.
-fn look_at_all(rt: &impl Abort, alloc: Global, rows: &str) -> Result<(), Fail> {
+fn look_at_all(rt: &impl Abort, alloc: Global, rows: &str) {
     for row in rows.split('\n') {
-        look(rt, alloc, row)?;
+        look(rt, alloc, row);
     }
-    Ok(())
 }
 
 #[test]
-fn arguments_that_ask_for_nothing_are_told(rt: HostRuntime) -> Result<(), Fail> {
-    look_at_all(&rt, rt.alloc(), ARGUMENTS)
+fn arguments_that_ask_for_nothing_are_told(rt: HostRuntime) {
+    look_at_all(&rt, rt.alloc(), ARGUMENTS);
 }
 
 const STATUSES: &str =
@@ -95,21 +112,21 @@ migrate --journal d|status 10 long journal|the journal (d) has more than 2^30 by
 decode --log a.log|status 10 long feed 0|feed 0 (a.log) has more than 2^30 bytes";
 
 #[test]
-fn a_file_that_is_too_long_has_its_limit(rt: HostRuntime) -> Result<(), Fail> {
-    look_at_all(&rt, rt.alloc(), LIMITS)
+fn a_file_that_is_too_long_has_its_limit(rt: HostRuntime) {
+    look_at_all(&rt, rt.alloc(), LIMITS);
 }
 
 #[test]
-fn each_status_has_its_sentence(rt: HostRuntime) -> Result<(), Fail> {
-    look_at_all(&rt, rt.alloc(), STATUSES)
+fn each_status_has_its_sentence(rt: HostRuntime) {
+    look_at_all(&rt, rt.alloc(), STATUSES);
 }
 
 // A place of a station.
-fn place(alloc: Global, name: &str, is_leap_file: bool) -> Result<Detail, Fail> {
-    Ok(Detail::Place(Place {
-        name: String::from_str(alloc, name)?,
+fn place(rt: &impl Abort, alloc: Global, name: &str, is_leap_file: bool) -> Detail {
+    Detail::Place(Place {
+        name: text_of(rt, alloc, name),
         is_leap_file,
-    }))
+    })
 }
 
 // The message about a run of this command, by its last line, is this text.
@@ -121,52 +138,53 @@ fn says(
     refusal: Refusal,
     detail: Detail,
     text: &str,
-) -> Result<(), Fail> {
-    let text_said = said(alloc, word, last_line, refusal, detail)?;
-    same(rt, text_said.as_str(), text);
-    Ok(())
+) {
+    let found = said(rt, alloc, word, last_line, refusal, detail);
+    same(rt, found.as_str(), text);
+}
+
+// A message begins so.
+fn begins(rt: &impl Abort, found: &str, text: &str) {
+    assert!(*rt; found.starts_with(text), "{found}");
 }
 
 #[test]
-fn what_the_files_say_is_named(rt: HostRuntime) -> Result<(), Fail> {
+fn what_the_files_say_is_named(rt: HostRuntime) {
     let alloc = rt.alloc();
-    let link = place(alloc, "port 123", false)?;
+    let link = place(&rt, alloc, "port 123", false);
     let text = "radio_ntpd: cannot open link 0 (port 123): a port below 1024 needs a right\n";
     let last = "status 2 open link 0";
-    says(&rt, alloc, "serve", last, Refusal::NoRight, link, text)?;
-    let list = place(alloc, "list", true)?;
+    says(&rt, alloc, "serve", last, Refusal::NoRight, link, text);
+    let list = place(&rt, alloc, "list", true);
     let text = "radio_ntpd: feed 3 (list) has more than 65536 bytes\n";
     let last = "status 10 long feed 3";
-    says(&rt, alloc, "serve", last, Refusal::Other, list, text)?;
+    says(&rt, alloc, "serve", last, Refusal::Other, list, text);
     let hint = Detail::Hint("it is odd");
     let text = "radio_ntpd: the log gave no minute: it is odd\n";
-    says(&rt, alloc, "decode", "status 0", Refusal::Other, hint, text)?;
+    says(&rt, alloc, "decode", "status 0", Refusal::Other, hint, text);
     let none = Detail::Nothing;
-    says(&rt, alloc, "drill", "status 0", Refusal::Other, none, "")?;
+    says(&rt, alloc, "drill", "status 0", Refusal::Other, none, "");
     let line = Detail::TomlLine(12);
     let last = "status 3 station toml";
-    let text = said(alloc, "serve", last, Refusal::Other, line)?;
-    assert!(rt;
-        text.as_str()
-            .starts_with("radio_ntpd: the station file: line 12 is not TOML, ")
-    );
-    Ok(())
+    let found = said(&rt, alloc, "serve", last, Refusal::Other, line);
+    let text = "radio_ntpd: the station file: line 12 is not TOML, ";
+    begins(&rt, found.as_str(), text);
 }
 
 #[test]
-fn arguments_that_are_no_text_are_told(rt: HostRuntime) -> Result<(), Fail> {
+fn arguments_that_are_no_text_are_told(rt: HostRuntime) {
     let report = Report {
         arguments: None,
-        last_line: String::from_str(rt.alloc(), "status 1 usage")?,
+        last_line: text_of(&rt, rt.alloc(), "status 1 usage"),
         refusal: None,
         detail: Detail::Nothing,
     };
-    let text = format!(in rt.alloc(); "{report}")?;
-    assert!(rt;
-        text.as_str()
-            .starts_with("radio_ntpd: an argument is not UTF-8\n")
+    let found = written(&rt, rt.alloc(), &report);
+    begins(
+        &rt,
+        found.as_str(),
+        "radio_ntpd: an argument is not UTF-8\n",
     );
-    Ok(())
 }
 
 // Texts that are not TOML, each with its line as counted by hand: the first; the last one, without a line feed; after carriage
@@ -188,16 +206,14 @@ const NO_TOML: [(&[u8], usize); 8] = [
 // Looks at each row of texts and lines.
 fn have_lines(rt: &impl Abort, alloc: Global, rows: &[(&[u8], usize)]) {
     for (text, line) in rows {
-        let found = toml_line(alloc, text).unwrap_or(0);
-        assert!(*rt; found == *line, "line {found}, not {line}");
+        same(rt, toml_line(alloc, text), Some(*line));
     }
 }
 
 #[test]
-fn a_text_that_is_not_toml_has_a_line(rt: HostRuntime) -> Result<(), Fail> {
+fn a_text_that_is_not_toml_has_a_line(rt: HostRuntime) {
     have_lines(&rt, rt.alloc(), &NO_TOML);
     same(&rt, toml_line(rt.alloc(), b"bound = 1\n"), None);
-    Ok(())
 }
 
 // Logs: the plan that was asked for, how many marks, the width of each minute's first mark, and of those after it in turn, and the
@@ -241,83 +257,96 @@ fn width(row: &str, mark: u64) -> u64 {
 }
 
 // The log of a row.
-fn log_of(alloc: Global, row: &str) -> Result<String, Fail> {
+fn log_of(rt: &impl Abort, alloc: Global, row: &str) -> String {
     let mut log = String::new(alloc);
     for mark in 0..number(row, 1) {
         let width = width(row, mark).saturating_mul(number(row, 4));
-        let line = format!(in alloc; "{mark} {width}\n")?;
-        log.push_str(line.as_str())?;
+        let line = format!(in alloc; "{mark} {width}\n").expect(rt, "no memory");
+        log.push_str(line.as_str()).expect(rt, "no memory");
     }
-    Ok(log)
+    log
+}
+
+// Looks at a row of a log and a text of its hint, with `|` between them.
+fn look_at_log(rt: &impl Abort, alloc: Global, row: &str) {
+    let (shape, text) = row.split_once('|').unwrap_or((row, "?"));
+    let plan = shape.split_whitespace().next().unwrap_or("");
+    let log = log_of(rt, alloc, shape);
+    let hint = no_minute_text(alloc, plan, log.as_str().as_bytes());
+    has_text(rt, row, hint, text);
+}
+
+fn look_at_logs(rt: &impl Abort, alloc: Global, rows: &str) {
+    for row in rows.split('\n') {
+        look_at_log(rt, alloc, row);
+    }
 }
 
 #[test]
-fn a_log_without_minute_has_a_hint(rt: HostRuntime) -> Result<(), Fail> {
-    for row in LOGS.split('\n') {
-        let (shape, text) = row.split_once('|').unwrap_or((row, "?"));
-        let plan = shape.split_whitespace().next().unwrap_or("");
-        let log = log_of(rt.alloc(), shape)?;
-        let hint = no_minute_text(rt.alloc(), plan, log.as_str().as_bytes());
-        assert!(rt; hint.contains(text), "{row}: {hint}");
-    }
-    Ok(())
+fn a_log_without_minute_has_a_hint(rt: HostRuntime) {
+    look_at_logs(&rt, rt.alloc(), LOGS);
 }
 
-// Whether a log of these widths looks as if it were in nanoseconds.
-fn is_in_nanoseconds(alloc: Global, shape: &str) -> Result<bool, Fail> {
-    let log = log_of(alloc, shape)?;
-    Ok(bad_line_text(alloc, log.as_str().as_bytes()).is_some())
+// A log of these widths looks as if it were in nanoseconds, or does not.
+fn is_in_nanoseconds(rt: &impl Abort, alloc: Global, shape: &str, wanted: bool) {
+    let log = log_of(rt, alloc, shape);
+    let found = bad_line_text(alloc, log.as_str().as_bytes()).is_some();
+    same_for(rt, &shape, found, wanted);
 }
 
 #[test]
-fn a_bad_line_may_be_in_nanoseconds(rt: HostRuntime) -> Result<(), Fail> {
+fn a_bad_line_may_be_in_nanoseconds(rt: HostRuntime) {
     let alloc = rt.alloc();
-    assert!(rt; is_in_nanoseconds(alloc, "dcf 120 100 100,200 1000000")?);
-    assert!(rt; is_in_nanoseconds(alloc, "dcf 1 10000001 1 1")?);
-    assert!(rt; !is_in_nanoseconds(alloc, "dcf 1 10000000 1 1")?);
-    assert!(rt; !is_in_nanoseconds(alloc, "wwvb 120 800 200,500 1000")?);
-    Ok(())
+    is_in_nanoseconds(&rt, alloc, "dcf 120 100 100,200 1000000", true);
+    is_in_nanoseconds(&rt, alloc, "dcf 1 10000001 1 1", true);
+    is_in_nanoseconds(&rt, alloc, "dcf 1 10000000 1 1", false);
+    is_in_nanoseconds(&rt, alloc, "wwvb 120 800 200,500 1000", false);
 }
 
-// A writer that takes three bytes a call.
+// A writer that takes so many bytes a call at the most.
 #[derive(Drop)]
-struct Narrow;
+struct Taking {
+    most: usize,
+}
 
-impl Write for Narrow {
+impl Write for Taking {
     fn write(&mut self, piece: &[u8]) -> std::io::Result<usize> {
-        Ok(piece.len().min(3))
+        Ok(piece.len().min(self.most))
     }
 
     fn flush(&mut self) -> std::io::Result<()> {
         Ok(())
     }
+}
+
+fn watched(most: usize) -> Watched<Taking> {
+    Watched::new(Taking { most })
+}
+
+// A write takes so many bytes, and the last whole line is this then.
+fn writes(
+    rt: &impl Abort,
+    watched: &mut Watched<Taking>,
+    piece: &[u8],
+    count: usize,
+    last_line: &str,
+) {
+    let taken = watched.write(piece).ok();
+    same(rt, (taken, watched.last_line()), (Some(count), last_line));
+}
+
+// All of a piece is written.
+fn is_written(rt: &impl Abort, watched: &mut Watched<Taking>, piece: &[u8]) {
+    same(rt, watched.write(piece).ok(), Some(piece.len()));
 }
 
 #[test]
-fn the_last_whole_line_is_kept(rt: HostRuntime) -> Result<(), Fail> {
-    let mut watched = Watched::new(Narrow);
+fn the_last_whole_line_is_kept(rt: HostRuntime) {
+    let mut watched = watched(3);
     same(&rt, watched.last_line(), "");
-    same(&rt, watched.write(b"ab")?, 2);
-    same(&rt, watched.last_line(), "");
-    same(&rt, watched.write(b"\nabc\n")?, 3);
-    same(&rt, watched.last_line(), "");
-    same(&rt, watched.write(b"c\n")?, 2);
-    same(&rt, watched.last_line(), "abc");
-    Ok(())
-}
-
-// A writer that takes all of a piece.
-#[derive(Drop)]
-struct Wide;
-
-impl Write for Wide {
-    fn write(&mut self, piece: &[u8]) -> std::io::Result<usize> {
-        Ok(piece.len())
-    }
-
-    fn flush(&mut self) -> std::io::Result<()> {
-        Ok(())
-    }
+    writes(&rt, &mut watched, b"ab", 2, "");
+    writes(&rt, &mut watched, b"\nabc\n", 3, "");
+    writes(&rt, &mut watched, b"c\n", 2, "abc");
 }
 
 // Lines of an output, and whether one of them is a minute.
@@ -333,28 +362,41 @@ const OUTPUTS: [(&str, bool); 6] = [
     ("", false),
 ];
 
-#[test]
-fn a_minute_that_was_written_is_remembered(rt: HostRuntime) -> Result<(), Fail> {
-    for (line, is_minute) in OUTPUTS {
-        let mut watched = Watched::new(Wide);
-        watched.write(b"0 7000000 refused 0\n")?;
-        watched.write(line.as_bytes())?;
-        watched.write(b"status 0\n")?;
-        assert!(rt; watched.has_minute() == is_minute, "{line}");
-        same(&rt, watched.last_line(), "status 0");
+// After these bytes between two other lines, a minute is remembered or not.
+fn is_remembered(rt: &impl Abort, line: &str, is_minute: bool) {
+    let mut watched = watched(100);
+    is_written(rt, &mut watched, b"0 7000000 refused 0\n");
+    is_written(rt, &mut watched, line.as_bytes());
+    is_written(rt, &mut watched, b"status 0\n");
+    let found = (watched.has_minute(), watched.last_line());
+    same_for(rt, &line, found, (is_minute, "status 0"));
+}
+
+fn are_remembered(rt: &impl Abort, outputs: &[(&str, bool)]) {
+    for (line, is_minute) in outputs {
+        is_remembered(rt, line, *is_minute);
     }
-    Ok(())
 }
 
 #[test]
-fn of_a_long_line_512_bytes_are_kept(rt: HostRuntime) -> Result<(), Fail> {
-    for length in [511, 512, 513, 600] {
-        let mut watched = Watched::new(Wide);
-        for _ in 0..length {
-            watched.write(b"k")?;
-        }
-        watched.write(b"\n")?;
-        same(&rt, watched.last_line().len(), length.min(512));
+fn a_minute_that_was_written_is_remembered(rt: HostRuntime) {
+    are_remembered(&rt, &OUTPUTS);
+}
+
+// Of a line of this length, written byte by byte, this many bytes are kept.
+fn is_kept(rt: &impl Abort, length: usize, kept: usize) {
+    let mut watched = watched(100);
+    for _ in 0..length {
+        is_written(rt, &mut watched, b"k");
     }
-    Ok(())
+    is_written(rt, &mut watched, b"\n");
+    same(rt, (length, watched.last_line().len()), (length, kept));
+}
+
+#[test]
+fn of_a_long_line_512_bytes_are_kept(rt: HostRuntime) {
+    is_kept(&rt, 511, 511);
+    is_kept(&rt, 512, 512);
+    is_kept(&rt, 513, 512);
+    is_kept(&rt, 600, 512);
 }

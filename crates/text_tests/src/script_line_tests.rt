@@ -3,7 +3,6 @@ use crate::shared::{same, same_for};
 use script_line::{Datagram, ScriptLine, read_line};
 use std::alloc::{AllocError, Global};
 use std::process::Abort;
-use std::test::Fail;
 
 // A line, its word, and its numbers in their order.
 type Row<'a> = (&'a str, &'a str, (&'a str, [u64; 3]));
@@ -51,35 +50,39 @@ fn lines_without_a_datagram(rt: HostRuntime) {
     have_numbers(&rt, &LINES);
 }
 
-#[test]
-fn an_answer(rt: HostRuntime) -> Result<(), Fail> {
-    let line = read_line(b"answer 2 1010000 24010afe").ok_or("no line")?;
-    let ScriptLine::Answer { feed, at, datagram } = &line else {
-        return Err("no answer".into());
+// A line is an answer with this feed, this moment and these bytes.
+fn is_answer(rt: &impl Abort, text: &[u8], numbers: [u64; 2], bytes: &[u8]) {
+    let line = read_line(text);
+    let Some(ScriptLine::Answer { feed, at, datagram }) = &line else {
+        panic!(*rt; "no answer");
     };
-    same(&rt, *feed, 2);
-    same(&rt, at.get(), 1_010_000);
-    says(&rt, datagram, &[0x24, 0x01, 0x0a, 0xfe]);
-    Ok(())
+    same(rt, [u64::from(*feed), at.get()], numbers);
+    says(rt, datagram, bytes);
 }
 
 #[test]
-fn a_request(rt: HostRuntime) -> Result<(), Fail> {
-    let line = read_line(b"request 7 5 9 e3").ok_or("no line")?;
-    let ScriptLine::Request {
-        connection,
-        arrived,
-        sent,
-        datagram,
-    } = &line
+fn an_answer(rt: HostRuntime) {
+    let bytes = [0x24, 0x01, 0x0a, 0xfe];
+    is_answer(&rt, b"answer 2 1010000 24010afe", [2, 1_010_000], &bytes);
+}
+
+#[test]
+fn a_request(rt: HostRuntime) {
+    let line = read_line(b"request 7 5 9 e3");
+    let Some(
+        ScriptLine::Request {
+            connection,
+            arrived,
+            sent,
+            datagram,
+        },
+    ) = &line
     else {
-        return Err("no request".into());
+        panic!(rt; "no request");
     };
-    same(&rt, *connection, 7);
-    same(&rt, arrived.get(), 5);
-    same(&rt, sent.get(), 9);
+    let moments = [arrived.get(), sent.get()];
+    same(&rt, (u64::from(*connection), moments), (7, [5, 9]));
     says(&rt, datagram, &[0xe3]);
-    Ok(())
 }
 
 // A datagram has these bytes, and what lies after them in the room stays.
@@ -275,13 +278,9 @@ fn answer(alloc: Global, digits: usize) -> Result<Vec<u8>, AllocError> {
 }
 
 #[test]
-fn datagrams_have_up_to_1024_bytes(rt: HostRuntime) -> Result<(), Fail> {
-    let text = answer(rt.alloc(), 2048)?;
-    let Some(ScriptLine::Answer { datagram, .. }) = read_line(text.as_slice()) else {
-        return Err("no answer".into());
-    };
-    says(&rt, &datagram, &[0x77; 1024]);
-    let longer = answer(rt.alloc(), 2050)?;
+fn datagrams_have_up_to_1024_bytes(rt: HostRuntime) {
+    let text = answer(rt.alloc(), 2048).expect(&rt, "no memory");
+    is_answer(&rt, text.as_slice(), [0, 0], &[0x77; 1024]);
+    let longer = answer(rt.alloc(), 2050).expect(&rt, "no memory");
     assert!(rt; read_line(longer.as_slice()).is_none());
-    Ok(())
 }

@@ -2,8 +2,9 @@
 //! reference ID `INIT`. A kiss code stands there in its letters (RFC 5905, section 7.4).
 use crate::serving::{CLIENT, NONE, bytes_of, gate_of, link_of, serve};
 use crate::shared::{alone, moment, same};
-use feed_link::{Address, LinkEvent, MemoryLink, Planned};
+use feed_link::Address;
 use kiss_gate::{ClientGate, DenyList};
+use memory_links::{LinkEvent, MemoryLink, Planned};
 use packet_auth::KeyRing;
 use responder::Served;
 use std::alloc::Global;
@@ -34,29 +35,50 @@ fn hearings_of(alloc: Global, datagrams: &[Come]) -> Vec<Planned> {
 // A reply: its receiver, and its reference ID.
 type Reply = (Address, &'static str);
 
-// Whether these replies were sent on a link, in order; each has its receiver and its reference ID. Each has 48 bytes and says
+// Whether a datagram that was sent is the reply of this place: it has its receiver and its reference ID. Each has 48 bytes and says
 // that the server is not synchronised.
+fn is_reply(to: Address, bytes: &[u8], replies: &[Reply], place: usize) -> bool {
+    match replies.get(place) {
+        Some((client, id)) => {
+            to == *client
+                && bytes.len() == 48
+                && bytes[0] == 0xe4
+                && &bytes[12..16] == id.as_bytes()
+        }
+        None => false,
+    }
+}
+
+// Whether these replies were sent on a link, in order, and nothing else.
 fn has_sent(link: &MemoryLink, replies: &[Reply]) -> bool {
     let mut count = 0usize;
+    let mut right = true;
     for place in 0..link.count() {
         if let Some(LinkEvent::Sent { to, bytes }) = link.event(place) {
-            let Some((client, id)) = replies.get(count) else {
-                return false;
-            };
-            if to != *client
-                || bytes.len() != 48
-                || bytes[0] != 0xe4
-                || &bytes[12..16] != id.as_bytes()
-            {
-                return false;
-            }
+            right = right && is_reply(to, bytes, replies, count);
             count = count.saturating_add(1);
         }
     }
-    count == replies.len()
+    right && count == replies.len()
 }
 
-// A responder with this gate does this with datagrams that come one after another, and sends these replies. Its gate after them.
+// A responder with this gate does this on a link for this many hearings, and sends these replies. Its gate after them.
+fn serve_link<R: Abort + Wait>(
+    rt: &R,
+    alloc: Global,
+    gate: ClientGate,
+    link: MemoryLink,
+    hearings: u64,
+    replies: &[Reply],
+    want: Served,
+) -> ClientGate {
+    let (served, link, gate) = serve(rt, alloc, link, KeyRing::new(), gate, hearings);
+    same(rt, has_sent(&link, replies), true);
+    same(rt, served, want);
+    gate
+}
+
+// The same with datagrams that come one after another.
 fn serve_all<R: Abort + Wait>(
     rt: &R,
     alloc: Global,
@@ -67,10 +89,7 @@ fn serve_all<R: Abort + Wait>(
 ) -> ClientGate {
     let link = link_of(rt, alloc, hearings_of(alloc, datagrams), 0, 40);
     let count = datagrams.len() as u64;
-    let (served, link, gate) = serve(rt, alloc, link, KeyRing::new(), gate, count);
-    same(rt, has_sent(&link, replies), true);
-    same(rt, served, want);
-    gate
+    serve_link(rt, alloc, gate, link, count, replies, want)
 }
 
 // The same, where the gate has this gap and denies nobody.
@@ -83,6 +102,15 @@ fn serves_all<R: Abort + Wait>(
 ) {
     let gate = gate_of(rt, alloc, &DenyList::new(), 1000);
     let _gate = serve_all(rt, alloc, gate, datagrams, replies, want);
+}
+
+// So many requests are answered, and so many get a kiss code.
+fn of_these(answered: u64, kissed: u64) -> Served {
+    Served {
+        answered,
+        kissed,
+        ..NONE
+    }
 }
 
 const WITHIN_THE_GAP: [Come; 4] = [
@@ -101,17 +129,16 @@ const ONE_RATE: [Reply; 4] = [
 
 #[test]
 fn a_client_that_asks_within_the_gap_gets_rate(rt: HostRuntime) {
-    let want = Served {
-        answered: 3,
-        kissed: 1,
-        ..NONE
-    };
-    serves_all(&rt, rt.alloc(), &WITHIN_THE_GAP, &ONE_RATE, want);
+    serves_all(&rt, rt.alloc(), &WITHIN_THE_GAP, &ONE_RATE, of_these(3, 1));
 }
+
+const TWO_WITHIN_THE_GAP: [Come; 2] = [(CLIENT, 100, 0x23, 48), (CLIENT, 1099, 0x23, 48)];
+
+const INIT_AND_RATE: [Reply; 2] = [(CLIENT, "INIT"), (CLIENT, "RATE")];
 
 // A link on which the client asks twice. Its clock is at 600 us at the first answer, and at 5 ms at the second.
 fn asked_twice(rt: &impl Abort, alloc: Global) -> MemoryLink {
-    let hearings = hearings_of(alloc, &[(CLIENT, 100, 0x23, 48), (CLIENT, 1099, 0x23, 48)]);
+    let hearings = hearings_of(alloc, &TWO_WITHIN_THE_GAP);
     let mut moments = alone(alloc, moment(600));
     let _ = moments.push(moment(5000));
     let link = MemoryLink::new(alloc, hearings, moments, Vec::new(alloc), 40, 4000);
@@ -121,10 +148,7 @@ fn asked_twice(rt: &impl Abort, alloc: Global) -> MemoryLink {
 fn is_judged_by_arrival<R: Abort + Wait>(rt: &R, alloc: Global) {
     let gate = gate_of(rt, alloc, &DenyList::new(), 1000);
     let link = asked_twice(rt, alloc);
-    let (served, link, _) = serve(rt, alloc, link, KeyRing::new(), gate, 2);
-    same(rt, (served.answered, served.kissed), (1, 1));
-    let replies = [(CLIENT, "INIT"), (CLIENT, "RATE")];
-    same(rt, has_sent(&link, &replies), true);
+    let _gate = serve_link(rt, alloc, gate, link, 2, &INIT_AND_RATE, of_these(1, 1));
 }
 
 // The second request comes 999 us after the first, and is answered 4.4 ms after it.
@@ -172,33 +196,26 @@ const ONE_DROPPED: [Come; 3] = [
 // So it does not keep its sender's next request away.
 #[test]
 fn a_dropped_datagram_is_not_judged(rt: HostRuntime) {
-    let replies = [(CLIENT, "INIT"), (CLIENT, "RATE")];
     let want = Served {
-        answered: 1,
         dropped: 1,
-        kissed: 1,
-        ..NONE
+        ..of_these(1, 1)
     };
-    serves_all(&rt, rt.alloc(), &ONE_DROPPED, &replies, want);
+    serves_all(&rt, rt.alloc(), &ONE_DROPPED, &INIT_AND_RATE, want);
 }
 
-// So many requests are answered, and so many get a kiss code.
-fn of_these(answered: u64, kissed: u64) -> Served {
-    Served {
-        answered,
-        kissed,
-        ..NONE
-    }
-}
+const FIRST: [Come; 1] = [(CLIENT, 100, 0x23, 48)];
+
+const NEXT: [Come; 2] = [(CLIENT, 500, 0x23, 48), (OTHER, 501, 0x23, 48)];
+
+const ONE_INIT: [Reply; 1] = [(CLIENT, "INIT")];
+
+const RATE_AND_INIT: [Reply; 2] = [(CLIENT, "RATE"), (OTHER, "INIT")];
 
 // One responder lets a client pass; then the client asks the next one, which has the same gate.
 #[test]
 fn the_table_is_handed_on(rt: HostRuntime) {
     let alloc = rt.alloc();
     let gate = gate_of(&rt, alloc, &DenyList::new(), 1000);
-    let (come, replies) = ([(CLIENT, 100, 0x23, 48)], [(CLIENT, "INIT")]);
-    let gate = serve_all(&rt, alloc, gate, &come, &replies, of_these(1, 0));
-    let come = [(CLIENT, 500, 0x23, 48), (OTHER, 501, 0x23, 48)];
-    let replies = [(CLIENT, "RATE"), (OTHER, "INIT")];
-    let _gate = serve_all(&rt, alloc, gate, &come, &replies, of_these(1, 1));
+    let gate = serve_all(&rt, alloc, gate, &FIRST, &ONE_INIT, of_these(1, 0));
+    let _gate = serve_all(&rt, alloc, gate, &NEXT, &RATE_AND_INIT, of_these(1, 1));
 }

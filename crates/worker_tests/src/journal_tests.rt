@@ -1,38 +1,56 @@
 //! Appends from one thread, up to a full journal, and what a journal says of each entry.
 ghost use Rattle.std.specs.Prelude.{◌≡◌, ◌<◌, ◌≤◌, ◌^◌, [], All, length};
-ghost use Rattle.page_cell.specs.Passes.{key_of};
+ghost use Rattle.feed_workers.specs.Keeping.{IsOfFeed};
+ghost use Rattle.page_cell.specs.Passes.{claim_of, key_of};
 ghost use Rattle.system_fold.specs.Settings.{AreLawful};
 
 use crate::minutes::{append_all, of_radios, offer};
-use crate::shared::same;
+use crate::shared::{Work, pop_feed, put_back, run_alone, same};
 use page_cell::{CellParts, FeedPass, PageCell};
 use std::alloc::Global;
 use std::marker::Brand;
 use std::process::Abort;
 use std::sync::Wait;
-use std::test::*;
-use system_fold::Settings;
+use system_fold::{Settings, SourceKind};
+use tick_units::Plan;
 use verdict_journal::{Full, Hub, HubName, HubParts, Journal};
 
 // The answer to an append, and how many entries its pass has seen then, as a receipt of it says.
 type Answer = (Option<Result<u64, Full>>, u64);
 
 // Appends the minute of this number to the journal.
-fn offered<N: HubName, R: Wait>(
-    rt: &R,
-    hub: &Hub<N>,
-    pass: &mut FeedPass,
-    feeds: u32,
-    number: u64,
-) -> Answer
-    requires pass { pass.old.table ≡ N.table }
-    requires feeds { feeds ≡ length N.settings.sources }
+fn offered<N: HubName, R: Wait>(rt: &R, hub: &Hub<N>, pass: &mut FeedPass, number: u64) -> Answer
+    requires pass { IsOfFeed N.table (length N.settings.sources) (claim_of pass.old.view).number pass.old }
     requires number { number < 2 ^ 20 }
-    ensures { pass.new.table ≡ pass.old.table }
+    ensures { IsOfFeed N.table (length N.settings.sources) (claim_of pass.new.view).number pass.new }
 {
-    let answer = offer(rt, hub, pass, feeds, number);
+    let answer = offer(rt, hub, pass, number);
     let seen = hub.cell().receipt(pass).length();
     (answer, seen)
+}
+
+// Two feeds in turn append two minutes each: the answers to each.
+fn append_in_turn<N: HubName, R: Wait>(
+    rt: &R,
+    alloc: Global,
+    hub: &Hub<N>,
+    feeds: &mut Vec<FeedPass>,
+    sources: u32,
+) -> Option<Vec<Answer>>
+    requires feeds { All (λ f. f.table ≡ N.table) feeds.old.items }
+    requires sources { sources ≡ length N.settings.sources }
+    ensures { All (λ f. f.table ≡ N.table) feeds.new.items }
+{
+    let mut second = pop_feed::<N>(feeds, sources)?;
+    let mut first = pop_feed::<N>(feeds, sources)?;
+    let mut answers = Vec::new(alloc);
+    for number in 0..2u64 {
+        let _ = answers.push(offered(rt, hub, &mut first, number));
+        let _ = answers.push(offered(rt, hub, &mut second, number));
+    }
+    put_back::<N>(feeds, Some(first));
+    put_back::<N>(feeds, Some(second));
+    Some(answers)
 }
 
 // Two feeds in turn append to a journal of this many entries: the answers to each, and the journal.
@@ -60,22 +78,9 @@ fn in_turn<N: HubName, R: Wait>(
     else {
         return None;
     };
-    let mut second = feeds.pop()?;
-    let mut first = feeds.pop()?;
-    let count = settings.count();
-    let mut answers = Vec::new(alloc);
-    for number in 0..2u64 {
-        answers
-            .push(offered(rt, &hub, &mut first, count, number))
-            .ok()?;
-        answers
-            .push(offered(rt, &hub, &mut second, count, number))
-            .ok()?;
-    }
-    let mut passes = Vec::new(alloc);
-    passes.push(first).ok()?;
-    passes.push(second).ok()?;
-    Some((answers, hub.close(passes, Vec::new(alloc))))
+    let answers = append_in_turn(rt, alloc, &hub, &mut feeds, settings.count());
+    let journal = hub.close(feeds, Vec::new(alloc));
+    Some((answers?, journal))
 }
 
 // The answers to the first four of these appends.
@@ -126,36 +131,17 @@ fn a_journal_is_full_at_its_limit(rt: HostRuntime) {
     four_appends(&rt, rt.alloc(), 4, want);
 }
 
-// One radio appends six minutes to a journal of this many entries: how many were taken, and the journal.
-fn six_minutes<N: HubName, R: Wait>(
-    rt: &R,
-    alloc: Global,
-    parts: CellParts,
-    settings: &Settings,
-    limit: u32,
-) -> Option<(u64, Journal)>
-    requires cell { (parts.cell.table ≡ N.table) × (parts.baton.table ≡ N.table) }
-    requires settings { (key_of parts.baton.view ≡ settings.now) × (settings.now ≡ N.settings) }
-    requires lawful { AreLawful settings.now }
-    requires fresh { parts.baton.view.list ≡ [] }
-    requires limit { (limit ≡ N.limit) × (0 < limit) × (limit ≤ 4194304) }
-    requires feeds { All (λ f. f.table ≡ N.table) parts.feeds.items }
-{
-    let Ok(
-        HubParts {
-            hub,
-            mut feeds,
-            readers: _,
-        },
-    ) = Hub::<N>::open(alloc, parts, settings, limit)
-    else {
-        return None;
-    };
-    let pass = feeds.pop()?;
-    let (pass, taken) = append_all(rt, &hub, pass, settings.count(), 6);
-    let mut passes = Vec::new(alloc);
-    passes.push(pass).ok()?;
-    Some((taken, hub.close(passes, Vec::new(alloc))))
+// A radio appends six minutes: how many are taken.
+#[derive(Drop)]
+struct SixMinutes;
+
+impl Work for SixMinutes {
+    type Done = u64;
+
+    fn run<N: HubName, R: Wait>(self, rt: &R, hub: &Hub<N>, pass: FeedPass) -> (u64, FeedPass) {
+        let (pass, taken) = append_all(rt, hub, pass, 6);
+        (taken, pass)
+    }
 }
 
 // The number of a line of a journal, and the rate of the page after it.
@@ -186,18 +172,11 @@ fn have_numbers(rt: &impl Abort, journal: &Journal, lines: &[Option<(u64, i32)>]
 // s, in 180.000757 s. To the fifth it gains 676 us, 2903397 units, in 240.000676 s. These are 18062.6 and 12097.5 units a second,
 // and a rate is rounded down. The sixth minute finds the journal full.
 #[test]
-fn a_line_has_its_number_and_the_rate_after_it(rt: HostRuntime) -> Result<(), Fail> {
-    let settings = of_radios(1);
-    let Ok(parts) = PageCell::open(rt.alloc(), &settings, 0) else {
-        return Err("memory")?;
-    };
-    let Some((taken, journal)) = six_minutes::<Brand, _>(&rt, rt.alloc(), parts, &settings, 5)
-    else {
-        return Err("memory")?;
-    };
+fn a_line_has_its_number_and_the_rate_after_it(rt: HostRuntime) {
+    let kind = SourceKind::Radio(Plan::Dcf);
+    let (taken, journal) = run_alone(&rt, rt.alloc(), kind, 5, SixMinutes);
     same(&rt, taken, 5);
     have_numbers(&rt, &journal, &NUMBERS);
     let page = journal.page();
     same(&rt, (page.length, page.sync, page.rate), (5, true, -12_098));
-    Ok(())
 }

@@ -2,9 +2,10 @@
 //! from then on.
 ghost use Rattle.std.specs.Prelude.{◌<◌, ◌≤◌};
 
-use crate::shared::{Work, alone, moment, run_alone, same};
-use feed_link::{MemorySource, OpenGate};
+use crate::shared::{Work, alone, has_lines, moment, run_alone, same};
+use feed_link::OpenGate;
 use feed_workers::{LeapWorker, LogEnd, LogWork};
+use memory_links::MemorySource;
 use page_cell::FeedPass;
 use std::alloc::Global;
 use std::process::Abort;
@@ -61,9 +62,9 @@ fn reads<R: Abort + Wait>(
 {
     let text = Vec::from_slice(alloc, text).expect(rt, "no memory");
     let log = MemorySource::new(text, alone(alloc, failing));
-    let ran = run_alone(rt, alloc, SourceKind::Leap, limit, Listed { log });
-    same(rt, ran.lines.as_str(), lines);
-    same(rt, ran.done, work);
+    let (done, journal) = run_alone(rt, alloc, SourceKind::Leap, limit, Listed { log });
+    has_lines(rt, alloc, &journal, lines);
+    same(rt, done, work);
 }
 
 #[test]

@@ -1,6 +1,8 @@
 //! The minutes that tests append to a journal, from one thread or beside a reader, and what is right of the journal then.
 ghost use Rattle.std.specs.Prelude.{◌≡◌, ◌<◌, ◌≤◌, ◌^◌, [], All, IfSome, length};
+ghost use Rattle.feed_workers.specs.Keeping.{IsOfFeed};
 ghost use Rattle.journal_entry.specs.Lawful.{IsLawfulWhat};
+ghost use Rattle.page_cell.specs.Passes.{claim_of};
 ghost use Rattle.system_fold.specs.Settings.{AreLawful};
 
 use crate::shared::settings_of;
@@ -43,24 +45,18 @@ pub fn minute(feed: u32, number: u64) -> Option<Entry>
     })
 }
 
-/// Appends the minute of this number to the journal, where the pass is one of this many feeds.
+/// Appends the minute of this number to the journal.
 pub fn offer<N: HubName, R: Wait>(
     rt: &R,
     hub: &Hub<N>,
     pass: &mut FeedPass,
-    feeds: u32,
     number: u64,
 ) -> Option<Result<u64, Full>>
-    requires pass { pass.old.table ≡ N.table }
-    requires feeds { feeds ≡ length N.settings.sources }
+    requires pass { IsOfFeed N.table (length N.settings.sources) (claim_of pass.old.view).number pass.old }
     requires number { number < 2 ^ 20 }
-    ensures { pass.new.table ≡ pass.old.table }
+    ensures { IsOfFeed N.table (length N.settings.sources) (claim_of pass.new.view).number pass.new }
 {
-    let feed = pass.number();
-    if feed >= feeds {
-        return None;
-    }
-    let e = minute(feed, number)?;
+    let e = minute(pass.number(), number)?;
     Some(hub.append(rt, pass, e))
 }
 
@@ -69,17 +65,15 @@ pub fn append_all<N: HubName, R: Wait>(
     rt: &R,
     hub: &Hub<N>,
     mut pass: FeedPass,
-    feeds: u32,
     count: u64,
 ) -> (FeedPass, u64)
-    requires pass { pass.table ≡ N.table }
-    requires feeds { feeds ≡ length N.settings.sources }
+    requires pass { IsOfFeed N.table (length N.settings.sources) (claim_of pass.view).number pass }
     requires count { count ≤ 2 ^ 20 }
     ensures { result.0.table ≡ N.table }
 {
     let mut taken = 0u64;
     for number in 0..count {
-        if let Some(Ok(_)) = offer(rt, hub, &mut pass, feeds, number) {
+        if let Some(Ok(_)) = offer(rt, hub, &mut pass, number) {
             taken = taken.saturating_add(1);
         }
     }

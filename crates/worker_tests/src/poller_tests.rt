@@ -1,20 +1,22 @@
 //! A poller's worker over links in memory. The answers of a server were computed by hand from RFC 5905, section 8. One poller runs
 //! on the loopback beside a server's thread.
-ghost use Rattle.std.specs.Prelude.{◌≡◌, ◌<◌, ◌≤◌, [], All};
+ghost use Rattle.std.specs.Prelude.{◌≡◌, ◌<◌, ◌≤◌, [], All, length};
 ghost use Rattle.page_cell.specs.Passes.{key_of};
 ghost use Rattle.system_fold.specs.Settings.{AreLawful};
 
-use crate::shared::{alone, moment, same, settings_of, text_of};
-use feed_link::{Address, HostOutside, Link, MemoryLink, OpenGate, Outside, Planned, UdpLink};
+use crate::shared::{
+    address_of, alone, has_lines, host_link, loopback_socket, moment, pop_feed, put_back, same,
+    settings_of, text_of,
+};
+use feed_link::{Address, Link, OpenGate};
 use feed_workers::{PollEnd, PollWork, PollWorker};
-use page_cell::{CellParts, PageCell};
+use memory_links::{MemoryLink, Planned};
+use page_cell::{CellParts, FeedPass, PageCell};
 use std::alloc::Global;
 use std::marker::Brand;
-use std::net::{IpAddr, Ipv4Addr, SocketAddr, UdpSocket};
+use std::net::UdpSocket;
 use std::process::Abort;
 use std::sync::Wait;
-use std::test::Fail;
-use std::time::Duration;
 use std::{io, thread};
 use system_fold::{Settings, SourceKind};
 use verdict_journal::{Hub, HubName, HubParts, Journal};
@@ -34,8 +36,30 @@ const ANSWER: [u8; 48] = [
 
 const SAMPLE: &str = "0 1010000 sample 17077897383243199545 40802189 8837 2 7f000001 256 512\n";
 
-// Runs a poller's worker over a link, in a hub for this many entries: what it did, the journal, and the link.
-fn run_poller<N: HubName, R: Wait, L: Link + Drop>(
+// What a poller's worker does over a link in a hub with the pass of the last feed, which it gives back.
+fn poll_in<N: HubName, R: Wait, L: Link + Drop>(
+    rt: &R,
+    hub: &Hub<N>,
+    feeds: &mut Vec<FeedPass>,
+    sources: u32,
+    server: Address,
+    polls: u32,
+    link: L,
+) -> Option<(PollWork, L)>
+    requires feeds { All (λ f. f.table ≡ N.table) feeds.old.items }
+    requires sources { sources ≡ length N.settings.sources }
+    ensures { All (λ f. f.table ≡ N.table) feeds.new.items }
+{
+    let pass = pop_feed::<N>(feeds, sources)?;
+    let mut worker = PollWorker::new(server, polls, link, pass);
+    let work = worker.run(rt, hub, &OpenGate::new());
+    let (link, pass) = worker.give_back();
+    put_back::<N>(feeds, Some(pass));
+    Some((work, link))
+}
+
+// The same in a hub for this many entries, and the journal.
+fn poll_in_hub<N: HubName, R: Wait, L: Link + Drop>(
     rt: &R,
     alloc: Global,
     parts: CellParts,
@@ -62,16 +86,32 @@ fn run_poller<N: HubName, R: Wait, L: Link + Drop>(
     else {
         return None;
     };
-    let pass = feeds.pop()?;
-    if pass.number() >= settings.count() {
-        return None;
+    let ran = poll_in(rt, &hub, &mut feeds, settings.count(), server, polls, link);
+    let journal = hub.close(feeds, Vec::new(alloc));
+    let (work, link) = ran?;
+    Some((work, journal, link))
+}
+
+// The same in a station of this one server.
+fn poll<R: Abort + Wait, L: Link + Drop>(
+    rt: &R,
+    alloc: Global,
+    server: Address,
+    polls: u32,
+    limit: u32,
+    link: L,
+) -> (PollWork, Journal, L)
+    requires { (0 < limit) × (limit ≤ 4194304) }
+{
+    let settings = settings_of(SourceKind::Server(server));
+    let Ok(parts) = PageCell::open(alloc, &settings, 1) else {
+        panic!(*rt; "no memory");
+    };
+    let ran = poll_in_hub::<Brand, R, L>(rt, alloc, parts, &settings, limit, server, polls, link);
+    match ran {
+        Some(ran) => ran,
+        None => panic!(*rt; "no memory"),
     }
-    let mut worker = PollWorker::new(server, polls, link, pass);
-    let work = worker.run(rt, &hub, &OpenGate::new());
-    let (link, pass) = worker.give_back();
-    let mut passes = Vec::new(alloc);
-    passes.push(pass).ok()?;
-    Some((work, hub.close(passes, Vec::new(alloc)), link))
 }
 
 // The answer as it comes at 1.01 s from a port of the server, or its first bytes. Without memory it has none, and is declined.
@@ -127,18 +167,9 @@ fn polls<R: Abort + Wait>(
 )
     requires { (0 < limit) × (limit ≤ 4194304) }
 {
-    let settings = settings_of(SourceKind::Server(SERVER));
-    let Ok(parts) = PageCell::open(alloc, &settings, 1) else {
-        panic!(*rt; "no memory");
-    };
-    let ran = run_poller::<Brand, R, MemoryLink>(
-        rt, alloc, parts, &settings, limit, SERVER, polls, link,
-    );
-    let Some((done, journal, link)) = ran else {
-        panic!(*rt; "no memory");
-    };
+    let (done, journal, link) = poll(rt, alloc, SERVER, polls, limit, link);
     same(rt, (done, link.count()), (work, events));
-    same(rt, text_of(alloc, &journal).as_str(), lines);
+    has_lines(rt, alloc, &journal, lines);
 }
 
 const ROUNDS: PollWork = PollWork {
@@ -254,44 +285,19 @@ fn serve_once(socket: &UdpSocket) -> io::Result<usize> {
 }
 
 #[test]
-fn a_server_on_the_loopback_is_polled(rt: HostRuntime) -> Result<(), Fail> {
-    let loopback = SocketAddr::new(IpAddr::V4(Ipv4Addr::LOCALHOST), 0);
-    let socket = UdpSocket::bind(&rt, loopback)?;
-    socket.set_read_timeout(Some(Duration::from_secs(5)))?;
-    let server = Address {
-        ip: 0x7f00_0001,
-        port: socket.local_addr()?.port(),
-    };
-    let mut outside = HostOutside::new(&rt);
-    let Ok(link) = outside.open_link(0, moment(1_000_000)) else {
-        return Err("the link was not opened")?;
-    };
-    let settings = settings_of(SourceKind::Server(server));
-    let Ok(parts) = PageCell::open(rt.alloc(), &settings, 1) else {
-        return Err("memory")?;
-    };
+fn a_server_on_the_loopback_is_polled(rt: HostRuntime) {
+    let socket = loopback_socket(&rt);
+    let server = address_of(&rt, &socket);
+    let link = host_link(&rt, moment(1_000_000));
     let Ok(child) = thread::spawn(&rt, move || serve_once(&socket)) else {
-        return Err("no thread")?;
+        panic!(rt; "no thread");
     };
-    let ran = run_poller::<Brand, HostRuntime, _>(
-        &rt,
-        rt.alloc(),
-        parts,
-        &settings,
-        9,
-        server,
-        1,
-        link,
-    );
-    let Some((work, journal, _)) = ran else {
-        return Err("memory")?;
-    };
+    let (work, journal, _) = poll(&rt, rt.alloc(), server, 1, 9, link);
     let Ok(length) = child.join(&rt) else {
-        return Err("the server was not asked")?;
+        panic!(rt; "the server was not asked");
     };
     same(&rt, (work, length), (ROUNDS, 48));
     let lines = text_of(rt.alloc(), &journal);
     let is_sample = lines.as_str().contains(" sample ");
     same(&rt, (journal.len(), is_sample), (1, true));
-    Ok(())
 }

@@ -3,9 +3,10 @@ ghost use Rattle.std.specs.Prelude.{◌≡◌, ◌<◌, ◌≤◌, length};
 ghost use Rattle.feed_workers.specs.Keeping.{IsOfFeed};
 ghost use Rattle.page_cell.specs.Passes.{claim_of};
 
-use crate::shared::{Work, alone, run_alone, same};
-use feed_link::{MemorySource, OpenGate, Source};
+use crate::shared::{Work, alone, has_lines, run_alone, same};
+use feed_link::{OpenGate, Source};
 use feed_workers::{LogEnd, LogWork, RadioWorker};
+use memory_links::MemorySource;
 use page_cell::FeedPass;
 use radio_receiver::{DcfReceiver, Receiver};
 use std::alloc::Global;
@@ -101,9 +102,9 @@ fn reads<R: Abort + Wait>(
     let text = Vec::from_slice(alloc, log.as_bytes()).expect(rt, "no memory");
     let log = MemorySource::new(text, alone(alloc, failing));
     let heard = Heard { alloc, log };
-    let ran = run_alone(rt, alloc, SourceKind::Radio(Plan::Dcf), limit, heard);
-    same(rt, ran.done, Some(work));
-    same(rt, ran.lines.as_str(), lines);
+    let (done, journal) = run_alone(rt, alloc, SourceKind::Radio(Plan::Dcf), limit, heard);
+    same(rt, done, Some(work));
+    has_lines(rt, alloc, &journal, lines);
 }
 
 // The same of the log of two minutes with an end, which is read to its own end.

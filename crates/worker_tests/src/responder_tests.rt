@@ -1,17 +1,14 @@
 //! A responder over links in memory, and one on the loopback beside a client's thread.
-use crate::serving::{
-    CLIENT, NONE, REQUEST, bytes_of, link_of, open_to_all, opened, serve as serve_with,
-};
-use crate::shared::{alone, moment, same};
-use feed_link::{Address, HostOutside, Link, LinkEvent, MemoryLink, OpenGate, Outside, Planned};
+use crate::serving::{CLIENT, NONE, REQUEST, bytes_of, link_of, open_to_all, serve as serve_with};
+use crate::shared::{address_of, alone, host_link, loopback_socket, moment, same};
+use feed_link::Link;
+use memory_links::{LinkEvent, MemoryLink, Planned};
 use packet_auth::KeyRing;
-use responder::{End, Responder, Served};
+use responder::{End, Served};
 use std::alloc::Global;
-use std::net::{IpAddr, Ipv4Addr, SocketAddr, UdpSocket};
+use std::net::UdpSocket;
 use std::process::Abort;
 use std::sync::Wait;
-use std::test::Fail;
-use std::time::Duration;
 use std::{io, thread};
 
 // A datagram of this many bytes from the client.
@@ -285,32 +282,19 @@ fn ask(socket: &UdpSocket) -> io::Result<u64> {
 }
 
 #[test]
-fn a_client_on_the_loopback_is_answered(rt: HostRuntime) -> Result<(), Fail> {
-    let loopback = SocketAddr::new(IpAddr::V4(Ipv4Addr::LOCALHOST), 0);
-    let client = UdpSocket::bind(&rt, loopback)?;
-    client.set_read_timeout(Some(Duration::from_secs(5)))?;
-    let to = Address {
-        ip: 0x7f00_0001,
-        port: client.local_addr()?.port(),
-    };
-    let mut outside = HostOutside::new(&rt);
-    let Ok(mut link) = outside.open_link(0, moment(0)) else {
-        return Err("the link was not opened")?;
-    };
-    assert!(rt; link.send(to, b"come").is_ok());
-    let (cell, pass) = opened(&rt, rt.alloc());
-    let mut responder = Responder::new(link, pass, 0, KeyRing::new(), open_to_all(&rt, rt.alloc()));
+fn a_client_on_the_loopback_is_answered(rt: HostRuntime) {
+    let client = loopback_socket(&rt);
+    let mut link = host_link(&rt, moment(0));
+    let sent = link.send(address_of(&rt, &client), b"come");
+    same(&rt, sent.is_ok(), true);
+    let gate = open_to_all(&rt, rt.alloc());
     let Ok(child) = thread::spawn(&rt, move || ask(&client)) else {
-        return Err("no thread")?;
+        panic!(rt; "no thread");
     };
-    let served = responder.serve(&rt, &cell, &OpenGate::new(), 3);
+    let (served, _, _) = serve_with(&rt, rt.alloc(), link, KeyRing::new(), gate, 3);
     let Ok(replies) = child.join(&rt) else {
-        return Err("the client was not answered")?;
+        panic!(rt; "the client was not answered");
     };
-    same(
-        &rt,
-        (replies, served.answered, served.end),
-        (3, 3, End::Count),
-    );
-    Ok(())
+    let found = (replies, served.answered, served.end);
+    same(&rt, found, (3, 3, End::Count));
 }

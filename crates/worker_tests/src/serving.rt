@@ -3,8 +3,9 @@
 ghost use Rattle.std.specs.Prelude.{◌≡◌};
 
 use crate::shared::{alone, without_sources};
-use feed_link::{Address, MemoryLink, OpenGate, Planned};
+use feed_link::{Address, Link, OpenGate};
 use kiss_gate::{ClientGate, DenyList, GateOpen};
+use memory_links::{MemoryLink, Planned};
 use packet_auth::KeyRing;
 use page_cell::{PageCell, ReadPass};
 use responder::{End, Responder, Served};
@@ -33,8 +34,8 @@ pub const NONE: Served = Served {
     end: End::Count,
 };
 
-/// A cell with one reader, and its pass.
-pub fn opened(rt: &impl Abort, alloc: Global) -> (PageCell, ReadPass)
+// A cell with one reader, and its pass.
+fn opened(rt: &impl Abort, alloc: Global) -> (PageCell, ReadPass)
     ensures { result.1.table ≡ result.0.table }
 {
     let settings = without_sources();
@@ -85,14 +86,14 @@ pub fn link_of(
 }
 
 /// What a responder with these keys and this gate does on a link for this many hearings, and its link and gate after it.
-pub fn serve<R: Abort + Wait>(
+pub fn serve<R: Abort + Wait, L: Link + Drop>(
     rt: &R,
     alloc: Global,
-    link: MemoryLink,
+    link: L,
     keys: KeyRing,
     gate: ClientGate,
     hearings: u64,
-) -> (Served, MemoryLink, ClientGate) {
+) -> (Served, L, ClientGate) {
     let (cell, pass) = opened(rt, alloc);
     let mut responder = Responder::new(link, pass, 7, keys, gate);
     let served = responder.serve(rt, &cell, &OpenGate::new(), hearings);

@@ -11,7 +11,7 @@ use crate::ending::text::count_text;
 use crate::ending::writing::finish;
 use feed_link::{Failed, Sink};
 use sink_text::write_all;
-use station_config::{KeyText, StationFault};
+use station_reader::{KeyText, StationFault};
 
 /// What keeps a station from being used: the end of the run, or a fault of the station file.
 #[derive(Debug, Drop)]

@@ -1,7 +1,7 @@
 -- What the search leaves open of `migrate::run_migrate`.
 use Rattle.std.proofs.Common.{ℕ, List, inr, subst}
 use Rattle.file_reader.specs.declared.reader.FileEnd.{FileEnd}
-use Rattle.station_config.specs.Faults.{Says}
+use Rattle.station_reader.specs.Faults.{Says}
 use Rattle.file_commands.specs.Keeping.{OpensStation}
 use Rattle.file_commands.specs.StationFile.{IsObstacle}
 use Rattle.file_commands.proofs.LineFileLaws.{ends_at, file_tried}

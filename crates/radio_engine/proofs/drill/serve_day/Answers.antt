@@ -1,6 +1,6 @@
 -- What the search leaves open of `drill::serve_day`.
 use Rattle.std.proofs.Common.{subst}
-use Rattle.feed_link.specs.Memory.{sure_state}
+use Rattle.memory_links.specs.Memory.{sure_state}
 use Rattle.station_config.specs.Station.{StationFields}
 use Rattle.crew_work.specs.Served.{seen, sights_of}
 use Rattle.crew_work.specs.declared.work.Orders.{Orders}

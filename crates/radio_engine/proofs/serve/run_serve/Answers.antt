@@ -1,7 +1,7 @@
 -- What the search leaves open of `serve::run_serve`.
 use Rattle.std.proofs.Common.{ℕ, List, inr, subst}
 use Rattle.file_reader.specs.declared.reader.FileEnd.{FileEnd}
-use Rattle.station_config.specs.Faults.{Says}
+use Rattle.station_reader.specs.Faults.{Says}
 use Rattle.file_commands.specs.Keeping.{OpensStation}
 use Rattle.file_commands.specs.StationFile.{IsObstacle}
 use Rattle.station_report.proofs.ServingLaws.{ends_at_station, ends_served, ends_unserved}

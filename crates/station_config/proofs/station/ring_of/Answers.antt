@@ -3,7 +3,7 @@ use Rattle.std.proofs.Common.{◌≡◌, ◌∙◌, Some, sym, ap, slice_get}
 use Rattle.std.proofs.lemmas.Option.{slice_get-get_or}
 use Rattle.packet_auth.specs.Keys.{has_id}
 use Rattle.station_config.specs.KeptStation.{key_kept}
-use Rattle.station_config.proofs.KeyRows.{key-at}
+use Rattle.station_config.proofs.KeptKeys.{key-at}
 use Rattle.station_config.proofs.station.ring_of.Goals as goal
 
 pub add-requires-clause-other : goal.add-requires-clause-other

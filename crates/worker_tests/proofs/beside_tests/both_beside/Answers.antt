@@ -6,4 +6,4 @@ use Rattle.worker_tests.proofs.beside_tests.both_beside.Goals as goal
 pub join-requires-after_bounds : goal.join-requires-after_bounds
 join-requires-after_bounds g c κs within =
     let b = c.type_bounds in
-    ((c.requires.first, c.requires.feeds, c.requires.count), ((c.requires.last, c.requires.reader, c.requires.feeds, c.requires.count), search sendable))
+    ((c.requires.first, c.requires.count), ((c.requires.last, c.requires.reader, c.requires.count), search sendable))

@@ -1,0 +1,3 @@
+-- Lemmas that several proofs of this crate use.
+pub mod RealLaws
+pub mod SocketLaws

@@ -1,0 +1,12 @@
+//! The host's own files, streams and sockets, as the traits of `feed_link` want them.
+//!
+//! To read it in this order: `host` (what the host opens), `real` (files and streams), `udp` (sockets).
+#![tactic(auto)]
+
+mod host;
+mod real;
+mod udp;
+
+pub use host::{HostOutside, Refusal};
+pub use real::{FileSource, StreamSink};
+pub use udp::{Counter, DatagramSocket, UdpLink};

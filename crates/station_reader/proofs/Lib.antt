@@ -1,0 +1,7 @@
+-- Lemmas that several proofs of this crate use.
+pub mod Bounds
+pub mod Firsts
+pub mod KeyRows
+pub mod KeysApart
+pub mod Orders
+pub mod Walks
