@@ -3,17 +3,17 @@
 #
 #     checks/attacks.sh [CRATE...]
 #
-# It works in a copy of the crates, and begins with what `rt check` kept in them. All ten take some 6 minutes on four processors. It prints what
-# became of each edit, and ends with 1 where one is not refused. Needs rt.
+# It runs `rt ci` for these crates in a copy that has no other wrong bodies. So it begins with what the gate kept on this machine; where nothing is
+# kept, all that these crates stand on is proved first. After the gate all nineteen take some 7 minutes on four processors. It prints what became
+# of each edit, and ends with 1 where one is not refused. Needs rt.
 set -eu
 cd "$(dirname "$0")/.."
 [ $# -gt 0 ] || set -- $(ls attacks)
 work=$(mktemp -d)
 trap 'rm -rf "$work"' EXIT
-cp -a crates crates.txt HANDLES "$work/"
-rm -rf "$work"/crates/*/must-fail
+tar cf - --exclude=out --exclude=must-fail crates crates.txt HANDLES | tar xf - -C "$work"
 for crate do
     cp -r "attacks/$crate" "$work/crates/$crate/must-fail"
 done
 cd "$work"
-rt must-fail "$@"
+rt ci "$@"
