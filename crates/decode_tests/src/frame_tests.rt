@@ -71,22 +71,22 @@ fn read_both<C: CodePlan>(
     wanted
 }
 
-// Reads so many of these marks in both ways, closed this much after them.
-fn agree_on_front<C: CodePlan>(rt: &impl Abort, marks: &[Mark; 70], count: usize, moved: u64)
+// Reads the first `count` marks in both ways. The next mark starts `moved` microseconds after 0.1 s before its second.
+fn agree_on_prefix<C: CodePlan>(rt: &impl Abort, marks: &[Mark; 70], count: usize, moved: u64)
     requires { count ≤ 70 }
 {
     let _ = read_both::<C>(rt, &marks[..count], start_of(count, moved));
 }
 
 // Reads prefixes of these marks in both ways, closed a second after them.
-fn agree_on_fronts<C: CodePlan>(rt: &impl Abort, marks: &[Mark; 70]) {
-    agree_on_front::<C>(rt, marks, 1, 100_000);
-    agree_on_front::<C>(rt, marks, 58, 100_000);
-    agree_on_front::<C>(rt, marks, 59, 100_000);
-    agree_on_front::<C>(rt, marks, 60, 100_000);
-    agree_on_front::<C>(rt, marks, 61, 100_000);
-    agree_on_front::<C>(rt, marks, 62, 100_000);
-    agree_on_front::<C>(rt, marks, 70, 100_000);
+fn agree_on_prefixes<C: CodePlan>(rt: &impl Abort, marks: &[Mark; 70]) {
+    agree_on_prefix::<C>(rt, marks, 1, 100_000);
+    agree_on_prefix::<C>(rt, marks, 58, 100_000);
+    agree_on_prefix::<C>(rt, marks, 59, 100_000);
+    agree_on_prefix::<C>(rt, marks, 60, 100_000);
+    agree_on_prefix::<C>(rt, marks, 61, 100_000);
+    agree_on_prefix::<C>(rt, marks, 62, 100_000);
+    agree_on_prefix::<C>(rt, marks, 70, 100_000);
 }
 
 // A minute in which the mark of one place has this symbol.
@@ -100,7 +100,7 @@ fn agree_with_symbol<C: CodePlan>(
 {
     let mut changed = seventy(symbols);
     changed[place].symbol = symbol;
-    agree_on_fronts::<C>(rt, &changed);
+    agree_on_prefixes::<C>(rt, &changed);
 }
 
 // Each symbol at each place, within a minute and after it.
@@ -121,7 +121,7 @@ fn agree_with_start<C: CodePlan>(rt: &impl Abort, symbols: &[Symbol; 70], place:
 {
     let mut changed = seventy(symbols);
     changed[place].at = start_of(place, moved);
-    agree_on_fronts::<C>(rt, &changed);
+    agree_on_prefixes::<C>(rt, &changed);
 }
 
 // Each mark too early, too late, and just in time.
@@ -138,11 +138,11 @@ fn agree_on_starts<C: CodePlan>(rt: &impl Abort, symbols: &[Symbol; 70]) {
 // Segments of each length, closed too early, too late, and just in time.
 fn agree_on_lengths<C: CodePlan>(rt: &impl Abort, marks: &[Mark; 70]) {
     for count in 0..71 {
-        agree_on_front::<C>(rt, marks, count, 0);
-        agree_on_front::<C>(rt, marks, count, 199_999);
-        agree_on_front::<C>(rt, marks, count, 200_000);
-        agree_on_front::<C>(rt, marks, count, 200_001);
-        agree_on_front::<C>(rt, marks, count, 300_000);
+        agree_on_prefix::<C>(rt, marks, count, 0);
+        agree_on_prefix::<C>(rt, marks, count, 199_999);
+        agree_on_prefix::<C>(rt, marks, count, 200_000);
+        agree_on_prefix::<C>(rt, marks, count, 200_001);
+        agree_on_prefix::<C>(rt, marks, count, 300_000);
     }
 }
 

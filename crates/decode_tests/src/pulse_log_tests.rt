@@ -116,7 +116,7 @@ fn pieces_are_taken_line_by_line(rt: HostRuntime) -> Result<(), Fail> {
     Ok(())
 }
 
-const LAWFUL: [Read; 6] = [
+const VALID: [Read; 6] = [
     ("", &[], None),
     ("0 1\n", &[(0, 1)], None),
     (
@@ -158,14 +158,14 @@ fn is_read_both_ways(rt: &impl Abort, alloc: Global, row: &Read) -> Result<(), A
 
 #[test]
 fn lawful_lines_are_read(rt: HostRuntime) -> Result<(), Fail> {
-    for row in &LAWFUL {
+    for row in &VALID {
         is_read_both_ways(&rt, rt.alloc(), row)?;
     }
     Ok(())
 }
 
 // A log, how many of its lines are valid, and the number of the first bad one.
-const UNLAWFUL: [(&str, usize, u64); 23] = [
+const INVALID: [(&str, usize, u64); 23] = [
     ("\n", 0, 1),
     (" 100\n", 0, 1),
     ("100\n", 0, 1),
@@ -196,20 +196,20 @@ fn ends_at(
     rt: &impl Abort,
     alloc: Global,
     log: &str,
-    lawful: usize,
+    valid: usize,
     line: u64,
 ) -> Result<(), AllocError> {
     let (found, bad) = read(alloc, log.as_bytes())?;
-    same(rt, (log, found.len(), bad), (log, lawful, Some(line)));
+    same(rt, (log, found.len(), bad), (log, valid, Some(line)));
     let (found, bad) = read_in_pieces(alloc, log.as_bytes(), 512)?;
-    same(rt, (log, found.len(), bad), (log, lawful, Some(line)));
+    same(rt, (log, found.len(), bad), (log, valid, Some(line)));
     Ok(())
 }
 
 #[test]
 fn the_first_line_that_is_not_lawful_is_told(rt: HostRuntime) -> Result<(), Fail> {
-    for (log, lawful, line) in UNLAWFUL {
-        ends_at(&rt, rt.alloc(), log, lawful, line)?;
+    for (log, valid, line) in INVALID {
+        ends_at(&rt, rt.alloc(), log, valid, line)?;
     }
     Ok(())
 }

@@ -56,7 +56,7 @@ fn a_log_begins_with_the_mark_before_its_first_minute(rt: HostRuntime) {
     assert!(rt; dcf.text.starts_with(b"5001353 100000\n"));
 }
 
-// A log of eight minutes of a plan has so many lines, this length and this checksum.
+// A log of eight minutes of a plan has this number of lines, this length and this checksum.
 fn is_made(rt: &impl Abort, alloc: Global, plan: Plan, lines: u64, length: usize, sum: u64) {
     let made = make_log(alloc, plan, 8, Vec::new(alloc));
     let found = (

@@ -7,7 +7,7 @@ use std::process::Abort;
 use system_fold::SourceKind;
 use tick_units::Kind;
 
-// After so many entries the page gives the time, and after no other number. At each number `page_after` finds that the interval of the
+// The page gives the time after these numbers of entries, and after no other. At each number `page_after` finds that the interval of the
 // sweep leads to the same page as a new selection.
 fn is_told_after(
     rt: &impl Abort,

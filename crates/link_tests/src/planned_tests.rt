@@ -221,7 +221,7 @@ fn past_its_room_a_link_tells_nothing(rt: HostRuntime) {
     is_told(&rt, rt.alloc(), room_of(0, 0), &[]);
 }
 
-// A link that receives one datagram, of so many bytes that are 7.
+// A link that receives one datagram: `length` bytes, each 7.
 fn link_of_sevens(alloc: Global, length: usize) -> Result<MemoryLink, FakeOpen> {
     let mut hearings = Vec::new(alloc);
     hearings.push(Planned::Datagram {
@@ -311,7 +311,7 @@ fn count(outside: &Fake, place: usize) -> Option<usize> {
     }
 }
 
-// The links of the outside have reported so many events, where they stand in their places.
+// The links of the outside have reported these numbers of events, where they stand in their places.
 fn stand(rt: &impl Abort, outside: &Fake, want: [Option<usize>; 3]) {
     same(rt, counts(outside), want);
 }

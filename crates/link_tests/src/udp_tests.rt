@@ -118,7 +118,7 @@ const FAULT_AND_LOSS: Ends = (Err(Failed), Ok(()));
 
 const DONE: Ends = (Ok(123), Ok(()));
 
-// How they end after so many calls that fail in this way.
+// How both end after `calls` calls that fail with `kind`.
 fn tried(rt: &HostRuntime, kind: ErrorKind, calls: u32) -> Ends {
     (
         heard(rt, failing(kind, calls, 123)),

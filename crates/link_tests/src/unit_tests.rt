@@ -13,7 +13,7 @@ fn same<T: PartialEq + Debug + Drop>(rt: &impl Abort, left: T, right: T) {
     assert_eq!(*rt; left, right);
 }
 
-// The moment of this many microseconds has so many units, or is none.
+// The moment of `us` microseconds has `units` units, or is none.
 fn has_units(rt: &impl Abort, us: u64, units: Option<i128>) {
     let found = match Local::new(us) {
         Some(moment) => Some(local_span(moment).get()),
@@ -82,7 +82,7 @@ fn stamps_wrap_after_an_era(rt: HostRuntime) {
     same(&rt, stamp_of(in_february_2036), Stamp(63_104 << 32));
 }
 
-// The span of so many units has these units and this size, or is none.
+// The span of `units` units has the units and the size of `size`, or is none.
 fn has_size(rt: &impl Abort, units: i128, size: Option<(i128, u128)>) {
     let found = match Span::new(units) {
         Some(span) => Some((span.get(), span.unsigned_abs())),
@@ -144,7 +144,7 @@ fn spans_are_reckoned_with(rt: HostRuntime) {
     are_halved(&rt);
 }
 
-// Halving the span of so many units this often gives these units.
+// The span of `units` units, halved `times` times, has `half` units.
 fn has_half(rt: &impl Abort, units: i128, times: u32, half: i128)
     requires { times < 64 }
 {

@@ -108,7 +108,7 @@ fn longer() -> [u8; 88] {
     longer
 }
 
-// So many of those bytes are not authentic.
+// The first `length` bytes are not authentic.
 fn has_another_length(rt: &impl Abort, length: usize)
     requires { length ≤ 88 }
 {

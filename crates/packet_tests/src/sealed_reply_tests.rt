@@ -133,7 +133,7 @@ fn longer() -> [u8; 88] {
     longer
 }
 
-// So many of those bytes get the answer without a digest.
+// The first `length` bytes get the answer without a digest.
 fn is_not_authentic(rt: &impl Abort, length: usize)
     requires { length ≤ 88 }
 {

@@ -149,7 +149,7 @@ fn have_broken_width(rt: &impl Abort, marks: &[Mark], broken: bool) {
     are_alike(rt, Segment { marks }.breaks_width(), broken);
 }
 
-// Whether so many marks break the rule on lengths, in a slice and one by one.
+// Whether `count` marks break the rule on lengths, in a slice and one by one.
 fn have_broken_length(rt: &impl Abort, count: usize, broken: bool)
     requires { count ≤ 70 }
 {
@@ -268,7 +268,7 @@ fn have_the_same_places(segment: &Segment<'_>, frame: &Frame) -> bool {
     segment.count() == frame.count() && segment.has_long_behind() == frame.has_long_behind()
 }
 
-// Whether both forms of so many marks answer alike.
+// Both forms of these marks answer alike.
 fn agree(rt: &impl Abort, marks: &[Mark]) {
     assert!(*rt;
         have_the_same_places(&Segment { marks }, &added(marks)),

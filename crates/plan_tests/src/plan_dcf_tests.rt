@@ -56,7 +56,7 @@ fn read_closed(segment: &[Mark]) -> Answer {
     read(segment, moment(90_000_000))
 }
 
-// So many of these marks come to this.
+// The first `count` marks give this answer.
 fn comes_to(rt: &impl Abort, marks: &[Mark], count: usize, wanted: Answer) {
     is_answer(rt, read_closed(&marks[..count.min(marks.len())]), wanted);
 }

@@ -56,7 +56,7 @@ fn frame(ones: &[usize], changed: &[usize]) -> [Mark; 61] {
     marks
 }
 
-// So many of these marks come to this, where the next mark starts at this microsecond.
+// The first `count` marks give this answer, where the next mark starts at microsecond `close`.
 fn comes_to_by(rt: &impl Abort, marks: &[Mark], count: usize, close: u64, wanted: Answer) {
     is_answer(
         rt,
@@ -65,7 +65,7 @@ fn comes_to_by(rt: &impl Abort, marks: &[Mark], count: usize, close: u64, wanted
     );
 }
 
-// So many of these marks come to this, closed a minute after the first.
+// The first `count` marks give this answer, closed a minute after the first.
 fn comes_to(rt: &impl Abort, marks: &[Mark], count: usize, wanted: Answer) {
     comes_to_by(rt, marks, count, 62_000_000, wanted);
 }

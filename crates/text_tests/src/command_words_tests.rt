@@ -257,8 +257,8 @@ fn asks_for_hearings(rt: &impl Abort, alloc: Global, number: &str, want: Option<
     };
     let beside = ["serve", "--during", number, "--station=s"];
     asks(rt, alloc, &beside, during);
-    let behind = ["serve", "--station=s", "--after", number];
-    asks(rt, alloc, &behind, after);
+    let last = ["serve", "--station=s", "--after", number];
+    asks(rt, alloc, &last, after);
 }
 
 fn ask_for_hearings(rt: &impl Abort, alloc: Global, numbers: &[(&str, Option<u64>)]) {

@@ -38,7 +38,7 @@ const LIMITS: [(usize, usize, FileEnd, usize); 11] = [
     (1200, 1024, FileEnd::TooLong, 1024),
 ];
 
-// The end of a file with so many bytes.
+// How a file of `count` bytes ends.
 fn end_at(alloc: Global, count: usize, limit: usize) -> Ended {
     let mut file = SureSource::new(bytes(alloc, count)?);
     end_of(alloc, &mut file, limit)

@@ -87,7 +87,7 @@ fn take_pieces(
     Ok(count)
 }
 
-// So many leap seconds are found.
+// The list has `count` leap seconds.
 fn are_found(rt: &impl Abort, found: Result<usize, &'static str>, count: usize) {
     same(rt, found, Ok(count));
 }

@@ -82,7 +82,7 @@ fn a_line_is_too_long_where_the_limit_says(rt: HostRuntime) {
     }
 }
 
-// A cutter takes so many bytes of a piece, and finds this.
+// A cutter takes `count` bytes of a piece, and finds `found`.
 fn takes(rt: &impl Abort, cutter: &mut LineCutter, piece: &[u8], count: usize, found: Cut) {
     let taken = cutter.take(piece);
     same(rt, (taken.count, taken.found), (count, found));

@@ -303,7 +303,7 @@ fn a_bad_line_may_be_in_nanoseconds(rt: HostRuntime) {
     is_in_nanoseconds(&rt, alloc, "wwvb 120 800 200,500 1000", false);
 }
 
-// A writer that takes so many bytes a call at the most.
+// A writer that takes at most `most` bytes a call.
 #[derive(Drop)]
 struct Taking {
     most: usize,
@@ -323,7 +323,7 @@ fn watched(most: usize) -> Watched<Taking> {
     Watched::new(Taking { most })
 }
 
-// A write takes so many bytes, and the last whole line is this then.
+// A write takes `count` bytes. The last whole line is `last_line` then.
 fn writes(
     rt: &impl Abort,
     watched: &mut Watched<Taking>,

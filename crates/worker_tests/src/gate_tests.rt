@@ -104,7 +104,7 @@ fn serves_all<R: Abort + Wait>(
     let _gate = serve_all(rt, alloc, gate, datagrams, replies, want);
 }
 
-// So many requests are answered, and so many get a kiss code.
+// A run that answers `answered` requests, and sends a kiss code to `kissed`.
 fn of_these(answered: u64, kissed: u64) -> Served {
     Served {
         answered,

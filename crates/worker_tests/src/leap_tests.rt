@@ -47,8 +47,8 @@ impl Work for Listed {
     }
 }
 
-// A file of this text, whose reading of this number fails, gives these entries of a journal that may have so many. Its reading
-// ends in this way.
+// A file of this text, whose read number `failing` fails, gives these lines of a journal with room for `limit` entries. The work
+// on it ends as `work`.
 fn reads<R: Abort + Wait>(
     rt: &R,
     alloc: Global,

@@ -213,7 +213,7 @@ const FAULTS: [(u64, u64, End, usize); 7] = [
     (7, 2, End::LinkEnd, 8),
 ];
 
-// On this link the responder answers so many requests and ends so, and there are so many events then.
+// On this link the responder answers `answered` requests and ends with `end`. The link has reported `events` events then.
 fn serves_two<R: Abort + Wait>(
     rt: &R,
     alloc: Global,
