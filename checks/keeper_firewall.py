@@ -20,12 +20,15 @@ SECOND = 2**32
 
 
 def rules() -> list[str]:
-    """The commands of the page, for root and the rate of this check."""
+    """The commands of the page, for root, the server of this check and its rate."""
     page = (TOP / "docs/KEEPER.md").read_text()
     found = re.findall(r"(?m)^    (nft add .*)$", page)
-    if len(found) != 3 or "skuid radio_ntpd" not in found[2] or "1/minute" not in found[2]:
+    own = {"daddr 192.0.2.1": "daddr 127.0.0.1", "skuid radio_ntpd": "skuid root", "1/minute": f"{RATE}/minute"}
+    if len(found) != 3 or any(there not in found[2] for there in own):
         raise Wrong(f"the page has other commands: {found}")
-    return [one.replace("skuid radio_ntpd", "skuid root").replace("1/minute", f"{RATE}/minute") for one in found]
+    for there, here in own.items():
+        found = [one.replace(there, here) for one in found]
+    return found
 
 
 def samples(journal: pathlib.Path) -> list[tuple[float, float, float]]:

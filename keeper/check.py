@@ -77,8 +77,8 @@ def judge_station(settings: config.Settings) -> list[Finding]:
     if settings.leap_file and not os.path.exists(settings.leap_file):
         found.append((Level.BAD, f"leap_file {settings.leap_file}: it isn't there"))
     mode = os.stat(settings.station).st_mode
-    if settings.text.get("key") and mode & 0o077:
-        found.append((Level.NOTE, f"{settings.station} has keys and can be read by others: chmod 600 it"))
+    if settings.text.get("key") and mode & 0o007:
+        found.append((Level.NOTE, f"{settings.station} has keys and can be read by everyone: chmod 640 it, with the group of the keeper's user"))
     return found
 
 

@@ -15,6 +15,7 @@ WILL_DO = ((0.05, 1000.0), (0.2, 2000.0), (2.0, float("inf")))
 SPIN = 300_000  # for so long each second answer is waited for without sleeping, in nanoseconds
 AGAIN = 0.002  # an answer that hasn't come by then is waited for beside the next ones, in seconds
 CLOSED = 0.0002  # how often a port that isn't open yet is asked, in seconds
+REFUSED = 0.002  # how often it is tried again where the host refuses to send, as its firewall may, in seconds
 
 
 @dataclass(frozen=True)
@@ -86,6 +87,8 @@ class Counter:
             self.sent.clear()
             self.asked = 0
             time.sleep(CLOSED)
+        except OSError:
+            time.sleep(REFUSED)  # nothing was sent
         return self._is_enough()
 
     def _receive(self, began: int) -> None:

@@ -5,7 +5,7 @@ import select
 import socket
 import time
 
-from keeper.counter import open_client
+from keeper.counter import REFUSED, open_client
 from keeper.ntp import answer, request
 from keeper.sockets import Socket, of_process
 
@@ -47,8 +47,8 @@ class LinkDrain:
                 self._ask(now)
         except ConnectionRefusedError:
             self.gone = True
-        except BlockingIOError:
-            pass
+        except OSError:
+            time.sleep(REFUSED)  # nothing was sent
 
     def _receive(self, now: float) -> None:
         while True:

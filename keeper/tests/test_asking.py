@@ -10,6 +10,7 @@ import sys
 import threading
 import time
 import unittest
+from unittest import mock
 
 from keeper import ntp, sockets
 from keeper.counter import Counter, Exchange, reading_of, will_do
@@ -136,6 +137,14 @@ class CounterTests(unittest.TestCase):
         self.addCleanup(counter.close)
         self.assertFalse(counter.step() or counter.asked)
 
+    def test_a_host_that_sends_nothing(self):
+        """As where its firewall drops what is sent: it is tried again, and nothing counts as asked."""
+        counter = Counter(9, "127.0.0.1")
+        self.addCleanup(counter.close)
+        with mock.patch.object(counter, "client") as client:
+            client.send.side_effect = PermissionError(1, "Operation not permitted")
+            self.assertFalse(counter.step() or counter.asked)
+
 
 class Drains(unittest.TestCase):
     def drain(self, *links):
@@ -169,6 +178,19 @@ class Drains(unittest.TestCase):
             waiting = {one.port: one.waiting for one in sockets.of_process(os.getpid())}
             self.assertEqual(waiting[link.getsockname()[1]], 0)
             self.assertGreater(waiting[poller.getsockname()[1]], 0)
+
+    def test_a_host_that_sends_nothing(self):
+        """The drain goes on once it sends again."""
+        link = Link(self, 500)
+        drain = Drain(os.getpid(), [link.port], ["127.0.0.1"], False)
+        self.addCleanup(drain.close)
+        with mock.patch.object(drain.links[0], "client", mock.Mock(**{"recv.side_effect": BlockingIOError, "send.side_effect": OSError(105, "No buffer space available")})):
+            drain.step()
+        self.assertEqual(drain.sent(), [0])
+        self.assertFalse(drain.is_free())
+        drain.step()
+        self.assertGreater(drain.sent()[0], 0)
+        link.closes.set()
 
     def test_clients_are_answered_meanwhile(self):
         link = Link(self, 20_000)

@@ -9,7 +9,7 @@ import tempfile
 import unittest
 from unittest.mock import Mock
 
-from keeper import check, hosts
+from keeper import check, config, hosts
 from keeper.config import Radio
 from keeper.hosts import Level
 from keeper.marks import Look
@@ -87,6 +87,15 @@ class Whole(Folder):
         self.assertEqual(raised.exception.status, REFUSED)
         self.assertIn("speed", str(raised.exception))
 
+    def test_keys_that_everyone_can_read(self):
+        """The installed file is read by the group of the keeper's user, which is as it should be."""
+        self.write("program", "#!/bin/sh\necho 'status 0'\n", 0o755)
+        self.write("keeper.toml", KEEPER.format(command="true"))
+        for mode, is_noted in ((0o600, False), (0o640, False), (0o644, True)):
+            self.write("station.toml", STATION.format(port=123) + '[[key]]\nid = 1\nsecret = "x"\n', mode)
+            found = check.judge_station(config.load(os.path.join(self.folder, "keeper.toml")))
+            self.assertEqual(any("can be read by everyone" in said for _, said in found), is_noted, oct(mode))
+
     def test_a_port_that_is_taken(self):
         with socket.socket(socket.AF_INET, socket.SOCK_DGRAM) as other:
             other.bind(("0.0.0.0", 0))
@@ -107,6 +116,7 @@ class Hosts(Folder):
             ("file", file, Level.WELL, "is there"), ("file", fifo, Level.BAD, "is no file"), ("fifo", fifo, Level.WELL, "is there"), ("fifo", file, Level.BAD, "mkfifo"),
             ("file", file + "x", Level.BAD, "No such file"), ("command", "stdbuf -oL cat x | sh -c y", Level.WELL, "are there"),
             ("command", "stdbuf -oL nosuchprogram --chip 0 | cat", Level.BAD, "no program nosuchprogram"), ("command", "A=1 $X/foo | exec sh", Level.WELL, ""),
+            ("command", "stdbuf -oL nosuchprogram gpiochip0 17 2>&1 | cat", Level.BAD, "no program nosuchprogram"),
         ):
             with self.subTest(kind=kind, value=value):
                 told, text = self.source(kind, value)
