@@ -26,7 +26,8 @@ import time
 from pathlib import Path
 
 from build_copy import cache_of, keeps_proofs, make_copy, take_program
-from crate_graph import PROGRAM, chains, count_lines, read_crates
+from build_estimate import Estimate, sizes_of
+from crate_graph import PROGRAM, count_lines, read_crates
 
 NO_TOOLCHAIN, FAILED, STOPPED = 69, 70, 130
 # A crate that is proved, by an earlier run or by this one, and one that isn't.
@@ -52,16 +53,20 @@ def in_hand(session: int) -> set[str]:
 
 
 class Build:
-    """One build: what is done, what failed, and how much is left."""
+    """One build: what is in hand and done, what failed, and about how long the rest takes."""
 
-    def __init__(self, crates: dict[str, int], chains: dict[str, int], processors: int):
-        """`crates` are the lines of each crate, and `chains` those of the longest chain from it up to the program."""
-        self.crates, self.chains, self.processors = crates, chains, processors
-        # What an earlier run had proved takes no time, so it says nothing of how long the rest takes.
+    def __init__(self, crates: dict[str, list[str]], estimate: Estimate):
+        """`crates` are those of the build, each with those that it stands on."""
+        self.crates, self.estimate = crates, estimate
         self.done: set[str] = set()
-        self.kept: set[str] = set()
         self.refused: str | None = None
         self.started = time.monotonic()
+
+    def look(self, session: int) -> set[str]:
+        """Looks at which crates the processes of a session are proving, and returns them."""
+        names = in_hand(session)
+        self.estimate.begin(names, time.monotonic())
+        return names
 
     def hear(self, line: str) -> str | None:
         """Takes a line of the toolchain's, and returns the crate that it says is proved."""
@@ -69,32 +74,29 @@ class Build:
             self.refused = self.refused or refused[1]
         if (proved := PROVED.match(line)) and proved[1] in self.crates:
             self.done.add(proved[1])
-            if proved[2]:
-                self.kept.add(proved[1])
+            self.estimate.end(proved[1], time.monotonic())
             return proved[1]
         return None
 
     def progress(self, what: str) -> str:
         """Returns a line of progress: what, how many of how many, the time so far, and about how much is left."""
-        spent = time.monotonic() - self.started
-        proved = sum(self.crates[name] for name in self.done - self.kept)
-        left = sum(lines for name, lines in self.crates.items() if name not in self.done)
-        line = f"{what} ({len(self.done)} of {len(self.crates)}), {as_time(spent)}"
-        if proved and left:
-            # A chain of crates goes on at the pace of one processor, however many there are.
-            pace = spent / proved
-            chain = max(self.chains[name] for name in self.crates if name not in self.done)
-            line += f", about {as_time(max(left, chain * self.processors / 2) * pace)} left"
+        now = time.monotonic()
+        line = f"{what} ({len(self.done)} of {len(self.crates)}), {as_time(now - self.started)}"
+        if left := self.estimate.left(now):
+            line += f", about {as_time(left)} left"
         return line
 
 
-def redraw(build: Build, session: int, ended: threading.Event) -> None:
-    """Redraws the line of progress on a terminal until the build has ended."""
+def watch(build: Build, session: int, ended: threading.Event, is_drawn: bool) -> None:
+    """Looks each second at what is in hand until the build has ended, and redraws the line of progress where there is a terminal."""
     while not ended.wait(1):
-        line = build.progress(f"proving {', '.join(sorted(in_hand(session))) or 'what is left'}")
-        width = shutil.get_terminal_size().columns - 1
-        print(f"\r\x1b[K{line[:width]}", end="", file=sys.stderr, flush=True)
-    print("\r\x1b[K", end="", file=sys.stderr, flush=True)
+        names = build.look(session)
+        if is_drawn:
+            line = build.progress(f"proving {', '.join(sorted(names)) or 'what is left'}")
+            width = shutil.get_terminal_size().columns - 1
+            print(f"\r\x1b[K{line[:width]}", end="", file=sys.stderr, flush=True)
+    if is_drawn:
+        print("\r\x1b[K", end="", file=sys.stderr, flush=True)
 
 
 def last_lines(log: Path, crate: str | None) -> list[str]:
@@ -120,19 +122,16 @@ def run(copy: Path, log: Path, build: Build) -> int:
 
         for number in (signal.SIGTERM, signal.SIGINT):
             signal.signal(number, stop)
-        ended = threading.Event()
-        drawer = threading.Thread(target=redraw, args=(build, child.pid, ended))
-        is_drawn = sys.stderr.isatty()
-        if is_drawn:
-            drawer.start()
+        ended, is_drawn = threading.Event(), sys.stderr.isatty()
+        watcher = threading.Thread(target=watch, args=(build, child.pid, ended, is_drawn))
+        watcher.start()
         for line in child.stdout:
             notes.write(line)
             if (name := build.hear(line)) and not is_drawn:
                 print(build.progress(f"{name} is proved"), file=sys.stderr, flush=True)
         status = child.wait()
         ended.set()
-        if is_drawn:
-            drawer.join()
+        watcher.join()
     return STOPPED if stopped.is_set() else status
 
 
@@ -146,7 +145,7 @@ def build(top: Path, cache: Path, is_kept: bool) -> int:
     lines = {name: count_lines(top / "crates" / name) for name in crates}
     copy, log = cache / "copy", cache / "log"
     make_copy(top, copy, list(crates))
-    made = Build(lines, chains(crates, lines), len(os.sched_getaffinity(0)))
+    made = Build(crates, Estimate(crates, sizes_of(crates, lines), len(os.sched_getaffinity(0))))
     status = run(copy, log, made)
     if status == STOPPED:
         more = "what is proved is kept, and the next start goes on from there" if is_kept else "the next start begins anew"

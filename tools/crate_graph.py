@@ -1,4 +1,4 @@
-"""Reads crates.txt: which crates the program stands on, how large they are, and how long the chains above them are."""
+"""Reads crates.txt: which crates the program stands on, and how large they are."""
 
 from pathlib import Path
 
@@ -29,12 +29,3 @@ def count_lines(crate: Path) -> int:
     """Returns the lines of a crate's sources, definitions and proofs, which its time goes by."""
     files = (file for part in SOURCES for file in (crate / part).rglob("*") if file.suffix in (".rt", ".antt"))
     return 1 + sum(file.read_bytes().count(b"\n") for file in files)
-
-
-def chains(crates: dict[str, list[str]], lines: dict[str, int]) -> dict[str, int]:
-    """Returns for each crate the lines of the longest chain from it up to the program."""
-    longest = dict(lines)
-    for name in reversed(crates):
-        for library in crates[name]:
-            longest[library] = max(longest[library], lines[library] + longest[name])
-    return longest

@@ -3,9 +3,10 @@
 import collections
 import math
 import statistics
+import time
 from typing import NamedTuple
 
-from journal_text import KINDS, Entry, Moment, Run, Station, due, name_of, offset_of, with_offsets, unix_of
+from journal_text import KINDS, Entry, Moment, Run, Station, due, name_of, offset_of, run_of, with_offsets, unix_of
 from svg_chart import Axis, Band, Bar, Line, Panel, log_axis, picture, round_axis, utc_axis
 
 HOUR = 3_600_000_000
@@ -19,6 +20,7 @@ LINES = ("#1f5fa8", "#c05020", "#2a7f3f", "#705090", "#808000", "#008080", "#a02
 GREY, GREEN, RED = "#444444", "#2a7f3f", "#c03030"
 FEW = 120  # up to this many points are drawn as they are
 DISPERSIONS = (5, 10, 20, 50, 100, 200, 500, 1000, 2000, 5000, 16000)
+LEAST_HEIGHT = 0.1  # of the panel of offsets, in milliseconds: less is no more than how the fields are rounded
 NOTHING = (math.nan, math.nan, math.nan)
 
 
@@ -111,6 +113,20 @@ def bars_of(entries: list[Entry], labels: dict[str, str], first: int, scale: Sca
     return panel
 
 
+def begin_of(run: Run | None) -> str:
+    """When the first entry of a run came, by its own time; nothing where the run has none."""
+    if run is None:
+        return ""
+    first = min(entry.at for entry in run.entries)
+    return time.strftime("From %Y-%m-%d %H:%M UTC on", time.gmtime(unix_of(run, first)))
+
+
+def offset_axis(values: list[float]) -> Axis:
+    """An axis for offsets in milliseconds, which magnifies no rounding where all of them agree."""
+    spare = (LEAST_HEIGHT - (max(values) - min(values))) / 2
+    return round_axis([*values, min(values) - spare, max(values) + spare] if spare > 0 else values)
+
+
 def reception(entries: list[Entry], station: Station) -> str:
     """How each feed was received, by kind of entry and by the rule that a minute broke."""
     names = sorted({label_of(entry) for entry in entries}, key=order_of)
@@ -120,7 +136,7 @@ def reception(entries: list[Entry], station: Station) -> str:
     scale = scale_of(last - first)
     feeds = sorted({entry.feed for entry in entries})
     panels = [bars_of([entry for entry in entries if entry.feed == feed], labels, first, scale, name_of(station, feed)) for feed in feeds]
-    return picture(panels, round_axis([0.0, (last - first) / scale.unit], 10, has_zero=True), scale.name)
+    return picture(panels, round_axis([0.0, (last - first) / scale.unit], 10, has_zero=True), scale.name, begin_of(run_of(entries)))
 
 
 def offsets(run: Run, station: Station) -> str:
@@ -138,6 +154,7 @@ def offsets(run: Run, station: Station) -> str:
         spread = spread_of(own, max(scale.step, 10 * MINUTE / scale.unit))
         # A single value has no spread.
         middle.shapes.append(Line([(at, high - low or math.nan) for at, low, high in zip(spread.at, spread.low, spread.high)], colour))
+    above.axis = offset_axis(above.heights())
     samples = [((entry.at - first) / scale.unit, int(entry.fields[2]) / 2**32 * 1000) for entry, _ in given if entry.kind == "sample"]
     if samples:
         middle.shapes += lines_of(samples, scale.step, GREY)
@@ -148,7 +165,7 @@ def offsets(run: Run, station: Station) -> str:
     panels = [above, middle]
     if rates:
         panels.append(Panel("rate of the page,\nppm", 120, shapes=lines_of(rates, scale.step, GREY)))
-    return picture(panels, round_axis([0.0, (last - first) / scale.unit], 10, has_zero=True), scale.name)
+    return picture(panels, round_axis([0.0, (last - first) / scale.unit], 10, has_zero=True), scale.name, begin_of(run))
 
 
 def heard(runs: list[Run], feeds: list[int], station: Station) -> Panel:

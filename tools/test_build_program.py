@@ -58,7 +58,7 @@ class Builds(unittest.TestCase):
         (self.top / "crates.txt").write_text(CRATES)
         (self.top / "HANDLES").write_text("Handles allowed: none.\n")
         (self.top / "tools").mkdir()
-        for name in ("build_program.py", "build_copy.py", "crate_graph.py"):
+        for name in ("build_program.py", "build_copy.py", "build_estimate.py", "crate_graph.py"):
             shutil.copyfile(HERE / name, self.top / "tools" / name)
         self.words = [sys.executable, "-B", str(self.top / "tools" / "build_program.py")]
         self.program = self.top / "crates/radio_ntpd/out/radio_ntpd"
@@ -97,24 +97,24 @@ class Builds(unittest.TestCase):
         self.assertIn("left", said[2])
         self.assertNotIn("about", said[-1])
 
-    def test_what_is_left_goes_by_lines_and_by_the_longest_chain(self):
-        build = build_program.Build({"low": 100, "left": 50, "right": 300}, {"low": 400, "left": 50, "right": 300}, 2)
+    def test_a_line_of_progress(self):
+        below = {"low": [], "left": ["low"], "right": ["low"]}
+        estimate = mock.Mock(**{"left.side_effect": [125.4, 0.0]})
+        build = build_program.Build(below, estimate)
         build.started = time.monotonic() - 60
-        self.assertEqual(build.progress("begun"), "begun (0 of 3), 1:00")
         self.assertEqual(build.hear("rt: low proved"), "low")
-        self.assertEqual(build.progress("low"), "low (1 of 3), 1:00, about 3:30 left")
-        build.processors = 4
-        self.assertEqual(build.progress("low"), "low (1 of 3), 1:00, about 6:00 left")
+        self.assertEqual(build.progress("low"), "low (1 of 3), 1:00, about 2:05 left")
+        self.assertEqual(build.hear("rt: left is kept: an earlier run proved it"), "left")
+        self.assertEqual(build.progress("left"), "left (2 of 3), 1:00")
+        self.assertEqual([call.args[0] for call in estimate.end.call_args_list], ["low", "left"])
         self.assertIsNone(build.hear("rt: low: its tests are proved"))
         self.assertIsNone(build.hear("rt: other proved"))
 
-    def test_what_is_kept_says_nothing_of_the_pace(self):
-        build = build_program.Build({"low": 100, "left": 50, "right": 300}, {"low": 400, "left": 50, "right": 300}, 2)
-        build.started = time.monotonic() - 60
-        self.assertEqual(build.hear("rt: low is kept: an earlier run proved it"), "low")
-        self.assertEqual(build.progress("low"), "low (1 of 3), 1:00")
-        self.assertEqual(build.hear("rt: left proved"), "left")
-        self.assertEqual(build.progress("left"), "left (2 of 3), 1:00, about 6:00 left")
+    def test_what_is_in_hand_is_begun(self):
+        estimate = mock.Mock()
+        with mock.patch.object(build_program, "in_hand", return_value={"low"}):
+            self.assertEqual(build_program.Build({"low": []}, estimate).look(7), {"low"})
+        self.assertEqual(estimate.begin.call_args.args[0], {"low"})
 
     def test_a_crate_that_is_not_proved_is_named_with_its_last_lines(self):
         done = self.run_build(BROKEN="right")

@@ -17,7 +17,7 @@ HERE = pathlib.Path(__file__).resolve().parent
 sys.path.insert(0, str(HERE))
 
 from journal_text import due, line_through, read_entry, read_station, run_of, station_of, reported_each_minute, unix_of  # noqa: E402
-from plots import scale_of, shade, spread_of  # noqa: E402
+from plots import begin_of, offset_axis, scale_of, shade, spread_of  # noqa: E402
 from svg_chart import Band, Bar, Line, Panel, log_axis, picture, round_axis, utc_axis  # noqa: E402
 
 SVG = "{http://www.w3.org/2000/svg}"
@@ -119,6 +119,14 @@ class Charts(unittest.TestCase):
                 self.assertTrue(all(axis.low <= value <= axis.high for value in values))
         flat = round_axis([7.0, 7.0])
         self.assertTrue(flat.low < 7 < flat.high)
+
+    def test_an_axis_of_offsets_magnifies_no_rounding(self):
+        self.assertEqual([letters for _, letters in offset_axis([7.0, 7.0]).ticks], ["6.96", "6.98", "7.00", "7.02", "7.04"])
+        self.assertEqual([letters for _, letters in offset_axis([-1.0, 1.0]).ticks], ["-1.0", "-0.5", "0.0", "0.5", "1.0"])
+
+    def test_when_a_run_begins(self):
+        self.assertEqual(begin_of(run_of(verdicts(range(3)))), "From 2026-01-01 12:00 UTC on")
+        self.assertEqual(begin_of(None), "")
 
     def test_places_on_an_axis(self):
         self.assertEqual([log_axis(1, 100, (1, 10, 1000)).part(value) for value in (0.1, 1, 10, 100, 1e9)], [0, 0, 0.5, 1, 1])
