@@ -107,7 +107,7 @@ has 7 '^nothing to mend$'
 [ $told = 0 ] || wrong "the check ends with $told"
 nsenter --net="/proc/$network/ns/net" chroot "$host" sh -c "cd $home && exec $(step 8)" > "$work/step.8" 2>&1 &
 keeper=$!
-# Four to five minutes after the first minute mark there is a time.
+# Five minutes after the first minute mark there is a time.
 turns=0
 until inside './radio_keeper status' > "$work/step.9" 2>&1; do
     turns=$((turns + 1))
