@@ -13,81 +13,8 @@ set -eu
 bring "$work" tick_units ntp_packet clock_page reply_core kiss_gate
 mkdir -p "$work/crates/gate_loop/src"
 echo "gate_loop: tick_units reply_core kiss_gate" >> "$work/crates.txt"
-cat > "$work/crates/gate_loop/src/main.rt" <<'RATTLE'
-//! Judges a request of each of a number of senders of the file `senders`, 4 bytes a sender, a microsecond after the one before.
-#![tactic(auto)]
-
-use kiss_gate::{ClientGate, DenyList};
-use reply_core::Code;
-use std::{env, fs, io};
-use tick_units::Local;
-
-fn judge_all(gate: &mut ClientGate, senders: &[u8], count: usize) -> u64 {
-    let mut passed = 0u64;
-    let mut place = 0u32;
-    for sender in senders.chunks_exact(4).take(count) {
-        if let [a, b, c, d] = sender {
-            let ip = u32::from_le_bytes([*a, *b, *c, *d]);
-            place = place.wrapping_add(1);
-            if let Some(at) = Local::new(u64::from(place)) {
-                if gate.judge(ip, at).code == Code::Pass {
-                    passed = passed.wrapping_add(1);
-                }
-            }
-        }
-    }
-    passed
-}
-
-fn main(rt: HostRuntime) -> io::Result<()> {
-    let mut numbers = [0u64; 3];
-    let mut place = 0;
-    for word in env::args(&rt)?.skip(1) {
-        if let Ok(n) = word.as_str().parse::<u64>() {
-            if place < 3 {
-                numbers[place] = n;
-                place += 1;
-            }
-        }
-    }
-    let [clients, count, gap] = numbers;
-    let clients = match u32::try_from(clients) {
-        Ok(clients) => clients.clamp(1, 65_536),
-        Err(_) => 1,
-    };
-    let senders = fs::read(&rt, "senders")?;
-    let Ok(mut gate) = ClientGate::open(rt.alloc(), &DenyList::new(), gap.min(60_000_000), clients) else {
-        return Ok(());
-    };
-    let passed = judge_all(&mut gate, senders.as_slice(), count as usize);
-    println!(rt; "{passed}")?;
-    Ok(())
-}
-RATTLE
-cat > "$work/find.c" <<'C'
-/* The first addresses that have one tag, and their places among the first groups of a table: how many, and of how many, by the
-   hash of the kit's maps, whose seed is fixed. */
-#include <stdint.h>
-#include <stdio.h>
-#include <stdlib.h>
-static uint32_t hash(uint32_t ip) {
-    unsigned __int128 product = (unsigned __int128)(0x243f6a8885a308d3u ^ (ip | (uint64_t)ip << 32)) * (0x9e3779b97f4a7c15u ^ 8);
-    uint64_t folded = (uint64_t)product ^ (uint64_t)(product >> 64);
-    return (uint32_t)(folded ^ folded >> 32);
-}
-int main(int argc, char **argv) {
-    uint32_t groups = atoi(argv[1]), starts = atoi(argv[2]);
-    long left = argc > 3 ? atol(argv[3]) : 0;
-    for (uint64_t ip = 1; ip >> 32 == 0 && left > 0; ip++) {
-        uint32_t word = (uint32_t)ip, h = hash(word);
-        if (h >> 24 == 7 && (h & (groups - 1)) < starts) {
-            fwrite(&word, 4, 1, stdout);
-            left--;
-        }
-    }
-}
-C
-gcc -O2 -o "$work/find" "$work/find.c"
+cp "$top/bench/programs/gate_loop.rt.in" "$work/crates/gate_loop/src/main.rt"
+gcc -O2 -o "$work/find" "$top/bench/find_senders.c"
 loop=$work/crates/gate_loop
 : > "$loop/senders"
 build "$loop" 0 0 0

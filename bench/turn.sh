@@ -12,64 +12,7 @@ bring "$work" tick_units feed_link host_links journal_entry clock_filter select_
     reply_core kiss_gate sealed_reply page_cell responder
 mkdir -p "$work/crates/turn_loop/src" "$work/crates/turn_loop/proofs/settings_of_none"
 echo "turn_loop: tick_units feed_link host_links journal_entry system_fold packet_auth kiss_gate page_cell responder" >> "$work/crates.txt"
-cat > "$work/crates/turn_loop/src/main.rt" <<'RATTLE'
-//! Serves a number of datagrams on a port, from the page of no entry.
-#![tactic(auto)]
-
-ghost use Rattle.std.specs.Prelude.{◌≡◌};
-ghost use Rattle.system_fold.specs.Settings.{AreLawful};
-
-use feed_link::{OpenGate, Outside};
-use host_links::HostOutside;
-use kiss_gate::{ClientGate, DenyList};
-use packet_auth::KeyRing;
-use page_cell::{CellParts, PageCell};
-use responder::Responder;
-use std::{env, io};
-use system_fold::Settings;
-use tick_units::Local;
-
-fn settings_of_none() -> Settings
-    ensures { AreLawful result }
-{
-    Settings::new(500)
-}
-
-fn main(rt: HostRuntime) -> io::Result<()> {
-    let mut numbers = [0u64; 2];
-    let mut place = 0;
-    for word in env::args(&rt)?.skip(1) {
-        if let Ok(n) = word.as_str().parse::<u64>() {
-            if place < 2 {
-                numbers[place] = n;
-                place += 1;
-            }
-        }
-    }
-    let [port, count] = numbers;
-    let port = u16::try_from(port).unwrap_or(0);
-    let mut outside = HostOutside::new(&rt);
-    let Ok(link) = outside.open_link(port, Local::new(0).unwrap()) else {
-        return Ok(());
-    };
-    let settings = settings_of_none();
-    let Ok(parts) = PageCell::open(rt.alloc(), &settings, 1) else {
-        return Ok(());
-    };
-    let CellParts { cell, readers, .. } = parts;
-    let mut readers = readers;
-    let Some(pass) = readers.pop() else {
-        return Ok(());
-    };
-    let Ok(clients) = ClientGate::open(rt.alloc(), &DenyList::new(), 0, 1024) else {
-        return Ok(());
-    };
-    let mut responder = Responder::new(link, pass, 0, KeyRing::new(), clients);
-    let served = responder.serve(&rt, &cell, &OpenGate::new(), count);
-    println!(rt; "{}", served.answered)?;
-    Ok(())
-}
-RATTLE
+cp "$top/bench/programs/turn_loop.rt.in" "$work/crates/turn_loop/src/main.rt"
 cat > "$work/crates/turn_loop/proofs/settings_of_none/Answers.antt" <<'ANTT'
 use Rattle.std.proofs.Common.{rules, arith}
 use Rattle.turn_loop.proofs.settings_of_none.Goals as goal
@@ -77,34 +20,7 @@ use Rattle.turn_loop.proofs.settings_of_none.Goals as goal
 pub returns : goal.returns
 returns c = record { milliseconds = 500; least = omega arith; most = omega arith; bound = search rules }
 ANTT
-cat > "$work/echo.c" <<'C'
-/* The system calls of a turn, and nothing else: it waits for a datagram for two seconds, reads the clock twice, and sends 48 bytes back. */
-#include <netinet/in.h>
-#include <stdio.h>
-#include <stdlib.h>
-#include <sys/socket.h>
-#include <sys/time.h>
-#include <time.h>
-int main(int argc, char **argv) {
-    int fd = socket(AF_INET, SOCK_DGRAM, 0);
-    struct sockaddr_in at = {.sin_family = AF_INET, .sin_port = htons(atoi(argv[1])), .sin_addr = {htonl(INADDR_ANY)}};
-    struct timeval two = {2, 0};
-    if (bind(fd, (struct sockaddr *)&at, sizeof at) || setsockopt(fd, SOL_SOCKET, SO_RCVTIMEO, &two, sizeof two)) return 1;
-    long answered = 0;
-    static unsigned char piece[1024];
-    for (long i = atol(argv[2]); i > 0; i--) {
-        struct sockaddr_in from;
-        socklen_t size = sizeof from;
-        struct timespec arrived, sent;
-        if (recvfrom(fd, piece, sizeof piece, 0, (struct sockaddr *)&from, &size) < 48) continue;
-        clock_gettime(CLOCK_MONOTONIC, &arrived);
-        clock_gettime(CLOCK_MONOTONIC, &sent);
-        answered += sendto(fd, piece, 48, 0, (struct sockaddr *)&from, size) == 48;
-    }
-    printf("%ld\n", answered);
-}
-C
-gcc -O2 -o "$work/echo" "$work/echo.c"
+gcc -O2 -o "$work/echo" "$top/bench/turn_echo.c"
 cat > "$work/client.py" <<'PYTHON'
 """Asks again and again, each time until it is answered or a fifth of a second has passed."""
 import socket, sys
