@@ -6,7 +6,7 @@
 #     bench/all.sh [BENCH...]
 set -u
 cd "$(dirname "$0")" || exit 1
-[ $# -gt 0 ] || set -- decode reply seal turn gate page fold serve drill replay migrate
+[ $# -gt 0 ] || set -- decode reply seal turn client_gate page fold serve drill replay migrate
 failed=
 for bench do
     echo "== $bench"

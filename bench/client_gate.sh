@@ -7,7 +7,7 @@
 # program is built in a temporary folder over copies of the crates, which proves them first (some minutes where nothing is kept). Needs
 # rt, valgrind, gcc, python3.
 #
-#     bench/gate.sh
+#     bench/client_gate.sh
 set -eu
 . "$(dirname "$0")/small_program.sh"
 bring "$work" tick_units ntp_packet clock_page reply_core kiss_gate
