@@ -20,9 +20,9 @@ for tree in before after; do
     cp -r "$work/loop" "$work/$tree/crates/decode_loop"
     if [ "$tree" = before ]; then
         # Until boxed receivers were receivers, decoders had calls of their own for a receiver of a known type. The host's files were in
-        # `feed_link`.
+        # `feed_link`, and an entry was written with the room of a numbered one alone.
         links=feed_link
-        sed -i 's/LogDecoder::new(/LogDecoder::direct(/; s/self\.take(bytes)/self.take_direct(bytes)/; s/self\.finish()/self.finish_direct()/; s/host_links/feed_link/' "$work/before/crates/decode_loop/src/main.rt"
+        sed -i 's/LogDecoder::new(/LogDecoder::direct(/; s/self\.take(bytes)/self.take_direct(bytes)/; s/self\.finish()/self.finish_direct()/; s/host_links/feed_link/; s/write_unnumbered/write_entry/' "$work/before/crates/decode_loop/src/main.rt"
     fi
     echo "decode_loop: tick_units $links file_reader sink_text pulse_log journal_entry radio_receiver log_decoder" >> "$work/$tree/crates.txt"
     build "$work/$tree/crates/decode_loop"
