@@ -1,5 +1,5 @@
-/* A baseline for bench/serve.sh: the system calls of a server's turn, and nothing else. It waits for a datagram for two seconds, reads
- * the clock twice, and sends 48 bytes back; for a number of turns, or until it's ended. */
+/* A baseline for bench/serve.sh and bench/turn.sh: the system calls of a server's turn, and nothing else. It waits for a datagram for two
+ * seconds, reads the clock twice, and sends 48 bytes back; for a number of turns, or until it is ended. */
 #include <netinet/in.h>
 #include <stdio.h>
 #include <stdlib.h>

@@ -1,3 +1,4 @@
+/* A baseline for bench/seal.sh: MD5 of a key and a header by OpenSSL, once for a request and once for its reply. */
 #include <openssl/md5.h>
 #include <stdint.h>
 #include <stdio.h>

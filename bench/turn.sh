@@ -20,7 +20,7 @@ use Rattle.turn_loop.proofs.settings_of_none.Goals as goal
 pub returns : goal.returns
 returns c = record { milliseconds = 500; least = omega arith; most = omega arith; bound = search rules }
 ANTT
-gcc -O2 -o "$work/echo" "$top/bench/turn_echo.c"
+gcc -O2 -o "$work/echo" "$top/bench/plain_echo.c"
 cat > "$work/client.py" <<'PYTHON'
 """Asks again and again, each time until it is answered or a fifth of a second has passed."""
 import socket, sys
