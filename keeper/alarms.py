@@ -1,6 +1,7 @@
 """Alarms: a command of the operator's at each change of state. One runs at a time, for a bounded time, and holds nothing up."""
 
 import collections
+import contextlib
 import os
 import signal
 import subprocess
@@ -53,12 +54,13 @@ class Alarms:
             self.raise_alarm(state, "time-lost", "no link answers" if silent else "clients get no time", now)
 
     def _judge_radio(self, state: State, radio, now: float) -> None:
-        since = max(radio.minute_at, state.keeper_since)
+        begun = max(state.keeper_since, radio.since)
+        since = max(radio.minute_at, begun)
         if now - since >= self.unheard:
             if radio.number not in self.silent:
                 self.silent.add(radio.number)
                 self.raise_alarm(state, "radio-unheard", f"radio {radio.number} ({radio.name or radio.plan}) has had no verdict for {now - since:.0f} s", now, radio.number)
-        elif radio.number in self.silent and radio.minute_at > state.keeper_since:
+        elif radio.number in self.silent and radio.minute_at > begun:
             self.silent.discard(radio.number)
             self.raise_alarm(state, "radio-heard", f"radio {radio.number} ({radio.name or radio.plan}) is received again", now, radio.number)
 
@@ -110,8 +112,8 @@ class Alarms:
     def _signal(self, number: int) -> None:
         try:
             os.killpg(self.child.pid, number)
-        except ProcessLookupError:
-            pass
+        except (ProcessLookupError, PermissionError):
+            pass  # it has ended, or it took other rights, as sudo does: it ends when it likes
 
     def close(self) -> None:
         """Ends a command that still runs; what waits isn't run any more."""
@@ -122,5 +124,6 @@ class Alarms:
                 self.child.wait(GRACE)
             except subprocess.TimeoutExpired:
                 self._signal(signal.SIGKILL)
-                self.child.wait()
+                with contextlib.suppress(subprocess.TimeoutExpired):
+                    self.child.wait(GRACE)
         self.child = None

@@ -27,15 +27,22 @@ class Guard:
         self._fork()
 
     def _fork(self) -> None:
-        taken, self.pipe = os.pipe2(os.O_CLOEXEC)
-        self.pid = os.fork()
-        if self.pid == 0:
+        """Raises OSError, and then there is none."""
+        taken, pipe = os.pipe2(os.O_CLOEXEC)
+        try:
+            pid = os.fork()
+        except OSError:
+            os.close(taken)
+            os.close(pipe)
+            raise
+        if pid == 0:
             try:
-                os.close(self.pipe)
+                os.close(pipe)
                 _guarding(taken)
             finally:
                 os._exit(0)
         os.close(taken)
+        self.pid, self.pipe = pid, pipe
 
     def add(self, group: int) -> None:
         self.groups.add(group)
@@ -52,18 +59,32 @@ class Guard:
             self.look()
 
     def look(self) -> None:
-        """Puts a new guard in the place of one that died. Call it now and then."""
-        if os.waitpid(self.pid, os.WNOHANG)[0] == 0:
-            return
-        os.close(self.pipe)
-        self._fork()
-        for group in self.groups:
-            os.write(self.pipe, b"+%d\n" % group)
+        """Puts a new guard in the place of one that died. Call it now and then: where the host refuses one it is tried again."""
+        if self.pid:
+            if self._wait(os.WNOHANG):
+                return
+            os.close(self.pipe)
+            self.pid, self.pipe = 0, -1
+        try:
+            self._fork()
+            for group in self.groups:
+                os.write(self.pipe, b"+%d\n" % group)
+        except OSError:
+            pass
+
+    def _wait(self, how: int) -> bool:
+        """Whether the guard still lives."""
+        try:
+            return os.waitpid(self.pid, how)[0] == 0
+        except ChildProcessError:
+            return False  # whoever started the keeper has it ignore SIGCHLD
 
     def close(self) -> None:
         """The keeper has ended its children by itself."""
-        os.close(self.pipe)
-        os.waitpid(self.pid, 0)
+        if self.pid:
+            os.close(self.pipe)
+            self._wait(0)
+            self.pid, self.pipe = 0, -1
 
 
 def _guarding(taken: int) -> None:
@@ -98,8 +119,13 @@ class Child:
         self.guard = guard
         self.process = subprocess.Popen(words, start_new_session=True, **how)
         self.pid = self.process.pid
+        try:
+            self.descriptor = os.pidfd_open(self.pid)
+        except OSError:
+            end_group(self.pid, signal.SIGKILL)
+            self.process.wait()
+            raise
         guard.add(self.pid)
-        self.descriptor = os.pidfd_open(self.pid)
 
     def status(self) -> int | None:
         """Its exit status, negative for a signal, or None while it runs."""

@@ -68,7 +68,8 @@ class Counter:
     """Reads the counter of a server that has just been started, step by step. `asked` counts the requests that were received or may be."""
 
     def __init__(self, port: int, address: str) -> None:
-        self.client = open_client(port, address)
+        self.port, self.address = port, address
+        self.client: socket.socket | None = None  # opened by the first step that the host grants one to
         self.began = time.monotonic()
         self.sent: dict[int, float] = {}
         self.exchanges: list[Exchange] = []
@@ -78,6 +79,7 @@ class Counter:
         """One request, and the answers that come soon; whether the lag is known as well as it can be. A server that isn't there yet is
         asked again."""
         try:
+            self.client = self.client or open_client(self.port, self.address)
             left = time.monotonic_ns()
             self.client.send(request(left))
             self.sent[left % 2**64] = left / 1e3
@@ -121,4 +123,5 @@ class Counter:
         return reading_of(self.exchanges)
 
     def close(self) -> None:
-        self.client.close()
+        if self.client:
+            self.client.close()

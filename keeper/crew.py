@@ -38,7 +38,8 @@ class Crew:
         self.settings: Settings | None = None
         self.refused = ""  # why a file was refused at the last reload
         self.lacking = ""  # why no server can be started for the next run
-        self.clock = clock.ClockWatch()
+        self.clock, self.sleep = clock.ClockWatch(), clock.SleepWatch()
+        self.slept = False  # since the last run began
         self.failing = False
 
     def use(self, settings: Settings) -> None:
@@ -110,6 +111,9 @@ class Crew:
         step = self.clock.step()
         if step:
             self._move(step)
+        span = self.sleep.span()
+        if span:
+            self._wake(span)
 
     def _move(self, step: float) -> None:
         """The host's clock was set forward by this number of seconds."""
@@ -121,15 +125,23 @@ class Crew:
         if self.pacing:
             self.pacing.move(step)
 
+    def _wake(self, span: float) -> None:
+        """The host slept for this number of seconds: the run's counter is as far behind."""
+        say(f"the host slept for {span:.0f} s; a new run begins, without what was received before")
+        self.slept = True
+        for feed in self.feeds:
+            feed.wake()
+
     def note_begin(self, run: Run) -> None:
         """A run serves."""
+        self.slept = False
         run_state, reading = self.state.run, run.reading
         run_state.number, run_state.since, run_state.cause, run_state.pid = run.number, run.since, run.cause, run.server.child.pid
+        facts.note_leap_file(self.state)
         run_state.lag, run_state.lag_bound = (reading.lag / 1e6, reading.bound / 1e6) if reading else (0.0, 0.0)
         counter = f"its counter began {reading.lag:.0f} us late, known within {reading.bound:.0f} us" if reading else "where its counter stands isn't known"
         say(f"run {run.number} ({run.cause}) serves after {run.age() * 1000:.0f} ms; {counter}")
-        if run.number == 1:
-            self.notify.ready()
+        self.notify.ready()  # systemd passes over all but the first, which needn't be run 1: that may not have begun
 
     def note_end(self, run: Run, text: bytes) -> None:
         """A run has ended and has printed this."""

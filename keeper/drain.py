@@ -22,7 +22,8 @@ class LinkDrain:
     """Uses up the hearings of one link, never with more than two batches under way. `sent` counts the datagrams."""
 
     def __init__(self, port: int, address: str) -> None:
-        self.client = open_client(port, address)
+        self.port, self.address = port, address
+        self.client: socket.socket | None = None  # opened by the first step that the host grants one to
         self.sent = 0
         self.open: collections.deque[int] = collections.deque()  # the stamps of requests that aren't answered yet
         self.asked_at = self.moved_at = 0.0
@@ -35,6 +36,7 @@ class LinkDrain:
     def step(self, now: float) -> None:
         """Sends the next batch where an earlier one was received (`now` in monotonic s)."""
         try:
+            self.client = self.client or open_client(self.port, self.address)
             self._receive(now)
             if self.gone:
                 return
@@ -73,7 +75,8 @@ class LinkDrain:
         self.sent += 1
 
     def close(self) -> None:
-        self.client.close()
+        if self.client:
+            self.client.close()
 
 
 class PollDrain:
@@ -81,13 +84,16 @@ class PollDrain:
 
     def __init__(self, process: int, links: list[int]) -> None:
         self.process, self.links = process, links
-        self.out = socket.socket(socket.AF_INET, socket.SOCK_DGRAM | socket.SOCK_CLOEXEC)
-        self.out.setblocking(False)
+        self.out: socket.socket | None = None
         self.seen: dict[int, tuple[int, float]] = {}
         self.sent = 0
 
     def step(self, now: float) -> bool:
         """Sends more to each poller that still receives; whether there is none left (`now` in monotonic s)."""
+        try:
+            self.out = self.out or socket.socket(socket.AF_INET, socket.SOCK_DGRAM | socket.SOCK_NONBLOCK | socket.SOCK_CLOEXEC)
+        except OSError:
+            return False  # the host has none now
         found = [one for one in of_process(self.process) if one.port not in self.links]
         going = [one for one in found if not self._is_still(one, now)]
         for one in going:
@@ -108,7 +114,8 @@ class PollDrain:
         return now - since > STILL
 
     def close(self) -> None:
-        self.out.close()
+        if self.out:
+            self.out.close()
 
 
 class Drain:

@@ -17,7 +17,7 @@ def new_state(settings: Settings, before: State | None) -> State:
     state = State(keeper_since=time.time(), keeper_pid=os.getpid())
     state.station, state.bound, state.cycle = settings.station, settings.bound, settings.cycle
     state.links = [LinkState(port=port) for port in settings.links]
-    state.radios = [RadioState(number=place, plan=one.plan, name=one.name, delay=one.delay, steady=one.steady) for place, one in enumerate(settings.radios)]
+    state.radios = [RadioState(number=place, plan=one.plan, name=one.name, delay=one.delay, steady=one.steady, since=state.keeper_since) for place, one in enumerate(settings.radios)]
     first = len(state.radios)
     state.servers = [ServerState(number=first + place, address=address, port=port) for place, (address, port) in enumerate(settings.servers)]
     if settings.leap_file:
@@ -87,6 +87,12 @@ def note_servers(state: State, pacing: Pacing | None) -> None:
             server.answered_at = max(server.answered_at, answered)
 
 
+def note_leap_file(state: State) -> None:
+    """A run reads the list as it begins, which the host may have renewed since the one before."""
+    if state.leap_file:
+        state.leap_file.expires = expiry(state.leap_file.path)
+
+
 def note_requests(state: State, heard: list[int], own: list[int], seconds: float) -> None:
     """Clients' requests of a run that has ended."""
     for link, count, ours in zip(state.links, heard, own):
@@ -98,7 +104,7 @@ def move(state: State, step: float) -> None:
     """The host's clock was set forward by this number of seconds: the moments that this keeper took by it are moved. The pictures of the day stay, but for what lies ahead now."""
     state.alarms = [dataclasses.replace(one, at=one.at + step) if one.at >= state.keeper_since else one for one in state.alarms]
     state.keeper_since += step
-    for part, names in [(state.run, ("since",)), *((one, ("pulse_at", "minute_at")) for one in state.radios), *((one, ("sample_at", "answered_at")) for one in state.servers)]:
+    for part, names in [(state.run, ("since",)), *((one, ("pulse_at", "minute_at", "since")) for one in state.radios), *((one, ("sample_at", "answered_at")) for one in state.servers)]:
         for name in names:
             if getattr(part, name):
                 setattr(part, name, getattr(part, name) + step)

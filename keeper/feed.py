@@ -11,7 +11,7 @@ from keeper.decoder import Decoder
 from keeper.lines import OLDEST, Lines, Pulse
 from keeper.loop import Loop
 from keeper.outlet import Outlet
-from keeper.pulse_log import PulseLog
+from keeper.pulse_log import PulseLog, boot_id
 from keeper.reception import Reception
 from keeper.source import Ended, source_of
 from keeper.state import RadioState
@@ -54,7 +54,7 @@ class Feed:
         elif self.source.descriptor < 0 and now - self.looked >= LOOK:
             self.looked = now
             self._read()
-        if self.state.source == "running" and now - self.pulse_at > self.radio.stall:
+        if self.state.source in ("running", "stalled") and now - self.pulse_at > self.radio.stall:
             self._stall(now)
         self._report(now)
         if self.outlet and self.outlet.pending:
@@ -89,7 +89,7 @@ class Feed:
         """No pulse for long."""
         if self.source.can_restart:
             self._wait(now, f"no pulse for {self.radio.stall:.0f} s")
-        else:
+        elif self.state.source == "running":
             self.state.source = "stalled"
             self.say(f"radio {self.state.number}: no pulse for {self.radio.stall:.0f} s")
 
@@ -142,6 +142,14 @@ class Feed:
         self.outlet = outlet
         now = time.monotonic_ns() // 1000
         outlet.give([pulse for pulse in self.recent if pulse.start >= now - OLDEST])
+
+    def wake(self) -> None:
+        """The host slept, and the counter stood still: what came before says nothing of now, and a new log begins."""
+        self.recent.clear()
+        self.steadied = Steadied() if self.radio.steady else Unmoved()
+        self.reception.minutes.clear()
+        self.log.close()
+        self.log.boot = boot_id()
 
     def leave(self) -> None:
         """The server gets no more of them."""

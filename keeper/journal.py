@@ -55,7 +55,7 @@ def expiry(path: str) -> float:
         with open(path, "rb") as file:
             for line in file.read(65536).split(b"\n"):
                 words = line.split()
-                if len(words) >= 2 and words[0] == b"#@" and words[1].isdigit():
+                if len(words) >= 2 and words[0] == b"#@" and words[1].isdigit() and len(words[1]) <= 10:
                     return float(int(words[1]) - EPOCH)
     except OSError:
         pass

@@ -1,5 +1,6 @@
 """Journals of runs that have ended: each whole or not at all, with a file beside it that counts the keeper's own datagrams."""
 
+import contextlib
 import datetime
 import os
 import re
@@ -48,7 +49,8 @@ class Journals:
         os.makedirs(self.folder, exist_ok=True)
         for name in os.listdir(self.folder):
             if name.endswith(".part") and NAME.fullmatch(name):
-                os.unlink(os.path.join(self.folder, name))
+                with contextlib.suppress(OSError):  # on a disk that takes nothing clients are served all the same
+                    os.unlink(os.path.join(self.folder, name))
 
     def keep(self, began: float, text: bytes, own: list[int]) -> str:
         """Keeps the journal of the run that began then (Unix s). Its name, or nothing where it isn't whole."""
@@ -81,7 +83,6 @@ class Journals:
                 # The counts come first, so that a journal never stands without them.
                 self._write(name + ".own", counts.encode())
                 self._write(name + ".journal", text)
-                drop_old(self.folder, NAME, day_of(time.time()), self.days)
             except OSError as error:
                 said = f"journals can't be written: {error.strerror}; {len(self.waiting)} wait"
                 if not self.note:
@@ -89,9 +90,16 @@ class Journals:
                 self.note = said
                 return
             self.waiting.pop(0)
+            self._drop_old()
         if self.note:
             self.say("journals can be written again")
         self.note = ""
+
+    def _drop_old(self) -> None:
+        try:
+            drop_old(self.folder, NAME, day_of(time.time()), self.days)
+        except OSError as error:
+            self.say(f"an old journal can't be removed: {error.strerror}")
 
     def _write(self, name: str, text: bytes) -> None:
         path = os.path.join(self.folder, name)

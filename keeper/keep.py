@@ -74,6 +74,7 @@ class Keeper:
         self.crew.notify.stopping()
         if self.run:
             self._finish(self.run)
+        self._give_up_waiting()
         self.crew.state.keeper_pid = 0  # it was stopped, and hasn't died
         self.crew.renew(None)
         return self.status
@@ -154,6 +155,8 @@ class Keeper:
             return "stop"
         if run.server.status() is not None:
             return "died"
+        if self.crew.slept:
+            return "slept"
         if run.watch.deaf():
             return "silent"
         if self.crew.pacing and self.crew.pacing.has_died():
@@ -198,6 +201,8 @@ class Keeper:
     def _end_run(self, run: Run, why: str) -> None:
         """Ends a run so that its ports are free. Its journal is taken when the next one serves."""
         run.why, run.ended = why, time.monotonic()
+        if why == "slept":
+            self._end_at_once(run)  # each answer of it is as wrong as the sleep was long
         run.leave()
         self._use_next()
         try:
@@ -209,11 +214,14 @@ class Keeper:
         if not self.stopping:
             self._stand_by()
         if why != "died" and not run.drain(self._meanwhile):
-            say(f"run {run.number} is ended at once: its journal is lost")
-            self.status = NOT_WELL
-            run.server.child.end(0)
+            self._end_at_once(run)
         elif why == "silent" and run.was_used_up():
             self.crew.hearings.learn(0, 1.0, True)
+
+    def _end_at_once(self, run: Run) -> None:
+        say(f"run {run.number} is ended at once: its journal is lost")
+        self.status = NOT_WELL
+        run.server.child.end(0)
 
     def _meanwhile(self) -> bool:
         """What goes on while a run is drained; False where the end was asked for twice."""
@@ -223,6 +231,13 @@ class Keeper:
     def _finish(self, run: Run) -> None:
         self.crew.note_end(run, run.finish())
         self.crew.renew(self.run)
+
+    def _give_up_waiting(self) -> None:
+        """The end: what the disk doesn't take now is lost."""
+        self.crew.journals.try_again()
+        if self.crew.journals.waiting:
+            say(f"the disk takes nothing; journals that are lost: {len(self.crew.journals.waiting)}")
+            self.status = NOT_WELL
 
     def close(self) -> None:
         self.standby.close()

@@ -32,10 +32,11 @@ class Pacing:
         self.child = Child(self.guard, words, stdin=subprocess.PIPE, stdout=subprocess.PIPE, env=environment, bufsize=0)
         os.set_blocking(self.child.process.stdin.fileno(), False)
         line = self._first_line()
-        self.relays = [(one.rpartition(":")[0], int(one.rpartition(":")[2])) for one in line.split()[1:]]
-        if len(self.relays) != len(self.servers):
+        relays = [(one.rpartition(":")[0], int(one.rpartition(":")[2])) for one in line.split()[1:]]
+        if len(relays) != len(self.servers):
             self.close()
             raise OSError(0, "the relays of the servers don't start")
+        self.relays = relays  # those before stand until then: without any a run would ask the servers themselves
         out = self.child.process.stdout.fileno()
         os.set_blocking(out, False)
         self.loop.reads(out, self._receive)

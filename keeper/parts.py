@@ -18,7 +18,7 @@ class RunState:
 
     number: runs since the keeper began, from 1; 0 before the first.
     since: when it was started (Unix s).
-    cause: why it was started: `start`, `cycle`, `reload`, `died`, `silent`, `link`.
+    cause: why it was started: `start`, `cycle`, `reload`, `died`, `silent`, `link`, `slept`.
     pid: its process, 0 where there is none.
     lag: how late its counter began, as its replies say (s). Pulses are moved by it.
     lag_bound: within what the lag is known (s), half of the shortest exchange.
@@ -117,6 +117,7 @@ class RadioState:
     spread: how far its marks lie off a straight line of whole seconds over the last five minutes, standard deviation (s).
     spread_given: the same of the marks as they are handed on, which are others where they are steadied (s).
     steady: whether they are.
+    since: when the keeper began to read it (Unix s).
     delay: the station's (s).
     reception: quarters of an hour, oldest first, at most 96.
     offsets: for the picture, oldest first, at most 288.
@@ -138,6 +139,7 @@ class RadioState:
     spread: float = 0.0
     spread_given: float = 0.0
     steady: bool = False
+    since: float = 0.0
     delay: float = 0.0
     reception: list[Quarter] = field(default_factory=list)
     offsets: list[Slot] = field(default_factory=list)

@@ -6,6 +6,8 @@ import os
 import re
 import shutil
 import threading
+import time
+import zlib
 from collections.abc import Callable
 from typing import IO
 
@@ -15,12 +17,14 @@ LINE = 64  # bytes: a line and the end of the one before are less
 
 
 def boot_id() -> str:
-    """The beginning of this boot's identifier, since the counter begins anew with each boot."""
+    """The beginning of this boot's identifier, since the counter begins anew with each boot; another one after each sleep, in which it stood still."""
     try:
         with open("/proc/sys/kernel/random/boot_id", encoding="ascii") as file:
-            return file.read().replace("-", "")[:8]
+            boot = int(file.read().replace("-", "")[:8], 16)
     except OSError:
-        return "00000000"
+        boot = 0
+    asleep = time.clock_gettime(time.CLOCK_BOOTTIME) - time.monotonic()
+    return f"{(boot + round(asleep)) % 2**32:08x}"
 
 
 def day_of(unix: float) -> str:
@@ -98,11 +102,19 @@ class PulseLog:
         self.day = day
         os.makedirs(self.folder, exist_ok=True)
         self.join()
-        self.worker = threading.Thread(target=self._tidy, args=(day,), daemon=True)
-        self.worker.start()
+        worker = threading.Thread(target=self._tidy, args=(day,), daemon=True)
+        try:
+            worker.start()
+            self.worker = worker
+        except RuntimeError as error:  # the host has no thread for us: the older ones wait for the next day
+            self.say(f"the older logs of radio {self.number} stay as they are: {error}")
 
     def _tidy(self, today: str) -> None:
-        there = [(name, NAME.fullmatch(name.removesuffix(PARTS))) for name in sorted(os.listdir(self.folder))]
+        try:
+            there = [(name, NAME.fullmatch(name.removesuffix(PARTS))) for name in sorted(os.listdir(self.folder))]
+        except OSError as error:
+            self.say(f"{self.folder} can't be read: {error.strerror}")
+            return
         mine = [(name, found) for name, found in there if found and int(found[1]) == self.number]
         oldest = oldest_kept([found[3] for _, found in mine], today, self.days)
         for name, found in mine:
@@ -113,7 +125,7 @@ class PulseLog:
                 elif not found[5] and (found[3] != today or found[4] != self.boot):
                     compress(path)
             except OSError as error:
-                self.say(f"{path} can't be kept: {error.strerror}")
+                self.say(f"{path} can't be kept: {error.strerror or error}")
 
     def join(self) -> None:
         """Waits for what is compressed beside."""
@@ -144,11 +156,15 @@ def compress(path: str) -> None:
                 file.seek(0)
                 with gzip.open(out, "wb") as added:
                     shutil.copyfileobj(file, added, 65536)
+            out.flush()
+            os.fsync(out.fileno())  # before the log itself goes
         os.replace(part, packed)
-    except OSError:
+    except (OSError, EOFError, zlib.error) as error:
         if os.path.exists(part):
             os.unlink(part)
-        raise
+        if isinstance(error, OSError):
+            raise
+        raise OSError(f"{packed} is damaged") from error
     os.unlink(path)
 
 
@@ -176,6 +192,12 @@ def drop_old(folder: str, pattern: re.Pattern[str], today: str, days: int) -> No
     """Removes the files of a folder whose name has this form and whose first group, a day, is too old to be kept. Raises OSError."""
     there = [(name, found[1]) for name, found in ((one, pattern.fullmatch(one)) for one in os.listdir(folder)) if found]
     oldest = oldest_kept([day for _, day in there], today, days)
+    refused: OSError | None = None
     for name, day in there:
         if day < oldest:
-            os.unlink(os.path.join(folder, name))
+            try:
+                os.unlink(os.path.join(folder, name))
+            except OSError as error:
+                refused = error  # the others go all the same
+    if refused:
+        raise refused

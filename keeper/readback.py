@@ -2,6 +2,7 @@
 
 import gzip
 import os
+import zlib
 
 from keeper.lines import OLDEST, Pulse, reading
 from keeper.pulse_log import PulseLog, day_of
@@ -35,6 +36,6 @@ def _tail(path: str) -> bytes:
                 text = file.read()
                 size = len(text)
                 text = text[-TAIL:]
-    except (OSError, EOFError):
+    except (OSError, EOFError, zlib.error):
         return b""
     return text if size <= TAIL else text.partition(b"\n")[2]

@@ -47,6 +47,7 @@ _REFERENCES = {"DCF": "DCF77 (radio)", "MSF": "MSF (radio)", "WWVB": "WWVB (radi
 _CAUSES = {
     "start": "the keeper was started", "cycle": "the last one was over", "reload": "the files were read anew", "died": "the last one ended by itself",
     "silent": "the last one didn't answer", "link": "a link of the last one failed",
+    "slept": "the host slept",
 }
 
 

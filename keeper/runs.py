@@ -1,8 +1,10 @@
 """One run of the server: begun warm, with its counter known, and ended whole."""
 
+import signal
 import time
 from collections.abc import Callable
 
+from keeper.children import end_group
 from keeper.config import Settings
 from keeper.counter import Counter, Reading
 from keeper.drain import Drain
@@ -15,6 +17,7 @@ from keeper.station import polls_for, text_for
 from keeper.watch import Watch
 
 BEGIN = 5.0  # within which a run's first link has to answer, in seconds
+FOREIGN = 0.5  # within which a server ends whose port another program has, in seconds
 END = 90.0  # within which a run has to end when it is drained, in seconds
 TURN = 0.01  # how often the loop goes round meanwhile, in seconds
 POLLS = 20.0  # what pollers that aren't paced may take to end by themselves, in seconds
@@ -75,7 +78,8 @@ class Run:
             counter.close()
         self.own[0] += counter.asked
         self.reading = counter.reading()
-        return True
+        # An answer that has a time may be of another program that has the port: ours then ends at once.
+        return self.reading is not None or not self.server.child.wait(FOREIGN)
 
     def leave(self) -> None:
         """Its feeds end, each at the end of a line, and nobody asks its links for the keeper any more."""
@@ -91,6 +95,7 @@ class Run:
     def drain(self, meanwhile: Callable[[], bool]) -> bool:
         """Uses up what the run has left, until its ports are free or it has ended. `meanwhile` is called every ten milliseconds, and
         says whether to go on. False where it had to be given up: the server is then ended at once, and its journal is lost."""
+        end_group(self.server.child.pid, signal.SIGCONT)  # one that was stopped goes on, so that it ends and its journal is kept
         drain = Drain(self.server.child.pid, self.settings.links, self.addresses, bool(self.settings.servers))
         began = turned = time.monotonic()
         try:

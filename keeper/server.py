@@ -19,22 +19,29 @@ class Server:
     def __init__(self, guard: Guard, program: str, radios: int, during: int) -> None:
         self.during = during
         self.closed = False
-        station, self.station = pipe()
-        logs = [pipe() for _ in range(radios)]
-        # Its output stays in memory until it has ended, so that a full disk can't spoil it.
-        self.journal = os.memfd_create("journal", os.MFD_CLOEXEC)
-        self.errors = os.memfd_create("errors", os.MFD_CLOEXEC)
-        self.names = [f"/dev/fd/{taken}" for taken, _ in logs]
-        self.outlets = [Outlet(given) for _, given in logs]
-        words = [program, "serve", "--station", f"/dev/fd/{station}", "--during", str(during)]
-        handed = [station, *(taken for taken, _ in logs)]
-        self.start = time.monotonic_ns() // 1000
+        self.station = self.journal = self.errors = -1
+        self.outlets: list[Outlet] = []
+        handed: list[int] = []
+        # Whatever the host refuses, what it gave before is given back.
         try:
+            station, self.station = pipe()
+            handed.append(station)
+            for _ in range(radios):
+                taken, given = pipe()
+                handed.append(taken)
+                self.outlets.append(Outlet(given))
+            # Its output stays in memory until it has ended, so that a full disk can't spoil it.
+            self.journal = os.memfd_create("journal", os.MFD_CLOEXEC)
+            self.errors = os.memfd_create("errors", os.MFD_CLOEXEC)
+            self.names = [f"/dev/fd/{taken}" for taken in handed[1:]]
+            words = [program, "serve", "--station", f"/dev/fd/{station}", "--during", str(during)]
+            self.start = time.monotonic_ns() // 1000
             self.child = Child(guard, words, stdin=subprocess.DEVNULL, stdout=self.journal, stderr=self.errors, pass_fds=handed)
         except OSError:
             self._close_pipes()
-            os.close(self.journal)
-            os.close(self.errors)
+            for one in (self.journal, self.errors):
+                if one >= 0:
+                    os.close(one)
             raise
         finally:
             for one in handed:

@@ -56,7 +56,14 @@ class Command:
 class Fifo:
     """A FIFO into which something else writes. It isn't opened anew when it is silent, since that would end its writer."""
 
-    can_restart = False
+    @property
+    def can_restart(self) -> bool:
+        """Whether another FIFO has its name by now: that one's writer waits for a reader."""
+        try:
+            there, here = os.stat(self.name), os.fstat(self.descriptor)
+        except OSError:
+            return False
+        return (there.st_dev, there.st_ino) != (here.st_dev, here.st_ino)
 
     def __init__(self, name: str) -> None:
         self.name = name

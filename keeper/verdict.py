@@ -61,7 +61,7 @@ def _radio(state: State, radio: RadioState, now: float) -> list[str]:
     name = title(radio)
     if radio.source != "running":
         return [f"{name}: its source is {radio.source}"]
-    if now - max(radio.minute_at, state.keeper_since) > UNHEARD:
+    if now - max(radio.minute_at, state.keeper_since, radio.since) > UNHEARD:
         return [f"{name}: no verdict {_since(radio.minute_at, now)}"]
     return []
 

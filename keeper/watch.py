@@ -93,8 +93,8 @@ class Watch:
             link.client = open_client(link.port, self.addresses[self.turns % len(self.addresses)])
             link.client.send(request(time.monotonic_ns()))
         except OSError:
-            # The port is closed. Whether the process has died is seen by itself.
-            link.silent += 1
+            # Nothing was sent: the host has no socket for us now, or its firewall drops what we send. The link may be well.
+            link.due = now + LOOK
             self._forget(link)
             return
         link.asked += 1

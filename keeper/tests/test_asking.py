@@ -262,6 +262,51 @@ class Watches(unittest.TestCase):
             self.assertGreater(found[0].waiting, 0)
 
 
+class Refused(unittest.TestCase):
+    """A host that has no socket for us at a moment, as where its table of files is full."""
+
+    def setUp(self):
+        refused = mock.Mock(side_effect=OSError(24, "Too many open files"))
+        self.none = [mock.patch(f"keeper.{name}.open_client", refused) for name in ("counter", "drain", "watch")]
+        self.none.append(mock.patch("keeper.drain.socket.socket", refused))
+
+    @contextlib.contextmanager
+    def refusing(self):
+        with contextlib.ExitStack() as all_of_them:
+            for one in self.none:
+                all_of_them.enter_context(one)
+            yield
+
+    def test_a_counter_and_a_drain_go_on_when_there_is_one_again(self):
+        link = Link(self, 500, lag=4_500)
+        with self.refusing():
+            counter, drain = Counter(link.port, "127.0.0.1"), Drain(os.getpid(), [link.port], ["127.0.0.1"], True)
+            self.addCleanup(counter.close)
+            self.addCleanup(drain.close)
+            self.assertFalse(counter.step() or counter.asked)
+            drain.step()
+            self.assertFalse(drain.is_free())
+        while not counter.step():
+            pass
+        self.assertLessEqual(abs(counter.reading().lag - 4_500), counter.reading().bound + 2)
+        drain.polls = None  # this process has no pollers
+        drain.step()
+        self.assertGreater(drain.sent()[0], 0)
+
+    def test_a_link_that_can_not_be_asked_is_not_deaf(self):
+        loop = Loop()
+        self.addCleanup(loop.close)
+        link = Link(self, 1000)
+        watch = Watch(loop, [link.port], ["127.0.0.1"], 0)
+        self.addCleanup(watch.close)
+        with self.refusing():
+            for tenth in range(100):
+                watch.turn(watch.began + tenth / 10)
+        self.assertEqual((watch.deaf(), watch.links[0].asked), ([], 0))
+        watch.turn(watch.began + 10.0)
+        self.assertEqual(watch.links[0].asked, 1)
+
+
 class HearingTests(unittest.TestCase):
     def test_as_many_as_the_run_before_needed_twice_over(self):
         hearings = Hearings(3600)

@@ -8,11 +8,13 @@ import subprocess
 import sys
 import time
 import unittest
+from unittest import mock
 
 from keeper.children import Child, Guard
 from keeper.loop import Loop
 from keeper.pacing import Pacing
 from keeper.relay import BURST, WAIT, Relay
+from keeper.station import text_for
 
 TOP = pathlib.Path(__file__).parent.parent.parent
 TIME = b"\x24\1" + bytes(46)
@@ -126,6 +128,16 @@ class Processes(unittest.TestCase):
         self.assertTrue(pacing.child.wait(5) and pacing.has_died())
         pacing.renew()
         self.assertFalse(pacing.has_died())
+
+    def test_relays_that_do_not_come_again_leave_no_run_to_ask_the_servers_themselves(self):
+        pacing = Pacing(self.guard, self.loop, 64, [("192.0.2.1", 123)])
+        self.addCleanup(pacing.close)
+        os.kill(pacing.child.pid, signal.SIGKILL)
+        self.assertTrue(pacing.child.wait(5))
+        with mock.patch("keeper.pacing.sys.executable", "/bin/true"), self.assertRaisesRegex(OSError, "the relays of the servers don't start"):
+            pacing.renew()
+        self.assertNotIn("192.0.2.1", text_for({"server": [{"address": "192.0.2.1", "port": 123}]}, [], 0, pacing.relays, 8))
+        self.assertTrue(pacing.child is None and not pacing.has_died(), "it is tried again after a pause")
 
     def test_the_guard_ends_what_a_killed_keeper_leaves(self):
         """A child that takes no SIGTERM, with a child of its own, of a parent that is killed."""

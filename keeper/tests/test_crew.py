@@ -10,10 +10,11 @@ import time
 import unittest
 from unittest import mock
 
-from keeper import clock, config
+from keeper import clock, config, verdict
 from keeper.children import Guard
 from keeper.crew import Crew
 from keeper.keep import Keeper
+from keeper.lines import Pulse
 from keeper.loop import Loop
 from keeper.words import Fault
 
@@ -93,6 +94,23 @@ class Reloads(Crews):
         # systemd ends a service whose reload isn't over in time.
         self.assertEqual([name for name, *_ in self.crew.notify.method_calls], ["reloading", "ready"])
 
+    def test_a_radio_that_is_added_has_as_long_to_be_heard_as_the_first_ones_had(self):
+        """The keeper runs for ten days when the reload comes."""
+        self.crew.use(self.settings())
+        self.crew.state.keeper_since -= 864_000
+        for radio in self.crew.state.radios:
+            radio.since -= 864_000
+            radio.minute_at, radio.source = time.time(), "running"
+        (self.folder / "station.toml").write_text('[[radio]]\nplan = "wwvb"\nlog = "x"\n' + STATION)
+        self.crew.use(self.settings('[[radio]]\ncommand = "sleep 62"\n' + FIRST + SECOND))
+        added = self.crew.state.radios[0]
+        added.source = "running"
+        self.crew.alarms.judge(self.crew.state, time.time())
+        self.assertNotIn("alarm radio-unheard: radio 0", self.said.getvalue())
+        self.assertEqual(verdict._radio(self.crew.state, added, time.time()), [])
+        self.crew.alarms.judge(self.crew.state, time.time() + 3601)
+        self.assertIn("alarm radio-unheard: radio 0 (wwvb) has had no verdict for 3601 s", self.said.getvalue())
+
 
 class Renewals(Crews):
     def test_a_state_folder_that_was_taken_away_is_made_again(self):
@@ -131,6 +149,28 @@ class Renewals(Crews):
         self.assertIn("the host's clock was set forward by 3600 s", self.said.getvalue())
         self.assertEqual((self.crew.state.keeper_since, self.crew.pacing.answered), (since + 3600, [3605.0]))
         self.assertEqual(self.crew.feeds[0].reception.verdicts_since(time.time() + 3500), 1)
+
+
+class Sleeps(Crews):
+    def test_a_host_that_slept_begins_anew_without_what_it_received_before(self):
+        self.crew.use(self.settings())
+        readings = iter([5.0, None, 28805.0, 28805.0])
+        self.crew.sleep = clock.SleepWatch(lambda: next(readings))
+        feed = self.crew.feeds[0]
+        feed.recent.append(Pulse(1, 100_000))
+        feed.reception.minutes.append((time.time(), True))
+        log = feed.log.path("20261201")
+        run = mock.Mock(**{"server.status.return_value": None, "watch.deaf.return_value": []})
+        keeper = mock.Mock(stopping=False, crew=self.crew)
+        with mock.patch("keeper.feed.boot_id", lambda: "b0070001"):
+            for _ in range(3):
+                self.turn()
+        self.assertIn("the host slept for 28800 s", self.said.getvalue())
+        self.assertEqual((list(feed.recent), self.crew.feeds[0].reception.verdicts_since(0)), ([], 0))
+        self.assertNotEqual(feed.log.path("20261201"), log)
+        self.assertEqual(Keeper._why_end(keeper, run, time.monotonic()), "slept")
+        self.turn()
+        self.assertEqual(self.said.getvalue().count("slept"), 1)
 
 
 class Faults(Crews):

@@ -1,10 +1,15 @@
 """What the state is told of links, servers and a keeper before."""
 
+import pathlib
+import tempfile
 import time
+import types
 import unittest
+from unittest import mock
 
 from keeper import facts, metrics, page, text
 from keeper.config import Radio, Settings
+from keeper.crew import Crew
 from keeper.ntp import EPOCH, Answer
 from keeper.state import Alarm, LinkState, Quarter, State
 from keeper.watch import Watched
@@ -44,6 +49,17 @@ class Facts(unittest.TestCase):
         self.assertEqual((state.radios[0].reception, state.radios[0].pulses, state.alarms), ([Quarter(900.0, verdict=7)], 0, before.alarms))
         other = settings(radios=[Radio("command", "true", "attic", 60.0, "msf", 0.0)])
         self.assertEqual(facts.new_state(other, before).radios[0].reception, [])
+
+    def test_a_list_of_leap_seconds_that_is_renewed_while_the_keeper_runs(self):
+        with tempfile.NamedTemporaryFile("w") as file:
+            state = facts.new_state(settings(leap_file=file.name), None)
+            for expires, due in (("3991593600", 1782604800.0), ("4007318400", 1798329600.0), ("9" * 400, 0.0)):
+                pathlib.Path(file.name).write_text(f"#@\t{expires}\n")
+                crew = types.SimpleNamespace(state=state, notify=mock.Mock())
+                run = mock.Mock(number=2, reading=None, **{"age.return_value": 0.1})
+                with mock.patch("keeper.crew.say"):
+                    Crew.note_begin(crew, run)
+                self.assertEqual(state.leap_file.expires, due)
 
     def test_a_link_that_has_the_time(self):
         """At a bound of 0.5 s and 15 parts per million a root dispersion of 0.005 s lasts 33000 s."""

@@ -55,6 +55,23 @@ class JournalTests(unittest.TestCase):
         self.journals.keep(now + 60, TEXT, [0, 0])
         self.assertTrue((self.folder / kept).exists() and (self.folder / wrong).exists())
 
+    def test_an_old_one_that_can_not_be_removed_holds_no_other_up(self):
+        self.journals.begin()
+        now = time.time()
+        stuck, old, new = (journals.name_of(now - days * 86400) + ".journal" for days in (40, 35, 1))
+        (self.folder / stuck).mkdir()
+        for name in (old, new):
+            (self.folder / name).write_bytes(TEXT)
+        kept = [self.journals.keep(now + second, TEXT, [0]) for second in range(3)]
+        self.assertEqual(sorted(one.name for one in self.folder.glob("*.journal")), [stuck, new, *kept])
+        self.assertEqual((self.journals.waiting, self.journals.note, self.said), ([], "", ["an old journal can't be removed: Is a directory"] * 3))
+
+    def test_a_disk_that_takes_nothing_lets_the_keeper_begin(self):
+        self.journals.begin()
+        (self.folder / "20231114T221320Z.journal.part").write_text("left by a keeper that was killed")
+        with mock.patch("keeper.journals.os.unlink", mock.Mock(side_effect=OSError(30, "Read-only file system"))):
+            self.journals.begin()
+
     def test_a_journal_without_its_end_is_none(self):
         self.journals.begin()
         self.assertEqual(self.journals.keep(1_700_000_000, TEXT[:50], [0]), "")

@@ -5,6 +5,7 @@ import pathlib
 import random
 import signal
 import socket
+import struct
 import subprocess
 import sys
 import tempfile
@@ -151,6 +152,24 @@ class Runs(Kept):
         self.keeper.wait(30)
         self.assertLess(time.monotonic() - began, 15)
 
+    def test_journals_that_still_wait_at_the_end_are_lost(self):
+        self.keep()
+        self.waits("run 1 has the time")
+        (self.folder / "state/journals").rmdir()
+        (self.folder / "state/journals").write_text("in the folder's place")
+        self.keeper.send_signal(signal.SIGTERM)
+        self.ends(1)
+        self.assertIn("the disk takes nothing; journals that are lost: 1\n", self.text())
+
+    def test_a_server_that_is_stopped_ends_whole(self):
+        self.keep()
+        self.waits("run 1 has the time")
+        os.kill(self.pid(), signal.SIGSTOP)
+        self.waits("run 1 ended (silent)")
+        self.ask()
+        self.assertIn("status 0\n", self.text())
+        self.assertEqual(len(self.journals()), 1)
+
     def test_runs_follow_one_another(self):
         self.keep("cycle = 2\n")
         self.waits("run 3 has the time")
@@ -204,6 +223,24 @@ class Runs(Kept):
             self.waits(f"run 1 doesn't begin: status 2 open link 0: cannot open link 0 (port {self.port}): another program or link has the port\n")
         self.waits("has the time")
         self.ask()
+
+    def test_a_port_that_another_server_of_the_time_has(self):
+        """It answers before the program has seen that the port is taken. systemd is told when ours serves, which isn't run 1 then."""
+        with socket.socket(socket.AF_UNIX, socket.SOCK_DGRAM) as systemd:
+            systemd.bind(str(self.folder / "notify"))
+            with socket.socket(socket.AF_INET, socket.SOCK_DGRAM) as other:
+                other.bind(("0.0.0.0", self.port))
+                other.settimeout(WAIT)
+                self.keep(NOTIFY_SOCKET=str(self.folder / "notify"))
+                datagram, who = other.recvfrom(100)
+                stamp = struct.pack(">Q", int((time.time() + ntp.EPOCH) * ntp.WHOLE))
+                other.sendto(b"\x24\2" + bytes(14) + stamp + datagram[40:48] + stamp * 2, who)
+                self.waits("run 1 doesn't begin: status 2 open link 0")
+            self.waits("has the time")
+            self.assertNotIn("(died)", self.text())
+            systemd.settimeout(WAIT)
+            while systemd.recv(1000) != b"READY=1":
+                pass
 
     def test_a_program_that_dies_again_and_again_is_started_with_pauses(self):
         self.keep(FAKE_DIES="0.1")

@@ -116,6 +116,28 @@ class Logs(unittest.TestCase):
         self.assertEqual(gzip.decompress(packed.read_bytes()), b"1 1\n3 1\n")
         self.assertEqual((self.names(), today.read_bytes()), ([packed.name, today.name, today.name + ".gz"], b"4 1\n"))
 
+    def test_a_compressed_log_that_is_damaged_holds_no_other_up(self):
+        """As where the power failed before all of it was on the disk. It stays beside its log until both are too old."""
+        whole = bytearray(gzip.compress(b"".join(b"%d 100000\n" % (place * 1_000_003) for place in range(1, 5000))))
+        for damage in ("cut off", "flipped", "another file"):
+            with self.subTest(damage=damage):
+                shutil.rmtree(self.folder)
+                self.folder.mkdir()
+                damaged = {"cut off": whole[:2000], "flipped": whole[:2000] + bytes(8) + whole[2008:], "another file": b"x" * 99}[damage]
+                (self.folder / "0-dcf.19700104.b0070000.log.gz").write_bytes(damaged)
+                for day in (4, 5):
+                    (self.folder / f"0-dcf.1970010{day}.b0070000.log").write_bytes(b"1 1\n")
+                log = self.log()
+                for day in (6, 7, 8):
+                    log.write(day, b"%d 1\n" % day, (day - 1) * DAY)
+                    log.join()
+                    if day == 6:
+                        self.assertEqual(self.names()[:3], ["0-dcf.19700104.b0070000.log", "0-dcf.19700104.b0070000.log.gz", "0-dcf.19700105.b0070000.log.gz"])
+                        self.assertEqual((self.folder / "0-dcf.19700104.b0070000.log.gz").read_bytes(), damaged)
+                        self.assertRegex(self.said.pop(), r"/0-dcf.19700104.b0070000.log can't be kept: .")
+                    self.said.clear()
+                self.assertEqual(self.names()[0], "0-dcf.19700105.b0070000.log.gz")
+
     def test_a_log_is_compressed_once_where_a_keeper_was_killed_meanwhile(self):
         path = self.folder / "0-dcf.19700101.b0070001.log"
         for _ in range(2):

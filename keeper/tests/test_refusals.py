@@ -21,6 +21,7 @@ from keeper.decoder import Decoder
 from keeper.feed import Feed
 from keeper.hosts import look_at_source
 from keeper.loop import Loop
+from keeper.outlet import pipe
 from keeper.pulse_log import PulseLog
 from keeper.relay import Relay
 from keeper.server import Server
@@ -52,6 +53,18 @@ class Programs(Made):
         with self.assertRaises(OSError):
             Server(self.guard, str(self.folder / "nosuch"), 3, 100)
         self.assertEqual(descriptors(), before)
+
+    def test_whatever_the_host_refuses_a_server_leaves_nothing_open_and_no_process(self):
+        before = descriptors()
+        for granted in range(4):
+            pipes = [pipe() for _ in range(granted)]
+            with mock.patch("keeper.server.pipe", mock.Mock(side_effect=[*pipes, OSError(errno.EMFILE, "Too many open files")])), self.assertRaises(OSError):
+                Server(self.guard, str(FAKE), 3, 100)
+            self.assertEqual(descriptors(), before)
+        for refused in ("keeper.server.os.memfd_create", "keeper.children.os.pidfd_open"):
+            with mock.patch(refused, mock.Mock(side_effect=OSError(errno.EMFILE, "Too many open files"))), self.assertRaises(OSError):
+                Server(self.guard, str(FAKE), 3, 100)
+            self.assertEqual((descriptors(), self.guard.groups), (before, set()))
 
     def test_a_program_that_is_taken_away_and_comes_again(self):
         program = self.folder / "program"
@@ -97,6 +110,29 @@ class Programs(Made):
         self.assertNotEqual(self.guard.pid, first)
         self.assertEqual(self.guard.groups, {child.pid})
 
+    def test_a_guard_whose_follower_the_host_refuses_is_tried_again(self):
+        child = Child(self.guard, ["/bin/sleep", "30"])
+        self.addCleanup(child.end)
+        os.kill(self.guard.pid, signal.SIGKILL)
+        os.waitid(os.P_PID, self.guard.pid, os.WEXITED | os.WNOWAIT)
+        before = descriptors()
+        for refused in ("os.fork", "os.pipe2"):
+            with mock.patch(f"keeper.children.{refused}", mock.Mock(side_effect=OSError(errno.EAGAIN, "Resource temporarily unavailable"))):
+                self.guard.look()
+                other = Child(self.guard, ["/bin/sleep", "30"])
+                other.end()
+        self.assertEqual((self.guard.pid, descriptors()), (0, before - 1))
+        self.guard.look()
+        self.assertEqual(os.waitpid(self.guard.pid, os.WNOHANG)[0], 0)
+        self.assertEqual((self.guard.groups, descriptors()), ({child.pid}, before))
+
+    def test_a_keeper_that_ignores_the_ends_of_its_children(self):
+        """As whoever starts it may have it."""
+        self.addCleanup(signal.signal, signal.SIGCHLD, signal.signal(signal.SIGCHLD, signal.SIG_IGN))
+        guard = Guard()
+        guard.look()
+        guard.close()
+
 
 class Sources(Made):
     def feed(self, kind, value):
@@ -121,6 +157,25 @@ class Sources(Made):
         for kind, name, why in (("fifo", "file", "it is no FIFO"), ("file", "fifo", "it is no file")):
             self.feed(kind, str(self.folder / name)).turn(100.0)
             self.assertEqual(self.said.pop(), f"radio 0: its source can't be opened: {why}; it is started again in 1 s")
+
+    def test_a_fifo_that_is_made_anew_is_opened_once_it_is_silent(self):
+        name = str(self.folder / "fifo")
+        os.mkfifo(name)
+        feed = self.feed("fifo", name)
+        for now in (100.0, 161.0, 300.0):
+            feed.turn(now)
+        self.assertEqual((feed.state.source, self.said), ("stalled", ["radio 0: no pulse for 60 s"]))
+        os.unlink(name)
+        feed.turn(301.0)
+        os.mkfifo(name)
+        for now in (302.0, 304.0):
+            feed.turn(now)
+        writer = os.open(name, os.O_WRONLY | os.O_NONBLOCK)
+        self.addCleanup(os.close, writer)
+        os.write(writer, b"%d 7\n" % (time.monotonic_ns() // 1000))
+        feed.loop.turn(1.0)
+        self.assertEqual((feed.state.source, feed.state.pulses), ("running", 1))
+        self.assertEqual(self.said[1:], ["radio 0: no pulse for 60 s; it is started again in 1 s"])
 
     def test_one_that_can_not_be_read(self):
         os.mkfifo(self.folder / "fifo")
@@ -148,6 +203,17 @@ class Files(Made):
         names = [f"0-dcf.{day}.b0070000.log" for day in ("19700101", "19700102")]
         self.assertEqual(sorted(os.listdir(self.folder)), names)
         self.assertEqual(self.said, [f"{self.folder}/{names[0]} can't be kept: No space left on device"])
+
+    def test_a_day_that_begins_without_a_thread_is_logged_all_the_same(self):
+        log = PulseLog(str(self.folder), 0, "dcf", 9, self.said.append, "b0070000")
+        self.addCleanup(log.close)
+        with mock.patch("threading.Thread.start", mock.Mock(side_effect=RuntimeError("can't start new thread"))):
+            log.write(1, b"1 1\n", 5.0)
+            log.write(2, b"2 1\n", 86405.0)
+        log.write(3, b"3 1\n", 2 * 86400.0)
+        log.join()
+        self.assertEqual(self.said, ["the older logs of radio 0 stay as they are: can't start new thread"] * 2)
+        self.assertEqual(sorted(os.listdir(self.folder)), [f"0-dcf.{day}.b0070000.log{end}" for day, end in (("19700101", ".gz"), ("19700102", ".gz"), ("19700103", ""))])
 
     def test_a_text_that_can_not_be_put_leaves_nothing(self):
         for refused in ("os.replace", "os.chmod"):
@@ -196,6 +262,19 @@ class Alarmed(Made):
         with mock.patch("keeper.alarms.GRACE", 0.2):
             alarms.close()
         self.assertEqual(child.returncode, -signal.SIGKILL)
+
+    def test_a_command_of_other_rights_is_left_to_itself(self):
+        """As one that sudo runs: the host refuses our signals."""
+        alarms = Alarms("exec sleep 30", limit=0.1)
+        alarms.raise_alarm(State(), "time-lost", "a", 1.0)
+        alarms.turn(1.0)
+        child = alarms.child
+        with mock.patch("keeper.alarms.os.killpg", mock.Mock(side_effect=PermissionError(errno.EPERM, "Operation not permitted"))), mock.patch("keeper.alarms.GRACE", 0.1):
+            for now in (1.05, 1.15, 1.25):
+                alarms.turn(now)
+            alarms.close()
+        child.kill()
+        child.wait()
 
 
 class Ports(unittest.TestCase):

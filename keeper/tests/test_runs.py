@@ -64,13 +64,21 @@ class Endings(unittest.TestCase):
     def why(self, deaf: list[int], status: int | None = None, stopping: bool = False) -> str:
         """Why a run of two links ends that began ten seconds ago, in a cycle of an hour."""
         keeper = mock.Mock(stopping=stopping, settings=types.SimpleNamespace(cycle=3600))
-        keeper.crew.pacing, keeper.signals.take_reload.return_value = None, False
+        keeper.crew.pacing, keeper.crew.slept, keeper.signals.take_reload.return_value = None, False, False
         run, now = mock.Mock(), time.monotonic()
         run.began, run.watch.links, run.watch.deaf.return_value, run.server.status.return_value = now - 10, [mock.Mock(), mock.Mock()], deaf, status
         return Keeper._why_end(keeper, run, now)
 
     def test_one_link_of_two_that_answers_nobody(self):
         self.assertEqual([self.why(deaf) for deaf in ([], [0], [1], [0, 1])], ["", "silent", "silent", "silent"])
+
+    def test_after_a_sleep_the_server_is_ended_before_anything_else(self):
+        """It would answer with a time that is as wrong as the sleep was long."""
+        keeper, run = mock.Mock(stopping=False), mock.Mock()
+        with mock.patch("keeper.keep.say"):
+            keeper._end_at_once = lambda run: Keeper._end_at_once(keeper, run)
+            Keeper._end_run(keeper, run, "slept")
+        self.assertEqual([name for name, *_ in run.mock_calls][:2], ["server.child.end", "leave"])
 
     def test_a_program_that_has_died_is_deaf_too(self):
         self.assertEqual([self.why([0, 1], status) for status in (0, 9, -9)], ["died", "died", "died"])
