@@ -6,6 +6,7 @@ import os
 import signal
 import subprocess
 
+from keeper.children import Guard
 from keeper.say import say
 from keeper.state import Alarm, State
 
@@ -13,15 +14,15 @@ LOST = 15.0  # a change of run is no loss: so long nobody may have received the 
 QUEUE = 20  # alarms that wait; of more the oldest is dropped
 KEPT = 20  # alarms that the state keeps
 GRACE = 2.0  # between SIGTERM and SIGKILL, in seconds
-BAD_CAUSES = {"died": "ended by itself", "silent": "didn't answer any more", "link": "had a link that failed"}
+BAD_CAUSES = {"died": "ended by itself", "silent": "didn't answer any more", "link": "had a link or relays that failed"}
 
 
 class Alarms:
     """`command` is what the shell runs, empty for none; `unheard` after how many seconds without a verdict a radio counts as unheard;
-    `limit` how many seconds a command may run; `folder` where the state is."""
+    `limit` how many seconds a command may run; `folder` where the state is; `guard` ends a command that the keeper, killed, leaves."""
 
-    def __init__(self, command: str, unheard: float = 3600.0, limit: float = 30.0, folder: str = "") -> None:
-        self.command, self.unheard, self.limit, self.folder = command, unheard, limit, folder
+    def __init__(self, command: str, unheard: float = 3600.0, limit: float = 30.0, folder: str = "", guard: Guard | None = None) -> None:
+        self.command, self.unheard, self.limit, self.folder, self.guard = command, unheard, limit, folder, guard
         self.waiting: collections.deque[dict[str, str]] = collections.deque(maxlen=QUEUE)
         self.child: subprocess.Popen[bytes] | None = None
         self.end = 0.0
@@ -97,7 +98,7 @@ class Alarms:
                 return
             if self.child.returncode:
                 say(f"the alarm's command ended with {self.child.returncode}")
-            self.child = None
+            self._forget()
         if self.waiting:
             self._start(self.waiting.popleft(), now)
 
@@ -108,6 +109,14 @@ class Alarms:
             self.child = subprocess.Popen(["/bin/sh", "-c", self.command], env=environment, stdin=subprocess.DEVNULL, start_new_session=True)
         except OSError as error:
             say(f"the alarm's command can't be started: {error.strerror}")
+            return
+        if self.guard:
+            self.guard.add(self.child.pid)
+
+    def _forget(self) -> None:
+        if self.child and self.guard:
+            self.guard.drop(self.child.pid)
+        self.child = None
 
     def _signal(self, number: int) -> None:
         try:
@@ -126,4 +135,4 @@ class Alarms:
                 self._signal(signal.SIGKILL)
                 with contextlib.suppress(subprocess.TimeoutExpired):
                     self.child.wait(GRACE)
-        self.child = None
+        self._forget()

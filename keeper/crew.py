@@ -75,7 +75,7 @@ class Crew:
     def _use_alarms(self, settings: Settings) -> None:
         if self.alarms:
             self.alarms.close()
-        self.alarms = Alarms(settings.alarms.command, settings.alarms.unheard, settings.alarms.limit, settings.folder)
+        self.alarms = Alarms(settings.alarms.command, settings.alarms.unheard, settings.alarms.limit, settings.folder, self.guard)
 
     def _feed_for(self, settings: Settings, state: State, place: int) -> Feed:
         """The feed of the radio at this place: the one that runs, where it is the same radio. Raises OSError."""
@@ -108,6 +108,9 @@ class Crew:
             feed.turn(now)
         self.alarms.turn(now)
         self.notify.turn(now)
+        self._look_at_clocks()
+
+    def _look_at_clocks(self) -> None:
         step = self.clock.step()
         if step:
             self._move(step)
@@ -152,7 +155,7 @@ class Crew:
             say(f"run {run.number} ended ({run.why}) after {seconds:.0f} s: {': '.join(filter(None, (how, run.reason)))}")
         counts = heard(text)
         others = [max(0, count - own) for count, own in zip(counts, run.own)]
-        facts.note_requests(self.state, counts, run.own, seconds)
+        facts.note_requests(self.state, run.settings.links, counts, run.own, seconds)
         if others and run.why != "silent":
             self.hearings.learn(max(others), seconds, False)
         if failed_links(text) and run_state.number != run.number and run_state.cause == "silent":
@@ -175,6 +178,7 @@ class Crew:
 
     def renew(self, run: Run | None) -> None:
         """Writes the state for others to read."""
+        self._look_at_clocks()  # what is judged now has to be by the clock as it stands
         now = time.time()
         if run:
             facts.note_links(self.state, run.watch)

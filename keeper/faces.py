@@ -1,11 +1,22 @@
 """Renews all that others read of the state: the state itself, the page, the metrics. Each file is whole at any moment."""
 
+import contextlib
 import os
+import re
 
 from keeper import metrics, page
 from keeper.state import State, put, save
 
 STATE, PAGE, METRICS = "state.json", "status.html", "radio_ntpd.prom"
+HALF = re.compile(rf"(?:{'|'.join(map(re.escape, (STATE, PAGE, METRICS)))})\.\d+\.part")
+
+
+def tidy(folder: str) -> None:
+    """Takes away what a keeper that was killed has left half written. Raises OSError where the folder can't be read."""
+    for name in os.listdir(folder):
+        if HALF.fullmatch(name):
+            with contextlib.suppress(OSError):  # on a disk that takes nothing it stays
+                os.unlink(os.path.join(folder, name))
 
 
 def renew(state: State, folder: str, now: float) -> None:

@@ -28,16 +28,24 @@ def new_state(settings: Settings, before: State | None) -> State:
 
 
 def _take_over(state: State, before: State) -> None:
+    """What lies ahead was noted while the host's clock was wrong, and is left out."""
+    now = time.time()
+
+    def past(at: float) -> float:
+        return at if at <= now else 0.0
+
     radios = {(one.number, one.plan): one for one in before.radios}
     for radio in state.radios:
         old = radios.get((radio.number, radio.plan))
         if old:
-            radio.reception, radio.offsets, radio.minute, radio.minute_at = old.reception, old.offsets, old.minute, old.minute_at
+            radio.reception, radio.offsets = [[one for one in points if one.at <= now] for points in (old.reception, old.offsets)]
+            radio.minute, radio.minute_at = old.minute, past(old.minute_at)
     servers = {(one.address, one.port): one for one in before.servers}
     for server in state.servers:
         old = servers.get((server.address, server.port))
         if old:
-            server.offsets, server.sample_at, server.answered_at = old.offsets, old.sample_at, old.answered_at
+            server.offsets = [one for one in old.offsets if one.at <= now]
+            server.sample_at, server.answered_at = past(old.sample_at), past(old.answered_at)
     state.alarms = before.alarms
 
 
@@ -93,11 +101,13 @@ def note_leap_file(state: State) -> None:
         state.leap_file.expires = expiry(state.leap_file.path)
 
 
-def note_requests(state: State, heard: list[int], own: list[int], seconds: float) -> None:
-    """Clients' requests of a run that has ended."""
-    for link, count, ours in zip(state.links, heard, own):
-        link.requests += max(0, count - ours)
-        link.requests_per_second = max(0, count - ours) / max(seconds, 1.0)
+def note_requests(state: State, ports: list[int], heard: list[int], own: list[int], seconds: float) -> None:
+    """Clients' requests of a run that has ended, by the ports that it had: a reload may have changed them since."""
+    clients = {port: max(0, count - ours) for port, count, ours in zip(ports, heard, own)}
+    for link in state.links:
+        if link.port in clients:
+            link.requests += clients[link.port]
+            link.requests_per_second = clients[link.port] / max(seconds, 1.0)
 
 
 def move(state: State, step: float) -> None:

@@ -4,7 +4,7 @@ import fcntl
 import os
 import time
 
-from keeper import config
+from keeper import config, faces
 from keeper.children import Guard
 from keeper.crew import Crew
 from keeper.loop import Loop, Signals
@@ -40,6 +40,7 @@ class Keeper:
 
     def begin(self) -> None:
         self._lock(self.settings.folder)
+        faces.tidy(self.settings.folder)
         self.crew.use(self.settings)
         self.loop.every(RENEWED, lambda: self.crew.renew(self.run))
         self.loop.every(RENEWED, self.guard.look)
@@ -219,6 +220,7 @@ class Keeper:
             self.crew.hearings.learn(0, 1.0, True)
 
     def _end_at_once(self, run: Run) -> None:
+        """What it has printed until then is no whole journal."""
         say(f"run {run.number} is ended at once: its journal is lost")
         self.status = NOT_WELL
         run.server.child.end(0)

@@ -10,6 +10,7 @@ from unittest import mock
 
 from keeper import facts
 from keeper.alarms import Alarms
+from keeper.children import Guard
 from keeper.state import LinkState, RadioState, RunState, State
 
 
@@ -142,6 +143,16 @@ class Commands(Quiet):
         alarms.raise_alarm(state, "time-gained", "a", 1.0)
         self.turn_until(alarms, lambda: self.lines())
         self.assertEqual(self.lines(), ["1/2/127.45.66.1/0.005400//etc/radio_ntpd/station.toml"])
+
+    def test_the_guard_knows_a_command_while_it_runs(self):
+        guard = Guard()
+        self.addCleanup(guard.close)
+        alarms = self.alarms("sleep 0.2", guard=guard)
+        alarms.raise_alarm(State(), "time-lost", "a", 1.0)
+        alarms.turn(time.monotonic())
+        self.assertEqual(guard.groups, {alarms.child.pid})
+        self.turn_until(alarms, lambda: alarms.child is None)
+        self.assertEqual(guard.groups, set())
 
     def test_one_at_a_time_in_order(self):
         alarms = self.alarms(f'echo "begin $RADIO_TEXT" >> {self.out}; sleep 0.1; echo "end $RADIO_TEXT" >> {self.out}')

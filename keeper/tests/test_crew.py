@@ -150,6 +150,15 @@ class Renewals(Crews):
         self.assertEqual((self.crew.state.keeper_since, self.crew.pacing.answered), (since + 3600, [3605.0]))
         self.assertEqual(self.crew.feeds[0].reception.verdicts_since(time.time() + 3500), 1)
 
+    def test_a_state_is_judged_by_the_clock_as_it_stands(self):
+        """The clock is set by a year just before the state is written."""
+        self.crew.use(self.settings())
+        readings = iter([1e9, 1e9 + 31536000])
+        self.crew.clock = clock.ClockWatch(lambda: next(readings))
+        since = self.crew.state.keeper_since
+        self.crew.renew(None)
+        self.assertEqual(self.crew.state.keeper_since, since + 31536000)
+
 
 class Sleeps(Crews):
     def test_a_host_that_slept_begins_anew_without_what_it_received_before(self):

@@ -11,7 +11,7 @@ from keeper import facts, metrics, page, text
 from keeper.config import Radio, Settings
 from keeper.crew import Crew
 from keeper.ntp import EPOCH, Answer
-from keeper.state import Alarm, LinkState, Quarter, State
+from keeper.state import Alarm, LinkState, Quarter, Slot, State
 from keeper.watch import Watched
 
 
@@ -47,6 +47,14 @@ class Facts(unittest.TestCase):
         before.alarms = [Alarm("time-lost", 5.0, "x")]
         state = facts.new_state(settings(), before)
         self.assertEqual((state.radios[0].reception, state.radios[0].pulses, state.alarms), ([Quarter(900.0, verdict=7)], 0, before.alarms))
+        # What was noted while the host's clock was years ahead would hide every alarm up to then.
+        ahead = time.time() + 1e8
+        before.radios[0].reception.append(Quarter(ahead, verdict=7))
+        before.radios[0].minute_at = before.servers[0].sample_at = before.servers[0].answered_at = ahead
+        before.servers[0].offsets = [Slot(900.0), Slot(ahead)]
+        state = facts.new_state(settings(), before)
+        self.assertEqual((state.radios[0].reception, state.radios[0].minute_at), ([Quarter(900.0, verdict=7)], 0.0))
+        self.assertEqual((state.servers[0].offsets, state.servers[0].sample_at, state.servers[0].answered_at), ([Slot(900.0)], 0.0, 0.0))
         other = settings(radios=[Radio("command", "true", "attic", 60.0, "msf", 0.0)])
         self.assertEqual(facts.new_state(other, before).radios[0].reception, [])
 
@@ -78,14 +86,19 @@ class Facts(unittest.TestCase):
         self.assertEqual((link.leap, link.reference_id, link.until, link.offset, link.reference_time), (3, "INIT", 0.0, 0.0, 0.0))
 
     def test_requests_a_second_without_the_keepers_own(self):
-        state = State(links=[LinkState(), LinkState()])
-        facts.note_requests(state, [1100, 50], [100, 80], 10.0)
-        facts.note_requests(state, [300, 90], [100, 80], 10.0)
+        state = State(links=[LinkState(port=1), LinkState(port=2)])
+        facts.note_requests(state, [1, 2], [1100, 50], [100, 80], 10.0)
+        facts.note_requests(state, [1, 2], [300, 90], [100, 80], 10.0)
         self.assertEqual([one.requests_per_second for one in state.links], [20.0, 1.0])
         self.assertEqual([one.requests for one in state.links], [1200, 10])
-        again = State(links=[LinkState(port=5), LinkState()])
+        again = State(links=[LinkState(port=5), LinkState(port=2)])
         facts.go_on(again, state)
         self.assertEqual([one.requests for one in again.links], [0, 10])
+
+    def test_requests_of_a_run_whose_links_a_reload_has_changed(self):
+        state = State(links=[LinkState(port=2), LinkState(port=3)])
+        facts.note_requests(state, [1, 2], [1100, 90], [100, 80], 10.0)
+        self.assertEqual([one.requests for one in state.links], [10, 0])
 
 
 if __name__ == "__main__":
