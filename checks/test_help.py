@@ -35,7 +35,7 @@ def synopsis() -> list[str]:
             found.append("radio_ntpd")
         elif words.startswith("Cm ") and found and " " not in found[-1]:
             found[-1] += " " + words[3:]
-        elif found and words.startswith(("--", "Op --")):
+        elif found and " " in found[-1] and words.startswith(("--", "Op --")):  # of a command, which --help and --version are not
             option, value = words.removeprefix("Op ").split()
             said = f"{option} {value.upper()}"
             found[-1] += f" [{said}]" if words.startswith("Op") else f" {said}"
