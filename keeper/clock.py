@@ -5,7 +5,6 @@ import time
 from collections.abc import Callable
 
 LEAST = 2.0  # what the clock is set by less than this moves nothing, in seconds: no age is shown more finely, and a slew is none
-
 AWAKE = 0.01  # a sleep shorter than this is none, in seconds
 AT_ONCE = 0.001  # two clocks that are read within this are read at once, in seconds
 

@@ -129,7 +129,7 @@ class Crew:
             self.pacing.move(step)
 
     def _wake(self, span: float) -> None:
-        """The host slept for this number of seconds: the run's counter is as far behind."""
+        """The host slept for this number of seconds: the run's counter is late by as much."""
         say(f"the host slept for {span:.0f} s; a new run begins, without what was received before")
         self.slept = True
         for feed in self.feeds:
