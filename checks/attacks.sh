@@ -1,11 +1,10 @@
 #!/bin/sh
-# Tries the wrong bodies of attacks/, which the gate leaves out, since each costs a whole check of its crate. The prover must refuse each.
+# Tries the wrong bodies of attacks/, which the gate leaves out for its time. The prover must refuse each.
 #
 #     checks/attacks.sh [CRATE...]
 #
 # It runs `rt ci` for these crates in a copy that has no other wrong bodies. So it begins with what the gate kept on this machine; where nothing is
-# kept, all that these crates stand on is proved first. After the gate all twenty-one take some 9 minutes on four processors. It prints what became
-# of each edit, and ends with 1 where one is not refused. Needs rt.
+# kept, all that these crates stand on is proved first. It prints what became of each edit, and ends with 1 where one is not refused. Needs rt.
 set -eu
 cd "$(dirname "$0")/.."
 [ $# -gt 0 ] || set -- $(ls attacks)
