@@ -3,7 +3,7 @@
 # outliers, on the host's clock, through the feeders and a server, with the starts as they come and with steady.py, at 0 and 50 parts in a
 # million, through a fade of ten minutes and a change of run. chronyd with -x judges, where it is installed. It takes half an hour.
 #
-#     bench/accuracy.sh [the words of accuracy.py]
+#     bench/accuracy.sh [the arguments of accuracy.py]
 #
 # "within" is the share of answers, of a hundred, whose error is at most the root distance that they report; "answered" is the share of seconds
 # with an answer that has time. The figures are of the exchanges that took less than a millisecond; "quick" is their share. "sock" is a

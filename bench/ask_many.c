@@ -1,6 +1,6 @@
 /* A client for bench/serve.sh: asks a server at a port of 127.0.0.1 a number of times and keeps a number of requests outstanding. It says how
  * many replies came in a second. A request that is lost for a second is sent anew; a reply that isn't 48 bytes ends it with 1. With a
- * fourth word it asks as that many clients by turns, whose addresses are 127.1.0.0 and those after it. */
+ * fourth argument it asks as that many clients by turns, whose addresses are 127.1.0.0 and those after it. */
 #define _GNU_SOURCE
 #include <arpa/inet.h>
 #include <errno.h>

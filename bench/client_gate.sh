@@ -1,9 +1,9 @@
 #!/bin/sh
-# What a judgement of the gate of clients costs: instructions, counted by callgrind, of a small program that judges a request of each
-# sender of a list with a table of a number of clients: of senders that are spread, no two alike; of some that were made to fall into one
-# place of the table; and of senders that ask by turns, so that each is known, which pass, or come too soon. A run of fewer judgements
-# is taken off, so that what comes before falls out. With a full table of
-# the most clients those that fall into one place take too long for callgrind, and are timed; that takes a minute and a half of processor time. The
+# What a judgement of the gate of clients costs: instructions, counted by callgrind, of a small program. It judges a request of each sender
+# of a list, with a table of a number of clients. The senders are spread, no two alike; or made to fall into one place of the table; or ask
+# by turns, so that each is known, and passes or comes too soon. A run of fewer judgements is taken off, so that what comes before does not
+# count. With a full table of the most clients those that fall into one place take too long for callgrind. They are timed, which takes a
+# minute and a half of processor time. The
 # program is built in a temporary folder over copies of the crates, which proves them first (some minutes where nothing is kept). Needs
 # rt, valgrind, gcc, python3.
 #

@@ -6,8 +6,8 @@
 The command is `rt ci` where none is given. Each process below it is read off /proc once a second, and its time counts for the crate
 that it, or the nearest process above it, was called for: as the proof of the crate, as that of its tests, or as a wrong body that
 has to be refused (among these the check over which a crate's wrong bodies are tried). What a process takes in its last second may be
-lost. The table is in minutes of processor time, the dearest crates first. The command's own output goes on as it is, and its exit
-status is kept. A SIGTERM ends the command, and the table has what it took until then. Linux alone.
+lost. The table is in minutes of processor time, the costliest crates first. The command's own output goes on as it is, and its exit
+status is kept. A SIGTERM ends the command, and the table has what it took until then. Only for Linux.
 """
 
 import os

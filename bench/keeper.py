@@ -1,4 +1,4 @@
-"""What the keeper costs and how well its time is, on the built program and receivers in software. See bench/keeper.sh."""
+"""What the keeper costs and how accurate its time is, on the built program and receivers in software. See bench/keeper.sh."""
 
 import argparse
 import os

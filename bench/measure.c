@@ -1,4 +1,4 @@
-// Runs a command so often, and says the least time in ns and the greatest peak of memory in KiB. It is plain C since a process
+// Runs a command a number of times, and says the least time in ns and the greatest peak of memory in KiB. It is plain C since a process
 // counts what its parent had when it was started, which is much more for Python.
 #include <fcntl.h>
 #include <stdio.h>

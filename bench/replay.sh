@@ -1,7 +1,7 @@
 #!/bin/sh
-# How long replaying takes: ns a line of the built program, over scripts of 100 thousand and of a million lines of one station
-# with twelve radios and four servers, an exchange with each and a client's request in each minute, beside `decode` of the pulses
-# of that station's first DCF77 radio in the same run; and the peak memory of each. A line costs the same however long the script
+# How long replaying takes: ns a line of the built program, over scripts of 100 thousand and of a million lines. They are of one station with
+# twelve radios and four servers, and have an exchange with each server and a client's request in each minute. Beside it `decode` runs over
+# the pulses of that station's first DCF77 radio. It prints the peak memory of each, too. A line costs the same however long the script
 # is, and memory doesn't grow with it. It builds nothing: run ./radio_ntpd once before.
 #
 #     bench/replay.sh [SHORT LONG [RUNS]]

@@ -1,5 +1,5 @@
 #!/bin/sh
-# What a key costs: instructions by which a sealed reply is dearer than one that isn't, counted by callgrind over the loop alone, beside
+# What a key costs: the instructions that a sealed reply takes more than one that isn't, counted by callgrind over the loop alone, beside
 # OpenSSL's MD5 of the same bytes, once for the request and once for the reply. The program is built in a temporary folder over copies of
 # the crates, which proves them first (some minutes where nothing is kept). Needs rt, valgrind, gcc, OpenSSL's headers.
 #

@@ -1,8 +1,9 @@
 #!/bin/sh
-# What serving costs, on the loopback in one run: processor time a reply and replies a second of the built program beside plain C that
-# makes the same system calls and echoes what came, and beside chronyd where it is installed, under the same load: one client that keeps
-# 16 requests outstanding; the same of a station that keeps a table of 65536 clients, and of it and of one without a table the same for 65536 clients by turns; user instructions a reply, counted by callgrind; and the peak memory of a run whose journal is full at its
-# default limit. It builds nothing of ours: run ./radio_ntpd once before. Needs gcc and python3; valgrind for the instructions.
+# What serving costs, on the loopback in one run: processor time a reply, and replies a second, of the built program. Beside it run plain C
+# that makes the same system calls and echoes what came, and chronyd where it is installed. The load is one client that keeps 16 requests
+# outstanding. It is repeated for a station with a table of 65536 clients, and then with 65536 clients by turns, with that table and without.
+# It also counts user instructions a reply, by callgrind, and has the peak memory of a run whose journal is full at its default limit.
+# It builds nothing of ours: run ./radio_ntpd once before. Needs gcc and python3; valgrind for the instructions.
 #
 #     bench/serve.sh [REPLIES [RUNS]]
 #

@@ -138,7 +138,7 @@ ends 5 'status 5 line 0 2' decode --plan dcf --log "$work/log"
 # A station file of one byte more than 65536, all of it a comment.
 { printf '#'; head -c 65536 /dev/zero | tr '\0' ' '; } > "$work/station"
 ends 10 'status 10 long station' replay --station "$work/station" --script examples/exchange.script
-# A journal that `migrate` takes has up to 4194304 lines, here of 20 bytes each; a line more is told as a full one.
+# A journal that `migrate` takes has up to 4194304 lines, here of 20 bytes each; a line more is reported as a full journal.
 yes '0 5 lone 3976257600' | head -n 4194304 > "$work/journal"
 ends 0 'status 0' migrate --station examples/station.toml --journal "$work/journal"
 wrote 'j2 4194304 0 0 5 lone 3976257600$'

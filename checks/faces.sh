@@ -26,8 +26,8 @@ if has chromium; then
     python3 -B -m keeper.tests.browser || wrong 'the page is not as it should be'
 fi
 if has promtool; then
-    python3 -B -c 'from keeper import metrics; from keeper.tests.test_faces import NOW, a_good_station; print(metrics.render(a_good_station(), NOW), end="")' > "$work/metrics"
-    promtool check metrics < "$work/metrics" > "$work/told" 2>&1
+    python3 -B -c 'from keeper import metrics; from keeper.tests.test_faces import NOW, a_good_station; print(metrics.render(a_good_station(), NOW), end="")' > "$work/metrics" || wrong 'there are no metrics'
+    promtool check metrics < "$work/metrics" > "$work/told" 2>&1 || wrong 'promtool refuses the metrics'
     [ ! -s "$work/told" ] || wrong "promtool says: $(head -n 5 "$work/told")"
 fi
 # A page may name the others, which need not be installed here.

@@ -33,7 +33,7 @@ for plan in dcf:dcf77 msf:msf wwvb:wwvb; do
     "$program" decode --plan "${plan%:*}" --log "examples/radios/${plan#*:}.log" | sed '$d; s/^0 //' > "$work/due"
     sed -n "s/^j2 [0-9]* [-0-9]* $feed //p" "$work/served" > "$work/told"
     [ -s "$work/due" ] || wrong "the log of $plan says nothing"
-    cmp -s "$work/due" "$work/told" || wrong "feed $feed tells something else than its log: $(diff "$work/due" "$work/told" | head -n 3)"
+    cmp -s "$work/due" "$work/told" || wrong "feed $feed reports something else than its log: $(diff "$work/due" "$work/told" | head -n 3)"
     feed=$((feed + 1))
 done
 

@@ -8,6 +8,6 @@
 #     checks/keeper.sh [CASE...]
 set -u
 cd "$(dirname "$0")/.." || exit 1
-# It's built here where that hasn't been done; no words are a usage error.
+# It's built here where that hasn't been done; without arguments it only ends with a usage error.
 [ -n "${RADIO_NTPD:-}" ] || ./radio_ntpd > /dev/null
 exec python3 -B checks/keeper_cases.py "$@"

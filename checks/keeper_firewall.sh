@@ -7,7 +7,7 @@
 #     checks/keeper_firewall.sh
 set -u
 cd "$(dirname "$0")/.." || exit 1
-# It's built here where that hasn't been done; no words are a usage error.
+# It's built here where that hasn't been done; without arguments it only ends with a usage error.
 [ -n "${RADIO_NTPD:-}" ] || ./radio_ntpd > /dev/null
 PATH="$PATH:/usr/sbin:/sbin"
 for one in unshare nft ip; do

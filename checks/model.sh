@@ -7,6 +7,6 @@
 #     checks/model.sh [CASES [SEED]]
 set -u
 cd "$(dirname "$0")/.." || exit 1
-# It's built here where that hasn't been done; no words are a usage error.
+# It's built here where that hasn't been done; without arguments it only ends with a usage error.
 [ -n "${RADIO_NTPD:-}" ] || ./radio_ntpd > /dev/null
 exec python3 -B checks/model.py "$@"

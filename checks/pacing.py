@@ -106,12 +106,12 @@ class Row:
     def __init__(self, replies: list[bytes], moments: list[float]) -> None:
         self.worst = self.told = self.over = 0.0
         self.lost = 0
-        timed = False
+        self.timed = timed = False
         for reply, true in zip(replies, moments, strict=True):
             if reply[0] >> 6 == 3:
                 self.lost += timed
                 continue
-            timed = True
+            self.timed = timed = True
             dispersion = struct.unpack(">I", reply[8:12])[0] / 65536
             error = abs(struct.unpack(">Q", reply[40:48])[0] - stamp(true)) / WHOLE
             if error > self.worst:
@@ -133,9 +133,9 @@ def main() -> None:
             text, moments = script(ppm, servers, words.hours, pace)
             row = Row(play(text, servers), moments)
             print(f"{ppm} ppm, a radio and {servers} server{'s' if servers > 1 else ''}, {'asked at the start' if pace is None else f'one exchange in {pace:.0f} s'}: {row.text()}", flush=True)
-            bad |= pace is not None and (row.over > 0 or row.lost > 0)
+            bad |= pace is not None and (row.over > 0 or row.lost > 0 or not row.timed)
     if bad:
-        sys.exit("pacing: a paced station was further off than it reported, or lost its time")
+        sys.exit("pacing: a paced station was further off than it reported, lost its time, or never had it")
     print(f"pacing: {len(ROWS)}")
 
 

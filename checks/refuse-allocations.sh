@@ -43,7 +43,7 @@ cc -O1 -shared -fPIC -o "$work/refuse.so" "$work/refuse.c" || exit 1
 printf 'status 9 memory\n' > "$work/memory"
 printf 'leap = 1\n' > "$work/fault.toml"
 printf 'bound =\n' > "$work/bad.toml"
-# One radio, so that the order of the journal's lines doesn't hang on threads.
+# One radio, so that the order of the journal's lines doesn't depend on threads.
 printf '[[radio]]\nplan = "dcf"\nlog = "examples/radios/dcf77.log"\n[[link]]\nport = 12301\n' > "$work/serve.toml"
 
 # A station with a gap, and a request of each of three clients.

@@ -11,7 +11,7 @@ name=serve
 checked=0
 page_of_none='page 0 0 0 494e4954 0 0 0 0 1048576 0000000000000000 0 0'
 
-# Serving with these words ends within 20 s with the status $1 and the last line $2. `lines` is how many it wrote.
+# Serving with these arguments ends within 20 s with the status $1 and the last line $2. `lines` is how many it wrote.
 ends() {
     status=$1 last=$2
     shift 2

@@ -5,7 +5,7 @@ PATH="$PATH:/usr/sbin:/sbin"
 work=$(mktemp -d) || exit 1
 bad=0
 servers=
-# It's built here where that hasn't been done; no words are a usage error. RADIO_NTPD names another program.
+# It's built here where that hasn't been done; without arguments it only ends with a usage error. RADIO_NTPD names another program.
 program=${RADIO_NTPD:-./radio_ntpd}
 "$program" > "$work/built"
 

@@ -9,7 +9,7 @@
 #   - an answer or the time was missing at a change of run or a kill for longer than checks/kept_bounds.py allows, where the echo about that moment
 #     says what the machine itself stalled;
 #   - one was missing at any other time;
-#   - a run began for which nothing had been killed, a radio was not heard, or the keeper did not end well.
+#   - a run began for which nothing had been killed, a radio was not received, or the keeper did not end with 0.
 # It is not in the gate. RADIO_NTPD names another program, SOAK_SAID a file for what the keeper says, SOAK_MET one for each span, run and
 # kill. On a machine with other work give it priority:
 #
@@ -18,6 +18,6 @@
 #     checks/soak.sh [HOURS [CYCLE [KILLED]]]
 set -u
 cd "$(dirname "$0")/.." || exit 1
-# It's built here where that hasn't been done; no words are a usage error.
+# It's built here where that hasn't been done; without arguments it only ends with a usage error.
 [ -n "${RADIO_NTPD:-}" ] || ./radio_ntpd > /dev/null
 exec python3 -B checks/soak.py "$@"

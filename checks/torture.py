@@ -6,7 +6,7 @@ code with the program.
     torture.py --one KIND NUMBER [SEED] writes one of them, for a look at what went wrong
 
 A kind is a log of a plan, a script, a station, or a journal of either form (fuzzed_kinds.py). A file has the same spoils wherever it is
-made: they hang on the seed, the kind and the number alone.
+made: they depend only on the seed, the kind and the number.
 """
 
 import argparse

@@ -2,7 +2,7 @@
 # Spoils logs of each plan, scripts, stations and journals by chance, COUNT of each kind (100 thousand), but stops after SECONDS (600):
 # cut off, bytes changed, lines lost, doubled and put out of order. The program runs over each. It may not crash, hang, or hold more than a
 # megabyte of data, and what it writes and how it ends is judged by a reader of its own from docs/FORMATS.md, checks/grammar. The files
-# hang on a fixed seed alone; one that went wrong is written by
+# depend only on a fixed seed; one that went wrong is written by
 #
 #     python3 -B checks/torture.py --one KIND NUMBER
 #
@@ -11,6 +11,6 @@
 #     checks/torture.sh [COUNT [SECONDS [SEED]]]
 set -u
 cd "$(dirname "$0")/.." || exit 1
-# It's built here where that hasn't been done; no words are a usage error.
+# It's built here where that hasn't been done; without arguments it only ends with a usage error.
 ./radio_ntpd > /dev/null
 exec python3 -B checks/torture.py "${1:-100000}" "${2:-600}" ${3:+"$3"}

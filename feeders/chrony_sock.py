@@ -8,7 +8,8 @@ chronyd makes the socket; its configuration names the same file:
     refclock SOCK SOCKET refid DCF poll 4 filter 1 precision 1e-3 delay 0.01
 
 The log's moments are of the host's monotonic clock. A verdict that is older than --fresh seconds (5 where it isn't given), as those of
-a recorded log are, is passed over: chronyd compares with the time of now. --delay is how long the signal is under way, the receiver's
+a recorded log are, is passed over: chronyd compares with the time of now. So is the first after the host slept, since that clock stood
+still. --delay is how long the signal is under way, the receiver's
 own lag included, in microseconds. A leap second is announced from a day before it on, where two frames announced it.
 
 While chronyd doesn't take samples, as when it is started again, the bridge says so once and goes on. It exits as `decode` did, by its
@@ -25,6 +26,7 @@ import time
 from typing import Callable, NamedTuple
 
 UNIX_EPOCH = 2_208_988_800  # in seconds since 1900-01-01 00:00 UTC, as `decode` counts
+SLEPT = 10_000_000  # a clock that goes on while the host sleeps is ahead by so much more, in nanoseconds: it slept
 DAY = 86_400
 # A sample of chrony's SOCK driver: the system's time when it was taken (a timeval), by how many seconds the true time is ahead of it,
 # whether it is of a pulse alone, the leap status (0 none, 1 a second is inserted), padding, and the driver's own number.
@@ -47,6 +49,12 @@ class Clocks(NamedTuple):
 
     monotonic: Callable[[], int] = time.monotonic_ns
     system: Callable[[], int] = time.time_ns
+    # It goes on while the host sleeps.
+    boot: Callable[[], int] = lambda: time.clock_gettime_ns(time.CLOCK_BOOTTIME)
+
+    def asleep(self) -> int:
+        """For how long the host has slept since it started."""
+        return self.boot() - self.monotonic()
 
 
 def read_verdict(line: str) -> Verdict | None:
@@ -69,6 +77,7 @@ class Bridge:
         """`delay` is in microseconds, `fresh` in seconds."""
         self.path, self.delay, self.fresh, self.clocks, self.say = path, delay, fresh, clocks, say
         self.failing = ""  # what was said of the socket last, nothing while it takes samples
+        self.asleep = clocks.asleep()  # as of the last verdict
         self.status: int | None = None  # what `decode` ended with
 
     def line(self, line: str) -> bool:
@@ -83,6 +92,10 @@ class Bridge:
 
     def give(self, verdict: Verdict) -> bool:
         """Sends a verdict's sample, if it is fresh; whether it went out."""
+        before, self.asleep = self.asleep, self.clocks.asleep()
+        if self.asleep - before >= SLEPT:
+            self.trouble("the host slept: a verdict is passed over")
+            return False
         monotonic, system = self.clocks.monotonic(), self.clocks.system()
         age = monotonic // 1000 - (verdict.at - self.delay)
         if not 0 <= age <= self.fresh * 1e6:

@@ -1,7 +1,7 @@
 #!/usr/bin/env python3
 """Turns the edges of a receiver's output into a pulse log, live: one line for each reduction of the carrier, as it ends.
 
-    feeders/edges_to_log.py [--low] gpiomon CHIP LINE > LOG
+    feeders/edges_to_log.py [--low] stdbuf -oL gpiomon CHIP LINE > LOG
     feeders/serial_edges.py DEVICE | feeders/edges_to_log.py [--low] > LOG
 
 It runs the command that it is given and reads what that prints, or it reads its standard input where it is given none. A line has the seconds
@@ -10,7 +10,8 @@ while the carrier is reduced; with --low it is low then, as with a receiver whos
 
 Reductions below 5 ms are noise and left out, and so are gaps below 5 ms within a reduction. One above 2 s is reported as 2 s, when these
 are over. Where an edge was lost the reduction's width isn't known, and it is left out: its minute is refused then. Starts rise strictly.
-A line that is no edge is reported on standard error and passed over.
+A line that is no edge is reported on standard error and passed over. So is it, once, where an edge comes more than two seconds after it
+happened: the reduction was reported as 2 s by then. `stdbuf -oL` keeps a command from holding edges back.
 
 It exits with the command's status, and 128 and the signal's number where a signal ended it; with 0 at the end of its input and where SIGINT
 or SIGTERM ended it; with 1 where its reader has ended, a read fails, or gpiomon reported an error on that input (2>&1); with 2
@@ -46,10 +47,13 @@ def read_edge(line: bytes) -> tuple[int, bool] | None:
 
 
 class Reductions:
-    """The reductions of a carrier, from its edges: `write` gets the start and the width of each, in microseconds."""
+    """The reductions of a carrier, from its edges: `write` gets the start and the width of each, in microseconds. `warn` gets a sentence,
+    once, where edges come so late that a width is wrong."""
 
-    def __init__(self, write: Callable[[int, int], None]) -> None:
-        self.write = write
+    def __init__(self, write: Callable[[int, int], None], warn: Callable[[str], None] = lambda text: None) -> None:
+        self.write, self.warn = write, warn
+        self.given_up: int | None = None  # the start of the last reduction whose end was waited for in vain
+        self.warned = False
         self.began: int | None = None  # the start of the reduction that goes on
         self.ended: tuple[int, int] | None = None  # the last reduction, start and end, while a gap of noise may still follow
         self.last = -1  # the last start that was written
@@ -74,6 +78,7 @@ class Reductions:
 
     def edge(self, at: int, reduced: bool) -> None:
         """At this moment a reduction begins, or one ends."""
+        self.look_for_delay(at)
         if self.ended and not 0 <= at - self.ended[1] < LEAST:
             self.settle()
         if self.began is not None and at - self.began >= GREATEST:
@@ -88,6 +93,13 @@ class Reductions:
             self.ended = (self.began, at)
             self.began = None
 
+    def look_for_delay(self, at: int) -> None:
+        """An edge within two seconds of a reduction whose end was waited for has come too late."""
+        late, self.given_up = self.given_up is not None and 0 <= at - self.given_up < GREATEST, None
+        if late and not self.warned:
+            self.warned = True
+            self.warn("an edge came more than 2 s late, so a width is wrong: does the command hold its output back (see stdbuf -oL), or was the host busy?")
+
     def wait(self) -> float | None:
         """How long to wait for an edge, in seconds, or None where it doesn't matter."""
         if self.ended:
@@ -97,6 +109,8 @@ class Reductions:
     def waited(self) -> None:
         """No edge came for that long."""
         self.settle()
+        if self.began is not None:
+            self.given_up = self.began
         self.cut()
 
 
@@ -127,7 +141,7 @@ class Feeder:
         self.low = low
         self.failed = False  # whether gpiomon reported an error on this input
         self.beyond = False  # whether a moment was beyond what a log has
-        self.reductions = Reductions(lambda start, width: print(start, width, flush=True))
+        self.reductions = Reductions(lambda start, width: print(start, width, flush=True), say)
 
     def read(self, file: int) -> None:
         """Reads all of a file."""
@@ -208,12 +222,11 @@ def main() -> int:
     signal.signal(signal.SIGTERM, signal.default_int_handler)
     try:
         return feed(feeder, command)
-    except BrokenPipeError:
-        # Whoever read the log has ended. What stands in the buffer has nowhere to go.
-        os.dup2(os.open(os.devnull, os.O_WRONLY), sys.stdout.fileno())
-        return 1
     except OSError as fault:
-        say(f"edges_to_log.py: {fault.strerror or fault}")
+        # What stands in the buffer has nowhere to go: whoever read the log has ended, or its disk is full.
+        os.dup2(os.open(os.devnull, os.O_WRONLY), sys.stdout.fileno())
+        if not isinstance(fault, BrokenPipeError):
+            say(f"edges_to_log.py: {fault.strerror or fault}")
         return 1
 
 

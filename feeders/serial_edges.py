@@ -6,8 +6,8 @@
 A receiver's output lies on DCD where nothing else is said. Many receivers take their power from DTR and RTS: `--dtr on --rts off` is what
 most want. An edge's time is read when the kernel wakes us, some tens of microseconds after it.
 
-It exits with 1 where the device isn't there, may not be read, is no serial port, or is unplugged, and where its reader has ended; with 2 for
-invalid arguments; with 0 where SIGINT or SIGTERM ended it.
+It exits with 1 where the device isn't there, may not be read, is no serial port, or is unplugged, and where its reader has ended or takes no
+more; with 2 for invalid arguments; with 0 where SIGINT or SIGTERM ended it.
 """
 
 import argparse
@@ -37,16 +37,30 @@ def is_high(port: int, line: str) -> bool:
     return bool(bits[0] & INPUTS[line])
 
 
+class Unwritten(Exception):
+    """An edge could not be written; its argument is the `OSError`."""
+
+
+def write(at: int, high: bool) -> None:
+    """Writes an edge at a moment of the monotonic clock, in nanoseconds. Raises `Unwritten`."""
+    try:
+        print(f"{at // 10**9}.{at % 10**9:09} {'rising' if high else 'falling'}", flush=True)
+    except OSError as fault:
+        raise Unwritten(fault) from fault
+
+
 def watch(port: int, line: str) -> NoReturn:
-    """Prints the edges of an input line, without end."""
+    """Prints the edges of an input line, without end. Raises `OSError` where the port fails, and `Unwritten`."""
     was_high = is_high(port, line)
     while True:
-        fcntl.ioctl(port, termios.TIOCMIWAIT, INPUTS[line])
-        at = time.monotonic_ns()
-        high = is_high(port, line)
+        # The kernel waits for an edge from now on. One that came while the last was printed shows in the level.
+        at, high = time.monotonic_ns(), is_high(port, line)
+        if high == was_high:
+            fcntl.ioctl(port, termios.TIOCMIWAIT, INPUTS[line])
+            at, high = time.monotonic_ns(), is_high(port, line)
         # Two edges between two looks are noise.
         if high != was_high:
-            print(f"{at // 10**9}.{at % 10**9:09} {'rising' if high else 'falling'}", flush=True)
+            write(at, high)
         was_high = high
 
 
@@ -66,6 +80,9 @@ def main() -> int:
     words.add_argument("--dtr", choices=("on", "off"))
     words.add_argument("--rts", choices=("on", "off"))
     asked = words.parse_args()
+    if sys.stdout is None:
+        print("serial_edges.py: its output is closed", file=sys.stderr)
+        return 1
     signal.signal(signal.SIGTERM, signal.default_int_handler)
     try:
         port = os.open(asked.device, os.O_RDONLY | os.O_NOCTTY | os.O_NONBLOCK)
@@ -74,9 +91,11 @@ def main() -> int:
             if state:
                 put(port, line, state)
         watch(port, asked.line)
-    except BrokenPipeError:
-        # Whoever read the edges has ended. What stands in the buffer has nowhere to go.
+    except Unwritten as unwritten:
+        # What stands in the buffer has nowhere to go: whoever read the edges has ended, or their disk is full.
         os.dup2(os.open(os.devnull, os.O_WRONLY), sys.stdout.fileno())
+        if not isinstance(unwritten.args[0], BrokenPipeError):
+            print(f"serial_edges.py: {unwritten.args[0].strerror}", file=sys.stderr)
         return 1
     except OSError as fault:
         print(f"{asked.device}: {cause(fault)}", file=sys.stderr)

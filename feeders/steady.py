@@ -219,12 +219,10 @@ def main() -> None:
         for line in sys.stdin.buffer:
             sys.stdout.buffer.write(steady.line(line))
             sys.stdout.buffer.flush()
-    except BrokenPipeError:
-        # Whoever read the log has ended. What stands in the buffer has nowhere to go.
-        os.dup2(os.open(os.devnull, os.O_WRONLY), sys.stdout.fileno())
-        sys.exit(1)
     except OSError as fault:
-        sys.exit(f"steady.py: {fault.strerror}")
+        # What stands in the buffer has nowhere to go: whoever read the log has ended, or its disk is full.
+        os.dup2(os.open(os.devnull, os.O_WRONLY), sys.stdout.fileno())
+        sys.exit(1 if isinstance(fault, BrokenPipeError) else f"steady.py: {fault.strerror}")
     except KeyboardInterrupt:
         pass
 

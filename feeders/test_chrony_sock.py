@@ -51,6 +51,7 @@ class Samples(unittest.TestCase):
         self.path = os.path.join(self.folder.name, "radio.sock")
         self.said = []
         self.chrony = None
+        self.asleep = 7_000_000_000  # for how long the host has slept before
 
     def listen(self):
         self.chrony = socket.socket(socket.AF_UNIX, socket.SOCK_DGRAM)
@@ -59,7 +60,7 @@ class Samples(unittest.TestCase):
         self.chrony.settimeout(5)
 
     def bridge(self, delay=0, fresh=5.0):
-        clocks = Clocks(lambda: 100_200_000_000, lambda: NOON_UNIX * 10**9 + 750_000_000)
+        clocks = Clocks(lambda: 100_200_000_000, lambda: NOON_UNIX * 10**9 + 750_000_000, lambda: 100_200_000_000 + self.asleep)
         return Bridge(self.path, delay, fresh, clocks, self.said.append)
 
     def received(self):
@@ -100,6 +101,29 @@ class Samples(unittest.TestCase):
         self.assertRaises(TimeoutError, self.chrony.recv, 100)
         self.assertEqual(len(self.said), 1)
         self.assertTrue(bridge.line(f"0 95200000 verdict {NOON} 0\n"))
+
+    def test_a_host_that_slept(self):
+        """The monotonic clock stood still and the system's went on, so a sample would be off by as long as the host slept."""
+        self.listen()
+        bridge = self.bridge()
+        line = f"0 100000000 verdict {NOON} 0\n"
+        self.assertTrue(bridge.line(line))
+        self.received()
+        self.asleep += 10_000_000
+        self.chrony.settimeout(0.1)
+        self.assertFalse(bridge.line(line))
+        self.assertRaises(TimeoutError, self.chrony.recv, 100)
+        self.assertEqual(self.said, ["the host slept: a verdict is passed over"])
+        # The next one is of after that, and two clocks are never read at quite the same moment.
+        self.asleep += 9_999_999
+        self.assertTrue(bridge.line(line))
+        self.assertEqual(self.said[1:], [f"{self.path} takes samples"])
+
+    def test_a_host_that_slept_before_the_first_verdict(self):
+        bridge = self.bridge()
+        self.asleep += 10_000_000
+        self.assertFalse(bridge.line(f"0 100000000 verdict {NOON} 0\n"))
+        self.assertEqual(self.said, ["the host slept: a verdict is passed over"])
 
     def test_a_chronyd_that_comes_and_goes(self):
         bridge = self.bridge()

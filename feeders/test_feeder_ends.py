@@ -103,10 +103,19 @@ class Sentences(unittest.TestCase):
             ("steady.py", "<&-", "steady.py: its input or its output is closed"),
             ("steady.py", ">&-", "steady.py: its input or its output is closed"),
             ("chrony_sock.py /nosuch", "<&-", "chrony_sock.py: its input is closed"),
+            ("serial_edges.py /nosuch", ">&-", "serial_edges.py: its output is closed"),
         ):
             with self.subTest(words=words, closed=closed):
                 done = subprocess.run(["sh", "-c", f"exec {HERE}/{words} {closed}"], stdin=subprocess.DEVNULL, capture_output=True, text=True, timeout=20)
                 self.assertEqual((done.stderr, done.returncode), (f"{said}\n", 1))
+
+    def test_a_disk_that_is_full(self):
+        """One sentence, and no more from the interpreter as it ends."""
+        edges = "1.0 rising\n1.1 falling\n2.0 rising\n2.1 falling\n"
+        for program, text in (("edges_to_log.py", edges), ("steady.py", "1000000 100000\n")):
+            with self.subTest(program=program), open("/dev/full", "w", encoding="ascii") as full:
+                done = subprocess.run([HERE / program], input=text, stdout=full, stderr=subprocess.PIPE, text=True, timeout=20)
+                self.assertEqual((done.stderr, done.returncode), (f"{program}: No space left on device\n", 1))
 
     def test_how_far_a_start_may_be_moved(self):
         written, said, status = ran("--most", "91", program="steady.py")
@@ -115,7 +124,7 @@ class Sentences(unittest.TestCase):
 
     def test_a_verdict_that_is_old(self):
         said = []
-        bridge = chrony_sock.Bridge("/nosuch", 0, 5.0, chrony_sock.Clocks(lambda: 10 * 10**9, lambda: 10**18), said.append)
+        bridge = chrony_sock.Bridge("/nosuch", 0, 5.0, chrony_sock.Clocks(lambda: 10 * 10**9, lambda: 10**18, lambda: 10 * 10**9), said.append)
         self.assertFalse(bridge.line("0 4000000 verdict 4004773260 0\n"))
         self.assertEqual(said, ["a verdict of a moment 6.0 s ago is passed over"])
 

@@ -163,6 +163,20 @@ class Live(unittest.TestCase):
         self.feeder.stdin.write(ours(5 * 10**6, False).encode() + ours(6 * 10**6, True).encode() + ours(6_200_000, False).encode())
         self.assertEqual(self.feeder.stdout.readline(), b"6000000 200000\n")
 
+    def test_edges_that_are_held_back(self):
+        """By the moments of the edges the mark had 100 ms: its width was reported wrong while its end was held back. That is said once."""
+        feeder = subprocess.Popen([HERE / "edges_to_log.py"], stdin=subprocess.PIPE, stdout=subprocess.PIPE, stderr=subprocess.PIPE, bufsize=0)
+        self.addCleanup(feeder.stdout.close)
+        self.addCleanup(feeder.stderr.close)
+        for start in (10**6, 2 * 10**6):
+            feeder.stdin.write(ours(start, True).encode())
+            self.assertEqual(feeder.stdout.readline(), f"{start} 2000000\n".encode())
+            feeder.stdin.write(ours(start + 100_000, False).encode())
+        feeder.stdin.close()
+        self.assertEqual(feeder.wait(20), 0)
+        self.assertEqual(len(said := feeder.stderr.read().decode().splitlines()), 1)
+        self.assertTrue(said[0].startswith("an edge came more than 2 s late"), said)
+
     def test_an_edge_in_two_pieces(self):
         line = ours(10**6, True).encode() + ours(1_100_000, False).encode()
         for byte in line:

@@ -27,7 +27,8 @@ ALL_INPUTS = sum(INPUTS.values())
 
 
 class Port:
-    """A port as the kernel has it: `outputs` are the bits of its output lines, `inputs` those that each look finds in turn."""
+    """A port as the kernel has it: `outputs` are the bits of its output lines, `inputs` those of its input lines, of which each edge that is
+    waited for brings the next."""
 
     def __init__(self, outputs: int, inputs: list[int]) -> None:
         self.outputs, self.inputs, self.waited = outputs, inputs, set()
@@ -39,12 +40,17 @@ class Port:
             self.outputs &= ~given[0]
         elif request == WAIT:
             self.waited.add(given)
-            if not self.inputs:
-                raise OSError(errno.EIO, "Input/output error")  # it is unplugged
+            self.change()
         elif request == GET:
-            given[0] = self.inputs.pop(0) | self.outputs
+            given[0] = self.inputs[0] | self.outputs
         else:
             raise AssertionError(f"request {request:#x}")
+
+    def change(self) -> None:
+        """An edge comes; after the last it is unplugged."""
+        if len(self.inputs) == 1:
+            raise OSError(errno.EIO, "Input/output error")
+        self.inputs.pop(0)
 
 
 class Ports(unittest.TestCase):
@@ -84,6 +90,39 @@ class Ports(unittest.TestCase):
                 edges = [line.split()[1] for line in self.watch(port, "--line", name)]
                 self.assertEqual((edges, port.waited), (["rising", "falling"], {bit}))
         self.assertEqual(len(self.watch(Port(0, [0, INPUTS["dcd"]]))), 1)
+
+    def test_an_edge_that_comes_while_the_last_is_written(self):
+        """The kernel waits only for edges that come after it was asked to."""
+        port = Port(0, [0, INPUTS["dcd"], 0])
+        written = []
+
+        def slow(_at: int, high: bool) -> None:
+            written.append(high)
+            if len(written) == 1:
+                port.change()
+
+        with mock.patch("serial_edges.write", slow):
+            self.watch(port)
+        self.assertEqual(written, [True, False])
+
+    def test_an_output_that_takes_no_more(self):
+        """It isn't the port's fault, and the interpreter adds no sentence of its own."""
+        for fault, said in ((BrokenPipeError(errno.EPIPE, "Broken pipe"), ""), (OSError(errno.ENOSPC, "No space left on device"), "serial_edges.py: No space left on device\n")):
+            port = Port(0, [0, INPUTS["dcd"]])
+            told = io.StringIO()
+            with (
+                self.subTest(fault=fault),
+                mock.patch("serial_edges.fcntl.ioctl", port.ioctl),
+                mock.patch("serial_edges.signal.signal"),
+                mock.patch("serial_edges.os.dup2") as moved,
+                mock.patch.object(sys, "argv", ["serial_edges.py", "/dev/null"]),
+                mock.patch.object(sys, "stdout") as output,
+                contextlib.redirect_stderr(told),
+            ):
+                output.write.side_effect = fault
+                self.assertEqual(serial_edges.main(), 1)
+                self.assertEqual(moved.call_count, 1)
+            self.assertEqual(told.getvalue(), said)
 
     def test_an_edge_has_its_moment_by_the_monotonic_clock(self):
         began = time.monotonic_ns()

@@ -1,10 +1,11 @@
 """`install`: the keeper as a service. Without `--do` it only says what it would do."""
 
+import argparse
 import os
 import pathlib
 
 from keeper.config import built_program
-from keeper.steps import Step, command, groups_for, has_user, is_of_group, keep_file, put_file, put_folder, put_link, remove
+from keeper.steps import Step, command, groups_for, has_user, is_of_group, keep_file, make_folder, put_file, put_folder, put_link, remove
 from keeper.words import DONE, Fault, Parser
 
 USER = "radio_ntpd"
@@ -43,6 +44,15 @@ class Places:
         return os.path.join(self.root, path.lstrip("/"))
 
 
+def newer_source(program: pathlib.Path, top: pathlib.Path = TOP) -> pathlib.Path | None:
+    """A source of this checkout that is newer than the program built in it; None where the program isn't built here."""
+    if program.resolve() != (top / "crates/radio_ntpd/out/radio_ntpd").resolve():
+        return None
+    built = program.stat().st_mtime
+    sources = (one for one in (top / "crates").rglob("*.rt") if not any(part == "out" or part.endswith("_tests") for part in one.relative_to(top).parts))
+    return next((one for one in (top / "crates.txt", *sources) if one.stat().st_mtime > built), None)
+
+
 def scripts(folder: str) -> list[str]:
     """The files of a folder of the sources that are installed: no tests, no hidden ones."""
     return sorted(one.name for one in (TOP / folder).iterdir() if one.is_file() and not one.name.startswith((".", "test_")))
@@ -55,7 +65,8 @@ def adapted(path: pathlib.Path, prefix: str) -> bytes:
 
 def steps(places: Places, program: str) -> list[Step]:
     """Files alone, in their order."""
-    found = [put_file(pathlib.Path(program).read_bytes(), f"{places.library}/bin/radio_ntpd", 0o755), put_file((TOP / "radio_keeper").read_bytes(), f"{places.library}/radio_keeper", 0o755)]
+    found = [make_folder(places.library), make_folder(f"{places.library}/bin")]
+    found += [put_file(pathlib.Path(program).read_bytes(), f"{places.library}/bin/radio_ntpd", 0o755), put_file((TOP / "radio_keeper").read_bytes(), f"{places.library}/radio_keeper", 0o755)]
     found += [put_folder(str(TOP / folder), f"{places.library}/{folder}", scripts(folder)) for folder in ("keeper", "feeders", "tools")]
     found += [put_link(target, path) for path, target in places.links.items()]
     found += [put_file((TOP / "docs" / name).read_bytes(), path, 0o644) for name, path in places.pages.items()]
@@ -65,8 +76,8 @@ def steps(places: Places, program: str) -> list[Step]:
     return found
 
 
-def host_steps(places: Places) -> list[Step]:
-    """The user and its groups, and what systemd has to know; not done below another root."""
+def host_steps(places: Places, is_new: bool) -> list[Step]:
+    """The user and its groups, and what systemd has to know; not done below another root. `is_new`: whether a file is written."""
     groups = groups_for(USER, GROUPS)
     station = f"{places.settings}/station.toml"
     found = [Step(f"make the system user {USER}", lambda: not has_user(USER), lambda: command("useradd", "--system", "--user-group", "--home-dir", HOME, "--shell", "/usr/sbin/nologin", USER))]
@@ -74,6 +85,7 @@ def host_steps(places: Places) -> list[Step]:
     found.append(Step(f"let the group {USER} read {station}, which may have keys", lambda: not is_of_group(station, USER), lambda: command("chgrp", USER, station)))
     if os.path.isdir("/run/systemd/system"):
         found.append(Step("have systemd read its units anew", lambda: True, lambda: command("systemctl", "daemon-reload")))
+        found.append(Step("start the service again, if it runs", lambda: is_new, lambda: command("systemctl", "try-restart", USER)))
     return found
 
 
@@ -95,14 +107,28 @@ def main(given: list[str]) -> int:
     here = os.path.realpath(asked.root) == "/"
     if asked.do and here and os.geteuid() != 0:
         raise Fault("only root can do that; without --do it says what it would do")
-    places = Places(os.path.abspath(asked.root), asked.prefix)
+    # The service's user has to enter each folder that is made.
+    before = os.umask(0o022)
+    try:
+        install(asked, Places(os.path.abspath(asked.root), asked.prefix), here)
+    finally:
+        os.umask(before)
+    return DONE
+
+
+def install(asked: argparse.Namespace, places: Places, here: bool) -> None:
+    """Does what was asked for, or says what it would do. `here`: on this host, and not below another root."""
     if asked.remove:
         todo = removing(places, here)
     else:
         program = asked.program or built_program()
         if not os.access(program, os.X_OK):
             raise Fault(f"there is no built program {program}: build it, or name it with --program")
-        todo = steps(places, program) + (host_steps(places) if here else [])
+        if not asked.program and (source := newer_source(pathlib.Path(program))):
+            raise Fault(f"{source} is newer than the program: run ./radio_ntpd once, which builds it again, or name a program with --program")
+        todo = steps(places, program)
+        if here:
+            todo += host_steps(places, any(step.needed() for step in todo))
     for step in todo:
         if step.needed():
             print(f"{'' if asked.do else 'would '}{step.text}", flush=True)
@@ -110,7 +136,6 @@ def main(given: list[str]) -> int:
                 step.do()
     if not asked.remove:
         print(next_words(places, asked.do))
-    return DONE
 
 
 def next_words(places: Places, done: bool) -> str:

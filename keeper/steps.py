@@ -54,6 +54,19 @@ def groups_for(name: str, wanted: tuple[str, ...]) -> list[str]:
     return [one for one in wanted if any(group.gr_name == one and name not in group.gr_mem for group in grp.getgrall())]
 
 
+def make_folder(path: str) -> Step:
+    """A folder that everybody may enter."""
+
+    def is_shut() -> bool:
+        return not os.path.isdir(path) or os.stat(path).st_mode & 0o7777 != 0o755
+
+    def make() -> None:
+        os.makedirs(path, exist_ok=True)
+        os.chmod(path, 0o755)
+
+    return Step(f"make the folder {path}", is_shut, make)
+
+
 def put_file(text: bytes, path: str, mode: int) -> Step:
     """A file with this text, whole or not at all."""
 
@@ -104,7 +117,7 @@ def put_folder(source: str, path: str, names: list[str]) -> Step:
     def differs() -> bool:
         try:
             there = sorted(os.listdir(path))
-            return there != sorted(names) or any(_text(os.path.join(source, one)) != _text(os.path.join(path, one)) for one in names)
+            return there != sorted(names) or os.stat(path).st_mode & 0o7777 != 0o755 or any(_text(os.path.join(source, one)) != _text(os.path.join(path, one)) for one in names)
         except OSError:
             return True
 
@@ -113,6 +126,7 @@ def put_folder(source: str, path: str, names: list[str]) -> Step:
         shutil.rmtree(part, ignore_errors=True)
         os.makedirs(part)
         try:
+            os.chmod(part, 0o755)
             for one in names:
                 target = os.path.join(part, one)
                 shutil.copyfile(os.path.join(source, one), target)

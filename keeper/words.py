@@ -6,7 +6,7 @@ from typing import NoReturn
 
 DONE = 0
 NOT_WELL = 1  # what was asked for was done, and something isn't well
-CRITICAL = 2  # `status --nagios` alone: nobody gets the time
+CRITICAL = 2  # `status`, also with `--nagios`: nobody gets the time
 UNKNOWN = 3  # `status --nagios` alone: nothing is known
 USAGE = 64  # the arguments aren't valid; nothing was done
 HOST = 71  # the host refused something: a file, a port, a process

@@ -18,7 +18,8 @@ trap 'exit 1' INT TERM
 package="$work/package"
 mkdir -p "$package/DEBIAN"
 umask 022
-./radio_keeper install --do --root "$package" --prefix /usr --program "$program" > "$work/installed"
+# Without --program it refuses one that is older than its sources.
+./radio_keeper install --do --root "$package" --prefix /usr ${RADIO_NTPD:+--program "$RADIO_NTPD"} > "$work/installed"
 
 # Pages are packed as Debian's policy has it, without a date, so that the same sources give the same package.
 find "$package/usr/share/man" -type f -exec gzip -9 -n {} +

@@ -43,9 +43,11 @@ def make_copy(top: Path, copy: Path, crates: list[str]) -> None:
     (copy / "crates.txt").write_text("".join(line for line in lines if line.partition(":")[0].strip() in crates), encoding="utf-8")
 
 
-def take_program(copy: Path, program: Path) -> None:
-    """Puts the program that was built in the copy in its place, whole or not at all. Raises `OSError`."""
+def take_program(copy: Path, program: Path, since: float) -> None:
+    """Puts the program that was built in the copy in its place, whole or not at all. It is as old as the copy, made at `since` in seconds of
+    the host's clock: a source that was changed while the program was proved is newer. Raises `OSError`."""
     program.parent.mkdir(parents=True, exist_ok=True)
     new = program.with_name(f"{program.name}.new")
     shutil.copy2(copy / "crates" / program.name / "out" / program.name, new)
+    os.utime(new, (since, since))
     new.replace(program)

@@ -41,7 +41,7 @@ def as_time(seconds: float) -> str:
 
 
 def in_hand(session: int) -> set[str]:
-    """Returns the crates that the processes of a session are proving, where the host tells."""
+    """Returns the crates that the processes of a session are proving, where the host says so."""
     names = set()
     for folder in Path("/proc").glob("[0-9]*"):
         with contextlib.suppress(OSError, ValueError, IndexError):
@@ -120,7 +120,7 @@ def run(copy: Path, log: Path, build: Build) -> int:
             with contextlib.suppress(OSError):
                 os.killpg(child.pid, signal.SIGTERM)
 
-        for number in (signal.SIGTERM, signal.SIGINT):
+        for number in (signal.SIGTERM, signal.SIGINT, signal.SIGHUP):
             signal.signal(number, stop)
         ended, is_drawn = threading.Event(), sys.stderr.isatty()
         watcher = threading.Thread(target=watch, args=(build, child.pid, ended, is_drawn))
@@ -144,6 +144,7 @@ def build(top: Path, cache: Path, is_kept: bool) -> int:
     crates = read_crates(top)
     lines = {name: count_lines(top / "crates" / name) for name in crates}
     copy, log = cache / "copy", cache / "log"
+    since = time.time()
     make_copy(top, copy, list(crates))
     made = Build(crates, Estimate(crates, sizes_of(crates, lines), len(os.sched_getaffinity(0))))
     status = run(copy, log, made)
@@ -156,14 +157,14 @@ def build(top: Path, cache: Path, is_kept: bool) -> int:
         why = f"{crate} is not proved; `rt check` in crates/{crate} says more, and" if crate else "the build failed;"
         print(f"radio_ntpd: {why} {log} has all:", *last_lines(log, crate), sep="\n    ", file=sys.stderr)
         return FAILED
-    take_program(copy, top / "crates" / PROGRAM / "out" / PROGRAM)
+    take_program(copy, top / "crates" / PROGRAM / "out" / PROGRAM, since)
     return 0
 
 
 def is_newer(program: Path, since: float) -> bool:
-    """Returns whether a program was made after a moment, in seconds of the host's clock."""
+    """Returns whether a program was put in its place after a moment, in seconds of the host's clock."""
     with contextlib.suppress(OSError):
-        return program.stat().st_mtime > since
+        return program.stat().st_ctime > since
     return False
 
 

@@ -10,7 +10,9 @@ from typing import NamedTuple
 
 UNIT = 2**32  # units of an offset in a second
 UNIX_EPOCH = 2_208_988_800  # in seconds since 1900-01-01 00:00 UTC
-KINDS = ("verdict", "lone", "differs", "refused", "sample", "declined", "notice")
+# How many fields there are after each kind (docs/FORMATS.md).
+FIELDS = {"verdict": 2, "lone": 1, "differs": 3, "refused": 1, "sample": 7, "declined": 1, "notice": 1}
+KINDS = tuple(FIELDS)
 PLANS = {"dcf": "DCF77", "msf": "MSF", "wwvb": "WWVB"}
 
 
@@ -49,7 +51,7 @@ def read_entry(line: str) -> Entry | None:
         if fields[:1] == ["j2"] and fields[1].isdigit():
             rate = int(fields[2])
             fields = fields[3:]
-        if not fields[0].isdigit() or not fields[1].isdigit() or fields[2] not in KINDS:
+        if not fields[0].isdigit() or not fields[1].isdigit() or len(fields) - 3 != FIELDS.get(fields[2]):
             return None
         entry = Entry(int(fields[0]), int(fields[1]), fields[2], fields[3:], rate)
         offset_of(entry)
@@ -112,9 +114,9 @@ def unix_of(run: Run, at: int) -> float:
 
 
 def read_journal(name: str) -> list[Entry]:
-    """The entries of a journal in its order; other lines are passed over."""
+    """The entries of a journal in its order; other lines are passed over, and so is a last line that was cut off."""
     with open(name, encoding="ascii", errors="replace") as file:
-        return [entry for entry in map(read_entry, file) if entry]
+        return [entry for line in file if line.endswith("\n") and (entry := read_entry(line))]
 
 
 def number_names(names: list[str]) -> list[str]:
@@ -124,9 +126,11 @@ def number_names(names: list[str]) -> list[str]:
 
 
 def read_station(name: str) -> Station:
-    """What a station file says of its feeds: the radios, the servers, the leap second file."""
+    """What a station file says of its feeds: the radios, the servers, the leap second file. Raises `ValueError` where it is none."""
     table = tomllib.loads(pathlib.Path(name).read_text(encoding="utf-8"))
     radios, servers = table.get("radio", []), table.get("server", [])
+    if any(not isinstance(rows, list) or not all(isinstance(row, dict) for row in rows) for rows in (radios, servers)) or not isinstance(table.get("bound", 1000), int):
+        raise ValueError("radio and server are tables, and bound is a whole number")
     kinds = [str(radio.get("plan")) for radio in radios] + ["server"] * len(servers)
     names = [PLANS.get(kind, kind) for kind in kinds[: len(radios)]] + [f"{server.get('address')}:{server.get('port')}" for server in servers]
     if "leap_file" in table:

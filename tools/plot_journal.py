@@ -19,10 +19,9 @@ It exits with 1 where a file can't be read, has no entry, or can't be written, a
 import argparse
 import pathlib
 import sys
-import tomllib
 
 import plots
-from journal_text import Run, line_through, read_journal, read_station, run_of, station_of, reported_each_minute
+from journal_text import Run, Station, line_through, read_journal, read_station, run_of, station_of, reported_each_minute
 
 FEEDERS = pathlib.Path(__file__).resolve().parent.parent / "feeders"
 MOST = 500.0  # the most that a phase is off, in milliseconds
@@ -30,6 +29,10 @@ MOST = 500.0  # the most that a phase is off, in milliseconds
 
 class Fault(Exception):
     """Why no picture can be drawn, in a sentence."""
+
+
+class NoStation(Exception):
+    """Why a file is no station, after its name."""
 
 
 def phases_of(log: str) -> list[tuple[int, float, float]]:
@@ -70,7 +73,7 @@ def draw(words: argparse.Namespace) -> None:
     entries = [entry for journal in journals for entry in journal]
     if not entries:
         raise Fault(f"{words.files[0]} has no entry")
-    station = read_station(words.station) if words.station else station_of(entries)
+    station = station_named(words.station) if words.station else station_of(entries)
     if words.reception:
         write(words.reception, plots.reception(entries, station))
     if words.offsets:
@@ -79,6 +82,14 @@ def draw(words: argparse.Namespace) -> None:
         runs = [run for journal in journals if (run := run_of(journal))]
         has_time(runs[0] if runs else None, words.files[0])
         write(words.day, plots.day(runs, [reported_each_minute(run, station) for run in runs], station))
+
+
+def station_named(name: str) -> Station:
+    """The station of a file."""
+    try:
+        return read_station(name)
+    except ValueError as fault:
+        raise NoStation(f"{name}: {fault}") from fault
 
 
 def has_time(run: Run | None, name: str) -> Run:
@@ -104,8 +115,8 @@ def main() -> int:
     words = read_words()
     try:
         draw(words)
-    except tomllib.TOMLDecodeError as fault:
-        print(f"{words.station}: {fault}", file=sys.stderr)
+    except NoStation as fault:
+        print(fault, file=sys.stderr)
         return 1
     except (OSError, Fault) as fault:
         print(f"plot_journal.py: {fault}", file=sys.stderr)

@@ -89,6 +89,11 @@ class Builds(unittest.TestCase):
         self.assertTrue(os.access(self.program, os.X_OK))
         self.assertEqual([file.name for file in self.program.parent.iterdir()], ["radio_ntpd"])
 
+    def test_the_program_is_as_old_as_the_copy(self):
+        """So a source that is changed while the program is proved is newer."""
+        self.run_build()
+        self.assertLess(self.program.stat().st_mtime, Path(f"{self.notes}.left").stat().st_mtime)
+
     def test_each_crate_has_its_line_whether_it_is_proved_or_kept(self):
         said = self.run_build(KEPT="left").stderr.splitlines()
         self.assertEqual([line.split()[0] for line in said[2:]], ["low", "left", "right", "radio_ntpd"])
@@ -189,7 +194,7 @@ class Builds(unittest.TestCase):
         return child
 
     def test_a_stopped_build_leaves_no_child_and_no_program(self):
-        for number in (signal.SIGINT, signal.SIGTERM):
+        for number in (signal.SIGINT, signal.SIGTERM, signal.SIGHUP):
             child = self.start_slow()
             child.send_signal(number)
             said = child.stderr.read()

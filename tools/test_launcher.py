@@ -15,8 +15,9 @@ PROGRAM = """#!/bin/sh
 for one; do printf '<%s>\\n' "$one"; done
 exit 5
 """
-# Stands in the place of tools/build_program.py: makes the program unless it is to fail.
-BUILD = """import os, pathlib, shutil, sys
+# Stands in the place of tools/build_program.py: makes the program unless it is to fail. Where a source changes meanwhile the program is
+# older, as the real one makes it.
+BUILD = """import os, pathlib, shutil, sys, time
 top = pathlib.Path(__file__).resolve().parent.parent
 with open(top / "builds", "a") as notes:
     notes.write("built\\n")
@@ -24,6 +25,10 @@ if os.environ.get("BUILD_FAILS"):
     sys.exit(int(os.environ["BUILD_FAILS"]))
 (top / "crates/radio_ntpd/out").mkdir(exist_ok=True)
 shutil.copy(top / "made", top / "crates/radio_ntpd/out/radio_ntpd")
+if os.environ.get("CHANGES"):
+    since = time.time() - 5
+    os.utime(top / "crates/radio_ntpd/out/radio_ntpd", (since, since))
+    (top / os.environ["CHANGES"]).write_text("//! A crate that was changed meanwhile.\\n")
 """
 
 
@@ -76,6 +81,14 @@ class Launches(unittest.TestCase):
                 self.run_it()
                 self.assertEqual(self.builds(), before + builds)
                 self.is_made(self.top / file, 1000)
+
+    def test_a_source_that_changes_while_it_is_built(self):
+        self.run_it(CHANGES="crates/low/src/lib.rt")
+        self.assertEqual(self.builds(), 1)
+        self.run_it()
+        self.assertEqual(self.builds(), 2)
+        self.run_it()
+        self.assertEqual(self.builds(), 2)
 
     def test_a_program_is_not_run_that_its_sources_no_longer_give(self):
         self.run_it()

@@ -16,7 +16,7 @@ import xml.etree.ElementTree
 HERE = pathlib.Path(__file__).resolve().parent
 sys.path.insert(0, str(HERE))
 
-from journal_text import due, line_through, read_entry, read_station, run_of, station_of, reported_each_minute, unix_of  # noqa: E402
+from journal_text import due, line_through, read_entry, read_journal, read_station, run_of, station_of, reported_each_minute, unix_of  # noqa: E402
 from plots import begin_of, offset_axis, scale_of, shade, spread_of  # noqa: E402
 from svg_chart import Band, Bar, Line, Panel, log_axis, picture, round_axis, utc_axis  # noqa: E402
 
@@ -52,7 +52,7 @@ class Reading(unittest.TestCase):
         entry = read_entry("j2 6 -53687 0 362003000 verdict 3976257900 0\n")
         self.assertEqual((entry.feed, entry.at, entry.kind, entry.fields, entry.rate), (0, 362003000, "verdict", ["3976257900", "0"], -53687))
         self.assertEqual(read_entry("2 5 refused 13").rate, None)
-        for line in ("", "j2", "j2 1", "j2 x 0 0 5 lone 7", "link 0 answered 2", "page 5 1 1 44434600", "status 0", "0 5 verdict", "0 5 verdict x 0", "-1 5 lone 7"):
+        for line in ("", "j2", "j2 1", "j2 x 0 0 5 lone 7", "link 0 answered 2", "page 5 1 1 44434600", "status 0", "0 5 verdict", "0 5 verdict x 0", "-1 5 lone 7", "0 6 refused", "0 6 sample 17", "0 6 differs 1 2", "0 6 lone 7 8"):
             with self.subTest(line=line):
                 self.assertIsNone(read_entry(line))
 
@@ -64,6 +64,20 @@ class Reading(unittest.TestCase):
         self.assertEqual(station.kinds, ["dcf", "msf", "dcf", "server", "leap"])
         self.assertEqual(station.names, ["DCF77 (feed 0)", "MSF", "DCF77 (feed 2)", "192.0.2.7:123", "leap second file"])
         self.assertEqual(station.bound, 50)
+
+    def test_what_is_no_station(self):
+        for text in (b"radio = 3\n", b"server = [1]\n", b'bound = "x"\n', b"bound =\n", b"\xff\n"):
+            with self.subTest(text=text), tempfile.NamedTemporaryFile("wb") as file:
+                file.write(text)
+                file.flush()
+                self.assertRaises(ValueError, read_station, file.name)
+
+    def test_a_last_line_that_was_cut_off(self):
+        """As where a signal ended `serve` while it printed."""
+        with tempfile.NamedTemporaryFile("w") as file:
+            file.write(f"0 5 lone 7\n0 6 verdict {NOON}")
+            file.flush()
+            self.assertEqual([entry.kind for entry in read_journal(file.name)], ["lone"])
 
     def test_names_without_a_station(self):
         entries = [read_entry("0 5 lone 7"), read_entry("2 5 sample 17077897383243199545 40802189 8837 2 7f000001 256 512"), read_entry("1 5 declined 3")]
