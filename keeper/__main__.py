@@ -79,6 +79,8 @@ def open_standard() -> None:
     for name, number in (("stdout", 1), ("stderr", 2)):
         if getattr(sys, name) is None:
             setattr(sys, name, open(number, "w", encoding="utf-8", closefd=False))
+    # A name of the host need not be UTF-8.
+    sys.stdout.reconfigure(errors="backslashreplace")
 
 
 if __name__ == "__main__":

@@ -1,19 +1,17 @@
 """`check`: both files, the host, and some seconds of each receiver, before a start. It changes nothing."""
 
+import fcntl
 import os
 import select
 import time
 
 from keeper import config, hosts
 from keeper.children import Guard
-from keeper.faces import STATE
 from keeper.hosts import Finding, Level
 from keeper.marks import Look, look
 from keeper.rules import PLANS
 from keeper.source import Ended, source_of
-from keeper.state import StateError, load
 from keeper.text import length
-from keeper.verdict import STALE
 from keeper.words import DONE, NOT_WELL, Fault, Parser
 
 SECONDS = 10
@@ -54,11 +52,18 @@ def tell(finding: Finding) -> Finding:
 
 
 def keeper_runs(settings: config.Settings) -> bool:
-    """Whether a keeper renews the state of this station's folder."""
+    """Whether a keeper has this station's folder: it holds a lock on it as long as it lives."""
     try:
-        return time.time() - load(os.path.join(settings.folder, STATE)).written < STALE
-    except StateError:
+        descriptor = os.open(settings.folder, os.O_RDONLY | os.O_DIRECTORY | os.O_CLOEXEC)
+    except OSError:
         return False
+    try:
+        fcntl.flock(descriptor, fcntl.LOCK_SH | fcntl.LOCK_NB)
+    except BlockingIOError:
+        return True
+    finally:
+        os.close(descriptor)
+    return False
 
 
 def judge_station(settings: config.Settings) -> list[Finding]:

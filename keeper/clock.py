@@ -41,7 +41,7 @@ class SleepWatch:
 
     def __init__(self, slept: Callable[[], float | None] = slept) -> None:
         self.slept = slept
-        self.last: float | None = None
+        self.last = slept()
 
     def span(self) -> float:
         """For how long the host slept since the last call, in seconds; 0.0 where it didn't."""

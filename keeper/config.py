@@ -1,11 +1,14 @@
 """The keeper's file, `keeper.toml`, and the station file that it names. A key that isn't known, is missing or out of range is refused by name."""
 
+import hashlib
 import os
 import re
+import socket
 import subprocess
 import tomllib
 from dataclasses import dataclass, field
 
+from keeper.station import longest_cycle
 from keeper.words import REFUSED, Fault, reason, sentence
 
 HOUR = 3600
@@ -29,6 +32,11 @@ class Radio:
     plan: str
     delay: float
     steady: bool = False
+
+    @property
+    def origin(self) -> str:
+        """A digest of what names its source: a command may have what isn't for everybody."""
+        return hashlib.sha256(f"{self.kind} {self.value}".encode(errors="surrogateescape")).hexdigest()[:16]
 
 
 @dataclass(frozen=True)
@@ -178,6 +186,8 @@ def load(path: str) -> Settings:
         raise Fault(f"{path}: radio: {len(radios)} are here and {len(tables)} in {station_path}{line_of(text, 'radio')}", REFUSED)
     servers = [(one["address"], _port(one)) for one in _table(station, "server") if isinstance(one.get("address"), str) and _port(one)]
     pace = values.get("pace", 16)
+    if servers and pace and "cycle" in values and values["cycle"] > longest_cycle(pace):
+        top.refuse("cycle", f"with servers it is at most {int(longest_cycle(pace))} at this pace: their polls last no longer")
     return Settings(
         path=os.path.abspath(path), station=station_path, text=station,
         program=os.path.join(base, values["program"]) if "program" in values else built_program(),
@@ -203,6 +213,29 @@ def _radio(path: str, text: str, values: object, place: int, tables: list[dict])
     if named[0] != "command":
         value = os.path.join(os.path.dirname(os.path.abspath(path)), value)
     return Radio(named[0], value, values.get("name", plan), values.get("stall", 60), plan, _number(table, "delay", 0) / 1e6, values.get("steady", False))
+
+
+def ask_host(settings: Settings, ports: list[int]) -> None:
+    """Whether the host gives what a run of these settings opens, but for these ports, which are the keeper's own. Raises Fault."""
+    if settings.leap_file and (why := unreadable(settings.leap_file)):
+        raise Fault(f"leap_file {settings.leap_file}: {why}")
+    for port in settings.links:
+        if port not in ports:
+            try:
+                with socket.socket(socket.AF_INET, socket.SOCK_DGRAM) as link:
+                    link.bind(("0.0.0.0", port))
+            except OSError as error:
+                raise Fault(f"port {port}: {error.strerror}") from error
+
+
+def unreadable(path: str) -> str:
+    """Why a file can't be read; nothing where it can."""
+    try:
+        with open(path, "rb") as file:
+            file.read(1)
+    except OSError as error:
+        return error.strerror or str(error)
+    return ""
 
 
 def judge(settings: Settings) -> None:

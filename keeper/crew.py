@@ -22,8 +22,12 @@ from keeper.readback import last_pulses
 from keeper.runs import Run
 from keeper.say import say
 from keeper.state import State
+from keeper.verdict import SILENT
 
-VERDICTS = 4  # a radio has the time after this number of them
+STAGES = 8  # of the clock filter, of which the empty ones count as 16 s each (docs/PAGE.md)
+FLOOR = 0.005  # the least root dispersion of a radio, in seconds
+NO_VERDICTS = 2  # the first minutes of those that a run receives give no verdict: one is cut, and one has none before it
+ANSWERED = 120.0  # within which a paced server has to have answered, or within four of its pauses, in seconds
 
 
 class Crew:
@@ -38,6 +42,7 @@ class Crew:
         self.settings: Settings | None = None
         self.refused = ""  # why a file was refused at the last reload
         self.lacking = ""  # why no server can be started for the next run
+        self.without = ""  # what this run has to go without
         self.clock, self.sleep = clock.ClockWatch(), clock.SleepWatch()
         self.slept = False  # since the last run began
         self.failing = False
@@ -52,7 +57,7 @@ class Crew:
         feeds: list[Feed] = []
         try:
             for place in range(len(settings.radios)):
-                feeds.append(self._feed_for(settings, state, place))
+                feeds.append(self._feed_for(settings, state, place, before))
             pacing = self._pacing_for(settings)
         except OSError:
             _close_others(feeds, self.feeds)
@@ -61,6 +66,9 @@ class Crew:
         if self.settings:
             facts.go_on(state, self.state)
             journals.waiting = self.journals.waiting
+        for feed in feeds:
+            if feed not in self.feeds and feed.radio.kind == "fifo":
+                feed.turn(time.monotonic())  # it opens its FIFO before the feed before closes it: a writer always has a reader
         _close_others(self.feeds, feeds)
         if self.pacing and self.pacing is not pacing:
             self.pacing.close()
@@ -77,14 +85,16 @@ class Crew:
             self.alarms.close()
         self.alarms = Alarms(settings.alarms.command, settings.alarms.unheard, settings.alarms.limit, settings.folder, self.guard)
 
-    def _feed_for(self, settings: Settings, state: State, place: int) -> Feed:
-        """The feed of the radio at this place: the one that runs, where it is the same radio. Raises OSError."""
+    def _feed_for(self, settings: Settings, state: State, place: int, before: State | None) -> Feed:
+        """The feed of the radio at this place: the one that runs, where it is the same radio. What another source gave says nothing of
+        this one. Raises OSError."""
         radio = settings.radios[place]
         if place < len(self.feeds) and self.feeds[place].radio == radio and self.settings.program == settings.program:
             return self.feeds[place]
         log = PulseLog(os.path.join(settings.folder, "logs"), place, radio.plan, settings.days, say)
         feed = Feed(self.loop, self.guard, radio, state.radios[place], log, Decoder(settings.program, radio.plan, lambda line: None), say)
-        feed.recall(last_pulses(log, time.monotonic_ns() // 1000, time.time()))
+        if facts.has_same_source(state.radios[place], before):
+            feed.recall(last_pulses(log, time.monotonic_ns() // 1000, time.time()))
         return feed
 
     def _pacing_for(self, settings: Settings) -> Pacing | None:
@@ -97,8 +107,13 @@ class Crew:
 
     def is_warm(self, now: float) -> bool:
         """Whether a run that began now (Unix s) would soon have the time: by a radio, of which it receives the last minutes, or by servers,
-        which are asked at once."""
-        return bool(self.settings.servers) or any(feed.reception.verdicts_since(now - 60 * MINUTES) >= VERDICTS for feed in self.feeds)
+        which are asked at once. Of servers that aren't paced it isn't known how they answer."""
+        since, needed = now - 60 * (MINUTES - NO_VERDICTS), verdicts_for(self.settings.bound)
+        if any(feed.reception.verdicts_since(since) >= needed for feed in self.feeds):
+            return True
+        if self.pacing:
+            return any(now - at <= max(4 * self.pacing.pace, ANSWERED) for at in self.pacing.answered)
+        return bool(self.settings.servers)
 
     def turn(self, most: float) -> None:
         """One round of all that goes on beside a run, of at most `most` seconds."""
@@ -141,6 +156,9 @@ class Crew:
         run_state, reading = self.state.run, run.reading
         run_state.number, run_state.since, run_state.cause, run_state.pid = run.number, run.since, run.cause, run.server.child.pid
         facts.note_leap_file(self.state)
+        if run.note and run.note != self.without:
+            say(run.note)
+        self.without = run.note
         run_state.lag, run_state.lag_bound = (reading.lag / 1e6, reading.bound / 1e6) if reading else (0.0, 0.0)
         counter = f"its counter began {reading.lag:.0f} us late, known within {reading.bound:.0f} us" if reading else "where its counter stands isn't known"
         say(f"run {run.number} ({run.cause}) serves after {run.age() * 1000:.0f} ms; {counter}")
@@ -185,7 +203,7 @@ class Crew:
         facts.note_servers(self.state, self.pacing)
         for feed in self.feeds:
             feed.reception.renew(now)
-        said = (self.lacking, self.journals.note, *(feed.log.note for feed in self.feeds), self.refused and f"not reloaded: {self.refused}")
+        said = (self.lacking, self.without, self.journals.note, *(feed.log.note for feed in self.feeds), self.refused and f"not reloaded: {self.refused}")
         self.state.notes = [one for one in said if one]
         self.alarms.judge(self.state, now)
         self.notify.status(self._sentence())
@@ -201,7 +219,8 @@ class Crew:
             self.failing = True
 
     def _sentence(self) -> str:
-        good = [one for one in self.state.links if one.leap != 3]
+        since = time.time() - SILENT
+        good = [one for one in self.state.links if one.leap != 3 and one.answered_at >= since]
         time_text = f"time from {good[0].reference_id}, root dispersion {good[0].root_dispersion * 1000:.1f} ms" if good else "no time"
         return f"run {self.state.run.number}: {time_text}"
 
@@ -213,6 +232,11 @@ class Crew:
             self.pacing.close()
         if self.alarms:
             self.alarms.close()
+
+
+def verdicts_for(bound: float) -> int:
+    """How many verdicts a radio needs until its root dispersion is below the bound (s)."""
+    return next((count for count in range(4, STAGES) if 16 * (2.0**-count - 2.0**-STAGES) + FLOOR < bound), STAGES)
 
 
 def _close_others(feeds: list[Feed], kept: list[Feed]) -> None:

@@ -17,7 +17,7 @@ def new_state(settings: Settings, before: State | None) -> State:
     state = State(keeper_since=time.time(), keeper_pid=os.getpid())
     state.station, state.bound, state.cycle = settings.station, settings.bound, settings.cycle
     state.links = [LinkState(port=port) for port in settings.links]
-    state.radios = [RadioState(number=place, plan=one.plan, name=one.name, delay=one.delay, steady=one.steady, since=state.keeper_since) for place, one in enumerate(settings.radios)]
+    state.radios = [RadioState(number=place, plan=one.plan, name=one.name, delay=one.delay, steady=one.steady, since=state.keeper_since, origin=one.origin) for place, one in enumerate(settings.radios)]
     first = len(state.radios)
     state.servers = [ServerState(number=first + place, address=address, port=port) for place, (address, port) in enumerate(settings.servers)]
     if settings.leap_file:
@@ -25,6 +25,13 @@ def new_state(settings: Settings, before: State | None) -> State:
     if before:
         _take_over(state, before)
     return state
+
+
+def has_same_source(radio: RadioState, before: State | None) -> bool:
+    """Whether what was logged for a radio of this number and plan may be of the same source: a version before this one did not note it."""
+    if before is None:
+        return True
+    return any((one.number, one.plan) == (radio.number, radio.plan) and one.origin in ("", radio.origin) for one in before.radios)
 
 
 def _take_over(state: State, before: State) -> None:

@@ -18,6 +18,7 @@ RENEWED = 10.0  # how often the state is written, in seconds
 TURN = 0.1  # the longest turn of the loop, in seconds
 PAUSES = (1.0, 60.0)  # the first and the longest pause after a run that didn't begin, in seconds
 SHORT, DEATHS = 10.0, 3  # a run that dies so soon (s), so often in a row, is followed by a pause
+MISSING = 60.0  # a run isn't ended sooner for a server that isn't asked any more, in seconds
 STANDBY = 1.0  # how long after a run's beginning the next server is started, in seconds
 
 
@@ -160,16 +161,21 @@ class Keeper:
             return "slept"
         if run.watch.deaf():
             return "silent"
-        if self.crew.pacing and self.crew.pacing.has_died():
+        if self.crew.pacing and (self.crew.pacing.has_died() or self._misses_a_server(run)):
             return "link"
         if self.signals.take_reload() and self._reload():
             return "reload"
         return "cycle" if now - run.began >= self.settings.cycle and self._may_change(run) else ""
 
+    def _misses_a_server(self, run: Run) -> bool:
+        """Whether a server isn't asked any more, and a new run can begin: what it said once is further off with each minute. A flood of
+        datagrams at a poller brings that about too, so a run has its minute."""
+        return self.crew.pacing.is_quiet and run.age() >= MISSING and self.standby.waits()
+
     def _may_change(self, run: Run) -> bool:
         """Whether no time is lost by a new run. After some minutes without reception it would not have the time that this one still has;
         and where its program can't be started, there would be none."""
-        return bool(self.standby.server) and (not run.watch.has_time() or self.crew.is_warm(time.time()))
+        return self.standby.waits() and (not run.watch.has_time() or self.crew.is_warm(time.time()))
 
     def _reload(self) -> bool:
         """Whether the files, read anew, are good. Else that is said, and all goes on as it was."""
@@ -179,6 +185,7 @@ class Keeper:
             if settings.folder != self.settings.folder:
                 raise Fault(f"state: it is {settings.folder} now, for which the keeper has to be started anew")
             config.judge(settings)
+            config.ask_host(settings, self.settings.links)
         except Fault as fault:
             self.crew.refuse(str(fault))
             self.crew.notify.ready()
@@ -208,8 +215,11 @@ class Keeper:
         self._use_next()
         try:
             if why == "link" and self.crew.pacing:
-                say("the relays have ended; they are started again")
-                self.crew.pacing.renew()
+                if self.crew.pacing.has_died():
+                    say("the relays have ended; they are started again")
+                    self.crew.pacing.renew()
+                else:
+                    say("a server isn't asked any more; a new run begins")
         except OSError as error:
             say(sentence(error))
         if not self.stopping:
@@ -226,9 +236,9 @@ class Keeper:
         run.server.child.end(0)
 
     def _meanwhile(self) -> bool:
-        """What goes on while a run is drained; False where the end was asked for twice."""
+        """What goes on while a run is drained; False where the end was asked for twice, or the host slept: it answers late then."""
         self._turn(0)
-        return self.signals.ends() < 2
+        return self.signals.ends() < 2 and not self.crew.slept
 
     def _finish(self, run: Run) -> None:
         self.crew.note_end(run, run.finish())

@@ -13,7 +13,8 @@ READY = 5.0  # within which the relays say where they are, in seconds
 
 
 class Pacing:
-    """Relays for these servers. `relays` are their addresses and ports; `answered` says when each gave an answer (Unix s, 0.0 for never)."""
+    """Relays for these servers. `relays` are their addresses and ports; `answered` says when each gave an answer (Unix s, 0.0 for never);
+    `is_quiet` says whether one isn't asked any more in this run."""
 
     def __init__(self, guard: Guard, loop: Loop, pace: float, servers: list[tuple[str, int]]) -> None:
         self.guard, self.loop, self.pace, self.servers = guard, loop, pace, servers
@@ -21,6 +22,7 @@ class Pacing:
         self.relays: list[tuple[str, int]] = []
         self.child: Child | None = None
         self.half = b""
+        self.runs, self.is_quiet = 0, False  # since the relays were started
         self.pause, self.due = PAUSES[0], 0.0
         self._start()
 
@@ -36,6 +38,7 @@ class Pacing:
         if len(relays) != len(self.servers):
             self.close()
             raise OSError(0, "the relays of the servers don't start")
+        self.runs, self.is_quiet = 0, False
         self.relays = relays  # those before stand until then: without any a run would ask the servers themselves
         out = self.child.process.stdout.fileno()
         os.set_blocking(out, False)
@@ -63,6 +66,8 @@ class Pacing:
             words = line.split()
             if len(words) == 2 and words[0] == b"answered" and int(words[1]) < len(self.answered):
                 self.answered[int(words[1])] = time.time()
+            elif len(words) == 3 and words[0] == b"quiet" and int(words[2]) == self.runs:
+                self.is_quiet = True
 
     def _say(self, word: bytes) -> None:
         try:
@@ -77,6 +82,7 @@ class Pacing:
 
     def go(self) -> None:
         """A run begins."""
+        self.runs, self.is_quiet = self.runs + 1, False
         self._say(b"go")
 
     def hold(self) -> None:

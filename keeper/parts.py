@@ -119,6 +119,7 @@ class RadioState:
     steady: whether they are.
     since: when the keeper began to read it (Unix s).
     delay: the station's (s).
+    origin: a digest of the key of the keeper's file that names its source, and of the source.
     reception: quarters of an hour, oldest first, at most 96.
     offsets: for the picture, oldest first, at most 288.
     """
@@ -141,6 +142,7 @@ class RadioState:
     steady: bool = False
     since: float = 0.0
     delay: float = 0.0
+    origin: str = ""
     reception: list[Quarter] = field(default_factory=list)
     offsets: list[Slot] = field(default_factory=list)
 

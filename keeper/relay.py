@@ -3,7 +3,8 @@
     python3 -m keeper.relay PACE ADDRESS:PORT...
 
 Its first line says where each server's relay is, `ports ADDRESS:PORT ..`. It reads a word a line: `hold` keeps requests back, `go` begins
-a run, whose first exchanges go through one after the other. `answered PLACE` is said of each answer that went back. It ends with its input.
+a run, whose first exchanges go through one after the other. `answered PLACE` is said of each answer that went back. `quiet PLACE RUN` is said
+once in a run, counted from 1, where no request comes any more: its polls are used up, or its link has failed. It ends with its input.
 """
 
 import os
@@ -15,6 +16,8 @@ import time
 
 BURST = 4  # exchanges at the beginning of a run that aren't paced: as many as make a time
 WAIT = 1.9  # an answer that comes later finds its poll over, in seconds
+QUIET = 20.0  # a poller that asked nothing for so long doesn't ask any more: eight hearings of two seconds each end a round (s)
+LOOK = 1.0  # how often that is looked at, in seconds
 LONGEST_PACE = 1024.0  # where a server asks for a pause, in seconds
 OWN = "127.45.66."  # each relay has an address of its own, which the server gives as its reference ID
 
@@ -34,10 +37,12 @@ class Relay:
         self.burst = 0
         self.held: tuple[bytes, tuple[str, int], float] | None = None
         self.holds = True
+        self.asked, self.is_quiet = 0.0, False
 
     def go(self, now: float) -> None:
         """A run begins. What was held back of it goes on its way."""
         self.holds, self.burst = False, BURST
+        self.asked, self.is_quiet = now, False
         held, self.held = self.held, None
         if held and now - held[2] < WAIT:
             self.ask(held[0], held[1], now)
@@ -52,6 +57,7 @@ class Relay:
             datagram, who = self.near.recvfrom(1024)
         except OSError:
             return
+        self.asked = now
         if self.holds:
             self.held = (datagram, who, now)
         else:
@@ -92,6 +98,12 @@ class Relay:
             self.burst = 0
         return not late
 
+    def falls_quiet(self, now: float) -> bool:
+        """Whether no request comes any more, and this wasn't said in this run."""
+        quiet = not self.holds and not self.is_quiet and now - self.asked > QUIET
+        self.is_quiet = self.is_quiet or quiet
+        return quiet
+
     def drop(self) -> None:
         """What is under way isn't waited for any more."""
         if self.far:
@@ -105,11 +117,13 @@ class Relays:
     def __init__(self, pace: float, servers: list[tuple[str, int]]) -> None:
         self.relays = [Relay(place, server, pace) for place, server in enumerate(servers)]
         self.half = b""
+        self.runs = 0
 
     def ports(self) -> str:
         return " ".join("{}:{}".format(*relay.near.getsockname()) for relay in self.relays)
 
     def command(self, word: bytes, now: float) -> None:
+        self.runs += word == b"go"
         for relay in self.relays:
             if word == b"go":
                 relay.go(now)
@@ -130,7 +144,7 @@ class Relays:
         with selectors.DefaultSelector() as selector:
             for descriptor in waits:
                 selector.register(descriptor, selectors.EVENT_READ)
-            ready = {key.fd for key, _ in selector.select()}
+            ready = {key.fd for key, _ in selector.select(LOOK)}
         now = time.monotonic()
         if 0 in ready:
             piece = os.read(0, 4096)
@@ -143,6 +157,8 @@ class Relays:
                 print(f"answered {relay.place}", flush=True)
             if relay.near.fileno() in ready:
                 relay.request(now)
+            if relay.falls_quiet(now):
+                print(f"quiet {relay.place} {self.runs}", flush=True)
         return True
 
 

@@ -5,7 +5,7 @@ import time
 from collections.abc import Callable
 
 from keeper.children import end_group
-from keeper.config import Settings
+from keeper.config import Settings, unreadable
 from keeper.counter import Counter, Reading
 from keeper.drain import Drain
 from keeper.feed import Feed
@@ -37,6 +37,7 @@ class Run:
         self.had_time = False
         self.why, self.ended = "", 0.0  # why it ended, and when (monotonic s)
         self.reason = ""  # the program's own sentence on it
+        self.note = ""  # what it has to go without
         self.exit_status: int | None = None  # negative for a signal
 
     def age(self) -> float:
@@ -51,7 +52,7 @@ class Run:
     def begin(self) -> bool:
         """Whether it serves. Else the server has ended, or doesn't answer in time."""
         relays = self.pacing.relays if self.pacing else None
-        text = text_for(self.settings.text, self.server.names, self.server.start, relays, polls_for(self.settings.cycle, self.settings.pace))
+        text = text_for(self._values(), self.server.names, self.server.start, relays, polls_for(self.settings.cycle, self.settings.pace))
         try:
             self.server.give_station(text)
         except OSError:
@@ -66,6 +67,14 @@ class Run:
             self.pacing.go()
         self.watch.began = time.monotonic()
         return True
+
+    def _values(self) -> dict:
+        """The station's, without a leap second file that can't be read: it is the last feed, and no reason to serve nobody."""
+        why = unreadable(self.settings.leap_file) if self.settings.leap_file else ""
+        if not why:
+            return self.settings.text
+        self.note = f"leap_file {self.settings.leap_file}: {why}; the run goes without it"
+        return {key: value for key, value in self.settings.text.items() if key != "leap_file"}
 
     def _read_counter(self) -> bool:
         counter = Counter(self.settings.links[0], self.addresses[0])

@@ -3,12 +3,16 @@
 import os
 import stat
 import subprocess
+import time
 
 from keeper.children import Child, Guard
+from keeper.clock import AWAKE
 
 MOST = 65536  # what is read in one go, in bytes
 # How much of the end of a file that grows is read at first: more than the minutes that are handed on, in bytes.
 TAIL = 65536
+EARLY, LATE = -1.0, 5.0  # how long after a pulse began its line is written, at least and at most, in seconds
+DIGITS = 16  # of a start, at most
 
 
 class Ended(Exception):
@@ -97,26 +101,52 @@ class Fifo:
             self.descriptor = -1
 
 
+def live_from(tail: bytes, is_cut: bool, age: float) -> int:
+    """From which byte on the end of a log is of this boot's counter; its length where none of it is.
+
+    `is_cut`: it begins in the middle of a line. `age`: how long ago it was written to, in seconds. A log that an earlier boot left has other
+    starts than those of `age` ago, and so has one from before the host slept. Starts that fall begin another boot's lines.
+    """
+    begin = tail.find(b"\n") + 1 if is_cut else 0
+    place, last, live = begin, -1, begin
+    for line in tail[begin:].splitlines(keepends=True):
+        first = line.partition(b" ")[0]
+        if first.isdigit() and len(first) <= DIGITS:
+            if int(first) < last:
+                live = place
+            last = int(first)
+        place += len(line)
+    if last < 0:
+        return begin
+    late = time.monotonic() - age - last / 1e6
+    has_slept = time.clock_gettime(time.CLOCK_BOOTTIME) - time.monotonic() >= AWAKE
+    return live if EARLY <= late <= LATE and not has_slept else len(tail)
+
+
 class Growing:
-    """A file that something else appends to. One that is replaced or made shorter is read from its beginning."""
+    """A file that something else appends to. It is read on from where it was left. Of one that is new, or was made shorter, the minutes before
+    are read too, where they are of this boot."""
 
     can_restart = True
 
     def __init__(self, name: str) -> None:
         self.name = name
         self.file = self.place = -1
+        self.known: tuple[int, int] | None = None  # which file was read up to `place`
         # It can always be read, so it isn't waited for: it is looked at.
         self.descriptor = -1
-        self.skips = False
 
     def begin(self) -> None:
         """Raises OSError."""
         self.file = os.open(self.name, os.O_RDONLY | os.O_NONBLOCK | os.O_CLOEXEC)
-        if not stat.S_ISREG(os.fstat(self.file).st_mode):
+        about = os.fstat(self.file)
+        if not stat.S_ISREG(about.st_mode):
             self.end()
             raise OSError(0, "it is no file", self.name)
-        self.place = max(0, os.fstat(self.file).st_size - TAIL)
-        self.skips = self.place > 0
+        if self.known != (about.st_dev, about.st_ino) or about.st_size < self.place:
+            start = max(0, about.st_size - TAIL)
+            self.place = start + live_from(os.pread(self.file, about.st_size - start, start), start > 0, time.time() - about.st_mtime)
+        self.known = (about.st_dev, about.st_ino)
 
     def read(self) -> bytes:
         """What was added, b"" for nothing now. Raises Ended where the file is another one by now."""
@@ -125,10 +155,6 @@ class Growing:
             self._look()
             return b""
         self.place += len(piece)
-        if self.skips:
-            # It began in the middle of a line.
-            self.skips = False
-            piece = piece.partition(b"\n")[2]
         return piece
 
     def _look(self) -> None:

@@ -36,6 +36,10 @@ class Standby:
             self.say(said)
         self.note = note
 
+    def waits(self) -> bool:
+        """Whether there is one, and it lives."""
+        return self.server is not None and self.server.status() is None
+
     def take(self) -> Server | None:
         """Hands it over to a run."""
         server, self.server = self.server, None

@@ -101,7 +101,7 @@ def put(path: str, text: str) -> None:
     """Writes a text for others to read: whole, or not at all. Raises OSError and then leaves nothing."""
     part = f"{path}.{os.getpid()}.part"
     try:
-        with open(part, "w", encoding="utf-8") as file:
+        with open(part, "w", encoding="utf-8", errors="backslashreplace") as file:
             file.write(text)
         os.chmod(part, 0o644)
         os.replace(part, path)

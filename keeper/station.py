@@ -38,6 +38,11 @@ def text_of(values: dict) -> str:
     return "\n".join(lines) + "\n"
 
 
+def longest_cycle(pace: float) -> float:
+    """How long the most polls of a server last where one in `pace` seconds is answered (both in seconds)."""
+    return (MOST_POLLS - 8) / (1 / SILENCE + 1 / max(pace, SILENCE))
+
+
 def polls_for(cycle: float, pace: float) -> int:
     """The number of polls that lasts a cycle where one in `pace` seconds is answered and each other one takes two seconds (both in seconds)."""
     return max(1, min(MOST_POLLS, int(cycle / SILENCE + cycle / max(pace, SILENCE)) + 8))

@@ -28,6 +28,8 @@ def judge(state: State, now: float) -> list[tuple[Level, str]]:
     """What isn't well, the worst first; nothing where all is well. `now` in Unix s."""
     if now - state.written > STALE:
         return [(Level.CRITICAL, f"no keeper runs: its state is {span(now - state.written)} old")]
+    if state.written - now > STALE:
+        return [(Level.CRITICAL, f"no keeper runs: its state is of {span(state.written - now)} after the host's clock")]
     if not state.keeper_pid:
         return [(Level.CRITICAL, f"the keeper was stopped {span(now - state.written)} ago")]
     found = _links(state, now)

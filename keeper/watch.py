@@ -34,6 +34,7 @@ class Watched:
     waits: bool = False
     suspect: bool = False
     asked: int = 0
+    turns: int = 0
     client: socket.socket | None = None
 
 
@@ -44,7 +45,6 @@ class Watch:
         """`process` is the server's. `hurries` says whether a link that has no time yet may be asked often: not where the station has a gap."""
         self.loop, self.addresses, self.process, self.hurries = loop, addresses, process, hurries
         self.links = [Watched(port) for port in ports]
-        self.turns = 0
         self.began = time.monotonic()
         self.looked = self.began
         self.first_time: float | None = None  # how long after `began` the first link had a time, in seconds
@@ -88,9 +88,9 @@ class Watch:
         link.due = now + (SOON if soon else ASKED)
         link.asked_at = now
         self._forget(link)
-        self.turns += 1
+        link.turns += 1  # each link has a table of clients of its own
         try:
-            link.client = open_client(link.port, self.addresses[self.turns % len(self.addresses)])
+            link.client = open_client(link.port, self.addresses[link.turns % len(self.addresses)])
             link.client.send(request(time.monotonic_ns()))
         except OSError:
             # Nothing was sent: the host has no socket for us now, or its firewall drops what we send. The link may be well.

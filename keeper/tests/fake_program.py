@@ -81,6 +81,9 @@ def serve(words: argparse.Namespace) -> int:
         station = tomllib.load(file)
     time.sleep(float(os.environ.get("FAKE_REST", "0")))
     page = Page(station.get("start", 0))
+    if "leap_file" in station and not os.path.exists(station["leap_file"]):
+        print(f"status 2 open feed {len(station.get('radio', []))}")
+        return 2
     links, counts = [], []
     for place, row in enumerate(station.get("link", [])):
         link = socket.socket(socket.AF_INET, socket.SOCK_DGRAM)

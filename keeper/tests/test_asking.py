@@ -252,6 +252,23 @@ class Watches(unittest.TestCase):
         self.assertGreater(time.monotonic() - began, 5)
         self.assertEqual(watch.deaf(), [0])
 
+    def test_each_link_is_asked_from_all_addresses_in_turn(self):
+        """A link keeps its clients by itself: with one turn for all, each of two links would see half of the addresses twice as often."""
+        loop = Loop()
+        self.addCleanup(loop.close)
+        asked: dict[int, list[str]] = {1: [], 2: []}
+
+        def note(port, address):
+            asked[port].append(address)
+            raise OSError(24, "Too many open files")
+
+        watch = Watch(loop, [1, 2], ["a", "b", "c", "d"], 0)
+        with mock.patch("keeper.watch.open_client", note):
+            for turn in range(4):
+                for link in watch.links:
+                    watch._ask(link, float(turn))
+        self.assertEqual([sorted(addresses) for addresses in asked.values()], [["a", "b", "c", "d"]] * 2)
+
     def test_the_hosts_own_list(self):
         with socket.socket(socket.AF_INET, socket.SOCK_DGRAM) as one:
             one.bind(("127.0.0.1", 0))

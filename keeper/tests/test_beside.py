@@ -2,6 +2,7 @@
 
 import os
 import pathlib
+import select
 import signal
 import socket
 import subprocess
@@ -108,6 +109,40 @@ class Processes(unittest.TestCase):
         self.addCleanup(self.guard.close)
         self.loop = Loop()
         self.addCleanup(self.loop.close)
+
+    def test_relays_that_are_not_asked_any_more(self):
+        """What they said of a run that has ended doesn't count."""
+        pacing = Pacing(self.guard, self.loop, 64, [("127.0.0.1", 9)])
+        self.addCleanup(pacing.close)
+        pacing.go()
+        for line, due in ((b"quiet 0 2\n", False), (b"answered 0\n", False), (b"quiet 0 1\n", True)):
+            read, write = os.pipe()
+            os.write(write, line)
+            os.close(write)
+            with self.subTest(line=line), mock.patch.object(pacing.child.process, "stdout", open(read, "rb")) as out:
+                pacing._receive()
+                out.close()
+            self.assertEqual(pacing.is_quiet, due)
+        pacing.go()
+        self.assertFalse(pacing.is_quiet)
+
+    def test_a_relay_says_once_in_a_run_that_nobody_asks(self):
+        text = "import sys; from keeper import relay; relay.QUIET, relay.LOOK = 0.3, 0.05; sys.exit(relay.main(['64', '127.0.0.1:9', '127.0.0.1:9']))"
+        relay = subprocess.Popen([sys.executable, "-B", "-c", text], cwd=TOP, stdin=subprocess.PIPE, stdout=subprocess.PIPE, bufsize=0)
+        self.addCleanup(relay.wait)
+        self.addCleanup(relay.stdout.close)
+        self.addCleanup(relay.stdin.close)
+        first, _ = [(one.rpartition(":")[0], int(one.rpartition(":")[2])) for one in relay.stdout.readline().decode().split()[1:]]
+        poller = bound(self)
+        for run in (1, 2):
+            relay.stdin.write(b"go\n")
+            end = time.monotonic() + 0.6
+            while time.monotonic() < end:
+                poller.sendto(b"request".ljust(48), first)
+                time.sleep(0.05)
+            self.assertEqual(relay.stdout.readline(), b"quiet 1 %d\n" % run)
+            relay.stdin.write(b"hold\n")
+            self.assertEqual(select.select([relay.stdout], [], [], 0.5)[0], [])
 
     def test_relays_are_a_process_that_comes_again(self):
         server, poller = bound(self), bound(self)

@@ -1,6 +1,7 @@
 """Which delay follows from a radio's minutes, by made-up radios, programs and servers."""
 
 import contextlib
+import fcntl
 import io
 import os
 import random
@@ -17,7 +18,6 @@ from keeper import calibrate
 from keeper.lateness import Minute, Minutes, result, sentences
 from keeper.pulse_log import boot_id, day_of
 from keeper.reference import HostClock, Server
-from keeper.state import State, save
 from keeper.words import Fault
 
 EPOCH = 2208988800
@@ -206,7 +206,10 @@ class Whole(unittest.TestCase):
     def test_by_the_log_of_a_keeper_that_runs(self):
         self.write(f"state/logs/0-dcf.{day_of(time.time())}.{boot_id()}.log", "\n".join(self.marks()) + "\n")
         self.write("keeper.toml", 'station = "station.toml"\nprogram = "program"\n[[radio]]\ncommand = "exit 9"\n')
-        save(State(written=time.time()), os.path.join(self.folder, "state/state.json"))
+        # A keeper holds a lock on its folder.
+        keeper = os.open(os.path.join(self.folder, "state"), os.O_RDONLY)
+        self.addCleanup(os.close, keeper)
+        fcntl.flock(keeper, fcntl.LOCK_EX)
         told, said = self.calibrate(4.0)
         self.assertEqual(told, 0, said)
 

@@ -163,7 +163,7 @@ class Renewals(Crews):
 class Sleeps(Crews):
     def test_a_host_that_slept_begins_anew_without_what_it_received_before(self):
         self.crew.use(self.settings())
-        readings = iter([5.0, None, 28805.0, 28805.0])
+        readings = iter([5.0, 5.0, None, 28805.0, 28805.0])
         self.crew.sleep = clock.SleepWatch(lambda: next(readings))
         feed = self.crew.feeds[0]
         feed.recent.append(Pulse(1, 100_000))
@@ -180,6 +180,102 @@ class Sleeps(Crews):
         self.assertEqual(Keeper._why_end(keeper, run, time.monotonic()), "slept")
         self.turn()
         self.assertEqual(self.said.getvalue().count("slept"), 1)
+
+
+class Warm(Crews):
+    """Whether a run that began now would soon have the time; else the one that has it goes on."""
+
+    def verdicts(self, count: int, ago: float = 0.0) -> None:
+        now = time.time()
+        self.crew.feeds[0].reception.minutes.extend((now - ago - 60 * minute, True) for minute in reversed(range(count)))
+
+    def use(self, bound: int, servers: str = "") -> None:
+        (self.folder / "station.toml").write_text(f'bound = {bound}\n[[radio]]\nplan = "dcf"\nlog = "x"\n{servers}[[link]]\nport = 12300\n')
+        self.crew.use(self.settings(FIRST))
+
+    def test_as_many_verdicts_as_the_bound_wants(self):
+        """docs/OPERATING.md: the root dispersion is 0.94 s after the fourth, and less than 0.5 s a minute later; the fifth verdict's is 0.44 s."""
+        for bound, needed in ((1000, 4), (950, 4), (940, 5), (500, 5), (440, 6), (100, 7), (60, 8), (50, 8), (5, 8)):
+            with self.subTest(bound=bound):
+                self.use(bound)
+                self.verdicts(needed - 1)
+                self.assertFalse(self.crew.is_warm(time.time()))
+                self.crew.feeds[0].reception.minutes.clear()
+                self.verdicts(needed)
+                self.assertTrue(self.crew.is_warm(time.time()))
+                self.crew.feeds[0].reception.minutes.clear()
+
+    def test_the_first_two_minutes_that_a_run_receives_give_no_verdict(self):
+        self.use(1000)
+        self.verdicts(4, 9.5 * 60)
+        self.assertTrue(self.crew.is_warm(time.time()))
+        self.assertFalse(self.crew.is_warm(time.time() + 60))
+
+    def test_a_paced_server_that_does_not_answer(self):
+        self.use(1000, '[[server]]\naddress = "127.0.0.1"\nport = 9\n')
+        now = time.time()
+        self.assertFalse(self.crew.is_warm(now))
+        for ago, warm in ((0.0, True), (120.0, True), (121.0, False)):
+            self.crew.pacing.answered = [now - ago]
+            self.assertEqual(self.crew.is_warm(now), warm)
+
+    def test_a_server_that_is_not_paced(self):
+        (self.folder / "station.toml").write_text(STATION)
+        self.crew.use(self.settings(top="pace = 0\n"))
+        self.assertTrue(self.crew.is_warm(time.time()))
+
+
+class Origins(Crews):
+    """A radio of one number and plan whose source is another one: what was logged says nothing of it."""
+
+    def log_a_minute(self):
+        feed = self.crew.feeds[0]
+        start = time.monotonic_ns() // 1000 - 60_000_000
+        for second in range(60):
+            pulse = Pulse(start + second * 1_000_000, 100_000)
+            feed.log.write(pulse.start, pulse.line(), time.time())
+        feed.log.close()
+
+    def test_another_source(self):
+        self.crew.use(self.settings())
+        self.log_a_minute()
+        self.crew.use(self.settings(FIRST.replace("60", "62") + SECOND))
+        self.assertEqual(len(self.crew.feeds[0].recent), 0)
+
+    def test_the_same_source_with_another_bound_for_silence(self):
+        self.crew.use(self.settings())
+        self.log_a_minute()
+        self.crew.use(self.settings(FIRST + "stall = 30\n" + SECOND))
+        self.assertEqual(len(self.crew.feeds[0].recent), 60)
+
+    def test_a_state_that_did_not_note_it(self):
+        self.crew.use(self.settings())
+        self.log_a_minute()
+        self.crew.state.radios[0].origin = ""
+        self.crew.use(self.settings(FIRST + "stall = 30\n" + SECOND))
+        self.assertEqual(len(self.crew.feeds[0].recent), 60)
+
+
+class Writers(Crews):
+    def test_a_reload_leaves_a_fifos_writer_a_reader(self):
+        os.mkfifo(self.folder / "dcf.fifo")
+        fifo = '[[radio]]\nfifo = "dcf.fifo"\n'
+        self.crew.use(self.settings(fifo + SECOND))
+        self.turn()
+        writer = os.open(self.folder / "dcf.fifo", os.O_WRONLY | os.O_NONBLOCK)
+        self.addCleanup(os.close, writer)
+        self.crew.use(self.settings(fifo + "stall = 30\n" + SECOND))
+        os.write(writer, b"1 100000\n")  # a broken pipe where nobody reads it
+
+
+class Sentences(Crews):
+    def test_what_systemd_shows_of_a_link_that_answers_nobody(self):
+        self.crew.use(self.settings())
+        link, now = self.crew.state.links[0], time.time()
+        link.leap, link.stratum, link.reference_id, link.root_dispersion, link.answered_at = 0, 1, "DCF", 0.005, now
+        self.assertEqual(self.crew._sentence(), "run 0: time from DCF, root dispersion 5.0 ms")
+        link.answered_at = now - 20
+        self.assertEqual(self.crew._sentence(), "run 0: no time")
 
 
 class Faults(Crews):

@@ -23,6 +23,8 @@ class Sentences(unittest.TestCase):
     def test_each(self):
         self.says(Level.OK, "time from DCF, stratum 1, root dispersion 5.4 ms")
         self.says(Level.CRITICAL, "no keeper runs: its state is 61 s old", written=NOW - 61)
+        self.says(Level.OK, "time from DCF", written=NOW + 60)
+        self.says(Level.CRITICAL, "no keeper runs: its state is of 61 s after the host's clock", written=NOW + 61)
         self.says(Level.CRITICAL, "the keeper was stopped 5 s ago", written=NOW - 5, keeper_pid=0)
         self.says(Level.CRITICAL, "port 123 doesn't answer", link__answered_at=NOW - 16)
         self.says(Level.CRITICAL, "port 123 has no time (INIT)", link__leap=3, link__reference_id="INIT")

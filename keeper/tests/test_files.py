@@ -1,7 +1,9 @@
 """The keeper's file and the station's text: what is taken, what is refused and how, and what a run gets."""
 
+import dataclasses
 import os
 import pathlib
+import socket
 import tempfile
 import tomllib
 import unittest
@@ -76,6 +78,30 @@ class Config(Folder):
     def test_servers_without_pacing_shorten_the_cycle(self):
         self.assertEqual(self.load("pace = 0\n" + KEEPER).cycle, 300)
         self.assertEqual(self.load("pace = 0\ncycle = 900\n" + KEEPER).cycle, 900)
+
+    def test_a_cycle_that_polls_of_servers_do_not_last(self):
+        """A server has at most 100000 polls. At one answer in 16 s there are nine polls in 16 s."""
+        self.assertEqual(self.load("cycle = 177763\n" + KEEPER).cycle, 177763)
+        self.assertLess(station.polls_for(177763, 16), 100_000)
+        self.assertEqual(self.refused("cycle = 177764\n" + KEEPER), "cycle: with servers it is at most 177763 at this pace: their polls last no longer (line 1)")
+        self.assertEqual(self.load("pace = 0\ncycle = 177764\n" + KEEPER).cycle, 177764)
+        (self.folder / "station.toml").write_text(STATION.replace("[[server]]", "[[nosuch]]"))
+        self.assertEqual(self.load("cycle = 604800\n" + KEEPER).cycle, 604800)
+
+    def test_what_the_host_does_not_give(self):
+        """A run could not begin with it, and the one that runs has ended by then."""
+        settings = self.load(KEEPER)
+        with socket.socket(socket.AF_INET, socket.SOCK_DGRAM) as other:
+            other.bind(("0.0.0.0", 0))
+            port = other.getsockname()[1]
+            settings = dataclasses.replace(settings, links=[port])
+            with self.assertRaisesRegex(Fault, f"port {port}: Address already in use"):
+                config.ask_host(settings, [12300])
+            config.ask_host(settings, [port])
+        config.ask_host(settings, [])
+        for name, why in ((self.folder / "nosuch", "No such file or directory"), (self.folder, "Is a directory")):
+            with self.assertRaisesRegex(Fault, f"leap_file {name}: {why}"):
+                config.ask_host(dataclasses.replace(settings, leap_file=str(name)), [])
 
     def test_what_is_refused_is_named_with_its_line(self):
         rows = (

@@ -198,6 +198,52 @@ class Runs(Kept):
         self.ask()
         self.assertEqual(state.load(str(self.folder / "state/state.json")).cycle, 7200)
 
+    def test_a_reload_to_what_the_host_does_not_give(self):
+        """The run that serves stays: a new one could not begin."""
+        self.keep()
+        self.waits("run 1 has the time")
+        good = (self.folder / "station.toml").read_text()
+        (self.folder / "station.toml").write_text(f'leap_file = "{self.folder}/nosuch"\n{good}')
+        self.keeper.send_signal(signal.SIGHUP)
+        self.waits(f"not reloaded: leap_file {self.folder}/nosuch: No such file or directory")
+        with socket.socket(socket.AF_INET, socket.SOCK_DGRAM) as other:
+            other.bind(("0.0.0.0", 0))
+            port = other.getsockname()[1]
+            (self.folder / "station.toml").write_text(f"{good}[[link]]\nport = {port}\n")
+            self.keeper.send_signal(signal.SIGHUP)
+            self.waits(f"not reloaded: port {port}: Address already in use")
+        self.ask()
+        self.assertEqual(self.text().count("serves after"), 1)
+
+    def test_a_leap_second_file_that_goes(self):
+        """Runs begin without it, and the state has a note."""
+        path = self.folder / "leap-seconds.list"
+        path.write_text("3644697600 36\n")
+        with (self.folder / "station.toml").open("r+") as file:
+            text = file.read()
+            file.seek(0)
+            file.write(f'leap_file = "{path}"\n{text}')
+        self.keep("cycle = 2\n")
+        self.waits("run 1 has the time")
+        path.unlink()
+        self.waits(f"leap_file {path}: No such file or directory; the run goes without it")
+        self.waits("has the time", times=4)
+        self.ask()
+        self.assertEqual(self.text().count("the run goes without it"), 1)
+        self.assertIn("without it", " ".join(state.load(str(self.folder / "state/state.json")).notes))
+
+    def test_a_folder_whose_name_is_not_utf_8(self):
+        name = os.fsencode(self.folder) + b"/m\xfcnchen"
+        os.mkdir(name)
+        os.rename(self.folder / "station.toml", name + b"/station.toml")
+        self.folder = pathlib.Path(os.fsdecode(name))
+        self.keep()
+        self.waits("run 1 has the time")
+        self.assertNotIn("Traceback", self.text())
+        said = subprocess.run([TOP / "radio_keeper", "status", "--config", self.folder / "keeper.toml"], capture_output=True, timeout=30)
+        self.assertNotIn(b"Traceback", said.stderr)
+        self.assertIn(b"m\\udcfcnchen", said.stdout)
+
     def test_a_killed_keeper_leaves_nothing(self):
         self.keep()
         self.waits("run 1 has the time")

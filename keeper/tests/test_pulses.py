@@ -6,6 +6,7 @@ import tempfile
 import threading
 import time
 import unittest
+from unittest import mock
 
 from keeper.children import Guard
 from keeper.lines import AHEAD, HISTORY, MOST, OLDEST, Lines, Pulse
@@ -171,6 +172,60 @@ class Sources(Made):
         self.reads(source, b"", "its file was replaced")
         source.begin()
         self.reads(source, b"new\n")
+
+
+class Tails(Made):
+    """What a file that grows had before the keeper opened it: lines of this boot's counter count, others give a wrong time."""
+
+    def growing(self, starts: list[float], ago: float) -> Growing:
+        """A file with a mark at each of these seconds from now on, which was written to so long ago, in seconds."""
+        path = self.folder / "log"
+        now = time.monotonic()
+        path.write_bytes(b"".join(b"%d 100000\n" % round((now + start) * 1e6) for start in starts))
+        os.utime(path, (time.time() - ago, time.time() - ago))
+        source = Growing(str(path))
+        source.begin()
+        self.addCleanup(source.end)
+        return source
+
+    def count(self, source: Growing) -> int:
+        return source.read().count(b"\n")
+
+    def test_the_minutes_before_are_read(self):
+        self.assertEqual(self.count(self.growing(list(range(-300, 0)), 0)), 300)
+        self.assertEqual(self.count(self.growing(list(range(-300, -60)), 59.5)), 240)
+
+    def test_a_file_that_an_earlier_boot_left(self):
+        """Its starts lie in the counter's future, and are its past some minutes later; the file hasn't grown for an hour."""
+        for starts in (range(30, 400), range(-400, -30)):
+            source = self.growing(list(starts), 3600)
+            self.assertEqual(source.read(), b"")
+            source.rest()
+            source.begin()
+            self.assertEqual(source.read(), b"")
+            with open(source.name, "ab") as file:
+                file.write(b"more\n")
+            self.assertEqual(source.read(), b"more\n")
+
+    def test_lines_of_an_earlier_boot_before_those_of_this_one(self):
+        self.assertEqual(self.count(self.growing([*range(-290, -90), *range(-120, 0)], 0)), 120)
+
+    def test_a_host_that_slept(self):
+        """Nothing says which lines are of before that."""
+        with mock.patch("keeper.source.AWAKE", -1.0):
+            self.assertEqual(self.growing(list(range(-300, 0)), 0).read(), b"")
+
+    def test_a_file_without_a_line(self):
+        self.assertEqual(self.growing([], 0).read(), b"")
+
+    def test_it_is_read_on_from_where_it_was_left(self):
+        source = self.growing(list(range(-300, 0)), 0)
+        self.count(source)
+        source.rest()
+        with open(source.name, "ab") as file:
+            file.write(b"more\n")
+        source.begin()
+        self.assertEqual(source.read(), b"more\n")
 
 
 class Outlets(unittest.TestCase):

@@ -14,6 +14,7 @@ from keeper.lines import Pulse
 from keeper.loop import Loop
 from keeper.outlet import Outlet, pipe
 from keeper.runs import Run
+from keeper.standby import Standby
 from keeper.tests.test_asking import REPLY
 from keeper.watch import Watch
 
@@ -38,7 +39,7 @@ class Beginnings(unittest.TestCase):
         outlet, feed = Outlet(given), Feed()
         self.addCleanup(outlet.close)
         server = types.SimpleNamespace(names=["/dev/fd/5"], start=0, outlets=[outlet], give_station=lambda text: None, child=types.SimpleNamespace(pid=0))
-        settings = types.SimpleNamespace(text={}, cycle=3600, pace=0, links=[12300], gap=0.0)
+        settings = types.SimpleNamespace(text={}, cycle=3600, pace=0, links=[12300], gap=0.0, leap_file=None)
         run = Run(settings, loop, server, [feed], None, ["127.0.0.1"], 1, "start")
         with mock.patch.object(run, "_read_counter", lambda: setattr(run, "reading", Reading(4_500.4, 20.0)) or True):
             self.assertTrue(run.begin())
@@ -71,6 +72,31 @@ class Endings(unittest.TestCase):
 
     def test_one_link_of_two_that_answers_nobody(self):
         self.assertEqual([self.why(deaf) for deaf in ([], [0], [1], [0, 1])], ["", "silent", "silent", "silent"])
+
+    def test_a_server_that_is_not_asked_any_more(self):
+        """Its last sample is further off with each minute. A run has its minute, and another one has to be at hand."""
+        for is_quiet, age, waits, due in ((True, 60.0, True, True), (True, 59.0, True, False), (True, 60.0, False, False), (False, 60.0, True, False)):
+            keeper, run = mock.Mock(), mock.Mock()
+            keeper.crew.pacing.is_quiet, keeper.standby.waits.return_value, run.age.return_value = is_quiet, waits, age
+            self.assertEqual(Keeper._misses_a_server(keeper, run), due)
+
+    def test_a_host_that_sleeps_while_a_run_is_drained(self):
+        for slept, ends, due in ((False, 0, True), (False, 1, True), (False, 2, False), (True, 0, False)):
+            keeper = mock.Mock()
+            keeper.crew.slept, keeper.signals.ends.return_value = slept, ends
+            self.assertEqual(Keeper._meanwhile(keeper), due)
+
+    def test_a_run_goes_on_where_no_other_server_lives(self):
+        keeper, run = mock.Mock(), mock.Mock()
+        keeper.crew.is_warm.return_value = True
+        for waits in (True, False):
+            keeper.standby.waits.return_value = waits
+            self.assertEqual(Keeper._may_change(keeper, run), waits)
+        standby = Standby(mock.Mock(), lambda text: None)
+        self.assertFalse(standby.waits())
+        for status, due in ((None, True), (0, False)):
+            standby.server = mock.Mock(**{"status.return_value": status})
+            self.assertEqual(standby.waits(), due)
 
     def test_after_a_sleep_the_server_is_ended_before_anything_else(self):
         """It would answer with a time that is as wrong as the sleep was long."""
