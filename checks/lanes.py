@@ -6,9 +6,10 @@
 What a check prints comes as a whole when it has ended, with its time; the last line has the times of all. The first check that fails ends
 the others, which get SIGTERM and ten seconds. Each check has its terminal's signals, as it would by itself.
 
-Exit status: 0 all passed, 1 one failed, 130 stopped by SIGINT.
+Exit status: 0 all passed, 1 one failed, 2 invalid arguments, 130 stopped by SIGINT.
 """
 
+import argparse
 import contextlib
 import os
 import signal
@@ -94,6 +95,7 @@ class Lanes:
 
 
 def main() -> int:
+    argparse.ArgumentParser(description=__doc__, formatter_class=argparse.RawDescriptionHelpFormatter).parse_args()
     began = time.monotonic()
     lanes = Lanes(TOP)
     try:

@@ -18,6 +18,8 @@ CASES = [
     ("feeders/serial_edges.py", "", 2),
     ("feeders/serial_edges.py", "/nosuch", 1),
     ("feeders/steady.py", "--most x", 2),
+    ("checks/lanes.py", "x", 2),
+    ("checks/lanes.py", "--help", 0),
     ("feeders/chrony_sock.py", "", 2),
     ("feeders/chrony_sock.py", "/nosuch", 1),
     ("tools/plot_journal.py", "", 2),
