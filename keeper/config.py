@@ -1,5 +1,6 @@
 """The keeper's file, `keeper.toml`, and the station file that it names. A key that isn't known, is missing or out of range is refused by name."""
 
+import errno
 import hashlib
 import os
 import re
@@ -225,14 +226,19 @@ def ask_host(settings: Settings, ports: list[int]) -> None:
                 with socket.socket(socket.AF_INET, socket.SOCK_DGRAM) as link:
                     link.bind(("0.0.0.0", port))
             except OSError as error:
-                raise Fault(f"port {port}: {error.strerror}") from error
+                if error.errno == errno.EADDRINUSE:
+                    raise Fault(f"port {port}: {error.strerror}") from error
+                # Else the program may have a right that the keeper has not.
 
 
 def unreadable(path: str) -> str:
     """Why a file can't be read; nothing where it can."""
     try:
-        with open(path, "rb") as file:
-            file.read(1)
+        descriptor = os.open(path, os.O_RDONLY | os.O_NONBLOCK | os.O_CLOEXEC)  # a FIFO would be waited for
+        try:
+            os.read(descriptor, 1)
+        finally:
+            os.close(descriptor)
     except OSError as error:
         return error.strerror or str(error)
     return ""

@@ -168,9 +168,9 @@ class Keeper:
         return "cycle" if now - run.began >= self.settings.cycle and self._may_change(run) else ""
 
     def _misses_a_server(self, run: Run) -> bool:
-        """Whether a server isn't asked any more, and a new run can begin: what it said once is further off with each minute. A flood of
-        datagrams at a poller brings that about too, so a run has its minute."""
-        return self.crew.pacing.is_quiet and run.age() >= MISSING and self.standby.waits()
+        """Whether a server isn't asked any more, and a new run would have the time: what it said once is further off with each minute. A flood
+        of datagrams at a poller brings that about too, so a run has its minute."""
+        return self.crew.pacing.is_quiet and run.age() >= MISSING and self._may_change(run)
 
     def _may_change(self, run: Run) -> bool:
         """Whether no time is lost by a new run. After some minutes without reception it would not have the time that this one still has;

@@ -46,7 +46,7 @@ PLANS = {"dcf": "DCF77", "msf": "MSF", "wwvb": "WWVB"}
 _REFERENCES = {"DCF": "DCF77 (radio)", "MSF": "MSF (radio)", "WWVB": "WWVB (radio)", "INIT": "no time yet", "RATE": "asked too often", "DENY": "not served"}
 _CAUSES = {
     "start": "the keeper was started", "cycle": "the last one was over", "reload": "the files were read anew", "died": "the last one ended by itself",
-    "silent": "the last one didn't answer", "link": "a link or the relays of the last one failed",
+    "silent": "the last one didn't answer", "link": "a link or the relays of the last one failed, or it asked a server no more",
     "slept": "the host slept",
 }
 

@@ -111,7 +111,8 @@ def live_from(tail: bytes, is_cut: bool, age: float) -> int:
     place, last, live = begin, -1, begin
     for line in tail[begin:].splitlines(keepends=True):
         first = line.partition(b" ")[0]
-        if first.isdigit() and len(first) <= DIGITS:
+        # A last line without its end may have half of its start.
+        if first.isdigit() and len(first) <= DIGITS and line.endswith(b"\n"):
             if int(first) < last:
                 live = place
             last = int(first)

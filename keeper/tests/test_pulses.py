@@ -218,6 +218,16 @@ class Tails(Made):
     def test_a_file_without_a_line(self):
         self.assertEqual(self.growing([], 0).read(), b"")
 
+    def test_a_last_line_that_is_half_written(self):
+        source = self.growing(list(range(-300, 0)), 0)
+        source.rest()
+        with open(source.name, "ab") as file:
+            file.write(b"12")
+        source = Growing(source.name)
+        source.begin()
+        self.addCleanup(source.end)
+        self.assertEqual(self.count(source), 300)
+
     def test_it_is_read_on_from_where_it_was_left(self):
         source = self.growing(list(range(-300, 0)), 0)
         self.count(source)
