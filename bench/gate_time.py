@@ -7,9 +7,10 @@ The command is `rt ci` where none is given. Each process below it is read off /p
 that it, or the nearest process above it, was called for: as the proof of the crate, as that of its tests, or as a wrong body that
 has to be refused (among these the check over which a crate's wrong bodies are tried). What a process takes in its last second may be
 lost. The table is in minutes of processor time, the costliest crates first. The command's own output goes on as it is, and its exit
-status is kept. A SIGTERM ends the command, and the table has what it took until then. Only for Linux.
+status is kept. A SIGTERM ends the command with all that it started, and the table has what they took until then. Only for Linux.
 """
 
+import contextlib
 import os
 import re
 import signal
@@ -52,10 +53,11 @@ class Processes:
         self.root = root
         self.spent: dict[tuple[str, str], float] = {}
         self.of: dict[tuple[str, str], tuple[str, str]] = {}
+        self.live: list[int] = [root]  # as of the last look
 
     def look(self) -> None:
         """Reads all processes once. A process is known by its number and the moment it started, in ticks since the boot."""
-        above, seen = {}, {}
+        above, seen, live = {}, {}, []
         for number in filter(str.isdigit, os.listdir("/proc")):
             fields = read(f"/proc/{number}/stat").rpartition(b")")[2].split()
             if len(fields) > 19:
@@ -67,11 +69,20 @@ class Processes:
                 chain.append(above[chain[-1]])
             if chain[-1] != str(self.root):
                 continue
+            live.append(int(number))
             key = number, begun
             self.spent[key] = seconds
             if key not in self.of or self.of[key][1] == "other":
                 known = (kind_of(it, read(f"/proc/{it}/cmdline").decode(errors="replace").split("\0")) for it in chain)
                 self.of[key] = next((it for it in known if it), ("", "other"))
+
+        self.live = live or self.live
+
+    def end(self) -> None:
+        """Ends the processes of the last look, the one that started the others first."""
+        for number in sorted(self.live, key=lambda it: it != self.root):
+            with contextlib.suppress(OSError):
+                os.kill(number, signal.SIGTERM)
 
     def table(self) -> dict[str, dict[str, float]]:
         """Returns the minutes by crate and kind."""
@@ -101,8 +112,8 @@ def main() -> int:
     except OSError as error:
         print(f"gate_time: {error.filename}: {error.strerror}", file=sys.stderr)
         return 127
-    signal.signal(signal.SIGTERM, lambda *_: child.terminate())
     processes = Processes(child.pid)
+    signal.signal(signal.SIGTERM, lambda *_: processes.end())
     while True:
         processes.look()
         try:
