@@ -14,7 +14,7 @@ LOST = 15.0  # a change of run is no loss: so long nobody may have received the 
 QUEUE = 20  # alarms that wait; of more the oldest is dropped
 KEPT = 20  # alarms that the state keeps
 GRACE = 2.0  # between SIGTERM and SIGKILL, in seconds
-BAD_CAUSES = {"died": "ended by itself", "silent": "didn't answer any more", "link": "had a link or relays that failed"}
+BAD_CAUSES = {"died": "ended by itself", "silent": "didn't answer any more", "link": "had a link or relays that failed, or asked a server no more"}
 
 
 class Alarms:

@@ -130,7 +130,7 @@ class OfTheHost(unittest.TestCase):
 
 class OfAState(unittest.TestCase):
     def test_alarms_of_runs(self):
-        for cause, sentence in (("silent", "the run before didn't answer any more; run 2 follows"), ("link", "the run before had a link or relays that failed; run 2 follows")):
+        for cause, sentence in (("silent", "the run before didn't answer any more; run 2 follows"), ("link", "the run before had a link or relays that failed, or asked a server no more; run 2 follows")):
             alarms, now = Alarms(""), State(run=RunState(number=2, cause=cause))
             alarms.run = 1
             self.assertIn(f"alarm run-died: {sentence}\n", said(alarms.judge, now, 100.0))
