@@ -2,11 +2,14 @@
 
 import hashlib
 import os
+import re
 import shutil
 from pathlib import Path
 
 # What a crate's folder has that the program doesn't need: what was built, and the wrong bodies that the gate tries.
 LEFT_OUT = ("out", "must-fail")
+# A module of tests, as a crate's root file declares it.
+TEST_MODULE = re.compile(r"#\[cfg\(test\)\]\nmod (\w+);\n")
 
 
 def cache_of(top: Path) -> Path:
@@ -33,11 +36,26 @@ def keeps_proofs(rt: str) -> bool:
         return False
 
 
+def leave_out_tests(crate: Path) -> None:
+    """Takes the modules of tests out of a copied library, with their proofs. Two lines of comment stand in place of each: all lines keep
+    their numbers, so the library comes out the same, byte for byte, and the gate need not prove again what stands on it. Raises `OSError`."""
+    root = crate / "src" / "lib.rt"
+    if not root.is_file():
+        return
+    text = root.read_text(encoding="utf-8")
+    for name in TEST_MODULE.findall(text):
+        for part, suffix in (("src", ".rt"), ("proofs", ".antt")):
+            (crate / part / f"{name}{suffix}").unlink(missing_ok=True)
+            shutil.rmtree(crate / part / name, ignore_errors=True)
+    root.write_text(TEST_MODULE.sub("// The module of tests that stands here in the checkout\\n// is not part of the program.\\n", text), encoding="utf-8")
+
+
 def make_copy(top: Path, copy: Path, crates: list[str]) -> None:
-    """Copies these crates of a checkout, in place of what was copied before. Raises `OSError`."""
+    """Copies these crates of a checkout, in place of what was copied before, without their tests. Raises `OSError`."""
     shutil.rmtree(copy, ignore_errors=True)
     for name in crates:
         shutil.copytree(top / "crates" / name, copy / "crates" / name, ignore=shutil.ignore_patterns(*LEFT_OUT))
+        leave_out_tests(copy / "crates" / name)
     shutil.copyfile(top / "HANDLES", copy / "HANDLES")
     lines = (top / "crates.txt").read_text(encoding="utf-8").splitlines(keepends=True)
     (copy / "crates.txt").write_text("".join(line for line in lines if line.partition(":")[0].strip() in crates), encoding="utf-8")

@@ -7,7 +7,7 @@ On a machine on which `tick_units` takes 44 s, with two builds side by side, the
 SECONDS_A_LINE, WEIGHT = 0.025, 10000
 # A line that a crate stands on is loaded, which takes this part of its time; the program also has the code of all lines made.
 LOADED, CODE = 0.045, 0.04
-# Processors wait for one another, and prove the tests that four crates have inside: so much longer the whole takes.
+# Processors wait for one another: so much longer the whole takes.
 SPREAD = 1.25
 # A crate that takes longer than its lines say still takes this part of it.
 LAST = 0.1

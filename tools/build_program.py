@@ -4,7 +4,7 @@
     tools/build_program.py
 
 The launcher `radio_ntpd` calls it where the program isn't built yet, or a source is newer than it. It runs the toolchain's gate, `rt ci`, on
-a copy of those crates, without the crates of tests and without wrong bodies; nothing of a proof is left out. The gate proves as many crates
+a copy of those crates, without tests and without wrong bodies; nothing of the program's proof is left out. The gate proves as many crates
 side by side as processors and memory allow, the longest chain first, and keeps what it has proved beside the toolchain. So a build that was
 stopped goes on where it was, and so does the gate of the whole repository. Who may not write there begins anew.
 
@@ -142,10 +142,10 @@ def build(top: Path, cache: Path, is_kept: bool) -> int:
     if not is_kept:
         print("radio_ntpd: the folder beside the toolchain's is not this user's, so what is proved is not kept", file=sys.stderr)
     crates = read_crates(top)
-    lines = {name: count_lines(top / "crates" / name) for name in crates}
     copy, log = cache / "copy", cache / "log"
     since = time.time()
     make_copy(top, copy, list(crates))
+    lines = {name: count_lines(copy / "crates" / name) for name in crates}
     made = Build(crates, Estimate(crates, sizes_of(crates, lines), len(os.sched_getaffinity(0))))
     status = run(copy, log, made)
     if status == STOPPED:

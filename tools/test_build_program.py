@@ -89,6 +89,28 @@ class Builds(unittest.TestCase):
         self.assertTrue(os.access(self.program, os.X_OK))
         self.assertEqual([file.name for file in self.program.parent.iterdir()], ["radio_ntpd"])
 
+    def test_modules_of_tests_are_left_out_with_their_proofs_and_each_line_keeps_its_number(self):
+        crate = self.top / "crates" / "low"
+        (crate / "src" / "lib.rt").write_text("mod a;\n#[cfg(test)]\nmod tests;\nmod b;\n\n#[cfg(test)]\nmod writer;\n")
+        for file in ("src/a.rt", "src/tests.rt", "src/tests/shared.rt", "src/writer.rt", "proofs/a/Answers.antt", "proofs/tests/f/Answers.antt", "proofs/writer.antt"):
+            (crate / file).parent.mkdir(parents=True, exist_ok=True)
+            (crate / file).write_text("")
+        copy = self.room / "copy"
+        build_copy.make_copy(self.top, copy, ["low"])
+        left = copy / "crates" / "low"
+        self.assertEqual(sorted(str(file.relative_to(left)) for file in left.rglob("*") if file.is_file()), ["proofs/a/Answers.antt", "src/a.rt", "src/lib.rt"])
+        lines = (left / "src" / "lib.rt").read_text().splitlines()
+        self.assertEqual([(number, line) for number, line in enumerate(lines) if not line.startswith("//")], [(0, "mod a;"), (3, "mod b;"), (4, "")])
+        self.assertEqual(len(lines), 7)
+
+    def test_the_copy_of_this_checkout_has_no_tests(self):
+        copy = self.room / "copy"
+        top = HERE.parent
+        build_copy.make_copy(top, copy, list(build_program.read_crates(top)))
+        found = [str(file.relative_to(copy)) for file in copy.rglob("*.rt") if "#[test]" in file.read_text() or "cfg(test)" in file.read_text()]
+        self.assertEqual(found, [])
+        self.assertTrue((copy / "crates" / "page_cell" / "src" / "cell.rt").is_file())
+
     def test_the_program_is_as_old_as_the_copy(self):
         """So a source that is changed while the program is proved is newer."""
         self.run_build()

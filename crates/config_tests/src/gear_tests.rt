@@ -9,7 +9,7 @@ ghost use Rattle.station_gear.specs.Opens.{failing_of};
 
 use crate::tests::{same, station_of};
 use feed_link::{Address, Failed, Hearing, Link, OpenGate, Outside, Source};
-use memory_links::{MemoryLink, MemoryOutside, MemorySource, NamedLog, Planned};
+use memory_outside::{MemoryLink, MemoryOutside, MemorySource, NamedLog, Planned};
 use station_config::Station;
 use station_gear::{Gear, Missing, give_back_gear, open_gear};
 use std::alloc::Global;
@@ -66,7 +66,7 @@ struct Noting {
 }
 
 impl Outside for Noting {
-    ghost use Rattle.memory_links.specs.MemoryOutside.{outside_state, is_gate_out};
+    ghost use Rattle.memory_outside.specs.MemoryOutside.{outside_state, is_gate_out};
 
     type Log = MemorySource;
 

@@ -7,7 +7,7 @@ use crate::fakes::{ANSWERED, ASKED};
 use crate::stations::{CASE, Case, Done, LINK, RADIO, SECOND_LINK, SERVER, left_held, left_with};
 use feed_link::Gate;
 use feed_workers::{PollEnd, PollWork};
-use memory_links::HoldGate;
+use memory_outside::HoldGate;
 use station_crew::Budget;
 use std::alloc::Global;
 use std::process::Abort;

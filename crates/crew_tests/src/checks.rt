@@ -5,7 +5,7 @@ use crate::stations::Done;
 use feed_link::Address;
 use feed_workers::{LogEnd, LogWork, PollWork};
 use journal_entry::{ENTRY_ROOM, Entry, write_entry};
-use memory_links::{HoldGate, LinkEvent, MemoryLink};
+use memory_outside::{HoldGate, LinkEvent, MemoryLink};
 use responder::{End, Served};
 use station_crew::LinkWork;
 use std::alloc::Global;

@@ -1,7 +1,7 @@
 //! Logs and links in memory, stated by constants.
 
 use feed_link::Address;
-use memory_links::{MemoryLink, MemorySource, Planned};
+use memory_outside::{MemoryLink, MemorySource, Planned};
 use std::alloc::Global;
 use std::process::Abort;
 use tick_units::Local;

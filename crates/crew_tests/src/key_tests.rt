@@ -4,7 +4,7 @@
 use crate::checks::same_count;
 use crate::fakes::{ASKS, CLIENT, Datagram, WIRE, Wire};
 use crate::stations::{Case, LINK, left};
-use memory_links::{LinkEvent, MemoryLink};
+use memory_outside::{LinkEvent, MemoryLink};
 use station_crew::Budget;
 use std::alloc::Global;
 use std::process::Abort;

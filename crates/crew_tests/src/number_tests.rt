@@ -4,7 +4,7 @@
 use crate::checks::same_count;
 use crate::fakes::{ASKED, ASKED_3};
 use crate::stations::{CASE, Case, LINK, SECOND_LINK, left_held};
-use memory_links::HoldGate;
+use memory_outside::HoldGate;
 use station_crew::Budget;
 use std::alloc::Global;
 use std::process::Abort;

@@ -5,7 +5,7 @@ use crate::checks::{NONE, ONE, REPLY, Reply, has_entries, has_first, has_sent, h
 use crate::fakes::{ASKED, ASKS, WIRE, Wire};
 use crate::stations::{CASE, Case, LINK, RADIO, left_held, left_with};
 use feed_link::Gate;
-use memory_links::HoldGate;
+use memory_outside::HoldGate;
 use responder::{End, Served};
 use station_crew::Budget;
 use std::alloc::Global;

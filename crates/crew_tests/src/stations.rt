@@ -8,7 +8,7 @@ ghost use Rattle.tick_units.specs.declared.marks.Plan.TheVariants.{Dcf};
 
 use crate::fakes::{Wire, link_of, minutes, source_of};
 use feed_link::{Gate, OpenGate};
-use memory_links::{HoldGate, MemoryLink, MemorySource};
+use memory_outside::{HoldGate, MemoryLink, MemorySource};
 use radio_receiver::{BoxedReceiver, DcfReceiver, Receiver};
 use station_config::Station;
 use station_crew::{Budget, Ended, Kit, Orders, serve_station};

@@ -7,7 +7,7 @@ use crate::checks::{
 use crate::fakes::{ANSWERED, ASKED, ASKED_2, ASKED_3, ASKS, WIRE, Wire};
 use crate::stations::{CASE, Case, LINK, RADIO, SECOND_LINK, SERVER, left, left_held};
 use feed_workers::{PollEnd, PollWork};
-use memory_links::HoldGate;
+use memory_outside::HoldGate;
 use responder::{End, Served};
 use station_crew::{Budget, LinkWork};
 

@@ -1,11 +1,12 @@
 //! Swaps with receivers that count what they receive: what is written is the same, whichever receivers stand in the rack.
 ghost use Rattle.std.specs.Prelude.{◌≡◌, false};
-ghost use Rattle.memory_links.specs.MemoryOutside.{is_gate_out};
+ghost use Rattle.memory_outside.specs.MemoryOutside.{is_gate_out};
 
 use crate::runs::{OF_A_PLAN, run_over, run_with, same};
 use crate::scene::outside_of;
 use feed_link::Gate;
-use memory_links::{MemoryOutside, MemorySink};
+use memory_links::MemorySink;
+use memory_outside::MemoryOutside;
 use radio_engine::Status;
 use radio_receiver::{CountingReceiver, DcfReceiver, MsfReceiver, WwvbReceiver};
 use receiver_rack::put_in_rack;

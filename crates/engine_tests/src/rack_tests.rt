@@ -1,12 +1,13 @@
 //! Which receivers of a rack are used: of each plan the first ones, in the order of the radios, and for each swap the next one.
 ghost use Rattle.std.specs.Prelude.{◌≡◌, false};
-ghost use Rattle.memory_links.specs.MemoryOutside.{is_gate_out};
+ghost use Rattle.memory_outside.specs.MemoryOutside.{is_gate_out};
 ghost use Rattle.radio_receiver.specs.Histories.{History};
 
 use crate::runs::{OF_A_PLAN, run_with, same};
 use crate::scene::outside_of;
 use feed_link::Gate;
-use memory_links::{MemoryOutside, MemorySink};
+use memory_links::MemorySink;
+use memory_outside::MemoryOutside;
 use radio_engine::Status;
 use radio_receiver::{DcfReceiver, MsfReceiver, Receiver, WwvbReceiver};
 use receiver_rack::put_in_rack;

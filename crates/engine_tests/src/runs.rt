@@ -1,10 +1,11 @@
 //! The one call of the program over the fakes, as every test here makes it.
 ghost use Rattle.std.specs.Prelude.{◌≡◌, false};
-ghost use Rattle.memory_links.specs.MemoryOutside.{is_gate_out};
+ghost use Rattle.memory_outside.specs.MemoryOutside.{is_gate_out};
 ghost use Rattle.receiver_rack.specs.Racks.{IsRack};
 
 use feed_link::Gate;
-use memory_links::{MemoryOutside, MemorySink};
+use memory_links::MemorySink;
+use memory_outside::MemoryOutside;
 use radio_engine::{Status, run_station};
 use radio_receiver::{DcfReceiver, MsfReceiver, Receiver, WwvbReceiver};
 use receiver_rack::put_in_rack;

@@ -23,7 +23,7 @@
 //! | `not LINK RECEIVER N BEGINNING ..` | that it begins otherwise |
 //! | `events LINK KINDS` | what the link has noted: `heard`, `quiet`, `moment`, `sent`, `end` |
 
-use memory_links::FakeOpen;
+use memory_outside::FakeOpen;
 use std::alloc::{AllocError, AllocFailed};
 
 mod links;

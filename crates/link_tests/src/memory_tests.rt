@@ -3,7 +3,8 @@ ghost use Rattle.std.specs.Prelude.{◌≡◌};
 
 use feed_link::{Failed, OpenGate, Outside, Sink, Source};
 use host_links::HostOutside;
-use memory_links::{FakeOpen, MemoryOutside, MemorySink, MemorySource, NamedLog, SureSource};
+use memory_links::{MemorySink, SureSource};
+use memory_outside::{FakeOpen, MemoryOutside, MemorySource, NamedLog};
 use std::alloc::{AllocError, Global};
 use std::fmt::Debug;
 use std::process::Abort;

@@ -1,7 +1,7 @@
 // Links in memory: the planned hearings come in order, and each fault, bound and room shows where it was stated.
 use crate::memory_tests::same;
 use feed_link::{Address, Arrival, Failed, Gate, Hearing, Link, OpenGate, Outside};
-use memory_links::{FakeOpen, HoldGate, LinkEvent, MemoryLink, MemoryOutside, Planned};
+use memory_outside::{FakeOpen, HoldGate, LinkEvent, MemoryLink, MemoryOutside, Planned};
 use std::alloc::{AllocError, Global};
 use std::process::Abort;
 use std::test::Fail;

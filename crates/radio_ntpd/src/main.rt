@@ -3,11 +3,9 @@
 //! error.
 #![tactic(auto)]
 
-ghost use Rattle.std.specs.Prelude.{◌≡◌, IfOk, IfErr, IsOkAnd, Err, MatchResult, [], alloc_error, drop, false, map};
-ghost use Rattle.std.specs.IoError.{error_kind};
+ghost use Rattle.std.specs.Prelude.{◌≡◌, MatchResult, false, map};
 ghost use Rattle.std.specs.Process.{exit_status};
 ghost use Rattle.std.specs.String.{string_bytes};
-ghost use Rattle.std.specs.Vec.Iter.{into_iter_items};
 ghost use Rattle.file_commands.specs.Effects.{effect_of};
 ghost use Rattle.file_commands.specs.Endings.{number_of, status_of, status_line};
 ghost use Rattle.radio_engine.specs.Run.{IsRun};
@@ -16,6 +14,7 @@ ghost use Rattle.file_commands.specs.declared.ending.Ending.TheVariants.{NoMemor
 ghost use Rattle.file_commands.specs.declared.ending.status.Status.{Status};
 
 use feed_link::{Outside, Sink};
+use host_arguments::{arguments_of, texts_of};
 use host_links::{HostOutside, StreamSink};
 use radio_engine::{Status, end_without_memory, run_station};
 use radio_receiver::{DcfReceiver, MsfReceiver, Receiver, WwvbReceiver};
@@ -23,14 +22,12 @@ use receiver_rack::put_in_rack;
 use run_report::write_report;
 use standard_error::Watched;
 use std::alloc::{AllocError, Global};
-use std::env;
-use std::env::Args;
 use std::fs::{self, Files};
-use std::io::{self, ErrorKind};
 use std::os::fd::AsRawFd;
 use std::process::ExitCode;
 use std::sync::Wait;
 use std::thread::Threads;
+use std::{env, io};
 use tick_units::Plan;
 
 fn main(rt: HostRuntime) -> ExitCode {
@@ -39,7 +36,7 @@ fn main(rt: HostRuntime) -> ExitCode {
     let mut out = StreamSink::new(Watched::new(io::writer(&rt)));
     let all = env::args(&rt);
     let are_text = all.is_ok();
-    let words = words_of(rt.alloc(), all);
+    let words = arguments_of(rt.alloc(), all);
     let code = run_program(&rt, rt.alloc(), &words, &mut outside, &mut out);
     write_report(&rt, &words, are_text, outside.refusal(), out.stream());
     code
@@ -97,62 +94,6 @@ where
         return None;
     }
     Some(file)
-}
-
-// The arguments after the program's name. There are none where one of them is not UTF-8, since every valid argument is UTF-8.
-fn words_of(alloc: Global, all: io::Result<Args>) -> Result<Vec<String>, AllocError>
-    ensures given { IfOk all (λ args. IfOk result (λ words. words.items ≡ drop 1 (into_iter_items args))) }
-    ensures memory { IfErr all (λ e. error_kind e ≡ ErrorKind.OutOfMemory → result ≡ Err alloc_error) }
-    ensures no_text { IfErr all (λ e. (error_kind e ≡ ErrorKind.OutOfMemory → ⊥) →
-        IsOkAnd result (λ words. words.items ≡ [])) }
-{
-    match all {
-        Ok(all) => behind_the_name(alloc, all),
-        Err(error) => match error.kind() {
-            ErrorKind::OutOfMemory => Err(AllocError),
-            _ => Ok(Vec::new(alloc)),
-        },
-    }
-}
-
-// The arguments after the program's name.
-fn behind_the_name(alloc: Global, all: Args) -> Result<Vec<String>, AllocError>
-    ensures { IfOk result (λ words. words.items ≡ drop 1 (into_iter_items all)) }
-{
-    let words = listed(alloc, all)?;
-    Ok(without_first(words))
-}
-
-// All that the host gives.
-fn listed(alloc: Global, all: Args) -> Result<Vec<String>, AllocError>
-    ensures { IfOk result (λ words. words.items ≡ into_iter_items all) }
-{
-    let mut words = Vec::new(alloc);
-    for word in all {
-        words.push(word)?;
-    }
-    Ok(words)
-}
-
-fn without_first(words: Vec<String>) -> Vec<String>
-    ensures { result.items ≡ drop 1 words.items }
-{
-    let mut words = words;
-    if !words.is_empty() {
-        words.remove(0);
-    }
-    words
-}
-
-// Arguments as their texts.
-fn texts_of<'a>(alloc: Global, words: &'a [String]) -> Result<Vec<&'a str>, AllocError>
-    ensures { IfOk result (λ texts. map (λ t. t.now) texts.items ≡ map (λ w. string_bytes w) words.now) }
-{
-    let mut texts = Vec::new(alloc);
-    for word in words {
-        texts.push(word.as_str())?;
-    }
-    Ok(texts)
 }
 
 // The receivers of each plan.

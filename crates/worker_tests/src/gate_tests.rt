@@ -4,7 +4,7 @@ use crate::serving::{CLIENT, NONE, bytes_of, gate_of, link_of, serve};
 use crate::shared::{alone, moment, same};
 use feed_link::Address;
 use kiss_gate::{ClientGate, DenyList};
-use memory_links::{LinkEvent, MemoryLink, Planned};
+use memory_outside::{LinkEvent, MemoryLink, Planned};
 use packet_auth::KeyRing;
 use responder::Served;
 use std::alloc::Global;

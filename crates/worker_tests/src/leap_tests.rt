@@ -5,7 +5,7 @@ ghost use Rattle.std.specs.Prelude.{◌<◌, ◌≤◌};
 use crate::shared::{Work, alone, has_lines, moment, run_alone, same};
 use feed_link::OpenGate;
 use feed_workers::{LeapWorker, LogEnd, LogWork};
-use memory_links::MemorySource;
+use memory_outside::MemorySource;
 use page_cell::FeedPass;
 use std::alloc::Global;
 use std::process::Abort;

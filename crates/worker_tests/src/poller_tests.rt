@@ -10,7 +10,7 @@ use crate::shared::{
 };
 use feed_link::{Address, Link, OpenGate};
 use feed_workers::{PollEnd, PollWork, PollWorker};
-use memory_links::{MemoryLink, Planned};
+use memory_outside::{MemoryLink, Planned};
 use page_cell::{CellParts, FeedPass, PageCell};
 use std::alloc::Global;
 use std::marker::Brand;

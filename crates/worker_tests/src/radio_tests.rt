@@ -6,7 +6,7 @@ ghost use Rattle.page_cell.specs.Passes.{claim_of};
 use crate::shared::{Work, alone, has_lines, run_alone, same};
 use feed_link::{OpenGate, Source};
 use feed_workers::{LogEnd, LogWork, RadioWorker};
-use memory_links::MemorySource;
+use memory_outside::MemorySource;
 use page_cell::FeedPass;
 use radio_receiver::{DcfReceiver, Receiver};
 use std::alloc::Global;

@@ -2,7 +2,7 @@
 use crate::serving::{CLIENT, NONE, REQUEST, bytes_of, link_of, open_to_all, serve as serve_with};
 use crate::shared::{address_of, alone, host_link, loopback_socket, moment, same};
 use feed_link::Link;
-use memory_links::{LinkEvent, MemoryLink, Planned};
+use memory_outside::{LinkEvent, MemoryLink, Planned};
 use packet_auth::KeyRing;
 use responder::{End, Served};
 use std::alloc::Global;

@@ -3,7 +3,7 @@ use crate::scene::Unplayed;
 use crate::scene::made::add_hex;
 use crate::scene::texts::{Words, number};
 use feed_link::Address;
-use memory_links::{LinkEvent, MemoryLink, Planned};
+use memory_outside::{LinkEvent, MemoryLink, Planned};
 use std::alloc::Global;
 use tick_units::Local;
 

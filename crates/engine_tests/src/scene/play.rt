@@ -1,12 +1,12 @@
 // Plays a scene through the one call that the program makes, and judges what came of it.
 ghost use Rattle.std.specs.Prelude.{◌≡◌, IfOk, false};
-ghost use Rattle.memory_links.specs.MemoryOutside.{is_gate_out};
+ghost use Rattle.memory_outside.specs.MemoryOutside.{is_gate_out};
 
 use crate::runs::{same, written_over};
 use crate::scene::Unplayed;
 use crate::scene::links::{count_sent, datagram, kinds, links, sent_to};
 use crate::scene::texts::{Words, after, lines_under, number, refuse_unknown, text_under};
-use memory_links::{HoldGate, MemoryLink, MemoryOutside, MemorySource, NamedLog};
+use memory_outside::{HoldGate, MemoryLink, MemoryOutside, MemorySource, NamedLog};
 use radio_engine::Status;
 use std::alloc::Global;
 use std::process::Abort;

@@ -1,0 +1,12 @@
+-- What a link in memory gives out of its events, as events.
+use Rattle.feed_link.specs.Told.{NetEvent}
+use Rattle.feed_link.specs.Told.NetEvent.{Came, Silent, Ended, Timed, Went}
+use Rattle.memory_outside.specs.declared.event.LinkEvent.{LinkEvent}
+use Rattle.memory_outside.specs.declared.event.LinkEvent.TheVariants.{Datagram, Quiet, End, Moment, Sent}
+
+abbrev pub event_seen : LinkEvent → NetEvent
+event_seen (Datagram from at bytes) = Came from at bytes.now
+event_seen Quiet = Silent
+event_seen End = Ended
+event_seen (Moment at) = Timed at
+event_seen (Sent to bytes) = Went to bytes.now
