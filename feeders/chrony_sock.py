@@ -28,6 +28,7 @@ from typing import Callable, NamedTuple
 UNIX_EPOCH = 2_208_988_800  # in seconds since 1900-01-01 00:00 UTC, as `decode` counts
 SLEPT = 10_000_000  # a clock that goes on while the host sleeps is ahead by so much more, in nanoseconds: it slept
 DAY = 86_400
+LONGEST = 4096  # what is read at a time, in bytes; a longer line has no verdict
 # A sample of chrony's SOCK driver: the system's time when it was taken (a timeval), by how many seconds the true time is ahead of it,
 # whether it is of a pulse alone, the leap status (0 none, 1 a second is inserted), padding, and the driver's own number.
 SAMPLE = struct.Struct("@lldiiii")
@@ -133,8 +134,11 @@ def main() -> int:
     bridge = Bridge(asked.socket, asked.delay, asked.fresh)
     signal.signal(signal.SIGTERM, signal.default_int_handler)
     try:
-        for line in sys.stdin.buffer:
-            bridge.line(line.decode("ascii", "replace"))
+        begins = True
+        while piece := sys.stdin.buffer.readline(LONGEST):
+            if begins:
+                bridge.line(piece.decode("ascii", "replace"))
+            begins = piece.endswith(b"\n")
     except OSError as fault:
         print(f"chrony_sock.py: {fault.strerror}", file=sys.stderr)
         return 1

@@ -10,8 +10,9 @@ while the carrier is reduced; with --low it is low then, as with a receiver whos
 
 Reductions below 5 ms are noise and left out, and so are gaps below 5 ms within a reduction. One above 2 s is reported as 2 s, when these
 are over. Where an edge was lost the reduction's width isn't known, and it is left out: its minute is refused then. Starts rise strictly.
-A line that is no edge is reported on standard error and passed over. So is it, once, where an edge comes more than two seconds after it
-happened: the reduction was reported as 2 s by then. `stdbuf -oL` keeps a command from holding edges back.
+A line that is no edge is passed over, and reported on standard error: ten a minute, and how many more there were. An edge that comes more
+than two seconds after it happened is reported once: the reduction was written as 2 s by then. `stdbuf -oL` keeps a command from holding
+edges back.
 
 It exits with the command's status, and 128 and the signal's number where a signal ended it; with 0 at the end of its input and where SIGINT
 or SIGTERM ended it; with 1 where its reader has ended, a read fails, or gpiomon reported an error on that input (2>&1); with 2
@@ -25,10 +26,12 @@ import select
 import signal
 import subprocess
 import sys
+import time
 from typing import Callable, Iterator
 
 LEAST = 5_000  # a shorter reduction or gap is noise, in microseconds
 GREATEST = 2_000_000  # the greatest width of a log
+MOST_SAID, LONGEST_SAID = 10, 100  # lines that are no edge: how many are reported a minute, and how much of each
 END = 2**50  # the moments of a log are below it
 # What is waited for until nothing more can belong to a reduction, in seconds; an edge may reach us some time after it happened.
 SETTLED = 0.2
@@ -131,7 +134,8 @@ def lines_of(file: int, reductions: Reductions) -> Iterator[bytes]:
 
 
 def say(text: str) -> None:
-    print(text, file=sys.stderr, flush=True)
+    """One line on standard error. What a terminal would obey is escaped."""
+    print("".join(one if one.isprintable() else one.encode("unicode_escape").decode() for one in text), file=sys.stderr, flush=True)
 
 
 class Feeder:
@@ -140,6 +144,8 @@ class Feeder:
     def __init__(self, low: bool) -> None:
         self.low = low
         self.failed = False  # whether gpiomon reported an error on this input
+        self.minute = 0.0  # when the next minute of reports begins (monotonic s)
+        self.noise = 0  # the lines of this minute that were no edge
         self.beyond = False  # whether a moment was beyond what a log has
         self.reductions = Reductions(lambda start, width: print(start, width, flush=True), say)
 
@@ -147,7 +153,28 @@ class Feeder:
         """Reads all of a file."""
         for line in lines_of(file, self.reductions):
             self.line(line)
+        self.close()
+
+    def close(self) -> None:
+        """Nothing more will be read: writes what is left, and reports it."""
         self.reductions.settle()
+        self.say_more()
+
+    def no_edge(self, text: str) -> None:
+        """Reports a line that is no edge: MOST_SAID within a minute, and of more their number, with the first one after it."""
+        now = time.monotonic()
+        if now >= self.minute:
+            self.say_more()
+            self.minute = now + 60
+        self.noise += 1
+        if self.noise <= MOST_SAID:
+            say(f"no edge: {text[:LONGEST_SAID]}")
+
+    def say_more(self) -> None:
+        """Reports how many lines were no edge besides those that were shown."""
+        if self.noise > MOST_SAID:
+            say(f"{self.noise - MOST_SAID} more lines were no edge")
+        self.noise = 0
 
     def line(self, line: bytes) -> None:
         text = line.decode("utf-8", "replace").strip()
@@ -156,7 +183,7 @@ class Feeder:
             say(text)
         elif not (edge := read_edge(line)):
             if text:
-                say(f"no edge: {text}")
+                self.no_edge(text)
         elif edge[0] >= END:
             if not self.beyond:
                 say(f"beyond the moments of a log: {text} (is it stamped by the monotonic clock?)")
@@ -204,7 +231,7 @@ def feed(feeder: Feeder, command: list[str]) -> int:
             return run(feeder, command)
         feeder.read(sys.stdin.fileno())
     except KeyboardInterrupt:
-        feeder.reductions.settle()
+        feeder.close()
         return 0
     return 1 if feeder.failed else 0
 

@@ -42,6 +42,7 @@ NEXT = 900_000
 # Where the code plans change their mind on two starts that are so far apart: parts of MSF that join (150 to 250 ms), neighbouring marks
 # (900 to 1100 ms) and the gap before a DCF77 minute (1900 to 2100 ms). The last border is beyond all logs.
 BORDERS = (1, 150_000, 250_001, NEXT, 1_100_001, 1_900_000, 2_100_001, 2 * END)
+LONGEST = 4096  # what is read at a time, in bytes; a longer line is none of a log
 LINE = re.compile(rb"(0|[1-9][0-9]{0,15}) ([0-9]{1,7})\n")
 
 
@@ -216,9 +217,11 @@ def main() -> None:
     steady = Steady(most)
     signal.signal(signal.SIGTERM, signal.default_int_handler)
     try:
-        for line in sys.stdin.buffer:
-            sys.stdout.buffer.write(steady.line(line))
+        begins = True
+        while piece := sys.stdin.buffer.readline(LONGEST):
+            sys.stdout.buffer.write(steady.line(piece) if begins else piece)
             sys.stdout.buffer.flush()
+            begins = piece.endswith(b"\n")
     except OSError as fault:
         # What stands in the buffer has nowhere to go: whoever read the log has ended, or its disk is full.
         os.dup2(os.open(os.devnull, os.O_WRONLY), sys.stdout.fileno())

@@ -172,6 +172,14 @@ class Ends(unittest.TestCase):
                     seconds, part, *_ = struct.unpack("<qqdiiii", chrony.recv(100))
                     self.assertAlmostEqual(seconds * 1_000_000 + part, unix - 1_000_000 - delay, delta=20_000)
 
+    def test_a_line_without_an_end(self):
+        """It takes no memory, and its tail is no line."""
+        with subprocess.Popen(["head", "-c", "300M", "/dev/zero"], stdout=subprocess.PIPE) as zeros:
+            words = ["sh", "-c", 'ulimit -v 200000; exec "$0" /nosuch', HERE / "chrony_sock.py"]
+            done = subprocess.run(words, stdin=zeros.stdout, stdout=subprocess.PIPE, stderr=subprocess.PIPE, timeout=60)
+        self.assertEqual((done.returncode, done.stderr), (1, b"decode ended without its status line\n"))
+        self.assertEqual(self.run_it(b"x" * 4096 + b"status 0\n", "/nosuch"), (1, "decode ended without its status line\n"))
+
     def test_signals(self):
         # A test that a shell put into the background has SIGINT ignored, and what it starts would too.
         self.addCleanup(signal.signal, signal.SIGINT, signal.signal(signal.SIGINT, signal.default_int_handler))

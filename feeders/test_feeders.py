@@ -135,6 +135,14 @@ class Edges(unittest.TestCase):
         self.assertEqual(written, "1000000 100000\n")
         self.assertEqual(said, "".join(f"no edge: {line}\n" for line in others))
 
+    def test_noise(self):
+        """Ten lines a minute are reported, a hundred characters of each, and nothing that a terminal would obey."""
+        noise = ["\x1b[31mred", "n" * 200, *(f"noise {number}" for number in range(10))]
+        written, said = feed("".join(f"{line}\n" for line in noise))
+        self.assertEqual(written, "")
+        shown = ["\\x1b[31mred", "n" * 100, *noise[2:10]]
+        self.assertEqual(said, "".join(f"no edge: {line}\n" for line in shown) + "2 more lines were no edge\n")
+
     def test_a_clock_that_is_not_monotonic(self):
         """The realtime clock is beyond the moments of a log: it is said once."""
         text = "1789000000.0 rising\n1789000000.1 falling\n1.0 rising\n1.1 falling\n"

@@ -35,6 +35,15 @@ class Pipe(unittest.TestCase):
         done = self.run_it(b"1000000 100000\n2000000 100")
         self.assertEqual((done.returncode, done.stdout, done.stderr), (0, b"1000000 100000\n2000000 100", b""))
 
+    def test_a_line_without_an_end(self):
+        """It is passed on in pieces: it takes no memory, and its tail is no line of a log."""
+        with subprocess.Popen(["head", "-c", "300M", "/dev/zero"], stdout=subprocess.PIPE) as zeros:
+            words = ["sh", "-c", 'ulimit -v 200000; exec "$0"', HERE / "steady.py"]
+            done = subprocess.run(words, stdin=zeros.stdout, stdout=subprocess.DEVNULL, stderr=subprocess.PIPE, timeout=60)
+        self.assertEqual((done.returncode, done.stderr), (0, b""))
+        long = b"x" * 4096 + b"1000000 100000\n"
+        self.assertEqual(self.run_it(long).stdout, long)
+
     def test_a_reader_that_ends(self):
         child = subprocess.Popen([HERE / "steady.py"], stdin=subprocess.PIPE, stdout=subprocess.PIPE, stderr=subprocess.PIPE)
         child.stdout.close()

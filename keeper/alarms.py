@@ -9,6 +9,7 @@ import subprocess
 from keeper.children import Guard
 from keeper.say import say
 from keeper.state import Alarm, State
+from keeper.words import ended
 
 LOST = 15.0  # a change of run is no loss: so long nobody may have received the time, in seconds
 QUEUE = 20  # alarms that wait; of more the oldest is dropped
@@ -97,7 +98,7 @@ class Alarms:
                     self._signal(signal.SIGTERM)
                 return
             if self.child.returncode:
-                say(f"the alarm's command ended with {self.child.returncode}")
+                say(f"the alarm's command {ended(self.child.returncode)}")
             self._forget()
         if self.waiting:
             self._start(self.waiting.popleft(), now)

@@ -184,7 +184,7 @@ def load(path: str) -> Settings:
     tables = _table(station, "radio")
     radios = [_radio(path, text, one, place, tables) for place, one in enumerate(values.get("radio", []))]
     if len(radios) != len(tables):
-        raise Fault(f"{path}: radio: {len(radios)} are here and {len(tables)} in {station_path}{line_of(text, 'radio')}", REFUSED)
+        raise Fault(f"{path}: radio: there are {len(radios)} tables [[radio]] here, and {len(tables)} in {station_path}{line_of(text, 'radio')}", REFUSED)
     servers = [(one["address"], _port(one)) for one in _table(station, "server") if isinstance(one.get("address"), str) and _port(one)]
     pace = values.get("pace", 16)
     if servers and pace and "cycle" in values and values["cycle"] > longest_cycle(pace):
@@ -208,6 +208,8 @@ def _radio(path: str, text: str, values: object, place: int, tables: list[dict])
     named = [kind for kind in KINDS if kind in values]
     if len(named) != 1:
         keys.refuse(named[1] if named else "command", "one of command, fifo and file must stand there, and no more than one")
+    if not values.get("name", "").isprintable():
+        keys.refuse("name", "it has a character that can't be printed")
     table = tables[place] if place < len(tables) else {}
     plan = table.get("plan") if isinstance(table.get("plan"), str) else ""
     value = values[named[0]]
@@ -257,3 +259,5 @@ def judge(settings: Settings) -> None:
     if done.returncode != 0:
         why = reason(done.stderr).removeprefix(f"the station file ({settings.station}): ") or "the program refuses it"
         raise Fault(f"{settings.station}: {why} ({last[0]})", REFUSED)
+    if last != ["status 0"]:
+        raise Fault(f"the program {settings.program} isn't radio_ntpd: it judged the station without a status", REFUSED)

@@ -23,10 +23,12 @@ from keeper.runs import Run
 from keeper.say import say
 from keeper.state import State
 from keeper.verdict import SILENT
+from keeper.words import ended
 
 STAGES = 8  # of the clock filter, of which the empty ones count as 16 s each (docs/PAGE.md)
 FLOOR = 0.005  # the least root dispersion of a radio, in seconds
 NO_VERDICTS = 2  # the first minutes of those that a run receives give no verdict: one is cut, and one has none before it
+STOOD = 15.0  # renewals of the state that lie so far apart show that the keeper itself stood still, in seconds
 ANSWERED = 120.0  # within which a paced server has to have answered, or within four of its pauses, in seconds
 
 
@@ -46,6 +48,8 @@ class Crew:
         self.clock, self.sleep = clock.ClockWatch(), clock.SleepWatch()
         self.slept = False  # since the last run began
         self.failing = False
+        self.renewed = time.monotonic()  # when the state was written last
+        self.stood = False  # whether the keeper had stood still then
 
     def use(self, settings: Settings) -> None:
         """What these settings leave as it is goes on; a radio's last minutes stay at hand. Where the host refuses something all is as it was."""
@@ -169,7 +173,7 @@ class Crew:
         run_state, status, seconds = self.state.run, status_of(text), max(run.ended - run.began, 0.001)
         run_state.last_status, run_state.last_journal = status, self.journals.keep(run.since, text, run.own)
         if run.why != "cycle" or status != "status 0":
-            how = status or f"no status line, it ended with {run.exit_status}"
+            how = status or f"no status line, it {ended(run.exit_status)}"
             say(f"run {run.number} ended ({run.why}) after {seconds:.0f} s: {': '.join(filter(None, (how, run.reason)))}")
         counts = heard(text)
         others = [max(0, count - own) for count, own in zip(counts, run.own)]
@@ -205,7 +209,10 @@ class Crew:
             feed.reception.renew(now)
         said = (self.lacking, self.without, self.journals.note, *(feed.log.note for feed in self.feeds), self.refused and f"not reloaded: {self.refused}")
         self.state.notes = [one for one in said if one]
-        self.alarms.judge(self.state, now)
+        self.stood = not self.stood and time.monotonic() - self.renewed > STOOD
+        self.renewed = time.monotonic()
+        if not self.stood:  # else nobody was asked meanwhile, and clients may have been served; ten seconds later that is known
+            self.alarms.judge(self.state, now)
         self.notify.status(self._sentence())
         try:
             os.makedirs(self.settings.folder, exist_ok=True)

@@ -15,6 +15,7 @@ from keeper.pulse_log import PulseLog, boot_id
 from keeper.reception import Reception
 from keeper.source import Ended, source_of
 from keeper.state import RadioState
+from keeper.words import sentence
 from keeper.steadied import Steadied, Unmoved
 
 PAUSES = (1, 60)  # the first and the longest pause before a source is started again, in seconds
@@ -67,7 +68,7 @@ class Feed:
         try:
             self.source.begin()
         except OSError as error:
-            self._wait(now, f"its source can't be opened: {error.strerror}")
+            self._wait(now, f"its source can't be opened: {sentence(error)}")
             return
         self.state.source = "running"
         self.pulse_at = now
@@ -79,7 +80,8 @@ class Feed:
         """The source is started again after a pause, which grows until a pulse comes."""
         self._unwatch()
         self.source.rest()
-        self.say(f"radio {self.state.number}: {why}; it is started again in {self.pause} s")
+        again = "started" if self.radio.kind == "command" else "opened"
+        self.say(f"radio {self.state.number}: {why}; it is {again} again in {self.pause} s")
         self.state.source = "waiting"
         self.state.restarts += 1
         self.due = now + self.pause

@@ -52,9 +52,10 @@ def look_at_source(radio: Radio, place: int) -> Finding:
     try:
         mode = os.stat(radio.value).st_mode
     except OSError as error:
-        return Level.BAD, f"{name}: {radio.value}: {error.strerror}"
+        hint = f": `mkfifo {radio.value}` makes it" if radio.kind == "fifo" and error.errno == errno.ENOENT else ""
+        return Level.BAD, f"{name}: {radio.value}: {error.strerror}{hint}"
     if radio.kind == "fifo" and not stat.S_ISFIFO(mode):
-        return Level.BAD, f"{name}: {radio.value} is no FIFO: `mkfifo {radio.value}` makes one"
+        return Level.BAD, f"{name}: {radio.value} is no FIFO"
     if radio.kind == "file" and not stat.S_ISREG(mode):
         return Level.BAD, f"{name}: {radio.value} is no file"
     if not os.access(radio.value, os.R_OK):
@@ -124,6 +125,8 @@ def look_at_folder(folder: str) -> Finding:
     if not os.access(there, os.W_OK | os.X_OK):
         return Level.NOTE, f"you may not write into {there}; the service's user has to"
     free = shutil.disk_usage(there).free
+    if free < 1 << 20:
+        return Level.BAD, f"{there} has {free >> 10} KB left: logs, journals and the state can't be written"
     if free < 1 << 28:
         return Level.NOTE, f"{there} has {free >> 20} MB left; a radio's logs and journals of a month take about 20 MB"
     return Level.WELL, f"{folder} can be written, {free >> 20} MB are free"

@@ -187,11 +187,16 @@ class Keeper:
             config.judge(settings)
             config.ask_host(settings, self.settings.links)
         except Fault as fault:
-            self.crew.refuse(str(fault))
+            self._refuse(str(fault))
             self.crew.notify.ready()
             return False
         self.next, self.crew.refused = settings, ""
         return True
+
+    def _refuse(self, text: str) -> None:
+        """What a reload asks for is refused: all goes on as it was, and the state says so at once."""
+        self.crew.refuse(text)
+        self.crew.renew(self.run)
 
     def _use_next(self) -> None:
         """Goes over to what a reload has read."""
@@ -202,7 +207,7 @@ class Keeper:
             self.crew.use(settings)
             self.settings = settings
         except OSError as error:
-            self.crew.refuse(sentence(error))
+            self._refuse(sentence(error))
         self.standby.close()
         self.crew.notify.ready()
 

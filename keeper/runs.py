@@ -15,6 +15,7 @@ from keeper.pacing import Pacing
 from keeper.server import Server
 from keeper.station import polls_for, text_for
 from keeper.watch import Watch
+from keeper.words import ended, with_port
 
 BEGIN = 5.0  # within which a run's first link has to answer, in seconds
 FOREIGN = 0.5  # within which a server ends whose port another program has, in seconds
@@ -129,7 +130,8 @@ class Run:
             self.server.child.end(0)
             why = f"nobody answers on port {self.settings.links[0]} within {BEGIN:.0f} s"
         else:
-            why = ": ".join(filter(None, (status_of(self.server.text()) or f"the program ended with {self.server.status()}", self.server.reason())))
+            status = status_of(self.server.text()) or f"the program {ended(self.server.status())}"
+            why = ": ".join(filter(None, (status, with_port(self.server.reason(), self.settings.links))))
         self.server.close()
         return why
 

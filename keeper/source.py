@@ -7,6 +7,7 @@ import time
 
 from keeper.children import Child, Guard
 from keeper.clock import AWAKE
+from keeper.words import ended
 
 MOST = 65536  # what is read in one go, in bytes
 # How much of the end of a file that grows is read at first: more than the minutes that are handed on, in bytes.
@@ -43,7 +44,7 @@ class Command:
             return b""
         if not piece:
             self.child.wait(0.1)
-            raise Ended(f"its command ended with {self.child.status()}")
+            raise Ended(f"its command {ended(self.child.status())}")
         return piece
 
     def rest(self) -> None:

@@ -20,6 +20,8 @@ __all__ = [
 ]
 
 VERSION = 1  # of the file's form
+LATEST = 2**35  # moments, spans and rates lie between this and its negative: a moment (Unix s) in the year 3058
+MOST = 2**53  # counts lie below this
 
 
 class StateError(Exception):
@@ -71,6 +73,9 @@ def _built(kind, value, where: str):
         return [_built(inner[0], one, f"{where}.{number}") for number, one in enumerate(value)]
     if form is dict and isinstance(value, dict):
         return {name: _built(inner[1], one, f"{where}.{name}") for name, one in value.items()}
+    bound = {float: LATEST, int: MOST}.get(kind)
+    if bound and type(value) in (int, float) and not -bound < value < bound:  # so NaN is out of range too
+        raise ValueError(f"{where} is out of range")
     if kind is float and type(value) is int:
         return float(value)
     if type(value) is not kind:

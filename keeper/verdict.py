@@ -41,7 +41,8 @@ def judge(state: State, now: float) -> list[tuple[Level, str]]:
     leap = state.leap_file
     if leap is not None and leap.expires and leap.expires - now < EXPIRES:
         found.append((Level.WARNING, "the leap second file has expired" if leap.expires < now else f"the leap second file expires in {span(leap.expires - now)}"))
-    found += [(Level.WARNING, f"{one.text}, {span(now - one.at)} ago") for one in state.alarms[-3:] if one.event == "run-died" and now - one.at < DIED]
+    died = [one for one in state.alarms if one.event == "run-died" and now - one.at < DIED]
+    found += [(Level.WARNING, f"{one.text}, {span(now - one.at)} ago") for one in died[-3:]]
     found += [(Level.WARNING, one) for one in state.notes]
     return sorted(found, key=lambda one: -one[0])
 
@@ -49,7 +50,8 @@ def judge(state: State, now: float) -> list[tuple[Level, str]]:
 def _links(state: State, now: float) -> list[tuple[Level, str]]:
     found = []
     for link in state.links:
-        if now - link.answered_at > SILENT:
+        # By when the state was written: where the disk is full, or the keeper stands still, the port may well answer.
+        if min(now, state.written) - link.answered_at > SILENT:
             found.append((Level.CRITICAL, f"port {link.port} doesn't answer"))
         elif link.leap == 3:
             why = "yet: a radio needs four verdicts" if now - state.keeper_since < NEW else f"({link.reference_id})"

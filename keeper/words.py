@@ -1,6 +1,7 @@
 """The command line of the keeper: its words, and how a command ends when it can't be done."""
 
 import argparse
+import re
 import sys
 from typing import NoReturn
 
@@ -35,6 +36,19 @@ def reason(said: bytes) -> str:
     """The program's own last sentence on its standard error, without its name; nothing where it says none."""
     lines = said.decode("utf-8", "replace").splitlines()
     return lines[-1].removeprefix("radio_ntpd: ") if lines else ""
+
+
+def with_port(said: str, ports: list[int]) -> str:
+    """The program's sentence on a link that it cannot open, with the link's port: it doesn't name it, since it has the station by a pipe."""
+    opened = re.match(r"cannot open link ([0-9]+)(?=:)", said)
+    if not opened or int(opened[1]) >= len(ports):
+        return said
+    return f"{opened[0]} (port {ports[int(opened[1])]}){said[opened.end():]}"
+
+
+def ended(status: int) -> str:
+    """How a process ended, by the exit status that Python gives: a negative one is a signal's number."""
+    return f"ended with {status}" if status >= 0 else f"was ended by signal {-status}"
 
 
 def sentence(error: OSError) -> str:

@@ -91,7 +91,7 @@ def serve(words: argparse.Namespace) -> int:
             link.bind(("0.0.0.0", row["port"]))
         except OSError:
             print(f"status 2 open link {place}")
-            print(f"radio_ntpd: cannot open link {place} (port {row['port']}): another program or link has the port", file=sys.stderr)
+            print(f"radio_ntpd: cannot open link {place}: another program or link has the port", file=sys.stderr)
             return 2
         links.append(link)
         counts.append([0, 0])

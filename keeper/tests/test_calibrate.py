@@ -30,6 +30,7 @@ for line in sys.stdin:
     second = round((start - late) / 1e6 + shift)
     if second % 60 == 0:
         print(0, start, "verdict", second + 2208988800, 0, flush=True)
+print("status 0")
 """
 
 

@@ -132,8 +132,9 @@ class Hosts(Folder):
         fifo = os.path.join(self.folder, "fifo")
         os.mkfifo(fifo)
         for kind, value, level, said in (
-            ("file", file, Level.WELL, "is there"), ("file", fifo, Level.BAD, "is no file"), ("fifo", fifo, Level.WELL, "is there"), ("fifo", file, Level.BAD, "mkfifo"),
-            ("file", file + "x", Level.BAD, "No such file"), ("command", "stdbuf -oL cat x | sh -c y", Level.WELL, "are there"),
+            ("file", file, Level.WELL, "is there"), ("file", fifo, Level.BAD, "is no file"), ("fifo", fifo, Level.WELL, "is there"), ("fifo", file, Level.BAD, "is no FIFO"),
+            ("file", file + "x", Level.BAD, "No such file"), ("fifo", fifo + "x", Level.BAD, f"No such file or directory: `mkfifo {fifo}x` makes it"),
+            ("command", "stdbuf -oL cat x | sh -c y", Level.WELL, "are there"),
             ("command", "stdbuf -oL nosuchprogram --chip 0 | cat", Level.BAD, "no program nosuchprogram"), ("command", "A=1 $X/foo | exec sh", Level.WELL, ""),
             ("command", "stdbuf -oL nosuchprogram gpiochip0 17 2>&1 | cat", Level.BAD, "no program nosuchprogram"),
         ):

@@ -85,10 +85,13 @@ class Reloads(Crews):
     def test_another_state_folder_needs_a_new_start(self):
         settings = self.settings()
         keeper = mock.Mock(settings=settings, crew=self.crew)
+        keeper._refuse = lambda text: Keeper._refuse(keeper, text)
         self.crew.use(settings)
         self.settings(top='state = "other"\n')
         self.crew.notify = mock.Mock()
-        self.assertFalse(Keeper._reload(keeper))
+        with mock.patch.object(self.crew, "renew") as renew:
+            self.assertFalse(Keeper._reload(keeper))
+        renew.assert_called_once_with(keeper.run)
         self.assertEqual(self.crew.refused, f"state: it is {self.folder}/other now, for which the keeper has to be started anew")
         self.assertEqual(self.crew.state.alarms[-1].event, "file-refused")
         # systemd ends a service whose reload isn't over in time.
@@ -276,6 +279,27 @@ class Sentences(Crews):
         self.assertEqual(self.crew._sentence(), "run 0: time from DCF, root dispersion 5.0 ms")
         link.answered_at = now - 20
         self.assertEqual(self.crew._sentence(), "run 0: no time")
+
+
+class Stands(Crews):
+    def test_a_keeper_that_stood_still_raises_no_alarm_at_once(self):
+        """Its host was stopped for a while, or it was. What it knows of the links is as old as that."""
+        self.crew.use(self.settings())
+        for late, due in ((14.0, [True]), (16.0, [False, True, True]), (3600.0, [False, True])):
+            with self.subTest(late=late), mock.patch.object(self.crew.alarms, "judge") as judge:
+                self.crew.renewed -= late
+                for judged in due:
+                    judge.reset_mock()
+                    self.crew.renew(None)
+                    self.assertEqual(judge.called, judged)
+
+    def test_one_that_is_late_each_time_is_judged_each_second_time(self):
+        self.crew.use(self.settings())
+        with mock.patch.object(self.crew.alarms, "judge") as judge:
+            for _ in range(6):
+                self.crew.renewed -= 16.0
+                self.crew.renew(None)
+        self.assertEqual(judge.call_count, 3)
 
 
 class Faults(Crews):

@@ -27,6 +27,8 @@ class Sentences(unittest.TestCase):
         self.says(Level.CRITICAL, "no keeper runs: its state is of 61 s after the host's clock", written=NOW + 61)
         self.says(Level.CRITICAL, "the keeper was stopped 5 s ago", written=NOW - 5, keeper_pid=0)
         self.says(Level.CRITICAL, "port 123 doesn't answer", link__answered_at=NOW - 16)
+        self.says(Level.OK, "time from DCF", link__answered_at=NOW - 45, written=NOW - 30)
+        self.says(Level.CRITICAL, "port 123 doesn't answer", link__answered_at=NOW - 46, written=NOW - 30)
         self.says(Level.CRITICAL, "port 123 has no time (INIT)", link__leap=3, link__reference_id="INIT")
         self.says(Level.CRITICAL, "port 123 has no time yet: a radio needs four verdicts", link__leap=3, keeper_since=NOW - 599)
         self.says(Level.WARNING, "the root dispersion is 250 ms of 500 ms", link__root_dispersion=0.25)
@@ -39,6 +41,8 @@ class Sentences(unittest.TestCase):
         self.says(Level.WARNING, "the leap second file has expired", leap__expires=NOW - 1)
         self.says(Level.WARNING, "the run before ended by itself, 10 min ago", alarms=[Alarm("run-died", NOW - 600, "the run before ended by itself")])
         self.says(Level.OK, "time from", alarms=[Alarm("run-died", NOW - 3601, "x"), Alarm("time-lost", NOW - 5, "y")])
+        refused = [Alarm("file-refused", NOW - 9, "x")] * 3
+        self.says(Level.WARNING, "the run before ended by itself, 10 min ago", alarms=[Alarm("run-died", NOW - 600, "the run before ended by itself"), *refused])
         self.says(Level.WARNING, "the disk / is full", notes=["the disk | is\nfull"])
         self.says(Level.OK, "nothing is served", links=[])
 

@@ -145,10 +145,11 @@ class Sources(Made):
 
     def test_one_that_can_not_be_opened(self):
         for kind in ("fifo", "file"):
-            feed = self.feed(kind, str(self.folder / "nosuch"))
+            name = str(self.folder / "nosuch")
+            feed = self.feed(kind, name)
             feed.turn(100.0)
             feed.turn(101.0)
-            self.assertEqual(self.said, [f"radio 0: its source can't be opened: No such file or directory; it is started again in {seconds} s" for seconds in (1, 2)])
+            self.assertEqual(self.said, [f"radio 0: its source can't be opened: {name}: No such file or directory; it is opened again in {seconds} s" for seconds in (1, 2)])
             self.said.clear()
 
     def test_one_of_another_kind(self):
@@ -156,7 +157,7 @@ class Sources(Made):
         os.mkfifo(self.folder / "fifo")
         for kind, name, why in (("fifo", "file", "it is no FIFO"), ("file", "fifo", "it is no file")):
             self.feed(kind, str(self.folder / name)).turn(100.0)
-            self.assertEqual(self.said.pop(), f"radio 0: its source can't be opened: {why}; it is started again in 1 s")
+            self.assertEqual(self.said.pop(), f"radio 0: its source can't be opened: {self.folder / name}: {why}; it is opened again in 1 s")
 
     def test_a_fifo_that_is_made_anew_is_opened_once_it_is_silent(self):
         name = str(self.folder / "fifo")
@@ -175,7 +176,7 @@ class Sources(Made):
         os.write(writer, b"%d 7\n" % (time.monotonic_ns() // 1000))
         feed.loop.turn(1.0)
         self.assertEqual((feed.state.source, feed.state.pulses), ("running", 1))
-        self.assertEqual(self.said[1:], ["radio 0: no pulse for 60 s; it is started again in 1 s"])
+        self.assertEqual(self.said[1:], ["radio 0: no pulse for 60 s; it is opened again in 1 s"])
 
     def test_one_that_can_not_be_read(self):
         os.mkfifo(self.folder / "fifo")
@@ -183,7 +184,7 @@ class Sources(Made):
         feed.turn(100.0)
         with mock.patch("keeper.source.os.read", mock.Mock(side_effect=OSError(errno.EIO, "Input/output error"))):
             feed._read()
-        self.assertEqual(self.said, ["radio 0: its source can't be read: Input/output error; it is started again in 1 s"])
+        self.assertEqual(self.said, ["radio 0: its source can't be read: Input/output error; it is opened again in 1 s"])
         self.assertEqual(feed.state.source, "waiting")
 
     def test_a_command_that_the_shell_does_not_take(self):

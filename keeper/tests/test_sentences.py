@@ -27,7 +27,7 @@ from keeper.runs import Run
 from keeper.state import LinkState, RadioState, RunState, State
 from keeper.tests.made_station import made_station
 from keeper.tests.test_keep import Kept
-from keeper.words import Fault
+from keeper.words import Fault, with_port
 
 WIDTHS = [100_000] * 9 + [200_000]
 
@@ -89,7 +89,7 @@ class OfTheHost(unittest.TestCase):
     def test_a_source(self):
         file = os.path.join(self.folder, "log")
         open(file, "wb").close()
-        self.assertEqual(hosts.look_at_source(radio("fifo", file), 0), (Level.BAD, f"radio 0 (dcf): {file} is no FIFO: `mkfifo {file}` makes one"))
+        self.assertEqual(hosts.look_at_source(radio("fifo", file), 0), (Level.BAD, f"radio 0 (dcf): {file} is no FIFO"))
         self.assertEqual(hosts.look_at_source(radio("command", "true | cat"), 0), (Level.WELL, "radio 0 (dcf): the programs of its command are there"))
         with mock.patch.object(hosts.shutil, "which", return_value=None):
             self.assertEqual(hosts.look_at_source(radio("command", "gpiomon gpiochip0 17"), 0), (Level.BAD, "radio 0 (dcf): there is no program gpiomon; `apt install gpiod` has it"))
@@ -105,6 +105,13 @@ class OfTheHost(unittest.TestCase):
 
     def test_a_folder(self):
         self.assertRegex(hosts.look_at_folder(self.folder)[1], rf"^{self.folder} can be written, \d+ MB are free$")
+        for free, level, sentence in (
+            ((1 << 28) - 1, Level.NOTE, f"{self.folder} has 255 MB left; a radio's logs and journals of a month take about 20 MB"),
+            (1 << 20, Level.NOTE, f"{self.folder} has 1 MB left; a radio's logs and journals of a month take about 20 MB"),
+            ((1 << 20) - 1, Level.BAD, f"{self.folder} has 1023 KB left: logs, journals and the state can't be written"),
+        ):
+            with mock.patch.object(hosts.shutil, "disk_usage", return_value=mock.Mock(free=free)):
+                self.assertEqual(hosts.look_at_folder(self.folder), (level, sentence))
         with mock.patch.object(hosts.os, "access", return_value=False):
             self.assertEqual(hosts.look_at_folder(self.folder), (Level.NOTE, f"you may not write into {self.folder}; the service's user has to"))
 
@@ -126,6 +133,8 @@ class OfTheHost(unittest.TestCase):
         os.chmod(program, 0o755)
         with mock.patch("keeper.config.JUDGED", 0.1), self.assertRaisesRegex(Fault, "doesn't judge the station within 0 s"):
             judge(mock.Mock(spec=Settings, program=program, station="station.toml"))
+        with self.assertRaisesRegex(Fault, "the program /bin/true isn't radio_ntpd: it judged the station without a status"):
+            judge(mock.Mock(spec=Settings, program="/bin/true", station="station.toml"))
 
 
 class OfAState(unittest.TestCase):
@@ -187,11 +196,18 @@ class OfRuns(unittest.TestCase):
         self.assertIn("run 2 (cycle) serves after 6 ms; where its counter stands isn't known\n", said(Crew.note_begin, crew, run))
         run.reading = mock.Mock(lag=1304.2, bound=12.0)
         self.assertIn("run 2 (cycle) serves after 6 ms; its counter began 1304 us late, known within 12 us\n", said(Crew.note_begin, crew, run))
-        self.assertIn("run 2 ended (died) after 40 s: no status line, it ended with -9\n", said(Crew.note_end, crew, run, b""))
+        self.assertIn("run 2 ended (died) after 40 s: no status line, it was ended by signal 9\n", said(Crew.note_end, crew, run, b""))
 
     def test_a_run_that_nobody_answers_for(self):
         run = types.SimpleNamespace(server=mock.Mock(status=lambda: None), settings=mock.Mock(links=[12300]))
         self.assertRegex(Run.give_up(run), r"^nobody answers on port 12300 within \d+ s$")
+
+    def test_a_link_is_named_with_its_port(self):
+        for said_by_it, shown in (
+            ("cannot open link 1: another program or link has the port", "cannot open link 1 (port 323): another program or link has the port"),
+            ("cannot open link 2: x", "cannot open link 2: x"), ("cannot open feed 1: x", "cannot open feed 1: x"), ("", ""),
+        ):
+            self.assertEqual(with_port(said_by_it, [123, 323]), shown)
 
     def test_journals_that_are_lost(self):
         sentences = []
@@ -219,7 +235,7 @@ class OfSources(unittest.TestCase):
         feed = Feed(loop, None, radio("file", "/nosuch"), RadioState(plan="dcf"), mock.Mock(), None, sentences.append)
         self.addCleanup(feed.close)
         feed.turn(time.monotonic())
-        self.assertEqual([one for one in sentences if "opened" in one], ["radio 0: its source can't be opened: No such file or directory; it is started again in 1 s"])
+        self.assertEqual([one for one in sentences if "opened" in one], ["radio 0: its source can't be opened: /nosuch: No such file or directory; it is opened again in 1 s"])
 
 
 class OfTheEnd(Kept):

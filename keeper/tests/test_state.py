@@ -40,11 +40,15 @@ class StateFile(unittest.TestCase):
 
     def test_a_whole_number_counts_as_seconds(self):
         self.assertEqual(read('{"version": 1, "written": 5}').written, 5.0)
+        self.assertEqual(read('{"version": 1, "written": 34359738367}').written, 34359738367.0)
 
     def test_what_is_no_state_is_refused_by_its_field(self):
         for text, said in (
             ("", "Expecting value"), ("[]", "version"), ('{"version": 2}', "version 1"), ('{"version": 1, "radios": 3}', "state.radios has another type"),
             ('{"version": 1, "run": []}', "state.run is no table"), ('{"version": 1, "links": [{"port": "123"}]}', "state.links.0.port"),
+            ('{"version": 1, "written": NaN}', "state.written is out of range"), ('{"version": 1, "written": 34359738368}', "state.written is out of range"),
+            ('{"version": 1, "cycle": Infinity}', "state.cycle is out of range"), ('{"version": 1, "written": -1e300}', "state.written is out of range"),
+            ('{"version": 1, "written": %s}' % ("9" * 400), "state.written is out of range"), ('{"version": 1, "keeper_pid": 9007199254740992}', "state.keeper_pid is out of range"),
             ('{"version": 1, "written": true}', "state.written"), ('{"version": 1, "links": [{"port": true}]}', "state.links.0.port"),
         ):
             with self.subTest(text=text), open(self.path, "w", encoding="utf-8") as file:
