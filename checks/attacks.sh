@@ -4,7 +4,7 @@
 #     checks/attacks.sh [CRATE...]
 #
 # It runs `rt ci` for these crates in a copy that has no other wrong bodies. So it begins with what the gate kept on this machine; where nothing is
-# kept, all that these crates stand on is proved first. After the gate it takes some 22 minutes on four processors. It prints what became of each
+# kept, all that these crates stand on is proved first. After the gate it takes 12 to 22 minutes on four processors. It prints what became of each
 # edit, and ends with 1 where one is not refused. Needs rt.
 set -eu
 cd "$(dirname "$0")/.."

@@ -93,6 +93,21 @@ class Ends(unittest.TestCase):
                 self.assertEqual(done.returncode, status, said)
                 self.assertTrue(said or status == 0)
 
+    def test_an_output_that_takes_nothing(self):
+        """A full disk is named, and a reader that has ended needs no sentence."""
+        for program in ("tools/headline.py", "tools/measure_closure.py", "tools/measure_shape.py"):
+            closed = subprocess.Popen(["true"], stdin=subprocess.PIPE)
+            self.addCleanup(closed.stdin.close)
+            closed.wait(10)
+            with open("/dev/full", "wb") as full:
+                for output, said in ((full, b"No space left on device\n"), (closed.stdin, b"")):
+                    with self.subTest(program=program, said=said):
+                        done = subprocess.run([sys.executable, "-B", TOP / program], stdout=output, stderr=subprocess.PIPE, timeout=100)
+                        self.assertEqual(done.returncode, 1)
+                        self.assertEqual(done.stderr.count(b"\n"), said.count(b"\n"), done.stderr)
+                        self.assertTrue(done.stderr.endswith(said))
+                        self.assertNotIn(b"None", done.stderr)
+
     def test_none_is_missing(self):
         """Each program that can be run by itself has a case."""
         programs = {

@@ -32,12 +32,13 @@ from typing import Callable, Iterator
 LEAST = 5_000  # a shorter reduction or gap is noise, in microseconds
 GREATEST = 2_000_000  # the greatest width of a log
 MOST_SAID, LONGEST_SAID = 10, 100  # lines that are no edge: how many are reported a minute, and how much of each
+LONGEST = 4096  # what is kept of a line without an end, in bytes: it is no edge
 END = 2**50  # the moments of a log are below it
 # What is waited for until nothing more can belong to a reduction, in seconds; an edge may reach us some time after it happened.
 SETTLED = 0.2
 # libgpiod 2 and serial_edges.py: "12.345678901 rising gpiochip0 17"; libgpiod 1: "event: RISING EDGE offset: 17 timestamp: [12.345678901]".
-EDGE = re.compile(rb"\s*(?P<seconds>\d+)\.(?P<part>\d{1,9})\s+(?P<edge>rising|falling)\b")
-EDGE_1 = re.compile(rb"event:\s*(?P<edge>RISING|FALLING) EDGE\b.*\[\s*(?P<seconds>\d+)\.(?P<part>\d{1,9})\]")
+EDGE = re.compile(rb"\s*(?P<seconds>\d{1,20})\.(?P<part>\d{1,9})\s+(?P<edge>rising|falling)\b")
+EDGE_1 = re.compile(rb"event:\s*(?P<edge>RISING|FALLING) EDGE\b.*\[\s*(?P<seconds>\d{1,20})\.(?P<part>\d{1,9})\]")
 
 
 def read_edge(line: bytes) -> tuple[int, bool] | None:
@@ -129,6 +130,7 @@ def lines_of(file: int, reductions: Reductions) -> Iterator[bytes]:
             break
         *lines, rest = (rest + piece).split(b"\n")
         yield from lines
+        rest = rest[:LONGEST]
     if rest:
         yield rest
 

@@ -143,6 +143,12 @@ class Edges(unittest.TestCase):
         shown = ["\\x1b[31mred", "n" * 100, *noise[2:10]]
         self.assertEqual(said, "".join(f"no edge: {line}\n" for line in shown) + "2 more lines were no edge\n")
 
+    def test_a_line_without_an_end(self):
+        """It takes no memory, and an edge after it counts. Nor is a number that never ends a moment."""
+        written, said = feed("x" * 10_000_000 + "\n1.0 rising\n1.1 falling\n" + "9" * 5000 + ".0 rising\n")
+        self.assertEqual(written, "1000000 100000\n")
+        self.assertEqual(said, f"no edge: {'x' * 100}\nno edge: {'9' * 100}\n")
+
     def test_a_clock_that_is_not_monotonic(self):
         """The realtime clock is beyond the moments of a log: it is said once."""
         text = "1789000000.0 rising\n1789000000.1 falling\n1.0 rising\n1.1 falling\n"

@@ -18,6 +18,7 @@ somewhere on the page. Each link to a definition elsewhere gets its line, and ea
 """
 
 import argparse
+import os
 import re
 import sys
 from collections.abc import Iterator
@@ -225,7 +226,14 @@ def main() -> int:
     if made != text and not asked.write:
         print(f"headline: {PAGE} is not what specs/ make of it: run tools/headline.py --write", file=sys.stderr)
         return 1
-    print("headline: " + "; ".join(f"{what}: {size}" for what, size in maker.sizes().items()))
+    try:
+        print("headline: " + "; ".join(f"{what}: {size}" for what, size in maker.sizes().items()), flush=True)
+    except OSError as why:
+        # What stands in the buffer has nowhere to go: whoever read has ended, or its disk is full.
+        os.dup2(os.open(os.devnull, os.O_WRONLY), sys.stdout.fileno())
+        if not isinstance(why, BrokenPipeError):
+            print(f"headline: {why.strerror}", file=sys.stderr)
+        return 1
     return 0
 
 

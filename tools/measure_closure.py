@@ -7,6 +7,7 @@ Without a name it measures the headline's record (station_report.Headline.IsServ
 without comments, the files that they stand in, and Rust's own types that they name. With --list the lines by file follow.
 """
 
+import os
 import sys
 from collections import Counter
 from pathlib import Path
@@ -22,8 +23,8 @@ def lines_of(definition: Definition) -> tuple[int, int]:
     return len(definition.comment) + len(definition.lines), len(bare)
 
 
-def main() -> int:
-    """Measures each name that is given."""
+def measure() -> int:
+    """Measures each name that is given. Raises OSError."""
     words = [word for word in sys.argv[1:] if word != "--list"] or [HEADLINE]
     specs = Specs(Path(__file__).resolve().parent.parent)
     print(f"{'definition':44}{'definitions':>12}{'lines':>8}{'bare':>8}{'files':>8}{'types':>8}")
@@ -42,7 +43,20 @@ def main() -> int:
         if "--list" in sys.argv:
             for (crate, file), lines in sorted(files.items(), key=lambda item: -item[1]):
                 print(f"    {crate}/specs/{file}.antt {lines}")
+    sys.stdout.flush()
     return 0
+
+
+def main() -> int:
+    """Measures, and says in a sentence why that can't be done."""
+    try:
+        return measure()
+    except OSError as fault:
+        # What stands in the buffer has nowhere to go: whoever read has ended, or its disk is full.
+        os.dup2(os.open(os.devnull, os.O_WRONLY), sys.stdout.fileno())
+        if not isinstance(fault, BrokenPipeError):
+            print(f"measure_closure: {fault.strerror}", file=sys.stderr)
+        return 1
 
 
 if __name__ == "__main__":

@@ -123,7 +123,7 @@ def main() -> int:
     except UnicodeDecodeError:
         print("measure_shape.py: a file is not UTF-8", file=sys.stderr)
     except OSError as fault:
-        print(f"measure_shape.py: {fault.filename}: {fault.strerror}", file=sys.stderr)
+        print("measure_shape.py: " + ": ".join(filter(None, (fault.filename and str(fault.filename), fault.strerror))), file=sys.stderr)
     return 1
 
 
