@@ -1,4 +1,4 @@
-"""The command line of the keeper: its words, and how a command ends when it can't be done."""
+"""The keeper's command line, how a command ends when it can't be done, and sentences on what the program, a process or the host says."""
 
 import argparse
 import re

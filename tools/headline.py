@@ -18,7 +18,6 @@ somewhere on the page. Each link to a definition elsewhere gets its line, and ea
 """
 
 import argparse
-import os
 import re
 import sys
 from collections.abc import Iterator
@@ -40,6 +39,7 @@ from quoted_lines import (
     wrapped,
 )
 from reading_list import ReadingList, Size, size_of
+from refused_output import end_of_output
 
 HEADLINE = "station_report.Headline.IsServed"
 PAGE = "docs/HEADLINE.md"
@@ -229,11 +229,7 @@ def main() -> int:
     try:
         print("headline: " + "; ".join(f"{what}: {size}" for what, size in maker.sizes().items()), flush=True)
     except OSError as why:
-        # What stands in the buffer has nowhere to go: whoever read has ended, or its disk is full.
-        os.dup2(os.open(os.devnull, os.O_WRONLY), sys.stdout.fileno())
-        if not isinstance(why, BrokenPipeError):
-            print(f"headline: {why.strerror}", file=sys.stderr)
-        return 1
+        return end_of_output("headline", why)
     return 0
 
 

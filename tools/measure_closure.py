@@ -7,12 +7,12 @@ Without a name it measures the headline's record (station_report.Headline.IsServ
 without comments, the files that they stand in, and Rust's own types that they name. With --list the lines by file follow.
 """
 
-import os
 import sys
 from collections import Counter
 from pathlib import Path
 
 from antt_names import Definition, Name, Specs
+from refused_output import end_of_output
 
 HEADLINE = "station_report.Headline.IsServed"
 
@@ -52,11 +52,7 @@ def main() -> int:
     try:
         return measure()
     except OSError as fault:
-        # What stands in the buffer has nowhere to go: whoever read has ended, or its disk is full.
-        os.dup2(os.open(os.devnull, os.O_WRONLY), sys.stdout.fileno())
-        if not isinstance(fault, BrokenPipeError):
-            print(f"measure_closure: {fault.strerror}", file=sys.stderr)
-        return 1
+        return end_of_output("measure_closure", fault)
 
 
 if __name__ == "__main__":

@@ -9,7 +9,6 @@ Comments count in the lines of files alone.
 """
 
 import argparse
-import os
 import sys
 import textwrap
 from collections.abc import Callable
@@ -17,6 +16,7 @@ from dataclasses import dataclass
 from pathlib import Path
 
 from rattle_source import CLAUSE, DEFINITIONS, GHOST_IMPORT, PROOFS, SOURCE, TEST_PROOFS, TESTS
+from refused_output import end_of_output
 from shape_rows import RECEIVER_LAMBDA, STATE_LAMBDA, Checkout, Count, read_checkout
 from shape_rows import definition_arguments, files_of, lambdas, pairs, parameters, plan_files, uncommented, undocumented, wide
 
@@ -117,14 +117,11 @@ def main() -> int:
         sys.stdout.writelines(f"{place.path}:{place.line} {place.note}\n" for place in found[0].places)
         sys.stdout.flush()
         return 0
-    except BrokenPipeError:
-        # Whoever read has ended. What stands in the buffer has nowhere to go.
-        os.dup2(os.open(os.devnull, os.O_WRONLY), sys.stdout.fileno())
     except UnicodeDecodeError:
         print("measure_shape.py: a file is not UTF-8", file=sys.stderr)
+        return 1
     except OSError as fault:
-        print("measure_shape.py: " + ": ".join(filter(None, (fault.filename and str(fault.filename), fault.strerror))), file=sys.stderr)
-    return 1
+        return end_of_output("measure_shape.py", fault)
 
 
 if __name__ == "__main__":
