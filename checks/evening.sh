@@ -1,7 +1,7 @@
 #!/bin/sh
 # Follows docs/FIRST_EVENING.md from its first line on, in a Debian of its own in which nothing is installed but what debootstrap puts there: its commands,
 # as they stand in the page, one after the other. A receiver in software stands in the place of gpiomon, which has no pin here, and writes as libgpiod 1 does. It
-# takes a quarter of an hour, most of it waiting for minutes, and 500 MB of disk, and isn't in the gate. Needs root, debootstrap and the network of Debian's packages;
+# takes twenty minutes, most of it waiting for minutes, and 500 MB of disk, and isn't in the gate. Needs root, debootstrap and the network of Debian's packages;
 # DEBIAN names a folder with a bare Debian, which is copied. RADIO_NTPD names the program where it isn't the one of this folder.
 #
 #     checks/evening.sh
@@ -107,11 +107,11 @@ has 7 '^nothing to mend$'
 [ $told = 0 ] || wrong "the check ends with $told"
 nsenter --net="/proc/$network/ns/net" chroot "$host" sh -c "cd $home && exec $(step 8)" > "$work/step.8" 2>&1 &
 keeper=$!
-# Five minutes after the first minute mark there is a time.
+# Eight minutes after the first minute mark there is a time.
 turns=0
 until inside './radio_keeper status' > "$work/step.9" 2>&1; do
     turns=$((turns + 1))
-    [ $turns -lt 84 ] || { wrong "no time after seven minutes: $(head -n 3 "$work/step.9"; tail -n 3 "$work/step.8")"; break; }
+    [ $turns -lt 120 ] || { wrong "no time after ten minutes: $(head -n 3 "$work/step.9"; tail -n 3 "$work/step.8")"; break; }
     sleep 5
 done
 has 9 '^OK: time from DCF, stratum 1'
