@@ -46,7 +46,12 @@ grep -q 'radio_keeper check' "$work/installed" || wrong "the next step isn't sai
 [ -z "$(inside dpkg --verify radio-ntpd)" ] || wrong "what is installed isn't what was packed: $(inside dpkg --verify radio-ntpd)"
 [ "$(inside radio_keeper --version)" = "radio_keeper $(sed -n 's/^VERSION = "\(.*\)"$/\1/p' keeper/__init__.py)" ] || wrong 'the keeper says another version'
 [ "$(inside radio_ntpd drill --seed 7 | tail -n 1)" = 'status 0' ] || wrong 'the program does no drill'
-[ "$(inside stat -c '%U %G %a' /etc/radio_ntpd/station.toml)" = 'root radio_ntpd 640' ] || wrong 'the station file can be read by others'
+for file in keeper station; do
+    [ "$(inside stat -c '%U %G %a' /etc/radio_ntpd/$file.toml)" = 'root radio_ntpd 640' ] || wrong "others can read $file.toml"
+done
+# Root may call what is installed, and nothing of it is left behind.
+printf '0 62000000 verdict 3976257660 0\n0 122000000 verdict 3976257720 0\n' > "$host/tmp/journal"
+inside /usr/lib/radio_ntpd/tools/plot_journal.py --day /tmp/day.svg /tmp/journal || wrong 'no picture of a day is drawn'
 for page in man1/radio_keeper.1 man5/radio_ntpd.toml.5 man8/radio_ntpd.8; do
     gzip -t "$host/usr/share/man/$page.gz" || wrong "there is no page $page"
 done

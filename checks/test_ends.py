@@ -65,6 +65,8 @@ CASES = [
     ("checks/model.py", "--one station 100000", 1),
     ("checks/receiver.py", "", 2),
     ("checks/pacing.py", "x", 2),
+    ("tools/entry_times.py", "--nosuch", 2),
+    ("tools/entry_times.py", "/nosuch", 1),
     ("tools/headline.py", "--nosuch", 2),
     ("tools/headline.py", "--help", 0),
     ("tools/measure_closure.py", "nonsense", 1),

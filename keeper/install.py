@@ -12,6 +12,9 @@ USER = "radio_ntpd"
 GROUPS = ("gpio", "dialout")
 HOME = "/var/lib/radio_ntpd"
 SETTINGS = "/etc/radio_ntpd"
+# Of tools/ those for users. A picture of a day works pages out by the model that the checks have.
+TOOLS = ("entry_times.py", "journal_text.py", "plot_journal.py", "plots.py", "refused_output.py", "summary.sh", "svg_chart.py")
+MODEL = ("__init__.py", "entry.py", "figures.py", "notes.py", "page.py", "selection.py", "units.py")
 PAGES = {"radio_ntpd.8": "man8", "radio_keeper.1": "man1", "radio_ntpd.toml.5": "man5"}
 TOP = pathlib.Path(__file__).resolve().parent.parent
 
@@ -67,22 +70,33 @@ def steps(places: Places, program: str) -> list[Step]:
     """Files alone, in their order."""
     found = [make_folder(places.library), make_folder(f"{places.library}/bin")]
     found += [put_file(pathlib.Path(program).read_bytes(), f"{places.library}/bin/radio_ntpd", 0o755), put_file((TOP / "radio_keeper").read_bytes(), f"{places.library}/radio_keeper", 0o755)]
-    found += [put_folder(str(TOP / folder), f"{places.library}/{folder}", scripts(folder)) for folder in ("keeper", "feeders", "tools")]
+    folders = {"keeper": scripts("keeper"), "feeders": scripts("feeders"), "tools": list(TOOLS), "checks/model": list(MODEL)}
+    found += [put_folder(str(TOP / folder), f"{places.library}/{folder}", names) for folder, names in folders.items()]
     found += [put_link(target, path) for path, target in places.links.items()]
     found += [put_file((TOP / "docs" / name).read_bytes(), path, 0o644) for name, path in places.pages.items()]
     found.append(put_file(adapted(TOP / "packaging/radio_ntpd.service", places.prefix), places.unit, 0o644))
-    found.append(keep_file(adapted(TOP / "packaging/keeper.toml", places.prefix), f"{places.settings}/keeper.toml", 0o644))
+    found.append(keep_file(adapted(TOP / "packaging/keeper.toml", places.prefix), f"{places.settings}/keeper.toml", 0o640))
     found.append(keep_file((TOP / "packaging/station.toml").read_bytes(), f"{places.settings}/station.toml", 0o640))
     return found
+
+
+def join_group(group: str) -> Step:
+    text = f"put {USER} into the group {group}, whose devices it then may read"
+    return Step(text, lambda: True, lambda: command("usermod", "-aG", group, USER))
+
+
+def let_read(path: str) -> Step:
+    """The service's group may read a file of settings, and nobody else: it may have keys, or a command with a password."""
+    text = f"let the group {USER} read {path}, which may have what isn't for everybody"
+    return Step(text, lambda: not is_of_group(path, USER), lambda: command("chgrp", USER, path))
 
 
 def host_steps(places: Places, is_new: bool) -> list[Step]:
     """The user and its groups, and what systemd has to know; not done below another root. `is_new`: whether a file is written."""
     groups = groups_for(USER, GROUPS)
-    station = f"{places.settings}/station.toml"
     found = [Step(f"make the system user {USER}", lambda: not has_user(USER), lambda: command("useradd", "--system", "--user-group", "--home-dir", HOME, "--shell", "/usr/sbin/nologin", USER))]
-    found += [Step(f"put {USER} into the group {one}, whose devices it then may read", lambda: True, lambda one=one: command("usermod", "-aG", one, USER)) for one in groups]
-    found.append(Step(f"let the group {USER} read {station}, which may have keys", lambda: not is_of_group(station, USER), lambda: command("chgrp", USER, station)))
+    found += [join_group(one) for one in groups]
+    found += [let_read(f"{places.settings}/{name}") for name in ("keeper.toml", "station.toml")]
     if os.path.isdir("/run/systemd/system"):
         found.append(Step("have systemd read its units anew", lambda: True, lambda: command("systemctl", "daemon-reload")))
         found.append(Step("start the service again, if it runs", lambda: is_new, lambda: command("systemctl", "try-restart", USER)))
@@ -125,7 +139,7 @@ def install(asked: argparse.Namespace, places: Places, here: bool) -> None:
         if not os.access(program, os.X_OK):
             raise Fault(f"there is no built program {program}: build it, or name it with --program")
         if not asked.program and (source := newer_source(pathlib.Path(program))):
-            raise Fault(f"{source} is newer than the program: run ./radio_ntpd once, which builds it again, or name a program with --program")
+            raise Fault(f"the program is older than {source}: run ./radio_ntpd once, which builds it again where that is needed, or name a program with --program")
         todo = steps(places, program)
         if here:
             todo += host_steps(places, any(step.needed() for step in todo))

@@ -53,8 +53,9 @@ def main(given: list[str], command: str = "status") -> int:
 
 
 def folder_of(config: str | None) -> str:
-    """The folder that a keeper's file names. The station file isn't read, so that nobody has to see its keys to see the state. Raises Fault."""
-    path = config or next((one for one in FILES if os.path.exists(one)), None)
+    """The folder that a keeper's file names. The station file isn't read, so that nobody has to see its keys to see the state; who
+    may not read the installed keeper's file has the folder that it names as it is installed. Raises Fault."""
+    path = config or next((one for one in FILES if os.access(one, os.R_OK)), None)
     if path is None:
         return FOLDER
     return os.path.join(os.path.dirname(os.path.abspath(path)), str(read(path)[0].get("state", "state")))

@@ -1,5 +1,7 @@
 """Steps of an installation: each says what it does before it does it."""
 
+import ctypes
+import errno
 import grp
 import os
 import pwd
@@ -11,6 +13,7 @@ from dataclasses import dataclass
 from keeper.words import Fault
 
 LIMIT = 60.0  # for a command of the host, in seconds
+AT_FDCWD, RENAME_EXCHANGE = -100, 2  # linux/fcntl.h, linux/fs.h
 
 
 @dataclass
@@ -111,6 +114,34 @@ def put_link(target: str, path: str) -> Step:
     return Step(f"link {path} to {target}", lambda: not os.path.islink(path) or os.readlink(path) != target, make)
 
 
+def swap(one: str, other: str) -> bool:
+    """Gives each of two folders the other's name at once (renameat2(2)); False where the host or its file system can't. Raises OSError."""
+    library = ctypes.CDLL(None, use_errno=True)
+    if not hasattr(library, "renameat2"):
+        return False
+    if library.renameat2(AT_FDCWD, os.fsencode(one), AT_FDCWD, os.fsencode(other), RENAME_EXCHANGE) == 0:
+        return True
+    refused = ctypes.get_errno()
+    if refused not in (errno.EINVAL, errno.ENOSYS):
+        raise OSError(refused, os.strerror(refused), other)
+    return False
+
+
+def put_in_place(new: str, path: str) -> None:
+    """Gives a folder the place of another one, which has the name `new` then, where there is one. Raises OSError."""
+    if not os.path.isdir(path):
+        os.rename(new, path)
+    elif not swap(new, path):
+        old = f"{new}.old"
+        os.rename(path, old)
+        try:
+            os.rename(new, path)
+        except OSError:
+            os.rename(old, path)
+            raise
+        os.rename(old, new)
+
+
 def put_folder(source: str, path: str, names: list[str]) -> Step:
     """A folder with these files of another one, and nothing else in it."""
 
@@ -131,11 +162,9 @@ def put_folder(source: str, path: str, names: list[str]) -> Step:
                 target = os.path.join(part, one)
                 shutil.copyfile(os.path.join(source, one), target)
                 os.chmod(target, 0o755 if os.access(os.path.join(source, one), os.X_OK) else 0o644)
-            shutil.rmtree(path, ignore_errors=True)
-            os.rename(part, path)
-        except OSError:
+            put_in_place(part, path)
+        finally:
             shutil.rmtree(part, ignore_errors=True)
-            raise
 
     return Step(f"copy {len(names)} files to {path}", differs, copy)
 

@@ -21,6 +21,12 @@ umask 022
 # Without --program it refuses one that is older than its sources.
 ./radio_keeper install --do --root "$package" --prefix /usr ${RADIO_NTPD:+--program "$RADIO_NTPD"} > "$work/installed"
 
+# postinst puts the examples where settings go, unless there are some: dpkg would ask about a conffile that another installation left.
+mkdir -p "$package/usr/share/radio_ntpd"
+mv "$package/etc/radio_ntpd/keeper.toml" "$package/etc/radio_ntpd/station.toml" "$package/usr/share/radio_ntpd/"
+chmod 644 "$package/usr/share/radio_ntpd/"*
+rmdir "$package/etc/radio_ntpd" "$package/etc"
+
 # Pages are packed as Debian's policy has it, without a date, so that the same sources give the same package.
 find "$package/usr/share/man" -type f -exec gzip -9 -n {} +
 mkdir -p "$package/usr/share/doc/radio-ntpd"
@@ -33,7 +39,6 @@ cp -r docs/*.md docs/pictures "$package/usr/share/doc/radio-ntpd/docs/"
 
 size=$(du -sk "$package" | cut -f 1)
 sed -e "s/@VERSION@/$version/; s/@ARCHITECTURE@/$architecture/; s/@SIZE@/$size/" packaging/debian/control > "$package/DEBIAN/control"
-printf '/etc/radio_ntpd/keeper.toml\n/etc/radio_ntpd/station.toml\n' > "$package/DEBIAN/conffiles"
 for script in postinst prerm postrm; do
     install -m 755 "packaging/debian/$script" "$package/DEBIAN/$script"
 done

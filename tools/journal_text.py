@@ -6,6 +6,7 @@ import pathlib
 import statistics
 import sys
 import tomllib
+from types import ModuleType
 from typing import NamedTuple
 
 UNIT = 2**32  # units of an offset in a second
@@ -131,7 +132,9 @@ def read_station(name: str) -> Station:
     radios, servers = table.get("radio", []), table.get("server", [])
     if any(not isinstance(rows, list) or not all(isinstance(row, dict) for row in rows) for rows in (radios, servers)) or not isinstance(table.get("bound", 1000), int):
         raise ValueError("radio and server are tables, and bound is a whole number")
-    kinds = [str(radio.get("plan")) for radio in radios] + ["server"] * len(servers)
+    if any(radio.get("plan") not in PLANS for radio in radios):
+        raise ValueError("a radio has no plan: is it the keeper's file? Its `station` names the station file")
+    kinds = [str(radio["plan"]) for radio in radios] + ["server"] * len(servers)
     names = [PLANS.get(kind, kind) for kind in kinds[: len(radios)]] + [f"{server.get('address')}:{server.get('port')}" for server in servers]
     if "leap_file" in table:
         kinds.append("leap")
@@ -154,17 +157,17 @@ def name_of(station: Station, feed: int) -> str:
     return station.names[feed] if feed < len(station.names) else f"feed {feed}"
 
 
-def page_model():
-    """The program that works a page out from entries (docs/PAGE.md), or None where it isn't beside this folder."""
-    folder = str(pathlib.Path(__file__).resolve().parent.parent / "bench")
+def page_model() -> ModuleType:
+    """The model of a page (docs/PAGE.md), which the checks have too."""
+    folder = str(pathlib.Path(__file__).resolve().parent.parent / "checks")
     sys.path.insert(0, folder)
     try:
-        import page_model as model
-    except ImportError:
-        return None
+        from model import page
+    except ImportError as fault:
+        raise FileNotFoundError(2, "--day needs it, and it isn't there", f"{folder}/model/page.py") from fault
     finally:
         sys.path.remove(folder)
-    return model
+    return page
 
 
 class Moment(NamedTuple):
@@ -175,27 +178,28 @@ class Moment(NamedTuple):
     dispersion: float
 
 
+def numbers_of(entry: Entry) -> tuple[int, ...]:
+    """The numbers of an entry; the address of a sample's server is written in hexadecimal digits."""
+    address = 4 if entry.kind == "sample" else None
+    return tuple(int(field, 16 if place == address else 10) for place, field in enumerate(entry.fields))
+
+
 def reported_each_minute(run: Run, station: Station) -> list[Moment]:
     """What clients were given at each minute of a run, by the pages of its entries up to there."""
     model = page_model()
-    if model is None:
-        raise OSError("bench/page_model.py, which works pages out, isn't beside tools/")
     moments: list[Moment] = []
-    recent: dict[int, collections.deque] = collections.defaultdict(lambda: collections.deque(maxlen=9))
     entries = sorted((entry for entry in run.entries if entry.feed < len(station.kinds)), key=lambda entry: entry.at)
-    # A sample counts among the last eight of its feed; what isn't one gives no time.
+    # What is no sample and no word of a radio changes no field but the page's length and moment.
     telling = [entry for entry in entries if entry.kind in ("verdict", "sample", "notice")]
-    place, fields = 0, model.page([], station.kinds, station.bound).split()
-    for at in range(entries[0].at, entries[-1].at + 1, 60_000_000):
-        new = place
-        while new < len(telling) and telling[new].at <= at:
-            entry = telling[new]
-            recent[entry.feed].append(model.parse(f"{entry.feed} {entry.at} {entry.kind} {' '.join(entry.fields)}"))
-            new += 1
-        if new > place:
-            held = sorted((one for feed in recent.values() for one in feed), key=lambda one: one["at"])
-            place, fields = new, model.page(held, station.kinds, station.bound).split()
-        has_time = fields[2] == "1" and at < int(fields[7])
-        dispersion = int(fields[9]) / 65536 + 15e-6 * (at - int(fields[6])) / 1e6 if fields[2] == "1" else 16.0
-        moments.append(Moment(unix_of(run, at), has_time, dispersion))
+    journal = model.Journal(station.kinds, station.bound)
+    place = 0
+    for at in range(entries[0].at, entries[-1].at + 1, 60_000_000) if entries else ():
+        while place < len(telling) and telling[place].at <= at:
+            entry = telling[place]
+            journal.add(model.Entry(entry.feed, entry.at, entry.kind, numbers_of(entry)))
+            place += 1
+        page = journal.page
+        grown = 15e-6 * (at - page.anchor) / 1e6
+        dispersion = page.root_dispersion / 65536 + grown if page.sync else 16.0
+        moments.append(Moment(unix_of(run, at), page.sync and at < page.until, dispersion))
     return moments

@@ -20,11 +20,27 @@ import argparse
 import pathlib
 import sys
 
-import plots
-from journal_text import Run, Station, line_through, read_journal, read_station, run_of, station_of, reported_each_minute
+sys.dont_write_bytecode = True  # where it is installed, nothing of it is left at its removal
+
+import plots  # noqa: E402
+from journal_text import (  # noqa: E402
+    Entry,
+    Run,
+    Station,
+    line_through,
+    read_entry,
+    read_journal,
+    read_station,
+    reported_each_minute,
+    run_of,
+    station_of,
+)
 
 FEEDERS = pathlib.Path(__file__).resolve().parent.parent / "feeders"
 MOST = 500.0  # the most that a phase is off, in milliseconds
+LONGEST = 19  # digits of a number of a log
+# What a picture's name may not end in, since each is written as SVG.
+OTHER_FORMS = (".png", ".jpg", ".jpeg", ".gif", ".pdf", ".webp")
 
 
 class Fault(Exception):
@@ -40,22 +56,51 @@ def phases_of(log: str) -> list[tuple[int, float, float]]:
     sys.path.insert(0, str(FEEDERS))
     from steady import Steady, around  # the feeder stands in a folder of its own
 
-    steady, put = Steady(), 0
+    steady = Steady()
     starts: list[tuple[int, int]] = []
-    with open(log, encoding="ascii", errors="replace") as file:
+    with open(log, encoding="ascii", errors="replace", newline="\n") as file:
         for line in file:
-            fields = line.split()
-            if len(fields) == 2 and fields[0].isdigit():
-                put = steady.start(int(fields[0]))
-                if steady.second == [int(fields[0])] and steady.phases.marks:
-                    starts.append((int(fields[0]), put))
+            if line.endswith("\r\n"):
+                raise Fault(f"{log} has lines that end in CR LF, which no command reads: `tr -d '\\r'` mends it")
+            if not starts and read_entry(line):
+                raise Fault(f"{log} is a journal, and --phase draws a radio's log")
+            if is_pulse(line):
+                start = int(line.split()[0])
+                put = steady.start(start)
+                if steady.second == [start] and steady.phases.marks:
+                    starts.append((start, put))
     if len(starts) < 2:
         raise Fault(f"{log} has no marks that agree on a phase")
-    phases = [(starts[0][0], 0.0)]
+    phases = [(float(starts[0][0]), 0.0)]
     for (_, before), (at, put) in zip(starts, starts[1:]):
         phases.append((at, phases[-1][1] + around(put - before)))
     level, slope = line_through(phases)
-    return [(at, (due := phase - level - slope * at) / 1000 + (at - put) / 1000, due / 1000) for (at, phase), (_, put) in zip(phases, starts)]
+    drawn = []
+    for (_, phase), (at, put) in zip(phases, starts):
+        off = phase - level - slope * at
+        drawn.append((at, (off + at - put) / 1000, off / 1000))
+    return drawn
+
+
+def is_pulse(line: str) -> bool:
+    """Whether a line is a log's, START WIDTH, as steady.py reads them."""
+    fields = line.split()
+    return len(fields) == 2 and all(field.isdigit() and len(field) <= LONGEST for field in fields)
+
+
+def has_pulses(name: str) -> bool:
+    """Whether a file that has no entry has a line of a log."""
+    with open(name, encoding="ascii", errors="replace") as file:
+        return any(is_pulse(line) for line in file)
+
+
+def entries_of(names: list[str]) -> list[list[Entry]]:
+    """The entries of some journals, of which one at least has some."""
+    journals = [read_journal(name) for name in names]
+    if not any(journals):
+        log = next((name for name in names if has_pulses(name)), None)
+        raise Fault(f"{log} is a radio's log: decode it first" if log else f"{names[0]} has no entry")
+    return journals
 
 
 def write(name: str, picture: str) -> None:
@@ -69,10 +114,8 @@ def draw(words: argparse.Namespace) -> None:
         write(words.phase, plots.phase(phases_of(words.files[0]), MOST))
     if not (words.reception or words.offsets or words.day):
         return
-    journals = [read_journal(name) for name in words.files]
+    journals = entries_of(words.files)
     entries = [entry for journal in journals for entry in journal]
-    if not entries:
-        raise Fault(f"{words.files[0]} has no entry")
     station = station_named(words.station) if words.station else station_of(entries)
     if words.reception:
         write(words.reception, plots.reception(entries, station))
@@ -81,7 +124,10 @@ def draw(words: argparse.Namespace) -> None:
     if words.day:
         runs = [run for journal in journals if (run := run_of(journal))]
         has_time(runs[0] if runs else None, words.files[0])
-        write(words.day, plots.day(runs, [reported_each_minute(run, station) for run in runs], station))
+        moments = [reported_each_minute(run, station) for run in runs]
+        if not all(moments):
+            raise Fault(f"{words.station} has none of the feeds of a journal")
+        write(words.day, plots.day(runs, moments, station))
 
 
 def station_named(name: str) -> Station:
@@ -106,6 +152,10 @@ def read_words() -> argparse.Namespace:
     asked = words.parse_args()
     if not any(getattr(asked, picture.dest) for picture in pictures):
         words.error("say which picture, as --offsets offsets.svg")
+    for picture in pictures:
+        name = getattr(asked, picture.dest)
+        if name and name.lower().endswith(OTHER_FORMS):
+            words.error(f"--{picture.dest} {name}: each picture is SVG; give it a name that ends in .svg")
     if asked.phase and (len(asked.files) > 1 or asked.reception or asked.offsets or asked.day):
         words.error("--phase goes with one log and no other picture")
     return asked
@@ -118,7 +168,10 @@ def main() -> int:
     except NoStation as fault:
         print(fault, file=sys.stderr)
         return 1
-    except (OSError, Fault) as fault:
+    except OSError as fault:
+        print(f"plot_journal.py: {fault.filename or 'the host'}: {fault.strerror}", file=sys.stderr)
+        return 1
+    except Fault as fault:
         print(f"plot_journal.py: {fault}", file=sys.stderr)
         return 1
     return 0

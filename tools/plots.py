@@ -99,17 +99,26 @@ def order_of(label: str) -> tuple[int, int]:
     return (1, int(label[5:])) if label.startswith("rule ") else (0, KINDS.index(label))
 
 
-def bars_of(entries: list[Entry], labels: dict[str, str], first: int, scale: Scale, name: str) -> Panel:
-    """How many entries of each label a feed has in each step, one above the other."""
+def bars_of(
+    entries: list[Entry], labels: dict[str, str], first: int, scale: Scale, name: str
+) -> Panel:
+    """How many entries of each label a feed has in each step, one above the other.
+
+    A step begins half a minute before the first entry of the feed: entries come once a minute, and
+    jitter is to move none of them over a border.
+    """
     panel = Panel(f"{name}\nentries", 140)
-    counts = collections.Counter((label_of(entry), int((entry.at - first) // (scale.step * scale.unit))) for entry in entries)
+    begin = min(entry.at for entry in entries) - MINUTE // 2
+    step = scale.step * scale.unit
+    counts = collections.Counter((label_of(one), int((one.at - begin) // step)) for one in entries)
     below: collections.Counter[int] = collections.Counter()
     for label, colour in labels.items():
         for (_, bar), count in sorted((key, count) for key, count in counts.items() if key[0] == label):
-            panel.shapes.append(Bar((bar + 0.05) * scale.step, (bar + 0.95) * scale.step, below[bar], below[bar] + count, colour))
+            left, right = (((bar + part) * step + begin - first) / scale.unit for part in (0.05, 0.95))
+            panel.shapes.append(Bar(left, right, below[bar], below[bar] + count, colour))
             panel.key[label] = colour
             below[bar] += count
-    panel.axis = round_axis(list(below.values()), 4, has_zero=True)
+    panel.axis = round_axis([float(high) for high in below.values()], 4, has_zero=True)
     return panel
 
 
@@ -135,8 +144,13 @@ def reception(entries: list[Entry], station: Station) -> str:
     first, last = min(entry.at for entry in entries), max(entry.at for entry in entries)
     scale = scale_of(last - first)
     feeds = sorted({entry.feed for entry in entries})
-    panels = [bars_of([entry for entry in entries if entry.feed == feed], labels, first, scale, name_of(station, feed)) for feed in feeds]
-    return picture(panels, round_axis([0.0, (last - first) / scale.unit], 10, has_zero=True), scale.name, begin_of(run_of(entries)))
+    panels = [
+        bars_of([entry for entry in entries if entry.feed == feed], labels, first, scale, name_of(station, feed))
+        for feed in feeds
+    ]
+    half = MINUTE / 2 / scale.unit
+    across = round_axis([-half, (last - first) / scale.unit + half], 10, has_zero=True)
+    return picture(panels, across, scale.name, begin_of(run_of(entries)))
 
 
 def offsets(run: Run, station: Station) -> str:

@@ -10,7 +10,9 @@ TOP, BETWEEN, BELOW = 26, 14, 44
 LETTERS = 12
 INK, GRID = "#222222", "#dddddd"
 HOUR = 3600
-HOURS = (1, 2, 3, 6, 12, 24, 48, 96, 168)  # between two ticks of UTC
+# Between two ticks of UTC, in seconds, and how many steps an axis has at most.
+STEPS = (60, 120, 300, 600, 1800, *(HOUR * hours for hours in (1, 2, 3, 6, 12, 24, 48, 96, 168)))
+MOST_STEPS = 9
 Point = tuple[float, float]
 
 
@@ -106,8 +108,8 @@ def log_axis(low: float, high: float, ticks: tuple[float, ...]) -> Axis:
 
 
 def utc_axis(first: float, last: float) -> Axis:
-    """An axis of UTC, in seconds since 1970: hours, and at midnight the day."""
-    step = HOUR * next((hours for hours in HOURS if (last - first) / HOUR / hours <= 9), HOURS[-1])
+    """An axis of UTC, in seconds since 1970: hours and minutes, and at midnight the day."""
+    step = next((step for step in STEPS if (last - first) / step <= MOST_STEPS), STEPS[-1])
     ticks = [at for at in range(math.ceil(first / step) * step, math.floor(last) + 1, step)]
     return Axis(first, last, [(at, time.strftime("%H:%M" if at % (24 * HOUR) else "%Y-%m-%d", time.gmtime(at))) for at in ticks])
 

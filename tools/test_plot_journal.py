@@ -5,8 +5,10 @@
 """
 
 import math
+import os
 import pathlib
 import random
+import shutil
 import subprocess
 import sys
 import tempfile
@@ -16,8 +18,20 @@ import xml.etree.ElementTree
 HERE = pathlib.Path(__file__).resolve().parent
 sys.path.insert(0, str(HERE))
 
-from journal_text import due, line_through, read_entry, read_journal, read_station, run_of, station_of, reported_each_minute, unix_of  # noqa: E402
-from plots import begin_of, offset_axis, scale_of, shade, spread_of  # noqa: E402
+from journal_text import (  # noqa: E402
+    due,
+    line_through,
+    numbers_of,
+    page_model,
+    read_entry,
+    read_journal,
+    read_station,
+    reported_each_minute,
+    run_of,
+    station_of,
+    unix_of,
+)
+from plots import bars_of, begin_of, offset_axis, scale_of, shade, spread_of  # noqa: E402
 from svg_chart import Band, Bar, Line, Panel, log_axis, picture, round_axis, utc_axis  # noqa: E402
 
 SVG = "{http://www.w3.org/2000/svg}"
@@ -66,7 +80,8 @@ class Reading(unittest.TestCase):
         self.assertEqual(station.bound, 50)
 
     def test_what_is_no_station(self):
-        for text in (b"radio = 3\n", b"server = [1]\n", b'bound = "x"\n', b"bound =\n", b"\xff\n"):
+        keeper = b'station = "station.toml"\n[[radio]]\ncommand = "gpiomon 17"\n'
+        for text in (b"radio = 3\n", b"server = [1]\n", b'bound = "x"\n', b"bound =\n", b"\xff\n", keeper):
             with self.subTest(text=text), tempfile.NamedTemporaryFile("wb") as file:
                 file.write(text)
                 file.flush()
@@ -117,6 +132,70 @@ class Reading(unittest.TestCase):
         self.assertFalse(bounded[71].has_time)
 
 
+    def test_a_sample_is_given_with_its_server(self):
+        """docs/PAGE.md has a sample's address in hexadecimal digits."""
+        sample = read_entry("1 5 sample 17077897383243199545 40802189 8837 2 7f000001 256 512")
+        self.assertEqual(numbers_of(sample), (17077897383243199545, 40802189, 8837, 2, 0x7F000001, 256, 512))
+
+    def test_the_page_of_the_tools_is_that_of_the_page_that_is_worked_out(self):
+        """The journal of docs/PAGE.md, section 10: a minute before the first verdict, and four of them."""
+        model = page_model()
+        journal = model.Journal(["dcf"], 1000)
+        entries = [read_entry(f"0 62000000 lone {NOON}")] + verdicts_at(62, range(1, 5))
+        for entry in entries:
+            journal.add(model.Entry(entry.feed, entry.at, entry.kind, numbers_of(entry)))
+        due = "page 5 1 1 44434600 17077896086183477248 302000000 4364906902 0 61542 ed00e13000000000 0 0"
+        self.assertEqual(journal.page.line(), due)
+
+
+def verdicts_at(first, minutes):
+    """Verdicts of feed 0 on a counter that showed this second at noon."""
+    return [read_entry(f"0 {(first + 60 * one) * 1_000_000} verdict {NOON + 60 * one} 0") for one in minutes]
+
+
+class Columns(unittest.TestCase):
+    """How many entries a column of --reception has."""
+
+    def heights(self, entries):
+        labels = {"verdict": "#000000"}
+        scale = scale_of(entries[-1].at - entries[0].at)
+        return [shape.high for shape in bars_of(entries, labels, entries[0].at, scale, "x").shapes]
+
+    def shaken(self, minutes, seed):
+        """Entries once a minute that are up to 5 ms off either way."""
+        draw = random.Random(seed)
+        return [
+            read_entry(f"0 {60_000_000 * (minute + 1) + draw.randint(-5000, 5000)} verdict {NOON} 0")
+            for minute in range(minutes)
+        ]
+
+    def test_an_hour_of_good_minutes_has_one_in_each_column(self):
+        for seed in range(20):
+            for minutes in (8, 31, 60):
+                self.assertEqual(self.heights(self.shaken(minutes, seed)), [1] * minutes)
+
+    def test_longer_ones_are_as_full_as_they_can_be(self):
+        for seed in range(20):
+            self.assertEqual(self.heights(self.shaken(62, seed)), [5] * 12 + [2])
+            self.assertEqual(self.heights(self.shaken(180, seed)), [5] * 36)
+            self.assertEqual(self.heights(self.shaken(240, seed)), [15] * 16)
+            self.assertEqual(self.heights(self.shaken(1440, seed)), [60] * 24)
+
+    def test_a_minute_that_is_missing_is_a_gap_of_its_own(self):
+        entries = self.shaken(30, 1)
+        del entries[7]
+        panel = bars_of(entries, {"verdict": "#000000"}, entries[0].at, scale_of(60_000_000), "x")
+        middles = [(bar.left + bar.right) / 2 for bar in panel.shapes]
+        self.assertEqual([round(middle) for middle in middles], [*range(7), *range(8, 30)])
+        self.assertTrue(all(bar.right - bar.left < 1 for bar in panel.shapes))
+
+    def test_feeds_that_begin_within_one_another_s_minute_have_their_own_columns(self):
+        other = [entry._replace(at=entry.at - 29_999_000) for entry in self.shaken(31, 2)]
+        first = other[0].at
+        bars = bars_of(self.shaken(31, 3), {"verdict": "#000000"}, first, scale_of(60_000_000), "x").shapes
+        self.assertEqual([bar.high for bar in bars], [1] * 31)
+
+
 class Charts(unittest.TestCase):
     """What svg_chart.py makes of values."""
 
@@ -149,6 +228,15 @@ class Charts(unittest.TestCase):
     def test_hours_of_utc(self):
         axis = utc_axis(NOON_UNIX - 60, NOON_UNIX + 24 * 3600)
         self.assertEqual([letters for _, letters in axis.ticks], ["12:00", "15:00", "18:00", "21:00", "2026-01-02", "03:00", "06:00", "09:00", "12:00"])
+
+    def test_short_stretches_of_utc_have_ticks_too(self):
+        for minutes, said in (
+            (4, ["12:02", "12:03", "12:04", "12:05", "12:06"]),
+            (57, ["12:10", "12:20", "12:30", "12:40", "12:50"]),
+            (180, ["12:30", "13:00", "13:30", "14:00", "14:30", "15:00"]),
+        ):
+            axis = utc_axis(NOON_UNIX + 120, NOON_UNIX + 120 + 60 * minutes)
+            self.assertEqual([letters for _, letters in axis.ticks], said)
 
     def test_shapes(self):
         """A line is broken where a value isn't a number; a bar lies where its values say; letters are escaped."""
@@ -208,7 +296,24 @@ class Pictures(unittest.TestCase):
         with tempfile.TemporaryDirectory() as folder:
             refused = pathlib.Path(folder, "refused")
             refused.write_text("0 5 refused 3\n")
+            log = HERE.parent / "examples/radios/dcf77.log"
+            returns = pathlib.Path(folder, "returns")
+            returns.write_bytes(b"1000000 100000\r\n2000000 200000\r\n")
+            huge = pathlib.Path(folder, "huge")
+            huge.write_text(f"{'9' * 5000} 100000\n")
+            journal = pathlib.Path(folder, "journal")
+            journal.write_text(f"1 60000000 verdict {NOON} 0\n1 120000000 verdict {NOON + 60} 0\n")
+            station = pathlib.Path(folder, "station.toml")
+            station.write_text('[[radio]]\nplan = "dcf"\nlog = "a"\n')
+            keeper = HERE.parent / "packaging/keeper.toml"
             for words, said in (
+                (("--reception", "x.svg", log), b"dcf77.log is a radio's log: decode it first\n"),
+                (("--phase", "x.svg", refused), b"refused is a journal, and --phase draws a radio's log\n"),
+                (("--phase", "x.svg", returns), b"CR LF"),
+                (("--phase", "x.svg", huge), b"no marks that agree"),
+                (("--day", "x.svg", "--station", station, journal), b"station.toml has none of the feeds of a journal"),
+                (("--day", "x.svg", "--station", keeper, journal), b"a radio has no plan: is it the keeper's file?"),
+                (("--reception", "x.svg", "/nosuch"), b"plot_journal.py: /nosuch: No such file or directory\n"),
                 (("--offsets", "x.svg", refused), b"has no entry that gives the time"),
                 (("--day", "x.svg", refused), b"has no entry that gives the time"),
                 (("--reception", "x.svg", HERE / "summary.sh"), b"has no entry"),
@@ -220,6 +325,36 @@ class Pictures(unittest.TestCase):
                     self.assertEqual(done.returncode, 1)
                     self.assertIn(said, done.stderr)
                     self.assertNotIn(b"Traceback", done.stderr)
+                    self.assertEqual(done.stderr.count(b"\n"), 1)
+
+    def test_a_picture_of_another_form_is_refused(self):
+        with tempfile.TemporaryDirectory() as folder:
+            for form in ("png", "PNG", "pdf"):
+                name = pathlib.Path(folder, f"x.{form}")
+                done = self.draw("--reception", name, "/nosuch")
+                self.assertEqual(done.returncode, 2)
+                self.assertIn(b"each picture is SVG", done.stderr)
+                self.assertFalse(name.exists())
+
+    def test_an_installed_one_draws_a_day_and_leaves_nothing_behind(self):
+        """As packages have it: these files alone, and what it imports is compiled nowhere."""
+        sys.path.insert(0, str(HERE.parent))
+        from keeper.install import MODEL, TOOLS
+
+        with tempfile.TemporaryDirectory() as folder:
+            top = pathlib.Path(folder)
+            for part, names in (("tools", TOOLS), ("checks/model", MODEL)):
+                (top / part).mkdir(parents=True)
+                for name in names:
+                    shutil.copy(HERE.parent / part / name, top / part / name)
+            journal = top / "journal"
+            journal.write_text("".join(f"0 {entry.at} verdict {' '.join(entry.fields)}\n" for entry in verdicts(range(60))))
+            before = sorted(top.rglob("*"))
+            words = [sys.executable, top / "tools/plot_journal.py", "--day", "/dev/stdout", journal]
+            done = subprocess.run(words, capture_output=True, timeout=300, env={"PATH": os.environ["PATH"]})
+            self.assertEqual((done.returncode, done.stderr), (0, b""))
+            self.assertIn(b"root dispersion", done.stdout)
+            self.assertEqual(sorted(top.rglob("*")), before)
 
 
 if __name__ == "__main__":

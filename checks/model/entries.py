@@ -1,26 +1,9 @@
 """Entries of a journal: their texts, and which a journal may have. The forms are read by checks/grammar."""
 
-from typing import NamedTuple
-
 import grammar
 
+from .entry import Entry
 from .receiver import Answer, moment
-
-
-class Entry(NamedTuple):
-    """What one feed reported at one moment: the keyword and the numbers after it. An address is a number."""
-
-    feed: int
-    at: int
-    word: str
-    values: tuple[int, ...]
-
-    def text(self) -> str:
-        """Version 1 of the text, without its line feed."""
-        values = [str(value) for value in self.values]
-        if self.word == "sample":
-            values[4] = f"{self.values[4]:08x}"
-        return " ".join([str(self.feed), str(self.at), self.word, *values])
 
 
 def of_answer(feed: int, delay: int, answer: Answer) -> Entry:

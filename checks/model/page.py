@@ -5,7 +5,7 @@ combining give.
 from typing import NamedTuple, Sequence
 
 from . import selection
-from .entries import Entry
+from .entry import Entry
 from .figures import STAGES, Figures, Sample, figures_of
 from .notes import met
 from .units import LEAST_DISPERSION, MICROSECONDS, SECOND, local_span, phi, stamp, to_short

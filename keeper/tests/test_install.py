@@ -1,6 +1,7 @@
 """`install` below a folder: what it says, what it does, and that it takes it away again."""
 
 import contextlib
+import errno
 import io
 import os
 import pathlib
@@ -10,7 +11,7 @@ import tempfile
 import unittest
 from unittest import mock
 
-from keeper import install
+from keeper import VERSION, install, status, steps
 from keeper.words import Fault
 
 
@@ -56,6 +57,16 @@ class Install(unittest.TestCase):
         self.assertFalse([one for one in there if "test" in os.path.basename(one) or "__pycache__" in one or one.endswith(".part")])
         self.assertEqual(self.install("--do")[:-1], [], "the second time there is nothing to do")
 
+    def test_who_may_not_read_the_settings_sees_the_state(self):
+        """The keeper's file is for its group alone; its example names this folder."""
+        self.install("--do")
+        settings = os.path.join(self.root, "etc/radio_ntpd/keeper.toml")
+        self.put(settings, 'state = "elsewhere"\n')
+        with mock.patch("keeper.status.FILES", ("/nosuch", settings)):
+            self.assertEqual(status.folder_of(None), os.path.join(os.path.dirname(settings), "elsewhere"))
+            with mock.patch("keeper.status.os.access", lambda *_: False):
+                self.assertEqual(status.folder_of(None), install.HOME)
+
     def test_what_is_installed_runs(self):
         self.install("--do")
         keeper = os.path.join(self.root, "usr/local/bin/radio_keeper")
@@ -75,7 +86,8 @@ class Install(unittest.TestCase):
     def test_settings_are_the_operators(self):
         self.install("--do")
         station = os.path.join(self.root, "etc/radio_ntpd/station.toml")
-        self.assertEqual(os.stat(station).st_mode & 0o777, 0o640)
+        for path in (station, os.path.join(self.root, "etc/radio_ntpd/keeper.toml")):
+            self.assertEqual(os.stat(path).st_mode & 0o777, 0o640)
         self.put(station, "mine")
         self.assertEqual(self.install("--do")[:-1], [])
         self.install("--do", "--remove")
@@ -98,7 +110,7 @@ class Install(unittest.TestCase):
         for folder, _, names in os.walk(self.root):
             self.assertEqual(os.stat(folder).st_mode & 0o777, 0o755, folder)
             for name in names:
-                if name != "station.toml":
+                if name not in ("keeper.toml", "station.toml"):
                     self.assertEqual(os.stat(os.path.join(folder, name)).st_mode & 0o444, 0o444, name)
 
     def test_a_service_that_runs_goes_on_with_what_is_new(self):
@@ -132,17 +144,91 @@ class Install(unittest.TestCase):
             said = [step.text for step in install.host_steps(install.Places(self.root, "/usr"), True)]
         self.assertEqual({line.split()[5].rstrip(",") for line in said if "into the group" in line}, {"dialout", "gpio"})
 
+    def test_only_what_users_call_is_installed_of_the_tools(self):
+        """Each of them finds what it imports, and a picture of a day is drawn."""
+        self.install("--do")
+        library = pathlib.Path(self.root, "usr/local/lib/radio_ntpd")
+        self.assertEqual({one.name for one in (library / "tools").iterdir()}, set(install.TOOLS))
+        journal = library.parent / "journal"
+        journal.write_text("0 62000000 verdict 3976257660 0\n0 122000000 verdict 3976257720 0\n", encoding="ascii")
+        for words in (("plot_journal.py", "--day", "/dev/stdout"), ("entry_times.py",), ("summary.sh",)):
+            done = subprocess.run([library / "tools" / words[0], *words[1:], journal], capture_output=True, check=False)
+            self.assertEqual((done.returncode, done.stderr), (0, b""), words)
+            self.assertTrue(done.stdout)
+        self.assertFalse(list(library.rglob("__pycache__")))
+
+    def test_a_new_folder_has_the_place_of_the_old_one_at_once(self):
+        """At each moment at which it could be ended, the installed folder has all files of the old version or of the new one."""
+        old, new, path = (pathlib.Path(self.program).parent / name for name in ("old", "new", "path"))
+        for folder, text in ((old, "old"), (new, "new")):
+            folder.mkdir()
+            for name in ("a", "b"):
+                (folder / name).write_text(text, encoding="ascii")
+        for swaps in (True, False):
+            with self.subTest(swaps=swaps):
+                steps.put_folder(str(old), str(path), ["a", "b"]).do()
+                self.see_each_moment(path, lambda: steps.put_folder(str(new), str(path), ["a", "b"]).do(), swaps)
+                self.assertEqual({one.read_text() for one in path.iterdir()}, {"new"})
+                self.assertEqual(sorted(one.name for one in path.parent.iterdir()), ["new", "old", "path", "program"])
+
+    def see_each_moment(self, path, act, swaps):
+        """Looks before each call that changes a folder. Without a swap the folder is away between two renames."""
+        seen = []
+
+        def looking(call):
+            def looks(*words, **more):
+                seen.append(sorted(one.read_text() for one in path.iterdir()) if path.exists() else [])
+                return call(*words, **more)
+            return looks
+
+        library = mock.Mock(renameat2=mock.Mock(return_value=-1))
+        with contextlib.ExitStack() as stack:
+            for name, call in (("os.rename", os.rename), ("shutil.rmtree", shutil.rmtree), ("shutil.copyfile", shutil.copyfile)):
+                stack.enter_context(mock.patch(f"keeper.steps.{name}", looking(call)))
+            if not swaps:
+                stack.enter_context(mock.patch("keeper.steps.ctypes.CDLL", lambda *_, **__: library))
+                stack.enter_context(mock.patch("keeper.steps.ctypes.get_errno", lambda: errno.EINVAL))
+            act()
+        self.assertEqual(sum(one == [] for one in seen), 0 if swaps else 1)
+        self.assertTrue(all(one in (["old"] * 2, ["new"] * 2, []) for one in seen), seen)
+
+    def test_a_folder_that_cannot_be_renamed_leaves_the_old_one(self):
+        old, new, path = (pathlib.Path(self.program).parent / name for name in ("old", "new", "path"))
+        for folder in (old, new):
+            folder.mkdir()
+            (folder / "a").write_text(folder.name, encoding="ascii")
+        steps.put_folder(str(old), str(path), ["a"]).do()
+        renames = mock.Mock(side_effect=[None, OSError(errno.EIO, "Input/output error"), None])
+        for refused in (errno.EACCES, errno.EINVAL):
+            library = mock.Mock(renameat2=mock.Mock(return_value=-1))
+            with mock.patch("keeper.steps.ctypes.CDLL", lambda *_, **__: library), mock.patch("keeper.steps.ctypes.get_errno", lambda: refused):
+                with mock.patch("keeper.steps.os.rename", renames), self.assertRaises(OSError):
+                    steps.put_folder(str(new), str(path), ["a"]).do()
+            self.assertEqual((path / "a").read_text(), "old")
+            self.assertEqual(sorted(one.name for one in path.parent.iterdir()), ["new", "old", "path", "program"])
+        self.assertEqual(renames.call_args_list[0].args, tuple(reversed(renames.call_args_list[2].args)), "it is put back")
+
     @unittest.skipUnless(shutil.which("dpkg-deb"), "no dpkg-deb")
-    def test_settings_of_a_package_are_kept_by_an_upgrade(self):
-        """Debian's policy, 10.7: each file below /etc is a conffile."""
+    def test_a_package_has_examples_and_no_settings(self):
+        """Of files below /etc that `radio_keeper install` left dpkg would ask which to keep, and fail without a terminal."""
         folder = os.path.dirname(self.root)
         about = {**os.environ, "RADIO_NTPD": self.program}
         name = subprocess.run([install.TOP / "packaging/build_deb.sh", folder], capture_output=True, check=True, text=True, env=about).stdout.strip()
         packed = subprocess.run(["dpkg-deb", "--contents", name], capture_output=True, check=True, text=True).stdout.splitlines()
-        settings = {line.split()[5][1:] for line in packed if "./etc/" in line and line.startswith("-")}
-        conffiles = subprocess.run(["dpkg-deb", "--info", name, "conffiles"], capture_output=True, check=True, text=True).stdout
-        self.assertEqual(len(settings), 2)
-        self.assertEqual(set(conffiles.split()), settings)
+        files = {line.split()[5]: line.split()[0] for line in packed}
+        self.assertEqual([path for path in files if path.startswith("./etc")], [])
+        for example in ("keeper.toml", "station.toml"):
+            self.assertEqual(files[f"./usr/share/radio_ntpd/{example}"], "-rw-r--r--")
+        parts = subprocess.run(["dpkg-deb", "--info", name], capture_output=True, check=True, text=True).stdout
+        self.assertNotIn("conffiles", parts)
+        self.assertIn(f" Version: {VERSION}\n", parts)
+
+    def test_versions_are_one(self):
+        """That of CHANGELOG.md, of the keeper, and of the Debian package's list of changes."""
+        changes = (install.TOP / "CHANGELOG.md").read_text(encoding="utf-8")
+        version = next(line.split()[1] for line in changes.splitlines() if line.startswith("## "))
+        debian = (install.TOP / "packaging/debian/changelog").read_text(encoding="utf-8")
+        self.assertEqual((VERSION, debian.split()[1]), (version, f"({version})"))
 
     def test_a_program_that_its_sources_no_longer_give(self):
         top = pathlib.Path(self.root)
@@ -157,7 +243,7 @@ class Install(unittest.TestCase):
         self.assertEqual(install.newer_source(program, top), source)
         self.assertIsNone(install.newer_source(pathlib.Path(self.program), top), "it is named by --program")
         with mock.patch("keeper.install.newer_source", lambda program: source), mock.patch("keeper.install.built_program", lambda: str(self.program)):
-            with self.assertRaisesRegex(Fault, "is newer than the program"):
+            with self.assertRaisesRegex(Fault, "the program is older than .*lib.rt: run ./radio_ntpd once"):
                 install.main(["--root", self.root])
 
     def test_a_program_that_is_not_built(self):
@@ -177,6 +263,10 @@ class PostInstall(unittest.TestCase):
             os.makedirs(os.path.join(self.top, name))
         for name in ("getent", "usermod", "chgrp"):
             self.stub(name, 0)
+        examples = pathlib.Path(self.top, "usr/share/radio_ntpd")
+        examples.mkdir(parents=True)
+        for name in ("keeper.toml", "station.toml"):
+            (examples / name).write_text(f"example {name}", encoding="ascii")
 
     def stub(self, name, status):
         path = os.path.join(self.top, "bin", name)
@@ -188,6 +278,7 @@ class PostInstall(unittest.TestCase):
         """Its exit status, and the calls."""
         about = {"PATH": f"{self.top}/bin:/usr/bin:/bin", "DPKG_ROOT": self.top}
         done = subprocess.run(["sh", install.TOP / "packaging/debian/postinst", "configure", *words], capture_output=True, env=about, check=False)
+        self.said = done.stdout.decode()
         with open(f"{self.top}/calls", encoding="ascii") as file:
             return done.returncode, file.read().splitlines()
 
@@ -201,13 +292,37 @@ class PostInstall(unittest.TestCase):
         self.stub("systemctl", '$(case "$1" in try-restart) echo 1 ;; *) echo 0 ;; esac)')
         self.assertEqual(self.configure("0.2.0")[0], 0)
 
-    def test_a_station_file_that_the_operator_removed(self):
+    def test_settings_that_are_there_stay_and_those_that_the_operator_removed_stay_away(self):
         self.stub("systemctl", 0)
+        settings = pathlib.Path(self.top, "etc/radio_ntpd")
         status, calls = self.configure("0.2.0")
-        self.assertEqual((status, [call for call in calls if call.startswith("chgrp")]), (0, []))
-        with open(f"{self.top}/etc/radio_ntpd/station.toml", "w", encoding="ascii"):
-            pass
-        self.assertIn(f"chgrp radio_ntpd {self.top}/etc/radio_ntpd/station.toml", self.configure("0.2.0")[1])
+        self.assertEqual((status, [call for call in calls if call.startswith("chgrp")], list(settings.iterdir())), (0, [], []))
+        (settings / "station.toml").write_text("mine", encoding="ascii")
+        for words in (("0.2.0",), ()):
+            self.assertIn(f"chgrp radio_ntpd {settings}/station.toml", self.configure(*words)[1])
+            self.assertEqual((settings / "station.toml").read_text(), "mine")
+        self.assertEqual((settings / "keeper.toml").read_text(), "example keeper.toml")
+        self.assertEqual((settings / "keeper.toml").stat().st_mode & 0o777, 0o640)
+        self.assertIn(f"chgrp radio_ntpd {settings}/keeper.toml", self.configure()[1])
+
+    def test_settings_of_a_folder_that_was_removed_are_named(self):
+        """As where `radio_keeper install` had put all below /usr/local, and took it away again."""
+        self.stub("systemctl", 0)
+        pathlib.Path(self.top, "etc/radio_ntpd/keeper.toml").write_text('command = "/usr/local/lib/radio_ntpd/feeders/x"', encoding="ascii")
+        self.configure()
+        self.assertIn("write /usr/lib/radio_ntpd\n", self.said)
+        os.makedirs(f"{self.top}/usr/local/lib/radio_ntpd")
+        self.configure()
+        self.assertNotIn("write /usr/lib", self.said)
+
+    def test_what_python_compiled_goes_before_a_removal(self):
+        left = pathlib.Path(self.top, "usr/lib/radio_ntpd/tools/__pycache__")
+        left.mkdir(parents=True)
+        (left / "plots.pyc").write_text("", encoding="ascii")
+        about = {"PATH": f"{self.top}/bin:/usr/bin:/bin", "DPKG_ROOT": self.top}
+        subprocess.run(["sh", install.TOP / "packaging/debian/prerm", "upgrade"], env=about, check=True)
+        self.assertEqual([one.name for one in left.parent.parent.iterdir()], ["tools"])
+        self.assertFalse(left.exists())
 
 
 if __name__ == "__main__":
