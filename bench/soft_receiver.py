@@ -2,7 +2,7 @@
 """A receiver in software: the pulses of DCF77, MSF or WWVB as a cheap receiver gives them, from the calendar alone, by the codes that PTB,
 NPL and NIST publish. It shares no code with the program.
 
-    soft_receiver.py --plan PLAN --minutes N [--first 'YYYY-MM-DD HH:MM'] [--begin MICROSECONDS] [what is wrong with it]
+    soft_receiver.py --plan PLAN --minutes N [--first 'YYYY-MM-DD HH:MM'] [--begin MICROSECONDS] [--form log|edges] [what is wrong with it]
     soft_receiver.py --plan PLAN --live SECONDS [--history MINUTES] [--form log|edges] [--since MONOTONIC,UNIX] [what is wrong with it]
 
 With --minutes it writes a log at once; --begin is the counter's value at the first minute, a whole second is 1000000 of it. With --live it
@@ -98,6 +98,11 @@ def edges(start: float, width: int) -> str:
     return "".join(f"{int(at) // SECOND}.{int(at) % SECOND:06}000\t{word}\tgpiochip0 17\n" for at, word in ends)
 
 
+def line(form: str, start: float, width: int) -> str:
+    """A reduction as it is written: a log's line, or its two edges."""
+    return edges(start, width) if form == "edges" else f"{int(start)} {width}\n"
+
+
 def live(words: argparse.Namespace, faults: Faults) -> None:
     """Writes the reductions that are sent now, as they end."""
     monotonic, unix = words.since or (time.monotonic(), time.time())
@@ -119,7 +124,7 @@ def live(words: argparse.Namespace, faults: Faults) -> None:
         if wait > 0:
             sys.stdout.flush()
             time.sleep(wait)
-        sys.stdout.write(edges(at, width) if words.form == "edges" else f"{int(at)} {width}\n")
+        sys.stdout.write(line(words.form, at, width))
         if wait > 0:
             sys.stdout.flush()
 
@@ -157,7 +162,7 @@ def main() -> None:
             live(words, faults)
         else:
             for _, start, width in made_log(words.plan, words.first, words.minutes, faults, words.seed, words.begin):
-                sys.stdout.write(f"{start} {width}\n")
+                sys.stdout.write(line(words.form, start, width))
         sys.stdout.flush()
     except BrokenPipeError:
         # Whoever read has ended. What stands in the buffer has nowhere to go.

@@ -49,13 +49,26 @@ class Estimate:
 
     def left(self, now: float) -> float:
         """Returns about how many seconds are left: those of the longest chain of crates, or of all on all processors."""
-        pace = (SECONDS_A_LINE * WEIGHT + self.seen_seconds) / (WEIGHT + self.seen_size)
-        total, chains = 0.0, {}
+        pace = self._pace(now)
+        total = 0.0
+        chains: dict[str, float] = {}
         for name, libraries in self.below.items():
             own = self._own(name, pace, now)
             total += own
             chains[name] = own + max((chains[library] for library in libraries), default=0.0)
         return max(SPREAD * total / self.processors, *chains.values())
+
+    def _pace(self, now: float) -> float:
+        """Returns the seconds that a line takes, by what was seen. Of a crate that is in hand for longer than its lines say, LAST is
+        taken to be left: so the pace changes with each second, and not only when the crate is proved."""
+        size, seconds = WEIGHT + self.seen_size, SECONDS_A_LINE * WEIGHT + self.seen_seconds
+        due = seconds / size
+        for name, since in self.begun.items():
+            whole = (now - since) / (1 - LAST)
+            if whole > due * self.sizes[name]:
+                size += self.sizes[name]
+                seconds += whole
+        return seconds / size
 
     def _own(self, name: str, pace: float, now: float) -> float:
         """Returns the seconds that a crate still takes."""

@@ -3,12 +3,14 @@
 
     tools/build_program.py
 
-The launcher `radio_ntpd` calls it where the program isn't built yet, or a source is newer than it. It runs the toolchain's gate, `rt ci`, on
-a copy of those crates, without tests and without wrong bodies; nothing of the program's proof is left out. The gate proves as many crates
-side by side as processors and memory allow, the longest chain first, and keeps what it has proved beside the toolchain. So a build that was
-stopped goes on where it was, and so does the gate of the whole repository. Who may not write there begins anew.
+The launcher `radio_ntpd` calls it where the program isn't built yet, or a source is newer than it. Where the program was built of just
+these sources, as in a folder that was copied, there is nothing to build. Else it runs the toolchain's gate, `rt ci`, on a copy of those
+crates, without tests and without wrong bodies; nothing of the program's proof is left out. The gate proves as many crates side by side as
+processors and memory allow, the longest chain first, and keeps what it has proved beside the toolchain. So a build that was stopped goes on
+where it was, and so does the gate of the whole repository. Who may not write there begins anew.
 
-The copy and the log lie in $XDG_CACHE_HOME/radio_ntpd (or ~/.cache/radio_ntpd). Needs `rt` and Python 3.11.
+The copy and the log lie in $XDG_CACHE_HOME/radio_ntpd (or ~/.cache/radio_ntpd); the copy goes when the program is built. Needs `rt` and
+Python 3.11.
 
 Exit status: 0 built, 69 no toolchain, 70 a crate isn't proved or the disk failed, 130 stopped by a signal.
 """
@@ -25,11 +27,15 @@ import threading
 import time
 from pathlib import Path
 
+import built_program
 from build_copy import cache_of, keeps_proofs, make_copy, take_program
 from build_estimate import Estimate, sizes_of
-from crate_graph import PROGRAM, count_lines, read_crates
+from crate_graph import count_lines, read_crates
 
 NO_TOOLCHAIN, FAILED, STOPPED = 69, 70, 130
+# The kit with which all of it was proved, as `rt version` prints it.
+KIT = "rattle-kit-13f logic dac8208d650f15bf"
+QUIET = 60.0  # the longest, in seconds, that nothing is printed where there is no terminal
 # A crate that is proved, by an earlier run or by this one, and one that isn't.
 PROVED = re.compile(r"rt: (\w+) (?:proved$|(is kept): )")
 REFUSED = re.compile(r"rt: (\w+)(?:: its tests are)? NOT PROVED")
@@ -60,7 +66,7 @@ class Build:
         self.crates, self.estimate = crates, estimate
         self.done: set[str] = set()
         self.refused: str | None = None
-        self.started = time.monotonic()
+        self.started = self.printed = time.monotonic()
 
     def look(self, session: int) -> set[str]:
         """Looks at which crates the processes of a session are proving, and returns them."""
@@ -87,14 +93,26 @@ class Build:
         return line
 
 
+    def show(self, what: str) -> None:
+        """Prints a line of progress."""
+        self.printed = time.monotonic()
+        print(self.progress(what), file=sys.stderr, flush=True)
+
+    def draw(self, what: str) -> None:
+        """Draws a line of progress over the one before, as wide as the terminal is."""
+        width = shutil.get_terminal_size().columns - 1
+        print(f"\r\x1b[K{self.progress(what)[:width]}", end="", file=sys.stderr, flush=True)
+
+
 def watch(build: Build, session: int, ended: threading.Event, is_drawn: bool) -> None:
-    """Looks each second at what is in hand until the build has ended, and redraws the line of progress where there is a terminal."""
+    """Looks each second at what is in hand until the build has ended. It redraws the line of progress where there is a terminal, and
+    elsewhere prints one where there was none for a minute."""
     while not ended.wait(1):
-        names = build.look(session)
+        what = f"proving {', '.join(sorted(build.look(session))) or 'what is left'}"
         if is_drawn:
-            line = build.progress(f"proving {', '.join(sorted(names)) or 'what is left'}")
-            width = shutil.get_terminal_size().columns - 1
-            print(f"\r\x1b[K{line[:width]}", end="", file=sys.stderr, flush=True)
+            build.draw(what)
+        elif time.monotonic() - build.printed >= QUIET:
+            build.show(what)
     if is_drawn:
         print("\r\x1b[K", end="", file=sys.stderr, flush=True)
 
@@ -125,28 +143,51 @@ def run(copy: Path, log: Path, build: Build) -> int:
         ended, is_drawn = threading.Event(), sys.stderr.isatty()
         watcher = threading.Thread(target=watch, args=(build, child.pid, ended, is_drawn))
         watcher.start()
-        for line in child.stdout:
+        for line in child.stdout or ():
             notes.write(line)
             if (name := build.hear(line)) and not is_drawn:
-                print(build.progress(f"{name} is proved"), file=sys.stderr, flush=True)
+                build.show(f"{name} is proved")
         status = child.wait()
         ended.set()
         watcher.join()
     return STOPPED if stopped.is_set() else status
 
 
-def build(top: Path, cache: Path, is_kept: bool) -> int:
-    """Builds the program of a checkout, and returns an exit status. `is_kept`: whether a build that is stopped can go on."""
-    print("radio_ntpd: proving and building the program; README.md says how long that takes.", file=sys.stderr)
-    print("Meanwhile, in crates/radio_ntpd, 'rt try -- drill --seed 7' runs it unproved, in two minutes.", file=sys.stderr, flush=True)
+def warn_of_kit(rt: str) -> None:
+    """Prints a sentence where the toolchain isn't the one with which all of it was proved."""
+    try:
+        done = subprocess.run([rt, "version"], stdin=subprocess.DEVNULL, capture_output=True, text=True, errors="replace", timeout=20)
+        found = done.stdout.strip().partition("\n")[0]
+    except subprocess.TimeoutExpired:
+        found = ""
+    if found != KIT:
+        print(f"radio_ntpd: `rt version` prints '{found}', and this is to be proved with '{KIT}': a proof may fail", file=sys.stderr)
+
+
+def announce(made: Build, cache: Path, is_kept: bool) -> None:
+    """Prints what a build takes, before its first proof."""
+    processors = len(os.sched_getaffinity(0))
+    left = as_time(made.estimate.left(time.monotonic()))
+    print(f"{len(made.crates)} crates: about {left} on {processors} processors, less where some were proved before.", file=sys.stderr)
+    print(f"It takes up to 5 GB of memory, and until it has ended 2 GB of disk in {cache}.", file=sys.stderr, flush=True)
     if not is_kept:
         print("radio_ntpd: the folder beside the toolchain's is not this user's, so what is proved is not kept", file=sys.stderr)
-    crates = read_crates(top)
+
+
+def build(top: Path, cache: Path, rt: str) -> int:
+    """Builds the program of a checkout, and returns an exit status. Raises `OSError`."""
+    built_program.try_place(top)
+    print("radio_ntpd: proving and building the program; README.md says how long that takes.", file=sys.stderr)
+    print("Meanwhile, in crates/radio_ntpd, 'rt try -- drill --seed 7' runs it unproved, in some minutes.", file=sys.stderr, flush=True)
+    warn_of_kit(rt)
+    is_kept, crates = keeps_proofs(rt), read_crates(top)
     copy, log = cache / "copy", cache / "log"
-    since = time.time()
+    since, sources = time.time(), built_program.digest_of(top)
     make_copy(top, copy, list(crates))
+    is_whole = sources == built_program.digest_of(top)  # nothing was changed meanwhile
     lines = {name: count_lines(copy / "crates" / name) for name in crates}
     made = Build(crates, Estimate(crates, sizes_of(crates, lines), len(os.sched_getaffinity(0))))
+    announce(made, cache, is_kept)
     status = run(copy, log, made)
     if status == STOPPED:
         more = "what is proved is kept, and the next start goes on from there" if is_kept else "the next start begins anew"
@@ -157,37 +198,43 @@ def build(top: Path, cache: Path, is_kept: bool) -> int:
         why = f"{crate} is not proved; `rt check` in crates/{crate} says more, and" if crate else "the build failed;"
         print(f"radio_ntpd: {why} {log} has all:", *last_lines(log, crate), sep="\n    ", file=sys.stderr)
         return FAILED
-    take_program(copy, top / "crates" / PROGRAM / "out" / PROGRAM, since)
+    take_program(copy, top / built_program.PROGRAM, since)
+    if is_whole:
+        built_program.note(sources, top / built_program.PROGRAM)
+    shutil.rmtree(copy, ignore_errors=True)
     return 0
 
 
-def is_newer(program: Path, since: float) -> bool:
-    """Returns whether a program was put in its place after a moment, in seconds of the host's clock."""
-    with contextlib.suppress(OSError):
-        return program.stat().st_ctime > since
-    return False
+def build_alone(top: Path, rt: str) -> int:
+    """Builds the program, one build of a checkout at a time, and returns an exit status. Raises `OSError`."""
+    cache = cache_of(top)
+    with open(cache / "lock", "w", encoding="ascii") as lock:
+        try:
+            fcntl.flock(lock, fcntl.LOCK_EX | fcntl.LOCK_NB)
+        except BlockingIOError:
+            since = time.time()
+            print("radio_ntpd: another build of this checkout is under way; waiting for it", file=sys.stderr)
+            fcntl.flock(lock, fcntl.LOCK_EX)
+            if built_program.was_put_since(top, since):
+                return 0
+        return build(top, cache, rt)
 
 
 def main() -> int:
-    """Builds the program, one build of a checkout at a time."""
-    rt = shutil.which("rt")
-    if rt is None:
-        wanted = "install the Rattle kit that README.md names, and add its bin folder to PATH"
-        print(f"radio_ntpd: the program is not built yet, and `rt` is not on PATH: {wanted}", file=sys.stderr)
-        return NO_TOOLCHAIN
+    """Builds the program unless it is there, or says in a sentence why that can't be done."""
     top = Path(__file__).resolve().parent.parent
     try:
-        cache = cache_of(top)
-        with open(cache / "lock", "w", encoding="ascii") as lock:
-            try:
-                fcntl.flock(lock, fcntl.LOCK_EX | fcntl.LOCK_NB)
-            except BlockingIOError:
-                since = time.time()
-                print("radio_ntpd: another build of this checkout is under way; waiting for it", file=sys.stderr)
-                fcntl.flock(lock, fcntl.LOCK_EX)
-                if is_newer(top / "crates" / PROGRAM / "out" / PROGRAM, since):
-                    return 0
-            return build(top, cache, keeps_proofs(rt))
+        newer = built_program.newer_source(top)
+        if newer and built_program.is_of_its_sources(top):
+            built_program.renew(top)
+            return 0
+        rt = shutil.which("rt")
+        if rt is None:
+            why = f"is older than {newer}" if newer else "is not built yet"
+            wanted = "install the Rattle kit that README.md names, and add its bin folder to PATH"
+            print(f"radio_ntpd: the program {why}, and `rt` is not on PATH: {wanted}", file=sys.stderr)
+            return NO_TOOLCHAIN
+        return build_alone(top, rt)
     except OSError as error:
         print(f"radio_ntpd: the build failed: {error.filename or 'the host'}: {error.strerror}", file=sys.stderr)
         return FAILED

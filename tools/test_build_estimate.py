@@ -44,9 +44,17 @@ class Estimates(unittest.TestCase):
         for name in ("low", "left"):
             self.wide.end(name, 0.0)
         self.wide.begin({"right"}, 0.0)
-        whole = 3000 * SECONDS_A_LINE
-        self.assertAlmostEqual(self.wide.left(30.0), whole - 30 + 100 * SECONDS_A_LINE)
-        self.assertAlmostEqual(self.wide.left(1000.0), LAST * whole + 100 * SECONDS_A_LINE)
+        self.assertAlmostEqual(self.wide.left(30.0), 3000 * SECONDS_A_LINE - 30 + 100 * SECONDS_A_LINE)
+        pace = (SECONDS_A_LINE * WEIGHT + 1000 / (1 - LAST)) / (WEIGHT + 3000)
+        self.assertAlmostEqual(self.wide.left(1000.0), LAST * 3000 * pace + 100 * pace)
+
+    def test_it_neither_stands_still_nor_jumps(self):
+        """As on a machine that is four times slower than these lines say, with nothing proved for minutes."""
+        self.wide.begin({"low"}, 0.0)
+        seen = [self.wide.left(float(second)) for second in range(100)]
+        self.assertTrue(all(0 < abs(one - other) < 15 for one, other in zip(seen, seen[1:])))
+        self.wide.end("low", 99.0)
+        self.assertAlmostEqual(self.wide.left(99.0), seen[99], delta=0.1 * seen[99])
 
     def test_at_the_end_nothing_is_left(self):
         for name in BELOW:

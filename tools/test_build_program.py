@@ -1,6 +1,8 @@
 #!/usr/bin/env python3
 """Tests of tools/build_program.py over a toolchain that proves nothing: python3 -B tools/test_build_program.py"""
 
+import contextlib
+import io
 import os
 import shutil
 import signal
@@ -17,6 +19,7 @@ sys.path.insert(0, str(HERE))
 
 import build_copy  # noqa: E402
 import build_program  # noqa: E402
+import built_program  # noqa: E402
 
 CRATES = """# a comment
 low:
@@ -27,6 +30,7 @@ some_tests: radio_ntpd
 """
 # Says what the toolchain's gate says of each crate, and notes what it found; `slow` and `broken` name a crate.
 TOOLCHAIN = """#!/bin/sh
+[ "$*" != version ] || { echo "${VERSION-KIT}"; exit; }
 [ "$*" = ci ] || exit 3
 ls crates > "$NOTES.crates"
 cp crates.txt "$NOTES.list"
@@ -41,7 +45,7 @@ done
 mkdir -p crates/radio_ntpd/out
 printf '#!/bin/sh\\n' > crates/radio_ntpd/out/radio_ntpd
 chmod +x crates/radio_ntpd/out/radio_ntpd
-"""
+""".replace("KIT", build_program.KIT)
 
 
 class Builds(unittest.TestCase):
@@ -58,7 +62,7 @@ class Builds(unittest.TestCase):
         (self.top / "crates.txt").write_text(CRATES)
         (self.top / "HANDLES").write_text("Handles allowed: none.\n")
         (self.top / "tools").mkdir()
-        for name in ("build_program.py", "build_copy.py", "build_estimate.py", "crate_graph.py"):
+        for name in ("build_program.py", "build_copy.py", "build_estimate.py", "built_program.py", "crate_graph.py"):
             shutil.copyfile(HERE / name, self.top / "tools" / name)
         self.words = [sys.executable, "-B", str(self.top / "tools" / "build_program.py")]
         self.program = self.top / "crates/radio_ntpd/out/radio_ntpd"
@@ -87,7 +91,7 @@ class Builds(unittest.TestCase):
         self.assertEqual(self.noted("list"), "low:\nleft: low\nright: low itoa\nradio_ntpd: left right   # the program\n")
         self.assertEqual(self.noted("left"), "")
         self.assertTrue(os.access(self.program, os.X_OK))
-        self.assertEqual([file.name for file in self.program.parent.iterdir()], ["radio_ntpd"])
+        self.assertEqual(sorted(file.name for file in self.program.parent.iterdir()), ["radio_ntpd", "radio_ntpd.sources"])
 
     def test_modules_of_tests_are_left_out_with_their_proofs_and_each_line_keeps_its_number(self):
         crate = self.top / "crates" / "low"
@@ -118,10 +122,10 @@ class Builds(unittest.TestCase):
 
     def test_each_crate_has_its_line_whether_it_is_proved_or_kept(self):
         said = self.run_build(KEPT="left").stderr.splitlines()
-        self.assertEqual([line.split()[0] for line in said[2:]], ["low", "left", "right", "radio_ntpd"])
-        for number, line in enumerate(said[2:], 1):
+        self.assertEqual([line.split()[0] for line in said[4:]], ["low", "left", "right", "radio_ntpd"])
+        for number, line in enumerate(said[4:], 1):
             self.assertIn(f"is proved ({number} of 4), 0:", line)
-        self.assertIn("left", said[2])
+        self.assertIn("left", said[4])
         self.assertNotIn("about", said[-1])
 
     def test_a_line_of_progress(self):
@@ -175,6 +179,110 @@ class Builds(unittest.TestCase):
         self.assertEqual(done.returncode, 69)
         self.assertEqual(len(done.stderr.splitlines()), 1)
         self.assertIn("`rt` is not on PATH", done.stderr)
+
+    def test_what_it_takes_is_printed_before_the_first_proof(self):
+        """Without a terminal too: how many crates, about how long, and the memory and the disk that it takes."""
+        said = self.run_build().stderr.splitlines()
+        self.assertRegex(said[2], r"^4 crates: about \d+:\d\d on \d+ processors, less where some were proved before\.$")
+        self.assertIn("GB of memory", said[3])
+        self.assertIn(str(self.room / "cache"), said[3])
+
+    def test_a_line_a_minute_where_there_is_no_terminal(self):
+        """The first proof may take minutes."""
+        build = build_program.Build({"low": []}, mock.Mock(**{"left.return_value": 60.0}))
+        for quiet, lines in ((0.0, 2), (60.0, 0)):
+            ended, out = mock.Mock(**{"wait.side_effect": [False, False, True]}), io.StringIO()
+            with mock.patch.object(build_program, "QUIET", quiet), mock.patch.object(build_program, "in_hand", return_value={"low"}):
+                with contextlib.redirect_stderr(out):
+                    build_program.watch(build, 7, ended, False)
+            self.assertEqual(out.getvalue(), "proving low (0 of 1), 0:00, about 1:00 left\n" * lines)
+
+    def test_the_copy_goes_when_the_program_is_built(self):
+        self.assertEqual(self.run_build(BROKEN="low").returncode, 70)
+        self.assertEqual(len(list(self.room.glob("cache/radio_ntpd/*/copy"))), 1)
+        self.assertEqual(self.run_build().returncode, 0)
+        self.assertEqual(list(self.room.glob("cache/radio_ntpd/*/copy")), [])
+
+    def test_a_folder_that_cannot_be_written_is_refused_before_the_first_proof(self):
+        """A file in the place of `out`, and a folder in which nobody makes a file."""
+        out = self.program.parent
+        for make in (lambda: out.write_text(""), lambda: out.symlink_to("/proc")):
+            with self.subTest(make=make):
+                make()
+                done = self.run_build()
+                self.assertEqual(done.returncode, 70)
+                self.assertEqual(len(done.stderr.splitlines()), 1, done.stderr)
+                self.assertIn(f"{out}: ", done.stderr)
+                self.assertIn("copy this folder to where you may write", done.stderr)
+                self.assertFalse(Path(f"{self.notes}.crates").exists())
+                out.unlink()
+
+    def test_another_toolchain_is_named_before_the_first_proof(self):
+        for version, named in (("rattle-kit-12a logic 0123", "rattle-kit-12a logic 0123"), ("", "")):
+            done = self.run_build(VERSION=version)
+            self.assertEqual(done.returncode, 0)
+            line = done.stderr.splitlines()[2]
+            self.assertIn(f"`rt version` prints '{named}'", line)
+            self.assertIn(build_program.KIT, line)
+        self.assertNotIn("rt version", self.run_build().stderr)
+
+    def test_the_pages_and_the_program_name_the_same_toolchain(self):
+        for page in ("README.md", "crates/standard_error/src/texts.rt"):
+            self.assertIn(build_program.KIT.split()[0], (HERE.parent / page).read_text(encoding="utf-8"))
+
+    def test_a_folder_that_was_copied_has_its_program(self):
+        """Whatever times the copy has; also where the toolchain isn't there, and where the program's time can't be set."""
+        self.run_build()
+        self.rt.unlink()
+        copied = self.room / "copied"
+        shutil.copytree(self.top, copied, copy_function=shutil.copyfile)
+        program, source = copied / "crates/radio_ntpd/out/radio_ntpd", copied / "crates/low/src/lib.rt"
+        self.words[-1] = str(copied / "tools" / "build_program.py")
+        self.about["PATH"] = f"{self.room}/kit/bin"
+        for renewed in (True, False):
+            os.utime(program, (1000, 1000))
+            if not renewed:
+                with mock.patch("os.utime", side_effect=PermissionError):
+                    built_program.renew(copied)
+                self.assertEqual(program.stat().st_mtime, 1000)
+                continue
+            done = self.run_build()
+            self.assertEqual((done.returncode, done.stderr), (0, ""))
+            self.assertGreater(program.stat().st_mtime, source.stat().st_mtime)
+        for changed in (source, program):
+            with self.subTest(changed=changed.name):
+                before = changed.read_bytes()
+                changed.write_bytes(before + b"\n")
+                os.utime(program, (1000, 1000))
+                done = self.run_build()
+                self.assertEqual(done.returncode, 69)
+                self.assertIn(f"the program is older than {copied}/crates", done.stderr)
+                self.assertEqual(len(done.stderr.splitlines()), 1)
+                changed.write_bytes(before)
+        os.utime(program, (1000, 1000))
+        self.assertEqual(self.run_build().returncode, 0)
+
+    def test_a_source_that_changes_while_it_is_copied_leaves_no_note(self):
+        digests = iter(("one", "other"))
+        with mock.patch.object(build_program.built_program, "digest_of", lambda top: next(digests)):
+            with mock.patch.object(build_program, "run", lambda copy, log, build: 0), mock.patch.object(build_program, "take_program"):
+                with contextlib.redirect_stderr(io.StringIO()):
+                    build_program.build(self.top, self.room, str(self.rt))
+        self.assertFalse(self.program.with_suffix(".sources").exists())
+
+    def test_a_changed_source_is_one_that_the_program_is_built_of(self):
+        self.run_build()
+        self.assertTrue(built_program.is_of_its_sources(self.top))
+        for name, changes in (("crates/some_tests/src/lib.rt", False), ("crates/low/out/old.rt", False), ("crates/low/src/new.rt", True), ("crates.txt", True)):
+            with self.subTest(name=name):
+                file = self.top / name
+                before = file.read_bytes() if file.exists() else None
+                file.write_bytes((before or b"") + b"// more\n")
+                self.assertEqual(built_program.is_of_its_sources(self.top), not changes)
+                if before is None:
+                    file.unlink()
+                else:
+                    file.write_bytes(before)
 
     def test_the_announcement_comes_only_where_a_build_begins(self):
         self.assertIn("proving and building", self.run_build().stderr)

@@ -90,6 +90,13 @@ class Launches(unittest.TestCase):
         self.run_it()
         self.assertEqual(self.builds(), 2)
 
+    def test_by_a_link(self):
+        self.run_it()
+        (self.top.parent / "bin").mkdir()
+        (self.top.parent / "bin" / "ntp").symlink_to("../a place/radio_ntpd")
+        done = subprocess.run([self.top.parent / "bin" / "ntp", "drill"], capture_output=True, text=True, timeout=60)
+        self.assertEqual((done.returncode, done.stdout, done.stderr), (5, "<drill>\n", ""))
+
     def test_a_program_is_not_run_that_its_sources_no_longer_give(self):
         self.run_it()
         self.is_made(self.program, 500)
@@ -98,6 +105,18 @@ class Launches(unittest.TestCase):
             self.assertEqual(self.run_it("drill", BUILD_FAILS="70"), (70, ""))
         self.assertEqual(self.run_it("drill"), (5, "<drill>\n"))
         self.assertEqual(self.builds(), 4)
+
+
+class Gates(unittest.TestCase):
+    def test_without_a_toolchain_the_gate_says_so(self):
+        """Its shell and what it calls are there, and `rt` is not."""
+        with tempfile.TemporaryDirectory() as folder:
+            for name in ("sh", "dirname", "date", "basename"):
+                Path(folder, name).symlink_to(shutil.which(name) or name)
+            done = subprocess.run([TOP / ".ci/run"], capture_output=True, text=True, timeout=60, env={"PATH": folder})
+        self.assertEqual((done.returncode, done.stdout), (69, ""))
+        self.assertEqual(len(done.stderr.splitlines()), 1)
+        self.assertIn("rt is not on PATH", done.stderr)
 
 
 if __name__ == "__main__":
