@@ -51,9 +51,6 @@ CASES = [
     ("bench/make_logs.py", "--minutes 1 /nosuch", 1),
     ("bench/make_script.py", "x", 2),
     ("bench/ask_on.py", "", 2),
-    ("bench/calibrate.py", "", 2),
-    ("bench/calibrate_spread.py", "x", 2),
-    ("bench/pictures.py", "", 2),
     ("checks/ask.py", "", 1),
     ("checks/ask.py", "look 9", 1),
     ("checks/hostile.py", "x", 2),
@@ -70,6 +67,8 @@ CASES = [
     ("tools/headline.py", "--nosuch", 2),
     ("tools/headline.py", "--help", 0),
     ("tools/measure_closure.py", "nonsense", 1),
+    ("tools/measure_closure.py", "--help", 0),
+    ("tools/measure_closure.py", "--nosuch", 2),
     ("tools/measure_shape.py", "--help", 0),
     ("tools/measure_shape.py", "--list nonsense", 2),
     ("tools/measure_shape.py", "--top /nosuch", 1),
@@ -109,6 +108,9 @@ class Ends(unittest.TestCase):
                         self.assertEqual(done.stderr.count(b"\n"), said.count(b"\n"), done.stderr)
                         self.assertTrue(done.stderr.endswith(said))
                         self.assertNotIn(b"None", done.stderr)
+
+    def test_none_is_twice(self):
+        self.assertEqual(sorted(set(CASES)), sorted(CASES))
 
     def test_none_is_missing(self):
         """Each program that can be run by itself has a case."""

@@ -7,6 +7,7 @@ Without a name it measures the headline's record (station_report.Headline.IsServ
 without comments, the files that they stand in, and Rust's own types that they name. With --list the lines by file follow.
 """
 
+import argparse
 import sys
 from collections import Counter
 from pathlib import Path
@@ -23,9 +24,8 @@ def lines_of(definition: Definition) -> tuple[int, int]:
     return len(definition.comment) + len(definition.lines), len(bare)
 
 
-def measure() -> int:
-    """Measures each name that is given. Raises OSError."""
-    words = [word for word in sys.argv[1:] if word != "--list"] or [HEADLINE]
+def measure(words: list[str], lists: bool) -> int:
+    """Measures each name that is given; `lists`: with the lines by file. Raises OSError."""
     specs = Specs(Path(__file__).resolve().parent.parent)
     print(f"{'definition':44}{'definitions':>12}{'lines':>8}{'bare':>8}{'files':>8}{'types':>8}")
     for word in words:
@@ -35,12 +35,12 @@ def measure() -> int:
             print(f"measure_closure: no definition {word}: write CRATE.FILE.NAME", file=sys.stderr)
             return 1
         counts = [lines_of(definition) for definition in met.values()]
-        files = Counter()
+        files: Counter[tuple[str, str]] = Counter()
         for one, (whole, _) in zip(met, counts):
             files[one.crate, one.file] += whole
         types = set().union(*(definition.types for definition in met.values()))
         print(f"{word:44}{len(met):12}{sum(c[0] for c in counts):8}{sum(c[1] for c in counts):8}{len(files):8}{len(types):8}")
-        if "--list" in sys.argv:
+        if lists:
             for (crate, file), lines in sorted(files.items(), key=lambda item: -item[1]):
                 print(f"    {crate}/specs/{file}.antt {lines}")
     sys.stdout.flush()
@@ -49,8 +49,12 @@ def measure() -> int:
 
 def main() -> int:
     """Measures, and says in a sentence why that can't be done."""
+    words = argparse.ArgumentParser(description=__doc__, formatter_class=argparse.RawDescriptionHelpFormatter)
+    words.add_argument("names", nargs="*", metavar="CRATE.FILE.NAME", default=[HEADLINE])
+    words.add_argument("--list", action="store_true")
+    asked = words.parse_args()
     try:
-        return measure()
+        return measure(asked.names, asked.list)
     except OSError as fault:
         return end_of_output("measure_closure", fault)
 
