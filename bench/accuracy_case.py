@@ -1,6 +1,5 @@
 """One case of accuracy.py: a receiver in software, a keeper of it, and the clients that judge."""
 
-import os
 import pathlib
 import shutil
 import signal
@@ -151,6 +150,6 @@ class Case:
         within = sum(abs(error) <= distance for error, distance in seen) / len(seen)
         share = answered * every / (self.plan.seconds - (begin - self.since[1]))
         return (
-            f"{what} {1000 * statistics.mean(errors):8.2f} {1000 * statistics.pstdev(errors):7.2f} {1000 * max(map(abs, errors)):7.2f}"
+            f"{what} {1000 * statistics.mean(errors):8.2f} {1000 * statistics.pstdev(errors):7.2f} {1000 * max(abs(one) for one in errors):7.2f}"
             f" {100 * within:7.1f} {100 * min(1, share):9.1f} {100 * len(seen) / answered:6.1f}"
         )

@@ -33,6 +33,7 @@ def worked_out(plan: str, jitter: float, minutes: int, seed: int) -> tuple[float
         if since and since % MINUTE == 0:
             taken.take(f"0 {start} verdict {first + since // SECOND} 0")
     found = result(taken.found)
+    assert found is not None, "each minute is believed"
     return 1000 * found.late - LAG / 1000, 1000 * found.error
 
 
@@ -51,7 +52,7 @@ def main() -> int:
             within = [100 * sum(abs(one) <= times * error for one, error in rows) / len(rows) for times in (1, 2)]
             printed = statistics.fmean(error for _, error in rows)
             print(
-                f"{plan:5} {minutes:7} {statistics.pstdev(off):7.2f} {statistics.fmean(off):7.2f} {max(map(abs, off)):7.2f} |"
+                f"{plan:5} {minutes:7} {statistics.pstdev(off):7.2f} {statistics.fmean(off):7.2f} {max(abs(one) for one in off):7.2f} |"
                 f" {printed:7.2f} | {within[0]:10.0f} {within[1]:11.0f}", flush=True
             )
     return 0

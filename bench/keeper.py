@@ -100,6 +100,12 @@ def used(process: int) -> float:
     return sum(int(one) for one in words[11:15]) / TICKS
 
 
+def proportional(process: int) -> int:
+    """What a process has in memory, its part of what it shares with others (KB)."""
+    rows = pathlib.Path(f"/proc/{process}/smaps_rollup").read_text().splitlines()
+    return next(int(row.split()[1]) for row in rows if row.startswith("Pss:"))
+
+
 def costs(base: float) -> None:
     """Processor time and memory of the keeper and of what it starts, the receivers in software left out."""
     with Kept(radios(base, PLANS)) as kept:
@@ -111,7 +117,7 @@ def costs(base: float) -> None:
         before, keeper = sum(used(one) for one in mine), used(kept.process.pid)
         time.sleep(STEADY)
         steady, alone = sum(used(one) for one in mine) - before, used(kept.process.pid) - keeper
-        memory = {one: int(re.search(r"Pss:\s+(\d+)", pathlib.Path(f"/proc/{one}/smaps_rollup").read_text())[1]) for one in mine}
+        memory = {one: proportional(one) for one in mine}
         print(f"an hour of three radios: {steady * 3600 / STEADY:.0f} s of processor time, the keeper alone {alone * 3600 / STEADY:.0f}; memory {sum(memory.values()) / 1024:.0f} MB, the keeper alone {memory[kept.process.pid] / 1024:.0f}")
         before = used(kept.process.pid)
         kept.process.send_signal(1)

@@ -10,6 +10,7 @@ WORK is a folder to work in, and PICTURES the one that the pictures are written 
     phase.svg                   four hours of DCF77 with 8 ms of jitter, as it came and steady
 """
 
+import dataclasses
 import os
 import pathlib
 import subprocess
@@ -42,7 +43,7 @@ def journal(program: str, folder: pathlib.Path, name: str, logs: dict[str, list[
 
 def received(folder: pathlib.Path, plan: str, seed: int) -> list[str]:
     """The steady log of a day with noise and silence."""
-    noisy = dict((line[0], line) for line in made_log(plan, FIRST, DAY, Faults(**{**vars(JITTER), "bits": 0.03}), seed, BEGIN))
+    noisy = dict((line[0], line) for line in made_log(plan, FIRST, DAY, dataclasses.replace(JITTER, bits=0.03), seed, BEGIN))
     lines = []
     for line in made_log(plan, FIRST, DAY, JITTER, seed, BEGIN):
         minute = (line[0] - BEGIN) // MINUTE

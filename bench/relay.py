@@ -71,6 +71,7 @@ def in_own_network() -> bool:
 def server(port: int) -> tuple[subprocess.Popen, int]:
     """A server and its port."""
     process = subprocess.Popen([sys.executable, "-B", "-c", SERVER, str(port)], stdout=subprocess.PIPE, stderr=subprocess.DEVNULL)
+    assert process.stdout
     return process, int(process.stdout.readline())
 
 
@@ -102,8 +103,7 @@ def main() -> None:
     guard.close()
     for process, _ in servers:
         process.kill()
-        process.wait()
-        process.stdout.close()
+        process.communicate()
 
 
 if __name__ == "__main__":

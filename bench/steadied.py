@@ -21,7 +21,7 @@ import signal
 import statistics
 import sys
 import tempfile
-from typing import Callable, Iterable, Iterator, NoReturn
+from typing import Callable, Iterable, Iterator, NoReturn, Sequence
 
 from known_logs import BEGIN, FIRST, Report, decode, errors, is_wrong, late, replay
 from soft_receiver import Faults, made_log
@@ -59,7 +59,7 @@ def spread_of(program: str, plan: str, jitter: float, ppm: float, normal: bool, 
     shape = "normal" if normal else "even"
     return (
         f"{plan:5} {shape:7} {jitter:3g} {ppm:4g} {len(raw):6} {before:7.2f} {len(steady):6} {after:7.2f} {before / after:6.1f}"
-        f" {statistics.mean(steady):7.2f} {max(map(abs, steady)):7.2f}"
+        f" {statistics.mean(steady):7.2f} {max(abs(one) for one in steady):7.2f}"
     )
 
 
@@ -93,7 +93,7 @@ def spread(words: argparse.Namespace) -> int:
     return 0
 
 
-def side_by_side(jobs: list[Callable], processes: int) -> Iterator:
+def side_by_side(jobs: Sequence[Callable], processes: int) -> Iterator:
     """What some functions give, in their order, run in this number of processes."""
     with multiprocessing.Pool(processes, end_quietly) as pool:
         yield from pool.imap(call, jobs)

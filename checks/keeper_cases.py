@@ -66,7 +66,7 @@ def starts(base: float) -> int:
         looked = due(said is not None and said[:3] == (3, 0, "INIT"), f"a cold start answers {said}")
         looked += ended(cold, 0)
     with Kept([("msf", 'file = "msf.log"')]) as warm:
-        words = [sys.executable, "-B", TOP / "checks/receiver.py", "msf", "--base", repr(base), "--history", "14"]
+        words = [sys.executable, "-B", str(TOP / "checks/receiver.py"), "msf", "--base", repr(base), "--history", "14"]
         with open(warm.folder / "msf.log", "wb") as log, subprocess.Popen(words, stdout=log) as writer:
             try:
                 time.sleep(2)
@@ -193,7 +193,7 @@ def full_disk(base: float) -> int:
     with Kept([command("dcf", base)], "cycle = 2") as kept:
         journals = kept.folder / "state/journals"
         journals.mkdir(parents=True)
-        words = ["mount", "-t", "tmpfs", "-o", "size=1m", "tmpfs", journals]
+        words = ["mount", "-t", "tmpfs", "-o", "size=1m", "tmpfs", str(journals)]
         if os.geteuid() != 0 or subprocess.run(words, stderr=subprocess.DEVNULL).returncode != 0:
             print("  no small disk can be made here: the full disk is left out", flush=True)
             return 0

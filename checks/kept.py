@@ -111,7 +111,7 @@ class Kept:
         (self.folder / "station.toml").write_text(f"{station}\n{rows}[[link]]\nport = {self.port}\n")
         tables = "".join(f"[[radio]]\n{keys}\n" for _, keys in radios)
         (self.folder / "keeper.toml").write_text(f'station = "station.toml"\n{top}\n{tables}')
-        self.process: subprocess.Popen | None = None
+        self.child: subprocess.Popen | None = None
         self.clients: list[Asking] = []
 
     def __enter__(self) -> "Kept":
@@ -125,6 +125,13 @@ class Kept:
         self.kill()
         shutil.rmtree(self.folder)
 
+    @property
+    def process(self) -> subprocess.Popen:
+        """The keeper. Raises Wrong where it wasn't started."""
+        if self.child is None:
+            raise Wrong("the keeper wasn't started")
+        return self.child
+
     def client(self, base: float, rate: float = RATE) -> "Asking":
         """A client that asks its link."""
         self.clients.append(Asking(self.port, base, rate))
@@ -134,7 +141,7 @@ class Kept:
         words = [str(TOP / "radio_keeper"), "run", "--config", str(self.folder / "keeper.toml")]
         self.said_at = (self.folder / "said").stat().st_size if (self.folder / "said").exists() else 0
         with open(self.folder / "said", "ab") as said:
-            self.process = subprocess.Popen(words, stdin=subprocess.DEVNULL, stdout=said, stderr=said, env={**os.environ, "RADIO_NTPD": program()})
+            self.child = subprocess.Popen(words, stdin=subprocess.DEVNULL, stdout=said, stderr=said, env={**os.environ, "RADIO_NTPD": program()})
 
     def text(self) -> str:
         """What it has said since it was started last."""
@@ -173,20 +180,21 @@ class Kept:
             raise Wrong(f"the keeper doesn't end within {wait} s: {self.text()}") from error
 
     def kill(self) -> None:
-        if self.process and self.process.poll() is None:
-            self.process.kill()
-            self.process.wait()
+        if self.child and self.child.poll() is None:
+            self.child.kill()
+            self.child.wait()
 
 
 class Asking:
     """A client beside: `look` gives what it has met so far, `report` ends it and gives all. Both raise Wrong where it has ended by itself."""
 
     def __init__(self, port: int, base: float, rate: float, seconds: float = 100_000) -> None:
-        words = [sys.executable, "-B", TOP / "checks/kept_client.py", str(port), str(seconds), str(rate), repr(base)]
+        words = [sys.executable, "-B", str(TOP / "checks/kept_client.py"), str(port), str(seconds), str(rate), repr(base)]
         self.process = subprocess.Popen(words, stdout=subprocess.PIPE)
 
     def look(self) -> dict:
         self.process.send_signal(signal.SIGUSR1)
+        assert self.process.stdout
         return self._told(self.process.stdout.readline())
 
     def report(self) -> dict:

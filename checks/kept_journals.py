@@ -20,7 +20,8 @@ def whole(journal: pathlib.Path) -> int:
     page = [line for line in text.splitlines(True) if line.startswith("page ")]
     bare = journal.with_suffix(".bare")
     bare.write_text("".join(lines))
-    words = [program(), "migrate", "--station", journal.parent.parent.parent / "station.toml", "--journal", bare]
+    station = journal.parent.parent.parent / "station.toml"
+    words = [program(), "migrate", "--station", str(station), "--journal", str(bare)]
     done = subprocess.run(words, stdout=subprocess.PIPE, timeout=20)
     looked += due(done.stdout.decode() == "".join([*lines, *page, "status 0\n"]), f"migrate says something else of {journal}")
     return looked + due(journal.with_suffix(".own").exists(), f"no counts stand beside {journal}")

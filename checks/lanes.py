@@ -31,11 +31,11 @@ ENDS = 10.0  # for a check that was told to end, in seconds
 
 
 class Lanes:
-    """The checks that run, and how those ended that have. `passed` is False from the first failure on."""
+    """The checks that run, and how those ended that have."""
 
     def __init__(self, top: Path) -> None:
         self.top = top
-        self.passed = True
+        self.failed = threading.Event()
         self.times: list[str] = []
         self.running: set[subprocess.Popen[bytes]] = set()
         self.lock = threading.Lock()
@@ -51,7 +51,7 @@ class Lanes:
         except KeyboardInterrupt:
             self.stop()
             raise
-        return self.passed
+        return not self.failed.is_set()
 
     def lane(self, lane: tuple[str, ...]) -> None:
         """Runs the checks of a lane, one after the other, until one fails somewhere."""
@@ -63,7 +63,7 @@ class Lanes:
         """Runs a check, and returns whether the lane goes on. A check that another's failure has ended is not reported."""
         began = time.monotonic()
         with self.lock:
-            if not self.passed:
+            if self.failed.is_set():
                 return False
             child = subprocess.Popen(check.split(), cwd=self.top, stdin=subprocess.DEVNULL, stdout=subprocess.PIPE, stderr=subprocess.STDOUT, start_new_session=True)
             self.running.add(child)
@@ -71,20 +71,22 @@ class Lanes:
         took = f"{time.monotonic() - began:.0f} s"
         with self.lock:
             self.running.discard(child)
-            if not self.passed:
+            if self.failed.is_set():
                 return False
-            self.passed = child.returncode == 0
+            if child.returncode != 0:
+                self.failed.set()
             self.times.append(f"{Path(check.split()[0]).name} {took}")
-            ended = f"took {took}" if self.passed else f"failed with status {child.returncode} after {took}"
+            ended = f"took {took}" if child.returncode == 0 else f"failed with status {child.returncode} after {took}"
             print(f"== step: {check}\n{said.decode(errors='replace')}== step {ended}: {check}", flush=True)
-        if not self.passed:
+        if child.returncode != 0:
             self.stop()
-        return self.passed
+        return child.returncode == 0
 
     def stop(self) -> None:
         """Ends the checks that still run, with all that they started."""
         with self.lock:
-            self.passed, left = False, list(self.running)
+            self.failed.set()
+            left = list(self.running)
         for number, wait in ((signal.SIGTERM, ENDS), (signal.SIGKILL, ENDS)):
             for child in left:
                 with contextlib.suppress(OSError):

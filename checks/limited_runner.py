@@ -23,19 +23,21 @@ class Runner:
         self.start()
 
     def start(self) -> None:
-        pipes = {"stdin": subprocess.PIPE, "stdout": subprocess.PIPE}
-        self.shell = subprocess.Popen(["/bin/sh"], bufsize=0, start_new_session=True, **pipes)
-        self.shell.stdin.write(f"ulimit -c 0; ulimit -d {MEMORY // 1024}\n".encode())
+        pipe = subprocess.PIPE
+        self.shell = subprocess.Popen(["/bin/sh"], bufsize=0, start_new_session=True, stdin=pipe, stdout=pipe)
+        assert self.shell.stdin and self.shell.stdout
+        self.commands, self.answers = self.shell.stdin, self.shell.stdout
+        self.commands.write(f"ulimit -c 0; ulimit -d {MEMORY // 1024}\n".encode())
 
     def __call__(self, words: list[str]) -> tuple[bytes, int]:
         """Returns what the program writes, and its status; Wrong where it hangs, or a signal ends it."""
         line = " ".join(map(shlex.quote, (str(PROGRAM), *words)))
-        self.shell.stdin.write(f"{line} > {self.out} < /dev/null; echo $?\n".encode())
-        if not select.select([self.shell.stdout], [], [], LONGEST)[0]:
+        self.commands.write(f"{line} > {self.out} < /dev/null; echo $?\n".encode())
+        if not select.select([self.answers], [], [], LONGEST)[0]:
             self.end()
             self.start()
             raise grammar.Wrong(f"hangs: {line}")
-        status = int(os.read(self.shell.stdout.fileno(), 64))
+        status = int(os.read(self.answers.fileno(), 64))
         grammar.need(status < 128, f"ended by signal {status - 128}: {line}")
         with open(self.out, "rb") as file:
             return file.read(), status

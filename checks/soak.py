@@ -45,6 +45,7 @@ def server(base: float, port: int = 0) -> tuple[subprocess.Popen, int]:
     """Such a server and its port, which is a free one where none is given."""
     words = [sys.executable, "-B", __file__, "--serve", repr(base), str(port)]
     process = subprocess.Popen(words, stdout=subprocess.PIPE)
+    assert process.stdout
     return process, int(process.stdout.readline())
 
 

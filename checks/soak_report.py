@@ -104,7 +104,7 @@ def judge(met: dict, runs: dict[int, tuple[str, float]], kills: list[Event], beg
 def _event(events: list[Event], at: float) -> Event | None:
     """What a span that begins at this moment is put down to: a kill before a change of run, and of those the last one."""
     found = [one for one in events if one.has(at)]
-    return max(found, key=lambda one: (one.kind is not CHANGED, one.at), default=None)
+    return max(found, key=lambda one: (one.kind is not CHANGED, one.at)) if found else None
 
 
 def _take(report: Report, what: str, event: Event | None, after: float, span: tuple[float, float, int]) -> None:

@@ -15,9 +15,16 @@ def page(name: str) -> str:
     return (TOP / name).read_text(encoding="utf-8")
 
 
+def found(form: str, text: str) -> str:
+    """What the first group of a regular expression is in a text."""
+    match = re.search(form, text, re.DOTALL | re.MULTILINE)
+    assert match, f"there is no {form}"
+    return match[1]
+
+
 def constant(name: str) -> str:
     """A text of texts.rt."""
-    return re.search(rf'pub const {name}: &str =\s*"((?:[^"\\]|\\.)*)";', page("crates/standard_error/src/texts.rt"), re.DOTALL)[1]
+    return found(rf'pub const {name}: &str =\s*"((?:[^"\\]|\\.)*)";', page("crates/standard_error/src/texts.rt"))
 
 
 def command_lines(text: str) -> list[str]:
@@ -28,18 +35,19 @@ def command_lines(text: str) -> list[str]:
 
 def synopsis() -> list[str]:
     """Those of the manual page, in the help's form."""
-    lines, found = re.search(r"^\.Sh SYNOPSIS\n(.*?)^\.Sh", page("docs/radio_ntpd.8"), re.DOTALL | re.MULTILINE)[1].splitlines(), []
+    lines = found(r"^\.Sh SYNOPSIS\n(.*?)^\.Sh", page("docs/radio_ntpd.8")).splitlines()
+    given: list[str] = []
     for line in lines:
         words = re.sub(r"Fl Fl ", "--", line[1:]).replace("Ar ", "")
         if words.startswith("Nm"):
-            found.append("radio_ntpd")
-        elif words.startswith("Cm ") and found and " " not in found[-1]:
-            found[-1] += " " + words[3:]
-        elif found and " " in found[-1] and words.startswith(("--", "Op --")):  # of a command, which --help and --version are not
+            given.append("radio_ntpd")
+        elif words.startswith("Cm ") and given and " " not in given[-1]:
+            given[-1] += " " + words[3:]
+        elif given and " " in given[-1] and words.startswith(("--", "Op --")):  # of a command, which --help and --version are not
             option, value = words.removeprefix("Op ").split()
             said = f"{option} {value.upper()}"
-            found[-1] += f" [{said}]" if words.startswith("Op") else f" {said}"
-    return [line for line in found if "--" in line]
+            given[-1] += f" [{said}]" if words.startswith("Op") else f" {said}"
+    return [line for line in given if "--" in line]
 
 
 class Help(unittest.TestCase):

@@ -99,7 +99,8 @@ def read_use(file: File, line: str) -> None:
 
 def read_file(path: Path, crate: str) -> File:
     """Reads one file of specs/."""
-    file, comment, now = File(), [], None
+    file, now = File(), None
+    comment: list[str] = []
     short = path.stem
     for number, line in enumerate(path.read_text(encoding="utf-8").splitlines(), 1):
         if line.startswith(("use ", "pub use ")):

@@ -178,7 +178,7 @@ def offsets(run: Run, station: Station) -> str:
     rates = sorted(((entry.at - first) / scale.unit, entry.rate / 2**32 * 1e6) for entry in run.entries if entry.rate is not None)
     panels = [above, middle]
     if rates:
-        panels.append(Panel("rate of the page,\nppm", 120, shapes=lines_of(rates, scale.step, GREY)))
+        panels.append(Panel("rate of the page,\nppm", 120, shapes=[*lines_of(rates, scale.step, GREY)]))
     return picture(panels, round_axis([0.0, (last - first) / scale.unit], 10, has_zero=True), scale.name, begin_of(run))
 
 

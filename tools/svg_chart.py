@@ -4,6 +4,7 @@ import html
 import math
 import time
 from dataclasses import dataclass, field
+from typing import TypeVar
 
 WIDTH, LEFT, RIGHT = 900, 90, 130  # of a picture, and of what stands left and right of its panels, in pixels
 TOP, BETWEEN, BELOW = 26, 14, 44
@@ -14,6 +15,7 @@ HOUR = 3600
 STEPS = (60, 120, 300, 600, 1800, *(HOUR * hours for hours in (1, 2, 3, 6, 12, 24, 48, 96, 168)))
 MOST_STEPS = 9
 Point = tuple[float, float]
+Points = TypeVar("Points", bound=tuple[float, ...])  # a place and the values there
 
 
 @dataclass
@@ -122,9 +124,9 @@ def text(x: float, y: float, said: str, anchor: str = "middle", turn: bool = Fal
     return f'<text x="{x:.1f}" y="{y:.1f}" text-anchor="{anchor}"{turned}>{spans}</text>'
 
 
-def runs(points: list[tuple[float, ...]]) -> list[list[tuple[float, ...]]]:
+def runs(points: list[Points]) -> list[list[Points]]:
     """Points in the pieces between those that aren't numbers."""
-    pieces: list[list[tuple[float, ...]]] = [[]]
+    pieces: list[list[Points]] = [[]]
     for point in points:
         if all(map(math.isfinite, point)):
             pieces[-1].append(point)
@@ -156,8 +158,8 @@ class Frame:
             wide, high = self.x(shape.right) - left, self.y(shape.low) - top
             return f'<rect x="{left:.1f}" y="{top:.1f}" width="{wide:.1f}" height="{high:.1f}" fill="{shape.colour}"/>'
         if isinstance(shape, Band):
-            pieces = runs(list(zip(shape.at, shape.low, shape.high)))
-            outlines = [[(at, low) for at, low, _ in piece] + [(at, high) for at, _, high in reversed(piece)] for piece in pieces]
+            bands = runs(list(zip(shape.at, shape.low, shape.high)))
+            outlines = [[(at, low) for at, low, _ in piece] + [(at, high) for at, _, high in reversed(piece)] for piece in bands]
             return "".join(f'<polygon points="{" ".join(map(self.place, one))}" fill="{shape.colour}" fill-opacity="0.22"/>' for one in outlines)
         pieces = runs(shape.points)
         drawn = [f'<polyline points="{" ".join(map(self.place, one))}" fill="none" stroke="{shape.colour}"/>' for one in pieces if len(one) > 1]

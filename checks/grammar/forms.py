@@ -73,10 +73,11 @@ class Entry:
         need(len(fields) > 2 and fields[2] in WORDS, f"no entry: {text!r}")
         self.word, rest = fields[2], fields[3:]
         kinds = WORDS[self.word]
-        self.feed, self.at = number(fields[0], 2**32), number(fields[1], MOMENTS)
-        need(self.feed is not None and self.at is not None and len(rest) == len(kinds), f"no entry: {text!r}")
-        need(all(map(is_field, rest, kinds)), f"no entry: {text!r}")
-        self.values = [text if form == "hex" else int(text) for text, (form, _) in zip(rest, kinds)]
+        feed, at = number(fields[0], 2**32), number(fields[1], MOMENTS)
+        if feed is None or at is None or len(rest) != len(kinds) or not all(map(is_field, rest, kinds)):
+            raise Wrong(f"no entry: {text!r}")
+        self.feed, self.at = feed, at
+        self.values = [int(text, 16 if form == "hex" else 10) for text, (form, _) in zip(rest, kinds)]
 
     def is_valid(self, feeds: int) -> bool:
         """Returns whether a journal of that many feeds may have it."""
@@ -95,7 +96,8 @@ def numbered(text: str) -> tuple[int, int, str]:
     fields = text.split(" ", 3)
     need(len(fields) == 4 and fields[0] == "j2", f"no numbered entry: {text!r}")
     length = number(fields[1], 2**64)
-    need(length is not None and length > 0, f"no number of an entry: {text!r}")
+    if not length:
+        raise Wrong(f"no number of an entry: {text!r}")
     need(is_field(fields[2], ("size", MOST_RATE + 1)), f"no rate: {text!r}")
     return length, int(fields[2]), fields[3]
 
@@ -104,7 +106,8 @@ def page(text: str) -> tuple[int, int]:
     """Returns how many entries a page line is of, and whether it has the time; Wrong where the text is none."""
     form = f"page ({NUMBER}) ([01]) ({NUMBER}) ([0-9a-f]{{8}}) ({NUMBER}) ({NUMBER}) ({NUMBER}) ({NUMBER}) ({NUMBER}) ([0-9a-f]{{16}}) ({NUMBER}) ({SIGNED})"
     found = re.fullmatch(form, text)
-    need(found, f"no page line: {text!r}")
+    if found is None:
+        raise Wrong(f"no page line: {text!r}")
     length, sync, stratum, refid, offset, anchor, until, delay, dispersion, reftime, leap_at, rate = found.groups()
     need(int(stratum) < 256 and int(offset) < 2**70 and int(anchor) < MOMENTS, f"no page: {text!r}")
     need(int(until) < 2**64 and int(delay) < 2**32 and int(dispersion) < 2**32 and int(leap_at) < 2**64, f"no page: {text!r}")

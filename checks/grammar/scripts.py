@@ -70,7 +70,8 @@ class Script:
 
     def is_request(self, link: str, arrived: str, sent: str, text: str) -> bool:
         came, left = number(arrived, MOMENTS), number(sent, MOMENTS)
-        return number(link, 8) is not None and None not in (came, left) and came <= left and is_datagram(text)
+        is_link = number(link, 8) is not None
+        return is_link and came is not None and left is not None and came <= left and is_datagram(text)
 
 
 def is_datagram(text: str) -> bool:
@@ -104,26 +105,27 @@ class Play:
         elif word == "swap" or word == "pulse" and not is_of(self.line, fields):
             return
         else:
-            need(self.line is not None and getattr(self, "is_" + word)(fields), f"{self.line!r} for {text!r}")
+            line = self.line
+            need(line is not None and getattr(self, "is_" + word)(line, fields), f"{line!r} for {text!r}")
             self.line = next(self.rest, None)
 
-    def is_pulse(self, fields: list[str]) -> bool:
-        return self.journal.take(self.line).word in OF_RADIOS
+    def is_pulse(self, line: str, fields: list[str]) -> bool:
+        return self.journal.take(line).word in OF_RADIOS
 
-    def is_leap(self, fields: list[str]) -> bool:
-        self.journal.take(self.line)
-        return numbered(self.line)[2] == "{} {} notice {}".format(*fields)
+    def is_leap(self, line: str, fields: list[str]) -> bool:
+        self.journal.take(line)
+        return numbered(line)[2] == "{} {} notice {}".format(*fields)
 
-    def is_answer(self, fields: list[str]) -> bool:
-        entry = self.journal.take(self.line)
+    def is_answer(self, line: str, fields: list[str]) -> bool:
+        entry = self.journal.take(line)
         return entry.word in ("sample", "declined") and entry.feed == int(fields[0]) and entry.at == int(fields[1])
 
-    def is_ask(self, fields: list[str]) -> bool:
-        return re.fullmatch("asked 230006ec0{72}[0-9a-f]{16}", self.line) is not None
+    def is_ask(self, line: str, fields: list[str]) -> bool:
+        return re.fullmatch("asked 230006ec0{72}[0-9a-f]{16}", line) is not None
 
-    def is_request(self, fields: list[str]) -> bool:
+    def is_request(self, line: str, fields: list[str]) -> bool:
         due = answer_to(fields[3])
-        return self.line == due or self.line.startswith(due) and is_reply(self.line, fields[3])
+        return line == due or line.startswith(due) and is_reply(line, fields[3])
 
 
 def judge_replay(plans: Plans, data: bytes, output: bytes, status: int, limit: int = 2**20) -> None:

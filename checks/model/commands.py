@@ -85,7 +85,7 @@ def migrate(station: bytes | None, text: bytes | None) -> Ended:
     is_numbered = text.startswith(b"j2")
     met(f"journal: version {1 + is_numbered}")
     journal = read.journal()
-    written = []
+    written: list[str] = []
     for line in lines:
         entry = _entry_of(read, line, is_numbered, len(written) + 1)
         if entry is None:
@@ -145,7 +145,7 @@ def _mingled(station: Station, due: list[list[Entry]], limit: int, status: str, 
     left = [list(one) for one in due]
     order = [int(line.split(" ")[3]) for line in text.splitlines() if line.startswith("j2 ")]
     journal = station.journal()
-    written = []
+    written: list[str] = []
     for feed in order + [feed for feed, one in enumerate(due) for _ in one]:
         if left[feed] and len(written) < limit:
             entry = left[feed].pop(0)
@@ -161,7 +161,7 @@ def drill(seed: int) -> Ended:
     )
     assert isinstance(read, Station)
     journal = read.journal()
-    written = []
+    written: list[str] = []
     for feed, radio in enumerate(read.radios):
         found = due_log(feed, radio.plan, 0, made_log(radio.plan, seed))[0]
         for entry in found:

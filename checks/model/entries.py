@@ -19,8 +19,7 @@ def read(text: str, feeds: int) -> Entry | None:
         return None
     if not found.is_valid(feeds):
         return None
-    values = [int(value, 16) if isinstance(value, str) else value for value in found.values]
-    return Entry(found.feed, found.at, found.word, tuple(values))
+    return Entry(found.feed, found.at, found.word, tuple(found.values))
 
 
 def read_numbered(text: str, feeds: int) -> tuple[int, int, Entry] | None:

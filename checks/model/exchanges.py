@@ -55,9 +55,11 @@ def refusal(history: list[Event], datagram: bytes, is_stranger: bool = False) ->
     """The least number of a refusal whose condition holds."""
     asked = outstanding(history)
     header = read(datagram)
-    code = 1 if is_stranger else 2 if header is None else 3 if asked is None else None
-    if code is None:
-        code = _refusal_of(header, asked, [read(event.datagram).transmit for event in history if event.taken])
+    if is_stranger or header is None or asked is None:
+        code: int | None = 1 if is_stranger else 2 if header is None else 3
+    else:
+        taken = [read(event.datagram) for event in history if event.taken]
+        code = _refusal_of(header, asked, [one.transmit for one in taken if one])
     met(f"answer: {'taken' if code is None else f'refused by {code}'}")
     return code
 
@@ -79,6 +81,7 @@ def _refusal_of(header: Header, asked: int, taken: list[int]) -> int | None:
 def sample(asked: int, at: int, datagram: bytes, address: int) -> tuple[int, ...]:
     """The numbers of a sample entry: offset, delay, dispersion, stratum, address, root delay, root dispersion."""
     header = read(datagram)
+    assert header is not None, "what is no header is refused"
     sent, received = local_span(asked), local_span(at)
     arrived, left = unwrapped(header.receive), unwrapped(header.transmit)
     offset = ((arrived - sent) + (left - received)) // 2

@@ -103,7 +103,7 @@ def all_cases(program: str, folder: pathlib.Path, drawn: dict[str, int], seed: i
         )
         pool[-1].start()
     outcomes = [_next(told, pool) for _ in pool]
-    met = sum((one.met for one in outcomes), collections.Counter())
+    met: collections.Counter[str] = sum((one.met for one in outcomes), collections.Counter())
     return Outcome(sum(one.cases for one in outcomes), met, [text for one in outcomes for text in one.wrong])
 
 

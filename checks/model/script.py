@@ -57,7 +57,8 @@ class Play:
             elif word == "leap":
                 yield from self._keep(Entry(int(fields[0]), int(fields[1]), "notice", (int(fields[2]),)))
             elif word == "request":
-                yield self._request(*map(int, fields[:3]), bytes.fromhex(fields[3]))
+                link, arrived, sent = map(int, fields[:3])
+                yield self._request(link, arrived, sent, bytes.fromhex(fields[3]))
 
     def _keep(self, entry: Entry) -> Iterator[str]:
         if len(self.journal.entries) == self.limit:
@@ -79,6 +80,7 @@ class Play:
         history.append(Event(at, datagram, taken=code is None))
         if code is not None:
             return Entry(feed, at, "declined", (code,))
+        assert asked is not None, "an answer without a request is refused"
         address = self.station.servers[feed - len(self.station.radios)]
         return Entry(feed, at, "sample", exchanges.sample(asked, at, datagram, address))
 

@@ -35,7 +35,8 @@ class Asked(NamedTuple):
 
 def _taken_apart(words: Sequence[str]) -> tuple[list[str], list[tuple[str, str]]] | None:
     """The command words, and the options with their values; None where an option has none."""
-    commands, options = [], []
+    commands: list[str] = []
+    options: list[tuple[str, str]] = []
     rest = list(words)
     while rest:
         word = rest.pop(0)

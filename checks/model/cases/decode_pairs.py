@@ -57,8 +57,8 @@ def summer(plan: str) -> Iterator[Case]:
         midnight = dates.second_of(year, month, day)
         for hours in (-2, -1, 0):
             # A year is spelt by its last two digits.
-            minutes = [spelt(plan, midnight + 3600 * hours + 60 * i) for i in (-2, -1, 0, 1)]
-            yield of_log(plan, f"four minutes by {year}-{month:02}-{day:02}, hour {hours}", Tape(plan, minutes).log())
+            around = [spelt(plan, midnight + 3600 * hours + 60 * i) for i in (-2, -1, 0, 1)]
+            yield of_log(plan, f"four minutes by {year}-{month:02}-{day:02}, hour {hours}", Tape(plan, around).log())
 
 
 def leaps_dcf() -> Iterator[Case]:

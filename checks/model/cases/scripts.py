@@ -45,7 +45,7 @@ def request(datagram: bytes = QUERY, arrived: int = ANCHOR + SECOND, sent: int |
     return f"request {link} {arrived} {arrived + 500 if sent is None else sent} {datagram.hex()}"
 
 
-def answer(asked: int, off: int = 0, header: Header = GOOD, **changes) -> bytes:
+def answer(asked: int, off: int = 0, header: Header = GOOD, /, **changes: int) -> bytes:
     """An answer to the request of a moment by a server whose time is off by this many units, a millisecond each way."""
     arrived = BASE + local_span(asked) + 2**32 // 1000 + off
     stamps = {"origin": transmit_of(asked), "receive": arrived % 2**64, "transmit": (arrived + 4096) % 2**64}

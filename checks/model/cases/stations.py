@@ -27,7 +27,7 @@ TOP = {
     "deny": ("[]", "true"),
     "leap": ("1",), "holdover": ("600",), "Bound": ("5",), '""': ("1",), "radios": ("[]",),
 }
-ROWS = {
+ROWS: dict[str, dict[str, tuple[str, ...]]] = {
     "radio": {
         "plan": ('"dcf"', '"msf"', '"wwvb"', '"jjy"', '"DCF"', '""', "1"),
         "log": ('"x"', '""', "1", '" "'),

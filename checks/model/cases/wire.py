@@ -75,7 +75,9 @@ class Server:
         """What has to be written: each datagram is judged at the moment that its entry has."""
         station = stations.read(f'[[server]]\naddress = "{LOOPBACK}"\nport = 1\n'.encode())
         assert isinstance(station, stations.Station)
-        journal, history, lines = station.journal(), [], []
+        journal = station.journal()
+        history: list[Event] = []
+        lines: list[str] = []
         moments = iter([int(line.split(" ")[4]) for line in text.splitlines() if line.startswith("j2 ")])
         for is_stranger, event in self.heard:
             if event.is_request:
@@ -105,14 +107,15 @@ def _note_round(history: list[Event]) -> None:
 
 def polled() -> Iterator[Case]:
     bad: Turn = (False, lambda asked: answer(asked, mode=3))
-    for name, polls, meant in (
+    cases: tuple[tuple[str, list[list[Turn]], str], ...] = (
         ("four answers", [[(False, answer)]] * 4, "answer: taken"),
         ("a stranger, and then the server", [[(True, answer), (False, answer)]] * 2, "answer: refused by 1"),
         ("a short stranger", [[(True, lambda asked: b"x"), (False, answer)]], "answer: refused by 1"),
         ("seven refused, and then an answer", [[bad] * 7 + [(False, answer)]] * 2, "answer: refused by 5"),
         ("eight refused, and the next request", [[bad] * 8, [(False, answer)]], "wire: a round of eight hearings"),
         ("silence, and the next request", [[bad], [(False, answer)]], "wire: a round that silence ends"),
-    ):
+    )
+    for name, polls, meant in cases:
         server = Server(polls)
         yield Case(f"polls: {name}", ["serve", "--station", "station"], {}, server.due, meant, server)
 
