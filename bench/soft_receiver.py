@@ -6,8 +6,9 @@ NPL and NIST publish. It shares no code with the program.
     soft_receiver.py --plan PLAN --live SECONDS [--history MINUTES] [--form log|edges] [--since MONOTONIC,UNIX] [what is wrong with it]
 
 With --minutes it writes a log at once; --begin is the counter's value at the first minute, a whole second is 1000000 of it. With --live it
-writes what is sent now by the host's clock, for this number of seconds, each reduction as it ends, and before that the last minutes. Its seconds
-are those of the host's monotonic clock; --since says which UTC one of its moments had (the host's own, where it isn't given).
+writes what is sent now by the host's clock, for this number of seconds, each reduction as it ends, and before that the last minutes and what
+has passed of this one; with --history 0, which is the default, nothing before it began. Its seconds are those of the host's monotonic clock;
+--since says which UTC one of its moments had (the host's own, where it isn't given).
 
 What is wrong with it, each nothing where it isn't given:
 
@@ -17,6 +18,7 @@ What is wrong with it, each nothing where it isn't given:
 --bits SHARE      this share of the bits is received wrong
 --lost SHARE      this share of the reductions isn't received
 --lag MS          by how much all reductions are late
+--fades SHARE     in this share of the minutes nothing is received from some second on
 --fade FROM:TO    nothing is received between these seconds of --live, counted from the end of the history
 --seed N          another receiver of this kind
 """
@@ -53,6 +55,7 @@ class Faults:
     bits: float = 0
     lost: float = 0
     lag: float = 0
+    fades: float = 0
 
 
 def sent(plan: str, first: datetime.datetime) -> Iterator[tuple[int, int]]:
@@ -68,8 +71,12 @@ def heard(plan: str, first: datetime.datetime, faults: Faults, seed: int) -> Ite
     """The reductions that a receiver gives: when each was sent, when it came, both in microseconds since `first`, and its width."""
     draw = random.Random(f"{plan} {seed}")
     shake = (lambda: draw.gauss(0, faults.jitter)) if faults.normal else (lambda: draw.uniform(-faults.jitter, faults.jitter))
-    last = float("-inf")
+    # A stream of its own, so that the rest is the same with and without it.
+    fading = random.Random(f"{plan} {seed} fades")
+    fade, last = math.inf, -math.inf
     for moment, width in sent(plan, first):
+        if moment % MINUTE == 0:
+            fade = fading.randrange(60) * SECOND if fading.random() < faults.fades else math.inf
         late = faults.lag + shake()
         if draw.random() < faults.outliers:
             late += draw.uniform(-faults.outlier, faults.outlier)
@@ -77,7 +84,7 @@ def heard(plan: str, first: datetime.datetime, faults: Faults, seed: int) -> Ite
             width = WRONG[plan].get(width, width)
         came = moment * (1 + faults.ppm * 1e-6) + late
         shaken = max(1, round(width + shake()))
-        if draw.random() >= faults.lost and came >= last + 1:
+        if draw.random() >= faults.lost and came >= last + 1 and moment % MINUTE < fade:
             last = came
             yield moment, came, shaken
 
@@ -118,6 +125,8 @@ def live(words: argparse.Namespace, faults: Faults) -> None:
         since = at / SECOND - begin
         if since > words.live:
             return
+        if since < 0 and not words.history:
+            continue
         if any(fade_from <= since < to for fade_from, to in words.fade):
             continue
         wait = since + width / SECOND + 0.0005 - (time.monotonic() - begin)
@@ -149,14 +158,14 @@ def read_words() -> argparse.Namespace:
     words.add_argument("--fade", type=lambda text: pair(text, ":"), action="append", default=[])
     words.add_argument("--seed", type=int, default=1)
     words.add_argument("--normal", action="store_true")
-    for name, unset in (("jitter", 0), ("outliers", 0), ("outlier", 60), ("ppm", 0), ("bits", 0), ("lost", 0), ("lag", 0)):
+    for name, unset in (("jitter", 0), ("outliers", 0), ("outlier", 60), ("ppm", 0), ("bits", 0), ("lost", 0), ("lag", 0), ("fades", 0)):
         words.add_argument(f"--{name}", type=float, default=unset)
     return words.parse_args()
 
 
 def main() -> None:
     words = read_words()
-    faults = Faults(words.jitter * 1000, words.normal, words.outliers, words.outlier * 1000, words.ppm, words.bits, words.lost, words.lag * 1000)
+    faults = Faults(words.jitter * 1000, words.normal, words.outliers, words.outlier * 1000, words.ppm, words.bits, words.lost, words.lag * 1000, words.fades)
     try:
         if words.live is not None:
             live(words, faults)

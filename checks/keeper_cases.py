@@ -9,7 +9,7 @@ import subprocess
 import sys
 import time
 
-from kept import PLANS, TOP, WAIT, Kept, Wrong, ask, base_now, descendants, is_free, parent_of, receiver
+from kept import PLANS, WAIT, Kept, Wrong, ask, base_now, descendants, is_free, parent_of, receiver
 from kept_bounds import CHANGE, CHANGES, FLOODED, GONE, KILLED, LATE, LONGEST_START, NOTHING, PYTHONS, SLOW, WARM, bound, tried
 from kept_journals import as_decoded, as_steadied, due, whole
 from kept_machine import python_start
@@ -17,7 +17,7 @@ from kept_machine import python_start
 FLOOD = 2_000_000
 
 
-def command(plan: str, base: float, history: float = 15, more: str = "") -> tuple[str, str]:
+def command(plan: str, base: float, history: int = 15, more: str = "") -> tuple[str, str]:
     return plan, f'command = "{receiver(plan, base, history, more)}"'
 
 
@@ -66,8 +66,8 @@ def starts(base: float) -> int:
         looked = due(said is not None and said[:3] == (3, 0, "INIT"), f"a cold start answers {said}")
         looked += ended(cold, 0)
     with Kept([("msf", 'file = "msf.log"')]) as warm:
-        words = [sys.executable, "-B", str(TOP / "checks/receiver.py"), "msf", "--base", repr(base), "--history", "14"]
-        with open(warm.folder / "msf.log", "wb") as log, subprocess.Popen(words, stdout=log) as writer:
+        words = receiver("msf", base, 14)
+        with open(warm.folder / "msf.log", "wb") as log, subprocess.Popen(words, stdout=log, shell=True) as writer:
             try:
                 time.sleep(2)
                 began = time.monotonic()
@@ -166,7 +166,7 @@ def sources(base: float) -> int:
     """What a source does to the run and to the other radio: nothing. Its marks are steadied all the while."""
     with Kept([command("dcf", base), ("msf", 'command = "exec sh source"\nstall = 2\nsteady = true')]) as kept:
         source = kept.folder / "source"
-        source.write_text(BROKEN.format(folder=kept.folder, receiver=receiver("msf", base, 15, "--jitter 8000").removeprefix("exec ")))
+        source.write_text(BROKEN.format(folder=kept.folder, receiver=receiver("msf", base, 15, "--jitter 8").removeprefix("exec ")))
         text = (kept.folder / "keeper.toml").read_text()
         (kept.folder / "keeper.toml").write_text(text.replace("sh source", f"sh {source}"))
         kept.start()

@@ -17,6 +17,7 @@ from collections.abc import Callable
 TOP = pathlib.Path(__file__).resolve().parent.parent
 PLANS = ("dcf", "msf", "wwvb")
 EPOCH = 2208988800
+FOREVER = 10**7  # that a receiver in software goes on, in seconds
 WAIT = 30.0  # for what has to come, on a busy machine, in seconds
 
 
@@ -94,9 +95,10 @@ def descendants(process: int) -> list[int]:
     return found[1:]
 
 
-def receiver(plan: str, base: float, history: float = 15, more: str = "") -> str:
-    """The command of a receiver in software."""
-    return f"exec {sys.executable} -B {TOP}/checks/receiver.py {plan} --base {base!r} --history {history} {more}"
+def receiver(plan: str, base: float, history: int = 15, more: str = "") -> str:
+    """The command of a receiver in software that begins with the last minutes. `base`: UTC less the monotonic clock, in seconds."""
+    options = f"--plan {plan} --live {FOREVER} --since 0,{base!r} --history {history} {more}"
+    return f"exec {sys.executable} -B {TOP}/bench/soft_receiver.py {options}"
 
 
 class Kept:

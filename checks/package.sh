@@ -63,15 +63,14 @@ for page in "$host"/usr/share/doc/radio-ntpd/*.md "$host"/usr/share/doc/radio-nt
 done
 
 # A receiver in software, with eight minutes of history, in the place of one on a pin.
-mkdir -p "$host/opt/bench" "$host/opt/checks"
-cp checks/receiver.py "$host/opt/checks/"
+mkdir -p "$host/opt/bench"
 cp bench/*.py "$host/opt/bench/"
 printf 'bound = 1000\n[[radio]]\nplan = "dcf"\nlog = "x"\n[[link]]\nport = %s\n' "$port" > "$host/etc/radio_ntpd/station.toml"
 cat > "$host/etc/radio_ntpd/keeper.toml" <<'TOML'
 station = "station.toml"
 state = "/var/lib/radio_ntpd"
 [[radio]]
-command = "/opt/checks/receiver.py dcf --edges --history 8 | /usr/lib/radio_ntpd/feeders/edges_to_log.py"
+command = "/opt/bench/soft_receiver.py --plan dcf --live 86400 --form edges --history 8 | /usr/lib/radio_ntpd/feeders/edges_to_log.py"
 TOML
 # Installed anew over itself it leaves them as they are.
 cp "$host/etc/radio_ntpd/keeper.toml" "$work/keeper.toml"

@@ -16,7 +16,7 @@ from kept_bounds import SLOW
 from soak_report import RECEIVER, RELAYS, SERVER, Event, judge, lines, verdict
 
 FADE = 0.08  # the chance that a minute loses its carrier
-JITTER = 2000  # of each mark, in microseconds
+JITTER = 2  # of each mark, in milliseconds either way
 RATE = 100  # requests a second
 STEADY = "wwvb"  # this radio is steadied
 LOOK = 600.0  # how often a line is printed, in seconds
@@ -146,7 +146,7 @@ def soak(hours: float, cycle: int, killed: int, base: float) -> int:
     station = "".join(f'[[server]]\naddress = "127.0.0.1"\nport = {port}\n' for _, port in servers)
     radios = []
     for place, plan in enumerate(PLANS):
-        words = receiver(plan, base, 15, f"--fade {FADE} --jitter {JITTER} --seed {place}")
+        words = receiver(plan, base, 15, f"--fades {FADE} --jitter {JITTER} --seed {place}")
         radios.append((plan, f'command = "{words}"\nsteady = {"true" if plan == STEADY else "false"}'))
     kills: list[Event] = []
     try:

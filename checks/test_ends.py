@@ -60,7 +60,6 @@ CASES = [
     ("checks/model.py", "--one decode", 2),
     ("checks/model.py", "--one nosuch 1", 2),
     ("checks/model.py", "--one station 100000", 1),
-    ("checks/receiver.py", "", 2),
     ("checks/pacing.py", "x", 2),
     ("tools/entry_times.py", "--nosuch", 2),
     ("tools/entry_times.py", "/nosuch", 1),

@@ -4,12 +4,20 @@
     checks/test_receivers.py
 """
 
+import datetime
+import itertools
 import pathlib
 import subprocess
 import sys
+import time
 import unittest
 
 TOP = pathlib.Path(__file__).resolve().parent.parent
+sys.path.insert(0, str(TOP / "bench"))
+
+from soft_receiver import MINUTE, SECOND, Faults, heard  # noqa: E402
+
+NOON = datetime.datetime(2026, 1, 1, 12)
 
 
 class Forms(unittest.TestCase):
@@ -28,6 +36,44 @@ class Forms(unittest.TestCase):
                 log = subprocess.run(feeder, input=edges, capture_output=True, check=True, timeout=60).stdout
                 self.assertEqual(log, self.made(plan, "log"))
                 self.assertGreater(len(log.splitlines()), 115)
+
+
+class Fading(unittest.TestCase):
+    def received(self, share, minutes=300):
+        found = heard("dcf", NOON, Faults(jitter=3000, fades=share), 7)
+        return list(itertools.takewhile(lambda one: one[0] < minutes * MINUTE, found))
+
+    def test_a_minute_that_fades_is_received_up_to_some_second(self):
+        whole, faded = self.received(0), self.received(0.3)
+        self.assertTrue(set(faded) < set(whole))
+        short = 0
+        for minute in range(300):
+            seconds = [moment // SECOND % 60 for moment, _, _ in faded if moment // MINUTE == minute]
+            self.assertEqual(seconds, list(range(len(seconds))))
+            short += len(seconds) < 59
+        # 300 minutes of which three in ten fade: 90, with a standard deviation of 8.
+        self.assertTrue(60 < short < 120, short)
+
+
+class Live(unittest.TestCase):
+    def live(self, base, *more):
+        """The starts of what it writes within a second, as UTC in microseconds."""
+        words = ["--plan", "dcf", "--live", "1.2", "--since", f"0,{base!r}", *more]
+        tool = [sys.executable, "-B", TOP / "bench/soft_receiver.py", *words]
+        said = subprocess.run(tool, capture_output=True, check=True, timeout=60, text=True).stdout
+        return [int(line.split()[0]) + base * 1e6 for line in said.splitlines()]
+
+    def test_seconds_are_those_of_the_clock_that_is_named(self):
+        """The host's monotonic clock, which this UTC is ahead of by `base`; the last second of a minute has no mark."""
+        base = 1767268800.25 - time.monotonic()
+        began = time.monotonic() + base
+        past = self.live(base, "--history", "2")
+        now = self.live(base)
+        for unix in past + now:
+            self.assertLess(abs(unix / 1e6 - round(unix / 1e6)), 2e-6)
+        self.assertTrue(2 * 59 <= sum(unix < began * 1e6 for unix in past) <= 3 * 59 + 1)
+        self.assertTrue(0 < len(now) <= 2)
+        self.assertTrue(all(unix >= began * 1e6 for unix in now))
 
 
 if __name__ == "__main__":

@@ -39,8 +39,7 @@ deb=$(packaging/build_deb.sh "$work") || exit 1
         debootstrap --variant=minbase --include=systemd,systemd-sysv,python3,procps bookworm "$host"
     fi && cp "$deb" "$host/tmp/radio-ntpd.deb" && chroot "$host" dpkg --install /tmp/radio-ntpd.deb && chroot "$host" systemctl enable radio_ntpd
 } > "$work/installed" 2>&1 || { tail -n 5 "$work/installed" >&2; exit 1; }
-mkdir -p "$host/opt/checks" "$host/opt/bench"
-cp checks/receiver.py "$host/opt/checks/"
+mkdir -p "$host/opt/bench"
 cp bench/*.py "$host/opt/bench/"
 printf 'bound = 1000\n[[radio]]\nplan = "dcf"\nlog = "x"\n[[link]]\nport = 123\n' > "$host/etc/radio_ntpd/station.toml"
 # A receiver has no history. This one has eight minutes of it at its first start, so that the check needn't wait for them.
@@ -49,7 +48,7 @@ cat > "$host/usr/local/bin/receiver" <<'SH'
 history=8
 [ ! -e /var/lib/radio_ntpd/heard ] || history=0
 : > /var/lib/radio_ntpd/heard
-exec /opt/checks/receiver.py dcf --edges --history $history
+exec /opt/bench/soft_receiver.py --plan dcf --live 86400 --form edges --history $history
 SH
 chmod +x "$host/usr/local/bin/receiver"
 cat > "$host/etc/radio_ntpd/keeper.toml" <<'TOML'
@@ -135,7 +134,7 @@ while [ $killed -lt 10 ]; do
         0) what='all of it' && inside systemctl kill --kill-whom=all --signal=KILL radio_ntpd ;;
         1) what='the keeper' && inside kill -KILL "$(property MainPID)" ;;
         2) what='the server' && inside kill -KILL "$(child 'radio_ntpd serve')" ;;
-        3) what='the receiver' && inside kill -KILL "$(child 'receiver.py dcf')" ;;
+        3) what='the receiver' && inside kill -KILL "$(child 'soft_receiver.py --plan dcf')" ;;
     esac || wrong "$what couldn't be killed"
     began=$(date +%s%N)
     sleep 0.2
