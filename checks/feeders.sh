@@ -8,7 +8,7 @@ cd "$(dirname "$0")/.." || exit 1
 name=feeders
 . checks/serving.sh
 
-for tests in feeders/test_feeders feeders/test_feeder_ends feeders/test_serial_edges feeders/test_steady feeders/test_steady_pipe feeders/test_chrony_sock tools/test_plot_journal checks/test_ends; do
+for tests in feeders/test_feeders feeders/test_feeder_ends feeders/test_serial_edges feeders/test_steady feeders/test_steady_pipe feeders/test_chrony_sock; do
     python3 -B "$tests.py" > "$work/one" 2>&1 || wrong "$tests.py: $(tail -n 12 "$work/one")"
     cat "$work/one" >> "$work/tests"
 done

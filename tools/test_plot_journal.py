@@ -19,6 +19,7 @@ HERE = pathlib.Path(__file__).resolve().parent
 sys.path.insert(0, str(HERE))
 
 from journal_text import (  # noqa: E402
+    Station,
     due,
     line_through,
     numbers_of,
@@ -31,7 +32,19 @@ from journal_text import (  # noqa: E402
     station_of,
     unix_of,
 )
-from plots import bars_of, begin_of, offset_axis, scale_of, shade, spread_of  # noqa: E402
+from plot_journal import phases_of  # noqa: E402
+from plots import (  # noqa: E402
+    RED_TO_GREEN,
+    bars_of,
+    begin_of,
+    heard,
+    lines_of,
+    offset_axis,
+    reception,
+    scale_of,
+    shade,
+    spread_of,
+)
 from svg_chart import Band, Bar, Line, Panel, log_axis, picture, round_axis, utc_axis  # noqa: E402
 
 SVG = "{http://www.w3.org/2000/svg}"
@@ -90,9 +103,10 @@ class Reading(unittest.TestCase):
     def test_a_last_line_that_was_cut_off(self):
         """As where a signal ended `serve` while it printed."""
         with tempfile.NamedTemporaryFile("w") as file:
-            file.write(f"0 5 lone 7\n0 6 verdict {NOON}")
+            # The second one's last digits are missing.
+            file.write(f"0 5 lone {NOON}\n0 6 lone {NOON // 1000}")
             file.flush()
-            self.assertEqual([entry.kind for entry in read_journal(file.name)], ["lone"])
+            self.assertEqual([entry.at for entry in read_journal(file.name)], [5])
 
     def test_names_without_a_station(self):
         entries = [read_entry("0 5 lone 7"), read_entry("2 5 sample 17077897383243199545 40802189 8837 2 7f000001 256 512"), read_entry("1 5 declined 3")]
@@ -117,6 +131,24 @@ class Reading(unittest.TestCase):
         self.assertAlmostEqual(unix_of(run, 2_000_000), NOON_UNIX, delta=1e-5)
         self.assertAlmostEqual(due(run, 2_000_000), NOON_UNIX - 2, delta=1e-5)
         self.assertIsNone(run_of([read_entry("0 5 refused 3")]))
+
+    def test_samples_say_the_time_and_give_it_to_clients(self):
+        """A server that is asked each 16 s, whose offset is that of a counter that showed 2 s at noon: by the sixth
+        sample the dispersion of what is missing is below a second (RFC 5905, section 10)."""
+        offset = (NOON - 2) * 2**32
+        lines = (f"0 {(2 + 16 * one) * 1_000_000} sample {offset} 4294967 4294967 1 7f000001 10 10" for one in range(20))
+        run = run_of([read_entry(line) for line in lines])
+        self.assertAlmostEqual(unix_of(run, 2_000_000), NOON_UNIX, delta=1e-3)
+        moments = reported_each_minute(run, station_of(run.entries))
+        self.assertEqual([moment.has_time for moment in moments], [False, *[True] * 5])
+
+    def test_a_notice_ends_what_was_given_at_its_leap_second(self):
+        """The leap second is at 12:10; a notice tells of it at 12:06, and the verdicts end at 12:07 (docs/PAGE.md, "until")."""
+        entries = verdicts(range(8)) + [read_entry(f"1 {2_000_000 + 6 * 60_000_000} notice {NOON + 600}")]
+        entries += [read_entry(f"0 {2_000_000 + 60_000_000 * minute} refused 2") for minute in range(8, 14)]
+        station = Station(["dcf", "leap"], ["DCF77", "leap second file"], 1000)
+        moments = reported_each_minute(run_of(entries), station)
+        self.assertEqual([moment.has_time for moment in moments], [False] * 3 + [True] * 7 + [False] * 4)
 
     def test_what_clients_were_given(self):
         """Four verdicts give time with 0.94 s (docs/PAGE.md works that out); eight give 5 ms; an hour of silence adds 54 ms, which is beyond 50."""
@@ -189,6 +221,14 @@ class Columns(unittest.TestCase):
         self.assertEqual([round(middle) for middle in middles], [*range(7), *range(8, 30)])
         self.assertTrue(all(bar.right - bar.left < 1 for bar in panel.shapes))
 
+    def test_the_first_and_the_last_column_are_drawn_whole(self):
+        entries = self.shaken(31, 4)
+        drawn = xml.etree.ElementTree.fromstring(reception(entries, station_of(entries)))
+        widths = [float(one.get("width")) for one in drawn.iter(f"{SVG}rect") if one.get("fill") == "#2a7f3f"]
+        # The last one is that of the key.
+        self.assertEqual(len(widths), 32)
+        self.assertLess(max(widths[:-1]) - min(widths[:-1]), 0.2)
+
     def test_feeds_that_begin_within_one_another_s_minute_have_their_own_columns(self):
         other = [entry._replace(at=entry.at - 29_999_000) for entry in self.shaken(31, 2)]
         first = other[0].at
@@ -253,6 +293,22 @@ class Charts(unittest.TestCase):
         said = [one.text for one in drawn.iter(f"{SVG}tspan")]
         self.assertTrue({"a < b", "c", "one & two", "s", "over it"} <= set(said))
 
+    def test_few_points_are_drawn_as_they_are(self):
+        points = [(float(place), 0.0) for place in range(121)]
+        self.assertEqual([type(shape) for shape in lines_of(points[:120], 10.0, "#000000")], [Line])
+        self.assertEqual([type(shape) for shape in lines_of(points, 10.0, "#000000")], [Band, Line])
+
+    def test_a_row_of_quarters_of_an_hour(self):
+        """Of an hour from noon on, whose second quarter has half of its minutes refused and whose last has nothing."""
+        entries = verdicts([*range(15), *range(15, 30, 2), *range(30, 45)])
+        entries += [entry._replace(kind="refused", fields=["2"]) for entry in verdicts(range(16, 30, 2))]
+        run = run_of(entries)
+        bars = heard([run], [0], station_of(entries)).shapes
+        self.assertEqual([bar.left - NOON_UNIX for bar in bars], [0, 900, 1800])
+        self.assertEqual([bar.right - bar.left for bar in bars], [900] * 3)
+        green = shade(RED_TO_GREEN, 1.0)
+        self.assertEqual([bar.colour == green for bar in bars], [True, False, True])
+
     def test_medians_and_bands(self):
         points = [(place / 10, float(place % 10)) for place in range(20)] + [(5.5, 1.0)]
         spread = spread_of(points, 1.0)
@@ -285,6 +341,18 @@ class Pictures(unittest.TestCase):
                 self.assertGreater(self.read(pictures[1], "#1f5fa8"), 10)
                 # Without time up to the fourth verdict, then with it up to the end; and one of each colour in the key.
                 self.assertEqual([self.read(pictures[2], colour) for colour in ("#2a7f3f", "#c03030")], [2, 2])
+
+    def test_a_second_that_comes_late_is_drawn_above_and_its_steady_start_is_not(self):
+        """A counter without jitter: a second that is 20 ms late, after eleven minutes of good ones."""
+        with tempfile.NamedTemporaryFile("w") as log:
+            late = {680: 20_000}
+            log.writelines(f"{1_000_000 * at + late.get(at, 0)} 100000\n" for at in range(1, 701))
+            log.flush()
+            phases = {at: (came, given) for at, came, given in phases_of(log.name)}
+        came, given = phases[680_020_000]
+        self.assertAlmostEqual(came, 20, delta=1)
+        self.assertAlmostEqual(given, 0, delta=1)
+        self.assertTrue(all(abs(one) < 1 for at, pair in phases.items() for one in pair if at != 680_020_000))
 
     def test_a_phase(self):
         with tempfile.TemporaryDirectory() as folder:
