@@ -284,6 +284,21 @@ class Builds(unittest.TestCase):
                 else:
                     file.write_bytes(before)
 
+    def test_a_source_that_has_another_name_is_another_source(self):
+        self.run_build()
+        source = self.top / "crates/low/src/lib.rt"
+        source.rename(source.with_name("other.rt"))
+        self.assertFalse(built_program.is_of_its_sources(self.top))
+
+    def test_a_source_as_old_as_the_program_is_not_newer(self):
+        self.run_build()
+        for file in (*built_program.sources_of(self.top), self.program):
+            os.utime(file, ns=(10**18, 10**18))
+        self.assertIsNone(built_program.newer_source(self.top))
+        source = self.top / "crates/left/src/lib.rt"
+        os.utime(source, ns=(10**18, 10**18 + 1000))
+        self.assertEqual(built_program.newer_source(self.top), source)
+
     def test_the_announcement_comes_only_where_a_build_begins(self):
         self.assertIn("proving and building", self.run_build().stderr)
         self.rt.unlink()
