@@ -1,5 +1,5 @@
-"""Whether the built program is of the sources beside it: by their times and, where a copy or `touch` changed
-these, by what the files have in them.
+"""Whether the built program is of the sources beside it: by their times, and where a copy or
+`touch` changed these by what the files have in them.
 """
 
 import contextlib
@@ -10,11 +10,11 @@ from collections.abc import Iterator
 from pathlib import Path
 
 PROGRAM = "crates/radio_ntpd/out/radio_ntpd"
-MARK = "sources"  # the suffix of the file beside the program that says which sources it was built of
+MARK = "sources"  # the suffix of a file beside the program that says of what it was built
 
 
 def sources_of(top: Path) -> Iterator[Path]:
-    """The files that the program is built of, in order. Crates of tests are no part of it."""
+    """The files that the program is built of, in order, without crates of tests."""
     yield top / "crates.txt"
     for file in sorted((top / "crates").rglob("*.rt")):
         folders = file.relative_to(top).parts
@@ -23,7 +23,7 @@ def sources_of(top: Path) -> Iterator[Path]:
 
 
 def newer_source(top: Path) -> Path | None:
-    """A source that is newer than the program; None where there is none, or no program. Raises `OSError`."""
+    """A source that is newer than the program, if there are one and the other. Raises `OSError`."""
     program = top / PROGRAM
     if not program.is_file():
         return None
@@ -41,7 +41,7 @@ def digest_of(top: Path) -> str:
 
 
 def mark_of(sources: str, program: Path) -> str:
-    """What is noted of a program: the digest of its sources, and that of itself. Raises `OSError`."""
+    """What is noted of a program: its sources' digest, and its own. Raises `OSError`."""
     return f"{sources} {hashlib.sha256(program.read_bytes()).hexdigest()}\n"
 
 
@@ -54,7 +54,7 @@ def note(sources: str, program: Path) -> None:
 
 
 def is_of_its_sources(top: Path) -> bool:
-    """Whether the program is the one that was built of these sources, whatever the times of the files are."""
+    """Whether the program was built of these sources, whatever the times of the files are."""
     program = top / PROGRAM
     try:
         noted = program.with_suffix(f".{MARK}").read_text(encoding="ascii", errors="replace")
@@ -71,18 +71,18 @@ def was_put_since(top: Path, since: float) -> bool:
 
 
 def renew(top: Path) -> None:
-    """Gives the program the time of now, where this user may: so the next start needn't compare again."""
+    """Gives the program the time of now, where this user may, so that no start compares again."""
     with contextlib.suppress(OSError):
         os.utime(top / PROGRAM)
 
 
 def try_place(top: Path) -> None:
-    """Makes the program's folder, and tries a file in it. Raises `OSError` where the built program could not be put there."""
+    """Makes the program's folder and tries a file in it. Raises `OSError` where that fails."""
     folder = (top / PROGRAM).parent
     try:
         folder.mkdir(parents=True, exist_ok=True)
         with tempfile.TemporaryFile(dir=folder):
             pass
     except OSError as error:
-        why = f"{error.strerror}; the built program goes there, so copy this folder to where you may write"
-        raise OSError(error.errno, why, str(folder)) from error
+        cure = "the built program goes there, so copy this folder to where you may write"
+        raise OSError(error.errno, f"{error.strerror}; {cure}", str(folder)) from error

@@ -1,12 +1,12 @@
 #!/usr/bin/env python3
-"""Writes the UTC of each entry of a journal before it, as `serve`, `replay`, `migrate` or `decode` writes them.
+"""Writes the UTC of each entry of a journal before it.
 
     tools/entry_times.py [JOURNAL...]
 
-A verdict or a lone minute names a second, which is written as its date and time. Any other entry has
-the time at which it came, to the millisecond, by the line through all offsets of its journal; it has
-dashes where no entry gives an offset. Lines that are no entries stay as they are. Without a file it
-reads the standard input, so `radio_ntpd decode --plan dcf --log LOG | tools/entry_times.py` works.
+A verdict or a lone minute names a second, which is written as its date and time. Any other entry
+has the time at which it came, to the millisecond, by the line through all offsets of its journal;
+it has dashes where no entry gives an offset. Lines that are no entries stay as they are. Without a
+file it reads the standard input, as in `radio_ntpd decode .. | tools/entry_times.py`.
 
 It exits with 1 where a file can't be read, and with 2 for invalid arguments.
 """
@@ -34,7 +34,7 @@ def written(unix: float) -> str:
 
 
 def time_of(entry: Entry, run: Run | None) -> str:
-    """The time that an entry names or, by the line through its journal's offsets, that it came at."""
+    """The time that an entry names or, by the line through its journal's offsets, came at."""
     if entry.kind in NAMED:
         return written(int(entry.fields[0]) - UNIX_EPOCH)
     return NO_TIME if run is None else written(unix_of(run, entry.at))
@@ -48,7 +48,8 @@ def with_times(lines: list[str]) -> list[str]:
 
 
 def main() -> int:
-    words = argparse.ArgumentParser(description=__doc__, formatter_class=argparse.RawDescriptionHelpFormatter)
+    form = argparse.RawDescriptionHelpFormatter
+    words = argparse.ArgumentParser(description=__doc__, formatter_class=form)
     words.add_argument("files", nargs="*", metavar="JOURNAL")
     files = words.parse_args().files
     if not files and sys.stdin.isatty():

@@ -1,12 +1,12 @@
 #!/bin/sh
-# How each feed of a journal was received: how many entries it has of each kind, of refused minutes by
-# the rule that they broke, of declined answers by their reason; and how many of a hundred are verdicts
-# or samples. The journal is of either version; other lines are passed over.
+# How each feed of a journal was received: how many entries it has of each kind, of refused minutes
+# by the rule that they broke, of declined answers by their reason; and how many of a hundred are
+# verdicts or samples. The journal is of either version; other lines are passed over.
 #
 #     tools/summary.sh [JOURNAL...]
 #
-# Without a file, or with `-`, it reads the standard input. It exits with 1 where a file can't be read or no file has an entry, and
-# with 2 for invalid arguments.
+# Without a file, or with `-`, it reads the standard input. It exits with 1 where a file can't be
+# read or no file has an entry, and with 2 for invalid arguments.
 for file; do
     case "$file" in
     -h | --help) sed -n '2,/^[^#]/s/^# \{0,1\}//p' "$0"; exit 0 ;;
@@ -23,7 +23,11 @@ fi
 # A name with a sign of equality would be a variable of awk's.
 for file; do
     shift
-    case "$file" in -) set -- "$@" /dev/stdin ;; /*) set -- "$@" "$file" ;; *) set -- "$@" "./$file" ;; esac
+    case "$file" in
+    -) set -- "$@" /dev/stdin ;;
+    /*) set -- "$@" "$file" ;;
+    *) set -- "$@" "./$file" ;;
+    esac
 done
 exec awk '
     NF == 2 && /^[0-9]+ [0-9]+\r?$/ { pulses++ }
@@ -42,13 +46,17 @@ exec awk '
     }
     END {
         if (!kinds) {
-            print "summary.sh: there is no entry" (pulses ? ": this is a log, decode it first" : "") > "/dev/stderr"
+            more = pulses ? ": this is a log, decode it first" : ""
+            print "summary.sh: there is no entry" more > "/dev/stderr"
             exit 1
         }
         for (feed = 0; feed <= last; feed++) {
             if (!all[feed]) continue
             line = sprintf("feed %d: %d entries", feed, all[feed])
-            for (i = 1; i <= kinds; i++) if (count[feed, name[i]]) line = line sprintf(", %d %s", count[feed, name[i]], name[i])
+            for (i = 1; i <= kinds; i++) {
+                number = count[feed, name[i]]
+                if (number) line = line sprintf(", %d %s", number, name[i])
+            }
             printf "%s; %.1f of a hundred give the time\n", line, 100 * good[feed] / all[feed]
         }
     }' "$@"

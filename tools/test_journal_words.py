@@ -47,16 +47,16 @@ class Times(unittest.TestCase):
 
     def test_the_second_is_that_of_the_calendar(self):
         line = f"0 5 verdict {NOON} 0\n"
-        date = subprocess.run(
-            ["date", "-u", "-d", f"@{NOON - 2208988800}", "+%Y-%m-%d %H:%M:%S.000"], capture_output=True, text=True
-        )
+        words = ["date", "-u", "-d", f"@{NOON - 2208988800}", "+%Y-%m-%d %H:%M:%S.000"]
+        date = subprocess.run(words, capture_output=True, text=True)
         self.assertEqual(with_times([line]), [f"{date.stdout.strip()}  {line}"])
 
     def test_without_an_offset_only_a_named_second_has_a_time(self):
         no_time = "-" * 10 + " " + "-" * 12
         lines = ["0 5 refused 3\n", f"0 6 lone {NOON}\n", f"0 7 lone {'9' * 30}\n"]
         found = with_times(lines)
-        self.assertEqual([line[:23] for line in found], [no_time, "2026-01-01 12:00:00.000", no_time])
+        times = [no_time, "2026-01-01 12:00:00.000", no_time]
+        self.assertEqual([line[:23] for line in found], times)
         self.assertEqual([line[25:] for line in found], lines)
 
     def run_it(self, *words, said=""):
@@ -65,7 +65,8 @@ class Times(unittest.TestCase):
 
     def test_of_a_pipe_and_of_files(self):
         piped = self.run_it(said=JOURNAL)
-        self.assertEqual((piped.returncode, piped.stderr, len(piped.stdout.splitlines())), (0, "", 7))
+        self.assertEqual((piped.returncode, piped.stderr), (0, ""))
+        self.assertEqual(len(piped.stdout.splitlines()), 7)
         with tempfile.NamedTemporaryFile("w") as file:
             file.write(JOURNAL)
             file.flush()
@@ -73,7 +74,8 @@ class Times(unittest.TestCase):
 
     def test_what_is_not_there(self):
         done = self.run_it("/nosuch")
-        self.assertEqual((done.returncode, done.stderr), (1, "entry_times.py: /nosuch: No such file or directory\n"))
+        said = "entry_times.py: /nosuch: No such file or directory\n"
+        self.assertEqual((done.returncode, done.stderr), (1, said))
 
 
 class Terminals(unittest.TestCase):
@@ -95,8 +97,9 @@ class Summaries(unittest.TestCase):
         self.room = pathlib.Path(held.name)
 
     def run_it(self, *words, said=""):
+        tool = [HERE / "summary.sh", *words]
         done = subprocess.run(
-            [HERE / "summary.sh", *words], input=said, capture_output=True, text=True, timeout=60, cwd=self.room
+            tool, input=said, capture_output=True, text=True, timeout=60, cwd=self.room
         )
         return done.returncode, done.stdout, done.stderr
 

@@ -4,7 +4,10 @@ from typing import NamedTuple
 
 
 class Entry(NamedTuple):
-    """What one feed reported at one moment: the keyword and the numbers after it. An address is a number."""
+    """What one feed reported at one moment: the keyword, and the numbers after it.
+
+    An address is a number too.
+    """
 
     feed: int
     at: int
