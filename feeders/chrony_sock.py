@@ -22,6 +22,7 @@ import signal
 import socket
 import struct
 import sys
+import sysconfig
 import time
 from typing import Callable, NamedTuple
 
@@ -30,11 +31,14 @@ SLEPT = 10_000_000  # a clock that goes on while the host sleeps is ahead by so 
 DAY = 86_400
 LONGEST = 4096  # what is read at a time, in bytes; a longer line has no verdict
 # A sample of chrony's SOCK driver: the system's time when it was taken (a timeval), by how many seconds the true time is ahead of it,
-# whether it is of a pulse alone, the leap status (0 none, 1 a second is inserted), padding, and the driver's own number.
-SAMPLE = struct.Struct("@lldiiii")
+# whether it is of a pulse alone, the leap status (0 none, 1 a second is inserted), padding, and the driver's own number. The timeval has two
+# numbers of the size of the host's time_t, which is 8 bytes on a host of 32 bits too where that is new enough.
+SAMPLES = {4: struct.Struct("@iidiiii"), 8: struct.Struct("@qqdiiii")}
+SAMPLE = SAMPLES[sysconfig.get_config_var("SIZEOF_TIME_T") or struct.calcsize("@l")]
 MAGIC = 0x534F434B
 VERDICT = re.compile(r"0 (\d{1,16}) verdict (\d{1,11}) (\d{1,11})\n")
 STATUS = re.compile(r"status (\d{1,3})\b.*\n?")
+PULSE = re.compile(r"\d{1,16} \d{1,7}\r?\n?")
 
 
 class Verdict(NamedTuple):
@@ -80,6 +84,7 @@ class Bridge:
         self.failing = ""  # what was said of the socket last, nothing while it takes samples
         self.asleep = clocks.asleep()  # as of the last verdict
         self.status: int | None = None  # what `decode` ended with
+        self.missing = "decode ended without its status line"  # what is said where it is None at the end
 
     def line(self, line: str) -> bool:
         """Takes a line of `decode`; whether a sample went out."""
@@ -88,6 +93,8 @@ class Bridge:
             self.status = int(status[1])
             if self.status:
                 self.say(f"decode ended with {line.strip()}")
+        elif PULSE.fullmatch(line):
+            self.missing = "this is a pulse log: put `radio_ntpd decode --plan PLAN --log /dev/stdin |` before this program"
         verdict = read_verdict(line)
         return verdict is not None and self.give(verdict)
 
@@ -128,7 +135,7 @@ def main() -> int:
     words.add_argument("--delay", type=int, default=0, metavar="US")
     words.add_argument("--fresh", type=float, default=5.0, metavar="SECONDS")
     asked = words.parse_args()
-    if sys.stdin is None:
+    if not sys.stdin:
         print("chrony_sock.py: its input is closed", file=sys.stderr)
         return 1
     bridge = Bridge(asked.socket, asked.delay, asked.fresh)
@@ -145,7 +152,7 @@ def main() -> int:
     except KeyboardInterrupt:
         return 0
     if bridge.status is None:
-        print("decode ended without its status line", file=sys.stderr)
+        print(bridge.missing, file=sys.stderr)
         return 1
     return bridge.status
 

@@ -211,9 +211,11 @@ def run(feeder: Feeder, command: list[str]) -> int:
     try:
         child = subprocess.Popen(command, stdin=subprocess.DEVNULL, stdout=subprocess.PIPE)
     except OSError as fault:
-        say(f"{command[0]}: {fault.strerror}")
+        is_log = len(command) == 1 and os.path.isfile(command[0])
+        say(f"{command[0]}: {fault.strerror}" + (f" (to read it: edges_to_log.py < {command[0]})" if is_log else ""))
         return 127
     try:
+        assert child.stdout is not None
         feeder.read(child.stdout.fileno())
         # It has closed its output, so it is about to end by itself.
         child.wait(5)
@@ -244,7 +246,7 @@ def main() -> int:
     words.add_argument("command", nargs=argparse.REMAINDER, help="what prints the edges, with its own arguments")
     asked = words.parse_args()
     command = asked.command[1:] if asked.command[:1] == ["--"] else asked.command
-    if sys.stdout is None or (sys.stdin is None and not command):
+    if not sys.stdout or not (sys.stdin or command):
         say("edges_to_log.py: its input or its output is closed")
         return 1
     feeder = Feeder(asked.low)

@@ -4,7 +4,14 @@
     feeders/serial_edges.py DEVICE [--line dcd|cts|dsr|ri] [--dtr on|off] [--rts on|off]
 
 A receiver's output lies on DCD where nothing else is said. Many receivers take their power from DTR and RTS: `--dtr on --rts off` is what
-most want. An edge's time is read when the kernel wakes us, some tens of microseconds after it.
+most want. An edge's time is read when the kernel wakes us. How late that is depends on the port's driver, above all with an adapter on USB;
+`radio_keeper calibrate` measures it together with the receiver's own delay.
+
+A receiver on RxD is not served (clocks that are read at 50 baud are such ones): the kernel reports no edges of that line.
+
+This makes a log, and ends with the status of this program. A TTL adapter's lines are low where a modem's are on: there it takes `--low`.
+
+    feeders/edges_to_log.py [--low] feeders/serial_edges.py DEVICE --line cts > LOG
 
 It exits with 1 where the device isn't there, may not be read, is no serial port, or is unplugged, and where its reader has ended or takes no
 more; with 2 for invalid arguments; with 0 where SIGINT or SIGTERM ended it.
@@ -80,7 +87,7 @@ def main() -> int:
     words.add_argument("--dtr", choices=("on", "off"))
     words.add_argument("--rts", choices=("on", "off"))
     asked = words.parse_args()
-    if sys.stdout is None:
+    if not sys.stdout:
         print("serial_edges.py: its output is closed", file=sys.stderr)
         return 1
     signal.signal(signal.SIGTERM, signal.default_int_handler)

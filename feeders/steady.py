@@ -14,7 +14,7 @@ the drift of the host's counter, and a few marks that are far off hardly bend it
 - A minute without a mark near the line starts it anew, with the next eight marks. So do marks that agree on another phase: six of the last
   eight where they are farther than --most, else as soon as the last 16 or 64 show more than chance explains.
 
-A line that is no line of a log is handed on as it is. It exits with 1 where its reader has ended or a read
+A line that is no line of a log is handed on as it is; the first one is shown on standard error. It exits with 1 where its reader has ended or a read
 fails, with 2 for invalid arguments, and with 0 at the end of its input and where SIGINT or SIGTERM ended it.
 """
 
@@ -43,6 +43,7 @@ NEXT = 900_000
 # (900 to 1100 ms) and the gap before a DCF77 minute (1900 to 2100 ms). The last border is beyond all logs.
 BORDERS = (1, 150_000, 250_001, NEXT, 1_100_001, 1_900_000, 2_100_001, 2 * END)
 LONGEST = 4096  # what is read at a time, in bytes; a longer line is none of a log
+SHOWN = 60  # what is shown of a line that is none of a log, in bytes
 LINE = re.compile(rb"(0|[1-9][0-9]{0,15}) ([0-9]{1,7})\n")
 
 
@@ -212,13 +213,17 @@ def main() -> None:
     most = words.parse_args().most * 1000
     if not 0 < most <= GREATEST_MOST:
         words.error("--most is 1 to 90 milliseconds")
-    if sys.stdin is None or sys.stdout is None:
+    if not sys.stdin or not sys.stdout:
         sys.exit("steady.py: its input or its output is closed")
     steady = Steady(most)
+    shown = False
     signal.signal(signal.SIGTERM, signal.default_int_handler)
     try:
         begins = True
         while piece := sys.stdin.buffer.readline(LONGEST):
+            if begins and not shown and piece.endswith(b"\n") and not LINE.fullmatch(piece):
+                shown = True
+                print(f"steady.py: no line of a pulse log is steadied: {piece[:SHOWN]!r}", file=sys.stderr, flush=True)
             sys.stdout.buffer.write(steady.line(piece) if begins else piece)
             sys.stdout.buffer.flush()
             begins = piece.endswith(b"\n")

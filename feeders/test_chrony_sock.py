@@ -20,7 +20,7 @@ HERE = pathlib.Path(__file__).parent
 sys.path.insert(0, str(HERE))
 os.environ["PATH"] += ":/usr/sbin:/sbin"
 
-from chrony_sock import Bridge, Clocks, Verdict, read_verdict  # noqa: E402
+from chrony_sock import SAMPLES, Bridge, Clocks, Verdict, read_verdict  # noqa: E402
 
 # 2026-01-01 12:00 UTC, in seconds since 1900 and since 1970.
 NOON = 3_976_257_600
@@ -68,6 +68,10 @@ class Samples(unittest.TestCase):
         text = self.chrony.recv(100)
         self.assertEqual(len(text), 40)
         return struct.unpack("<qqdiiii", text)
+
+    def test_a_host_of_32_bits(self):
+        """Its timeval has 8 bytes, and 16 where its time_t has 64 bits; chronyd takes no sample of another length than its own."""
+        self.assertEqual([SAMPLES[size].size for size in (4, 8)], [4 + 4 + 8 + 4 * 4, 8 + 8 + 8 + 4 * 4])
 
     def test_a_sample(self):
         """The minute began 200 ms ago by the counter, when the system showed 12:00:00.55: that is 0.55 s fast."""
@@ -156,6 +160,8 @@ class Ends(unittest.TestCase):
         self.assertEqual(self.run_it(b"status 0\n", "/nosuch"), (0, ""))
         self.assertEqual(self.run_it(b"status 5 line 0 7\n", "/nosuch"), (5, "decode ended with status 5 line 0 7\n"))
         self.assertEqual(self.run_it(b"0 5 lone 7\n\xff\n", "/nosuch"), (1, "decode ended without its status line\n"))
+        log = "this is a pulse log: put `radio_ntpd decode --plan PLAN --log /dev/stdin |` before this program\n"
+        self.assertEqual(self.run_it(b"1000000 100000\n2000000 200000\n", "/nosuch"), (1, log))
         self.assertEqual(self.run_it(b"")[0], 2)
 
     def test_the_delay_that_was_asked_for(self):

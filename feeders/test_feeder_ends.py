@@ -18,7 +18,7 @@ sys.path.insert(0, str(HERE))
 
 import chrony_sock  # noqa: E402
 import serial_edges  # noqa: E402
-from test_feeders import ours, ran  # noqa: E402
+from test_feeders import RADIOS, ours, ran  # noqa: E402
 
 
 class Ends(unittest.TestCase):
@@ -39,6 +39,17 @@ class Ends(unittest.TestCase):
 
     def test_no_command(self):
         self.assertEqual(ran("./nosuch"), ("", "./nosuch: No such file or directory\n", 127))
+
+    def test_a_file_in_the_place_of_a_command(self):
+        log = RADIOS / "dcf77.log"
+        self.assertEqual(ran(str(log)), ("", f"{log}: Permission denied (to read it: edges_to_log.py < {log})\n", 127))
+        self.assertEqual(ran(str(RADIOS)), ("", f"{RADIOS}: Permission denied\n", 127))
+
+    def test_a_serial_port_as_the_command(self):
+        """A pipe would lose the status with which the port's feeder ends."""
+        feeder = HERE / "serial_edges.py"
+        due = ("", f"/nosuch: No such file or directory\n{feeder} ended with 1\n", 1)
+        self.assertEqual(ran("--low", str(feeder), "/nosuch", "--line", "cts", "--dtr", "on"), due)
 
     def test_gpiomon_itself(self):
         """It has no chip here; of which version it is doesn't matter."""

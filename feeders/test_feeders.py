@@ -14,7 +14,11 @@ import sys
 import time
 import unittest
 
-HERE = pathlib.Path(__file__).parent
+HERE = pathlib.Path(__file__).resolve().parent
+sys.path.insert(0, str(HERE))
+
+from edges_to_log import Reductions, lines_of  # noqa: E402
+
 RADIOS = HERE.parent / "examples" / "radios"
 PLANS = ("dcf77", "msf", "wwvb")
 
@@ -135,7 +139,7 @@ class Edges(unittest.TestCase):
         self.assertEqual(written, "1000000 100000\n")
         self.assertEqual(said, "".join(f"no edge: {line}\n" for line in others))
 
-    def test_noise(self):
+    def test_lines_of_noise(self):
         """Ten lines a minute are reported, a hundred characters of each, and nothing that a terminal would obey."""
         noise = ["\x1b[31mred", "n" * 200, *(f"noise {number}" for number in range(10))]
         written, said = feed("".join(f"{line}\n" for line in noise))
@@ -148,6 +152,16 @@ class Edges(unittest.TestCase):
         written, said = feed("x" * 10_000_000 + "\n1.0 rising\n1.1 falling\n" + "9" * 5000 + ".0 rising\n")
         self.assertEqual(written, "1000000 100000\n")
         self.assertEqual(said, f"no edge: {'x' * 100}\nno edge: {'9' * 100}\n")
+
+    def test_what_is_kept_of_a_line_without_an_end(self):
+        """At most a page of memory and what is read at a time."""
+        reader, writer = os.pipe()
+        with os.fdopen(writer, "wb") as out:
+            out.write(b"x" * 60_000)
+        with os.fdopen(reader, "rb") as into:
+            lines = list(lines_of(into.fileno(), Reductions(lambda start, width: None)))
+        self.assertEqual(len(lines), 1)
+        self.assertLessEqual(len(lines[0]), 4096)
 
     def test_a_clock_that_is_not_monotonic(self):
         """The realtime clock is beyond the moments of a log: it is said once."""
@@ -168,6 +182,18 @@ class Live(unittest.TestCase):
         for second in (1, 2):
             self.feeder.stdin.write(ours(second * 10**6, True).encode() + ours(second * 10**6 + 100_000, False).encode())
             self.assertEqual(self.feeder.stdout.readline(), f"{second}000000 100000\n".encode())
+
+    def test_a_reduction_is_written_once_nothing_more_can_belong_to_it(self):
+        """It waits for a gap of noise, and no longer: at most a fifth of a second is lost before the log has the mark."""
+        self.feeder.stdin.write(ours(10**6, True).encode() + ours(1_100_000, False).encode())
+        begin = time.monotonic()
+        self.assertEqual(self.feeder.stdout.readline(), b"1000000 100000\n")
+        self.assertLess(time.monotonic() - begin, 1)
+        reductions = Reductions(lambda start, width: None)
+        reductions.edge(10**6, True)
+        self.assertEqual(reductions.wait(), 2.2)
+        reductions.edge(1_100_000, False)
+        self.assertEqual(reductions.wait(), 0.2)
 
     def test_an_outage_is_told_when_two_seconds_are_over(self):
         self.feeder.stdin.write(ours(10**6, True).encode())

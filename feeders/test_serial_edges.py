@@ -9,8 +9,11 @@ The numbers are those of Linux for x86 (asm-generic/ioctls.h and termios.h). A p
 import contextlib
 import errno
 import io
+import os
 import pathlib
+import subprocess
 import sys
+import tempfile
 import time
 import unittest
 from unittest import mock
@@ -31,7 +34,8 @@ class Port:
     waited for brings the next."""
 
     def __init__(self, outputs: int, inputs: list[int]) -> None:
-        self.outputs, self.inputs, self.waited = outputs, inputs, set()
+        self.outputs, self.inputs = outputs, inputs
+        self.waited: set[int] = set()
 
     def ioctl(self, _port: int, request: int, given) -> None:
         if request == PUT_ON:
@@ -57,7 +61,7 @@ class Ports(unittest.TestCase):
     def watch(self, port: Port, *words: str) -> list[str]:
         """What is printed of a port until it is unplugged."""
         out, said = io.StringIO(), io.StringIO()
-        fakes = (
+        fakes: tuple[contextlib.AbstractContextManager, ...] = (
             mock.patch("serial_edges.fcntl.ioctl", port.ioctl),
             mock.patch("serial_edges.signal.signal"),
             mock.patch.object(sys, "argv", ["serial_edges.py", "/dev/null", *words]),
@@ -104,6 +108,38 @@ class Ports(unittest.TestCase):
         with mock.patch("serial_edges.write", slow):
             self.watch(port)
         self.assertEqual(written, [True, False])
+
+    def test_an_edge_has_the_moment_when_the_kernel_woke_us(self):
+        """The kernel waits for seconds, and the moments of before that are none of the edge's."""
+        port = Port(0, [0, INPUTS["dcd"], 0])
+        clock = iter(range(1_000_000_000, 100_000_000_000, 1_000_000_000))
+        now = [0]
+
+        def ioctl(given_port: int, request: int, given) -> None:
+            if request == WAIT:
+                now[0] = next(clock)
+            port.ioctl(given_port, request, given)
+
+        with (
+            mock.patch("serial_edges.time.monotonic_ns", lambda: now[0]),
+            mock.patch("serial_edges.fcntl.ioctl", ioctl),
+            mock.patch("serial_edges.write") as written,
+            self.assertRaises(OSError),
+        ):
+            serial_edges.watch(3, "dcd")
+        self.assertEqual([one.args for one in written.call_args_list], [(1_000_000_000, True), (2_000_000_000, False)])
+
+    def test_a_device_is_opened_without_a_wait(self):
+        """A port whose carrier is off is waited for by an open that blocks, and so is a FIFO without a writer."""
+        with tempfile.TemporaryDirectory() as folder:
+            device = os.path.join(folder, "port")
+            os.mkfifo(device)
+            done = subprocess.run([HERE / "serial_edges.py", device], capture_output=True, text=True, timeout=20)
+        self.assertEqual((done.returncode, done.stderr), (1, f"{device}: it is no serial port with modem lines\n"))
+
+    def test_what_is_not_served_is_said(self):
+        said = " ".join(subprocess.run([HERE / "serial_edges.py", "--help"], capture_output=True, text=True, timeout=20).stdout.split())
+        self.assertIn("A receiver on RxD is not served", said)
 
     def test_an_output_that_takes_no_more(self):
         """It isn't the port's fault, and the interpreter adds no sentence of its own."""

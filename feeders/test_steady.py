@@ -179,6 +179,7 @@ class Rules(unittest.TestCase):
         """The log of an MSF receiver with jitter: what joins, and how far the next mark is from the first part, stay."""
         chance = random.Random(3)
         steady = Steady()
+        before = before_put = 0
         for second in range(2000):
             first = due(second) + round(chance.uniform(-40_000, 40_000))
             apart = 200_000 + round(chance.uniform(-70_000, 70_000))

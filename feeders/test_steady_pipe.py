@@ -35,6 +35,14 @@ class Pipe(unittest.TestCase):
         done = self.run_it(b"1000000 100000\n2000000 100")
         self.assertEqual((done.returncode, done.stdout, done.stderr), (0, b"1000000 100000\n2000000 100", b""))
 
+    def test_what_is_no_line_of_a_log(self):
+        """The first one is shown, and each is passed on."""
+        for text in (b"start,width\n1000000,100000\n", b"1000000 100000\r\n2000000 100000\r\n"):
+            done = self.run_it(text)
+            first = text.splitlines(keepends=True)[0]
+            said = f"steady.py: no line of a pulse log is steadied: {first!r}\n".encode()
+            self.assertEqual((done.returncode, done.stdout, done.stderr), (0, text, said))
+
     def test_a_line_without_an_end(self):
         """It is passed on in pieces: it takes no memory, and its tail is no line of a log."""
         with subprocess.Popen(["head", "-c", "300M", "/dev/zero"], stdout=subprocess.PIPE) as zeros:
