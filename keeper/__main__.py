@@ -1,6 +1,7 @@
 """`./radio_keeper COMMAND`: finds the command's module and ends with what it says. No traceback reaches a person."""
 
 import importlib
+import io
 import os
 import sys
 
@@ -15,6 +16,7 @@ COMMANDS = {
     "install": "installs the keeper as a service",
     "calibrate": "says which delay to set for a radio",
 }
+OF_THE_SERVICE = ("start", "stop", "restart", "reload", "enable", "disable")
 # `watch` is a way of `status`.
 MODULES = {"watch": "status"}
 
@@ -34,6 +36,8 @@ def dispatch(words: list[str]) -> int:
         return DONE
     if not words or words[0] not in COMMANDS:
         said = f"there is no command {words[0]!r}" if words else "which command?"
+        if words[:1] and words[0] in OF_THE_SERVICE:
+            said += f": `systemctl {words[0]} radio_ntpd` is meant for the service"
         print(f"{usage()}\n\nradio_keeper: {said}", file=sys.stderr)
         return USAGE
     command, *rest = words
@@ -80,7 +84,8 @@ def open_standard() -> None:
         if getattr(sys, name) is None:
             setattr(sys, name, open(number, "w", encoding="utf-8", closefd=False))
     # A name of the host need not be UTF-8.
-    sys.stdout.reconfigure(errors="backslashreplace")
+    if isinstance(sys.stdout, io.TextIOWrapper):
+        sys.stdout.reconfigure(errors="backslashreplace")
 
 
 if __name__ == "__main__":

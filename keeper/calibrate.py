@@ -8,16 +8,20 @@ import time
 from keeper import config
 from keeper.check import keeper_runs
 from keeper.children import Guard
+from keeper.chosen_file import chosen
 from keeper.decoder import Decoder
+from keeper.hosts import become_service
 from keeper.lateness import LEAST, Minute, Minutes, result, sentences
 from keeper.lines import Lines
 from keeper.pulse_log import PulseLog, day_of
 from keeper.reference import HostClock, Server
 from keeper.say import say
-from keeper.source import Ended, source_of
+from keeper.source import Command, Ended, Fifo, Growing, source_of
 from keeper.words import DONE, NOT_WELL, Fault, Parser
 
 MINUTES = 60
+FEWEST = LEAST + 3  # the first minute is cut, and the next one has none before it to agree with; a minute of a sender may have begun, too
+REPORTS = 20  # how often it says how far it is
 PACE = 64  # seconds between two requests to a server
 
 
@@ -28,20 +32,22 @@ def parser() -> Parser:
     words.add_argument("--server", metavar="ADDRESS", help="compare with this server; without it the host's clock counts")
     words.add_argument("--port", type=int, default=123, help="the server's port (123)")
     words.add_argument("--pace", type=int, default=PACE, help=f"seconds between two requests to it, 16 to 1024 ({PACE})")
-    words.add_argument("--minutes", type=int, default=MINUTES, help=f"how long to listen, 1 to 10080 ({MINUTES})")
+    words.add_argument("--minutes", type=int, default=MINUTES, help=f"how long to listen, {FEWEST} to 10080 ({MINUTES})")
     return words
 
 
 def main(given: list[str]) -> int:
     words = parser()
     asked = words.parse_args(given)
-    for name, least, most in (("pace", 16, 1024), ("minutes", 1, 10080), ("port", 1, 65535)):
+    for name, least, most in (("pace", 16, 1024), ("minutes", FEWEST, 10080), ("port", 1, 65535)):
         if not least <= getattr(asked, name) <= most:
             words.error(f"--{name} is {least} to {most}")
-    settings = config.load(asked.config or config.default())
+    settings = config.load(chosen(asked.config))
+    become_service(settings)
     config.judge(settings)
     if not 0 <= asked.radio < len(settings.radios):
         raise Fault(f"there is no radio {asked.radio}: the station has {len(settings.radios)}")
+    reference: Server | HostClock
     try:
         reference = Server(asked.server, asked.port, asked.pace) if asked.server else HostClock()
     except (OSError, UnicodeError) as error:
@@ -77,7 +83,7 @@ class Feed:
         self.log = PulseLog(os.path.join(settings.folder, "logs"), number, radio.plan, settings.days, say) if keeper_runs(settings) else None
         self.radio, self.guard = radio, guard
         self.day = ""
-        self.source = None
+        self.source: Command | Fifo | Growing | None = None
 
     def read(self) -> bytes:
         """What came, b"" for nothing. Raises OSError and Ended."""
@@ -108,7 +114,7 @@ def listen(settings: config.Settings, number: int, reference: Server | HostClock
     decoder = Decoder(settings.program, settings.radios[number].plan, minutes.take)
     guard, lines = Guard(), Lines()
     feed = Feed(settings, number, guard)
-    end = time.monotonic() + seconds
+    end, due = time.monotonic() + seconds, time.monotonic() + seconds / REPORTS
     try:
         while (now := time.monotonic()) < end:
             reference.turn(now)
@@ -116,6 +122,9 @@ def listen(settings: config.Settings, number: int, reference: Server | HostClock
                 minutes.pulse(pulse.start, pulse.width)
                 decoder.give(pulse.line(), now)
             decoder.turn()
+            if now >= due:
+                due += seconds / REPORTS
+                say(f"{(seconds - end + now) / 60:.0f} of {seconds / 60:.0f} min: {len(minutes.found)} minutes were believed")
             feed.wait(reference.descriptor, 0.2)
     except Ended as error:
         raise Fault(f"radio {number}: its source ended: {error}") from error

@@ -8,11 +8,12 @@ import socket
 import subprocess
 import tomllib
 from dataclasses import dataclass, field
+from typing import Any, NoReturn
 
+from keeper.chosen_file import built_program
 from keeper.station import longest_cycle
 from keeper.words import REFUSED, Fault, reason, sentence
 
-HOUR = 3600
 # Without pacing servers are asked at the start of a run alone, so what they said is at most this old, in seconds.
 UNPACED_CYCLE = 300
 KINDS = ("command", "fifo", "file")
@@ -80,14 +81,9 @@ ALARMS = {"command": (str,), "unheard": (int, 60, 86400 * 30), "limit": (int, 1,
 RADIO = {"command": (str,), "fifo": (str,), "file": (str,), "name": (str,), "stall": (int, 2, 86400), "steady": (bool,)}
 
 
-def default() -> str:
-    """The keeper's file where none is named: in the working folder, else the installed one."""
-    return "keeper.toml" if os.path.exists("keeper.toml") else "/etc/radio_ntpd/keeper.toml"
-
-
 def line_of(text: str, key: str, table: str = "", place: int = 0) -> str:
     """` (line N)` for a key of the top, of a table, or of the table at a place of an array; nothing where it isn't found."""
-    now, seen = "", {}
+    now, seen = "", dict[str, int]()
     for number, line in enumerate(text.splitlines(), 1):
         head = re.match(r"\s*\[\[?\s*([\w.-]+)\s*\]\]?", line)
         if head:
@@ -130,11 +126,11 @@ class Keys:
             if key in values:
                 self._judge(key, values[key], kind, limits)
 
-    def refuse(self, key: str, why: str) -> None:
+    def refuse(self, key: str, why: str) -> NoReturn:
         line = line_of(self.text, key, self.table, self.place or 0)
         raise Fault(f"{self.path}: {self.where + '.' if self.where else ''}{key}: {why}{line}", REFUSED)
 
-    def _judge(self, key: str, value: object, kind: type, limits: list[int]) -> None:
+    def _judge(self, key: str, value: Any, kind: Any, limits: list[int]) -> None:
         if type(value) is not kind:
             names = {str: "a string", int: "a whole number", bool: "true or false", dict: "a table", list: "an array of tables"}
             self.refuse(key, f"it isn't {names[kind]}")
@@ -143,17 +139,10 @@ class Keys:
         if kind is str and (not value.strip() or "\0" in value):
             self.refuse(key, "it is empty")
 
-    def must(self, key: str) -> object:
+    def must(self, key: str) -> Any:
         if key not in self.values:
             self.refuse(key, "it is missing")
         return self.values[key]
-
-
-def built_program() -> str:
-    """The program where none is named: by RADIO_NTPD, else beside this package."""
-    top = os.path.dirname(os.path.dirname(os.path.abspath(__file__)))
-    places = [os.environ.get("RADIO_NTPD", ""), os.path.join(top, "bin", "radio_ntpd"), os.path.join(top, "crates/radio_ntpd/out/radio_ntpd")]
-    return next((one for one in places if one and os.path.isfile(one)), places[-1])
 
 
 def _table(values: dict, key: str) -> list[dict]:
@@ -193,7 +182,7 @@ def load(path: str) -> Settings:
         path=os.path.abspath(path), station=station_path, text=station,
         program=os.path.join(base, values["program"]) if "program" in values else built_program(),
         folder=os.path.join(base, values.get("state", "state")),
-        cycle=values.get("cycle", UNPACED_CYCLE if servers and not pace else HOUR), days=values.get("days", 30), pace=pace,
+        cycle=values.get("cycle", UNPACED_CYCLE if servers and not pace else 3600), days=values.get("days", 30), pace=pace,
         radios=radios, links=[_port(one) for one in _table(station, "link") if _port(one)], servers=servers,
         denied=[one["net"] for one in _table(station, "deny") if isinstance(one.get("net"), str)],
         gap=_number(station, "gap", 0) / 1e6, bound=_number(station, "bound", 1000) / 1e3,
@@ -211,7 +200,7 @@ def _radio(path: str, text: str, values: object, place: int, tables: list[dict])
     if not values.get("name", "").isprintable():
         keys.refuse("name", "it has a character that can't be printed")
     table = tables[place] if place < len(tables) else {}
-    plan = table.get("plan") if isinstance(table.get("plan"), str) else ""
+    plan = table["plan"] if isinstance(table.get("plan"), str) else ""
     value = values[named[0]]
     if named[0] != "command":
         value = os.path.join(os.path.dirname(os.path.abspath(path)), value)

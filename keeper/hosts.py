@@ -2,6 +2,7 @@
 
 import errno
 import os
+import pwd
 import shlex
 import shutil
 import socket
@@ -9,7 +10,8 @@ import stat
 import time
 from enum import Enum
 
-from keeper.config import Radio, Settings
+from keeper.chosen_file import INSTALLED
+from keeper.config import Radio, Settings, unreadable
 from keeper.steadied import PLACE
 
 CLOCKS = "/sys/devices/system/clocksource/clocksource0"
@@ -17,6 +19,7 @@ GOOD_CLOCKS = ("tsc", "arch_sys_counter", "kvm-clock", "hyperv_clocksource_tsc_p
 WRAPPERS = ("exec", "stdbuf", "nice", "env")  # the program that is looked for stands after one of them and its options
 BUILT_IN = ("cd", "while", "for", "if", "do", "done", "then", "fi", "read", "umask", "ulimit", "trap", ":", ".", "(", "{", "}")
 READS = 200  # of the clock, to see how long one takes
+USER = "radio_ntpd"  # the service's
 
 
 class Level(Enum):
@@ -132,11 +135,41 @@ def look_at_folder(folder: str) -> Finding:
     return Level.WELL, f"{folder} can be written, {free >> 20} MB are free"
 
 
-def look(settings: Settings, running: bool) -> list[Finding]:
-    """All of it. Where a keeper is running its ports are taken by itself."""
-    found = [(Level.WELL, f"port {port} is served by the keeper that runs") for port in settings.links] if running else [look_at_port(port) for port in settings.links]
+def look_at_ports(settings: Settings, running: bool) -> list[Finding]:
+    """Where a keeper is running its ports are taken by itself."""
     if not settings.links:
-        found.append((Level.NOTE, "the station has no [[link]]: nobody is answered"))
+        return [(Level.NOTE, "the station has no [[link]]: nobody is answered")]
+    return [(Level.WELL, f"port {port} is served by the keeper that runs") if running else look_at_port(port) for port in settings.links]
+
+
+def look(settings: Settings) -> list[Finding]:
+    """All the rest."""
+    found: list[Finding] = []
     for place, radio in enumerate(settings.radios):
         found += [look_at_source(radio, place), *look_at_steady(radio, place)]
+    if settings.alarms.command:
+        found.append(_look_at_command("alarms.command", settings.alarms.command))
     return found + look_at_clock() + [look_at_folder(settings.folder)]
+
+
+def become_service(settings: Settings, user: str = USER) -> list[Finding]:
+    """From here on root has no more rights than the service, where the installed file is looked at: what it names must not do more here than
+    there, nor less. What the service may not read is said."""
+    if os.geteuid() != 0 or settings.path != INSTALLED:
+        return []
+    try:
+        its = pwd.getpwnam(user)
+    except KeyError:
+        return []
+    os.initgroups(user, its.pw_gid)
+    os.setgid(its.pw_gid)
+    os.setuid(its.pw_uid)
+    try:
+        os.chdir(its.pw_dir)
+    except OSError:
+        os.chdir("/")
+    found = [(Level.WELL, f"what follows is looked at as the user {user}, as the service is")]
+    for path in (settings.path, settings.station):
+        if why := unreadable(path):
+            found.append((Level.BAD, f"{path}: {why}: `chgrp {user} {path}` and `chmod 640 {path}` let the service read it"))
+    return found

@@ -1,64 +1,102 @@
-"""What some seconds of a receiver's log look like: its unit, which way round its output is, and of which sender the marks may be."""
+"""What some seconds of a receiver's log look like: its lines, its unit, which way round its output is, and of which sender the marks may be."""
 
 import re
 import statistics
 from collections.abc import Iterable
 from dataclasses import dataclass, field
 
-PAIR = re.compile(rb"(\d{1,19}) (\d{1,13})")
+from keeper.lines import Lines, reading
+
+PAIR = re.compile(rb"\s*(\d{1,19}) (\d{1,13})\s*")  # also what a log doesn't take, so that its unit is seen
 EDGE = re.compile(rb"\b(rising|falling)\b", re.IGNORECASE)
 UNITS = {"seconds": 1e-6, "milliseconds": 1e-3, "microseconds": 1.0, "nanoseconds": 1e3}
+PLAUSIBLE = (20_000, 2_000_000)  # the median width of a log lies between these, in microseconds
 NEAR = 120.0  # a start within this number of seconds from now is of that clock
 SECOND = 1_000_000
 BORDER = 40_000  # beside a second a mark may be so far off, in microseconds
 LEAST = 5  # with fewer marks nothing is said of them
-# The widths that a mark may have, in microseconds, as docs/FORMATS.md has their classes.
-CLASSES = {"dcf": ((40_000, 260_000),), "msf": ((40_000, 400_000), (400_000, 600_000)), "wwvb": ((100_000, 350_000), (350_000, 650_000), (650_000, 900_000))}
-FIT = 0.8  # the part of the marks that has to be of a class
+# Of each plan's symbols the widths as docs/FORMATS.md has them, from and to, and the width that the sender sends, in microseconds.
+CLASSES = {
+    "dcf": ((40_000, 149_999, 100_000), (150_000, 260_000, 200_000)),
+    "msf": ((40_000, 149_999, 100_000), (150_000, 249_999, 200_000), (250_000, 399_999, 300_000), (400_000, 600_000, 500_000)),
+    "wwvb": ((100_000, 349_999, 200_000), (350_000, 649_999, 500_000), (650_000, 900_000, 800_000)),
+}
+FIT = 0.9  # the part of the marks that has to be of a class
+SCATTER = 25_000  # a mark may be so far from what its sender sends, once all are moved by one number, in microseconds
+SHIFTS = range(-90_000, 200_001, 5_000)  # by so much all marks may be longer than they are sent, in microseconds
+SHOWN = 40  # what is shown of a line, in bytes
+SIGNS = (
+    (rb"\r$", "a carriage return (CR) stands at its end"), (rb"^\xef\xbb\xbf", "a byte order mark stands before it"), (rb"\t", "a tab stands in it"),
+    (rb"[,;]", "a space alone stands between start and width"), (rb" 0+\s*$", "its width is 0"),
+    (rb"^0\d| 0\d", "a number begins with 0"), (rb"^ |  | $", "a space is too many"),
+)
 
 
 @dataclass
 class Look:
-    """What was seen. `lines` is how many there were, `edges` and `others` how many of them were edges and neither.
-    `unit` and `clock` are words, empty where they aren't known. `rate` is marks a second; `inverted` is None where it isn't known;
-    `plans` are those that the widths may be of."""
+    """What was seen. `lines` is how many there were, `edges` and `others` how many of them were edges and neither. `bad` is how many the keeper
+    leaves out, and `fault` shows the first of them. `plans` are those that the marks may be of. `is_sure` is False where MSF or WWVB is
+    among them for the widths alone, without MSF's minute mark or two marks in a second, and without WWVB's marker."""
 
     lines: int = 0
     edges: int = 0
     others: int = 0
+    bad: int = 0
+    fault: str = ""
     unit: str = ""
+    width_unit: str = ""
     clock: str = ""
     rate: float = 0.0
     inverted: bool | None = None
     plans: list[str] = field(default_factory=list)
+    is_sure: bool = True
     widths: list[int] = field(default_factory=list)
 
 
-def look(lines: Iterable[bytes], seconds: float, monotonic: float, unix: float) -> Look:
-    """Looks at the lines of a number of seconds; `monotonic` and `unix` are the host's clocks when they ended, in seconds."""
-    seen, pairs = Look(), []
-    for line in lines:
+def look(pieces: Iterable[tuple[int, bytes]], seconds: float, monotonic: float, unix: float) -> Look:
+    """Looks at what came in a number of seconds: each piece with the microsecond of the monotonic clock at which it came; `monotonic` and
+    `unix` are the host's clocks when they ended, in seconds."""
+    seen, reader, text = Look(), Lines(), b""
+    for at, piece in pieces:
+        reader.take(piece, at)
+        text += piece
+    pairs = []
+    for line in text.split(b"\n")[:-1]:
         seen.lines += 1
-        pair = PAIR.fullmatch(line.strip())
+        pair, is_edge = PAIR.fullmatch(line), EDGE.search(line)
         if pair:
             pairs.append((int(pair[1]), int(pair[2])))
-        elif EDGE.search(line):
-            seen.edges += 1
-        else:
-            seen.others += 1
-    if not pairs:
-        return seen
+        seen.edges += not pair and bool(is_edge)
+        seen.others += not pair and not is_edge
+        if not seen.fault and not is_edge and isinstance(reading(line), str):
+            seen.fault = fault_of(line)
+    seen.bad, seen.fault = reader.bad, seen.fault or reader.last_bad
+    if pairs:
+        _look_at_pairs(seen, pairs, seconds, monotonic, unix)
+    return seen
+
+
+def _look_at_pairs(seen: Look, pairs: list[tuple[int, int]], seconds: float, monotonic: float, unix: float) -> None:
     seen.unit, seen.clock = unit_of(pairs[-1][0], monotonic, unix)
     scale = UNITS.get(seen.unit, 1.0)
+    middle = statistics.median(width for _, width in pairs)
+    seen.width_unit = next((unit for unit, size in UNITS.items() if PLAUSIBLE[0] <= middle / size < PLAUSIBLE[1]), seen.unit)
+    size = UNITS.get(seen.width_unit, scale)
     # What a source says of the time before it was read isn't looked at.
     last = pairs[-1][0] / scale
-    marks = [(start / scale, width / scale) for start, width in pairs if start / scale > last - seconds * SECOND]
+    marks = [(start / scale, width / size) for start, width in pairs if start / scale > last - seconds * SECOND]
     seen.widths = [round(width) for _, width in marks]
     seen.rate = len(marks) / seconds
     if len(marks) >= LEAST:
         seen.inverted = is_inverted(marks)
-        seen.plans = plans_of([(start + width, SECOND - width % SECOND) for start, width in marks] if seen.inverted else marks)
-    return seen
+        turned = [(start + width, SECOND - width % SECOND) for start, width in marks]
+        seen.plans, seen.is_sure = plans_of(turned if seen.inverted else marks)
+
+
+def fault_of(line: bytes) -> str:
+    """A line that the keeper leaves out, and what is wrong with it."""
+    why = next((what for sign, what in SIGNS if re.search(sign, line)), reading(line))
+    return f"{line[:SHOWN].decode('ascii', 'backslashreplace')!r}: {why}"
 
 
 def unit_of(start: int, monotonic: float, unix: float) -> tuple[str, str]:
@@ -90,21 +128,50 @@ def is_inverted(marks: list[tuple[float, float]]) -> bool | None:
     return statistics.median(width for _, width in marks) > SECOND * 0.6
 
 
-def plans_of(marks: list[tuple[float, float]]) -> list[str]:
-    """The plans of which most of these marks may be. DCF77 and MSF can't always be distinguished in some seconds."""
+def symbol(plan: str, width: float) -> int:
+    """The width that the sender sends for what a plan reads of this one, 0 for none, in microseconds."""
+    return next((sent for least, most, sent in CLASSES[plan] if least <= int(width) <= most), 0)
+
+
+def fits(plan: str, widths: list[float]) -> bool:
+    """Whether a plan reads nine of ten."""
+    return sum(symbol(plan, width) > 0 for width in widths) >= FIT * len(widths)
+
+
+def plans_of(marks: list[tuple[float, float]]) -> tuple[list[str], bool]:
+    """The plans of which these marks may be, and whether that is sure. DCF77 and MSF can't always be distinguished in some seconds."""
     widths = [width for _, width in marks]
-    found = [plan for plan, classes in CLASSES.items() if sum(any(least <= width < most for least, most in classes) for width in widths) >= FIT * len(widths)]
-    gaps = [later - earlier for (earlier, _), (later, _) in zip(marks, marks[1:])]
-    telling = {
-        # Two parts in one second, and marks of 0.3 s or 0.5 s, are MSF's alone.
-        "msf": sum(150_000 <= gap <= 250_000 for gap in gaps) + sum(260_000 <= width < 400_000 for width in widths),
-        # A marker of 0.8 s comes every ten seconds, and is WWVB's alone.
-        "wwvb": sum(650_000 <= width < 900_000 for width in widths),
-    }
-    if telling["wwvb"] and "wwvb" in found:
-        return ["wwvb"]
-    if telling["msf"] and "msf" in found:
-        return ["msf"]
-    if len(found) > 1:
-        found = [plan for plan in found if plan != "wwvb"]
-    return found
+    found = [plan for plan in CLASSES if fits(plan, widths)]
+    if "wwvb" in found and any(width >= 650_000 for width in widths):
+        return ["wwvb"], True  # a marker, every ten seconds
+    short = sum(width < 150_000 for width in widths)
+    minutes = [start for start, width in marks if 400_000 <= width <= 600_000]
+    if short > (1 - FIT) * len(widths):
+        found = [plan for plan in found if plan != "wwvb"]  # its shortest mark has 0.2 s
+    is_minute = len(minutes) > 0 if marks[-1][0] - marks[0][0] > 58.5 * SECOND else True  # of sixty seconds one begins a minute
+    if not is_minute or any(later - earlier < 50 * SECOND for earlier, later in zip(minutes, minutes[1:])):
+        found = [plan for plan in found if plan != "msf"]  # its minute mark comes once a minute
+    # Two short parts in one second, and a mark of 0.5 s, are none of DCF77.
+    pairs = [one for one, other in zip(marks, marks[1:]) if 150_000 <= other[0] - one[0] <= 250_000 and max(one[1], other[1]) < 150_000]
+    if "msf" in found and (pairs or minutes):
+        return [plan for plan in found if plan != "dcf"], True
+    return found, "dcf" in found
+
+
+def shift_of(plan: str, widths: list[int]) -> int:
+    """By how much all marks are longer than this plan's sender sends them, where they are not read as they are meant; 0 where they are, or
+    where no number fits (us)."""
+    sent = [one for *_, one in CLASSES[plan]]
+    # Ten seconds of each sender have its shortest mark, so of marks of two widths the shorter ones are that.
+    begins = len(widths) >= 10 and max(widths) - min(widths) > 2 * SCATTER
+
+    def rate(shift: int) -> tuple[int, bool, int]:
+        near = [one for one in widths if min(abs(one - shift - other) for other in sent) <= SCATTER]
+        return len(near), begins and any(abs(one - shift - sent[0]) <= SCATTER for one in near), -abs(shift)
+
+    shift = max(SHIFTS, key=rate)
+    meant = [min(sent, key=lambda other: abs(one - shift - other)) for one in widths]
+    as_meant = sum(symbol(plan, width) == one for width, one in zip(widths, meant))
+    if rate(shift)[0] < FIT * len(widths) or as_meant >= FIT * len(widths):
+        return 0
+    return round(statistics.median(width - one for width, one in zip(widths, meant)))

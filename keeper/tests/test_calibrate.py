@@ -166,6 +166,7 @@ class Whole(unittest.TestCase):
         folder = tempfile.TemporaryDirectory()
         self.addCleanup(folder.cleanup)
         self.folder = folder.name
+        self.said = io.StringIO()
         self.shift = time.time() - time.monotonic()
         self.write("station.toml", '[[radio]]\nplan = "dcf"\nlog = "x"\ndelay = 1400\n')
         program = self.write("program", PROGRAM.format(python=os.path.realpath("/proc/self/exe"), shift=self.shift, late=self.LATE))
@@ -188,8 +189,8 @@ class Whole(unittest.TestCase):
         real = calibrate.listen
         calibrate.listen = lambda settings, number, reference, _: real(settings, number, reference, seconds)
         try:
-            with contextlib.redirect_stdout(out):
-                told = calibrate.main(["--config", os.path.join(self.folder, "keeper.toml"), "--minutes", "1"])
+            with contextlib.redirect_stdout(out), contextlib.redirect_stderr(self.said):
+                told = calibrate.main(["--config", os.path.join(self.folder, "keeper.toml"), "--minutes", "8"])
         finally:
             calibrate.listen = real
         return told, out.getvalue()
@@ -237,6 +238,22 @@ class Whole(unittest.TestCase):
         self.write("keeper.toml", 'station = "station.toml"\nprogram = "program"\n[[radio]]\ncommand = "exit 7"\n')
         with self.assertRaisesRegex(Fault, "radio 0: its source ended: its command ended with 7"):
             self.calibrate(10.0)
+
+    def test_what_can_not_be_enough_is_refused_at_once(self):
+        """Five minutes are needed, which the first one, cut, and the second one, alone, are not among."""
+        for minutes in ("0", "5", "7", "10081"):
+            said = io.StringIO()
+            with self.assertRaises(SystemExit) as ended, contextlib.redirect_stderr(said):
+                calibrate.main(["--config", "/nosuch", "--minutes", minutes])
+            self.assertEqual(ended.exception.code, 64)
+            self.assertIn("--minutes is 8 to 10080", said.getvalue())
+
+    def test_it_says_how_far_it_is(self):
+        self.write("marks", "\n".join(self.marks()) + "\n")
+        self.write("keeper.toml", f'station = "station.toml"\nprogram = "program"\n[[radio]]\ncommand = "cat {self.folder}/marks; exec sleep 60"\n')
+        self.calibrate(4.0)
+        self.assertRegex(self.said.getvalue(), r"(?m)^\d\d:\d\d:\d\d 0 of 0 min: 1[1-4] minutes were believed$")
+        self.assertLessEqual(self.said.getvalue().count("\n"), calibrate.REPORTS)
 
     def test_too_little(self):
         self.write("keeper.toml", 'station = "station.toml"\nprogram = "program"\n[[radio]]\ncommand = "sleep 60"\n')

@@ -14,9 +14,9 @@ from unittest.mock import Mock
 from keeper import check, config, hosts
 from keeper.config import Radio
 from keeper.hosts import Level
-from keeper.marks import Look
+from keeper.marks import Look, look
 from keeper.state import State, save
-from keeper.tests.test_marks import log, seen, upside_down
+from keeper.tests.test_marks import UNIX, log, pieces_of, seen, upside_down
 from keeper.words import REFUSED, Fault
 
 STATION = 'bound = 1000\n\n[[radio]]\nplan = "dcf"\nlog = "x"\n\n[[link]]\nport = {port}\n'
@@ -89,7 +89,32 @@ class Whole(Folder):
         told, said = self.run_check("--seconds", "3", command="echo noise; exit 3")
         self.assertEqual(told, 1)
         self.assertIn("its command ended with 3", said)
-        self.assertIn("1 lines were no start and width", said)
+        self.assertIn("1 lines were no start and width; the first: 'noise': it isn't a start and a width\n", said)
+
+    def test_lines_that_the_keeper_leaves_out(self):
+        """They are read as the keeper reads them: a log with CRLF is none."""
+        script = self.write("marks.py", MARKS.format(width="100000\\r"))
+        told, said = self.run_check("--seconds", "3", command=f"{sys.executable} {script}")
+        self.assertEqual(told, 1)
+        self.assertRegex(said, r"BAD   radio 0 \(dcf\): 10 of 10 lines are bad, and the keeper leaves them out; the first: '\d+ 100000\\r': a carriage return")
+
+    def test_a_recording_in_the_place_of_a_log(self):
+        log = self.write("old.log", "1000000 100000\n2000000 100000\n")
+        os.utime(log, (1.7e9, 1.7e9))
+        found = check.hear(Mock(radios=[Radio("file", log, "roof", 60.0, "dcf", 0.0)]), 0, 0.3)
+        self.assertEqual(found, [(Level.BAD, f"radio 0 (roof): nothing was added to {log}: something has to write to it, and a recording is for `radio_ntpd decode`")])
+
+    def test_bounds(self):
+        def judged(bound: int, steady: bool) -> list[Level]:
+            return [level for level, _ in check.judge_bound(Mock(bound=bound / 1e3, radios=[Radio("fifo", "x", "", 60.0, "dcf", 0.0, steady)]))]
+
+        for bound, steady, levels in (
+            (1, True, [Level.BAD]), (5, False, [Level.BAD]), (6, False, [Level.NOTE]), (50, False, [Level.NOTE]), (51, False, [Level.NOTE, Level.NOTE]), (944, True, [Level.NOTE]),
+            (945, True, []), (1000, True, []), (1000, False, [Level.NOTE]),
+        ):
+            with self.subTest(bound=bound, steady=steady):
+                self.assertEqual(judged(bound, steady), levels)
+        self.assertEqual(check.judge_bound(Mock(bound=0.003, radios=[])), [])
 
     def test_a_source_that_can_not_be_begun(self):
         found = check.hear(Mock(radios=[Radio("fifo", f"{self.folder}/nosuch", "roof", 60.0, "dcf", 0.0)]), 0, 1)
@@ -183,9 +208,48 @@ class Sentences(unittest.TestCase):
         self.says(seen(marks, 1e-3), "dcf", Level.WELL, "its starts are milliseconds")
         self.says(Look(lines=3, edges=3), "dcf", Level.BAD, "edges_to_log.py")
         self.says(Look(), "dcf", Level.BAD, "nothing was received")
-        self.says(Look(lines=2, others=2), "dcf", Level.BAD, "2 lines were no start and width")
+        self.says(Look(lines=2, others=2, fault="'x': y"), "dcf", Level.BAD, "2 lines were no start and width; the first: 'x': y")
         self.says(seen([(second * 137_000, 20_000) for second in range(70)]), "dcf", Level.BAD, "noise")
         self.says(seen(marks[:3]), "dcf", Level.NOTE, "too few")
+
+    def lines(self, form: bytes, *columns) -> Look:
+        marks = log("dcf77")[20:31]
+        lines = [form % tuple(column(start, width) for column in columns) for start, width in marks]
+        return look(pieces_of(lines, marks), 10, marks[-1][0] / 1e6, UNIX)
+
+    def test_lines(self):
+        """Of each one what is meant, as a person would have to know it."""
+        start, width = lambda at, _: at, lambda _, wide: wide
+        for form, columns, words in (
+            (b"%d %d\r\n", (start, width), "11 of 11 lines are bad, and the keeper leaves them out; the first: '21002442 99414\\r': a carriage return (CR) stands at its end"),
+            (b"%d\t%d\n", (start, width), "a tab stands in it"), (b"%d,%d\n", (start, width), "a space alone stands between start and width"),
+            (b"0%d %d\n", (start, width), "a number begins with 0"), (b"%d  %d\n", (start, width), "a space is too many"),
+            (b"%d 0\n", (start,), "its widths are 0: a mark has 1 to 2000000 microseconds"),
+            (b"%d %d\n", (start, lambda _, wide: wide // 1000), "its widths are milliseconds, and its starts microseconds: a log has microseconds in both"),
+            (b"%d %d\n", (lambda at, _: at // 1000, width), "its widths are microseconds, and its starts milliseconds"),
+            (b"%d %d\n", (lambda at, _: at + 1_700_000_000_000_000, width), "its starts are microseconds of the real-time clock"),
+            (b"%d %d\n", (start, lambda _, wide: wide - 65_000), "too short by some 66 ms for DCF77"),
+            (b"%d %d\n", (start, lambda _, wide: wide + 65_000), "too long by some 64 ms for DCF77"),
+            (b"%d %d\n", (start, lambda at, wide: wide + at % 17 * 20_000), "marks of no plan that is known, and the station says DCF77: interference"),
+            (b"%d %d\n", (lambda at, _: at + at % 13 * 40_000, width), "its marks begin anywhere in a second: interference, or another signal"),
+        ):
+            with self.subTest(words=words):
+                found = check.judge_marks(self.lines(form, *columns), "dcf")
+                self.assertIn(Level.BAD, [level for level, _ in found])
+                self.assertIn(words, " ".join(text for _, text in found))
+
+    def test_widths_at_the_borders_of_a_plan(self):
+        """DCF77's Zero has 40000 to 149999, its One 150000 to 260000."""
+        marks = [(second * 1_000_000, 150_000 if second % 3 else 48_000) for second in range(20, 30)]
+        self.assertEqual(check.judge_marks(seen(marks), "dcf")[-1][0], Level.WELL)
+
+    def test_another_sender_in_five_seconds(self):
+        """MSF is named where its minute mark was seen, or two marks in a second."""
+        marks = [(second * 1_000_000, 500_000 if second == 22 else 200_000) for second in range(20, 25)]
+        self.says(seen(marks, seconds=5), "dcf", Level.BAD, "marks of MSF or WWVB, and the station says DCF77")
+        marks = [(second * 1_000_000, 300_000 if second % 2 else 200_000) for second in range(20, 25)]
+        self.says(seen(marks, seconds=5), "msf", Level.WELL, "marks of MSF or WWVB")
+        self.says(seen(marks, seconds=5), "dcf", Level.BAD, "too long by some 100 ms for DCF77")
 
 
 if __name__ == "__main__":

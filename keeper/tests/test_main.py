@@ -10,8 +10,9 @@ import subprocess
 import tempfile
 import time
 import unittest
+from unittest import mock
 
-from keeper import __main__
+from keeper import __main__, chosen_file
 from keeper.state import State, save
 
 KEEPER = pathlib.Path(__file__).parent.parent.parent / "radio_keeper"
@@ -56,6 +57,17 @@ class CommandLine(unittest.TestCase):
                 told, out, said = self.run_keeper(*words)
                 self.assertEqual((told, out), (64, ""))
                 self.assertTrue(said)
+
+    def test_words_for_the_service(self):
+        for word in ("stop", "reload"):
+            told, _, said = self.run_keeper(word)
+            self.assertEqual((told, said.splitlines()[-1]), (64, f"radio_keeper: there is no command {word!r}: `systemctl {word} radio_ntpd` is meant for the service"))
+
+    def test_no_file(self):
+        for command in ("run", "check", "calibrate"):
+            with self.subTest(command=command), mock.patch.object(chosen_file, "INSTALLED", "/nosuch"):
+                said = f"radio_keeper {command}: there is no keeper.toml here and no /nosuch: --config names one, and docs/FIRST_EVENING.md writes one\n"
+                self.assertEqual(self.run_keeper(command), (78, "", said))
 
     def test_files_that_are_refused(self):
         path = os.path.join(self.folder, "keeper.toml")

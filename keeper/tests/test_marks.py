@@ -2,16 +2,17 @@
 
 import pathlib
 import random
+import re
 import unittest
 
-from keeper.marks import Look, look, unit_of
+from keeper.marks import CLASSES, Look, look, shift_of, unit_of
 
 RADIOS = pathlib.Path(__file__).parent.parent.parent / "examples" / "radios"
 UNIX = 1.7e9
 
 
 def log(plan: str) -> list[tuple[int, int]]:
-    return [tuple(map(int, line.split())) for line in (RADIOS / f"{plan}.log").read_text().splitlines()]
+    return [(int(line.split()[0]), int(line.split()[1])) for line in (RADIOS / f"{plan}.log").read_text().splitlines()]
 
 
 def upside_down(marks):
@@ -26,8 +27,12 @@ def pieces(marks, seconds=10):
 
 
 def seen(marks, scale=1.0, seconds=10) -> Look:
-    lines = [b"%d %d" % (start * scale, width * scale) for start, width in marks]
-    return look(lines, seconds, marks[-1][0] / 1e6 + 1, UNIX)
+    return look(pieces_of([b"%d %d\n" % (start * scale, width * scale) for start, width in marks], marks), seconds, marks[-1][0] / 1e6 + 1, UNIX)
+
+
+def pieces_of(lines, marks):
+    """Each line at the moment at which its mark ends."""
+    return [(start + width, line) for line, (start, width) in zip(lines, marks)]
 
 
 class Marks(unittest.TestCase):
@@ -53,9 +58,20 @@ class Marks(unittest.TestCase):
                 self.assertFalse(told.inverted)
                 self.assertIn(plan, told.plans)
 
+    def test_the_classes_are_those_of_the_page(self):
+        """A plan reads the widths of docs/FORMATS.md and no others."""
+        page = (RADIOS.parent.parent / "docs" / "FORMATS.md").read_text(encoding="utf-8")
+        plan, told = "", {name: [] for name in CLASSES}
+        for name, least, most in re.findall(r"^\| (\w*) ?\| (\d+) to (\d+) \| (?:Zero|One|Both|Long)", page, re.MULTILINE):
+            plan = {"DCF77": "dcf", "MSF": "msf", "WWVB": "wwvb"}.get(name, plan)
+            told[plan].append((int(least), int(most)))
+        self.assertEqual({name: [(least, most) for least, most, _ in classes] for name, classes in CLASSES.items()}, told)
+
     def test_msf_shows_itself_in_a_minute(self):
         for piece in pieces(log("msf"), 60):
             self.assertEqual(seen(piece, seconds=60).plans, ["msf"])
+        for piece in pieces(log("dcf77"), 62):
+            self.assertEqual(seen(piece, seconds=62).plans, ["dcf"])
 
     def test_units(self):
         for scale, unit in ((1e-6, "seconds"), (1e-3, "milliseconds"), (1.0, "microseconds"), (1e3, "nanoseconds")):
@@ -70,13 +86,32 @@ class Marks(unittest.TestCase):
             self.assertIn("dcf", told.plans)
 
     def test_edges_noise_and_nothing(self):
-        told = look([b"12.5\trising\tgpiochip0 17", b"event:  RISING EDGE offset: 17 timestamp: [ 12.5]", b"Error: busy", b""], 10, 20.0, UNIX)
+        text = b"12.5\trising\tgpiochip0 17\nevent:  RISING EDGE offset: 17 timestamp: [ 12.5]\nError: busy\n\nhalf"
+        told = look([(0, text[:30]), (5, text[30:])], 10, 20.0, UNIX)
         self.assertEqual((told.lines, told.edges, told.others, told.widths), (4, 2, 2, []))
+        self.assertEqual(told.fault, "'Error: busy': it isn't a start and a width")
         chance = random.Random(2)
         noise = sorted((chance.randrange(10**7), chance.randrange(5_000, 60_000)) for _ in range(60))
         self.assertIsNone(seen(noise).inverted)
         self.assertEqual(seen(noise).rate, 6.0)
         self.assertEqual(look([], 10, 20.0, UNIX), Look())
+
+    def test_marks_that_are_all_too_long_or_too_short(self):
+        """By how much, where the plan reads others than were sent; where it reads the same nothing is wrong."""
+        for name, plan in self.PLANS.items():
+            for piece in pieces(log(name)):
+                widths = [width for _, width in piece]
+                if len(widths) < 10 or max(widths) - min(widths) < 50_000:
+                    continue  # of one width nobody can say which one was sent
+                for shift in (-65_000, 0, 65_000, 165_000):
+                    told = shift_of(plan, [width + shift for width in widths])
+                    is_read = shift == 0 or (plan == "wwvb" and abs(shift) < 100_000)
+                    with self.subTest(plan=plan, shift=shift, first=piece[0]):
+                        self.assertAlmostEqual(told, 0 if is_read else shift, delta=5_000)
+        self.assertEqual(shift_of("dcf", [48_000, 150_000] * 5), 0)
+        self.assertEqual(shift_of("dcf", [155_000, 255_000] * 5), 55_000)
+        chance = random.Random(5)
+        self.assertEqual(shift_of("dcf", [chance.randrange(20_000, 430_000) for _ in range(10)]), 0)
 
     def test_history_is_left_out(self):
         self.assertAlmostEqual(seen(log("dcf77")).rate, 1.0, delta=0.11)

@@ -53,8 +53,8 @@ class Pages(unittest.TestCase):
             self.assertIn(f"\n.It Cm {command}\n", MANUAL)
         for name in (faces.STATE, faces.PAGE, faces.METRICS):
             self.assertIn(name, MANUAL)
-        for status in (words.DONE, words.NOT_WELL, words.CRITICAL, words.UNKNOWN, words.USAGE, words.HOST, words.REFUSED, words.INTERRUPTED):
-            self.assertIn(f"\n.It {status}\n", MANUAL)
+        for number in (words.DONE, words.NOT_WELL, words.CRITICAL, words.UNKNOWN, words.USAGE, words.HOST, words.REFUSED, words.INTERRUPTED):
+            self.assertIn(f"\n.It {number}\n", MANUAL)
         for name in alarms.Alarms("x")._environment(faces.State(), "", "", 0.0, None):
             if name.startswith("RADIO_") and name != "RADIO_NTPD":
                 self.assertIn(name, MANUAL)

@@ -49,14 +49,15 @@ class OfCheck(unittest.TestCase):
         for seen, plan, level, sentence in (
             (Look(lines=4, edges=4), "dcf", Level.BAD, "its lines are edges: put `| feeders/edges_to_log.py` after the command"),
             (Look(widths=WIDTHS, unit="microseconds", clock="monotonic", rate=40.0), "dcf", Level.BAD, "40.0 marks a second, widths 100.0 ms to 200.0 ms: noise, or another signal"),
-            (Look(widths=WIDTHS, unit="microseconds", clock="monotonic", rate=1.0), "dcf", Level.NOTE,
-             "1.0 marks a second, widths 100.0 ms to 200.0 ms: too few or too unsteady to say more; read it for longer with --seconds 60"),
+            (Look(widths=WIDTHS[:4], unit="microseconds", clock="monotonic", rate=0.4), "dcf", Level.NOTE,
+             "0.4 marks a second, widths 100.0 ms to 100.0 ms: too few to say more; read it for longer with --seconds 60"),
             (Look(widths=WIDTHS, unit="microseconds", clock="monotonic", rate=1.0, inverted=False, plans=["dcf"]), "dcf", Level.WELL,
              "1.0 marks a second, widths 100.0 ms to 200.0 ms: marks of DCF77"),
-            (Look(widths=WIDTHS, unit="microseconds", clock="monotonic", rate=1.0, inverted=False), "msf", Level.NOTE,
-             "1.0 marks a second, widths 100.0 ms to 200.0 ms: marks of no plan that is known, and the station says MSF"),
+            (Look(widths=WIDTHS, unit="microseconds", clock="monotonic", rate=1.0, inverted=False), "msf", Level.BAD,
+             "1.0 marks a second, widths 100.0 ms to 200.0 ms: marks of no plan that is known, and the station says MSF: interference, or the receiver's threshold"),
         ):
             with self.subTest(sentence=sentence):
+                seen.lines, seen.width_unit = max(1, seen.lines), seen.unit
                 self.assertEqual(check.judge_marks(seen, plan), [(level, sentence)])
 
     def test_a_keeper_that_runs_reads_the_receivers(self):
@@ -64,7 +65,7 @@ class OfCheck(unittest.TestCase):
         out = io.StringIO()
         with mock.patch.object(check.config, "load", return_value=settings), mock.patch.object(check, "judge_station", return_value=[]), mock.patch.object(
             check.hosts, "look", return_value=[]
-        ), mock.patch.object(check, "keeper_runs", return_value=True), contextlib.redirect_stdout(out):
+        ), mock.patch.object(check.hosts, "look_at_ports", return_value=[]), mock.patch.object(check, "keeper_runs", return_value=True), contextlib.redirect_stdout(out):
             check.main(["--config", "keeper.toml"])
         self.assertIn("well  keeper.toml: every key is known and in range\n", out.getvalue())
         self.assertIn("note  a keeper runs and reads the receivers: `radio_keeper status` says how they are\n", out.getvalue())
