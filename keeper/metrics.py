@@ -4,7 +4,7 @@ from collections.abc import Iterable
 
 from keeper.state import State
 from keeper.text import refused
-from keeper.verdict import SILENT, judge, worst
+from keeper.verdict import SILENT, is_kept, judge, worst
 
 Labels = dict[str, str]
 PREFIX = "radio_ntpd_"
@@ -48,7 +48,7 @@ def render(state: State, now: float) -> str:
     sheet.put("run_start_time_seconds", "gauge", "When the run that serves began.", [({}, state.run.since)])
     sheet.put("run_lag_seconds", "gauge", "How late the run's counter began.", [({}, state.run.lag)])
     _links(sheet, state, now)
-    _radios(sheet, state)
+    _radios(sheet, state, now)
     _servers(sheet, state)
     if state.leap_file is not None and state.leap_file.expires:
         sheet.put("leap_file_expiry_timestamp_seconds", "gauge", "When the list of leap seconds expires.", [({}, state.leap_file.expires)])
@@ -57,8 +57,9 @@ def render(state: State, now: float) -> str:
 
 def _links(sheet: Sheet, state: State, now: float) -> None:
     by = [({"port": str(one.port)}, one) for one in state.links]
-    sheet.put("link_up", "gauge", "Whether the link answers.", [(labels, now - one.answered_at <= SILENT) for labels, one in by])
-    sheet.put("link_synchronized", "gauge", "Whether the link has the time.", [(labels, one.leap != 3 and now - one.answered_at <= SILENT) for labels, one in by])
+    up = {one.port: is_kept(state, now) and now - one.answered_at <= SILENT for one in state.links}
+    sheet.put("link_up", "gauge", "Whether the link answers.", [(labels, up[one.port]) for labels, one in by])
+    sheet.put("link_synchronized", "gauge", "Whether the link has the time.", [(labels, up[one.port] and one.leap != 3) for labels, one in by])
     for name, about in (
         ("leap_indicator", "Leap indicator of the last answer; 3 says not synchronised."),
         ("stratum", "Stratum of the last answer, 0 without time."),
@@ -76,9 +77,9 @@ def _links(sheet: Sheet, state: State, now: float) -> None:
     sheet.put("link_requests_total", "counter", "Datagrams of clients in the runs that have ended.", [(labels, one.requests) for labels, one in by])
 
 
-def _radios(sheet: Sheet, state: State) -> None:
+def _radios(sheet: Sheet, state: State, now: float) -> None:
     by = [({"radio": str(one.number), "plan": one.plan}, one) for one in state.radios]
-    sheet.put("radio_source_running", "gauge", "Whether the radio's source runs and gives pulses.", [(labels, one.source == "running") for labels, one in by])
+    sheet.put("radio_source_running", "gauge", "Whether the radio's source runs and gives pulses.", [(labels, one.source == "running" and is_kept(state, now)) for labels, one in by])
     for field, name, about in (
         ("restarts", "source_restarts", "Times that the source was started again."), ("pulses", "pulses", "Pulses of the radio."),
         ("bad_lines", "bad_lines", "Lines of the source that were left out."),
@@ -100,7 +101,7 @@ def _radios(sheet: Sheet, state: State) -> None:
 
 
 def _servers(sheet: Sheet, state: State) -> None:
-    by = [({"server": f"{one.address}:{one.port}"}, one) for one in state.servers]
+    by = [({"feed": str(one.number), "server": f"{one.address}:{one.port}"}, one) for one in state.servers]
     heard = [(labels, one) for labels, one in by if one.sample_at]
     sheet.put("server_journal_samples", "gauge", "Samples in the last journal.", [(labels, one.samples) for labels, one in by])
     sheet.put("server_last_sample_timestamp_seconds", "gauge", "When the last sample came.", [(labels, one.sample_at) for labels, one in heard])

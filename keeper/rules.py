@@ -8,24 +8,27 @@ _COMMON = {
     2: ("Width", "a width is in no class: interference, the receiver's threshold"),
     3: ("Length", "a minute doesn't have as many marks as it must: a lost mark or a false minute mark"),
 }
+# The rules that refuse the minutes of an output that is the other way round.
+INVERTED = {"dcf": (2,), "msf": (1,), "wwvb": (1, 3)}
+_TURNED = {number: (name, f"{why}, or an output that is the other way round") for number, (name, why) in _COMMON.items()}
 _BITS = "bit errors"
 _MISSED = "two bit errors that the parity missed"
 _RULES = {
     "dcf": {
-        10: ("StartBit", "bit errors, or a signal that isn't DCF77"), 11: ("ZoneBits", _BITS), 12: ("TimeBit", _BITS),
+        2: _TURNED[2], 10: ("StartBit", "bit errors, or a signal that isn't DCF77"), 11: ("ZoneBits", _BITS), 12: ("TimeBit", _BITS),
         13: ("MinuteParity", _BITS), 14: ("HourParity", _BITS), 15: ("DateParity", _BITS), 16: ("MinuteRange", _MISSED),
         17: ("HourRange", _MISSED), 18: ("DayRange", _MISSED), 19: ("WeekdayRange", _MISSED), 20: ("MonthRange", _MISSED),
         21: ("YearRange", _MISSED), 22: ("NoSuchDate", _MISSED), 23: ("WeekdayDiffers", _MISSED),
         24: ("LeapMinute", "a lost or a false mark in the minute of a leap second, or bit errors in its announcement"),
     },
     "msf": {
-        30: ("Identifier", "a false minute mark, or bit errors"), 31: ("YearParity", _BITS), 32: ("DateParity", _BITS),
+        1: _TURNED[1], 30: ("Identifier", "a false minute mark, or bit errors"), 31: ("YearParity", _BITS), 32: ("DateParity", _BITS),
         33: ("WeekdayParity", _BITS), 34: ("TimeParity", _BITS), 35: ("MinuteRange", _MISSED), 36: ("HourRange", _MISSED),
         37: ("DayRange", _MISSED), 38: ("WeekdayRange", _MISSED), 39: ("MonthRange", _MISSED), 40: ("YearRange", _MISSED),
         41: ("NoSuchDate", _MISSED), 42: ("WeekdayDiffers", _MISSED),
     },
     "wwvb": {
-        50: ("Markers", "a false pair of markers, or bit errors"), 51: ("Reserved", _BITS), 52: ("DutSign", _BITS),
+        1: _TURNED[1], 3: _TURNED[3], 50: ("Markers", "a false pair of markers, or bit errors"), 51: ("Reserved", _BITS), 52: ("DutSign", _BITS),
         53: ("MinuteRange", _BITS), 54: ("HourRange", _BITS), 55: ("YearRange", _BITS), 56: ("DayOfYear", _BITS),
         58: ("LeapMinute", "a minute that ends with a leap second, which isn't read"),
     },

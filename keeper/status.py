@@ -1,5 +1,6 @@
 """`status` and `watch`: the state of a station for a person, for a program, for Nagios."""
 
+import dataclasses
 import json
 import os
 import sys
@@ -7,8 +8,9 @@ import time
 
 from keeper import faces, metrics, text
 from keeper.config import read
+from keeper.running import is_there
 from keeper.state import State, StateError, load
-from keeper.verdict import Level, judge, worst
+from keeper.verdict import GONE, Level, judge, worst
 from keeper.words import DONE, UNKNOWN, Fault, Parser
 
 FOLDER = "/var/lib/radio_ntpd"
@@ -40,10 +42,10 @@ def main(given: list[str], command: str = "status") -> int:
         if not 0.2 <= asked.every <= 3600:
             words.error("--every is 0.2 to 3600 seconds")
         return watch(path, asked.every)
-    state = found(path)
-    now = time.time()
+    written, now = found(path), time.time()
+    state = current(written)
     if asked.json:
-        print(json.dumps(state, default=vars, indent=1))
+        print(json.dumps(written, default=vars, indent=1))
     elif asked.prometheus:
         sys.stdout.write(metrics.render(state, now))
     else:
@@ -69,10 +71,16 @@ def found(path: str) -> State:
         raise Fault(f"{error}; does the keeper run, and are --config and --folder right?") from error
 
 
+def current(written: State) -> State:
+    """The state as it stands: a keeper that was killed could not write that it has ended."""
+    has_gone = written.keeper_pid != 0 and not is_there(written.keeper_pid)
+    return dataclasses.replace(written, keeper_pid=GONE) if has_gone else written
+
+
 def nagios(folder: str | None, config: str | None) -> int:
     """One line on standard output, whatever is wrong."""
     try:
-        line, level = text.nagios(load(os.path.join(folder or folder_of(config), faces.STATE)), time.time())
+        line, level = text.nagios(current(load(os.path.join(folder or folder_of(config), faces.STATE))), time.time())
     except (StateError, Fault) as error:
         line, level = f"RADIO_NTPD UNKNOWN: {str(error).replace('|', '/')}", Level(UNKNOWN)
     print(line)
@@ -89,7 +97,7 @@ def watch(path: str, every: float) -> int:
     clear = CLEAR if sys.stdout.isatty() else ""
     while True:
         try:
-            said = text.render(load(path), time.time(), takes_blocks())
+            said = text.render(current(load(path)), time.time(), takes_blocks())
         except StateError as error:
             said = f"{error}\n"
         sys.stdout.write(clear + said)

@@ -4,7 +4,7 @@ import time
 
 from keeper import rules
 from keeper.state import QUARTER, QUARTERS, Quarter, RadioState, ServerState, State
-from keeper.verdict import Level, judge, span, summary, title, worst
+from keeper.verdict import Level, is_kept, judge, span, suspicion, summary, title, worst
 
 BLOCKS = " ▁▂▃▄▅▆▇█"
 DIGITS = " 12345678"
@@ -66,11 +66,12 @@ def _head(state: State, now: float) -> list[str]:
     run = state.run
     lines = [f"{worst(found).name}: {summary(state, now)}"]
     lines += [f"  {level.name}: {said}" for level, said in found] if len(found) > 1 else []
-    kept = f"kept for {span(now - state.keeper_since)}" if state.keeper_since else "not kept"
-    lines += ["", f"{clock(state.written)} UTC, station {state.station}, bound {state.bound * 1e3:.0f} ms, {kept}"]
+    at = state.written  # what is below is of this moment
+    kept = f"kept for {span(at - state.keeper_since)}" if state.keeper_since else "not kept"
+    lines += ["", f"{clock(at)} UTC, {ago(at, now)}: station {state.station}, bound {state.bound * 1e3:.0f} ms, {kept}"]
     if run.number:
         ended = f"; the one before ended with {run.last_status!r}" if run.last_status else ""
-        lines.append(f"run {run.number}, {span(now - run.since)} old, since {rules.cause(run.cause)}{ended}")
+        lines.append(f"run {run.number}, {span(at - run.since)} old, since {rules.cause(run.cause)}{ended}")
         lines.append(f"its counter began {late(run.lag)} (known within {length(run.lag_bound)}); pulses are moved by that")
     return lines
 
@@ -78,10 +79,10 @@ def _head(state: State, now: float) -> list[str]:
 def _links(state: State, now: float) -> list[str]:
     rows = [["LINK", "LEAP", "STRATUM", "REFERENCE", "ROOT DISPERSION", "LASTS", "REQUESTS/S", "ANSWERED"]]
     for link in state.links:
-        lasts = span(link.until - now) if link.until > now else "-"
+        lasts = span(link.until - state.written) if link.until > state.written and is_kept(state, now) else "-"
         rows.append([
             str(link.port), LEAPS[link.leap & 3], str(link.stratum), rules.reference(link.reference_id, state), length(link.root_dispersion), lasts,
-            f"{link.requests_per_second:.1f}", ago(link.answered_at, now),
+            f"{link.requests_per_second:.1f}", ago(link.answered_at, state.written),
         ])
     return ["", *table(rows)] if state.links else []
 
@@ -89,12 +90,12 @@ def _links(state: State, now: float) -> list[str]:
 def _radios(state: State, now: float, blocks: str) -> list[str]:
     rows = [["RADIO", "SOURCE", "PULSE", "VERDICTS 1 H", "LAST MINUTE", "SPREAD", "RESTARTS", "BAD LINES"]]
     for radio in state.radios:
-        minute = f"{clock(radio.minute)[11:16]} UTC, {ago(radio.minute_at, now)}" if radio.minute_at else "never"
+        minute = f"{clock(radio.minute)[11:16]} UTC, {ago(radio.minute_at, state.written)}" if radio.minute_at else "never"
         spread = length(radio.spread) if radio.spread else "-"
         if radio.steady and radio.spread_given:
             spread += f", steady {length(radio.spread_given)}"
         rows.append([
-            title(radio), radio.source, ago(radio.pulse_at, now), f"{radio.verdicts_hour} of {radio.minutes_hour}", minute, spread,
+            title(radio), radio.source if is_kept(state, now) else "ended", ago(radio.pulse_at, state.written), f"{radio.verdicts_hour} of {radio.minutes_hour}", minute, spread,
             str(radio.restarts), str(radio.bad_lines),
         ])
     lines = ["", *table(rows)] if state.radios else []
@@ -109,14 +110,16 @@ def _refusals(radio: RadioState) -> list[str]:
     for number, count in refused(radio.reception).items():
         name, why = rules.rule(radio.plan, number)
         lines.append(f"  refused {count} by rule {number} {name}: {why}".rstrip(": "))
+    if why := suspicion(radio):
+        lines.append(f"  {why}")
     return lines + ([f"  last bad line: {radio.last_bad}"] if radio.last_bad else [])
 
 
-def _servers(state: State, now: float) -> list[str]:
+def _servers(state: State) -> list[str]:
     rows = [["SERVER", "STRATUM", "OFFSET", "DELAY", "SAMPLES", "LAST SAMPLE"]]
     for server in state.servers:
         heard = [str(server.stratum), length(server.offset), length(server.delay)] if server.sample_at else ["-", "-", "-"]
-        rows.append([f"{server.address}:{server.port}", *heard, str(server.samples), ago(server.sample_at, now)])
+        rows.append([f"{server.address}:{server.port}", *heard, str(server.samples), ago(server.sample_at, state.written)])
     lines = ["", *table(rows)] if state.servers else []
     for server in state.servers:
         lines += _declined(server)
@@ -127,7 +130,7 @@ def _declined(server: ServerState) -> list[str]:
     return [f"  {server.address} declined {count} as {rules.declined(number)[0] or number}: {rules.declined(number)[1]}".rstrip(": ") for number, count in server.declined.items()]
 
 
-def _rest(state: State, now: float) -> list[str]:
+def _rest(state: State) -> list[str]:
     lines = []
     leap = state.leap_file
     if leap is not None:
@@ -141,7 +144,7 @@ def _rest(state: State, now: float) -> list[str]:
 def render(state: State, now: float, unicode: bool = True) -> str:
     """The whole of it, with a line feed at the end of each line. `now` in Unix s."""
     blocks = BLOCKS if unicode else DIGITS
-    return "\n".join(_head(state, now) + _links(state, now) + _radios(state, now, blocks) + _servers(state, now) + _rest(state, now)) + "\n"
+    return "\n".join(_head(state, now) + _links(state, now) + _radios(state, now, blocks) + _servers(state) + _rest(state)) + "\n"
 
 
 def nagios(state: State, now: float) -> tuple[str, Level]:

@@ -2,12 +2,15 @@
 
 from enum import IntEnum
 
-from keeper.rules import PLANS
+from keeper.rules import INVERTED, PLANS
 from keeper.state import RadioState, State
 
+GONE = -1  # `keeper_pid` of a state whose keeper is no process any more, and hasn't said that it ends
 STALE = 60.0  # a state that is older was left by a keeper that has ended, in seconds
 SILENT = 15.0  # a link that hasn't answered for so long is silent, in seconds
 NEW = 600.0  # a keeper so young may still wait for its first minutes, in seconds
+SCATTERED = 0.05  # marks that are spread so far begin anywhere in a second, in seconds
+FEW = 3  # of fewer minutes of a quarter of an hour nothing is suspected
 UNHEARD = 3600.0  # a radio without a verdict for so long is unheard, in seconds
 OLD_SAMPLE = 7200.0  # a server without a sample for so long is reported, in seconds
 DIED = 3600.0  # so long a run that died is reported, in seconds
@@ -30,6 +33,8 @@ def judge(state: State, now: float) -> list[tuple[Level, str]]:
         return [(Level.CRITICAL, f"no keeper runs: its state is {span(now - state.written)} old")]
     if state.written - now > STALE:
         return [(Level.CRITICAL, f"no keeper runs: its state is of {span(state.written - now)} after the host's clock")]
+    if state.keeper_pid == GONE:
+        return [(Level.CRITICAL, f"no keeper runs: it ended within the last {span(now - state.written)} without a word, as one that is killed does")]
     if not state.keeper_pid:
         return [(Level.CRITICAL, f"the keeper was stopped {span(now - state.written)} ago")]
     found = _links(state, now)
@@ -47,11 +52,19 @@ def judge(state: State, now: float) -> list[tuple[Level, str]]:
     return sorted(found, key=lambda one: -one[0])
 
 
+def is_kept(state: State, now: float) -> bool:
+    """Whether a keeper renews this state, so that what it says of links and sources still holds."""
+    return state.keeper_pid > 0 and abs(now - state.written) <= STALE
+
+
 def _links(state: State, now: float) -> list[tuple[Level, str]]:
     found = []
     for link in state.links:
         # By when the state was written: where the disk is full, or the keeper stands still, the port may well answer.
-        if min(now, state.written) - link.answered_at > SILENT:
+        seen = min(now, state.written)
+        if link.asked_at and seen - max(link.asked_at, link.answered_at) > SILENT:
+            found.append((Level.CRITICAL, f"port {link.port} wasn't asked for {span(seen - link.asked_at)}: the keeper stood still, as where its disk hangs, or no run begins"))
+        elif seen - link.answered_at > SILENT:
             found.append((Level.CRITICAL, f"port {link.port} doesn't answer"))
         elif link.leap == 3:
             why = "yet: a radio needs four verdicts" if now - state.keeper_since < NEW else f"({link.reference_id})"
@@ -66,8 +79,22 @@ def _radio(state: State, radio: RadioState, now: float) -> list[str]:
     if radio.source != "running":
         return [f"{name}: its source is {radio.source}"]
     if now - max(radio.minute_at, state.keeper_since, radio.since) > UNHEARD:
-        return [f"{name}: no verdict {_since(radio.minute_at, now)}"]
+        why = suspicion(radio)
+        return [f"{name}: no verdict {_since(radio.minute_at, now)}" + (f": {why}" if why else "")]
     return []
+
+
+def suspicion(radio: RadioState) -> str:
+    """What its last minutes say of the line to a radio whose source runs; nothing where they are as usual."""
+    if radio.spread >= SCATTERED:
+        return f"its marks begin anywhere in a second (their spread is {radio.spread * 1e3:.0f} ms): hum or noise, and no carrier"
+    last = next((one for one in reversed(radio.reception) if one.verdict + one.lone + one.differs + sum(one.refused.values()) >= FEW), None)
+    if last is None or last.verdict + last.lone + last.differs:
+        return ""
+    count = sum(last.refused.values())
+    if 10 * sum(last.refused.get(str(number), 0) for number in INVERTED.get(radio.plan, ())) < 9 * count:
+        return ""
+    return f"its last {count} minutes were refused as those of an output are that is the other way round: give edges_to_log.py `--low`, or take it away"
 
 
 def worst(found: list[tuple[Level, str]]) -> Level:

@@ -1,5 +1,6 @@
 """What is shown of a state: sentences, text, metrics, the page."""
 
+import dataclasses
 import html.parser
 import re
 import unittest
@@ -7,7 +8,7 @@ import unittest
 from keeper import metrics, page, pictures, relay, rules, text
 from keeper.state import Alarm, Quarter, RadioState, Slot, State
 from keeper.tests.made_station import NOW, a_good_station
-from keeper.verdict import Level, judge, span, summary, worst
+from keeper.verdict import GONE, Level, judge, span, summary, suspicion, worst
 
 
 class Sentences(unittest.TestCase):
@@ -29,6 +30,13 @@ class Sentences(unittest.TestCase):
         self.says(Level.CRITICAL, "port 123 doesn't answer", link__answered_at=NOW - 16)
         self.says(Level.OK, "time from DCF", link__answered_at=NOW - 45, written=NOW - 30)
         self.says(Level.CRITICAL, "port 123 doesn't answer", link__answered_at=NOW - 46, written=NOW - 30)
+        self.says(Level.CRITICAL, "no keeper runs: it ended within the last 3 s without a word", written=NOW - 3, keeper_pid=GONE)
+        hangs = {"link__asked_at": NOW - 25, "link__answered_at": NOW - 25}
+        self.says(Level.CRITICAL, "port 123 wasn't asked for 25 s: the keeper stood still, as where its disk hangs, or no run begins", **hangs)
+        self.says(Level.CRITICAL, "port 123 doesn't answer", link__asked_at=0.0, link__answered_at=0.0)
+        for spread, more in ((0.0499, ""), (0.058, ": its marks begin anywhere in a second (their spread is 58 ms): hum or noise")):
+            self.says(Level.OK, "time from DCF", radio__spread=spread)
+            self.says(Level.WARNING, f"DCF77 roof: no verdict for 1 h{more}", radio__spread=spread, radio__minute_at=NOW - 3601)
         self.says(Level.CRITICAL, "port 123 has no time (INIT)", link__leap=3, link__reference_id="INIT")
         self.says(Level.CRITICAL, "port 123 has no time yet: a radio needs four verdicts", link__leap=3, keeper_since=NOW - 599)
         self.says(Level.WARNING, "the root dispersion is 250 ms of 500 ms", link__root_dispersion=0.25)
@@ -51,6 +59,20 @@ class Sentences(unittest.TestCase):
         state.radios[0].source, state.links[0].leap = "stalled", 3
         self.assertEqual([level for level, _ in judge(state, NOW)], [Level.CRITICAL, Level.WARNING])
 
+    def test_an_output_that_is_the_other_way_round(self):
+        """What `decode` said of the examples' logs, turned: DCF77 refused 2, MSF refused 1, WWVB refused 3 and 1."""
+        radio = a_good_station().radios[0]
+        words = "its last 5 minutes were refused as those of an output are that is the other way round: give edges_to_log.py `--low`, or take it away"
+        for plan, last, due in (
+            ("dcf", Quarter(NOW, refused={"2": 5}), words), ("msf", Quarter(NOW, refused={"1": 5}), words), ("wwvb", Quarter(NOW, refused={"1": 2, "3": 3}), words),
+            ("dcf", Quarter(NOW, refused={"2": 4, "1": 1}), ""), ("dcf", Quarter(NOW, 0, 1, 0, {"2": 5}), ""), ("dcf", Quarter(NOW, refused={"2": 2}), ""), ("msf", Quarter(NOW, refused={"2": 5}), ""),
+        ):
+            with self.subTest(plan=plan, last=last):
+                radio.plan, radio.reception = plan, [Quarter(NOW - 900, 14, 0, 0, {"2": 1}), last]
+                self.assertEqual(suspicion(radio), due)
+                self.assertIn("or an output that is the other way round", rules.rule(plan, "1" if plan != "dcf" else "2")[1])
+        self.assertNotIn("the other way round", rules.rule("dcf", "1")[1] + rules.rule("msf", "2")[1])
+
     def test_spans(self):
         for seconds, said in ((0.4, "0 s"), (119.4, "119 s"), (120, "2 min"), (150, "2 min 30 s"), (3599, "59 min 59 s"), (3600, "1 h"), (90000, "1 d 1 h"), (-5, "0 s")):
             self.assertEqual(span(seconds), said)
@@ -65,6 +87,19 @@ class Text(unittest.TestCase):
             "refused 96 by rule 2 Width: a width is in no class", "192.0.2.17:123", "declined 2 as Bogus", "expires 2026-04-11", "2017-01-01",
         ):
             self.assertIn(due, said)
+
+    def test_ages_are_of_the_moment_that_it_names(self):
+        """Ten seconds later they are the same; of a keeper that has ended nothing goes on."""
+        now = a_good_station()
+        said = text.render(now, NOW + 9)
+        self.assertIn("2026-01-01 12:05:00 UTC, 9 s ago: station", said)
+        for due in ("kept for 1 d 1 h", "9 h 8 min  3.4         1 s ago", "running", "12:05 UTC, 0 s ago"):
+            self.assertIn(due, said)
+        now.keeper_pid = 0
+        said = text.render(now, NOW + 4000)
+        for due in ("CRITICAL: no keeper runs", "kept for 1 d 1 h", "run 7, 10 min old", "5.4 ms           -      3.4         1 s ago", "ended"):
+            self.assertIn(due, said)
+        self.assertNotIn("running", said)
 
     def test_reference_ids(self):
         state = a_good_station()
@@ -118,7 +153,7 @@ class Metrics(unittest.TestCase):
         for due in (
             "radio_ntpd_status 0", 'radio_ntpd_link_synchronized{port="123"} 1', 'radio_ntpd_link_root_dispersion_seconds{port="123"} 0.0054',
             'radio_ntpd_radio_last_verdict_timestamp_seconds{radio="0",plan="dcf"} 1767269100', 'radio_ntpd_radio_day_refused_frames{radio="0",plan="dcf",rule="2"} 96',
-            'radio_ntpd_server_offset_seconds{server="192.0.2.17:123"} 0.0004',
+            'radio_ntpd_server_offset_seconds{feed="1",server="192.0.2.17:123"} 0.0004',
         ):
             self.assertIn(due + "\n", said)
 
@@ -126,8 +161,24 @@ class Metrics(unittest.TestCase):
         state = a_good_station()
         state.servers[0].offset, state.servers[0].delay = -0.002, 0.03
         said = metrics.render(state, NOW).splitlines()
-        for due in ('offset_seconds{server="192.0.2.17:123"} -0.002', 'delay_seconds{server="192.0.2.17:123"} 0.03'):
+        for due in ('offset_seconds{feed="1",server="192.0.2.17:123"} -0.002', 'delay_seconds{feed="1",server="192.0.2.17:123"} 0.03'):
             self.assertIn("radio_ntpd_server_" + due, said)
+
+    def test_two_servers_at_one_address(self):
+        """No two series are equal: the exporter passes over a file that has such."""
+        state = a_good_station()
+        state.servers.append(dataclasses.replace(state.servers[0], number=2))
+        series = [line.rpartition(" ")[0] for line in metrics.render(state, NOW).splitlines() if line[0] != "#"]
+        self.assertEqual(len(series), len(set(series)))
+
+    def test_a_keeper_that_has_gone(self):
+        """Nothing is up any more, whether it was stopped, was killed, or left its state behind long ago."""
+        for pid, written in ((0, NOW), (GONE, NOW), (1, NOW - 61)):
+            state = a_good_station()
+            state.keeper_pid, state.written = pid, written
+            said = metrics.render(state, NOW)
+            for due in ("status 2", 'link_up{port="123"} 0', 'link_synchronized{port="123"} 0', 'radio_source_running{radio="0",plan="dcf"} 0'):
+                self.assertIn(f"radio_ntpd_{due}\n", said)
 
     def test_labels_are_escaped(self):
         state = a_good_station()

@@ -4,6 +4,7 @@ import contextlib
 import io
 import json
 import os
+import subprocess
 import tempfile
 import time
 import unittest
@@ -43,6 +44,23 @@ class Files(unittest.TestCase):
         self.assertEqual(told, 2)
         self.assertRegex(said, r"\ARADIO_NTPD CRITICAL: no keeper runs[^\n]*\n\Z")
         self.assertEqual(self.run_status()[0], 2)
+
+    def test_a_keeper_that_was_killed(self):
+        """Its process is looked at: that the state grows old shows it a minute later."""
+        keeper = subprocess.Popen(["sleep", "60"])
+        self.addCleanup(keeper.wait)
+        self.addCleanup(keeper.kill)
+        state = a_good_station(time.time())
+        state.keeper_pid = keeper.pid
+        save(state, os.path.join(self.folder, "state.json"))
+        self.assertEqual(self.run_status()[0], 0)
+        keeper.kill()
+        keeper.wait()
+        for words in ((), ("--nagios",)):
+            told, said = self.run_status(*words)
+            self.assertEqual(told, 2)
+            self.assertRegex(said, r"CRITICAL: no keeper runs: it ended within the last \d s without a word")
+        self.assertIn('radio_ntpd_link_up{port="123"} 0\n', self.run_status("--prometheus")[1])
 
     def test_no_state(self):
         told, said = self.run_status("--nagios")
