@@ -17,6 +17,7 @@ from keeper.steadied import PLACE
 CLOCKS = "/sys/devices/system/clocksource/clocksource0"
 GOOD_CLOCKS = ("tsc", "arch_sys_counter", "kvm-clock", "hyperv_clocksource_tsc_page", "xen", "riscv_clocksource", "stp", "timer")
 WRAPPERS = ("exec", "stdbuf", "nice", "env")  # the program that is looked for stands after one of them and its options
+FEEDER = "edges_to_log.py"  # its command stands after it
 BUILT_IN = ("cd", "while", "for", "if", "do", "done", "then", "fi", "read", "umask", "ulimit", "trap", ":", ".", "(", "{", "}")
 READS = 200  # of the clock, to see how long one takes
 USER = "radio_ntpd"  # the service's
@@ -81,24 +82,28 @@ def look_at_steady(radio: Radio, place: int, code: str = PLACE) -> list[Finding]
 def _look_at_command(name: str, command: str) -> Finding:
     missing = []
     for part in command.replace("||", "|").replace("&&", "|").replace(";", "|").split("|"):
-        program = _program_of(part)
-        if program and shutil.which(program) is None:
-            missing.append(program)
+        missing += [program for program in _programs_of(part) if shutil.which(program) is None]
     if missing:
         return Level.BAD, f"{name}: there is no program {', '.join(missing)}" + ("; `apt install gpiod` has it" if "gpiomon" in missing else "")
     return Level.WELL, f"{name}: the programs of its command are there"
 
 
-def _program_of(part: str) -> str | None:
-    """The program that a simple command begins, or None where only the shell itself knows."""
+def _programs_of(part: str) -> list[str]:
+    """The programs that a simple command begins: one, and a feeder's own command; none where only the shell itself knows."""
     try:
         words = shlex.split(part)
     except ValueError:
-        return None
-    program = next((word for word in words if "=" not in word and word not in WRAPPERS and not word.startswith("-")), None)
-    if program is None or program in BUILT_IN or any(one in program for one in "$*?<>&()`"):
-        return None
-    return program
+        return []
+    found: list[str] = []
+    for word in words:
+        if "=" in word or word in WRAPPERS or word.startswith("-"):
+            continue
+        if word in BUILT_IN or any(one in word for one in "$*?<>&()`"):
+            break
+        found.append(word)
+        if os.path.basename(word) != FEEDER:
+            break
+    return found
 
 
 def look_at_clock(folder: str = CLOCKS) -> list[Finding]:

@@ -36,7 +36,7 @@ SIGNS = (
 class Look:
     """What was seen. `lines` is how many there were, `edges` and `others` how many of them were edges and neither. `bad` is how many the keeper
     leaves out, and `fault` shows the first of them. `plans` are those that the marks may be of. `is_sure` is False where MSF or WWVB is
-    among them for the widths alone, without MSF's minute mark or two marks in a second, and without WWVB's marker."""
+    among them for the widths alone: none was a marker of WWVB or the minute mark of MSF, and no second had two."""
 
     lines: int = 0
     edges: int = 0
@@ -155,7 +155,7 @@ def plans_of(marks: list[tuple[float, float]]) -> tuple[list[str], bool]:
     pairs = [one for one, other in zip(marks, marks[1:]) if 150_000 <= other[0] - one[0] <= 250_000 and max(one[1], other[1]) < 150_000]
     if "msf" in found and (pairs or minutes):
         return [plan for plan in found if plan != "dcf"], True
-    return found, "dcf" in found
+    return found, "dcf" in found or (found == ["wwvb"] and len(minutes) > 1)
 
 
 def shift_of(plan: str, widths: list[int]) -> int:

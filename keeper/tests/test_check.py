@@ -3,6 +3,7 @@
 import contextlib
 import io
 import os
+import pathlib
 import socket
 import sys
 import tempfile
@@ -16,6 +17,7 @@ from keeper.marks import Look, look
 from keeper.tests.test_marks import UNIX, log, pieces_of, seen, upside_down
 from keeper.words import REFUSED, Fault
 
+FEEDER = str(pathlib.Path(__file__).parent.parent.parent / "feeders/edges_to_log.py")
 STATION = 'bound = 1000\n\n[[radio]]\nplan = "dcf"\nlog = "x"\n\n[[link]]\nport = {port}\n'
 KEEPER = 'station = "station.toml"\nprogram = "program"\n\n[[radio]]\ncommand = "{command}"\n'
 # Marks of 0.1 s on each second of the monotonic clock, twenty of them at once.
@@ -143,6 +145,9 @@ class Hosts(Folder):
             ("command", "stdbuf -oL cat x | sh -c y", Level.WELL, "are there"),
             ("command", "stdbuf -oL nosuchprogram --chip 0 | cat", Level.BAD, "no program nosuchprogram"), ("command", "A=1 $X/foo | exec sh", Level.WELL, ""),
             ("command", "stdbuf -oL nosuchprogram gpiochip0 17 2>&1 | cat", Level.BAD, "no program nosuchprogram"),
+            ("command", f"{FEEDER} --low stdbuf -oL nosuchprogram gpiochip0 17", Level.BAD, "no program nosuchprogram"),
+            ("command", f"/nosuch{FEEDER} stdbuf -oL nosuchprogram gpiochip0 17", Level.BAD, f"no program /nosuch{FEEDER}, nosuchprogram"),
+            ("command", f"cat | {FEEDER} --low", Level.WELL, "are there"),
         ):
             with self.subTest(kind=kind, value=value):
                 told, text = self.source(kind, value)
@@ -211,7 +216,7 @@ class Sentences(unittest.TestCase):
             (b"%d %d\n", (lambda at, _: at + 1_700_000_000_000_000, width), "its starts are microseconds of the real-time clock"),
             (b"%d %d\n", (start, lambda _, wide: wide - 65_000), "too short by some 66 ms for DCF77"),
             (b"%d %d\n", (start, lambda _, wide: wide + 65_000), "too long by some 64 ms for DCF77"),
-            (b"%d %d\n", (start, lambda at, wide: wide + at % 17 * 20_000), "marks of no plan that is known, and the station says DCF77: interference"),
+            (b"%d %d\n", (start, lambda at, wide: wide - 90_000 + at % 17 * 20_000), "marks of no plan that is known, and the station says DCF77: interference"),
             (b"%d %d\n", (lambda at, _: at + at % 13 * 40_000, width), "its marks begin anywhere in a second: interference, or another signal"),
         ):
             with self.subTest(words=words):
@@ -228,6 +233,8 @@ class Sentences(unittest.TestCase):
         """MSF is named where its minute mark was seen, or two marks in a second."""
         marks = [(second * 1_000_000, 500_000 if second == 22 else 200_000) for second in range(20, 25)]
         self.says(seen(marks, seconds=5), "dcf", Level.BAD, "marks of MSF or WWVB, and the station says DCF77")
+        marks = [(second * 1_000_000, 500_000 if second % 2 else 200_000) for second in range(20, 25)]
+        self.says(seen(marks, seconds=5), "dcf", Level.BAD, "marks of WWVB, and the station says DCF77")
         marks = [(second * 1_000_000, 300_000 if second % 2 else 200_000) for second in range(20, 25)]
         self.says(seen(marks, seconds=5), "msf", Level.WELL, "marks of MSF or WWVB")
         self.says(seen(marks, seconds=5), "dcf", Level.BAD, "too long by some 100 ms for DCF77")
