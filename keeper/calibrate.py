@@ -6,6 +6,7 @@ import select
 import time
 
 from keeper import config
+from keeper.check import keeper_runs
 from keeper.children import Guard
 from keeper.chosen_file import chosen
 from keeper.decoder import Decoder
@@ -14,7 +15,6 @@ from keeper.lateness import LEAST, Minute, Minutes, result, sentences
 from keeper.lines import Lines
 from keeper.pulse_log import PulseLog, day_of
 from keeper.reference import HostClock, Server
-from keeper.running import has_keeper
 from keeper.say import say
 from keeper.source import Command, Ended, Fifo, Growing, source_of
 from keeper.words import DONE, NOT_WELL, Fault, Parser
@@ -80,7 +80,7 @@ class Feed:
 
     def __init__(self, settings: config.Settings, number: int, guard: Guard) -> None:
         radio = settings.radios[number]
-        self.log = PulseLog(os.path.join(settings.folder, "logs"), number, radio.plan, settings.days, say) if has_keeper(settings.folder) else None
+        self.log = PulseLog(os.path.join(settings.folder, "logs"), number, radio.plan, settings.days, say) if keeper_runs(settings) else None
         self.radio, self.guard = radio, guard
         self.day = ""
         self.source: Command | Fifo | Growing | None = None

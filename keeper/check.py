@@ -1,5 +1,6 @@
 """`check`: both files, the host, and some seconds of each receiver, before a start. It changes nothing."""
 
+import fcntl
 import os
 import select
 import time
@@ -10,7 +11,6 @@ from keeper.chosen_file import chosen
 from keeper.hosts import Finding, Level
 from keeper.marks import LEAST, Look, look, shift_of
 from keeper.rules import PLANS
-from keeper.running import has_keeper
 from keeper.source import Command, Ended, Fifo, Growing, source_of
 from keeper.text import length
 from keeper.words import DONE, NOT_WELL, Fault, Parser
@@ -36,7 +36,7 @@ def main(given: list[str]) -> int:
         words.error("--seconds is 0 to 600")
     settings = config.load(chosen(asked.config))
     found = [tell((Level.WELL, f"{settings.path}: every key is known and in range"))]
-    running = has_keeper(settings.folder)
+    running = keeper_runs(settings)
     found += [tell(one) for one in hosts.look_at_ports(settings, running) + hosts.become_service(settings)]
     found += [tell(one) for one in judge_station(settings) + hosts.look(settings)]
     if running and asked.seconds:
@@ -53,6 +53,21 @@ def tell(finding: Finding) -> Finding:
     level, text = finding
     print(f"{level.value:<5} {text}", flush=True)
     return finding
+
+
+def keeper_runs(settings: config.Settings) -> bool:
+    """Whether a keeper has this station's folder: it holds a lock on it as long as it lives."""
+    try:
+        descriptor = os.open(settings.folder, os.O_RDONLY | os.O_DIRECTORY | os.O_CLOEXEC)
+    except OSError:
+        return False
+    try:
+        fcntl.flock(descriptor, fcntl.LOCK_SH | fcntl.LOCK_NB)
+    except BlockingIOError:
+        return True
+    finally:
+        os.close(descriptor)
+    return False
 
 
 def judge_station(settings: config.Settings) -> list[Finding]:

@@ -7,11 +7,15 @@ from keeper.words import REFUSED, Fault
 
 HERE = "keeper.toml"
 INSTALLED = "/etc/radio_ntpd/keeper.toml"
+BUILT = ("bin/radio_ntpd", "crates/radio_ntpd/out/radio_ntpd")  # as installed, and in a checkout
 
 
 def chosen(named: str | None) -> str:
-    """The file that is named, else the one of the working folder, else the installed one. Of the working folder root takes none that
-    another could have written: its commands are run. Raises Fault."""
+    """The file that is named, else the one of the working folder, else the installed one.
+
+    Of the working folder root takes none that another could have written: its commands are run.
+    Raises Fault.
+    """
     if named:
         return named
     is_here = os.path.exists(HERE)
@@ -20,17 +24,20 @@ def chosen(named: str | None) -> str:
     if os.path.exists(INSTALLED):
         return INSTALLED
     if is_here:
-        raise Fault(f"{HERE}: others than root can change it; root takes it by --config {HERE} alone", REFUSED)
-    raise Fault(f"there is no {HERE} here and no {INSTALLED}: --config names one, and docs/FIRST_EVENING.md writes one", REFUSED)
+        why = f"others than root can change it; root takes it by --config {HERE} alone"
+        raise Fault(f"{HERE}: {why}", REFUSED)
+    what = "--config names one, and docs/FIRST_EVENING.md writes one"
+    raise Fault(f"there is no {HERE} here and no {INSTALLED}: {what}", REFUSED)
 
 
 def is_roots(path: str) -> bool:
     """Whether root alone can change a file, or put another one in its place."""
     while True:
         about = os.lstat(path)
-        by_others = about.st_mode & stat.S_IWOTH or (about.st_mode & stat.S_IWGRP and about.st_gid)
-        is_kept = about.st_mode & stat.S_ISVTX and stat.S_ISDIR(about.st_mode)  # in /tmp what is root's stays root's
-        if about.st_uid or stat.S_ISLNK(about.st_mode) or (by_others and not is_kept):
+        mode = about.st_mode
+        by_others = mode & stat.S_IWOTH or (mode & stat.S_IWGRP and about.st_gid)
+        is_kept = mode & stat.S_ISVTX and stat.S_ISDIR(mode)  # in /tmp what is root's stays root's
+        if about.st_uid or stat.S_ISLNK(mode) or (by_others and not is_kept):
             return False
         if path == "/":
             return True
@@ -40,5 +47,5 @@ def is_roots(path: str) -> bool:
 def built_program() -> str:
     """The program where none is named: by RADIO_NTPD, else beside this package."""
     top = os.path.dirname(os.path.dirname(os.path.abspath(__file__)))
-    places = [os.environ.get("RADIO_NTPD", ""), os.path.join(top, "bin", "radio_ntpd"), os.path.join(top, "crates/radio_ntpd/out/radio_ntpd")]
+    places = [os.environ.get("RADIO_NTPD", ""), *(os.path.join(top, one) for one in BUILT)]
     return next((one for one in places if one and os.path.isfile(one)), places[-1])

@@ -8,7 +8,6 @@ import time
 
 from keeper import faces, metrics, text
 from keeper.config import read
-from keeper.running import is_there
 from keeper.state import State, StateError, load
 from keeper.verdict import GONE, Level, judge, worst
 from keeper.words import DONE, UNKNOWN, Fault, Parser
@@ -69,6 +68,17 @@ def found(path: str) -> State:
         return load(path)
     except StateError as error:
         raise Fault(f"{error}; does the keeper run, and are --config and --folder right?") from error
+
+
+def is_there(process: int) -> bool:
+    """Whether there is a process of this number."""
+    try:
+        os.kill(process, 0)
+    except PermissionError:
+        return True
+    except (ProcessLookupError, OverflowError):
+        return False
+    return True
 
 
 def current(written: State) -> State:

@@ -1,12 +1,14 @@
 """`check` over made-up hosts, files and receivers."""
 
 import contextlib
+import fcntl
 import io
 import os
 import pathlib
 import socket
 import sys
 import tempfile
+import time
 import unittest
 from unittest.mock import Mock
 
@@ -14,6 +16,7 @@ from keeper import check, config, hosts
 from keeper.config import Radio
 from keeper.hosts import Level
 from keeper.marks import Look, look
+from keeper.state import State, save
 from keeper.tests.test_marks import UNIX, log, pieces_of, seen, upside_down
 from keeper.words import REFUSED, Fault
 
@@ -42,6 +45,22 @@ class Folder(unittest.TestCase):
             file.write(text)
         os.chmod(path, mode)
         return path
+
+
+class Running(Folder):
+    def test_a_keeper_that_runs_holds_a_lock(self):
+        """Whatever its state says: it may have been stopped a moment ago, or have no room for a new one."""
+        settings = Mock(folder=os.path.join(self.folder, "state"))
+        self.assertFalse(check.keeper_runs(settings))
+        os.mkdir(settings.folder)
+        save(State(written=time.time()), os.path.join(settings.folder, "state.json"))
+        self.assertFalse(check.keeper_runs(settings))
+        keeper = os.open(settings.folder, os.O_RDONLY)
+        self.addCleanup(os.close, keeper)
+        fcntl.flock(keeper, fcntl.LOCK_EX)
+        self.assertTrue(check.keeper_runs(settings))
+        fcntl.flock(keeper, fcntl.LOCK_UN)
+        self.assertFalse(check.keeper_runs(settings))
 
 
 class Whole(Folder):

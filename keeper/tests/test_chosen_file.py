@@ -16,7 +16,8 @@ from keeper.words import REFUSED, Fault
 
 TOP = pathlib.Path(__file__).parent.parent.parent
 NOBODY = 65534
-# Looks at an installed file as the user nobody, in a process of its own, which has no other rights from then on.
+# Looks at an installed file as the user nobody, in a process of its own: it has no other rights
+# from then on.
 LOOK = """
 import os, sys
 from unittest import mock
@@ -48,7 +49,9 @@ class Chosen(unittest.TestCase):
         return str(caught.exception)
 
     def test_none_is_there(self):
-        self.assertEqual(self.refused(), f"there is no keeper.toml here and no {self.installed}: --config names one, and docs/FIRST_EVENING.md writes one")
+        what = "--config names one, and docs/FIRST_EVENING.md writes one"
+        said = f"there is no keeper.toml here and no {self.installed}: {what}"
+        self.assertEqual(self.refused(), said)
         self.assertEqual(chosen("x.toml"), "x.toml")
 
     def test_the_folder_before_the_installed_one(self):
@@ -64,7 +67,8 @@ class Chosen(unittest.TestCase):
             with mock.patch.object(chosen_file, "is_roots", return_value=True):
                 self.assertEqual(chosen(None), "keeper.toml")
             with mock.patch.object(chosen_file, "is_roots", return_value=False):
-                self.assertEqual(self.refused(), "keeper.toml: others than root can change it; root takes it by --config keeper.toml alone")
+                why = "others than root can change it; root takes it by --config keeper.toml alone"
+                self.assertEqual(self.refused(), f"keeper.toml: {why}")
                 self.assertEqual(chosen("keeper.toml"), "keeper.toml")
                 pathlib.Path(self.installed).touch()
                 self.assertEqual(chosen(None), self.installed)
@@ -77,14 +81,16 @@ class Chosen(unittest.TestCase):
         pathlib.Path(path).touch()
         os.chmod(path, 0o644)
         self.assertTrue(is_roots(path))
-        for change, back in (
-            (lambda: os.chmod(path, 0o646), lambda: os.chmod(path, 0o644)), (lambda: os.chmod(inner, 0o777), lambda: os.chmod(inner, 0o755)),
-            (lambda: os.chown(path, NOBODY, 0), lambda: os.chown(path, 0, 0)), (lambda: os.chown(inner, NOBODY, 0), lambda: os.chown(inner, 0, 0)),
-            (lambda: (os.chown(path, 0, NOBODY), os.chmod(path, 0o664)), lambda: (os.chown(path, 0, 0), os.chmod(path, 0o644))),
+        for name, user, group, mode in (
+            (path, 0, 0, 0o646), (inner, 0, 0, 0o777), (path, NOBODY, 0, 0o644),
+            (inner, NOBODY, 0, 0o755), (path, 0, NOBODY, 0o664),
         ):
-            change()
-            self.assertFalse(is_roots(path))
-            back()
+            before = os.stat(name).st_mode
+            os.chown(name, user, group)
+            os.chmod(name, mode)
+            self.assertFalse(is_roots(path), (name, user, group, mode))
+            os.chown(name, 0, 0)
+            os.chmod(name, before)
             self.assertTrue(is_roots(path))
         os.symlink(path, os.path.join(self.folder, "link"))
         self.assertFalse(is_roots(os.path.join(self.folder, "link")))
@@ -98,21 +104,25 @@ class AsTheService(unittest.TestCase):
         its = pwd.getpwnam("nobody")
         with tempfile.TemporaryDirectory() as folder:
             os.chmod(folder, 0o755)
-            path, station = os.path.join(folder, "keeper.toml"), os.path.join(folder, "station.toml")
+            path, station = f"{folder}/keeper.toml", f"{folder}/station.toml"
             for name, mode in ((path, 0o644), (station, 0o600)):
                 pathlib.Path(name).touch()
                 os.chmod(name, mode)
-            done = subprocess.run([sys.executable, "-B", "-c", LOOK, path, station], cwd=TOP, capture_output=True, text=True, timeout=60)
+            words = [sys.executable, "-B", "-c", LOOK, path, station]
+            done = subprocess.run(words, cwd=TOP, capture_output=True, text=True, timeout=60)
         self.assertEqual(done.stderr, "")
         self.assertEqual(done.stdout.splitlines(), [
             "well what follows is looked at as the user nobody, as the service is",
-            f"BAD {station}: Permission denied: `chgrp nobody {station}` and `chmod 640 {station}` let the service read it",
+            f"BAD {station}: Permission denied: `chgrp nobody {station}` and"
+            f" `chmod 640 {station}` let the service read it",
             f"{its.pw_uid} {its.pw_uid} {its.pw_gid} [{its.pw_gid}]",
         ])
 
     def test_where_nothing_changes(self):
         """Another file than the installed one, another user than root, or no service here."""
-        for uid, path, user in ((0, "/x/keeper.toml", "nobody"), (1000, chosen_file.INSTALLED, "nobody"), (0, chosen_file.INSTALLED, "nosuch")):
+        installed = chosen_file.INSTALLED
+        cases = ((0, "/x.toml", "nobody"), (1000, installed, "nobody"), (0, installed, "nosuch"))
+        for uid, path, user in cases:
             with mock.patch("os.geteuid", return_value=uid), mock.patch("os.setuid") as changed:
                 self.assertEqual(hosts.become_service(mock.Mock(path=path), user), [])
                 self.assertFalse(changed.called)
@@ -120,7 +130,10 @@ class AsTheService(unittest.TestCase):
     def test_a_command_of_alarms(self):
         settings = mock.Mock(radios=[], folder="/tmp")
         for command, level, said in (
-            ('echo "$RADIO_TEXT" | nosuchmail -s "radio: $RADIO_EVENT" you@example.org', Level.BAD, "alarms.command: there is no program nosuchmail"),
+            (
+                'echo "$RADIO_TEXT" | nosuchmail -s "$RADIO_EVENT" you@example.org', Level.BAD,
+                "alarms.command: there is no program nosuchmail",
+            ),
             ("echo x | cat", Level.WELL, "alarms.command: the programs of its command are there"),
         ):
             settings.alarms.command = command

@@ -65,7 +65,7 @@ class OfCheck(unittest.TestCase):
         out = io.StringIO()
         with mock.patch.object(check.config, "load", return_value=settings), mock.patch.object(check, "judge_station", return_value=[]), mock.patch.object(
             check.hosts, "look", return_value=[]
-        ), mock.patch.object(check.hosts, "look_at_ports", return_value=[]), mock.patch.object(check, "has_keeper", return_value=True), contextlib.redirect_stdout(out):
+        ), mock.patch.object(check.hosts, "look_at_ports", return_value=[]), mock.patch.object(check, "keeper_runs", return_value=True), contextlib.redirect_stdout(out):
             check.main(["--config", "keeper.toml"])
         self.assertIn("well  keeper.toml: every key is known and in range\n", out.getvalue())
         self.assertIn("note  a keeper runs and reads the receivers: `radio_keeper status` says how they are\n", out.getvalue())

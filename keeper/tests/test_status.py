@@ -8,6 +8,7 @@ import subprocess
 import tempfile
 import time
 import unittest
+from unittest import mock
 
 from keeper import faces, status
 from keeper.state import save
@@ -61,6 +62,13 @@ class Files(unittest.TestCase):
             self.assertEqual(told, 2)
             self.assertRegex(said, r"CRITICAL: no keeper runs: it ended within the last \d s without a word")
         self.assertIn('radio_ntpd_link_up{port="123"} 0\n', self.run_status("--prometheus")[1])
+
+    def test_a_process(self):
+        child = subprocess.Popen(["true"])
+        child.wait()
+        self.assertEqual([status.is_there(one) for one in (os.getpid(), 1, child.pid, 2**52)], [True, True, False, False])
+        with mock.patch("os.kill", side_effect=PermissionError):
+            self.assertTrue(status.is_there(1))
 
     def test_no_state(self):
         told, said = self.run_status("--nagios")
