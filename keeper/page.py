@@ -7,7 +7,7 @@ from keeper import rules
 from keeper.pictures import Line, offsets, reception
 from keeper.state import LinkState, RadioState, ServerState, State
 from keeper.text import LEAPS, ago, clock, late, length, refused
-from keeper.verdict import Level, judge, span, title, worst
+from keeper.verdict import Level, judge, span, suspicion, title, worst
 
 STYLE = (pathlib.Path(__file__).parent / "page.css").read_text(encoding="utf-8")
 AGAIN = 15  # the browser reads the page again after this number of seconds
@@ -76,7 +76,8 @@ def _refusals(radio: RadioState) -> list[str]:
     for number, count in list(refused(radio.reception).items())[:5]:
         name, why = rules.rule(radio.plan, number)
         said.append(f"{count} refused in 24 h by rule {number} {name}: {why}" if name else f"{count} refused in 24 h by rule {number}")
-    return said
+    why = suspicion(radio)
+    return said + [why[:1].upper() + why[1:]] * bool(why)
 
 
 def _server(server: ServerState, now: float) -> str:

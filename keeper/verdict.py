@@ -87,7 +87,7 @@ def _radio(state: State, radio: RadioState, now: float) -> list[str]:
 def suspicion(radio: RadioState) -> str:
     """What its last minutes say of the line to a radio whose source runs; nothing where they are as usual."""
     if radio.spread >= SCATTERED:
-        return f"its marks begin anywhere in a second (their spread is {radio.spread * 1e3:.0f} ms): hum or noise, and no carrier"
+        return f"its marks begin anywhere in a second (their spread is {radio.spread * 1e3:.0f} ms): hum or noise"
     last = next((one for one in reversed(radio.reception) if one.verdict + one.lone + one.differs + sum(one.refused.values()) >= FEW), None)
     if last is None or last.verdict + last.lone + last.differs:
         return ""

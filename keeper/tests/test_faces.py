@@ -238,6 +238,12 @@ class Page(unittest.TestCase):
         self.assertIn("No keeper runs", self.read(State()))
         self.assertIn("Nothing is served", self.read(State(written=NOW, keeper_pid=1, radios=[RadioState(source="running")], keeper_since=NOW)))
 
+    def test_what_is_suspected(self):
+        state = a_good_station()
+        state.radios[0].spread = 0.058
+        self.assertIn("Its marks begin anywhere in a second", self.read(state))
+        self.assertIn("\n  its marks begin anywhere in a second (their spread is 58 ms): hum or noise\n", text.render(state, NOW))
+
     def test_a_round_scale(self):
         for least, greatest, due in ((-0.0021, 0.0093, (-0.005, 0.01, 0.005)), (0.0, 0.004, (0.0, 0.004, 0.001)), (1.0, 1.0, None), (-3.2, 0.9, (-4.0, 2.0, 2.0))):
             low, high, step = pictures.nice_range(least, greatest)
