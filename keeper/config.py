@@ -139,11 +139,6 @@ class Keys:
         if kind is str and (not value.strip() or "\0" in value):
             self.refuse(key, "it is empty")
 
-    def must(self, key: str) -> Any:
-        if key not in self.values:
-            self.refuse(key, "it is missing")
-        return self.values[key]
-
 
 def _table(values: dict, key: str) -> list[dict]:
     """The tables of an array of the station; what is none is left for the program to refuse."""
@@ -168,7 +163,9 @@ def load(path: str) -> Settings:
     base = os.path.dirname(os.path.abspath(path))
     top = Keys(path, text, values, TOP)
     alarms = Keys(path, text, values.get("alarms", {}), ALARMS, "alarms").values
-    station_path = os.path.join(base, top.must("station"))
+    if "station" not in values:
+        top.refuse("station", "it is missing")
+    station_path = os.path.join(base, values["station"])
     station, _ = read(station_path)
     tables = _table(station, "radio")
     radios = [_radio(path, text, one, place, tables) for place, one in enumerate(values.get("radio", []))]

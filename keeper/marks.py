@@ -61,7 +61,8 @@ def look(pieces: Iterable[tuple[int, bytes]], seconds: float, monotonic: float, 
         reader.take(piece, at)
         text += piece
     pairs = []
-    for line in text.split(b"\n")[:-1]:
+    # The last line may be cut off by our end; where there is no other it is looked at.
+    for line in text.split(b"\n")[:-1] or ([text] if text else []):
         seen.lines += 1
         pair, is_edge = PAIR.fullmatch(line), EDGE.search(line)
         if pair:

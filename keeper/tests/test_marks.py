@@ -5,7 +5,7 @@ import random
 import re
 import unittest
 
-from keeper.marks import CLASSES, Look, look, shift_of, unit_of
+from keeper.marks import CLASSES, Look, fits, look, shift_of, unit_of
 
 RADIOS = pathlib.Path(__file__).parent.parent.parent / "examples" / "radios"
 UNIX = 1.7e9
@@ -67,6 +67,10 @@ class Marks(unittest.TestCase):
             told[plan].append((int(least), int(most)))
         self.assertEqual({name: [(least, most) for least, most, _ in classes] for name, classes in CLASSES.items()}, told)
 
+    def test_nine_of_ten_have_to_fit(self):
+        for widths, is_it in (([100_000] * 9 + [300_000], True), ([100_000] * 8 + [300_000] * 2, False), ([40_000, 260_000] * 5, True), ([39_999, 260_001] * 5, False)):
+            self.assertEqual(fits("dcf", widths), is_it)
+
     def test_msf_shows_itself_in_a_minute(self):
         for piece in pieces(log("msf"), 60):
             self.assertEqual(seen(piece, seconds=60).plans, ["msf"])
@@ -90,6 +94,8 @@ class Marks(unittest.TestCase):
         told = look([(0, text[:30]), (5, text[30:])], 10, 20.0, UNIX)
         self.assertEqual((told.lines, told.edges, told.others, told.widths), (4, 2, 2, []))
         self.assertEqual(told.fault, "'Error: busy': it isn't a start and a width")
+        told = look([(0, b"\0" * 20_000)], 10, 20.0, UNIX)
+        self.assertEqual((told.lines, told.others, told.fault), (1, 1, repr("\0" * 40) + ": it isn't a start and a width"))
         chance = random.Random(2)
         noise = sorted((chance.randrange(10**7), chance.randrange(5_000, 60_000)) for _ in range(60))
         self.assertIsNone(seen(noise).inverted)
