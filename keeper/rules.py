@@ -8,14 +8,14 @@ _COMMON = {
     2: ("Width", "a width is in no class: interference, the receiver's threshold"),
     3: ("Length", "a minute doesn't have as many marks as it must: a lost mark or a false minute mark"),
 }
-# The rules that refuse the minutes of an output that is the other way round.
-INVERTED = {"dcf": (2,), "msf": (1,), "wwvb": (1, 3)}
+# The rules that refuse the minutes of an output that is the other way round: those of DCF77 by 1 where its marks jitter.
+INVERTED = {"dcf": (1, 2), "msf": (1,), "wwvb": (1, 3)}
 _TURNED = {number: (name, f"{why}, or an output that is the other way round") for number, (name, why) in _COMMON.items()}
 _BITS = "bit errors"
 _MISSED = "two bit errors that the parity missed"
 _RULES = {
     "dcf": {
-        2: _TURNED[2], 10: ("StartBit", "bit errors, or a signal that isn't DCF77"), 11: ("ZoneBits", _BITS), 12: ("TimeBit", _BITS),
+        1: _TURNED[1], 2: _TURNED[2], 10: ("StartBit", "bit errors, or a signal that isn't DCF77"), 11: ("ZoneBits", _BITS), 12: ("TimeBit", _BITS),
         13: ("MinuteParity", _BITS), 14: ("HourParity", _BITS), 15: ("DateParity", _BITS), 16: ("MinuteRange", _MISSED),
         17: ("HourRange", _MISSED), 18: ("DayRange", _MISSED), 19: ("WeekdayRange", _MISSED), 20: ("MonthRange", _MISSED),
         21: ("YearRange", _MISSED), 22: ("NoSuchDate", _MISSED), 23: ("WeekdayDiffers", _MISSED),

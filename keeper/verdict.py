@@ -91,10 +91,10 @@ def suspicion(radio: RadioState) -> str:
     last = next((one for one in reversed(radio.reception) if one.verdict + one.lone + one.differs + sum(one.refused.values()) >= FEW), None)
     if last is None or last.verdict + last.lone + last.differs:
         return ""
-    count = sum(last.refused.values())
-    if 10 * sum(last.refused.get(str(number), 0) for number in INVERTED.get(radio.plan, ())) < 9 * count:
+    count, rules = sum(last.refused.values()), INVERTED.get(radio.plan, ())
+    if 10 * sum(last.refused.get(str(number), 0) for number in rules) < 9 * count:
         return ""
-    return f"its last {count} minutes were refused as those of an output are that is the other way round: give edges_to_log.py `--low`, or take it away"
+    return f"its last {count} minutes were refused as an inverted output's are: `--low` of edges_to_log.py may be missing or too much, or reception is bad"
 
 
 def worst(found: list[tuple[Level, str]]) -> Level:

@@ -60,18 +60,18 @@ class Sentences(unittest.TestCase):
         self.assertEqual([level for level, _ in judge(state, NOW)], [Level.CRITICAL, Level.WARNING])
 
     def test_an_output_that_is_the_other_way_round(self):
-        """What `decode` said of the examples' logs, turned: DCF77 refused 2, MSF refused 1, WWVB refused 3 and 1."""
+        """What `decode` said of the examples' logs, turned: DCF77 refused 1, without jitter 2, MSF refused 1, WWVB refused 3 and 1."""
         radio = a_good_station().radios[0]
-        words = "its last 5 minutes were refused as those of an output are that is the other way round: give edges_to_log.py `--low`, or take it away"
+        words = "its last 5 minutes were refused as an inverted output's are: `--low` of edges_to_log.py may be missing or too much, or reception is bad"
         for plan, last, due in (
             ("dcf", Quarter(NOW, refused={"2": 5}), words), ("msf", Quarter(NOW, refused={"1": 5}), words), ("wwvb", Quarter(NOW, refused={"1": 2, "3": 3}), words),
-            ("dcf", Quarter(NOW, refused={"2": 4, "1": 1}), ""), ("dcf", Quarter(NOW, 0, 1, 0, {"2": 5}), ""), ("dcf", Quarter(NOW, refused={"2": 2}), ""), ("msf", Quarter(NOW, refused={"2": 5}), ""),
+            ("dcf", Quarter(NOW, refused={"2": 4, "1": 1}), words), ("dcf", Quarter(NOW, refused={"2": 4, "3": 1}), ""), ("dcf", Quarter(NOW, 0, 1, 0, {"2": 5}), ""), ("dcf", Quarter(NOW, refused={"2": 2}), ""), ("msf", Quarter(NOW, refused={"2": 5}), ""),
         ):
             with self.subTest(plan=plan, last=last):
                 radio.plan, radio.reception = plan, [Quarter(NOW - 900, 14, 0, 0, {"2": 1}), last]
                 self.assertEqual(suspicion(radio), due)
-                self.assertIn("or an output that is the other way round", rules.rule(plan, "1" if plan != "dcf" else "2")[1])
-        self.assertNotIn("the other way round", rules.rule("dcf", "1")[1] + rules.rule("msf", "2")[1])
+                self.assertIn("or an output that is the other way round", rules.rule(plan, "1")[1])
+        self.assertNotIn("the other way round", rules.rule("dcf", "3")[1] + rules.rule("msf", "2")[1])
 
     def test_spans(self):
         for seconds, said in ((0.4, "0 s"), (119.4, "119 s"), (120, "2 min"), (150, "2 min 30 s"), (3599, "59 min 59 s"), (3600, "1 h"), (90000, "1 d 1 h"), (-5, "0 s")):
