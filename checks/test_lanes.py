@@ -6,9 +6,11 @@
 
 import contextlib
 import io
+import os
 import re
 import sys
 import tempfile
+import threading
 import time
 import unittest
 from pathlib import Path
@@ -44,6 +46,27 @@ class Checks(unittest.TestCase):
         self.assertEqual(len(re.findall(r"== step: \./one 3 4\none 3 4\n== step took 0 s: \./one 3 4\n", said)), 1)
         self.assertIn("== step: ./two\ntwo\n== step took", said)
         self.assertEqual(said.count("== step: "), 3)
+
+    def test_a_check_does_not_wait_for_an_input(self):
+        """Here the input is a pipe that nobody writes into for ten seconds."""
+        reading, writing = os.pipe()
+        before = os.dup(0)
+        os.dup2(reading, 0)
+        close = threading.Timer(10, os.close, (writing,))
+        close.start()
+        try:
+            self.put("reads", "cat; echo ended")
+            began = time.monotonic()
+            passed, said = self.run_lanes(("./reads",))
+            self.assertLess(time.monotonic() - began, 9)
+            self.assertTrue(passed)
+            self.assertIn("ended", said)
+        finally:
+            os.dup2(before, 0)
+            close.cancel()
+            for one in (before, reading, writing):
+                with contextlib.suppress(OSError):
+                    os.close(one)
 
     def test_lanes_run_side_by_side(self):
         self.put("first", "mkdir a; while [ ! -e b ]; do sleep 0.05; done")

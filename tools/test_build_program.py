@@ -162,6 +162,26 @@ class Builds(Room):
         first.wait(20)
         self.assertEqual(second.wait(20), 0)
 
+    def test_who_waited_for_a_build_has_its_program(self):
+        """It builds by itself only where the other one gave none."""
+        for was_built in (True, False):
+            with contextlib.ExitStack() as stack:
+                enter = stack.enter_context
+                enter(contextlib.redirect_stderr(io.StringIO()))
+                enter(mock.patch.dict(os.environ, {"XDG_CACHE_HOME": str(self.room / "cache")}))
+                enter(mock.patch.object(build_program.fcntl, "flock", side_effect=[BlockingIOError, None]))
+                enter(mock.patch.object(build_program.built_program, "was_put_since", return_value=was_built))
+                builds = enter(mock.patch.object(build_program, "build", return_value=70))
+                self.assertEqual(build_program.build_alone(self.top, "rt"), 0 if was_built else 70)
+                self.assertEqual(builds.call_count, 0 if was_built else 1)
+
+    def test_a_program_that_was_put_there_meanwhile(self):
+        since = time.time() - 1
+        self.assertFalse(build_program.built_program.was_put_since(self.top, since))
+        self.run_build()
+        self.assertTrue(build_program.built_program.was_put_since(self.top, since))
+        self.assertFalse(build_program.built_program.was_put_since(self.top, time.time() + 1))
+
 
 if __name__ == "__main__":
     unittest.main()

@@ -246,6 +246,39 @@ class Install(unittest.TestCase):
             with self.assertRaisesRegex(Fault, "the program is older than .*lib.rt: run ./radio_ntpd once"):
                 install.main(["--root", self.root])
 
+    def test_what_an_earlier_version_had_besides_goes(self):
+        self.install("--do")
+        left = pathlib.Path(self.root, "usr/local/lib/radio_ntpd/tools/measure_shape.py")
+        left.write_text("", encoding="ascii")
+        self.assertEqual(len(self.install("--do")[:-1]), 1)
+        self.assertFalse(left.exists())
+
+    def test_a_link_in_the_place_of_a_file_in_the_making_is_not_followed(self):
+        victim, path = (os.path.join(os.path.dirname(self.program), name) for name in ("victim", "unit"))
+        self.put(victim, "mine")
+        os.symlink(victim, f"{path}.{os.getpid()}.part")
+        with self.assertRaises(FileExistsError):
+            steps.put_file(b"other", path, 0o644).do()
+        self.assertEqual(pathlib.Path(victim).read_text(encoding="ascii"), "mine")
+        self.assertFalse(os.path.exists(path))
+
+    def test_a_command_of_the_host_has_a_minute(self):
+        self.assertEqual(steps.LIMIT, 60)
+
+    def test_what_is_refused_before_anything_is_done(self):
+        with mock.patch("keeper.install.os.geteuid", lambda: 1000), self.assertRaisesRegex(Fault, "^only root can do that"):
+            install.main(["--do", "--program", self.program])
+        with self.assertRaisesRegex(Fault, "^--prefix is no whole path$"):
+            install.main(["--root", self.root, "--prefix", "usr"])
+        self.assertFalse(os.path.exists(self.root))
+
+    def test_the_service_may_read_its_settings_and_others_may_not(self):
+        places = install.Places(self.root, "/usr")
+        with mock.patch("keeper.install.is_of_group", lambda path, name: "station" in path):
+            needed = [step.text for step in install.host_steps(places, False) if step.needed()]
+        self.assertTrue(any("keeper.toml" in text and "let the group radio_ntpd read" in text for text in needed))
+        self.assertFalse(any("station.toml" in text for text in needed))
+
     def test_a_program_that_is_not_built(self):
         os.unlink(self.program)
         with self.assertRaisesRegex(Fault, "no built program"):
