@@ -21,6 +21,7 @@ FEEDER = "edges_to_log.py"  # its command stands after it
 BUILT_IN = ("cd", "while", "for", "if", "do", "done", "then", "fi", "read", "umask", "ulimit", "trap", ":", ".", "(", "{", "}")
 READS = 200  # of the clock, to see how long one takes
 USER = "radio_ntpd"  # the service's
+SERVED = "/var/lib/radio_ntpd"  # its state folder
 
 
 class Level(Enum):
@@ -131,6 +132,8 @@ def look_at_folder(folder: str) -> Finding:
     if not os.path.isdir(there):
         return Level.BAD, f"{folder} can't be a folder: {there} is none"
     if not os.access(there, os.W_OK | os.X_OK):
+        if folder == SERVED and there != folder:
+            return Level.WELL, f"{folder} is made by the unit as it starts"
         return Level.NOTE, f"you may not write into {there}; the service's user has to"
     free = shutil.disk_usage(there).free
     if free < 1 << 20:

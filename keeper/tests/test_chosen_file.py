@@ -127,6 +127,13 @@ class AsTheService(unittest.TestCase):
                 self.assertEqual(hosts.become_service(mock.Mock(path=path), user), [])
                 self.assertFalse(changed.called)
 
+    def test_the_folder_that_the_unit_makes(self):
+        exists = mock.patch("os.path.exists", lambda path: path == "/")
+        with exists, mock.patch("os.access", return_value=False):
+            said = (Level.WELL, f"{hosts.SERVED} is made by the unit as it starts")
+            self.assertEqual(hosts.look_at_folder(hosts.SERVED), said)
+            self.assertEqual(hosts.look_at_folder("/srv/x")[0], Level.NOTE)
+
     def test_a_command_of_alarms(self):
         settings = mock.Mock(radios=[], folder="/tmp")
         for command, level, said in (
