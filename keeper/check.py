@@ -10,6 +10,7 @@ from keeper.children import Guard
 from keeper.chosen_file import chosen
 from keeper.hosts import Finding, Level
 from keeper.marks import LEAST, Look, look, shift_of
+from keeper.marks import MOST as MOST_MARKS
 from keeper.rules import PLANS
 from keeper.source import Command, Ended, Fifo, Growing, source_of
 from keeper.text import length
@@ -158,7 +159,7 @@ def judge_marks(seen: Look, plan: str) -> list[Finding]:
     elif seen.unit != "microseconds":
         found.append((Level.BAD, f"its starts are {seen.unit}: a log has microseconds"))
     elif seen.bad:
-        level = Level.BAD if seen.bad > 0.1 * seen.lines else Level.NOTE
+        level = Level.BAD if seen.bad > max(1, 0.1 * seen.lines) else Level.NOTE  # one may have been cut off as it was opened
         found.append((level, f"{seen.bad} of {seen.lines} lines are bad, and the keeper leaves them out; the first: {seen.fault}"))
     if seen.unit and seen.width_unit != seen.unit:
         found.append((Level.BAD, f"its widths are {seen.width_unit}, and its starts {seen.unit}: a log has microseconds in both"))
@@ -167,7 +168,7 @@ def judge_marks(seen: Look, plan: str) -> list[Finding]:
 
 def _judge_widths(seen: Look, plan: str) -> list[Finding]:
     what = f"{seen.rate:.1f} marks a second, widths {length(min(seen.widths) / 1e6)} to {length(max(seen.widths) / 1e6)}"
-    if seen.rate > 3:
+    if seen.rate > MOST_MARKS:
         return [(Level.BAD, f"{what}: noise, or another signal")]
     if len(seen.widths) < LEAST:
         return [(Level.NOTE, f"{what}: too few to say more; read it for longer with --seconds 60")]

@@ -2,7 +2,6 @@
 
 import re
 import statistics
-from collections.abc import Iterable
 from dataclasses import dataclass, field
 
 from keeper.lines import Lines, reading
@@ -15,6 +14,7 @@ NEAR = 120.0  # a start within this number of seconds from now is of that clock
 SECOND = 1_000_000
 BORDER = 40_000  # beside a second a mark may be so far off, in microseconds
 LEAST = 5  # with fewer marks nothing is said of them
+MOST = 3  # more marks a second are noise
 # Of each plan's symbols the widths as docs/FORMATS.md has them, from and to, and the width that the sender sends, in microseconds.
 CLASSES = {
     "dcf": ((40_000, 149_999, 100_000), (150_000, 260_000, 200_000)),
@@ -53,14 +53,13 @@ class Look:
     widths: list[int] = field(default_factory=list)
 
 
-def look(pieces: Iterable[tuple[int, bytes]], seconds: float, monotonic: float, unix: float) -> Look:
+def look(pieces: list[tuple[int, bytes]], seconds: float, monotonic: float, unix: float) -> Look:
     """Looks at what came in a number of seconds: each piece with the microsecond of the monotonic clock at which it came; `monotonic` and
     `unix` are the host's clocks when they ended, in seconds."""
-    seen, reader, text = Look(), Lines(), b""
+    seen, reader, pairs = Look(), Lines(), []
     for at, piece in pieces:
         reader.take(piece, at)
-        text += piece
-    pairs = []
+    text = b"".join(piece for _, piece in pieces)
     # The last line may be cut off by our end; where there is no other it is looked at.
     for line in text.split(b"\n")[:-1] or ([text] if text else []):
         seen.lines += 1
@@ -88,7 +87,7 @@ def _look_at_pairs(seen: Look, pairs: list[tuple[int, int]], seconds: float, mon
     marks = [(start / scale, width / size) for start, width in pairs if start / scale > last - seconds * SECOND]
     seen.widths = [round(width) for _, width in marks]
     seen.rate = len(marks) / seconds
-    if len(marks) >= LEAST:
+    if len(marks) >= LEAST and seen.rate <= MOST:
         seen.inverted = is_inverted(marks)
         turned = [(start + width, SECOND - width % SECOND) for start, width in marks]
         seen.plans, seen.is_sure = plans_of(turned if seen.inverted else marks)

@@ -243,6 +243,14 @@ class Sentences(unittest.TestCase):
                 self.assertIn(Level.BAD, [level for level, _ in found])
                 self.assertIn(words, " ".join(text for _, text in found))
 
+    def test_a_line_that_is_cut_off(self):
+        """A FIFO is opened in the middle of a line; where each third line is bad something is wrong."""
+        marks = [(second * 1_000_000, 200_000 if second % 3 else 100_000) for second in range(20, 30)]
+        for bad, level in ((1, Level.NOTE), (3, Level.BAD)):
+            lines = [b"%d 0\n" % start if place < bad else b"%d %d\n" % (start, width) for place, (start, width) in enumerate(marks)]
+            found = check.judge_marks(look(pieces_of(lines, marks), 10, 30.0, UNIX), "dcf")
+            self.assertEqual(found[0], (level, f"{bad} of 10 lines are bad, and the keeper leaves them out; the first: '20000000 0': its width is 0"))
+
     def test_widths_at_the_borders_of_a_plan(self):
         """DCF77's Zero has 40000 to 149999, its One 150000 to 260000."""
         marks = [(second * 1_000_000, 150_000 if second % 3 else 48_000) for second in range(20, 30)]

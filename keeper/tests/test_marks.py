@@ -3,6 +3,7 @@
 import pathlib
 import random
 import re
+import time
 import unittest
 
 from keeper.marks import CLASSES, Look, fits, look, shift_of, unit_of
@@ -118,6 +119,13 @@ class Marks(unittest.TestCase):
         self.assertEqual(shift_of("dcf", [155_000, 255_000] * 5), 55_000)
         chance = random.Random(5)
         self.assertEqual(shift_of("dcf", [chance.randrange(20_000, 430_000) for _ in range(10)]), 0)
+
+    def test_a_flood(self):
+        """A megabyte of lines is noise at once: nobody looks how its marks lie to one another."""
+        began = time.monotonic()
+        told = seen([(20_000_000 + place * 200, 100) for place in range(50_000)])
+        self.assertGreater(told.rate, 1000)
+        self.assertLess(time.monotonic() - began, 10)
 
     def test_history_is_left_out(self):
         self.assertAlmostEqual(seen(log("dcf77")).rate, 1.0, delta=0.11)
