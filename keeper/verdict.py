@@ -9,7 +9,8 @@ GONE = -1  # `keeper_pid` of a state whose keeper is no process any more, and ha
 STALE = 60.0  # a state that is older was left by a keeper that has ended, in seconds
 SILENT = 15.0  # a link that hasn't answered for so long is silent, in seconds
 NEW = 600.0  # a keeper so young may still wait for its first minutes, in seconds
-SCATTERED = 0.05  # marks that are spread so far begin anywhere in a second, in seconds
+# Marks that are spread so far don't begin on the second: those of DCF77 that are inverted by 30 to 50 ms, hum and noise by more, in seconds.
+SCATTERED = 0.025
 FEW = 3  # of fewer minutes of a quarter of an hour nothing is suspected
 UNHEARD = 3600.0  # a radio without a verdict for so long is unheard, in seconds
 OLD_SAMPLE = 7200.0  # a server without a sample for so long is reported, in seconds
@@ -87,7 +88,7 @@ def _radio(state: State, radio: RadioState, now: float) -> list[str]:
 def suspicion(radio: RadioState) -> str:
     """What its last minutes say of the line to a radio whose source runs; nothing where they are as usual."""
     if radio.spread >= SCATTERED:
-        return f"its marks begin anywhere in a second (their spread is {radio.spread * 1e3:.0f} ms): hum or noise"
+        return f"its marks lie {radio.spread * 1e3:.0f} ms off the second: `--low` of edges_to_log.py may be missing or too much, or it is hum or noise"
     last = next((one for one in reversed(radio.reception) if one.verdict + one.lone + one.differs + sum(one.refused.values()) >= FEW), None)
     if last is None or last.verdict + last.lone + last.differs:
         return ""

@@ -2,13 +2,16 @@
 
 import dataclasses
 import html.parser
+import random
 import re
 import unittest
 
 from keeper import metrics, page, pictures, relay, rules, text
+from keeper.reception import Spread
 from keeper.state import Alarm, Quarter, RadioState, Slot, State
 from keeper.tests.made_station import NOW, a_good_station
-from keeper.verdict import GONE, Level, judge, span, summary, suspicion, worst
+from keeper.tests.test_marks import log, upside_down
+from keeper.verdict import GONE, SCATTERED, Level, judge, span, summary, suspicion, worst
 
 
 class Sentences(unittest.TestCase):
@@ -34,7 +37,7 @@ class Sentences(unittest.TestCase):
         hangs = {"link__asked_at": NOW - 25, "link__answered_at": NOW - 25}
         self.says(Level.CRITICAL, "port 123 wasn't asked for 25 s: the keeper stood still, as where its disk hangs, or no run begins", **hangs)
         self.says(Level.CRITICAL, "port 123 doesn't answer", link__asked_at=0.0, link__answered_at=0.0)
-        for spread, more in ((0.0499, ""), (0.058, ": its marks begin anywhere in a second (their spread is 58 ms): hum or noise")):
+        for spread, more in ((0.0249, ""), (0.042, ": its marks lie 42 ms off the second: `--low` of edges_to_log.py may be missing or too much, or it is hum")):
             self.says(Level.OK, "time from DCF", radio__spread=spread)
             self.says(Level.WARNING, f"DCF77 roof: no verdict for 1 h{more}", radio__spread=spread, radio__minute_at=NOW - 3601)
         self.says(Level.CRITICAL, "port 123 has no time (INIT)", link__leap=3, link__reference_id="INIT")
@@ -72,6 +75,17 @@ class Sentences(unittest.TestCase):
                 self.assertEqual(suspicion(radio), due)
                 self.assertIn("or an output that is the other way round", rules.rule(plan, "1")[1])
         self.assertNotIn("the other way round", rules.rule("dcf", "3")[1] + rules.rule("msf", "2")[1])
+
+    def test_the_spread_of_an_inverted_output(self):
+        """Of the example's marks and of hum it is beyond, of marks with much jitter it isn't."""
+        chance, marks = random.Random(3), log("dcf77")[:300]
+        for starts, is_beyond in (
+            ([start for start, _ in upside_down(marks)], True), ([place * 20_000 for place in range(15_000)], True), ([start + round(chance.gauss(0, 20_000)) for start, _ in marks], False),
+        ):
+            spread = Spread()
+            for start in starts:
+                spread.add(start)
+            self.assertEqual(spread.value() >= SCATTERED, is_beyond)
 
     def test_spans(self):
         for seconds, said in ((0.4, "0 s"), (119.4, "119 s"), (120, "2 min"), (150, "2 min 30 s"), (3599, "59 min 59 s"), (3600, "1 h"), (90000, "1 d 1 h"), (-5, "0 s")):
@@ -241,8 +255,8 @@ class Page(unittest.TestCase):
     def test_what_is_suspected(self):
         state = a_good_station()
         state.radios[0].spread = 0.058
-        self.assertIn("Its marks begin anywhere in a second", self.read(state))
-        self.assertIn("\n  its marks begin anywhere in a second (their spread is 58 ms): hum or noise\n", text.render(state, NOW))
+        self.assertIn("Its marks lie 58 ms off the second", self.read(state))
+        self.assertIn("\n  its marks lie 58 ms off the second: `--low` of edges_to_log.py may be missing or too much, or it is hum or noise\n", text.render(state, NOW))
 
     def test_a_round_scale(self):
         for least, greatest, due in ((-0.0021, 0.0093, (-0.005, 0.01, 0.005)), (0.0, 0.004, (0.0, 0.004, 0.001)), (1.0, 1.0, None), (-3.2, 0.9, (-4.0, 2.0, 2.0))):
