@@ -86,7 +86,8 @@ class Alarms:
             "RADIO_LEAP": str(link.leap) if link else "", "RADIO_STRATUM": str(link.stratum) if link else "",
             "RADIO_REFERENCE": link.reference_id if link else "", "RADIO_ROOT_DISPERSION": f"{link.root_dispersion:.6f}" if link else "",
         }
-        return {**os.environ, **told}
+        # A text of the operator's file may have a NUL, which no environment takes.
+        return {**os.environ, **{name: value.replace("\0", "\\0") for name, value in told.items()}}
 
     def turn(self, now: float) -> None:
         """Ends a command that takes too long and starts the next one (`now` in monotonic s). Call it once a second or more often."""

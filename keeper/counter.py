@@ -9,9 +9,12 @@ from keeper.ntp import Answer, answer, request
 
 LEAST = 10  # exchanges at least
 AIM = 20.0  # within which the lag is to be known, in microseconds
-# What will do on a busy machine or under a flood: after a number of seconds, within a number of microseconds. Clients are without time meanwhile, and
-# the root dispersion of a radio, which doesn't say this error, is 5 ms at least.
-WILL_DO = ((0.05, 1000.0), (0.2, 2000.0), (2.0, float("inf")))
+NEEDED = 2000.0  # a run is given no pulse before the lag is known within this: the root dispersion doesn't say this error (us)
+# What will do on a busy machine or under a flood: after a number of seconds, within a number of microseconds. Clients are without time meanwhile.
+WILL_DO = ((0.05, 1000.0), (0.2, NEEDED))
+PATIENCE = 2.0  # after so long what else goes on isn't held up any more, and the server is asked beside it, in seconds
+BESIDE = 0.1  # how often then, in seconds
+KEPT = 100  # of the exchanges, and of the requests that wait for their answers
 SPIN = 300_000  # for so long each second answer is waited for without sleeping, in nanoseconds
 AGAIN = 0.002  # an answer that hasn't come by then is waited for beside the next ones, in seconds
 CLOSED = 0.0002  # how often a port that isn't open yet is asked, in seconds
@@ -44,6 +47,12 @@ def reading_of(exchanges: list[Exchange]) -> Reading | None:
     least = max(one.left - one.said.receive * 1e6 for one in good)
     most = min(one.came - one.said.transmit * 1e6 for one in good)
     return Reading((least + most) / 2, max(most - least, 0.0) / 2)
+
+
+def tightest(exchanges: list[Exchange]) -> list[Exchange]:
+    """The two that bound the lag as well as all of them do."""
+    good = [one for one in exchanges if one.said.reports_counter()]
+    return [max(good, key=lambda one: one.left - one.said.receive * 1e6), min(good, key=lambda one: one.came - one.said.transmit * 1e6)] if good else []
 
 
 def will_do(took: float) -> float:
@@ -83,11 +92,14 @@ class Counter:
             left = time.monotonic_ns()
             self.client.send(request(left))
             self.sent[left % 2**64] = left / 1e3
+            if len(self.sent) > KEPT:
+                del self.sent[next(iter(self.sent))]
             self.asked += 1
             self._receive(left)
         except ConnectionRefusedError:
             self.sent.clear()
-            self.asked = 0
+            if not self.exchanges:
+                self.asked = 0
             time.sleep(CLOSED)
         except OSError:
             time.sleep(REFUSED)  # nothing was sent
@@ -95,7 +107,8 @@ class Counter:
 
     def _receive(self, began: int) -> None:
         """Waits for one answer (`began`: monotonic ns). One that is waited for without sleeping is seen at once, which bounds the lag
-        from above; one that is slept for leaves the server this processor, so that it receives at once, which bounds it from below."""
+        from above; one that is slept for leaves the server this processor, so that it receives at once, which bounds it from below.
+        Answers to earlier requests are taken on the way: where they stayed in the queue, each later one would be seen late."""
         end, spun = began + int(AGAIN * 1e9), began + SPIN * (self.asked % 2)
         while (now := time.monotonic_ns()) < end:
             try:
@@ -108,16 +121,32 @@ class Counter:
             said = answer(datagram)
             left = self.sent.pop(said.origin, None) if said else None
             if left is not None:
+                if len(self.exchanges) >= KEPT:
+                    self.exchanges = tightest(self.exchanges)
                 self.exchanges.append(Exchange(left, came / 1e3, said))
-                return
+                if left == began / 1e3:
+                    return
 
     def _is_enough(self) -> bool:
-        if not self.exchanges:
-            return False
-        if not self.exchanges[-1].said.reports_counter():
+        if self.has_time():
             return True
-        bound = self.reading().bound
-        return bound <= will_do(time.monotonic() - self.began) or bound <= AIM and len(self.exchanges) >= LEAST
+        reading = self.reading()
+        if reading is None:
+            return False
+        return reading.bound <= will_do(time.monotonic() - self.began) or reading.bound <= AIM and len(self.exchanges) >= LEAST
+
+    def has_time(self) -> bool:
+        """Whether the server had a time when it answered last: from then on it says nothing of its counter."""
+        return bool(self.exchanges) and not self.exchanges[-1].said.reports_counter()
+
+    def is_known(self) -> bool:
+        """Whether the lag is known well enough for a pulse to be moved by it."""
+        reading = self.reading()
+        return reading is not None and reading.bound <= NEEDED
+
+    def is_held_up(self) -> bool:
+        """Whether the server answers, and doesn't let its lag be known in time."""
+        return bool(self.exchanges) and time.monotonic() - self.began > PATIENCE
 
     def reading(self) -> Reading | None:
         return reading_of(self.exchanges)

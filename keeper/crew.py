@@ -45,6 +45,7 @@ class Crew:
         self.refused = ""  # why a file was refused at the last reload
         self.lacking = ""  # why no server can be started for the next run
         self.without = ""  # what this run has to go without
+        self.shelter = loop.shelter
         self.clock, self.sleep = clock.ClockWatch(), clock.SleepWatch()
         self.slept = False  # since the last run began
         self.failing = False
@@ -63,7 +64,7 @@ class Crew:
             for place in range(len(settings.radios)):
                 feeds.append(self._feed_for(settings, state, place, before))
             pacing = self._pacing_for(settings)
-        except OSError:
+        except Exception:
             _close_others(feeds, self.feeds)
             raise
         # From here on nothing is refused.
@@ -125,7 +126,7 @@ class Crew:
         now = time.monotonic()
         for feed in self.feeds:
             feed.turn(now)
-        self.alarms.turn(now)
+        self.shelter.call("the alarms' command", lambda: self.alarms.turn(now))
         self.notify.turn(now)
         self._look_at_clocks()
 
@@ -157,16 +158,26 @@ class Crew:
     def note_begin(self, run: Run) -> None:
         """A run serves."""
         self.slept = False
-        run_state, reading = self.state.run, run.reading
+        run_state = self.state.run
         run_state.number, run_state.since, run_state.cause, run_state.pid = run.number, run.since, run.cause, run.server.child.pid
         facts.note_leap_file(self.state)
-        if run.note and run.note != self.without:
-            say(run.note)
-        self.without = run.note
-        run_state.lag, run_state.lag_bound = (reading.lag / 1e6, reading.bound / 1e6) if reading else (0.0, 0.0)
-        counter = f"its counter began {reading.lag:.0f} us late, known within {reading.bound:.0f} us" if reading else "where its counter stands isn't known"
-        say(f"run {run.number} ({run.cause}) serves after {run.age() * 1000:.0f} ms; {counter}")
+        say(f"run {run.number} ({run.cause}) serves after {run.age() * 1000:.0f} ms; {run.about_counter()}")
+        self.note_counter(run)
         self.notify.ready()  # systemd passes over all but the first, which needn't be run 1: that may not have begun
+
+    def note_counter(self, run: Run) -> None:
+        """What is known of a run's counter, and what the run has to go without."""
+        # Where its servers' time alone is served nothing is moved by what is known of it.
+        reading, without = None if run.is_given and run.lacks_radios() else run.reading, run.without()
+        self.state.run.lag, self.state.run.lag_bound = (reading.lag / 1e6, reading.bound / 1e6) if reading else (0.0, 0.0)
+        if without and without != self.without:
+            say(without)
+        self.without = without
+
+    def note_given(self, run: Run) -> None:
+        """A run that had to wait for it got the pulses, or the time of its servers."""
+        say(f"run {run.number} waited {run.age():.0f} s for its pulses; {run.about_counter()}")
+        self.note_counter(run)
 
     def note_end(self, run: Run, text: bytes) -> None:
         """A run has ended and has printed this."""
@@ -185,11 +196,15 @@ class Crew:
         if run_state.last_journal and (self.state.servers or self.state.leap_file):
             self._read(run_state.last_journal, run)
 
+    def try_journals(self) -> None:
+        """Journals that wait for room on the disk are written where there is some."""
+        self.shelter.call("the journals", self.journals.try_again)
+
     def _read(self, name: str, run: Run) -> None:
         shift = time.time() - time.monotonic() + (run.reading.lag / 1e6 if run.reading else 0.0)
         try:
             read_journal(os.path.join(self.journals.folder, name), self.state, shift)
-        except OSError:
+        except FileNotFoundError:
             pass  # it waits for room on the disk, which is said where it was tried to write it
 
     def refuse(self, text: str) -> None:
@@ -200,23 +215,28 @@ class Crew:
 
     def renew(self, run: Run | None) -> None:
         """Writes the state for others to read."""
+        self.shelter.call("the state", lambda: self._renew(run))
+
+    def _renew(self, run: Run | None) -> None:
         self._look_at_clocks()  # what is judged now has to be by the clock as it stands
         now = time.time()
         if run:
             facts.note_links(self.state, run.watch)
+            self.note_counter(run)
         facts.note_servers(self.state, self.pacing)
         for feed in self.feeds:
-            feed.reception.renew(now)
-        said = (self.lacking, self.without, self.journals.note, *(feed.log.note for feed in self.feeds), self.refused and f"not reloaded: {self.refused}")
+            self.shelter.call(f"the reception of radio {feed.state.number}", lambda: feed.reception.renew(now))
+        troubles = [note for one in (self, *self.feeds) for note in one.shelter.notes.values()]
+        said = (self.lacking, self.without, self.journals.note, *(feed.log.note for feed in self.feeds), self.refused and f"not reloaded: {self.refused}", *troubles)
         self.state.notes = [one for one in said if one]
         self.stood = not self.stood and time.monotonic() - self.renewed > STOOD
         self.renewed = time.monotonic()
         if not self.stood:  # else nobody was asked meanwhile, and clients may have been served; ten seconds later that is known
-            self.alarms.judge(self.state, now)
+            self.shelter.call("the alarms", lambda: self.alarms.judge(self.state, now))
         self.notify.status(self._sentence())
         try:
             os.makedirs(self.settings.folder, exist_ok=True)
-            faces.renew(self.state, self.settings.folder, now)
+            faces.renew(self.state, self.settings.folder, now, self.shelter)
             if self.failing:
                 say("the state can be written again")
             self.failing = False

@@ -5,6 +5,7 @@ import os
 import re
 
 from keeper import metrics, page
+from keeper.shelter import Shelter
 from keeper.state import State, put, save
 
 STATE, PAGE, METRICS = "state.json", "status.html", "radio_ntpd.prom"
@@ -19,9 +20,12 @@ def tidy(folder: str) -> None:
                 os.unlink(os.path.join(folder, name))
 
 
-def renew(state: State, folder: str, now: float) -> None:
-    """Writes the three files into the folder (`now` in Unix s). Raises OSError; what was there before then stands."""
+def renew(state: State, folder: str, now: float, shelter: Shelter) -> None:
+    """Writes the three files into the folder (`now` in Unix s). Raises OSError; what was there before then stands, and so does a file that
+    can't be drawn."""
     state.written = now
     save(state, os.path.join(folder, STATE))
-    put(os.path.join(folder, PAGE), page.render(state, now))
-    put(os.path.join(folder, METRICS), metrics.render(state, now))
+    drawn: list[str] = []
+    for name, render in ((PAGE, page.render), (METRICS, metrics.render)):
+        if shelter.call(name, lambda: drawn.append(render(state, now))):
+            put(os.path.join(folder, name), drawn.pop())

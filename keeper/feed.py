@@ -13,6 +13,7 @@ from keeper.loop import Loop
 from keeper.outlet import Outlet
 from keeper.pulse_log import PulseLog, boot_id
 from keeper.reception import Reception
+from keeper.shelter import Shelter
 from keeper.source import Ended, source_of
 from keeper.state import RadioState
 from keeper.words import sentence
@@ -41,6 +42,7 @@ class Feed:
         self.looked = self.reported = 0.0
         self.reported_bad = 0
         self.watched = -1
+        self.shelter = Shelter(say)
 
     def recall(self, pulses: list[Pulse]) -> None:
         """What a keeper before this one has logged in the last minutes is at hand too."""
@@ -49,6 +51,14 @@ class Feed:
             self.lines.last = pulses[-1].start
 
     def turn(self, now: float) -> None:
+        self._alone(lambda: self._turn(now))
+
+    def _alone(self, call: Callable[[], None]) -> None:
+        """Whatever is raised in one radio ends its source alone, which is started again after the pause."""
+        if not self.shelter.call(f"radio {self.state.number}", call):
+            self.shelter.call(f"the source of radio {self.state.number}", lambda: self._wait(time.monotonic(), "its source is given up"))
+
+    def _turn(self, now: float) -> None:
         if self.state.source == "waiting" or self.state.source == "starting":
             if now >= self.due:
                 self._begin(now)
@@ -74,7 +84,7 @@ class Feed:
         self.pulse_at = now
         self.watched = self.source.descriptor
         if self.watched >= 0:
-            self.loop.reads(self.watched, self._read)
+            self.loop.reads(self.watched, lambda: self._alone(self._read))
 
     def _wait(self, now: float, why: str) -> None:
         """The source is started again after a pause, which grows until a pulse comes."""

@@ -12,7 +12,7 @@ from keeper.runs import Run
 from keeper.say import say
 from keeper.server import Server
 from keeper.standby import Standby
-from keeper.words import DONE, NOT_WELL, Fault, sentence
+from keeper.words import DONE, NOT_WELL, Fault, bug, sentence
 
 RENEWED = 10.0  # how often the state is written, in seconds
 TURN = 0.1  # the longest turn of the loop, in seconds
@@ -45,7 +45,7 @@ class Keeper:
         self.crew.use(self.settings)
         self.loop.every(RENEWED, lambda: self.crew.renew(self.run))
         self.loop.every(RENEWED, self.guard.look)
-        self.loop.every(RENEWED, lambda: self.crew.journals.try_again())
+        self.loop.every(RENEWED, lambda: self.crew.try_journals())
 
     def _lock(self, folder: str) -> None:
         """Raises Fault where another keeper has this folder. The host gives the lock back when the keeper ends, however that is."""
@@ -141,15 +141,17 @@ class Keeper:
         while True:
             self._turn(min(TURN, run.watch.wait(time.monotonic())))
             now = time.monotonic()
-            run.watch.turn(now)
+            self.crew.shelter.call("the watchdog", lambda: run.watch.turn(now))
             if run.watch.take_changed():
                 if run.is_first_time():
                     say(f"run {run.number} has the time after {run.watch.first_time_after(run.began) * 1000:.0f} ms")
                 self.crew.renew(run)
+            if run.learn(now):
+                self.crew.note_given(run)
             cause = self._why_end(run, now)
             if cause:
                 return cause
-            if not self.standby.server and now - run.began > STANDBY:
+            if now - run.began > STANDBY:
                 self._stand_by()
 
     def _why_end(self, run: Run, now: float) -> str:
@@ -186,8 +188,8 @@ class Keeper:
                 raise Fault(f"state: it is {settings.folder} now, for which the keeper has to be started anew")
             config.judge(settings)
             config.ask_host(settings, self.settings.links)
-        except Fault as fault:
-            self._refuse(str(fault))
+        except Exception as error:
+            self._refuse(str(error) if isinstance(error, Fault) else bug(error))
             self.crew.notify.ready()
             return False
         self.next, self.crew.refused = settings, ""
@@ -206,8 +208,8 @@ class Keeper:
         try:
             self.crew.use(settings)
             self.settings = settings
-        except OSError as error:
-            self._refuse(sentence(error))
+        except Exception as error:
+            self._refuse(sentence(error) if isinstance(error, OSError) else bug(error))
         self.standby.close()
         self.crew.notify.ready()
 
@@ -246,12 +248,13 @@ class Keeper:
         return self.signals.ends() < 2 and not self.crew.slept
 
     def _finish(self, run: Run) -> None:
-        self.crew.note_end(run, run.finish())
+        text = run.finish()
+        self.crew.shelter.call(f"the end of run {run.number}", lambda: self.crew.note_end(run, text))
         self.crew.renew(self.run)
 
     def _give_up_waiting(self) -> None:
         """The end: what the disk doesn't take now is lost."""
-        self.crew.journals.try_again()
+        self.crew.try_journals()
         if self.crew.journals.waiting:
             say(f"the disk takes nothing; journals that are lost: {len(self.crew.journals.waiting)}")
             self.status = NOT_WELL

@@ -8,16 +8,20 @@ import signal
 import time
 from collections.abc import Callable
 
+from keeper.say import say
+from keeper.shelter import Shelter
+
 Call = Callable[[], None]
 
 
 class Loop:
-    """Calls back as file descriptors can be read and as moments of the monotonic clock (s) come."""
+    """Calls back as file descriptors can be read and as moments of the monotonic clock (s) come. What one call raises ends that alone."""
 
     def __init__(self) -> None:
         self.selector = selectors.DefaultSelector()
         self.due: list[tuple[float, int, float, Call]] = []
         self.numbers = itertools.count()
+        self.shelter = Shelter(say)
 
     def reads(self, descriptor: int, call: Call) -> None:
         self.selector.register(descriptor, selectors.EVENT_READ, call)
@@ -39,7 +43,7 @@ class Loop:
         for key, _ in self.selector.select(wait):
             # A call before it may have taken this one out.
             if self.selector.get_map().get(key.fd) is key:
-                key.data()
+                self.shelter.call("what was received", key.data)
         self._do_due()
 
     def _do_due(self) -> None:
@@ -47,7 +51,7 @@ class Loop:
         while self.due and self.due[0][0] <= now:
             _, number, seconds, call = heapq.heappop(self.due)
             heapq.heappush(self.due, (now + seconds, number, seconds, call))
-            call()
+            self.shelter.call("what is due", call)
 
     def close(self) -> None:
         self.selector.close()

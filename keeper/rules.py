@@ -57,12 +57,17 @@ _CAUSES = {
 def rule(plan: str, number: str) -> tuple[str, str]:
     """The name of a rule and what to suspect where it is broken."""
     known = _COMMON | _RULES.get(plan, {})
-    return known.get(int(number), ("", "")) if number.isdigit() else ("", "")
+    return known.get(_number(number), ("", ""))
+
+
+def _number(text: str) -> int:
+    """A number of a journal, -1 where a text is none."""
+    return int(text) if text.isascii() and text.isdigit() and len(text) <= 3 else -1
 
 
 def declined(number: str) -> tuple[str, str]:
     """The name of a refusal of a server's answer, and what it says."""
-    return _DECLINED.get(int(number), ("", "")) if number.isdigit() else ("", "")
+    return _DECLINED.get(_number(number), ("", ""))
 
 
 def reference(name: str, state: State) -> str:
@@ -70,8 +75,8 @@ def reference(name: str, state: State) -> str:
     if name.count(".") != 3:
         return _REFERENCES.get(name, name)
     place = name.removeprefix(RELAYS)
-    if place != name and place.isdigit() and 1 <= int(place) <= len(state.servers):
-        return f"the server {state.servers[int(place) - 1].address}"
+    if place != name and 1 <= _number(place) <= len(state.servers):
+        return f"the server {state.servers[_number(place) - 1].address}"
     return f"the server {name}"
 
 

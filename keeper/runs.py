@@ -6,7 +6,7 @@ from collections.abc import Callable
 
 from keeper.children import end_group
 from keeper.config import Settings, unreadable
-from keeper.counter import Counter, Reading
+from keeper.counter import BESIDE, NEEDED, Counter, Reading
 from keeper.drain import Drain
 from keeper.feed import Feed
 from keeper.journals import status_of
@@ -32,7 +32,9 @@ class Run:
         self.number, self.cause = number, cause
         self.since = time.time()
         self.began = time.monotonic()
-        self.reading: Reading | None = None
+        self.counter = Counter(settings.links[0], addresses[0]) if settings.links else None
+        self.asked_counter = 0.0
+        self.is_given = False  # whether it gets the pulses
         self.watch = Watch(loop, settings.links, addresses, server.child.pid, settings.gap == 0)
         self.own = [0] * len(settings.links)
         self.had_time = False
@@ -58,16 +60,61 @@ class Run:
             self.server.give_station(text)
         except OSError:
             return False
-        if self.settings.links and not self._read_counter():
+        if self.counter and not self._read_counter(self.counter):
             return False
-        lag = round(self.reading.lag) if self.reading else 0
-        for feed, outlet in zip(self.feeds, self.server.outlets):
-            outlet.lag = lag
-            feed.give_to(outlet)
-        if self.pacing:
-            self.pacing.go()
+        self._give_pulses()
         self.watch.began = time.monotonic()
         return True
+
+    @property
+    def reading(self) -> Reading | None:
+        """Where its counter stands, as far as that is known."""
+        return self.counter.reading() if self.counter else None
+
+    def _give_pulses(self) -> None:
+        """It gets the pulses, and its servers' answers, once its counter is known well enough: then the servers may give it the time, after
+        which it says no more of its counter. Without a link there is nobody to be told a wrong time. Where its servers gave it the time
+        before that, it goes without radios."""
+        if self.counter is None or self.counter.is_known():
+            lag = round(self.reading.lag) if self.reading else 0
+            for feed, outlet in zip(self.feeds, self.server.outlets):
+                outlet.lag = lag
+                feed.give_to(outlet)
+        elif self.feeds and not self.counter.has_time():
+            return
+        self.is_given = True
+        if self.pacing:
+            self.pacing.go()
+
+    def learn(self, now: float) -> bool:
+        """Goes on asking where its counter stands (`now` in monotonic s); whether it got the pulses just now."""
+        if self.is_given or self.counter is None or now - self.asked_counter < BESIDE:
+            return False
+        self.asked_counter = now
+        for _ in range(2):  # one answer is waited for without sleeping, and the other isn't
+            self.counter.step()
+        self._give_pulses()
+        if self.is_given:
+            self.watch.began = time.monotonic()
+        return self.is_given
+
+    def about_counter(self) -> str:
+        """What is known of where its counter stands, as a sentence."""
+        reading = self.reading
+        if reading is None:
+            return "where its counter stands isn't known"
+        return f"its counter began {reading.lag:.0f} us late, known within {reading.bound:.0f} us"
+
+    def lacks_radios(self) -> bool:
+        """Whether it gets no pulse, by now or for good, since its counter isn't known."""
+        return bool(self.counter and self.feeds and not self.counter.is_known())
+
+    def without(self) -> str:
+        """What it has to go without, as a sentence; nothing where it has all."""
+        if self.lacks_radios():
+            why = "its servers gave it the time before" if self.is_given else "a wrong time would be served"
+            return f"run {self.number} gets no pulse of its radios: its counter isn't known within {NEEDED / 1000:.0f} ms, and {why}"
+        return self.note
 
     def _values(self) -> dict:
         """The station's, without a leap second file that can't be read: it is the last feed, and no reason to serve nobody."""
@@ -77,17 +124,12 @@ class Run:
         self.note = f"leap_file {self.settings.leap_file}: {why}; the run goes without it"
         return {key: value for key, value in self.settings.text.items() if key != "leap_file"}
 
-    def _read_counter(self) -> bool:
-        counter = Counter(self.settings.links[0], self.addresses[0])
+    def _read_counter(self, counter: Counter) -> bool:
+        """Whether the server answers. What the keeper does beside that waits, until the lag is known or that takes long."""
         end = time.monotonic() + BEGIN
-        try:
-            while not counter.step():
-                if self.server.status() is not None or time.monotonic() > end:
-                    return False
-        finally:
-            counter.close()
-        self.own[0] += counter.asked
-        self.reading = counter.reading()
+        while not counter.step() and not counter.is_held_up():
+            if self.server.status() is not None or time.monotonic() > end:
+                return False
         # An answer that has a time may be of another program that has the port: ours then ends at once.
         return self.reading is not None or not self.server.child.wait(FOREIGN)
 
@@ -99,6 +141,9 @@ class Run:
         if self.pacing:
             self.pacing.hold()
         self.watch.close()
+        if self.counter:
+            self.own[0] += self.counter.asked
+            self.counter.close()
         for place, link in enumerate(self.watch.links):
             self.own[place] += link.asked
 

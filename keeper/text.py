@@ -49,7 +49,7 @@ def hours(quarters: list[Quarter], now: float, blocks: str = BLOCKS) -> str:
         if 0 <= hour < 24:
             good[hour] += one.verdict
             heard[hour] += one.verdict + one.lone + one.differs + sum(one.refused.values())
-    return "".join(blocks[min(8, -(-8 * had // 60))] if had else ("_" if any_ else ".") for had, any_ in zip(good, heard))
+    return "".join(blocks[max(0, min(8, -(-8 * had // 60)))] if had else ("_" if any_ else ".") for had, any_ in zip(good, heard))
 
 
 def refused(quarters: list[Quarter]) -> dict[str, int]:

@@ -16,6 +16,7 @@ UNHEARD = 3600.0  # a radio without a verdict for so long is unheard, in seconds
 OLD_SAMPLE = 7200.0  # a server without a sample for so long is reported, in seconds
 DIED = 3600.0  # so long a run that died is reported, in seconds
 EXPIRES = 30 * 86400.0  # so long before its end a leap second file is reported, in seconds
+COARSE = 0.001  # from here on it is reported within what a run's counter is known, in seconds
 WIDE = 0.5  # the part of the bound from which on a root dispersion is reported
 
 
@@ -39,6 +40,8 @@ def judge(state: State, now: float) -> list[tuple[Level, str]]:
     if not state.keeper_pid:
         return [(Level.CRITICAL, f"the keeper was stopped {span(now - state.written)} ago")]
     found = _links(state, now)
+    if state.run.lag_bound >= COARSE and any(one.leap != 3 for one in state.links):
+        found.append((Level.WARNING, f"clients' time may be {state.run.lag_bound * 1e3:.1f} ms further off than the root dispersion says: the run's counter is known within that"))
     for radio in state.radios:
         found += [(Level.WARNING, one) for one in _radio(state, radio, now)]
     for server in state.servers:

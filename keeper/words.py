@@ -1,8 +1,10 @@
 """The keeper's command line, how a command ends when it can't be done, and sentences on what the program, a process or the host says."""
 
 import argparse
+import os
 import re
 import sys
+import traceback
 from typing import NoReturn
 
 DONE = 0
@@ -46,9 +48,18 @@ def with_port(said: str, ports: list[int]) -> str:
     return f"{opened[0]} (port {ports[int(opened[1])]}){said[opened.end():]}"
 
 
-def ended(status: int) -> str:
-    """How a process ended, by the exit status that Python gives: a negative one is a signal's number."""
+def ended(status: int | None) -> str:
+    """How a process ended, by the exit status that Python gives: a negative one is a signal's number. None is of one that hasn't ended."""
+    if status is None:
+        return "closed its output and goes on"
     return f"ended with {status}" if status >= 0 else f"was ended by signal {-status}"
+
+
+def bug(error: Exception) -> str:
+    """What is said of an exception that nobody expected: what it is, and where it was raised."""
+    place = traceback.extract_tb(error.__traceback__)[-1:]
+    where = "".join(f" at {os.path.basename(one.filename)}:{one.lineno}" for one in place)
+    return f"a fault of the keeper's own ({type(error).__name__}{where}: {error})"
 
 
 def sentence(error: OSError) -> str:

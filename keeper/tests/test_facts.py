@@ -63,7 +63,7 @@ class Facts(unittest.TestCase):
             state = facts.new_state(settings(leap_file=file.name), None)
             for expires, due in (("3991593600", 1782604800.0), ("4007318400", 1798329600.0), ("9" * 400, 0.0)):
                 pathlib.Path(file.name).write_text(f"#@\t{expires}\n")
-                crew = types.SimpleNamespace(state=state, notify=mock.Mock(), without="")
+                crew = types.SimpleNamespace(state=state, notify=mock.Mock(), note_counter=mock.Mock())
                 run = mock.Mock(number=2, reading=None, note="", **{"age.return_value": 0.1})
                 with mock.patch("keeper.crew.say"):
                     Crew.note_begin(crew, run)

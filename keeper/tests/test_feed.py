@@ -20,7 +20,7 @@ from keeper.state import RadioState
 TOP = pathlib.Path(__file__).parent.parent.parent
 
 
-class Feeds(unittest.TestCase):
+class Made(unittest.TestCase):
     def setUp(self):
         folder = tempfile.TemporaryDirectory()
         self.addCleanup(folder.cleanup)
@@ -52,6 +52,8 @@ class Feeds(unittest.TestCase):
         feed.give_to(Outlet(given))
         return taken
 
+
+class Feeds(Made):
     def test_a_source_that_dies_in_a_line_is_started_again_and_the_pipe_stays_open(self):
         now = time.monotonic_ns() // 1000
         feed = self.feed(f"if mkdir {self.folder}/once 2> /dev/null; then echo {now - 500} 7; printf '{now} 7'; else echo {now - 500} 7; echo {now + 9} 8; exec sleep 60; fi")

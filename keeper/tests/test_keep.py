@@ -78,9 +78,12 @@ class Kept(unittest.TestCase):
         self.port = free_port()
         (self.folder / "station.toml").write_text(f'[[radio]]\nplan = "dcf"\nlog = "x"\n[[link]]\nport = {self.port}\n')
 
-    def keep(self, top="", **environment):
+    def keep(self, top="", station="", radios="", **environment):
+        """Starts it. What `station` and `radios` have is added to the ends of both files."""
         source = SOURCE.format(python=sys.executable)
-        (self.folder / "keeper.toml").write_text(f'station = "station.toml"\nprogram = "{FAKE}"\n{top}[[radio]]\ncommand = """{source}"""\n')
+        (self.folder / "keeper.toml").write_text(f'station = "station.toml"\nprogram = "{FAKE}"\n{top}[[radio]]\ncommand = """{source}"""\n{radios}')
+        with open(self.folder / "station.toml", "a") as file:
+            file.write(station)
         self.said = open(self.folder / "said", "wb+")
         self.addCleanup(self.said.close)
         words = [TOP / "radio_keeper", "run", "--config", self.folder / "keeper.toml"]
@@ -111,6 +114,11 @@ class Kept(unittest.TestCase):
 
     def pid(self):
         return state.load(str(self.folder / "state/state.json")).run.pid
+
+    def servers(self):
+        """The processes of `serve`."""
+        words = {one: pathlib.Path(f"/proc/{one}/cmdline") for one in descendants(self.keeper.pid)}
+        return [one for one, path in words.items() if path.exists() and b"serve" in path.read_bytes().split(b"\0")]
 
     def journals(self):
         return sorted((self.folder / "state/journals").glob("*.journal"))

@@ -79,6 +79,9 @@ class Programs(Made):
         self.assertIsNone(standby.server, "it is tried once a second")
         standby.due = 0.0
         standby.renew(str(program), 1, 100)
+        self.assertEqual(self.said[1:], [], "whether it lives isn't known yet")
+        standby.began -= 0.5
+        standby.renew(str(program), 1, 100)
         self.assertEqual((self.said[1:], standby.note), ([f"the program {program} can be started again"], ""))
         first = standby.server
         standby.renew(str(program), 1, 200)

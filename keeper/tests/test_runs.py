@@ -41,7 +41,7 @@ class Beginnings(unittest.TestCase):
         server = types.SimpleNamespace(names=["/dev/fd/5"], start=0, outlets=[outlet], give_station=lambda text: None, child=types.SimpleNamespace(pid=0))
         settings = types.SimpleNamespace(text={}, cycle=3600, pace=0, links=[12300], gap=0.0, leap_file=None)
         run = Run(settings, loop, server, [feed], None, ["127.0.0.1"], 1, "start")
-        with mock.patch.object(run, "_read_counter", lambda: setattr(run, "reading", Reading(4_500.4, 20.0)) or True):
+        with mock.patch.object(run, "_read_counter", return_value=True), mock.patch.object(run.counter, "reading", return_value=Reading(4_500.4, 20.0)):
             self.assertTrue(run.begin())
         feed.outlet.give([Pulse(AT + 2_000_000, 100_000)])
         self.assertEqual(os.read(taken, 1000), b"4999995500 100000\n5000995500 200000\n5001995500 100000\n")

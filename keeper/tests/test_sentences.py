@@ -191,9 +191,9 @@ class OfAState(unittest.TestCase):
 
 class OfRuns(unittest.TestCase):
     def test_a_run_that_begins_and_ends(self):
-        crew = types.SimpleNamespace(state=State(links=[LinkState(1)]), notify=mock.Mock(), journals=mock.Mock(keep=lambda *_: ""), hearings=mock.Mock(), alarms=mock.Mock(), without="")
+        crew = types.SimpleNamespace(state=State(links=[LinkState(1)]), notify=mock.Mock(), journals=mock.Mock(keep=lambda *_: ""), hearings=mock.Mock(), alarms=mock.Mock(), note_counter=mock.Mock())
         run = mock.Mock(spec=Run, number=2, cause="cycle", since=1.0, reading=None, began=1.0, ended=41.0, why="died", own=[0], exit_status=-9, reason="", note="", server=mock.Mock(), settings=mock.Mock(links=[1]))
-        run.age.return_value = 0.006
+        run.age.return_value, run.about_counter = 0.006, lambda: Run.about_counter(run)
         self.assertIn("run 2 (cycle) serves after 6 ms; where its counter stands isn't known\n", said(Crew.note_begin, crew, run))
         run.reading = mock.Mock(lag=1304.2, bound=12.0)
         self.assertIn("run 2 (cycle) serves after 6 ms; its counter began 1304 us late, known within 12 us\n", said(Crew.note_begin, crew, run))

@@ -11,6 +11,7 @@ import unittest
 from unittest import mock
 
 from keeper import faces, status
+from keeper.shelter import Shelter
 from keeper.state import save
 from keeper.tests.made_station import NOW, a_good_station
 from keeper.words import Fault
@@ -29,7 +30,7 @@ class Files(unittest.TestCase):
         return told, out.getvalue()
 
     def test_all_is_renewed(self):
-        faces.renew(a_good_station(), self.folder, NOW)
+        faces.renew(a_good_station(), self.folder, NOW, Shelter(print))
         self.assertEqual(sorted(os.listdir(self.folder)), ["radio_ntpd.prom", "state.json", "status.html"])
 
     def test_status_in_each_form(self):
