@@ -90,4 +90,6 @@ def open_standard() -> None:
 
 if __name__ == "__main__":
     open_standard()
+    for name in ("PYTHONPATH", "PYTHONDONTWRITEBYTECODE"):
+        os.environ.pop(name, None)  # they are ours, and not of the receivers' commands
     sys.exit(main(sys.argv[1:]))

@@ -15,6 +15,8 @@ LOST = 15.0  # a change of run is no loss: so long nobody may have received the 
 QUEUE = 20  # alarms that wait; of more the oldest is dropped
 KEPT = 20  # alarms that the state keeps
 GRACE = 2.0  # between SIGTERM and SIGKILL, in seconds
+NEVER = 900.0  # a keeper that has had no time for so long since it began has lost it: a radio alone needs ten minutes at most, in seconds
+HELD = 3600.0  # runs that die raise an alarm so often at most: who floods a link ends one each twenty seconds, in seconds
 BAD_CAUSES = {"died": "ended by itself", "silent": "didn't answer any more", "link": "had a link or relays that failed, or asked a server no more"}
 
 
@@ -31,6 +33,8 @@ class Alarms:
         self.time_at = 0.0
         self.silent: set[int] = set()
         self.run = 0
+        self.died_at, self.died = 0.0, 0  # when an alarm of a run was raised last, and how many were held back since
+        self.told = False  # whether the command was told to end
 
     def judge(self, state: State, now: float) -> None:
         """Raises what changed since the last call (`now` in Unix s)."""
@@ -40,8 +44,16 @@ class Alarms:
         if state.run.number != self.run:
             self.run = state.run.number
             if state.run.cause in BAD_CAUSES:
-                said = f" ({state.run.last_status})" if state.run.last_status else ""
-                self.raise_alarm(state, "run-died", f"the run before {BAD_CAUSES[state.run.cause]}{said}; run {self.run} follows", now)
+                self._judge_run(state, now)
+
+    def _judge_run(self, state: State, now: float) -> None:
+        if self.died_at and 0 <= now - self.died_at < HELD:
+            self.died += 1
+            return
+        said = f" ({state.run.last_status})" if state.run.last_status else ""
+        more = f", and so did {self.died} since the last such alarm" if self.died else ""
+        self.died_at, self.died = now, 0
+        self.raise_alarm(state, "run-died", f"the run before {BAD_CAUSES[state.run.cause]}{said}; run {self.run} follows{more}", now)
 
     def _judge_time(self, state: State, now: float) -> None:
         good = [one for one in state.links if one.leap != 3 and now - one.answered_at < LOST]
@@ -50,6 +62,9 @@ class Alarms:
             if not self.has_time:
                 self.raise_alarm(state, "time-gained", f"clients get the time, from {good[0].reference_id}", now)
             self.has_time = True
+        elif self.has_time is None and state.links and now - state.keeper_since >= NEVER:
+            self.has_time = False
+            self.raise_alarm(state, "time-lost", f"clients have had no time since the keeper began, {now - state.keeper_since:.0f} s ago", now)
         elif self.has_time and now - self.time_at >= LOST:
             self.has_time = False
             silent = all(now - one.answered_at >= LOST for one in state.links)
@@ -69,6 +84,7 @@ class Alarms:
     def move(self, step: float) -> None:
         """The host's clock was set forward by this number of seconds."""
         self.time_at += step
+        self.died_at += step if self.died_at else 0.0
 
     def raise_alarm(self, state: State, event: str, text: str, now: float, radio: int | None = None) -> None:
         """Puts an alarm into the state, says it on standard error, and has the command run."""
@@ -95,7 +111,8 @@ class Alarms:
             if self.child.poll() is None:
                 if now >= self.end + GRACE:
                     self._signal(signal.SIGKILL)
-                elif now >= self.end:
+                elif now >= self.end and not self.told:
+                    self.told = True
                     self._signal(signal.SIGTERM)
                 return
             if self.child.returncode:
@@ -105,7 +122,7 @@ class Alarms:
             self._start(self.waiting.popleft(), now)
 
     def _start(self, environment: dict[str, str], now: float) -> None:
-        self.end = now + self.limit
+        self.end, self.told = now + self.limit, False
         try:
             # A session of its own: what the command starts is ended with it.
             self.child = subprocess.Popen(["/bin/sh", "-c", self.command], env=environment, stdin=subprocess.DEVNULL, start_new_session=True)
@@ -122,7 +139,8 @@ class Alarms:
 
     def _signal(self, number: int) -> None:
         try:
-            os.killpg(self.child.pid, number)
+            if self.child:
+                os.killpg(self.child.pid, number)
         except (ProcessLookupError, PermissionError):
             pass  # it has ended, or it took other rights, as sudo does: it ends when it likes
 

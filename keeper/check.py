@@ -1,11 +1,10 @@
 """`check`: both files, the host, and some seconds of each receiver, before a start. It changes nothing."""
 
-import fcntl
 import os
 import select
 import time
 
-from keeper import config, hosts
+from keeper import config, hosts, lock
 from keeper.children import Guard
 from keeper.chosen_file import chosen
 from keeper.hosts import Finding, Level
@@ -57,18 +56,8 @@ def tell(finding: Finding) -> Finding:
 
 
 def keeper_runs(settings: config.Settings) -> bool:
-    """Whether a keeper has this station's folder: it holds a lock on it as long as it lives."""
-    try:
-        descriptor = os.open(settings.folder, os.O_RDONLY | os.O_DIRECTORY | os.O_CLOEXEC)
-    except OSError:
-        return False
-    try:
-        fcntl.flock(descriptor, fcntl.LOCK_SH | fcntl.LOCK_NB)
-    except BlockingIOError:
-        return True
-    finally:
-        os.close(descriptor)
-    return False
+    """Whether a keeper has this station's folder: it holds a lock there as long as it lives."""
+    return lock.is_taken(settings.folder)
 
 
 def judge_station(settings: config.Settings) -> list[Finding]:

@@ -5,6 +5,7 @@ import select
 import signal
 import subprocess
 import time
+from typing import Any
 
 GRACE = 1.0  # between SIGTERM and SIGKILL, in seconds
 
@@ -98,7 +99,8 @@ def _guarding(taken: int) -> None:
         os.dup2(null, descriptor)
     os.closerange(3, taken)
     os.closerange(taken + 1, os.sysconf("SC_OPEN_MAX") if os.sysconf("SC_OPEN_MAX") < 65536 else 65536)
-    groups, half = set(), b""
+    groups: set[int] = set()
+    half = b""
     while piece := os.read(taken, 4096):
         *lines, half = (half + piece).split(b"\n")
         for line in lines:
@@ -112,10 +114,17 @@ def _guarding(taken: int) -> None:
         end_group(group, signal.SIGKILL)
 
 
+def _status_of(found: os.waitid_result | None) -> int | None:
+    """An exit status as subprocess has it."""
+    if found is None:
+        return None
+    return found.si_status if found.si_code == os.CLD_EXITED else -found.si_status
+
+
 class Child:
     """A process that the keeper started, with all that it starts itself. `words` are those of subprocess.Popen. Raises OSError."""
 
-    def __init__(self, guard: Guard, words: list[str], **how: object) -> None:
+    def __init__(self, guard: Guard, words: list[str], **how: Any) -> None:
         self.guard = guard
         self.process = subprocess.Popen(words, start_new_session=True, **how)
         self.pid = self.process.pid
@@ -128,23 +137,36 @@ class Child:
         guard.add(self.pid)
 
     def status(self) -> int | None:
-        """Its exit status, negative for a signal, or None while it runs."""
-        return self.process.poll()
+        """Its exit status, negative for a signal, or None while it runs. Its number stays its own until `end`, so that no other group of
+        processes is ended by it."""
+        if self.process.returncode is not None:
+            return self.process.returncode
+        try:
+            return _status_of(os.waitid(os.P_PID, self.pid, os.WEXITED | os.WNOHANG | os.WNOWAIT))
+        except ChildProcessError:
+            return self.process.poll()  # whoever started the keeper has it ignore SIGCHLD
 
     def wait(self, seconds: float) -> bool:
         """Whether it has ended within this number of seconds."""
-        if self.process.poll() is None:
+        if self.status() is None:
             select.select([self.descriptor], [], [], max(0.0, seconds))
-        return self.process.poll() is not None
+        return self.status() is not None
+
+    def ask(self) -> None:
+        """Asks it to end, with what it has started, and doesn't wait for that."""
+        end_group(self.pid, signal.SIGTERM)
 
     def end(self, grace: float = GRACE) -> None:
         """Ends it and what it has started: SIGTERM, and after a grace (s) SIGKILL."""
-        if self.process.poll() is None and grace > 0:
-            end_group(self.pid, signal.SIGTERM)
+        if self.status() is None and grace > 0:
+            self.ask()
             self.wait(grace)
         # What it started may outlive it, in its group.
         end_group(self.pid, signal.SIGKILL)
-        self.process.wait()
+        try:
+            self.process.wait(GRACE)
+        except subprocess.TimeoutExpired:
+            pass  # the host holds it in a call, as one of a device that is gone: it ends when that does
         self.close()
 
     def close(self) -> None:

@@ -95,7 +95,7 @@ class Counter:
             if len(self.sent) > KEPT:
                 del self.sent[next(iter(self.sent))]
             self.asked += 1
-            self._receive(left)
+            self._receive(self.client, left)
         except ConnectionRefusedError:
             self.sent.clear()
             if not self.exchanges:
@@ -105,22 +105,22 @@ class Counter:
             time.sleep(REFUSED)  # nothing was sent
         return self._is_enough()
 
-    def _receive(self, began: int) -> None:
+    def _receive(self, client: socket.socket, began: int) -> None:
         """Waits for one answer (`began`: monotonic ns). One that is waited for without sleeping is seen at once, which bounds the lag
         from above; one that is slept for leaves the server this processor, so that it receives at once, which bounds it from below.
         Answers to earlier requests are taken on the way: where they stayed in the queue, each later one would be seen late."""
         end, spun = began + int(AGAIN * 1e9), began + SPIN * (self.asked % 2)
         while (now := time.monotonic_ns()) < end:
             try:
-                datagram = self.client.recv(1024)
+                datagram = client.recv(1024)
             except BlockingIOError:
                 if now > spun:
-                    select.select([self.client], [], [], (end - now) / 1e9)
+                    select.select([client], [], [], (end - now) / 1e9)
                 continue
             came = time.monotonic_ns()
             said = answer(datagram)
             left = self.sent.pop(said.origin, None) if said else None
-            if left is not None:
+            if said and left is not None:
                 if len(self.exchanges) >= KEPT:
                     self.exchanges = tightest(self.exchanges)
                 self.exchanges.append(Exchange(left, came / 1e3, said))

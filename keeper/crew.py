@@ -2,6 +2,7 @@
 
 import os
 import time
+from collections.abc import Callable
 
 from keeper import clock, faces, facts
 from keeper.alarms import Alarms
@@ -21,7 +22,7 @@ from keeper.pulse_log import PulseLog
 from keeper.readback import last_pulses
 from keeper.runs import Run
 from keeper.say import say
-from keeper.state import State
+from keeper.state import Alarm, State
 from keeper.verdict import SILENT
 from keeper.words import ended
 
@@ -40,14 +41,20 @@ class Crew:
         self.notify = Notify()
         self.feeds: list[Feed] = []
         self.pacing: Pacing | None = None
-        self.alarms: Alarms | None = None
-        self.settings: Settings | None = None
+        self.begun = False  # whether there are settings; until then the next four say nothing
+        self.settings: Settings
+        self.state, self.journals, self.alarms = State(), Journals("", 1, say), Alarms("")
+        self.addresses: list[str] = []
+        self.hearings = Hearings(0.0)
+        self.inherited: list[Alarm] = []  # what a keeper before this one has raised
         self.refused = ""  # why a file was refused at the last reload
         self.lacking = ""  # why no server can be started for the next run
         self.without = ""  # what this run has to go without
         self.shelter = loop.shelter
         self.clock, self.sleep = clock.ClockWatch(), clock.SleepWatch()
         self.slept = False  # since the last run began
+        self.wakes: Callable[[], None] = lambda: None  # what can't wait where the host slept
+        loop.first = self._look_at_sleep
         self.failing = False
         self.renewed = time.monotonic()  # when the state was written last
         self.stood = False  # whether the keeper had stood still then
@@ -55,7 +62,7 @@ class Crew:
     def use(self, settings: Settings) -> None:
         """What these settings leave as it is goes on; a radio's last minutes stay at hand. Where the host refuses something all is as it was."""
         os.makedirs(settings.folder, exist_ok=True)
-        before = self.state if self.settings else facts.last_state(os.path.join(settings.folder, faces.STATE))
+        before = self.state if self.begun else facts.last_state(os.path.join(settings.folder, faces.STATE))
         state = facts.new_state(settings, before)
         journals = Journals(os.path.join(settings.folder, "journals"), settings.days, say)
         journals.begin()
@@ -68,7 +75,9 @@ class Crew:
             _close_others(feeds, self.feeds)
             raise
         # From here on nothing is refused.
-        if self.settings:
+        if not self.begun:
+            self.inherited = list(state.alarms)
+        if self.begun:
             facts.go_on(state, self.state)
             journals.waiting = self.journals.waiting
         for feed in feeds:
@@ -77,17 +86,18 @@ class Crew:
         _close_others(self.feeds, feeds)
         if self.pacing and self.pacing is not pacing:
             self.pacing.close()
-        if self.alarms is None or settings.alarms != self.settings.alarms:
+        if not self.begun or settings.alarms != self.settings.alarms:
             self._use_alarms(settings)
         for feed in feeds:
             state.radios[feed.state.number], feed.log.days = feed.state, settings.days
         self.feeds, self.pacing, self.journals = feeds, pacing, journals
-        self.addresses, self.hearings = own_addresses(settings.denied, settings.gap), Hearings(settings.cycle)
-        self.settings, self.state = settings, state
+        self.addresses = own_addresses(settings.denied, settings.gap)
+        if not self.begun or settings.cycle != self.settings.cycle:
+            self.hearings = Hearings(settings.cycle, max((one.requests_per_second for one in before.links), default=0.0) if before else 0.0)
+        self.settings, self.state, self.begun = settings, state, True
 
     def _use_alarms(self, settings: Settings) -> None:
-        if self.alarms:
-            self.alarms.close()
+        self.alarms.close()
         self.alarms = Alarms(settings.alarms.command, settings.alarms.unheard, settings.alarms.limit, settings.folder, self.guard)
 
     def _feed_for(self, settings: Settings, state: State, place: int, before: State | None) -> Feed:
@@ -134,6 +144,8 @@ class Crew:
         step = self.clock.step()
         if step:
             self._move(step)
+
+    def _look_at_sleep(self) -> None:
         span = self.sleep.span()
         if span:
             self._wake(span)
@@ -141,7 +153,7 @@ class Crew:
     def _move(self, step: float) -> None:
         """The host's clock was set forward by this number of seconds."""
         say(clock.sentence(step))
-        facts.move(self.state, step)
+        facts.move(self.state, step, self.inherited)
         self.alarms.move(step)
         for feed in self.feeds:
             feed.reception.move(step)
@@ -150,6 +162,7 @@ class Crew:
 
     def _wake(self, span: float) -> None:
         """The host slept for this number of seconds: the run's counter is late by as much."""
+        self.wakes()
         say(f"the host slept for {span:.0f} s; a new run begins, without what was received before")
         self.slept = True
         for feed in self.feeds:
@@ -163,7 +176,6 @@ class Crew:
         facts.note_leap_file(self.state)
         say(f"run {run.number} ({run.cause}) serves after {run.age() * 1000:.0f} ms; {run.about_counter()}")
         self.note_counter(run)
-        self.notify.ready()  # systemd passes over all but the first, which needn't be run 1: that may not have begun
 
     def note_counter(self, run: Run) -> None:
         """What is known of a run's counter, and what the run has to go without."""
@@ -226,13 +238,14 @@ class Crew:
         facts.note_servers(self.state, self.pacing)
         for feed in self.feeds:
             self.shelter.call(f"the reception of radio {feed.state.number}", lambda: feed.reception.renew(now))
-        troubles = [note for one in (self, *self.feeds) for note in one.shelter.notes.values()]
+        troubles = [note for one in (self.shelter, *(feed.shelter for feed in self.feeds)) for note in one.notes.values()]
         said = (self.lacking, self.without, self.journals.note, *(feed.log.note for feed in self.feeds), self.refused and f"not reloaded: {self.refused}", *troubles)
         self.state.notes = [one for one in said if one]
         self.stood = not self.stood and time.monotonic() - self.renewed > STOOD
         self.renewed = time.monotonic()
-        if not self.stood:  # else nobody was asked meanwhile, and clients may have been served; ten seconds later that is known
-            self.shelter.call("the alarms", lambda: self.alarms.judge(self.state, now))
+        if self.stood:
+            return  # nobody was asked meanwhile, and clients may have been served; ten seconds later that is known
+        self.shelter.call("the alarms", lambda: self.alarms.judge(self.state, now))
         self.notify.status(self._sentence())
         try:
             os.makedirs(self.settings.folder, exist_ok=True)
@@ -257,8 +270,7 @@ class Crew:
             feed.close()
         if self.pacing:
             self.pacing.close()
-        if self.alarms:
-            self.alarms.close()
+        self.alarms.close()
 
 
 def verdicts_for(bound: float) -> int:

@@ -15,6 +15,7 @@ class Decoder:
         self.words = [program, "decode", "--plan", plan, "--log", "/dev/stdin"]
         self.tell = tell
         self.child: subprocess.Popen[bytes] | None = None
+        self.into = self.out = -1  # its pipes
         self.due = 0.0
         self.half = b""
 
@@ -25,8 +26,10 @@ class Decoder:
             self.child = subprocess.Popen(self.words, stdin=subprocess.PIPE, stdout=subprocess.PIPE, stderr=subprocess.DEVNULL, bufsize=0)
         except OSError:
             return
-        os.set_blocking(self.child.stdin.fileno(), False)
-        os.set_blocking(self.child.stdout.fileno(), False)
+        assert self.child.stdin and self.child.stdout
+        self.into, self.out = self.child.stdin.fileno(), self.child.stdout.fileno()
+        os.set_blocking(self.into, False)
+        os.set_blocking(self.out, False)
 
     def give(self, lines: bytes, now: float) -> None:
         """Whole lines of the log, at this moment of the monotonic clock (s). Where it can't take them it is started anew, later."""
@@ -38,7 +41,7 @@ class Decoder:
             return
         try:
             # A half of a line would corrupt what follows, so a pipe that takes less than all is as bad as one that takes nothing.
-            if os.write(self.child.stdin.fileno(), lines) < len(lines):
+            if os.write(self.into, lines) < len(lines):
                 self.close()
         except OSError:
             self.close()
@@ -47,7 +50,7 @@ class Decoder:
         """Reads what there is. Call it once a second or more often."""
         while self.child is not None:
             try:
-                piece = os.read(self.child.stdout.fileno(), MOST)
+                piece = os.read(self.out, MOST)
             except BlockingIOError:
                 return
             if not piece:
@@ -62,7 +65,8 @@ class Decoder:
         child, self.child = self.child, None
         if child is None:
             return
-        child.stdin.close()
-        child.stdout.close()
+        for pipe in (child.stdin, child.stdout):
+            if pipe:
+                pipe.close()
         child.kill()  # it keeps nothing that could be lost
         child.wait()

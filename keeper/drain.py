@@ -36,26 +36,26 @@ class LinkDrain:
     def step(self, now: float) -> None:
         """Sends the next batch where an earlier one was received (`now` in monotonic s)."""
         try:
-            self.client = self.client or open_client(self.port, self.address)
-            self._receive(now)
+            client = self.client = self.client or open_client(self.port, self.address)
+            self._receive(client, now)
             if self.gone:
                 return
             if not self.is_waiting():
                 for _ in range(BATCH):
-                    self._send(b"")
+                    self._send(client, b"")
                 self.moved_at = now
-                self._ask(now)
+                self._ask(client, now)
             elif now - self.moved_at > LOST and now - self.asked_at > AGAIN:
-                self._ask(now)
+                self._ask(client, now)
         except ConnectionRefusedError:
             self.gone = True
         except OSError:
             time.sleep(REFUSED)  # nothing was sent
 
-    def _receive(self, now: float) -> None:
+    def _receive(self, client: socket.socket, now: float) -> None:
         while True:
             try:
-                said = answer(self.client.recv(1024))
+                said = answer(client.recv(1024))
             except BlockingIOError:
                 return
             if said:
@@ -64,14 +64,14 @@ class LinkDrain:
                 while self.open and self.open[0] <= said.origin:
                     self.open.popleft()
 
-    def _ask(self, now: float) -> None:
+    def _ask(self, client: socket.socket, now: float) -> None:
         stamp = time.monotonic_ns()
         self.open.append(stamp)
         self.asked_at = now
-        self._send(request(stamp))
+        self._send(client, request(stamp))
 
-    def _send(self, datagram: bytes) -> None:
-        self.client.send(datagram)
+    def _send(self, client: socket.socket, datagram: bytes) -> None:
+        client.send(datagram)
         self.sent += 1
 
     def close(self) -> None:

@@ -8,7 +8,7 @@ from keeper.config import Settings
 from keeper.journal import expiry
 from keeper.ntp import unix_of
 from keeper.pacing import Pacing
-from keeper.state import DRIFT, LeapFileState, LinkState, RadioState, ServerState, State, StateError, load
+from keeper.state import DRIFT, Alarm, LeapFileState, LinkState, RadioState, ServerState, State, StateError, load
 from keeper.watch import Watch, Watched
 
 
@@ -45,23 +45,25 @@ def _take_over(state: State, before: State) -> None:
     for radio in state.radios:
         old = radios.get((radio.number, radio.plan))
         if old:
-            radio.reception, radio.offsets = [[one for one in points if one.at <= now] for points in (old.reception, old.offsets)]
+            radio.reception = [one for one in old.reception if one.at <= now]
+            radio.offsets = [one for one in old.offsets if one.at <= now]
             radio.minute, radio.minute_at = old.minute, past(old.minute_at)
     servers = {(one.address, one.port): one for one in before.servers}
     for server in state.servers:
-        old = servers.get((server.address, server.port))
-        if old:
-            server.offsets = [one for one in old.offsets if one.at <= now]
-            server.sample_at, server.answered_at = past(old.sample_at), past(old.answered_at)
-    state.alarms = before.alarms
+        known = servers.get((server.address, server.port))
+        if known:
+            server.offsets = [one for one in known.offsets if one.at <= now]
+            server.sample_at, server.answered_at = past(known.sample_at), past(known.answered_at)
+    state.alarms = [one for one in before.alarms if one.at <= now]
 
 
 def go_on(state: State, before: State) -> None:
     """The keeper goes on with other files: what counts from its beginning does too."""
     state.keeper_since, state.run = before.keeper_since, before.run
-    requests = {link.port: link.requests for link in before.links}
+    links = {link.port: link for link in before.links}
     for link in state.links:
-        link.requests = requests.get(link.port, 0)
+        if link.port in links:
+            link.requests, link.requests_per_second = links[link.port].requests, links[link.port].requests_per_second
 
 
 def last_state(path: str) -> State | None:
@@ -117,9 +119,11 @@ def note_requests(state: State, ports: list[int], heard: list[int], own: list[in
             link.requests_per_second = clients[link.port] / max(seconds, 1.0)
 
 
-def move(state: State, step: float) -> None:
-    """The host's clock was set forward by this number of seconds: the moments that this keeper took by it are moved. The pictures of the day stay, but for what lies ahead now."""
-    state.alarms = [dataclasses.replace(one, at=one.at + step) if one.at >= state.keeper_since else one for one in state.alarms]
+def move(state: State, step: float, inherited: list[Alarm]) -> None:
+    """The host's clock was set forward by this number of seconds: the moments that this keeper took by it are moved, and not those of alarms
+    that a keeper before it raised. The pictures of the day stay, but for what lies ahead now."""
+    mine = [not any(one is other for other in inherited) for one in state.alarms]
+    state.alarms = [dataclasses.replace(one, at=one.at + step) if is_mine else one for one, is_mine in zip(state.alarms, mine)]
     state.keeper_since += step
     for part, names in [(state.run, ("since",)), *((one, ("pulse_at", "minute_at", "since")) for one in state.radios), *((one, ("sample_at", "answered_at")) for one in state.servers)]:
         for name in names:

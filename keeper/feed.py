@@ -20,6 +20,7 @@ from keeper.words import sentence
 from keeper.steadied import Steadied, Unmoved
 
 PAUSES = (1, 60)  # the first and the longest pause before a source is started again, in seconds
+FIFO = 4  # the longest before a FIFO, which stays open, is read again: its next writer may be there already, in seconds
 LOOK = 0.1  # how often a file that grows is looked at, in seconds
 REPORT = 60.0  # bad lines are reported so often at most, in seconds
 
@@ -34,12 +35,13 @@ class Feed:
         if decoder:
             decoder.tell = lambda line: self.reception.take(line, time.time())
         self.lines = Lines()
-        self.steadied = Steadied() if radio.steady else Unmoved()
+        self.steadied: Steadied | Unmoved = Steadied() if radio.steady else Unmoved()
         self.recent: collections.deque[Pulse] = collections.deque()  # as they were handed on
         self.outlet: Outlet | None = None
         self.pause, self.due = PAUSES[0], 0.0
         self.pulse_at = 0.0
         self.looked = self.reported = 0.0
+        self.waited = -1e9  # when it was said last that its source is started again
         self.reported_bad = 0
         self.watched = -1
         self.shelter = Shelter(say)
@@ -70,6 +72,9 @@ class Feed:
         self._report(now)
         if self.outlet and self.outlet.pending:
             self.outlet.push()
+        if self.outlet and self.outlet.broken and "pipe" not in self.shelter.notes:
+            self.shelter.notes["pipe"] = f"radio {self.state.number}: the run takes none of its pulses any more"
+            self.say(self.shelter.notes["pipe"])
         if self.decoder:
             self.decoder.turn()
 
@@ -91,11 +96,14 @@ class Feed:
         self._unwatch()
         self.source.rest()
         again = "started" if self.radio.kind == "command" else "opened"
-        self.say(f"radio {self.state.number}: {why}; it is {again} again in {self.pause} s")
+        longest = FIFO if self.radio.kind == "fifo" else PAUSES[1]
+        if self.pause < longest or now - self.waited >= PAUSES[1]:
+            self.waited = now
+            self.say(f"radio {self.state.number}: {why}; it is {again} again in {self.pause} s")
         self.state.source = "waiting"
         self.state.restarts += 1
         self.due = now + self.pause
-        self.pause = min(self.pause * 2, PAUSES[1])
+        self.pause = min(self.pause * 2, longest)
 
     def _stall(self, now: float) -> None:
         """No pulse for long."""
@@ -152,6 +160,7 @@ class Feed:
     def give_to(self, outlet: Outlet) -> None:
         """From now on the server of this pipe gets the pulses: the last minutes first, then each as it comes."""
         self.outlet = outlet
+        self.shelter.notes.pop("pipe", None)
         now = time.monotonic_ns() // 1000
         outlet.give([pulse for pulse in self.recent if pulse.start >= now - OLDEST])
 

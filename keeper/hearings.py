@@ -8,11 +8,11 @@ SILENCE = 2.0  # a hearing without a datagram, in seconds
 
 
 class Hearings:
-    """`cycle` is a run's length in seconds; `count` are the hearings of the next run."""
+    """`cycle` is a run's length in seconds, `rate` what the busiest link received a second before; `count` are the hearings of the next run."""
 
-    def __init__(self, cycle: float) -> None:
+    def __init__(self, cycle: float, rate: float = 0.0) -> None:
         self.cycle = cycle
-        self.count = self._within(0.0)
+        self.count = self._within(max(0.0, rate))
 
     def _within(self, rate: float) -> int:
         # A cycle in which nobody asks has its silences, and the keeper asks in each of them.

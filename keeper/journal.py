@@ -52,8 +52,8 @@ def _take(feed: ServerState | LeapFileState | None, slots: dict[int, Slots], wor
 def expiry(path: str) -> float:
     """When a list of leap seconds expires by its own line `#@` (Unix s), 0.0 where it says nothing or can't be read."""
     try:
-        with open(path, "rb") as file:
-            for line in file.read(65536).split(b"\n"):
+        with open(path, "rb", opener=lambda name, how: os.open(name, how | os.O_NONBLOCK)) as file:  # a FIFO would be waited for
+            for line in (file.read(65536) or b"").split(b"\n"):
                 words = line.split()
                 if len(words) >= 2 and words[0] == b"#@" and words[1].isdigit() and len(words[1]) <= 10:
                     return float(int(words[1]) - EPOCH)

@@ -8,11 +8,13 @@ import time
 from collections.abc import Callable
 
 from keeper.pulse_log import day_of, drop_old
+from keeper.state import new_file
 
 NAME = re.compile(r"(\d{8})T\d{6}Z(?:-\d+)?\.(?:journal|own)(?:\.part)?")
 LINK = re.compile(rb"link (\d+) answered (\d+) dropped (\d+) again (\d+) kissed (\d+) unkept \d+ end (\w+)")
 STATUS = re.compile(rb"status \d+( .*)?")
-WAITING = 24  # journals that wait for room on the disk
+WAITING, ROOM = 24, 1 << 27  # journals that wait for room on the disk, and their bytes together
+MOST = 20_000  # files that are kept: a flood of requests makes thousands of runs a day
 
 
 def name_of(unix: float) -> str:
@@ -60,9 +62,8 @@ class Journals:
         name = self._free(name_of(began))
         counts = "".join(f"link {place} own {count}\n" for place, count in enumerate(own))
         self.waiting.append((name, text, counts))
-        for lost, _, _ in self.waiting[:-WAITING]:
-            self.say(f"the journal {lost} is given up: the disk takes nothing")
-        del self.waiting[:-WAITING]
+        while len(self.waiting) > WAITING or len(self.waiting) > 1 and sum(len(one) for _, one, _ in self.waiting) > ROOM:
+            self.say(f"the journal {self.waiting.pop(0)[0]} is given up: the disk takes nothing")
         self.try_again()
         return name + ".journal"
 
@@ -97,7 +98,7 @@ class Journals:
 
     def _drop_old(self) -> None:
         try:
-            drop_old(self.folder, NAME, day_of(time.time()), self.days)
+            drop_old(self.folder, NAME, day_of(time.time()), self.days, MOST)
         except OSError as error:
             self.say(f"an old journal can't be removed: {error.strerror}")
 
@@ -106,7 +107,7 @@ class Journals:
         part = path + ".part"
         try:
             os.makedirs(self.folder, exist_ok=True)
-            with open(part, "wb") as file:
+            with open(new_file(part), "wb") as file:
                 file.write(text)
                 file.flush()
                 os.fsync(file.fileno())

@@ -1,13 +1,14 @@
 """Keeps a station served: one run of the server after the other, until the end is asked for."""
 
-import fcntl
 import os
+import signal
 import time
 
-from keeper import config, faces
-from keeper.children import Guard
+from keeper import config, faces, lock
+from keeper.children import Guard, end_group
 from keeper.crew import Crew
 from keeper.loop import Loop, Signals
+from keeper.pacing import Pacing
 from keeper.runs import Run
 from keeper.say import say
 from keeper.server import Server
@@ -38,25 +39,16 @@ class Keeper:
         self.number = self.deaths = 0
         self.stopping = False
         self.status = DONE
+        self.crew.wakes = self._kill
 
     def begin(self) -> None:
-        self._lock(self.settings.folder)
+        self.lock = lock.take(self.settings.folder)
         faces.tidy(self.settings.folder)
         self.crew.use(self.settings)
         self.loop.every(RENEWED, lambda: self.crew.renew(self.run))
         self.loop.every(RENEWED, self.guard.look)
         self.loop.every(RENEWED, lambda: self.crew.try_journals())
-
-    def _lock(self, folder: str) -> None:
-        """Raises Fault where another keeper has this folder. The host gives the lock back when the keeper ends, however that is."""
-        os.makedirs(folder, exist_ok=True)
-        descriptor = os.open(folder, os.O_RDONLY | os.O_DIRECTORY | os.O_CLOEXEC)
-        try:
-            fcntl.flock(descriptor, fcntl.LOCK_EX | fcntl.LOCK_NB)
-        except BlockingIOError as error:
-            os.close(descriptor)
-            raise Fault(f"another keeper has {folder}") from error
-        self.lock = descriptor
+        self.crew.notify.ready()  # from here on it goes on by itself, whatever becomes of its runs
 
     def serve(self) -> int:
         """Runs, one after the other."""
@@ -126,7 +118,7 @@ class Keeper:
         self.crew.turn(most)
         if self.signals.ends() and not self.stopping:
             self.stopping = True
-            say("the end was asked for")
+            say("the end was asked for" if self.signals.asked() else "its terminal was closed")
 
     def _keep_run(self, run: Run) -> str:
         """Goes on until the run has to end; says why. The end of its process wakes the loop."""
@@ -157,22 +149,26 @@ class Keeper:
     def _why_end(self, run: Run, now: float) -> str:
         if self.stopping:
             return "stop"
-        if run.server.status() is not None:
-            return "died"
         if self.crew.slept:
             return "slept"
+        if run.server.status() is not None:
+            return "died"
         if run.watch.deaf():
             return "silent"
-        if self.crew.pacing and (self.crew.pacing.has_died() or self._misses_a_server(run)):
+        pacing = self.crew.pacing
+        if pacing and (pacing.has_died() or self._misses_a_server(pacing, run)):
             return "link"
+        if pacing and pacing.lost(time.time() - run.age(), time.time()) and self._may_change(run):
+            say("a server that answered doesn't any more; a new run begins without what it said")
+            return "cycle"
         if self.signals.take_reload() and self._reload():
             return "reload"
         return "cycle" if now - run.began >= self.settings.cycle and self._may_change(run) else ""
 
-    def _misses_a_server(self, run: Run) -> bool:
+    def _misses_a_server(self, pacing: Pacing, run: Run) -> bool:
         """Whether a server isn't asked any more, and a new run would have the time: what it said once is further off with each minute. A flood
         of datagrams at a poller brings that about too, so a run has its minute."""
-        return self.crew.pacing.is_quiet and run.age() >= MISSING and self._may_change(run)
+        return pacing.is_quiet and run.age() >= MISSING and self._may_change(run)
 
     def _may_change(self, run: Run) -> bool:
         """Whether no time is lost by a new run. After some minutes without reception it would not have the time that this one still has;
@@ -238,9 +234,14 @@ class Keeper:
 
     def _end_at_once(self, run: Run) -> None:
         """What it has printed until then is no whole journal."""
+        run.server.child.end(0)
         say(f"run {run.number} is ended at once: its journal is lost")
         self.status = NOT_WELL
-        run.server.child.end(0)
+
+    def _kill(self) -> None:
+        """The host slept: the run answers as late as the sleep was long, until it is ended."""
+        if self.run and not self.run.server.closed:
+            end_group(self.run.server.child.pid, signal.SIGKILL)
 
     def _meanwhile(self) -> bool:
         """What goes on while a run is drained; False where the end was asked for twice, or the host slept: it answers late then."""

@@ -47,7 +47,7 @@ class Lines:
         self.spilt = False  # the line that goes on is longer than a line may be
         self.last = -1
         self.starts: collections.deque[int] = collections.deque(maxlen=MOST)  # of the last pulses
-        self.history: int | None = None  # until when what is old isn't bad; None before the source's first bytes
+        self.history = -1  # until when what is old isn't bad; -1 before the source's first bytes
         self.bad = 0
         self.last_bad = ""
 
@@ -55,11 +55,11 @@ class Lines:
         """The source begins anew. Half a line that it left is bad."""
         if self.half or self.spilt:
             self._refuse(self.half, "it was cut off")
-        self.half, self.spilt, self.history = b"", False, None
+        self.half, self.spilt, self.history = b"", False, -1
 
     def take(self, piece: bytes, now: int) -> list[Pulse]:
         """The pulses that these bytes end, at this microsecond of the host's clock."""
-        if self.history is None:
+        if self.history < 0:
             self.history = now + HISTORY
         *lines, self.half = (self.half + piece).split(b"\n")
         pulses = []

@@ -22,6 +22,7 @@ class Loop:
         self.due: list[tuple[float, int, float, Call]] = []
         self.numbers = itertools.count()
         self.shelter = Shelter(say)
+        self.first: Call = lambda: None  # what is done before all else, since the host may have slept while we waited
 
     def reads(self, descriptor: int, call: Call) -> None:
         self.selector.register(descriptor, selectors.EVENT_READ, call)
@@ -40,7 +41,9 @@ class Loop:
     def turn(self, most: float) -> None:
         """One round: waits at most `most` seconds for something to do, and does it."""
         wait = max(0.0, min(most, self.due[0][0] - time.monotonic())) if self.due else most
-        for key, _ in self.selector.select(wait):
+        ready = self.selector.select(wait)
+        self.first()
+        for key, _ in ready:
             # A call before it may have taken this one out.
             if self.selector.get_map().get(key.fd) is key:
                 self.shelter.call("what was received", key.data)
@@ -57,25 +60,43 @@ class Loop:
         self.selector.close()
 
 
+def has_terminal() -> bool:
+    """Whether a terminal controls this process, and is still there."""
+    try:
+        os.close(os.open("/dev/tty", os.O_RDONLY | os.O_NOCTTY | os.O_NONBLOCK | os.O_CLOEXEC))
+    except OSError:
+        return False
+    return True
+
+
 class Signals:
     """Which signals came, counted; each one wakes the loop."""
 
     WATCHED = (signal.SIGTERM, signal.SIGINT, signal.SIGHUP)
 
     def __init__(self, loop: Loop) -> None:
-        self.came = {number: 0 for number in self.WATCHED}
+        # Whoever starts a keeper by `nohup` has it outlive its terminal.
+        self.terminal = has_terminal() and signal.getsignal(signal.SIGHUP) != signal.SIG_IGN
+        self.came: dict[int, int] = {number: 0 for number in self.WATCHED}
         self.woken, self.wakes = os.pipe2(os.O_NONBLOCK | os.O_CLOEXEC)
-        loop.reads(self.woken, lambda: os.read(self.woken, 4096))
+        loop.reads(self.woken, self._empty)
         signal.set_wakeup_fd(self.wakes, warn_on_full_buffer=False)
         for number in self.WATCHED:
             signal.signal(number, self._note)
 
+    def _empty(self) -> None:
+        os.read(self.woken, 4096)
+
     def _note(self, number: int, _frame: object) -> None:
         self.came[number] += 1
 
-    def ends(self) -> int:
+    def asked(self) -> int:
         """How often the end was asked for."""
         return self.came[signal.SIGTERM] + self.came[signal.SIGINT]
+
+    def ends(self) -> int:
+        """The same; a terminal that was closed asks for it too, and SIGHUP is no reload then."""
+        return self.asked() + (self.terminal and self.came[signal.SIGHUP] > 0 and not has_terminal())
 
     def take_reload(self) -> bool:
         """Whether SIGHUP came since the last call."""

@@ -1,5 +1,6 @@
 """The keeper's side of the relays: their process, kept alive, and where they are."""
 
+import contextlib
 import os
 import subprocess
 import sys
@@ -9,6 +10,7 @@ from keeper.children import Child, Guard
 from keeper.loop import Loop
 
 PAUSES = (1.0, 60.0)  # the first and the longest pause before relays that died are started again, in seconds
+LOST = 600.0  # a server that was silent for so long is lost, or one that was for four pauses, in seconds
 READY = 5.0  # within which the relays say where they are, in seconds
 
 
@@ -21,6 +23,7 @@ class Pacing:
         self.answered = [0.0] * len(servers)
         self.relays: list[tuple[str, int]] = []
         self.child: Child | None = None
+        self.into = self.out = -1  # its pipes
         self.half = b""
         self.runs, self.is_quiet = 0, False  # since the relays were started
         self.pause, self.due = PAUSES[0], 0.0
@@ -31,35 +34,35 @@ class Pacing:
         top = os.path.dirname(os.path.dirname(os.path.abspath(__file__)))
         words = [sys.executable, "-P", "-m", "keeper.relay", str(self.pace), *(f"{address}:{port}" for address, port in self.servers)]
         environment = {**os.environ, "PYTHONPATH": top, "PYTHONDONTWRITEBYTECODE": "1"}
-        self.child = Child(self.guard, words, stdin=subprocess.PIPE, stdout=subprocess.PIPE, env=environment, bufsize=0)
-        os.set_blocking(self.child.process.stdin.fileno(), False)
-        line = self._first_line()
+        child = self.child = Child(self.guard, words, stdin=subprocess.PIPE, stdout=subprocess.PIPE, env=environment, bufsize=0)
+        assert child.process.stdin and child.process.stdout
+        self.into, self.out = child.process.stdin.fileno(), child.process.stdout.fileno()
+        os.set_blocking(self.into, False)
+        os.set_blocking(self.out, False)
+        line = self._first_line(child)
         relays = [(one.rpartition(":")[0], int(one.rpartition(":")[2])) for one in line.split()[1:]]
         if len(relays) != len(self.servers):
             self.close()
             raise OSError(0, "the relays of the servers don't start")
         self.runs, self.is_quiet = 0, False
         self.relays = relays  # those before stand until then: without any a run would ask the servers themselves
-        out = self.child.process.stdout.fileno()
-        os.set_blocking(out, False)
-        self.loop.reads(out, self._receive)
+        self.loop.reads(self.out, self._receive)
 
-    def _first_line(self) -> str:
-        out = self.child.process.stdout
-        os.set_blocking(out.fileno(), False)
+    def _first_line(self, child: Child) -> str:
         line, end = b"", time.monotonic() + READY
-        while not line.endswith(b"\n") and time.monotonic() < end and self.child.status() is None:
-            line += out.read(1024) or b""
+        while not line.endswith(b"\n") and time.monotonic() < end and child.status() is None:
+            with contextlib.suppress(BlockingIOError):
+                line += os.read(self.out, 1024)
             time.sleep(0.005)
         return line.decode("ascii", "replace")
 
     def _receive(self) -> None:
         try:
-            piece = os.read(self.child.process.stdout.fileno(), 4096)
+            piece = os.read(self.out, 4096)
         except BlockingIOError:
             return
         if not piece:
-            self.loop.forget(self.child.process.stdout.fileno())
+            self.loop.forget(self.out)
             return
         *lines, self.half = (self.half + piece).split(b"\n")
         for line in lines:
@@ -72,7 +75,7 @@ class Pacing:
     def _say(self, word: bytes) -> None:
         try:
             if self.child:
-                os.write(self.child.process.stdin.fileno(), word + b"\n")
+                os.write(self.into, word + b"\n")
         except OSError:
             pass  # it has died: `has_died` says so
 
@@ -80,10 +83,14 @@ class Pacing:
         """The host's clock was set forward by this number of seconds."""
         self.answered = [at + step if at else at for at in self.answered]
 
-    def go(self) -> None:
-        """A run begins."""
+    def go(self, ports: list[int]) -> None:
+        """A run begins, which asks from these ports."""
         self.runs, self.is_quiet = self.runs + 1, False
-        self._say(b"go")
+        self._say(b" ".join([b"go", *(b"%d" % one for one in ports)]))
+
+    def lost(self, since: float, now: float) -> bool:
+        """Whether a server that answered since then (both in Unix s) hasn't for long: what it said grows older, and outvotes a radio."""
+        return any(since <= at < now - max(LOST, 4 * self.pace) for at in self.answered)
 
     def hold(self) -> None:
         """A run ends, or its counter isn't known yet."""
@@ -104,8 +111,9 @@ class Pacing:
 
     def close(self) -> None:
         if self.child:
-            self.loop.forget(self.child.process.stdout.fileno())
-            self.child.process.stdin.close()
-            self.child.process.stdout.close()
+            self.loop.forget(self.out)
+            for pipe in (self.child.process.stdin, self.child.process.stdout):
+                if pipe:
+                    pipe.close()
             self.child.end()
             self.child = None

@@ -6,14 +6,19 @@ import os
 import re
 import shutil
 import threading
-import time
 import zlib
 from collections.abc import Callable
 from typing import IO
 
+from keeper import clock
+from keeper.state import new_file
+
 NAME = re.compile(r"(\d+)-([a-z]+)\.(\d{8})\.([0-9a-f]{8})\.log(\.gz)?")
 PARTS = ".part"
 LINE = 64  # bytes: a line and the end of the one before are less
+TAIL = 65536  # bytes of a log's end in which what a loss of power left is looked for
+MOST = 1 << 25  # bytes of a log: ten days of a radio's marks, and a fifth of a day of the most noise that is taken
+TIDYING = threading.Lock()  # a radio that was changed by a reload has two logs for a while
 
 
 def boot_id() -> str:
@@ -23,8 +28,9 @@ def boot_id() -> str:
             boot = int(file.read().replace("-", "")[:8], 16)
     except OSError:
         boot = 0
-    asleep = time.clock_gettime(time.CLOCK_BOOTTIME) - time.monotonic()
-    return f"{(boot + round(asleep)) % 2**32:08x}"
+    while (asleep := clock.slept()) is None:
+        pass
+    return f"{(boot + round(asleep * 1000)) % 2**32:08x}"
 
 
 def day_of(unix: float) -> str:
@@ -32,17 +38,17 @@ def day_of(unix: float) -> str:
     return datetime.datetime.fromtimestamp(unix, datetime.timezone.utc).strftime("%Y%m%d")
 
 
-def _whole_end(path: str) -> int:
-    """Makes a log that was cut off in a line end with its last whole line; the start of that line, -1 where there is none."""
-    with open(path, "rb+") as file:
+def whole_end(path: str) -> bytes:
+    """Makes a log that was cut off in a line end with its last whole line: that line, nothing where there is none. A host that lost its power
+    leaves NULs in the place of what it hadn't written yet. Raises OSError."""
+    with open(path, "rb+", opener=lambda name, how: os.open(name, how | os.O_NOFOLLOW)) as file:
         size = file.seek(0, os.SEEK_END)
-        file.seek(max(0, size - 4096))
+        file.seek(max(0, size - TAIL))
         text = file.read()
-        end = text.rfind(b"\n") + 1
+        end = text.partition(b"\0")[0].rfind(b"\n") + 1
         if end != len(text):
             file.truncate(size - len(text) + end)
-        last = text[:end].split(b"\n")[-2:-1]
-        return int(last[0].split()[0]) if last and last[0].split() else -1
+        return b"".join(text[:end].split(b"\n")[-2:-1])
 
 
 class PulseLog:
@@ -82,6 +88,8 @@ class PulseLog:
             self._open()
             if start <= self.last:
                 return
+        if os.fstat(self.descriptor).st_size >= MOST:
+            raise ValueError(f"it has {MOST >> 20} MB of this day already, which is noise")
         wrote = os.write(self.descriptor, line)
         if wrote < len(line):
             # A full disk: half a line would spoil the log.
@@ -93,8 +101,9 @@ class PulseLog:
         os.makedirs(self.folder, exist_ok=True)
         path = self.path(self.day)
         if os.path.exists(path):
-            self.last = max(self.last, _whole_end(path))
-        self.descriptor = os.open(path, os.O_WRONLY | os.O_APPEND | os.O_CREAT | os.O_CLOEXEC, 0o640)
+            last = whole_end(path).split()
+            self.last = max(self.last, int(last[0]) if last else -1)
+        self.descriptor = os.open(path, os.O_WRONLY | os.O_APPEND | os.O_CREAT | os.O_NOFOLLOW | os.O_CLOEXEC, 0o640)
 
     def _turn_over(self, day: str) -> None:
         """Another day has begun: its log is opened with its first pulse, and the older ones are compressed beside."""
@@ -110,6 +119,10 @@ class PulseLog:
             self.say(f"the older logs of radio {self.number} stay as they are: {error}")
 
     def _tidy(self, today: str) -> None:
+        with TIDYING:
+            self._tidy_alone(today)
+
+    def _tidy_alone(self, today: str) -> None:
         try:
             there = [(name, NAME.fullmatch(name.removesuffix(PARTS))) for name in sorted(os.listdir(self.folder))]
         except OSError as error:
@@ -123,6 +136,8 @@ class PulseLog:
                 if name.endswith(PARTS) or found[3] < oldest:
                     os.unlink(path)
                 elif not found[5] and (found[3] != today or found[4] != self.boot):
+                    if found[4] != self.boot:
+                        whole_end(path)
                     compress(path)
             except OSError as error:
                 self.say(f"{path} can't be kept: {error.strerror or error}")
@@ -144,7 +159,7 @@ def compress(path: str) -> None:
     midnight, stays at its beginning. Raises OSError."""
     packed, part = path + ".gz", path + ".gz" + PARTS
     try:
-        with open(path, "rb") as file, open(part, "wb") as out:
+        with open(path, "rb") as file, open(new_file(part), "wb") as out:
             is_more = True
             if os.path.exists(packed):
                 with open(packed, "rb") as before:
@@ -168,7 +183,7 @@ def compress(path: str) -> None:
     os.unlink(path)
 
 
-def _last_line(file: IO[bytes]) -> bytes:
+def _last_line(file: IO[bytes] | gzip.GzipFile) -> bytes:
     """The last whole line of a log, read from where it stands."""
     tail = b""
     while piece := file.read(65536):
@@ -188,13 +203,14 @@ def oldest_kept(there: list[str], today: str, days: int) -> str:
     return later(min(today, later(newest, 1)), -days)
 
 
-def drop_old(folder: str, pattern: re.Pattern[str], today: str, days: int) -> None:
-    """Removes the files of a folder whose name has this form and whose first group, a day, is too old to be kept. Raises OSError."""
-    there = [(name, found[1]) for name, found in ((one, pattern.fullmatch(one)) for one in os.listdir(folder)) if found]
+def drop_old(folder: str, pattern: re.Pattern[str], today: str, days: int, most: int) -> None:
+    """Removes the files of a folder whose name has this form and whose first group, a day, is too old to be kept, and of the others the first
+    ones where there are more than `most`. Raises OSError."""
+    there = [(name, found[1]) for name, found in ((one, pattern.fullmatch(one)) for one in sorted(os.listdir(folder))) if found]
     oldest = oldest_kept([day for _, day in there], today, days)
     refused: OSError | None = None
-    for name, day in there:
-        if day < oldest:
+    for place, (name, day) in enumerate(there):
+        if day < oldest or place < len(there) - most:
             try:
                 os.unlink(os.path.join(folder, name))
             except OSError as error:

@@ -2,8 +2,8 @@
 
     python3 -m keeper.relay PACE ADDRESS:PORT...
 
-Its first line says where each server's relay is, `ports ADDRESS:PORT ..`. It reads a word a line: `hold` keeps requests back, `go` begins
-a run, whose first exchanges go through one after the other. `answered PLACE` is said of each answer that went back. `quiet PLACE RUN` is said
+Its first line says where each server's relay is, `ports ADDRESS:PORT ..`. It reads a line each: `hold` keeps requests back, `go PORT ..` begins
+a run, which asks from these ports alone, and whose first exchanges go through one after the other. `answered PLACE` is said of each answer that went back. `quiet PLACE RUN` is said
 once in a run, counted from 1, where no request comes any more: its polls are used up, or its link has failed. It ends with its input.
 """
 
@@ -19,6 +19,9 @@ WAIT = 1.9  # an answer that comes later finds its poll over, in seconds
 QUIET = 20.0  # a poller that asked nothing for so long doesn't ask any more: eight hearings of two seconds each end a round (s)
 LOOK = 1.0  # how often that is looked at, in seconds
 LONGEST_PACE = 1024.0  # where a server asks for a pause, in seconds
+REFUSED = 86400.0  # and where it doesn't serve us at all, in seconds
+PATIENT = 64  # after so many answers a server that asked for a pause is asked twice as often again
+REQUEST = 48  # bytes of the program's own requests
 OWN = "127.45.66."  # each relay has an address of its own, which the server gives as its reference ID
 
 
@@ -27,6 +30,10 @@ class Relay:
 
     def __init__(self, place: int, server: tuple[str, int], pace: float) -> None:
         self.place, self.server, self.pace = place, server, pace
+        self.least, self.good = pace, 0
+        self.credit, self.credited = 2.0 * BURST, 0.0  # how many exchanges the server still owes us, and when that was counted
+        self.ports: set[int] = set()  # from which a run asks; none where the host doesn't say
+        self.stamp = b""  # of the request under way, which its answer repeats
         self.near = socket.socket(socket.AF_INET, socket.SOCK_DGRAM)
         self.near.bind((f"{OWN}{place + 1}", 0))
         self.near.setblocking(False)
@@ -39,12 +46,15 @@ class Relay:
         self.holds = True
         self.asked, self.is_quiet = 0.0, False
 
-    def go(self, now: float) -> None:
-        """A run begins. What was held back of it goes on its way."""
-        self.holds, self.burst = False, BURST
+    def go(self, now: float, ports: set[int]) -> None:
+        """A run begins that asks from these ports. What was held back of it goes on its way. Runs that end early cost a server at most
+        twice its share in the long run, and one that asked for a pause gets no burst."""
+        self.credit = min(2.0 * BURST, self.credit + (now - self.credited) / self.pace)
+        self.credited, self.ports = now, ports
+        self.holds, self.burst = False, min(BURST, int(self.credit)) if self.pace == self.least else 0
         self.asked, self.is_quiet = now, False
         held, self.held = self.held, None
-        if held and now - held[2] < WAIT:
+        if held and now - held[2] < WAIT and (not ports or held[1][1] in ports):
             self.ask(held[0], held[1], now)
 
     def hold(self) -> None:
@@ -57,6 +67,8 @@ class Relay:
             datagram, who = self.near.recvfrom(1024)
         except OSError:
             return
+        if len(datagram) != REQUEST or datagram[0] & 7 != 3 or not self.holds and self.ports and who[1] not in self.ports:
+            return  # a stranger's
         self.asked = now
         if self.holds:
             self.held = (datagram, who, now)
@@ -68,7 +80,8 @@ class Relay:
         if self.burst == 0 and now < self.next:
             return
         self.burst = max(0, self.burst - 1)
-        self.next = now + self.pace
+        self.credit = max(0.0, min(2.0 * BURST, self.credit + (now - self.credited) / self.pace) - 1.0)
+        self.credited, self.next, self.stamp = now, now + self.pace, datagram[40:48]
         self.drop()
         try:
             self.far = socket.socket(socket.AF_INET, socket.SOCK_DGRAM)
@@ -82,6 +95,8 @@ class Relay:
 
     def answer(self, now: float) -> bool:
         """Whether an answer of the server went back."""
+        if self.far is None:
+            return False
         try:
             datagram = self.far.recv(1024)
             late = now - self.sent > WAIT
@@ -93,10 +108,23 @@ class Relay:
             self.drop()
             return False
         self.drop()
-        if len(datagram) >= 16 and datagram[1] == 0 and datagram[12:16] == b"RATE":
-            self.pace = min(LONGEST_PACE, self.pace * 2)
-            self.burst = 0
+        self.heed(datagram)
         return not late
+
+    def heed(self, datagram: bytes) -> None:
+        """A kiss code of the server's asks for a pause. One without the stamp of our request is a stranger's."""
+        if len(datagram) < REQUEST or datagram[24:32] != self.stamp:
+            return
+        word = datagram[12:16] if datagram[1] == 0 else b""
+        if word in (b"DENY", b"RSTR"):
+            self.pace, self.burst, self.good, self.next = REFUSED, 0, 0, self.credited + REFUSED
+        elif word == b"RATE":
+            self.pace, self.burst, self.good = min(LONGEST_PACE, self.pace * 2), 0, 0
+            self.next = self.credited + self.pace
+        elif self.pace > self.least:
+            self.good += 1
+            if self.good >= PATIENT:
+                self.pace, self.good = max(self.least, self.pace / 2), 0
 
     def falls_quiet(self, now: float) -> bool:
         """Whether no request comes any more, and this wasn't said in this run."""
@@ -122,25 +150,24 @@ class Relays:
     def ports(self) -> str:
         return " ".join("{}:{}".format(*relay.near.getsockname()) for relay in self.relays)
 
-    def command(self, word: bytes, now: float) -> None:
+    def command(self, line: bytes, now: float) -> None:
+        word, *ports = line.split() or [b""]
         self.runs += word == b"go"
         for relay in self.relays:
             if word == b"go":
-                relay.go(now)
+                relay.go(now, {int(one) for one in ports})
             elif word == b"hold":
                 relay.hold()
 
-    def words(self, piece: bytes) -> list[bytes]:
+    def whole_lines(self, piece: bytes) -> list[bytes]:
         *lines, self.half = (self.half + piece).split(b"\n")
         return lines
 
     def turn(self) -> bool:
         """Waits for something to do, and does it; False at the end of the input."""
-        waits = {0: None}
+        waits = [0]
         for relay in self.relays:
-            waits[relay.near.fileno()] = relay.request
-            if relay.far:
-                waits[relay.far.fileno()] = relay.answer
+            waits += [relay.near.fileno(), *([relay.far.fileno()] if relay.far else [])]
         with selectors.DefaultSelector() as selector:
             for descriptor in waits:
                 selector.register(descriptor, selectors.EVENT_READ)
@@ -150,8 +177,8 @@ class Relays:
             piece = os.read(0, 4096)
             if not piece:
                 return False
-            for word in self.words(piece):
-                self.command(word, now)
+            for line in self.whole_lines(piece):
+                self.command(line, now)
         for relay in self.relays:
             if relay.far and relay.far.fileno() in ready and relay.answer(now):
                 print(f"answered {relay.place}", flush=True)

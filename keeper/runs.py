@@ -13,6 +13,7 @@ from keeper.journals import status_of
 from keeper.loop import Loop
 from keeper.pacing import Pacing
 from keeper.server import Server
+from keeper.sockets import of_process
 from keeper.station import polls_for, text_for
 from keeper.watch import Watch
 from keeper.words import ended, with_port
@@ -62,7 +63,7 @@ class Run:
             return False
         if self.counter and not self._read_counter(self.counter):
             return False
-        self._give_pulses()
+        self._gives_pulses()
         self.watch.began = time.monotonic()
         return True
 
@@ -71,8 +72,8 @@ class Run:
         """Where its counter stands, as far as that is known."""
         return self.counter.reading() if self.counter else None
 
-    def _give_pulses(self) -> None:
-        """It gets the pulses, and its servers' answers, once its counter is known well enough: then the servers may give it the time, after
+    def _gives_pulses(self) -> bool:
+        """Whether it gets anything from now on. It gets the pulses, and its servers' answers, once its counter is known well enough: then the servers may give it the time, after
         which it says no more of its counter. Without a link there is nobody to be told a wrong time. Where its servers gave it the time
         before that, it goes without radios."""
         if self.counter is None or self.counter.is_known():
@@ -81,10 +82,11 @@ class Run:
                 outlet.lag = lag
                 feed.give_to(outlet)
         elif self.feeds and not self.counter.has_time():
-            return
+            return False
         self.is_given = True
         if self.pacing:
-            self.pacing.go()
+            self.pacing.go([one.port for one in of_process(self.server.child.pid) if one.port not in self.settings.links])
+        return True
 
     def learn(self, now: float) -> bool:
         """Goes on asking where its counter stands (`now` in monotonic s); whether it got the pulses just now."""
@@ -93,10 +95,10 @@ class Run:
         self.asked_counter = now
         for _ in range(2):  # one answer is waited for without sleeping, and the other isn't
             self.counter.step()
-        self._give_pulses()
-        if self.is_given:
+        given = self._gives_pulses()
+        if given:
             self.watch.began = time.monotonic()
-        return self.is_given
+        return given
 
     def about_counter(self) -> str:
         """What is known of where its counter stands, as a sentence."""

@@ -5,7 +5,7 @@ import stat
 import subprocess
 import time
 
-from keeper.children import Child, Guard
+from keeper.children import GRACE, Child, Guard
 from keeper.clock import AWAKE
 from keeper.words import ended
 
@@ -31,8 +31,10 @@ class Command:
         self.descriptor = -1
 
     def begin(self) -> None:
-        """Raises OSError."""
+        """Raises OSError. What it was asked to end by `rest` has had its time."""
+        self.end(0.0)
         self.child = Child(self.guard, ["/bin/sh", "-c", self.command], stdin=subprocess.DEVNULL, stdout=subprocess.PIPE, bufsize=0)
+        assert self.child.process.stdout is not None
         self.descriptor = self.child.process.stdout.fileno()
         os.set_blocking(self.descriptor, False)
 
@@ -42,20 +44,28 @@ class Command:
             piece = os.read(self.descriptor, MOST)
         except BlockingIOError:
             return b""
-        if not piece:
+        if not piece and self.child:
             self.child.wait(0.1)
             raise Ended(f"its command {ended(self.child.status())}")
         return piece
 
     def rest(self) -> None:
-        """It has ended or is silent: nothing of it is kept until it begins again."""
-        self.end()
+        """It has ended or is silent. It is asked to end, and has until it begins again: the loop doesn't wait for it."""
+        if self.child and self.descriptor >= 0:
+            self._close()
+            self.child.ask()
 
-    def end(self) -> None:
-        if self.child:
+    def _close(self) -> None:
+        if self.child and self.child.process.stdout:
             self.child.process.stdout.close()
-            self.child.end()
-            self.child, self.descriptor = None, -1
+        self.descriptor = -1
+
+    def end(self, grace: float = GRACE) -> None:
+        """It has this many seconds to end."""
+        self._close()
+        if self.child:
+            self.child.end(grace)
+            self.child = None
 
 
 class Fifo:

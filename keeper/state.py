@@ -102,13 +102,22 @@ def load(path: str) -> State:
         raise StateError(f"{path} is no state of a keeper: {error}") from error
 
 
+def new_file(path: str) -> int:
+    """A descriptor of a file that wasn't there: whoever may write in its folder could have put a link there. Raises OSError."""
+    try:
+        os.unlink(path)
+    except FileNotFoundError:
+        pass
+    return os.open(path, os.O_WRONLY | os.O_CREAT | os.O_EXCL | os.O_CLOEXEC, 0o644)
+
+
 def put(path: str, text: str) -> None:
     """Writes a text for others to read: whole, or not at all. Raises OSError and then leaves nothing."""
     part = f"{path}.{os.getpid()}.part"
     try:
-        with open(part, "w", encoding="utf-8", errors="backslashreplace") as file:
+        with open(new_file(part), "w", encoding="utf-8", errors="backslashreplace") as file:
             file.write(text)
-        os.chmod(part, 0o644)
+            os.fchmod(file.fileno(), 0o644)
         os.replace(part, path)
     except OSError:
         try:

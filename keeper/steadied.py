@@ -14,6 +14,7 @@ PLACE = os.path.join(os.path.dirname(os.path.dirname(os.path.abspath(__file__)))
 def steady() -> ModuleType:
     """feeders/steady.py, which stands beside this package in the sources and where it is installed. Raises OSError where it doesn't."""
     spec = importlib.util.spec_from_file_location("steady", PLACE)
+    assert spec and spec.loader  # its name ends with .py
     found = importlib.util.module_from_spec(spec)
     spec.loader.exec_module(found)
     return found

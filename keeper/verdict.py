@@ -7,6 +7,7 @@ from keeper.state import RadioState, State
 
 GONE = -1  # `keeper_pid` of a state whose keeper is no process any more, and hasn't said that it ends
 STALE = 60.0  # a state that is older was left by a keeper that has ended, in seconds
+LATE = 20.0  # a state that is older says that its keeper is held up, in seconds
 SILENT = 15.0  # a link that hasn't answered for so long is silent, in seconds
 NEW = 600.0  # a keeper so young may still wait for its first minutes, in seconds
 # Marks that are spread so far don't begin on the second: those of DCF77 that are inverted by 30 to 50 ms, hum and noise by more, in seconds.
@@ -40,6 +41,8 @@ def judge(state: State, now: float) -> list[tuple[Level, str]]:
     if not state.keeper_pid:
         return [(Level.CRITICAL, f"the keeper was stopped {span(now - state.written)} ago")]
     found = _links(state, now)
+    if now - state.written > LATE:
+        found.append((Level.WARNING, f"the keeper has written nothing for {span(now - state.written)}: the disk is full or hangs, or there is no free processor"))
     if state.run.lag_bound >= COARSE and any(one.leap != 3 for one in state.links):
         found.append((Level.WARNING, f"clients' time may be {state.run.lag_bound * 1e3:.1f} ms further off than the root dispersion says: the run's counter is known within that"))
     for radio in state.radios:
@@ -50,7 +53,7 @@ def judge(state: State, now: float) -> list[tuple[Level, str]]:
     leap = state.leap_file
     if leap is not None and leap.expires and leap.expires - now < EXPIRES:
         found.append((Level.WARNING, "the leap second file has expired" if leap.expires < now else f"the leap second file expires in {span(leap.expires - now)}"))
-    died = [one for one in state.alarms if one.event == "run-died" and now - one.at < DIED]
+    died = [one for one in state.alarms if one.event == "run-died" and max(now - DIED, state.keeper_since) < one.at <= now]
     found += [(Level.WARNING, f"{one.text}, {span(now - one.at)} ago") for one in died[-3:]]
     found += [(Level.WARNING, one) for one in state.notes]
     return sorted(found, key=lambda one: -one[0])

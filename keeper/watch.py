@@ -90,8 +90,8 @@ class Watch:
         self._forget(link)
         link.turns += 1  # each link has a table of clients of its own
         try:
-            link.client = open_client(link.port, self.addresses[link.turns % len(self.addresses)])
-            link.client.send(request(time.monotonic_ns()))
+            client = link.client = open_client(link.port, self.addresses[link.turns % len(self.addresses)])
+            client.send(request(time.monotonic_ns()))
         except OSError:
             # Nothing was sent: the host has no socket for us now, or its firewall drops what we send. The link may be well.
             link.due = now + LOOK
@@ -99,12 +99,12 @@ class Watch:
             return
         link.asked += 1
         link.waits = True
-        self.loop.reads(link.client.fileno(), lambda: self._receive(link))
+        self.loop.reads(client.fileno(), lambda: self._receive(link, client))
 
-    def _receive(self, link: Watched) -> None:
+    def _receive(self, link: Watched, client: socket.socket) -> None:
         now = time.monotonic()
         try:
-            said = answer(link.client.recv(1024))
+            said = answer(client.recv(1024))
         except BlockingIOError:
             return
         except OSError:

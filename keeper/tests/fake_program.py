@@ -29,7 +29,7 @@ class Page:
 
     def __init__(self, start: int) -> None:
         self.start = start
-        self.offset = None
+        self.offset: int | None = None
         self.minutes: list[str] = []
 
     def counter(self) -> int:

@@ -34,6 +34,7 @@ class Changes(Quiet):
         super().setUp()
         self.state = station()
         self.alarms = Alarms("", unheard=600.0)
+        self.enterContext(mock.patch("keeper.alarms.NEVER", 1e9))
 
     def at(self, now, leap=None, minute_at=None):
         if leap is not None:
@@ -74,7 +75,8 @@ class Changes(Quiet):
     def test_runs(self):
         for number, cause, due in ((1, "start", 0), (2, "cycle", 0), (3, "died", 1), (3, "died", 1), (4, "silent", 2), (5, "reload", 2), (6, "link", 3)):
             self.state.run = RunState(number=number, cause=cause, last_status="status 9 memory")
-            self.alarms.judge(self.state, 1100.0)
+            self.state.links = self.state.radios = []
+            self.alarms.judge(self.state, 1100.0 + 3600.0 * number)
             self.assertEqual(self.events(self.state), ["run-died"] * due)
         self.assertIn("status 9 memory", self.state.alarms[0].text)
 
@@ -82,9 +84,9 @@ class Changes(Quiet):
         self.at(1002, leap=0, minute_at=1002.0)
         for step in (3600.0, -3600.0):
             self.alarms.move(step)
-            facts.move(self.state, step)
+            facts.move(self.state, step, [])
         self.alarms.move(3600.0)
-        facts.move(self.state, 3600.0)
+        facts.move(self.state, 3600.0, [])
         self.assertEqual(self.at(1003 + 3600, leap=3), ["time-gained"])
         self.assertEqual(self.at(1010 + 3600, leap=0), ["time-gained"])
         self.assertEqual([one.at for one in self.state.alarms], [1002.0 + 3600])

@@ -1,7 +1,6 @@
 """Which delay follows from a radio's minutes, by made-up radios, programs and servers."""
 
 import contextlib
-import fcntl
 import io
 import os
 import random
@@ -14,7 +13,7 @@ import threading
 import time
 import unittest
 
-from keeper import calibrate
+from keeper import calibrate, lock
 from keeper.lateness import Minute, Minutes, result, sentences
 from keeper.pulse_log import boot_id, day_of
 from keeper.reference import HostClock, Server
@@ -209,9 +208,7 @@ class Whole(unittest.TestCase):
         self.write(f"state/logs/0-dcf.{day_of(time.time())}.{boot_id()}.log", "\n".join(self.marks()) + "\n")
         self.write("keeper.toml", 'station = "station.toml"\nprogram = "program"\n[[radio]]\ncommand = "exit 9"\n')
         # A keeper holds a lock on its folder.
-        keeper = os.open(os.path.join(self.folder, "state"), os.O_RDONLY)
-        self.addCleanup(os.close, keeper)
-        fcntl.flock(keeper, fcntl.LOCK_EX)
+        self.addCleanup(os.close, lock.take(os.path.join(self.folder, "state")))
         told, said = self.calibrate(4.0)
         self.assertEqual(told, 0, said)
 

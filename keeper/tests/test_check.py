@@ -1,7 +1,6 @@
 """`check` over made-up hosts, files and receivers."""
 
 import contextlib
-import fcntl
 import io
 import os
 import pathlib
@@ -12,7 +11,7 @@ import time
 import unittest
 from unittest.mock import Mock
 
-from keeper import check, config, hosts
+from keeper import check, config, hosts, lock
 from keeper.config import Radio
 from keeper.hosts import Level
 from keeper.marks import Look, look
@@ -55,11 +54,9 @@ class Running(Folder):
         os.mkdir(settings.folder)
         save(State(written=time.time()), os.path.join(settings.folder, "state.json"))
         self.assertFalse(check.keeper_runs(settings))
-        keeper = os.open(settings.folder, os.O_RDONLY)
-        self.addCleanup(os.close, keeper)
-        fcntl.flock(keeper, fcntl.LOCK_EX)
+        keeper = lock.take(settings.folder)
         self.assertTrue(check.keeper_runs(settings))
-        fcntl.flock(keeper, fcntl.LOCK_UN)
+        os.close(keeper)
         self.assertFalse(check.keeper_runs(settings))
 
 

@@ -33,10 +33,15 @@ class Steps(unittest.TestCase):
 class Moments(unittest.TestCase):
     def test_ages_stay(self):
         state = State(keeper_since=1000.0, links=[LinkState(port=123)], radios=[RadioState(pulse_at=1500.0)], servers=[ServerState(sample_at=1400.0)])
-        state.run.since, state.alarms = 1200.0, [Alarm("time-gained", 900.0, "of a keeper before"), Alarm("time-gained", 1001.0, "x")]
-        facts.move(state, 3600.0)
+        before = Alarm("time-gained", 900.0, "of a keeper before")
+        state.run.since, state.alarms = 1200.0, [before, Alarm("time-gained", 1001.0, "x")]
+        facts.move(state, 3600.0, [before])
         self.assertEqual((state.keeper_since, state.run.since, state.radios[0].pulse_at, state.servers[0].sample_at), (4600.0, 4800.0, 5100.0, 5000.0))
         self.assertEqual([one.at for one in state.alarms], [900.0, 4601.0])
+        # To and fro: the alarm of the keeper before stays where it was, also where this keeper's beginning lies before it meanwhile.
+        for step in (-5000.0, 1400.0):
+            facts.move(state, step, [before])
+        self.assertEqual([one.at for one in state.alarms], [900.0, 1001.0])
         # What has never come has no moment.
         self.assertEqual((state.radios[0].minute_at, state.servers[0].answered_at), (0.0, 0.0))
 

@@ -9,6 +9,7 @@ import threading
 import time
 import types
 import unittest
+from typing import Any
 from unittest import mock
 
 from keeper import counter, ntp
@@ -74,12 +75,13 @@ class Runs(unittest.TestCase):
         self.addCleanup(os.close, self.taken)
         self.pacing = mock.Mock(relays=[])
         child = types.SimpleNamespace(pid=0, wait=lambda seconds: False)
-        server = types.SimpleNamespace(
+        server: Any = types.SimpleNamespace(
             names=["/dev/fd/5"], start=0, outlets=[Outlet(given)], give_station=lambda text: None, child=child, status=lambda: None, close_feeds=lambda: None
         )
         self.addCleanup(server.outlets[0].close)
-        settings = types.SimpleNamespace(text={}, cycle=3600, pace=16, links=[link.port], gap=0.0, leap_file=None)
-        run = Run(settings, loop, server, [Feed()] * feeds, self.pacing, ["127.0.0.1"], 1, "start")
+        settings: Any = types.SimpleNamespace(text={}, cycle=3600, pace=16, links=[link.port], gap=0.0, leap_file=None)
+        radios: Any = [Feed()] * feeds
+        run = Run(settings, loop, server, radios, self.pacing, ["127.0.0.1"], 1, "start")
         self.addCleanup(run.leave)
         return run
 
@@ -128,9 +130,11 @@ class Runs(unittest.TestCase):
         link = LateLink(self, 0.0)
         for bound, due in ((2_000.0, b"4999995500 100000\n"), (2_000.1, b"")):
             run = self.run_of(link)
+            run.watch.began = 0.0
             with mock.patch.object(run, "_read_counter", return_value=True), mock.patch.object(run.counter, "reading", return_value=Reading(4_500.0, bound)):
                 self.assertTrue(run.begin())
                 self.assertEqual((self.given(), run.is_given, run.lacks_radios()), (due, bool(due), not due))
+            self.assertGreater(run.watch.began, 0.0, "the second of hurried asking runs from here on")
 
     def test_servers_that_gave_it_the_time_first(self):
         """From then on it says nothing of its counter, so its radios are left out."""

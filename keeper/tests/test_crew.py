@@ -35,7 +35,7 @@ class Crews(unittest.TestCase):
         self.addCleanup(self.guard.close)
         self.addCleanup(self.loop.close)
         self.crew = Crew(self.loop, self.guard)
-        self.addCleanup(lambda: self.crew.close() if self.crew.settings else None)
+        self.addCleanup(self.crew.close)
 
     def settings(self, radios: str = FIRST + SECOND, top: str = ""):
         (self.folder / "keeper.toml").write_text(f'station = "station.toml"\nprogram = "{FAKE}"\n{top}{radios}')

@@ -31,7 +31,8 @@ class Sentences(unittest.TestCase):
         self.says(Level.CRITICAL, "no keeper runs: its state is of 61 s after the host's clock", written=NOW + 61)
         self.says(Level.CRITICAL, "the keeper was stopped 5 s ago", written=NOW - 5, keeper_pid=0)
         self.says(Level.CRITICAL, "port 123 doesn't answer", link__answered_at=NOW - 16)
-        self.says(Level.OK, "time from DCF", link__answered_at=NOW - 45, written=NOW - 30)
+        self.says(Level.OK, "time from DCF", link__answered_at=NOW - 35, written=NOW - 20)
+        self.says(Level.WARNING, "the keeper has written nothing for 30 s: the disk is full or hangs", link__answered_at=NOW - 45, written=NOW - 30)
         self.says(Level.CRITICAL, "port 123 doesn't answer", link__answered_at=NOW - 46, written=NOW - 30)
         self.says(Level.CRITICAL, "no keeper runs: it ended within the last 3 s without a word", written=NOW - 3, keeper_pid=GONE)
         hangs = {"link__asked_at": NOW - 25, "link__answered_at": NOW - 25}

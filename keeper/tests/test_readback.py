@@ -21,7 +21,7 @@ class ReadBack(unittest.TestCase):
 
     def put(self, unix: float, lines: list[str], end: str = "\n", packed: bool = False) -> str:
         path = self.log.path(day_of(unix)) + (".gz" if packed else "")
-        with (gzip.open if packed else open)(path, "wb") as file:
+        with gzip.open(path, "wb") if packed else open(path, "wb") as file:
             file.write(("\n".join(lines) + end).encode())
         return path
 

@@ -220,7 +220,7 @@ class Files(Made):
         self.assertEqual(sorted(os.listdir(self.folder)), [f"0-dcf.{day}.b0070000.log{end}" for day, end in (("19700101", ".gz"), ("19700102", ".gz"), ("19700103", ""))])
 
     def test_a_text_that_can_not_be_put_leaves_nothing(self):
-        for refused in ("os.replace", "os.chmod"):
+        for refused in ("os.replace", "os.fchmod"):
             with mock.patch(f"keeper.state.{refused}", mock.Mock(side_effect=FULL)), self.assertRaises(OSError):
                 put(str(self.folder / "state.json"), "x")
             self.assertEqual(os.listdir(self.folder), [])
@@ -286,7 +286,7 @@ class Ports(unittest.TestCase):
         # A broadcast address: the host refuses it to a socket that hasn't asked for that right.
         relay = Relay(0, ("255.255.255.255", 9), 64)
         self.addCleanup(relay.near.close)
-        relay.go(1.0)
+        relay.go(1.0, set())
         with socket.socket(socket.AF_INET, socket.SOCK_DGRAM) as poller:
             relay.ask(b"x" * 48, poller.getsockname(), 1.0)
         self.assertIsNone(relay.far)
@@ -297,7 +297,7 @@ class Ports(unittest.TestCase):
             closed = other.getsockname()
         relay = Relay(0, closed, 64)
         self.addCleanup(relay.near.close)
-        relay.go(1.0)
+        relay.go(1.0, set())
         relay.ask(b"x" * 48, ("127.0.0.1", 9), 1.0)
         self.assertFalse(relay.answer(1.1))
         self.assertIsNone(relay.far)

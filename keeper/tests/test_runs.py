@@ -76,9 +76,9 @@ class Endings(unittest.TestCase):
     def test_a_server_that_is_not_asked_any_more(self):
         """Its last sample is further off with each minute. A run has its minute, and another one has to have the time."""
         for is_quiet, age, waits, due in ((True, 60.0, True, True), (True, 59.0, True, False), (True, 60.0, False, False), (False, 60.0, True, False)):
-            keeper, run = mock.Mock(), mock.Mock()
-            keeper.crew.pacing.is_quiet, keeper._may_change.return_value, run.age.return_value = is_quiet, waits, age
-            self.assertEqual(Keeper._misses_a_server(keeper, run), due)
+            keeper, pacing, run = mock.Mock(), mock.Mock(), mock.Mock()
+            pacing.is_quiet, keeper._may_change.return_value, run.age.return_value = is_quiet, waits, age
+            self.assertEqual(Keeper._misses_a_server(keeper, pacing, run), due)
 
     def test_a_host_that_sleeps_while_a_run_is_drained(self):
         for slept, ends, due in ((False, 0, True), (False, 1, True), (False, 2, False), (True, 0, False)):

@@ -1,0 +1,58 @@
+"""One keeper for a state folder: a lock on a file in it that nobody else may open, so that nobody else can hold it."""
+
+import errno
+import fcntl
+import os
+import time
+
+from keeper.words import Fault
+
+NAME = "keeper.lock"
+TRIES, PAUSE = 10, 0.1  # `check` looks at it for an instant, in seconds
+
+
+def take(folder: str) -> int:
+    """The lock's descriptor. The host gives it back when the keeper ends, however that is. Raises Fault where another keeper has it, and OSError."""
+    os.makedirs(folder, exist_ok=True)
+    try:
+        descriptor = os.open(os.path.join(folder, NAME), os.O_RDWR | os.O_CREAT | os.O_NOFOLLOW | os.O_CLOEXEC, 0o600)
+    except OSError as error:
+        if error.errno not in (errno.ENOSPC, errno.EDQUOT, errno.EROFS):
+            raise
+        descriptor = os.open(folder, os.O_RDONLY | os.O_DIRECTORY | os.O_CLOEXEC)  # on a disk that takes nothing clients are served all the same
+    for _ in range(TRIES):
+        try:
+            fcntl.flock(descriptor, fcntl.LOCK_EX | fcntl.LOCK_NB)
+            return descriptor
+        except BlockingIOError:
+            time.sleep(PAUSE)
+    os.close(descriptor)
+    raise Fault(f"another keeper has {folder}")
+
+
+def is_taken(folder: str) -> bool:
+    """Whether a keeper has this folder."""
+    path = os.path.join(folder, NAME)
+    try:
+        descriptor = os.open(path, os.O_RDONLY | os.O_NOFOLLOW | os.O_CLOEXEC)
+    except PermissionError:
+        return _is_listed(path)
+    except OSError:
+        return False
+    try:
+        fcntl.flock(descriptor, fcntl.LOCK_SH | fcntl.LOCK_NB)
+    except BlockingIOError:
+        return True
+    finally:
+        os.close(descriptor)
+    return False
+
+
+def _is_listed(path: str) -> bool:
+    """What the host's list of locks says of a file that we may not open."""
+    try:
+        inode = str(os.stat(path).st_ino)
+        with open("/proc/locks", encoding="ascii") as file:
+            return any(words[1:2] == ["FLOCK"] and words[5].rpartition(":")[2] == inode for words in map(str.split, file) if len(words) > 5)
+    except OSError:
+        return False
