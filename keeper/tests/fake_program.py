@@ -1,7 +1,7 @@
 #!/usr/bin/env python3
 """Stands in for the program where a test needs one that can be had at once: `serve`, `decode` and `replay` as far as the keeper sees them.
 
-Its time is that of the host, taken at the start of a pulse; it has one when a feed has heard 240 pulses. It proves nothing of the real
+Its time is that of the host, taken to a tenth of a second at the start of a pulse; it has one when a feed has heard 240 pulses. It proves nothing of the real
 program: checks/keeper.sh runs that. FAKE_FAULT makes `replay` refuse the station; FAKE_REFUSES makes `decode` refuse each
 minute; FAKE_REST is how long it rests before it opens links, and FAKE_DIES
 how long after it has opened them it dies, in s.
@@ -37,8 +37,8 @@ class Page:
 
     def pulse(self, feed: int, count: int, at: int) -> None:
         if count >= ENOUGH:
-            second = round(time.time() - (self.counter() - at) / 1e6)
-            self.offset = second * 1_000_000 - at
+            tenth = round(10 * (time.time() - (self.counter() - at) / 1e6))
+            self.offset = tenth * 100_000 - at
         if count % 60 == 0:
             self.minutes.append(f"{feed} {at} verdict {at // 1_000_000} 0")
 

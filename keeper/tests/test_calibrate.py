@@ -12,6 +12,7 @@ import tempfile
 import threading
 import time
 import unittest
+from unittest import mock
 
 from keeper import calibrate, lock
 from keeper.lateness import Minute, Minutes, result, sentences
@@ -166,6 +167,9 @@ class Whole(unittest.TestCase):
         self.addCleanup(folder.cleanup)
         self.folder = folder.name
         self.said = io.StringIO()
+        # The marks of the last minutes lie in the counter's past also where the host was started a moment ago.
+        for name, ahead in (("monotonic", 3600.0), ("monotonic_ns", 3_600_000_000_000)):
+            self.enterContext(mock.patch(f"time.{name}", lambda real=getattr(time, name), ahead=ahead: real() + ahead))
         self.shift = time.time() - time.monotonic()
         self.write("station.toml", '[[radio]]\nplan = "dcf"\nlog = "x"\ndelay = 1400\n')
         program = self.write("program", PROGRAM.format(python=os.path.realpath("/proc/self/exe"), shift=self.shift, late=self.LATE))

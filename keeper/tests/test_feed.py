@@ -7,6 +7,7 @@ import subprocess
 import tempfile
 import time
 import unittest
+from unittest import mock
 
 from keeper.children import Guard
 from keeper.config import Radio
@@ -30,6 +31,9 @@ class Made(unittest.TestCase):
         self.loop = Loop()
         self.addCleanup(self.loop.close)
         self.said = []
+        # Starts of the last minutes lie in the counter's past also where the host was started a moment ago.
+        later, self.counter = time.monotonic_ns, lambda: later() + 3_600_000_000_000
+        self.enterContext(mock.patch("time.monotonic_ns", self.counter))
 
     def feed(self, command, stall=60.0, steady=False):
         state = RadioState(plan="dcf", steady=steady)

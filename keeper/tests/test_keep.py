@@ -16,13 +16,13 @@ from keeper import ntp, state
 
 TOP = pathlib.Path(__file__).parent.parent.parent
 FAKE = pathlib.Path(__file__).with_name("fake_program.py")
-# Five minutes of a mark a second at once, and then one each second.
+# Thirty seconds of ten marks a second at once, which a host that is up for a minute has had, and then one each second.
 SOURCE = """exec {python} -c 'import time
 now = time.monotonic_ns() // 1000
 off = round(time.time() * 1e6) - now
-first = (now + off) // 1000000 - 300
-for second in range(first, first + 400):
-    at = second * 1000000 - off
+first = (now + off) // 1000000 * 10
+for tenth in [*range(first - 300, first), *range(first, first + 1000, 10)]:
+    at = tenth * 100000 - off
     time.sleep(max(0, (at - time.monotonic_ns() // 1000) / 1e6 + 0.001))
     print(at, 100000, flush=True)'"""
 WAIT = 25.0  # for what comes, on a busy machine, in seconds

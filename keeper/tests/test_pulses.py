@@ -177,6 +177,12 @@ class Sources(Made):
 class Tails(Made):
     """What a file that grows had before the keeper opened it: lines of this boot's counter count, others give a wrong time."""
 
+    def setUp(self):
+        super().setUp()
+        # Starts of the last minutes lie in the counter's past also where the host was started a moment ago.
+        real = time.monotonic
+        self.enterContext(mock.patch("time.monotonic", lambda: real() + 3600.0))
+
     def growing(self, starts: list[float], ago: float) -> Growing:
         """A file with a mark at each of these seconds from now on, which was written to so long ago, in seconds."""
         path = self.folder / "log"
@@ -212,7 +218,7 @@ class Tails(Made):
 
     def test_a_host_that_slept(self):
         """Nothing says which lines are of before that."""
-        with mock.patch("keeper.source.AWAKE", -1.0):
+        with mock.patch("keeper.source.AWAKE", -3601.0):
             self.assertEqual(self.growing(list(range(-300, 0)), 0).read(), b"")
 
     def test_a_file_without_a_line(self):
