@@ -45,15 +45,13 @@ add rule inet radio out meta skuid root udp dport 123 limit rate over 100000/sec
 INSIDE = "RELAY_NETWORK"  # in the environment: this is the network of its own
 
 
-def exchange(to: tuple[str, int]) -> tuple[float, float]:
+def exchange(client: socket.socket, to: tuple[str, int]) -> tuple[float, float]:
     """Delay and offset of an exchange, in microseconds; the server's clock is ours, so the offset is an error. It waits as the program
     does, in a call that is woken."""
-    with socket.socket(socket.AF_INET, socket.SOCK_DGRAM) as client:
-        client.settimeout(2)
-        left = time.monotonic_ns()
-        client.sendto(bytes(40) + struct.pack(">Q", left), to)
-        answer = client.recv(100)
-        came = time.monotonic_ns()
+    left = time.monotonic_ns()
+    client.sendto(b"\x23" + bytes(39) + struct.pack(">Q", left), to)
+    answer = client.recv(100)
+    came = time.monotonic_ns()
     receive, transmit = struct.unpack(">QQ", answer[32:48])
     return (came - left - (transmit - receive)) / 1e3, (receive + transmit - left - came) / 2e3
 
@@ -83,9 +81,12 @@ def main() -> None:
     servers = [server(0)]
     if has_rule:
         servers.append(server(123))
+    client = socket.socket(socket.AF_INET, socket.SOCK_DGRAM)
+    client.bind(("127.0.0.1", 0))
+    client.settimeout(2)
     guard, loop = Guard(), Loop()
     pacing = Pacing(guard, loop, 0, [("127.0.0.1", servers[0][1])])
-    pacing.go()
+    pacing.go([client.getsockname()[1]])
     ways = {"directly": ("127.0.0.1", servers[0][1]), "through a relay": pacing.relays[0]}
     if has_rule:
         ways["past a rule of the firewall"] = ("127.0.0.1", 123)
@@ -93,7 +94,7 @@ def main() -> None:
     for _ in range(count):
         for how, to in ways.items():
             time.sleep(PAUSE)
-            found[how].append(exchange(to))
+            found[how].append(exchange(client, to))
     for how, all_of in found.items():
         delays, offsets = zip(*all_of)
         spread = statistics.quantiles(offsets, n=20)

@@ -37,7 +37,9 @@ def browse(html: str, width: int, height: int, *words: str) -> bytes:
 def fits(width: int, state: State, now: float) -> tuple[bool, bool]:
     """Whether the page is no wider than the window, and whether it says that it is old."""
     told = browse(page.render(state, now).replace("</body>", ASKS + "</body>"), width, 900, "--dump-dom")
-    inner, needed, old = re.search(rb"<title>(\d+)\|(\d+)\|([a-z ]*)</title>", told).groups()
+    seen = re.search(rb"<title>(\d+)\|(\d+)\|([a-z ]*)</title>", told)
+    assert seen, "the page didn't measure itself"
+    inner, needed, old = seen.groups()
     return int(needed) <= int(inner), b"shown" in old
 
 
