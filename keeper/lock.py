@@ -1,4 +1,4 @@
-"""One keeper for a state folder: a lock on a file in it that nobody else may open, so that nobody else can hold it."""
+"""One keeper for a state folder: a lock on a file in it that nobody else may open, or hold."""
 
 import errno
 import fcntl
@@ -12,14 +12,17 @@ TRIES, PAUSE = 10, 0.1  # `check` looks at it for an instant, in seconds
 
 
 def take(folder: str) -> int:
-    """The lock's descriptor. The host gives it back when the keeper ends, however that is. Raises Fault where another keeper has it, and OSError."""
+    """The lock's descriptor. The host gives it back when the keeper ends, however that is. Raises
+    Fault where another keeper has it, and OSError."""
     os.makedirs(folder, exist_ok=True)
+    path, how = os.path.join(folder, NAME), os.O_RDWR | os.O_CREAT | os.O_NOFOLLOW | os.O_CLOEXEC
     try:
-        descriptor = os.open(os.path.join(folder, NAME), os.O_RDWR | os.O_CREAT | os.O_NOFOLLOW | os.O_CLOEXEC, 0o600)
+        descriptor = os.open(path, how, 0o600)
     except OSError as error:
         if error.errno not in (errno.ENOSPC, errno.EDQUOT, errno.EROFS):
             raise
-        descriptor = os.open(folder, os.O_RDONLY | os.O_DIRECTORY | os.O_CLOEXEC)  # on a disk that takes nothing clients are served all the same
+        # On a disk that takes nothing clients are served all the same.
+        descriptor = os.open(folder, os.O_RDONLY | os.O_DIRECTORY | os.O_CLOEXEC)
     for _ in range(TRIES):
         try:
             fcntl.flock(descriptor, fcntl.LOCK_EX | fcntl.LOCK_NB)
@@ -53,6 +56,7 @@ def _is_listed(path: str) -> bool:
     try:
         inode = str(os.stat(path).st_ino)
         with open("/proc/locks", encoding="ascii") as file:
-            return any(words[1:2] == ["FLOCK"] and words[5].rpartition(":")[2] == inode for words in map(str.split, file) if len(words) > 5)
+            locks = [words for words in map(str.split, file) if len(words) > 5]
+        return any(one[1] == "FLOCK" and one[5].rpartition(":")[2] == inode for one in locks)
     except OSError:
         return False

@@ -1,4 +1,4 @@
-"""Keeps what goes on beside the service from ending it: whatever is raised there is said, and the rest goes on."""
+"""Keeps what goes on beside the service from ending it: what is raised there is said."""
 
 import time
 from collections.abc import Callable
