@@ -184,13 +184,14 @@ class Standing(test_keep.Kept):
     def test_runs_follow_one_another_where_the_server_that_stands_by_is_killed(self):
         """And where its receiver's command closes its output and goes on."""
         self.keep("cycle = 3\n", station='[[radio]]\nplan = "msf"\nlog = "x"\n', radios='[[radio]]\ncommand = "exec >&-; exec sleep 60"\n')
-        self.waits("run 1 has the time")
+        self.waits("has the time")
         end = time.monotonic() + 20
         while not (others := [one for one in self.servers() if one != self.pid()]) and time.monotonic() < end:
             time.sleep(0.05)
         os.kill(others[0], signal.SIGKILL)
-        self.waits("run 2 (cycle) serves")
-        self.waits("run 2 has the time")
+        self.waits("the server that stands by was ended by signal 9")
+        self.waits("(cycle) serves", times=self.text().count("(cycle) serves") + 1)
+        self.waits("has the time", times=self.text().count("has the time") + 1)
         self.ask()
         self.assertIn("the server that stands by was ended by signal 9; another one is started\n", self.text())
         self.assertIn("radio 1: its command closed its output and goes on; it is started again in 1 s\n", self.text())
