@@ -85,7 +85,7 @@ def main() -> None:
     client.bind(("127.0.0.1", 0))
     client.settimeout(2)
     guard, loop = Guard(), Loop()
-    pacing = Pacing(guard, loop, 0, [("127.0.0.1", servers[0][1])])
+    pacing = Pacing(guard, loop, 1e-4, [("127.0.0.1", servers[0][1])])
     pacing.go([client.getsockname()[1]])
     ways = {"directly": ("127.0.0.1", servers[0][1]), "through a relay": pacing.relays[0]}
     if has_rule:
