@@ -2,6 +2,10 @@
 -- and `send_to`: https://doc.rust-lang.org/std/net/struct.UdpSocket.html
 use Rattle.std.specs.Prelude.{◌≡◌, ◌==◌, ◌<◌, ◌⊎◌, ℕ, max, min, ◌+◌, ◌-◌, ◌^◌, Bool, true, false, IsTrue, Option, None, Some, is_none, MatchOption, Result, MatchResult, List, [], ◌∷◌, ◌++◌, length, take, if◌then◌else◌}
 use Rattle.std.specs.List.{list_all}
+use Rattle.std.specs.IoError.{error_kind}
+use Rattle.std.specs.declared.io.ErrorKind.{ErrorKind}
+use Rattle.std.specs.declared.io.ErrorKind.TheVariants.{ConnectionRefused, ConnectionReset, HostUnreachable, InvalidInput, Interrupted, NetworkDown, NetworkUnreachable, PermissionDenied}
+use Rattle.std.specs.declared.io.Error.{Error}
 use Rattle.std.specs.Net.Addr.{ipv4_bits, IsIpv4OfBits}
 use Rattle.std.specs.Net.Socket.{v4_ip, v4_port, socket_ip, socket_port}
 use Rattle.std.specs.declared.net.ipv4_addr.Ipv4Addr.{Ipv4Addr}
@@ -13,12 +17,30 @@ use Rattle.feed_link.specs.declared.outside.Address.{Address}
 use Rattle.feed_link.specs.declared.link.Hearing.{Hearing}
 use Rattle.feed_link.specs.declared.link.Hearing.TheVariants.{Datagram, Quiet, End}
 
--- what one call of a socket did: it gave a datagram with its sender, or none; it took these bytes for a receiver, or none
+-- The host has no way for a datagram, or may not send it there: no route, a network that is down, a firewall, an address to which
+-- nothing is sent. The datagram is then lost, as any may be.
+abbrev pub is_lost : ErrorKind → Bool
+is_lost HostUnreachable = true
+is_lost NetworkUnreachable = true
+is_lost NetworkDown = true
+is_lost PermissionDenied = true
+is_lost InvalidInput = true
+is_lost _ = false
+
+-- The host was interrupted, or speaks of an earlier datagram: the one in hand is sent again.
+abbrev pub is_sent_again : ErrorKind → Bool
+is_sent_again Interrupted = true
+is_sent_again ConnectionRefused = true
+is_sent_again ConnectionReset = true
+is_sent_again _ = false
+
+-- what one call of a socket did: it gave a datagram with its sender, or none; it took these bytes for a receiver, or none, for an
+-- error of this kind
 pub data Passed : Type 0 where
   Gave : SocketAddr → List ℕ → Passed
   GaveNone : Passed
   Took : SocketAddr → List ℕ → Passed
-  TookNone : SocketAddr → Passed
+  TookNone : SocketAddr → ErrorKind → Passed
 
 -- a call to receive
 abbrev pub Receives : {E : Type 0} → Option (List Passed) → Option (List Passed) → Result (ℕ × SocketAddr) E → List ℕ → Type 0
@@ -27,10 +49,10 @@ Receives before now result piece = MatchResult result
     (λ _. Adds before now (GaveNone ∷ []))
 
 -- a call to transmit
-abbrev pub Transmits : {E : Type 0} → Option (List Passed) → Option (List Passed) → Result ℕ E → SocketAddr → List ℕ → Type 0
+abbrev pub Transmits : Option (List Passed) → Option (List Passed) → Result ℕ Error → SocketAddr → List ℕ → Type 0
 Transmits before now result to bytes = MatchResult result
     (λ n. Adds before now (Took to (take n bytes) ∷ []))
-    (λ _. Adds before now (TookNone to ∷ []))
+    (λ e. Adds before now (TookNone to (error_kind e) ∷ []))
 
 -- the sender, where it can be answered: it has an IPv4 address and a port
 abbrev pub address_of : SocketAddr → Option Address
@@ -49,14 +71,14 @@ abbrev pub is_passed_over : Passed → Bool
 is_passed_over (Gave from bytes) = is_none (address_of from)
 is_passed_over GaveNone = true
 is_passed_over (Took to bytes) = false
-is_passed_over (TookNone to) = false
+is_passed_over (TookNone to kind) = false
 
--- a call that took nothing
+-- a call that took nothing, after which the datagram is sent again
 abbrev pub is_in_vain : Passed → Bool
 is_in_vain (Gave from bytes) = false
 is_in_vain GaveNone = false
 is_in_vain (Took to bytes) = false
-is_in_vain (TookNone to) = true
+is_in_vain (TookNone to kind) = is_sent_again kind
 
 -- a number of calls that all pass the test
 pub record Repeats (test : Passed → Bool) (before now : Option (List Passed)) : Type 0 where
@@ -84,16 +106,35 @@ GivesHearing before now (Datagram arrival) piece = Gives before now arrival.from
 GivesHearing before now Quiet piece = GivesNone before now
 GivesHearing before now End piece = ⊥
 
--- The socket took a datagram whole, or it took nothing; then the datagram is lost, as any datagram may be. Where the sending
--- failed, the socket took nothing, or less than the whole.
+-- The socket took nothing, for an error by which the datagram is lost.
+pub record Loses (between now : Option (List Passed)) (at : SocketAddr) : Type 0 where
+  pub kind : ErrorKind
+  pub lost : is_lost kind ≡ true
+  pub last : Adds between now (TookNone at kind ∷ [])
+
+-- The socket took nothing, for an error that is a fault.
+pub record Fails (between now : Option (List Passed)) (at : SocketAddr) : Type 0 where
+  pub kind : ErrorKind
+  pub lost : is_lost kind ≡ false
+  pub again : is_sent_again kind ≡ false
+  pub last : Adds between now (TookNone at kind ∷ [])
+
+-- The socket took less than the whole datagram.
+pub record TakesPart (between now : Option (List Passed)) (at : SocketAddr) (bytes : List ℕ) : Type 0 where
+  pub count : ℕ
+  pub part : count < length bytes
+  pub last : Adds between now (Took at (take count bytes) ∷ [])
+
+-- After calls in vain the socket took a datagram whole, or the datagram is lost. Where the sending failed, each call was in vain,
+-- or the last one failed, or it took a part.
 pub record Posts {T E : Type 0} (before now : Option (List Passed)) (result : Result T E) (to : Address) (bytes : List ℕ) : Type 0 where
   pub at : SocketAddr
   pub for : IsFor to at
   pub between : Option (List Passed)
   pub vain : Repeats is_in_vain before between
   pub last : MatchResult result
-      (λ _. Adds between now (Took at bytes ∷ []) ⊎ Adds between now (TookNone at ∷ []))
-      (λ _. Adds between now [] ⊎ ((count : ℕ) × (count < length bytes) × Adds between now (Took at (take count bytes) ∷ [])))
+      (λ _. Adds between now (Took at bytes ∷ []) ⊎ Loses between now at)
+      (λ _. Adds between now [] ⊎ (Fails between now at ⊎ TakesPart between now at bytes))
 
 -- The moment of a counter that was at `start` this many microseconds ago, where it can be read. No moment is below the latest
 -- one, and none is above 2^50 - 1.

@@ -9,4 +9,4 @@ mod udp;
 
 pub use host::{HostOutside, Refusal};
 pub use real::{FileSource, StreamSink};
-pub use udp::{Counter, DatagramSocket, UdpLink};
+pub use udp::{Counter, DatagramSocket, UdpLink, send_whole};

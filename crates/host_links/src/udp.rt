@@ -4,7 +4,7 @@ ghost use Rattle.std.specs.Duration.{as_nanos};
 ghost use Rattle.feed_link.specs.Faults.{RoseByOne, HasCause};
 ghost use Rattle.feed_link.specs.Links.{Hears, IsDeaf, TellsMoment, Sends};
 ghost use Rattle.host_links.specs.Real.{socket_state, file_number};
-ghost use Rattle.host_links.specs.Sockets.{Passed, Receives, Transmits, Gives, GivesNone, GivesHearing, IsFor, Posts, Repeats, address_of, is_passed_over, moment_of};
+ghost use Rattle.host_links.specs.Sockets.{Passed, Receives, Transmits, Gives, GivesNone, GivesHearing, IsFor, Posts, Repeats, address_of, is_lost, is_passed_over, is_sent_again, moment_of};
 
 use feed_link::{Address, Arrival, Failed, Hearing, Link};
 use std::io::{self, ErrorKind};
@@ -132,20 +132,20 @@ fn receiver(to: Address) -> SocketAddr
     SocketAddr::new(IpAddr::V4(Ipv4Addr::from_bits(to.ip)), to.port)
 }
 
-// Whether the host reports an error of an earlier datagram, or was interrupted. The call is then repeated.
-fn is_of_another(kind: ErrorKind) -> bool {
+// Whether the host was interrupted, or reports an error of an earlier datagram. The sending is then repeated.
+fn is_sent_again(kind: ErrorKind) -> bool
+    ensures { result ≡ is_sent_again kind }
+{
     matches!(
         kind,
-        ErrorKind::Interrupted
-            | ErrorKind::ConnectionRefused
-            | ErrorKind::ConnectionReset
-            | ErrorKind::HostUnreachable
-            | ErrorKind::NetworkUnreachable
+        ErrorKind::Interrupted | ErrorKind::ConnectionRefused | ErrorKind::ConnectionReset
     )
 }
 
-// Whether there is no route to this receiver now. The datagram is then lost, as any datagram may be; the link has no fault.
-fn is_lost(kind: ErrorKind) -> bool {
+// Whether the host has no way for a datagram, or may not send it. The datagram is then lost, as any may be; the link has no fault.
+fn is_lost(kind: ErrorKind) -> bool
+    ensures { result ≡ is_lost kind }
+{
     matches!(
         kind,
         ErrorKind::HostUnreachable
@@ -154,6 +154,15 @@ fn is_lost(kind: ErrorKind) -> bool {
             | ErrorKind::PermissionDenied
             | ErrorKind::InvalidInput
     )
+}
+
+// Whether a hearing is repeated: the host was interrupted, or reports an error of a datagram that was sent.
+fn is_of_another(kind: ErrorKind) -> bool {
+    is_sent_again(kind)
+        || matches!(
+            kind,
+            ErrorKind::HostUnreachable | ErrorKind::NetworkUnreachable
+        )
 }
 
 // Waits for a datagram that can be answered. Returns its sender and how many bytes of it were received, or None where the
@@ -186,9 +195,16 @@ fn hear_some<S: DatagramSocket>(
     Err(Failed)
 }
 
-// Sends a datagram whole. It is lost where there is no route to its receiver. It is a fault where the socket took only a part.
+/// Sends a datagram whole. It is lost where the host has no way for it. It is a fault where the socket took only a part.
+///
+/// # Errors
+/// The socket took a part of it, or failed for a reason that speaks of no other datagram and of no way, or failed a thousand times.
 #[tactic(auto, using(crate::proofs::SocketLaws::no_call, crate::proofs::SocketLaws::one_more))]
-fn send_whole<S: DatagramSocket>(socket: &mut S, to: Address, bytes: &[u8]) -> Result<(), Failed>
+pub fn send_whole<S: DatagramSocket>(
+    socket: &mut S,
+    to: Address,
+    bytes: &[u8],
+) -> Result<(), Failed>
     ensures { Posts (S.passed socket.old) (S.passed socket.new) result to bytes.now }
 {
     let at = receiver(to);
@@ -196,9 +212,15 @@ fn send_whole<S: DatagramSocket>(socket: &mut S, to: Address, bytes: &[u8]) -> R
         match socket.transmit(at, bytes) {
             Ok(count) if count == bytes.len() => return Ok(()),
             Ok(_) => return Err(Failed),
-            Err(e) if is_lost(e.kind()) => return Ok(()),
-            Err(e) if is_of_another(e.kind()) => {}
-            Err(_) => return Err(Failed),
+            Err(e) => {
+                let kind = e.kind();
+                if is_lost(kind) {
+                    return Ok(());
+                }
+                if !is_sent_again(kind) {
+                    return Err(Failed);
+                }
+            }
         }
     }
     Err(Failed)
@@ -297,7 +319,7 @@ impl<R: Clock + Sync, S: DatagramSocket + Send + Drop> Link for UdpLink<'_, R, S
         ensures cause { HasCause self.old.faults self.new.faults result }
         ensures number { file_number ≡ file_number }
 
-        // The socket took the whole datagram, where there was a route.
+        // The socket took the whole datagram, or the datagram is lost.
         ensures socket { Posts (S.passed self.old.socket) (S.passed self.new.socket) result to bytes.now }
         ensures counter { self.new.counter ≡ self.old.counter }
         ensures start { self.new.start ≡ self.old.start }

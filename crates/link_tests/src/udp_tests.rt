@@ -3,7 +3,7 @@ ghost use Rattle.std.specs.Prelude.{◌≡◌};
 
 use crate::memory_tests::{Host, is_read, same};
 use feed_link::{Address, Failed, Hearing, Link, Outside};
-use host_links::{Counter, DatagramSocket, HostOutside, Refusal, UdpLink};
+use host_links::{Counter, DatagramSocket, HostOutside, Refusal, UdpLink, send_whole};
 use std::io::{self, ErrorKind};
 use std::net::{IpAddr, Ipv4Addr, SocketAddr, UdpSocket};
 use std::process::Abort;
@@ -21,7 +21,7 @@ fn loopback(port: u16) -> SocketAddr {
 }
 
 // A socket whose first calls fail in a stated way, a stated number of times. Then it gives some datagrams from a port and all
-// others from port 7, and takes all that is sent.
+// others from port 7, and takes all that is sent, and counts it.
 #[derive(Drop)]
 struct Shaky {
     kind: ErrorKind,
@@ -31,6 +31,8 @@ struct Shaky {
     count: u32,
     /// How many bytes fewer it takes than are given.
     short: usize,
+    /// How many datagrams it took.
+    taken: u32,
 }
 
 impl Shaky {
@@ -57,6 +59,7 @@ impl DatagramSocket for Shaky {
         if self.fails() {
             return Err(io::Error::from(self.kind));
         }
+        self.taken = self.taken.saturating_add(1);
         Ok(bytes.len().saturating_sub(self.short))
     }
 }
@@ -77,13 +80,15 @@ fn heard(rt: &HostRuntime, socket: Shaky) -> Result<u16, Failed> {
     port_of(&mut link)
 }
 
-fn sent(rt: &HostRuntime, socket: Shaky) -> Result<(), Failed> {
-    let mut link = UdpLink::new(socket, Counter::new(rt), moment(5));
+// How a sending over such a socket ends, and how many datagrams the socket took.
+fn sent(socket: Shaky) -> (Result<(), Failed>, u32) {
+    let mut socket = socket;
     let to = Address {
         ip: 0x7f00_0001,
         port: 9,
     };
-    link.send(to, b"a")
+    let sent = send_whole(&mut socket, to, b"a");
+    (sent, socket.taken)
 }
 
 // A socket whose first calls fail, and which then gives one datagram from a port.
@@ -94,6 +99,7 @@ fn failing(kind: ErrorKind, calls: u32, port: u16) -> Shaky {
         port,
         count: 1,
         short: 0,
+        taken: 0,
     }
 }
 
@@ -102,27 +108,32 @@ fn is_from(rt: &impl Abort, heard: Result<u16, Failed>, port: Result<u16, Failed
     same(rt, heard, port);
 }
 
+// How a sending ends, and how many datagrams were taken.
+type Sending = (Result<(), Failed>, u32);
+
 // A sending ended so.
-fn has_ended(rt: &impl Abort, sent: Result<(), Failed>, want: Result<(), Failed>) {
+fn has_ended(rt: &impl Abort, sent: Sending, want: Sending) {
     same(rt, sent, want);
 }
 
 // How a hearing ends, and a sending.
-type Ends = (Result<u16, Failed>, Result<(), Failed>);
+type Ends = (Result<u16, Failed>, Sending);
 
-const FAULTS: Ends = (Err(Failed), Err(Failed));
+const FAULTS: Ends = (Err(Failed), (Err(Failed), 0));
 
-const QUIET_AND_FAULT: Ends = (Ok(0), Err(Failed));
+const QUIET_AND_FAULT: Ends = (Ok(0), (Err(Failed), 0));
 
-const FAULT_AND_LOSS: Ends = (Err(Failed), Ok(()));
+const FAULT_AND_LOSS: Ends = (Err(Failed), (Ok(()), 0));
 
-const DONE: Ends = (Ok(123), Ok(()));
+const HEARD_AND_LOSS: Ends = (Ok(123), (Ok(()), 0));
+
+const DONE: Ends = (Ok(123), (Ok(()), 1));
 
 // How both end after `calls` calls that fail with `kind`.
 fn tried(rt: &HostRuntime, kind: ErrorKind, calls: u32) -> Ends {
     (
         heard(rt, failing(kind, calls, 123)),
-        sent(rt, failing(kind, calls, 123)),
+        sent(failing(kind, calls, 123)),
     )
 }
 
@@ -146,10 +157,26 @@ fn a_call_is_made_again_that_was_interrupted_or_told_of_another_datagram(rt: Hos
     end(&rt, tried(&rt, ErrorKind::ConnectionRefused, 200), DONE);
     end(&rt, tried(&rt, ErrorKind::ConnectionReset, 3), DONE);
     end(&rt, tried(&rt, ErrorKind::ConnectionReset, 200), DONE);
-    end(&rt, tried(&rt, ErrorKind::HostUnreachable, 3), DONE);
-    end(&rt, tried(&rt, ErrorKind::HostUnreachable, 200), DONE);
-    end(&rt, tried(&rt, ErrorKind::NetworkUnreachable, 3), DONE);
-    end(&rt, tried(&rt, ErrorKind::NetworkUnreachable, 200), DONE);
+    end(
+        &rt,
+        tried(&rt, ErrorKind::HostUnreachable, 3),
+        HEARD_AND_LOSS,
+    );
+    end(
+        &rt,
+        tried(&rt, ErrorKind::HostUnreachable, 200),
+        HEARD_AND_LOSS,
+    );
+    end(
+        &rt,
+        tried(&rt, ErrorKind::NetworkUnreachable, 3),
+        HEARD_AND_LOSS,
+    );
+    end(
+        &rt,
+        tried(&rt, ErrorKind::NetworkUnreachable, 200),
+        HEARD_AND_LOSS,
+    );
 }
 
 #[test]
@@ -164,17 +191,17 @@ fn a_datagram_without_a_way_is_lost_and_no_fault(rt: HostRuntime) {
 }
 
 // How a sending ends where the host never has a route, for this reason.
-fn sent_without_route(rt: &HostRuntime, kind: ErrorKind) -> Result<(), Failed> {
-    sent(rt, failing(kind, u32::MAX, 123))
+fn sent_without_route(kind: ErrorKind) -> Sending {
+    sent(failing(kind, u32::MAX, 123))
 }
 
 // The network is not there for as long as it takes: a link that serves must outlast that (docs/OPERATING.md, status 7).
 #[test]
 fn a_network_that_stays_away_is_no_fault(rt: HostRuntime) {
-    let sent = sent_without_route(&rt, ErrorKind::HostUnreachable);
-    has_ended(&rt, sent, Ok(()));
-    let sent = sent_without_route(&rt, ErrorKind::NetworkUnreachable);
-    has_ended(&rt, sent, Ok(()));
+    let sent = sent_without_route(ErrorKind::HostUnreachable);
+    has_ended(&rt, sent, (Ok(()), 0));
+    let sent = sent_without_route(ErrorKind::NetworkUnreachable);
+    has_ended(&rt, sent, (Ok(()), 0));
 }
 
 #[test]
@@ -191,6 +218,7 @@ fn a_flood_from_port_0_ends_no_hearing(rt: HostRuntime) {
         port: 0,
         count: 50_000,
         short: 0,
+        taken: 0,
     };
     is_from(&rt, heard(&rt, socket), Ok(7));
 }
@@ -203,8 +231,9 @@ fn a_datagram_that_is_taken_in_part_is_a_fault(rt: HostRuntime) {
         port: 123,
         count: 1,
         short: 1,
+        taken: 0,
     };
-    has_ended(&rt, sent(&rt, socket), Err(Failed));
+    has_ended(&rt, sent(socket), (Err(Failed), 1));
 }
 
 // A socket on which a datagram comes after 20 ms.
