@@ -5,7 +5,7 @@ ghost use Rattle.log_decoder.specs.Decoding.{IsReady};
 
 use crate::shared::{NOON, NOON_1, same};
 use journal_entry::{ENTRY_ROOM, Entry, write_entry};
-use log_decoder::LogDecoder;
+use log_decoder::{LOG_LIMIT, LogDecoder};
 use pulse_log::{BadLine, Taken};
 use radio_receiver::{BoxedReceiver, DcfReceiver, Receiver};
 use std::alloc::Global;
@@ -54,7 +54,7 @@ fn decoded<R: Receiver>(
     let mut decoder = decoder;
     let mut rest = bytes;
     'rest: while !rest.is_empty() {
-        let Taken { count, found } = decoder.take(rest);
+        let Taken { count, found } = decoder.next_entry(rest);
         match found {
             Ok(Some(entry)) => add_line(text, &entry)?,
             Ok(None) => {}
@@ -182,4 +182,10 @@ fn gives_minutes(rt: &impl Abort, alloc: Global) -> Result<(), Fail> {
 fn a_receiver_of_a_known_type_gives_the_same_entries(rt: HostRuntime) -> Result<(), Fail> {
     gives_minutes(&rt, rt.alloc())?;
     all_end_known(&rt, rt.alloc(), &SHORT)
+}
+
+// What docs/FORMATS.md gives a log.
+#[test]
+fn a_log_may_have_two_to_the_thirty_bytes(rt: HostRuntime) {
+    same(&rt, LOG_LIMIT, 1_073_741_824);
 }

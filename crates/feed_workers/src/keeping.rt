@@ -46,8 +46,9 @@ pub struct Post<'a, N: HubName, R, G> {
     pub gate: &'a G,
 }
 
-// Appends an entry, where there is room.
-fn offer<N: HubName, R: Wait>(
+// Appends an entry, where there is room. It is a function of its own since a `match` before a later call loses the facts of its
+// branches.
+fn append<N: HubName, R: Wait>(
     rt: &R,
     hub: &Hub<N>,
     pass: &mut FeedPass,
@@ -81,7 +82,7 @@ impl<N: HubName, R: Wait, G: Gate> Recorder for Post<'_, N, R, G> {
     fn keep(&self, pass: &mut FeedPass, entry: Entry, full: &mut bool) {
         let feed = entry.feed;
         self.gate.pass(self.rt, feed, BEFORE);
-        offer(self.rt, self.hub, pass, entry, full);
+        append(self.rt, self.hub, pass, entry, full);
         self.gate.pass(self.rt, feed, AFTER);
     }
 }

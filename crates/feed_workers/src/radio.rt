@@ -53,7 +53,7 @@ fn take_line<K: Recorder, Q: Receiver>(
         let read = before ++ take result.count bytes.now in
         HasHeard Q.stands_for decoder.new tuning (share_of begun pass.new K.limit full.new) read result.found }
 {
-    let Taken { count, found } = decoder.take(bytes);
+    let Taken { count, found } = decoder.next_entry(bytes);
     match found {
         Ok(None) => Taken { count, found: None },
         Ok(Some(entry)) => {

@@ -50,7 +50,7 @@ impl<R: Receiver> Taker for LogDecoder<R> {
     ghost room = { λ decoder. 2 ^ 64 };
 
     fn take(&mut self, bytes: &[u8], line: &mut Line) -> Taken<Gives> {
-        let step = self.take(bytes);
+        let step = self.next_entry(bytes);
         Taken {
             count: step.count,
             found: give_found(step.found, line),

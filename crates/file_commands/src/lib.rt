@@ -18,7 +18,7 @@ pub use ending::subject::Subject;
 pub use ending::writing::finish;
 pub use ending::{Ending, status_by};
 pub use lines::write_numbered_line;
-pub use migrate::run_migrate;
+pub use migrate::{JOURNAL_LIMIT, run_migrate};
 pub use reading::{Gives, Line, Taker, ending_at, read_lines};
 pub use station_file::obstacle::{Obstacle, finish_at};
 pub use station_file::{STATION_LIMIT, judge, open_station};

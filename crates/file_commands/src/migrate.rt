@@ -25,23 +25,21 @@ use crate::station_file::{STATION_LIMIT, judge, open_station};
 use feed_link::{Failed, Outside, Sink, Source};
 use file_reader::{FileEnd, LogEnd};
 use lines::Mover;
-use mover::JournalMover;
+use mover::{JournalMover, MOST_LINES};
 use std::alloc::Global;
 
-// The most bytes of a journal.
-const LIMIT: usize = 1 << 30;
+/// The most bytes of a journal.
+pub const JOURNAL_LIMIT: usize = 1 << 30;
 
-// The line after the last that a journal may have, and how many it may have.
-const BEHIND: u64 = 4_194_305;
-
-const MOST: u32 = 4_194_304;
+// The line after the last that a journal may have.
+const BEHIND: u64 = MOST_LINES + 1;
 
 // How a command ends that has converted the lines of a journal so far.
 fn migrate_ending(end: LogEnd) -> Ending
     ensures { result ≡ migrate_ending end }
 {
     match end {
-        LogEnd::BadLine { line: BEHIND } => Ending::Full(MOST),
+        LogEnd::BadLine { line: BEHIND } => Ending::Full(MOST_LINES as u32),
         end => ending_at(Subject::Journal, end),
     }
 }
@@ -54,7 +52,7 @@ fn move_whole<S: Source, K: Sink>(journal: &mut S, mover: &mut JournalMover, out
         RunsThrough (journal_of of) (S.state journal.old) (S.state journal.new) (K.state out.old)
         (K.state out.new) result }
 {
-    match read_lines(journal, mover, LIMIT, out) {
+    match read_lines(journal, mover, JOURNAL_LIMIT, out) {
         Ok(end) => finish_page(&mover.mover.page(), migrate_ending(end), out),
         Err(Failed) => Status::WriteFault,
     }

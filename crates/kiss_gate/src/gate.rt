@@ -104,7 +104,8 @@ impl ClientGate {
         self.decide(ip, at)
     }
 
-    // The code of a request, and the table after it.
+    // The code of a request, and the table after it. It stands apart so that `judge` shows once what follows of these two clauses for
+    // a history, and not at each return.
     fn decide(&mut self, ip: u32, at: Local) -> Judged
         ensures judged { IsJudged self.old ip at result }
         ensures table { self.new ≡ after self.old ip at result.kept }

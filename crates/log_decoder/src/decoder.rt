@@ -59,7 +59,7 @@ impl<R: Receiver> LogDecoder<R> {
     /// them where there is neither. What came of them is the entry that they complete, None where they complete none, or the bad
     /// line. No clause says how many bytes one call takes, and the caller goes on with the rest.
     #[inline(always)]
-    pub fn take(&mut self, bytes: &[u8]) -> Taken<Result<Option<Entry>, BadLine>>
+    pub fn next_entry(&mut self, bytes: &[u8]) -> Taken<Result<Option<Entry>, BadLine>>
         requires some { 0 < length bytes.now }
         requires ready { IsReady R.least_start self.old }
         ensures some { 0 < result.count }
@@ -72,7 +72,7 @@ impl<R: Receiver> LogDecoder<R> {
             let front = take result.count bytes.now in
             DecodesFront R.stands_for self.new (radio_log feed plan delay) before front result.found }
     {
-        // Each call that is not inlined stands in this function itself. What it writes is then set to zero once a call of `take`.
+        // Each call that is not inlined stands in this function itself. What it writes is then set to zero once a call of `next_entry`.
         // In a function that is inlined into the loop that happens at each line.
         let mut count = 0;
         'lines: while count < bytes.len() {

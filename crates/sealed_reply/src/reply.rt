@@ -38,7 +38,8 @@ impl Model for Reply {
     ghost inverse_ok = { λ r h i. record { packet = packet_back r.packet h i } };
 }
 
-// Writes the 48 bytes of what a client gets by its code.
+// Writes the 48 bytes of what a client gets by its code. It stands apart since an array's length is lost where the array is a part
+// of an enum that is changed.
 #[inline(always)]
 fn write_header(
     code: Code,

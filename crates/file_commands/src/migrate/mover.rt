@@ -19,7 +19,7 @@ use line_cutter::{Cut, LineCutter};
 use pulse_log::{BadLine, Taken};
 
 // The most lines of a journal.
-const MOST: u64 = 4_194_304;
+pub const MOST_LINES: u64 = 4_194_304;
 
 // A line of a journal is too long at this byte.
 const TOO_LONG: usize = 300;
@@ -104,10 +104,12 @@ impl Taker for JournalMover {
     ghost room = { λ mover. 2 ^ 64 };
 
     fn take(&mut self, bytes: &[u8], line: &mut Line) -> Taken<Gives> {
-        if self.lines == MOST {
+        if self.lines == MOST_LINES {
             return Taken {
                 count: 1,
-                found: Err(BadLine { line: MOST + 1 }),
+                found: Err(BadLine {
+                    line: MOST_LINES + 1,
+                }),
             };
         }
         let taken = self.cutter.take(bytes);

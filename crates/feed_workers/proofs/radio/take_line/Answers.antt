@@ -6,15 +6,15 @@ use Rattle.feed_workers.proofs.radio.take_line.Goals as goal
 
 pub returns-in-Ok-None-clause-heard : goal.returns-in-Ok-None-clause-heard
 returns-in-Ok-None-clause-heard g c = λ tuning begun before h.
-    heard_nothing _ c.args.decoder.now c.take-count.new.self tuning _ before _ h c.take-count.result.found
-    (c.take-count.ensures.taken begun.number tuning.plan tuning.delay before h.decoded) (c.in-Ok-None.is ∙ ap Ok c.in-Ok-None.field-0-is)
+    heard_nothing _ c.args.decoder.now c.next_entry-count.new.self tuning _ before _ h c.next_entry-count.result.found
+    (c.next_entry-count.ensures.taken begun.number tuning.plan tuning.delay before h.decoded) (c.in-Ok-None.is ∙ ap Ok c.in-Ok-None.field-0-is)
 
 pub returns-in-Ok-Some-clause-heard : goal.returns-in-Ok-Some-clause-heard
 returns-in-Ok-Some-clause-heard g c = λ tuning begun before h.
-    heard_entry _ c.args.decoder.now c.take-count.new.self tuning _ before _ h c.take-count.result.found c.in-Ok-Some.entry (claim_of c.keep.new.pass.view) c.keep.new.full
-    (c.take-count.ensures.taken begun.number tuning.plan tuning.delay before h.decoded) (c.in-Ok-Some.is ∙ ap Ok c.in-Ok-Some.field-0-is) (c.keep.ensures.kept begun)
+    heard_entry _ c.args.decoder.now c.next_entry-count.new.self tuning _ before _ h c.next_entry-count.result.found c.in-Ok-Some.entry (claim_of c.keep.new.pass.view) c.keep.new.full
+    (c.next_entry-count.ensures.taken begun.number tuning.plan tuning.delay before h.decoded) (c.in-Ok-Some.is ∙ ap Ok c.in-Ok-Some.field-0-is) (c.keep.ensures.kept begun)
 
 pub returns-in-Err-clause-heard : goal.returns-in-Err-clause-heard
 returns-in-Err-clause-heard g c = λ tuning begun before h.
-    heard_bad _ c.args.decoder.now c.take-count.new.self tuning _ before _ h c.take-count.result.found c.in-Err.bad
-    (c.take-count.ensures.taken begun.number tuning.plan tuning.delay before h.decoded) c.in-Err.is
+    heard_bad _ c.args.decoder.now c.next_entry-count.new.self tuning _ before _ h c.next_entry-count.result.found c.in-Err.bad
+    (c.next_entry-count.ensures.taken begun.number tuning.plan tuning.delay before h.decoded) c.in-Err.is

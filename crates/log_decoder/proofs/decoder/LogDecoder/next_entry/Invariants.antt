@@ -1,9 +1,9 @@
--- What stays true in the loop of `take`.
+-- What stays true in the loop of `next_entry`.
 use Rattle.std.proofs.Common.{ℕ, List, ◌≡◌, ◌≤◌, ◌-◌, length, take}
 use Rattle.tick_units.specs.declared.marks.Plan.{Plan}
 use Rattle.log_decoder.specs.Decoding.{HasDecoded, IsReady, feed_of}
 use Rattle.log_decoder.proofs.LinesLaws.{GoesOn}
-use Rattle.log_decoder.proofs.decoder.LogDecoder.take.Given as goal
+use Rattle.log_decoder.proofs.decoder.LogDecoder.next_entry.Given as goal
 
 -- the lines so far gave no entry
 abbrev pub invariant-lines : goal.invariant-lines

@@ -1,4 +1,4 @@
--- What the search leaves open of `decoder::LogDecoder::take`.
+-- What the search leaves open of `decoder::LogDecoder::next_entry`.
 use Rattle.std.proofs.Common.{rules, ◌≡◌, ◌∙◌, [], ◌∷◌, ◌++◌, ℕ, List, take, Ok, Err, None, Some, ap, arith, length, refl, subst, sym}
 use Rattle.std.proofs.lemmas.List.{length-take, length-drop}
 use Rattle.journal_entry.specs.declared.entry.Entry.{Entry}
@@ -6,9 +6,9 @@ use Rattle.pulse_log.specs.declared.reader.LineReader.{LineReader}
 use Rattle.pulse_log.specs.Reading.{HasRead, TakesFront}
 use Rattle.log_decoder.specs.Decoding.{DecodesFront, history_of, radio_log}
 use Rattle.log_decoder.proofs.LinesLaws.{GoesOn, TakesLine, ends, fails, goes_on, gives_none, line_decoded, line_may, line_ready, rests, rests_ready}
-use Rattle.log_decoder.proofs.decoder.LogDecoder.take.Given.{Over}
-use Rattle.log_decoder.proofs.decoder.LogDecoder.take.Goals.{Joined-take_whole_line, in-Some, in-None+in-Ok-Some}
-use Rattle.log_decoder.proofs.decoder.LogDecoder.take.Goals as goal
+use Rattle.log_decoder.proofs.decoder.LogDecoder.next_entry.Given.{Over}
+use Rattle.log_decoder.proofs.decoder.LogDecoder.next_entry.Goals.{Joined-take_whole_line, in-Some, in-None+in-Ok-Some}
+use Rattle.log_decoder.proofs.decoder.LogDecoder.next_entry.Goals as goal
 
 -- the line that was taken at once, or byte by byte
 line_of : (g : Over) (c : Joined-take_whole_line g) →
