@@ -127,17 +127,26 @@ const FIVE_MINUTES: Case<'static> = Case {
     ..CASE
 };
 
-// The link is answered so while feed 0 stands at its fifth coming to a place.
+// The same with a journal that is full after three minutes.
+const THREE_KEPT: Case<'static> = Case {
+    limit: 3,
+    ..FIVE_MINUTES
+};
+
+// The link is answered so while feed 0 stands at its coming of this number to a place; the journal has so many entries at the end.
 fn is_answered_at<R: Abort + Threads + Wait + Sync>(
     rt: &R,
     alloc: Global,
+    case: &Case<'_>,
     place: u8,
+    times: u32,
+    entries: usize,
     want: Reply<'_>,
 ) {
-    let gate = PairGate::new(place, 5);
-    let ended = left_with(rt, alloc, &FIVE_MINUTES, &gate);
+    let gate = PairGate::new(place, times);
+    let ended = left_with(rt, alloc, case, &gate);
     holds(rt, "they have met", gate.has_met(rt));
-    has_entries(rt, &ended, 5);
+    has_entries(rt, &ended, entries);
     has_sent(rt, &ended, 0, &[want]);
 }
 
@@ -155,8 +164,15 @@ const TIME: Reply<'static> = Reply {
 // Four entries are no time yet, and five are.
 #[test]
 fn a_feed_keeps_its_entry_between_its_two_places(rt: HostRuntime) {
-    is_answered_at(&rt, rt.alloc(), 1, NO_TIME);
-    is_answered_at(&rt, rt.alloc(), 4, TIME);
+    is_answered_at(&rt, rt.alloc(), &FIVE_MINUTES, 1, 5, 5, NO_TIME);
+    is_answered_at(&rt, rt.alloc(), &FIVE_MINUTES, 4, 5, 5, TIME);
+}
+
+// The fourth entry finds the journal full, and the feed comes to both places for it all the same.
+#[test]
+fn a_feed_comes_to_both_places_for_an_entry_that_is_lost(rt: HostRuntime) {
+    is_answered_at(&rt, rt.alloc(), &THREE_KEPT, 1, 4, 3, NO_TIME);
+    is_answered_at(&rt, rt.alloc(), &THREE_KEPT, 4, 4, 3, NO_TIME);
 }
 
 // The responder of a link whose call of this number fails comes to place 3 so often, and does this: receiving is its first call, sending its second.

@@ -1,5 +1,7 @@
 //! Tests of `migrate` over the fakes: journals of both forms, bad lines, and each fault on the way.
+use crate::runs::same;
 use crate::scene::{plays, plays_each_writing};
+use file_commands::JOURNAL_LIMIT;
 use std::alloc::Global;
 use std::process::Abort;
 use std::sync::Wait;
@@ -274,4 +276,10 @@ fn a_station_with_a_fault_moves_nothing(rt: HostRuntime) {
         status 3
     "#;
     plays(&rt, rt.alloc(), &[scene]);
+}
+
+// What docs/FORMATS.md gives a journal.
+#[test]
+fn a_journal_may_have_two_to_the_thirty_bytes(rt: HostRuntime) {
+    same(&rt, JOURNAL_LIMIT, 1_073_741_824);
 }

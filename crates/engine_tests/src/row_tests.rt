@@ -31,7 +31,10 @@ fn values_may_follow_an_equals_sign(rt: HostRuntime) {
     plays(
         &rt,
         rt.alloc(),
-        &["run decode --plan=dcf --log=p", TWO_MINUTES],
+        &[
+            "run decode --plan=dcf --log=a",
+            "file a\nwrites\n| status 0\nstatus 0",
+        ],
     );
 }
 

@@ -44,6 +44,23 @@ fn an_answer_of_a_synchronised_server(rt: HostRuntime) {
     is_packet(&rt, found, Ok(ANSWER));
 }
 
+// A packet with this poll in its third byte.
+fn with_poll(packet: &[u8; 48], poll: u8) -> [u8; 48] {
+    let mut bytes = *packet;
+    bytes[2] = poll;
+    bytes
+}
+
+#[test]
+fn an_answer_has_the_poll_of_its_request(rt: HostRuntime) {
+    let request = with_poll(&REQUEST, 10);
+    let found = answered(&of_a_radio(), &request, 303_000_000, 303_000_500);
+    is_packet(&rt, found, Ok(with_poll(&ANSWER, 10)));
+    let page = Page::unsynchronised(4, moment(242_000_000));
+    let found = answered(&page, &request, 243_000_000, 243_000_500);
+    is_packet(&rt, found, Ok(with_poll(&UNSYNCHRONISED, 10)));
+}
+
 // The same server, whose sixth minute comes 3 ms late: its counter gains 12.5 parts per million, and the answer follows that.
 pub(crate) fn of_a_fast_counter() -> Page {
     Page {
